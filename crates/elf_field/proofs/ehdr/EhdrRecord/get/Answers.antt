@@ -1,0 +1,10 @@
+use Rattle.elf_field.specs.Bytes.{num}
+use Rattle.elf_field.proofs.ehdr.EhdrRecord.get.Goals as goal
+
+pub returns-in-Little : goal.returns-in-Little
+unfolding num
+returns-in-Little c = rw c.in-Little.is c.read.ensures
+
+pub returns-in-Big : goal.returns-in-Big
+unfolding num
+returns-in-Big c = rw c.in-Big.is c.read-in-Big.ensures

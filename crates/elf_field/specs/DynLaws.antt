@@ -1,0 +1,47 @@
+-- The laws of Dyn.
+use Rattle.std.proofs.Common.{◌≡◌, ◌≤◌, ◌<◌, ◌+◌, ◌^◌, ℕ, List, [], ◌∷◌, ◌++◌, length, take, drop, slice_index, refl, sym, ap, ap₂, subst, ◌∙◌, arith, lit≤, add-zero, length-drop}
+use Rattle.std.proofs.lemmas.List.{take_all, length-take-le, take_at}
+use Rattle.std.proofs.Math.Facts.{Fits-of_lt, sfits_to_z}
+use Rattle.std.proofs.lemmas.Int.{ints, of_z-to_z, to_z-of_z}
+use Rattle.std.specs.Prelude.{ℤ}
+use Rattle.std.specs.Int.{w64, cast_signed, cast_unsigned}
+use Rattle.elf_field.specs.declared.order.Order.{Order}
+use Rattle.elf_field.specs.declared.dynamic.Dyn.{Dyn}
+use Rattle.elf_field.specs.Bytes.{IsBytes, bytes_of, field, first_bytes, from, num}
+use Rattle.elf_field.specs.BytesLaws.{IsBytes-drop, IsBytes-first_bytes, IsBytes-nil, first_bytes-all, first_bytes-append, first_bytes-part, first_bytes-take, length-first_bytes, num-lt}
+use Rattle.elf_field.specs.Layout.{FitWidths, fields_from, spelled}
+use Rattle.elf_field.specs.LayoutLaws.{FitWidths-fields_from, IsBytes-spelled, fields_from-part, fields_from-spelled, length-spelled, spelled-fields_from, spelled-front}
+use Rattle.elf_field.specs.Record.{IsRecord}
+use Rattle.elf_field.specs.Dyn.{IsDyn, dyn_at, dyn_bytes, dyn_values, dyn_widths}
+
+abbrev dyn_of : List ℕ → Dyn
+dyn_of vs = record { d_tag = cast_signed w64 (slice_index vs 0); d_un = slice_index vs 1 }
+
+pub dyn_at-fields : (o : Order) (b : List ℕ) (x : ℕ) → dyn_at o b x ≡ dyn_of (fields_from o b x 0 dyn_widths)
+dyn_at-fields o b x =
+    let at : ℕ → Dyn = λ k. record { d_tag = cast_signed w64 (from (num o) b k 8); d_un = from (num o) b (x + 8) 8 } in
+    ap at (sym (add-zero x))
+
+pub dyn_values-at : (o : Order) (b : List ℕ) (x : ℕ) → IsBytes b → dyn_values (dyn_at o b x) ≡ fields_from o b x 0 dyn_widths
+dyn_values-at o b x bytes =
+    let same = of_z-to_z w64 (field o b (x + 0) 8) (num-lt o 8 (drop (x + 0) b) (IsBytes-drop (x + 0) b bytes)) in
+    ap dyn_values (dyn_at-fields o b x) ∙ ap (λ (v : ℕ). v ∷ field o b (x + 8) 8 ∷ []) same
+
+dyn_fit : (v : Dyn) → IsDyn v → FitWidths dyn_widths (dyn_values v)
+dyn_fit v fits = ((omega (arith, ints)), (fits.d_un, tt))
+
+dyn_valid : (o : Order) (b : List ℕ) (x : ℕ) → IsBytes b → IsDyn (dyn_at o b x)
+dyn_valid o b x bytes =
+    let f = FitWidths-fields_from o b x 0 dyn_widths bytes in
+    let fits : IsDyn (dyn_of (fields_from o b x 0 dyn_widths)) = record { d_tag = sfits_to_z (Fits-of_lt {w = w64} f.0); d_un = f.1.0 } in
+    subst IsDyn (sym (dyn_at-fields o b x)) fits
+
+pub dyn_laws : IsRecord 16 dyn_at dyn_bytes IsDyn
+dyn_laws = record {
+  gets_put = λ o v fits. ap dyn_of (fields_from-spelled o [] 0 dyn_widths (dyn_values v) (dyn_fit v fits) refl) ∙ ap (λ (z : ℤ). record { d_tag = z; d_un = v.d_un }) (to_z-of_z w64 v.d_tag fits.d_tag);
+  puts_got = λ o b long bytes. ap (spelled (bytes_of o) [] dyn_widths) (dyn_values-at o b 0 bytes) ∙ spelled-fields_from o b 0 dyn_widths bytes (omega arith) ∙ take_all 16 b (omega arith);
+  part = λ o b x. ap dyn_of (fields_from-part o b 16 x 0 dyn_widths (lit≤ tt)) ∙ sym (dyn_at-fields o b x);
+  length_is = λ o v. length-spelled o [] dyn_widths (dyn_values v) refl;
+  valid = dyn_valid;
+  are_bytes = λ o v fits. IsBytes-spelled o [] dyn_widths (dyn_values v) IsBytes-nil;
+}

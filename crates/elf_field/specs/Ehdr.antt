@@ -1,0 +1,60 @@
+-- The ELF header: a road map of the file, at its beginning. (gABI chapter 4, ELF Header.)
+use Rattle.std.specs.Prelude.{◌≡◌, ◌+◌, ◌<◌, ◌^◌, ℕ, List, [], ◌∷◌, length, drop}
+use Rattle.elf_field.specs.declared.order.Order.{Order}
+use Rattle.elf_field.specs.declared.ehdr.Ehdr.{Ehdr}
+use Rattle.elf_field.specs.Bytes.{IsBytes, first_bytes, bytes_of, from, num}
+use Rattle.elf_field.specs.Layout.{spelled}
+
+-- the layout: each field's offset and width in bytes, in the list b from offset x, by a way of reading numbers
+abbrev pub ehdr_in : (ℕ → List ℕ → ℕ) → List ℕ → ℕ → Ehdr
+ehdr_in number b x = record {
+  e_ident = first_bytes 16 (drop x b);
+  e_type = from number b (x + 16) 2;
+  e_machine = from number b (x + 18) 2;
+  e_version = from number b (x + 20) 4;
+  e_entry = from number b (x + 24) 8;
+  e_phoff = from number b (x + 32) 8;
+  e_shoff = from number b (x + 40) 8;
+  e_flags = from number b (x + 48) 4;
+  e_ehsize = from number b (x + 52) 2;
+  e_phentsize = from number b (x + 54) 2;
+  e_phnum = from number b (x + 56) 2;
+  e_shentsize = from number b (x + 58) 2;
+  e_shnum = from number b (x + 60) 2;
+  e_shstrndx = from number b (x + 62) 2;
+}
+
+-- the record at offset x of b, in an order
+abbrev pub ehdr_at : Order → List ℕ → ℕ → Ehdr
+ehdr_at o = ehdr_in (num o)
+
+-- the widths of its numbers, which follow the identification bytes
+abbrev pub ehdr_widths : List ℕ
+ehdr_widths = 2 ∷ 2 ∷ 4 ∷ 8 ∷ 8 ∷ 8 ∷ 4 ∷ 2 ∷ 2 ∷ 2 ∷ 2 ∷ 2 ∷ 2 ∷ []
+
+-- its numbers
+abbrev pub ehdr_values : Ehdr → List ℕ
+ehdr_values v =
+    v.e_type ∷ v.e_machine ∷ v.e_version ∷ v.e_entry ∷ v.e_phoff ∷ v.e_shoff ∷ v.e_flags ∷ v.e_ehsize ∷ v.e_phentsize ∷ v.e_phnum ∷ v.e_shentsize ∷ v.e_shnum ∷ v.e_shstrndx ∷ []
+
+-- its bytes, in an order: the identification, and then each number in its width
+abbrev pub ehdr_bytes : Order → Ehdr → List ℕ
+ehdr_bytes o v = spelled (bytes_of o) (first_bytes 16 v.e_ident) ehdr_widths (ehdr_values v)
+
+-- each field fits its width
+pub record IsEhdr (v : Ehdr) : Type 0 where
+  pub e_ident : length v.e_ident ≡ 16
+  pub e_ident_bytes : IsBytes v.e_ident
+  pub e_type : v.e_type < 2 ^ 16
+  pub e_machine : v.e_machine < 2 ^ 16
+  pub e_version : v.e_version < 2 ^ 32
+  pub e_entry : v.e_entry < 2 ^ 64
+  pub e_phoff : v.e_phoff < 2 ^ 64
+  pub e_shoff : v.e_shoff < 2 ^ 64
+  pub e_flags : v.e_flags < 2 ^ 32
+  pub e_ehsize : v.e_ehsize < 2 ^ 16
+  pub e_phentsize : v.e_phentsize < 2 ^ 16
+  pub e_phnum : v.e_phnum < 2 ^ 16
+  pub e_shentsize : v.e_shentsize < 2 ^ 16
+  pub e_shnum : v.e_shnum < 2 ^ 16
+  pub e_shstrndx : v.e_shstrndx < 2 ^ 16

@@ -1,0 +1,52 @@
+-- The laws of Ehdr.
+use Rattle.std.proofs.Common.{◌≡◌, ◌≤◌, ◌<◌, ◌+◌, ◌^◌, ℕ, List, [], ◌∷◌, ◌++◌, length, take, drop, slice_index, refl, sym, ap, ap₂, subst, ◌∙◌, arith, lit≤, add-zero, length-drop}
+use Rattle.std.proofs.lemmas.List.{take_all, length-take-le, take_at}
+use Rattle.elf_field.specs.declared.order.Order.{Order}
+use Rattle.elf_field.specs.declared.ehdr.Ehdr.{Ehdr}
+use Rattle.elf_field.specs.Bytes.{IsBytes, bytes_of, field, first_bytes, from, num}
+use Rattle.elf_field.specs.BytesLaws.{IsBytes-drop, IsBytes-first_bytes, IsBytes-nil, first_bytes-all, first_bytes-append, first_bytes-part, first_bytes-take, length-first_bytes, num-lt}
+use Rattle.elf_field.specs.Layout.{FitWidths, fields_from, spelled}
+use Rattle.elf_field.specs.LayoutLaws.{FitWidths-fields_from, IsBytes-spelled, fields_from-part, fields_from-spelled, length-spelled, spelled-fields_from, spelled-front}
+use Rattle.elf_field.specs.Record.{IsRecord}
+use Rattle.elf_field.specs.Ehdr.{IsEhdr, ehdr_at, ehdr_bytes, ehdr_values, ehdr_widths}
+
+abbrev ehdr_of : List ℕ → List ℕ → Ehdr
+ehdr_of ident vs = record { e_ident = ident; e_type = slice_index vs 0; e_machine = slice_index vs 1; e_version = slice_index vs 2; e_entry = slice_index vs 3; e_phoff = slice_index vs 4; e_shoff = slice_index vs 5; e_flags = slice_index vs 6; e_ehsize = slice_index vs 7; e_phentsize = slice_index vs 8; e_phnum = slice_index vs 9; e_shentsize = slice_index vs 10; e_shnum = slice_index vs 11; e_shstrndx = slice_index vs 12 }
+
+pub ehdr_at-fields : (o : Order) (b : List ℕ) (x : ℕ) → ehdr_at o b x ≡ ehdr_of (first_bytes 16 (drop x b)) (fields_from o b x 16 ehdr_widths)
+ehdr_at-fields o b x = refl
+
+pub ehdr_values-at : (o : Order) (b : List ℕ) (x : ℕ) → IsBytes b → ehdr_values (ehdr_at o b x) ≡ fields_from o b x 16 ehdr_widths
+ehdr_values-at o b x bytes = refl
+
+ehdr_fit : (v : Ehdr) → IsEhdr v → FitWidths ehdr_widths (ehdr_values v)
+ehdr_fit v fits = (fits.e_type, (fits.e_machine, (fits.e_version, (fits.e_entry, (fits.e_phoff, (fits.e_shoff, (fits.e_flags, (fits.e_ehsize, (fits.e_phentsize, (fits.e_phnum, (fits.e_shentsize, (fits.e_shnum, (fits.e_shstrndx, tt)))))))))))))
+
+ehdr_valid : (o : Order) (b : List ℕ) (x : ℕ) → IsBytes b → IsEhdr (ehdr_at o b x)
+ehdr_valid o b x bytes =
+    let f = FitWidths-fields_from o b x 16 ehdr_widths bytes in
+    record { e_ident = length-first_bytes 16 (drop x b); e_ident_bytes = IsBytes-first_bytes 16 (drop x b) (IsBytes-drop x b bytes); e_type = f.0; e_machine = f.1.0; e_version = f.1.1.0; e_entry = f.1.1.1.0; e_phoff = f.1.1.1.1.0; e_shoff = f.1.1.1.1.1.0; e_flags = f.1.1.1.1.1.1.0; e_ehsize = f.1.1.1.1.1.1.1.0; e_phentsize = f.1.1.1.1.1.1.1.1.0; e_phnum = f.1.1.1.1.1.1.1.1.1.0; e_shentsize = f.1.1.1.1.1.1.1.1.1.1.0; e_shnum = f.1.1.1.1.1.1.1.1.1.1.1.0; e_shstrndx = f.1.1.1.1.1.1.1.1.1.1.1.1.0 }
+
+ehdr_gets_put : (o : Order) (v : Ehdr) → IsEhdr v → ehdr_at o (ehdr_bytes o v) 0 ≡ v
+ehdr_gets_put o v fits =
+    let ident = first_bytes 16 v.e_ident in
+    let numbers = spelled (bytes_of o) [] ehdr_widths (ehdr_values v) in
+    let long : length ident ≡ 16 = length-first_bytes 16 v.e_ident in
+    let read : first_bytes 16 (ehdr_bytes o v) ≡ v.e_ident =
+    ap (first_bytes 16) (spelled-front o ident ehdr_widths (ehdr_values v)) ∙ first_bytes-append 16 ident numbers long ∙ first_bytes-all 16 v.e_ident fits.e_ident in
+    ap₂ ehdr_of read (fields_from-spelled o ident 16 ehdr_widths (ehdr_values v) (ehdr_fit v fits) long)
+
+ehdr_puts_got : (o : Order) (b : List ℕ) → length b ≡ 64 → IsBytes b → ehdr_bytes o (ehdr_at o b 0) ≡ b
+ehdr_puts_got o b long bytes =
+    let ident : first_bytes 16 (first_bytes 16 b) ≡ take 16 b = first_bytes-all 16 (first_bytes 16 b) (length-first_bytes 16 b) ∙ first_bytes-take 16 b (omega arith) in
+    ap (λ (s : List ℕ). spelled (bytes_of o) s ehdr_widths (fields_from o b 0 16 ehdr_widths)) ident ∙ spelled-fields_from o b 16 ehdr_widths bytes (omega arith) ∙ take_all 64 b (omega arith)
+
+pub ehdr_laws : IsRecord 64 ehdr_at ehdr_bytes IsEhdr
+ehdr_laws = record {
+  gets_put = ehdr_gets_put;
+  puts_got = ehdr_puts_got;
+  part = λ o b x. ap₂ ehdr_of (first_bytes-part 16 64 (drop x b) (lit≤ tt)) (fields_from-part o b 64 x 16 ehdr_widths (lit≤ tt));
+  length_is = λ o v. length-spelled o (first_bytes 16 v.e_ident) ehdr_widths (ehdr_values v) refl ∙ ap (λ (k : ℕ). k + 48) (length-first_bytes 16 v.e_ident);
+  valid = ehdr_valid;
+  are_bytes = λ o v fits. IsBytes-spelled o (first_bytes 16 v.e_ident) ehdr_widths (ehdr_values v) (IsBytes-first_bytes 16 v.e_ident fits.e_ident_bytes);
+}

@@ -1,0 +1,41 @@
+-- The laws of Phdr.
+use Rattle.std.proofs.Common.{◌≡◌, ◌≤◌, ◌<◌, ◌+◌, ◌^◌, ℕ, List, [], ◌∷◌, ◌++◌, length, take, drop, slice_index, refl, sym, ap, ap₂, subst, ◌∙◌, arith, lit≤, add-zero, length-drop}
+use Rattle.std.proofs.lemmas.List.{take_all, length-take-le, take_at}
+use Rattle.elf_field.specs.declared.order.Order.{Order}
+use Rattle.elf_field.specs.declared.phdr.Phdr.{Phdr}
+use Rattle.elf_field.specs.Bytes.{IsBytes, bytes_of, field, first_bytes, from, num}
+use Rattle.elf_field.specs.BytesLaws.{IsBytes-drop, IsBytes-first_bytes, IsBytes-nil, first_bytes-all, first_bytes-append, first_bytes-part, first_bytes-take, length-first_bytes, num-lt}
+use Rattle.elf_field.specs.Layout.{FitWidths, fields_from, spelled}
+use Rattle.elf_field.specs.LayoutLaws.{FitWidths-fields_from, IsBytes-spelled, fields_from-part, fields_from-spelled, length-spelled, spelled-fields_from, spelled-front}
+use Rattle.elf_field.specs.Record.{IsRecord}
+use Rattle.elf_field.specs.Phdr.{IsPhdr, phdr_at, phdr_bytes, phdr_values, phdr_widths}
+
+abbrev phdr_of : List ℕ → Phdr
+phdr_of vs = record { p_type = slice_index vs 0; p_flags = slice_index vs 1; p_offset = slice_index vs 2; p_vaddr = slice_index vs 3; p_paddr = slice_index vs 4; p_filesz = slice_index vs 5; p_memsz = slice_index vs 6; p_align = slice_index vs 7 }
+
+pub phdr_at-fields : (o : Order) (b : List ℕ) (x : ℕ) → phdr_at o b x ≡ phdr_of (fields_from o b x 0 phdr_widths)
+phdr_at-fields o b x =
+    let at : ℕ → Phdr = λ k. record { p_type = from (num o) b k 4; p_flags = from (num o) b (x + 4) 4; p_offset = from (num o) b (x + 8) 8; p_vaddr = from (num o) b (x + 16) 8; p_paddr = from (num o) b (x + 24) 8; p_filesz = from (num o) b (x + 32) 8; p_memsz = from (num o) b (x + 40) 8; p_align = from (num o) b (x + 48) 8 } in
+    ap at (sym (add-zero x))
+
+pub phdr_values-at : (o : Order) (b : List ℕ) (x : ℕ) → IsBytes b → phdr_values (phdr_at o b x) ≡ fields_from o b x 0 phdr_widths
+phdr_values-at o b x bytes = ap phdr_values (phdr_at-fields o b x)
+
+phdr_fit : (v : Phdr) → IsPhdr v → FitWidths phdr_widths (phdr_values v)
+phdr_fit v fits = (fits.p_type, (fits.p_flags, (fits.p_offset, (fits.p_vaddr, (fits.p_paddr, (fits.p_filesz, (fits.p_memsz, (fits.p_align, tt))))))))
+
+phdr_valid : (o : Order) (b : List ℕ) (x : ℕ) → IsBytes b → IsPhdr (phdr_at o b x)
+phdr_valid o b x bytes =
+    let f = FitWidths-fields_from o b x 0 phdr_widths bytes in
+    let fits : IsPhdr (phdr_of (fields_from o b x 0 phdr_widths)) = record { p_type = f.0; p_flags = f.1.0; p_offset = f.1.1.0; p_vaddr = f.1.1.1.0; p_paddr = f.1.1.1.1.0; p_filesz = f.1.1.1.1.1.0; p_memsz = f.1.1.1.1.1.1.0; p_align = f.1.1.1.1.1.1.1.0 } in
+    subst IsPhdr (sym (phdr_at-fields o b x)) fits
+
+pub phdr_laws : IsRecord 56 phdr_at phdr_bytes IsPhdr
+phdr_laws = record {
+  gets_put = λ o v fits. ap phdr_of (fields_from-spelled o [] 0 phdr_widths (phdr_values v) (phdr_fit v fits) refl);
+  puts_got = λ o b long bytes. ap (spelled (bytes_of o) [] phdr_widths) (phdr_values-at o b 0 bytes) ∙ spelled-fields_from o b 0 phdr_widths bytes (omega arith) ∙ take_all 56 b (omega arith);
+  part = λ o b x. ap phdr_of (fields_from-part o b 56 x 0 phdr_widths (lit≤ tt)) ∙ sym (phdr_at-fields o b x);
+  length_is = λ o v. length-spelled o [] phdr_widths (phdr_values v) refl;
+  valid = phdr_valid;
+  are_bytes = λ o v fits. IsBytes-spelled o [] phdr_widths (phdr_values v) IsBytes-nil;
+}

@@ -1,0 +1,41 @@
+-- The laws of Rel.
+use Rattle.std.proofs.Common.{◌≡◌, ◌≤◌, ◌<◌, ◌+◌, ◌^◌, ℕ, List, [], ◌∷◌, ◌++◌, length, take, drop, slice_index, refl, sym, ap, ap₂, subst, ◌∙◌, arith, lit≤, add-zero, length-drop}
+use Rattle.std.proofs.lemmas.List.{take_all, length-take-le, take_at}
+use Rattle.elf_field.specs.declared.order.Order.{Order}
+use Rattle.elf_field.specs.declared.rel.Rel.{Rel}
+use Rattle.elf_field.specs.Bytes.{IsBytes, bytes_of, field, first_bytes, from, num}
+use Rattle.elf_field.specs.BytesLaws.{IsBytes-drop, IsBytes-first_bytes, IsBytes-nil, first_bytes-all, first_bytes-append, first_bytes-part, first_bytes-take, length-first_bytes, num-lt}
+use Rattle.elf_field.specs.Layout.{FitWidths, fields_from, spelled}
+use Rattle.elf_field.specs.LayoutLaws.{FitWidths-fields_from, IsBytes-spelled, fields_from-part, fields_from-spelled, length-spelled, spelled-fields_from, spelled-front}
+use Rattle.elf_field.specs.Record.{IsRecord}
+use Rattle.elf_field.specs.Rel.{IsRel, rel_at, rel_bytes, rel_values, rel_widths}
+
+abbrev rel_of : List ℕ → Rel
+rel_of vs = record { r_offset = slice_index vs 0; r_info = slice_index vs 1 }
+
+pub rel_at-fields : (o : Order) (b : List ℕ) (x : ℕ) → rel_at o b x ≡ rel_of (fields_from o b x 0 rel_widths)
+rel_at-fields o b x =
+    let at : ℕ → Rel = λ k. record { r_offset = from (num o) b k 8; r_info = from (num o) b (x + 8) 8 } in
+    ap at (sym (add-zero x))
+
+pub rel_values-at : (o : Order) (b : List ℕ) (x : ℕ) → IsBytes b → rel_values (rel_at o b x) ≡ fields_from o b x 0 rel_widths
+rel_values-at o b x bytes = ap rel_values (rel_at-fields o b x)
+
+rel_fit : (v : Rel) → IsRel v → FitWidths rel_widths (rel_values v)
+rel_fit v fits = (fits.r_offset, (fits.r_info, tt))
+
+rel_valid : (o : Order) (b : List ℕ) (x : ℕ) → IsBytes b → IsRel (rel_at o b x)
+rel_valid o b x bytes =
+    let f = FitWidths-fields_from o b x 0 rel_widths bytes in
+    let fits : IsRel (rel_of (fields_from o b x 0 rel_widths)) = record { r_offset = f.0; r_info = f.1.0 } in
+    subst IsRel (sym (rel_at-fields o b x)) fits
+
+pub rel_laws : IsRecord 16 rel_at rel_bytes IsRel
+rel_laws = record {
+  gets_put = λ o v fits. ap rel_of (fields_from-spelled o [] 0 rel_widths (rel_values v) (rel_fit v fits) refl);
+  puts_got = λ o b long bytes. ap (spelled (bytes_of o) [] rel_widths) (rel_values-at o b 0 bytes) ∙ spelled-fields_from o b 0 rel_widths bytes (omega arith) ∙ take_all 16 b (omega arith);
+  part = λ o b x. ap rel_of (fields_from-part o b 16 x 0 rel_widths (lit≤ tt)) ∙ sym (rel_at-fields o b x);
+  length_is = λ o v. length-spelled o [] rel_widths (rel_values v) refl;
+  valid = rel_valid;
+  are_bytes = λ o v fits. IsBytes-spelled o [] rel_widths (rel_values v) IsBytes-nil;
+}

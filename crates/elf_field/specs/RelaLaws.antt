@@ -1,0 +1,47 @@
+-- The laws of Rela.
+use Rattle.std.proofs.Common.{◌≡◌, ◌≤◌, ◌<◌, ◌+◌, ◌^◌, ℕ, List, [], ◌∷◌, ◌++◌, length, take, drop, slice_index, refl, sym, ap, ap₂, subst, ◌∙◌, arith, lit≤, add-zero, length-drop}
+use Rattle.std.proofs.lemmas.List.{take_all, length-take-le, take_at}
+use Rattle.std.proofs.Math.Facts.{Fits-of_lt, sfits_to_z}
+use Rattle.std.proofs.lemmas.Int.{ints, of_z-to_z, to_z-of_z}
+use Rattle.std.specs.Prelude.{ℤ}
+use Rattle.std.specs.Int.{w64, cast_signed, cast_unsigned}
+use Rattle.elf_field.specs.declared.order.Order.{Order}
+use Rattle.elf_field.specs.declared.rela.Rela.{Rela}
+use Rattle.elf_field.specs.Bytes.{IsBytes, bytes_of, field, first_bytes, from, num}
+use Rattle.elf_field.specs.BytesLaws.{IsBytes-drop, IsBytes-first_bytes, IsBytes-nil, first_bytes-all, first_bytes-append, first_bytes-part, first_bytes-take, length-first_bytes, num-lt}
+use Rattle.elf_field.specs.Layout.{FitWidths, fields_from, spelled}
+use Rattle.elf_field.specs.LayoutLaws.{FitWidths-fields_from, IsBytes-spelled, fields_from-part, fields_from-spelled, length-spelled, spelled-fields_from, spelled-front}
+use Rattle.elf_field.specs.Record.{IsRecord}
+use Rattle.elf_field.specs.Rela.{IsRela, rela_at, rela_bytes, rela_values, rela_widths}
+
+abbrev rela_of : List ℕ → Rela
+rela_of vs = record { r_offset = slice_index vs 0; r_info = slice_index vs 1; r_addend = cast_signed w64 (slice_index vs 2) }
+
+pub rela_at-fields : (o : Order) (b : List ℕ) (x : ℕ) → rela_at o b x ≡ rela_of (fields_from o b x 0 rela_widths)
+rela_at-fields o b x =
+    let at : ℕ → Rela = λ k. record { r_offset = from (num o) b k 8; r_info = from (num o) b (x + 8) 8; r_addend = cast_signed w64 (from (num o) b (x + 16) 8) } in
+    ap at (sym (add-zero x))
+
+pub rela_values-at : (o : Order) (b : List ℕ) (x : ℕ) → IsBytes b → rela_values (rela_at o b x) ≡ fields_from o b x 0 rela_widths
+rela_values-at o b x bytes =
+    let same = of_z-to_z w64 (field o b (x + 16) 8) (num-lt o 8 (drop (x + 16) b) (IsBytes-drop (x + 16) b bytes)) in
+    ap rela_values (rela_at-fields o b x) ∙ ap (λ (v : ℕ). field o b (x + 0) 8 ∷ field o b (x + 8) 8 ∷ v ∷ []) same
+
+rela_fit : (v : Rela) → IsRela v → FitWidths rela_widths (rela_values v)
+rela_fit v fits = (fits.r_offset, (fits.r_info, ((omega (arith, ints)), tt)))
+
+rela_valid : (o : Order) (b : List ℕ) (x : ℕ) → IsBytes b → IsRela (rela_at o b x)
+rela_valid o b x bytes =
+    let f = FitWidths-fields_from o b x 0 rela_widths bytes in
+    let fits : IsRela (rela_of (fields_from o b x 0 rela_widths)) = record { r_offset = f.0; r_info = f.1.0; r_addend = sfits_to_z (Fits-of_lt {w = w64} f.1.1.0) } in
+    subst IsRela (sym (rela_at-fields o b x)) fits
+
+pub rela_laws : IsRecord 24 rela_at rela_bytes IsRela
+rela_laws = record {
+  gets_put = λ o v fits. ap rela_of (fields_from-spelled o [] 0 rela_widths (rela_values v) (rela_fit v fits) refl) ∙ ap (λ (z : ℤ). record { r_offset = v.r_offset; r_info = v.r_info; r_addend = z }) (to_z-of_z w64 v.r_addend fits.r_addend);
+  puts_got = λ o b long bytes. ap (spelled (bytes_of o) [] rela_widths) (rela_values-at o b 0 bytes) ∙ spelled-fields_from o b 0 rela_widths bytes (omega arith) ∙ take_all 24 b (omega arith);
+  part = λ o b x. ap rela_of (fields_from-part o b 24 x 0 rela_widths (lit≤ tt)) ∙ sym (rela_at-fields o b x);
+  length_is = λ o v. length-spelled o [] rela_widths (rela_values v) refl;
+  valid = rela_valid;
+  are_bytes = λ o v fits. IsBytes-spelled o [] rela_widths (rela_values v) IsBytes-nil;
+}

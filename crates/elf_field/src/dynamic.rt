@@ -1,0 +1,78 @@
+ghost use Rattle.std.specs.Prelude.{◌≡◌, length, []};
+ghost use Rattle.elf_field.specs.Layout.{spelled};
+ghost use Rattle.elf_field.specs.Dyn.{IsDyn, dyn_at, dyn_bytes, dyn_in, dyn_values, dyn_widths};
+ghost use Rattle.elf_field.specs.DynLaws.{dyn_laws};
+
+use crate::number::{i64_at, put_i64, put_u64, u64_at};
+use crate::order::Order;
+use crate::record::Record;
+use byteorder::{BigEndian, ByteOrder, LittleEndian};
+
+/// An entry of the dynamic array.
+/// 16 bytes (gABI chapter 5, Dynamic Section).
+#[derive(Clone, Copy, Debug, PartialEq, Eq)]
+pub struct Dyn {
+    /// What the entry holds; two's complement.
+    pub d_tag: i64,
+    /// The entry's value or address, as its tag says.
+    pub d_un: u64,
+}
+
+impl Record for Dyn {
+    ghost SIZE = { 16 };
+
+    ghost at = { dyn_at };
+
+    ghost bytes = { dyn_bytes };
+
+    ghost IsValid = { IsDyn };
+
+    ghost laws = { dyn_laws };
+
+    const SIZE: usize = 16;
+
+    #[tactic(auto, unfolding(crate::specs::Bytes::num))]
+    fn get(order: Order, b: &[u8]) -> Self {
+        match order {
+            Order::Little => read::<LittleEndian>(b),
+            Order::Big => read::<BigEndian>(b),
+        }
+    }
+
+    #[tactic(auto, unfolding(crate::specs::Bytes::bytes_of))]
+    fn put(&self, order: Order, b: &mut [u8]) {
+        match order {
+            Order::Little => write::<LittleEndian>(self, b),
+            Order::Big => write::<BigEndian>(self, b),
+        }
+    }
+
+    fn fits(&self) {
+        fields_fit(*self);
+    }
+}
+
+fn read<O: ByteOrder>(b: &[u8]) -> Dyn
+    requires { length b.now ≡ 16 }
+    ensures { result ≡ dyn_in O.number_of b.now 0 }
+{
+    Dyn {
+        d_tag: i64_at::<O>(b, 0),
+        d_un: u64_at::<O>(b, 8),
+    }
+}
+
+fn write<O: ByteOrder>(v: &Dyn, b: &mut [u8])
+    requires { length b.old ≡ 16 }
+    ensures { b.new ≡ spelled O.bytes_of [] dyn_widths (dyn_values v.now) }
+{
+    put_i64::<O>(b, 0, v.d_tag);
+    put_u64::<O>(b, 8, v.d_un);
+}
+
+// A value's fields are within their widths because their types are.
+fn fields_fit(v: Dyn)
+    ensures { IsDyn v }
+{
+    let _ = v;
+}

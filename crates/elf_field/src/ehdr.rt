@@ -1,0 +1,144 @@
+ghost use Rattle.std.specs.Prelude.{◌≡◌, length, ◌≤◌, take};
+ghost use Rattle.elf_field.specs.Layout.{spelled};
+ghost use Rattle.elf_field.specs.Bytes.{first_bytes};
+ghost use Rattle.elf_field.specs.Ehdr.{IsEhdr, ehdr_at, ehdr_bytes, ehdr_in, ehdr_values, ehdr_widths};
+ghost use Rattle.elf_field.specs.EhdrLaws.{ehdr_laws};
+
+use crate::number::{put_u16, put_u32, put_u64, u16_at, u32_at, u64_at};
+use crate::order::Order;
+use crate::record::Record;
+use byteorder::{BigEndian, ByteOrder, LittleEndian};
+
+/// The ELF header: a road map of the file, at its beginning.
+/// 64 bytes (gABI chapter 4, ELF Header).
+#[derive(Clone, Copy, Debug, PartialEq, Eq)]
+pub struct Ehdr {
+    /// Identification: magic, class, data encoding, version, OS/ABI, ABI version and padding.
+    pub e_ident: [u8; 16],
+    /// Object file type.
+    pub e_type: u16,
+    /// Required architecture; kept, never interpreted.
+    pub e_machine: u16,
+    /// Object file version.
+    pub e_version: u32,
+    /// Virtual address at which the system first transfers control, 0 for none.
+    pub e_entry: u64,
+    /// Offset of the program header table in the file, in bytes; 0 for none.
+    pub e_phoff: u64,
+    /// Offset of the section header table in the file, in bytes; 0 for none.
+    pub e_shoff: u64,
+    /// Processor-specific flags; kept, never interpreted.
+    pub e_flags: u32,
+    /// Size of the ELF header in bytes.
+    pub e_ehsize: u16,
+    /// Size of one entry of the program header table in bytes.
+    pub e_phentsize: u16,
+    /// Number of entries of the program header table; 0xffff says that it stands in section header 0.
+    pub e_phnum: u16,
+    /// Size of one entry of the section header table in bytes.
+    pub e_shentsize: u16,
+    /// Number of entries of the section header table; 0 says that it stands in section header 0.
+    pub e_shnum: u16,
+    /// Section header table index of the section name string table; 0xffff says that it stands in section header 0.
+    pub e_shstrndx: u16,
+}
+
+impl Record for Ehdr {
+    ghost SIZE = { 64 };
+
+    ghost at = { ehdr_at };
+
+    ghost bytes = { ehdr_bytes };
+
+    ghost IsValid = { IsEhdr };
+
+    ghost laws = { ehdr_laws };
+
+    const SIZE: usize = 64;
+
+    #[tactic(auto, unfolding(crate::specs::Bytes::num))]
+    fn get(order: Order, b: &[u8]) -> Self {
+        match order {
+            Order::Little => read::<LittleEndian>(b),
+            Order::Big => read::<BigEndian>(b),
+        }
+    }
+
+    #[tactic(auto, unfolding(crate::specs::Bytes::bytes_of))]
+    fn put(&self, order: Order, b: &mut [u8]) {
+        match order {
+            Order::Little => write::<LittleEndian>(self, b),
+            Order::Big => write::<BigEndian>(self, b),
+        }
+    }
+
+    fn fits(&self) {
+        fields_fit(*self);
+    }
+}
+
+fn read<O: ByteOrder>(b: &[u8]) -> Ehdr
+    requires { length b.now ≡ 64 }
+    ensures { result ≡ ehdr_in O.number_of b.now 0 }
+{
+    Ehdr {
+        e_ident: ident_at(b),
+        e_type: u16_at::<O>(b, 16),
+        e_machine: u16_at::<O>(b, 18),
+        e_version: u32_at::<O>(b, 20),
+        e_entry: u64_at::<O>(b, 24),
+        e_phoff: u64_at::<O>(b, 32),
+        e_shoff: u64_at::<O>(b, 40),
+        e_flags: u32_at::<O>(b, 48),
+        e_ehsize: u16_at::<O>(b, 52),
+        e_phentsize: u16_at::<O>(b, 54),
+        e_phnum: u16_at::<O>(b, 56),
+        e_shentsize: u16_at::<O>(b, 58),
+        e_shnum: u16_at::<O>(b, 60),
+        e_shstrndx: u16_at::<O>(b, 62),
+    }
+}
+
+// The identification bytes at the beginning of the slice.
+fn ident_at(b: &[u8]) -> [u8; 16]
+    requires { 16 ≤ length b.now }
+    ensures { result ≡ first_bytes 16 b.now }
+{
+    let mut e_ident = [0; 16];
+    e_ident.copy_from_slice(&b[..16]);
+    e_ident
+}
+
+fn put_ident(b: &mut [u8], e_ident: [u8; 16])
+    requires { 16 ≤ length b.old }
+    ensures { take 16 b.new ≡ first_bytes 16 e_ident }
+{
+    b[..16].copy_from_slice(&e_ident);
+}
+
+fn write<O: ByteOrder>(v: &Ehdr, b: &mut [u8])
+    requires { length b.old ≡ 64 }
+    ensures { b.new ≡ spelled O.bytes_of (first_bytes 16 v.now.e_ident) ehdr_widths (ehdr_values v.now) }
+{
+    put_ident(b, v.e_ident);
+    put_u16::<O>(b, 16, v.e_type);
+    put_u16::<O>(b, 18, v.e_machine);
+    put_u32::<O>(b, 20, v.e_version);
+    put_u64::<O>(b, 24, v.e_entry);
+    put_u64::<O>(b, 32, v.e_phoff);
+    put_u64::<O>(b, 40, v.e_shoff);
+    put_u32::<O>(b, 48, v.e_flags);
+    put_u16::<O>(b, 52, v.e_ehsize);
+    put_u16::<O>(b, 54, v.e_phentsize);
+    put_u16::<O>(b, 56, v.e_phnum);
+    put_u16::<O>(b, 58, v.e_shentsize);
+    put_u16::<O>(b, 60, v.e_shnum);
+    put_u16::<O>(b, 62, v.e_shstrndx);
+}
+
+// A value's fields are within their widths because their types are.
+fn fields_fit(v: Ehdr)
+    ensures { IsEhdr v }
+{
+    let _ = v;
+}

@@ -1,0 +1,102 @@
+ghost use Rattle.std.specs.Prelude.{◌≡◌, length, []};
+ghost use Rattle.elf_field.specs.Layout.{spelled};
+ghost use Rattle.elf_field.specs.Phdr.{IsPhdr, phdr_at, phdr_bytes, phdr_in, phdr_values, phdr_widths};
+ghost use Rattle.elf_field.specs.PhdrLaws.{phdr_laws};
+
+use crate::number::{put_u32, put_u64, u32_at, u64_at};
+use crate::order::Order;
+use crate::record::Record;
+use byteorder::{BigEndian, ByteOrder, LittleEndian};
+
+/// A program header: one entry of the program header table, a segment.
+/// 56 bytes (gABI chapter 5, Program Header).
+#[derive(Clone, Copy, Debug, PartialEq, Eq)]
+pub struct Phdr {
+    /// What kind of segment this is.
+    pub p_type: u32,
+    /// Permissions, one bit each.
+    pub p_flags: u32,
+    /// Offset of the segment's first byte in the file.
+    pub p_offset: u64,
+    /// Virtual address of the segment's first byte in memory.
+    pub p_vaddr: u64,
+    /// Physical address, where that is relevant.
+    pub p_paddr: u64,
+    /// Number of bytes of the segment in the file.
+    pub p_filesz: u64,
+    /// Number of bytes of the segment in memory.
+    pub p_memsz: u64,
+    /// Alignment in memory and in the file: 0 and 1 ask for none.
+    pub p_align: u64,
+}
+
+impl Record for Phdr {
+    ghost SIZE = { 56 };
+
+    ghost at = { phdr_at };
+
+    ghost bytes = { phdr_bytes };
+
+    ghost IsValid = { IsPhdr };
+
+    ghost laws = { phdr_laws };
+
+    const SIZE: usize = 56;
+
+    #[tactic(auto, unfolding(crate::specs::Bytes::num))]
+    fn get(order: Order, b: &[u8]) -> Self {
+        match order {
+            Order::Little => read::<LittleEndian>(b),
+            Order::Big => read::<BigEndian>(b),
+        }
+    }
+
+    #[tactic(auto, unfolding(crate::specs::Bytes::bytes_of))]
+    fn put(&self, order: Order, b: &mut [u8]) {
+        match order {
+            Order::Little => write::<LittleEndian>(self, b),
+            Order::Big => write::<BigEndian>(self, b),
+        }
+    }
+
+    fn fits(&self) {
+        fields_fit(*self);
+    }
+}
+
+fn read<O: ByteOrder>(b: &[u8]) -> Phdr
+    requires { length b.now ≡ 56 }
+    ensures { result ≡ phdr_in O.number_of b.now 0 }
+{
+    Phdr {
+        p_type: u32_at::<O>(b, 0),
+        p_flags: u32_at::<O>(b, 4),
+        p_offset: u64_at::<O>(b, 8),
+        p_vaddr: u64_at::<O>(b, 16),
+        p_paddr: u64_at::<O>(b, 24),
+        p_filesz: u64_at::<O>(b, 32),
+        p_memsz: u64_at::<O>(b, 40),
+        p_align: u64_at::<O>(b, 48),
+    }
+}
+
+fn write<O: ByteOrder>(v: &Phdr, b: &mut [u8])
+    requires { length b.old ≡ 56 }
+    ensures { b.new ≡ spelled O.bytes_of [] phdr_widths (phdr_values v.now) }
+{
+    put_u32::<O>(b, 0, v.p_type);
+    put_u32::<O>(b, 4, v.p_flags);
+    put_u64::<O>(b, 8, v.p_offset);
+    put_u64::<O>(b, 16, v.p_vaddr);
+    put_u64::<O>(b, 24, v.p_paddr);
+    put_u64::<O>(b, 32, v.p_filesz);
+    put_u64::<O>(b, 40, v.p_memsz);
+    put_u64::<O>(b, 48, v.p_align);
+}
+
+// A value's fields are within their widths because their types are.
+fn fields_fit(v: Phdr)
+    ensures { IsPhdr v }
+{
+    let _ = v;
+}

@@ -1,0 +1,48 @@
+ghost use Rattle.std.specs.Prelude.{◌≡◌, ◌+◌, ◌≤◌, ℕ, List, length};
+ghost use Rattle.elf_field.specs.Record.{IsRecord};
+
+use crate::order::Order;
+
+/// A record of fixed size: its fields at fixed offsets, in either byte order.
+pub trait Record {
+    ghost use Rattle.elf_field.specs.declared.order.Order.{Order};
+
+    ghost SIZE: { ℕ };
+
+    // the record at a place of a list of bytes
+    ghost at: { Order → List ℕ → ℕ → Self };
+
+    // the record's bytes
+    ghost bytes: { Order → Self → List ℕ };
+
+    // each field fits its width
+    ghost IsValid: { Self → Type 0 };
+
+    /// The record's size in bytes.
+    const SIZE: usize;
+
+    /// The record that `b` stands for: each field as it stands at its offset.
+    fn get(order: Order, b: &[u8]) -> Self
+        requires { length b.now ≡ SIZE }
+        ensures { result ≡ at order b.now 0 };
+
+    /// Writes the record: `b` is then exactly its bytes.
+    fn put(&self, order: Order, b: &mut [u8])
+        requires { length b.old ≡ SIZE }
+        ensures { b.new ≡ bytes order self.now };
+
+    /// Promises that each field of the record in hand fits its width. It does nothing.
+    fn fits(&self)
+        ensures { IsValid self.now };
+
+    // What is written is read back, what is read is written back, and the other laws of records.
+    ghost laws: { IsRecord SIZE at bytes IsValid };
+}
+
+/// The record at an offset of a file's bytes.
+pub fn get_at<T: Record>(order: Order, bytes: &[u8], offset: usize) -> T
+    requires { offset + T.SIZE ≤ length bytes.now }
+    ensures { result ≡ T.at order bytes.now offset }
+{
+    T::get(order, &bytes[offset..offset + T::SIZE])
+}

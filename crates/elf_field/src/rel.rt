@@ -1,0 +1,96 @@
+ghost use Rattle.std.specs.Prelude.{◌≡◌, length, ◌/◌, ◌%◌, ◌^◌, []};
+ghost use Rattle.elf_field.specs.Layout.{spelled};
+ghost use Rattle.elf_field.specs.Rel.{IsRel, rel_at, rel_bytes, rel_in, rel_values, rel_widths};
+ghost use Rattle.elf_field.specs.RelLaws.{rel_laws};
+
+use crate::number::{put_u64, u64_at};
+use crate::order::Order;
+use crate::record::Record;
+use byteorder::{BigEndian, ByteOrder, LittleEndian};
+
+/// A relocation without addend: one entry of a section of type REL.
+/// 16 bytes (gABI chapter 4, Relocation).
+#[derive(Clone, Copy, Debug, PartialEq, Eq)]
+pub struct Rel {
+    /// Where the relocation applies: in a relocatable file the offset in the target section, in bytes.
+    pub r_offset: u64,
+    /// Symbol table index and relocation type.
+    pub r_info: u64,
+}
+
+impl Rel {
+    /// The symbol table index of the symbol that the relocation refers to (`ELF64_R_SYM`).
+    pub fn symbol(&self) -> u32
+        ensures { result ≡ self.now.r_info / 2 ^ 32 }
+    {
+        let info = self.r_info;
+        (info / (1 << 32)) as u32
+    }
+
+    /// The relocation's type (`ELF64_R_TYPE`), whose meaning is the processor's.
+    pub fn relocation_type(&self) -> u32
+        ensures { result ≡ self.now.r_info % 2 ^ 32 }
+    {
+        let info = self.r_info;
+        (info % (1 << 32)) as u32
+    }
+}
+
+impl Record for Rel {
+    ghost SIZE = { 16 };
+
+    ghost at = { rel_at };
+
+    ghost bytes = { rel_bytes };
+
+    ghost IsValid = { IsRel };
+
+    ghost laws = { rel_laws };
+
+    const SIZE: usize = 16;
+
+    #[tactic(auto, unfolding(crate::specs::Bytes::num))]
+    fn get(order: Order, b: &[u8]) -> Self {
+        match order {
+            Order::Little => read::<LittleEndian>(b),
+            Order::Big => read::<BigEndian>(b),
+        }
+    }
+
+    #[tactic(auto, unfolding(crate::specs::Bytes::bytes_of))]
+    fn put(&self, order: Order, b: &mut [u8]) {
+        match order {
+            Order::Little => write::<LittleEndian>(self, b),
+            Order::Big => write::<BigEndian>(self, b),
+        }
+    }
+
+    fn fits(&self) {
+        fields_fit(*self);
+    }
+}
+
+fn read<O: ByteOrder>(b: &[u8]) -> Rel
+    requires { length b.now ≡ 16 }
+    ensures { result ≡ rel_in O.number_of b.now 0 }
+{
+    Rel {
+        r_offset: u64_at::<O>(b, 0),
+        r_info: u64_at::<O>(b, 8),
+    }
+}
+
+fn write<O: ByteOrder>(v: &Rel, b: &mut [u8])
+    requires { length b.old ≡ 16 }
+    ensures { b.new ≡ spelled O.bytes_of [] rel_widths (rel_values v.now) }
+{
+    put_u64::<O>(b, 0, v.r_offset);
+    put_u64::<O>(b, 8, v.r_info);
+}
+
+// A value's fields are within their widths because their types are.
+fn fields_fit(v: Rel)
+    ensures { IsRel v }
+{
+    let _ = v;
+}

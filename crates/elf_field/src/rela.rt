@@ -1,0 +1,100 @@
+ghost use Rattle.std.specs.Prelude.{◌≡◌, length, ◌/◌, ◌%◌, ◌^◌, []};
+ghost use Rattle.elf_field.specs.Layout.{spelled};
+ghost use Rattle.elf_field.specs.Rela.{IsRela, rela_at, rela_bytes, rela_in, rela_values, rela_widths};
+ghost use Rattle.elf_field.specs.RelaLaws.{rela_laws};
+
+use crate::number::{i64_at, put_i64, put_u64, u64_at};
+use crate::order::Order;
+use crate::record::Record;
+use byteorder::{BigEndian, ByteOrder, LittleEndian};
+
+/// A relocation with addend: one entry of a section of type RELA.
+/// 24 bytes (gABI chapter 4, Relocation).
+#[derive(Clone, Copy, Debug, PartialEq, Eq)]
+pub struct Rela {
+    /// Where the relocation applies: in a relocatable file the offset in the target section, in bytes.
+    pub r_offset: u64,
+    /// Symbol table index and relocation type.
+    pub r_info: u64,
+    /// Constant that is added to the value to be stored.
+    pub r_addend: i64,
+}
+
+impl Rela {
+    /// The symbol table index of the symbol that the relocation refers to (`ELF64_R_SYM`).
+    pub fn symbol(&self) -> u32
+        ensures { result ≡ self.now.r_info / 2 ^ 32 }
+    {
+        let info = self.r_info;
+        (info / (1 << 32)) as u32
+    }
+
+    /// The relocation's type (`ELF64_R_TYPE`), whose meaning is the processor's.
+    pub fn relocation_type(&self) -> u32
+        ensures { result ≡ self.now.r_info % 2 ^ 32 }
+    {
+        let info = self.r_info;
+        (info % (1 << 32)) as u32
+    }
+}
+
+impl Record for Rela {
+    ghost SIZE = { 24 };
+
+    ghost at = { rela_at };
+
+    ghost bytes = { rela_bytes };
+
+    ghost IsValid = { IsRela };
+
+    ghost laws = { rela_laws };
+
+    const SIZE: usize = 24;
+
+    #[tactic(auto, unfolding(crate::specs::Bytes::num))]
+    fn get(order: Order, b: &[u8]) -> Self {
+        match order {
+            Order::Little => read::<LittleEndian>(b),
+            Order::Big => read::<BigEndian>(b),
+        }
+    }
+
+    #[tactic(auto, unfolding(crate::specs::Bytes::bytes_of))]
+    fn put(&self, order: Order, b: &mut [u8]) {
+        match order {
+            Order::Little => write::<LittleEndian>(self, b),
+            Order::Big => write::<BigEndian>(self, b),
+        }
+    }
+
+    fn fits(&self) {
+        fields_fit(*self);
+    }
+}
+
+fn read<O: ByteOrder>(b: &[u8]) -> Rela
+    requires { length b.now ≡ 24 }
+    ensures { result ≡ rela_in O.number_of b.now 0 }
+{
+    Rela {
+        r_offset: u64_at::<O>(b, 0),
+        r_info: u64_at::<O>(b, 8),
+        r_addend: i64_at::<O>(b, 16),
+    }
+}
+
+fn write<O: ByteOrder>(v: &Rela, b: &mut [u8])
+    requires { length b.old ≡ 24 }
+    ensures { b.new ≡ spelled O.bytes_of [] rela_widths (rela_values v.now) }
+{
+    put_u64::<O>(b, 0, v.r_offset);
+    put_u64::<O>(b, 8, v.r_info);
+    put_i64::<O>(b, 16, v.r_addend);
+}
+
+// A value's fields are within their widths because their types are.
+fn fields_fit(v: Rela)
+    ensures { IsRela v }
+{
+    let _ = v;
+}

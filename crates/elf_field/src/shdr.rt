@@ -1,0 +1,110 @@
+ghost use Rattle.std.specs.Prelude.{◌≡◌, length, []};
+ghost use Rattle.elf_field.specs.Layout.{spelled};
+ghost use Rattle.elf_field.specs.Shdr.{IsShdr, shdr_at, shdr_bytes, shdr_in, shdr_values, shdr_widths};
+ghost use Rattle.elf_field.specs.ShdrLaws.{shdr_laws};
+
+use crate::number::{put_u32, put_u64, u32_at, u64_at};
+use crate::order::Order;
+use crate::record::Record;
+use byteorder::{BigEndian, ByteOrder, LittleEndian};
+
+/// A section header: one entry of the section header table.
+/// 64 bytes (gABI chapter 4, Sections).
+#[derive(Clone, Copy, Debug, PartialEq, Eq)]
+pub struct Shdr {
+    /// Offset of the section's name in the section name string table.
+    pub sh_name: u32,
+    /// What the section's contents mean.
+    pub sh_type: u32,
+    /// Attributes, one bit each.
+    pub sh_flags: u64,
+    /// Address of the section's first byte in memory, 0 for none.
+    pub sh_addr: u64,
+    /// Offset of the section's first byte in the file.
+    pub sh_offset: u64,
+    /// Size of the section in bytes.
+    pub sh_size: u64,
+    /// A section header table index whose meaning depends on the type.
+    pub sh_link: u32,
+    /// Extra information whose meaning depends on the type.
+    pub sh_info: u32,
+    /// Address alignment: 0 and 1 ask for none.
+    pub sh_addralign: u64,
+    /// Size of one entry in bytes, for a section that is a table; else 0.
+    pub sh_entsize: u64,
+}
+
+impl Record for Shdr {
+    ghost SIZE = { 64 };
+
+    ghost at = { shdr_at };
+
+    ghost bytes = { shdr_bytes };
+
+    ghost IsValid = { IsShdr };
+
+    ghost laws = { shdr_laws };
+
+    const SIZE: usize = 64;
+
+    #[tactic(auto, unfolding(crate::specs::Bytes::num))]
+    fn get(order: Order, b: &[u8]) -> Self {
+        match order {
+            Order::Little => read::<LittleEndian>(b),
+            Order::Big => read::<BigEndian>(b),
+        }
+    }
+
+    #[tactic(auto, unfolding(crate::specs::Bytes::bytes_of))]
+    fn put(&self, order: Order, b: &mut [u8]) {
+        match order {
+            Order::Little => write::<LittleEndian>(self, b),
+            Order::Big => write::<BigEndian>(self, b),
+        }
+    }
+
+    fn fits(&self) {
+        fields_fit(*self);
+    }
+}
+
+fn read<O: ByteOrder>(b: &[u8]) -> Shdr
+    requires { length b.now ≡ 64 }
+    ensures { result ≡ shdr_in O.number_of b.now 0 }
+{
+    Shdr {
+        sh_name: u32_at::<O>(b, 0),
+        sh_type: u32_at::<O>(b, 4),
+        sh_flags: u64_at::<O>(b, 8),
+        sh_addr: u64_at::<O>(b, 16),
+        sh_offset: u64_at::<O>(b, 24),
+        sh_size: u64_at::<O>(b, 32),
+        sh_link: u32_at::<O>(b, 40),
+        sh_info: u32_at::<O>(b, 44),
+        sh_addralign: u64_at::<O>(b, 48),
+        sh_entsize: u64_at::<O>(b, 56),
+    }
+}
+
+fn write<O: ByteOrder>(v: &Shdr, b: &mut [u8])
+    requires { length b.old ≡ 64 }
+    ensures { b.new ≡ spelled O.bytes_of [] shdr_widths (shdr_values v.now) }
+{
+    put_u32::<O>(b, 0, v.sh_name);
+    put_u32::<O>(b, 4, v.sh_type);
+    put_u64::<O>(b, 8, v.sh_flags);
+    put_u64::<O>(b, 16, v.sh_addr);
+    put_u64::<O>(b, 24, v.sh_offset);
+    put_u64::<O>(b, 32, v.sh_size);
+    put_u32::<O>(b, 40, v.sh_link);
+    put_u32::<O>(b, 44, v.sh_info);
+    put_u64::<O>(b, 48, v.sh_addralign);
+    put_u64::<O>(b, 56, v.sh_entsize);
+}
+
+// A value's fields are within their widths because their types are.
+fn fields_fit(v: Shdr)
+    ensures { IsShdr v }
+{
+    let _ = v;
+}

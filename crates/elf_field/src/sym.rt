@@ -1,0 +1,110 @@
+ghost use Rattle.std.specs.Prelude.{◌≡◌, length, ◌/◌, ◌%◌, []};
+ghost use Rattle.elf_field.specs.Layout.{spelled};
+ghost use Rattle.elf_field.specs.Sym.{IsSym, sym_at, sym_bytes, sym_in, sym_values, sym_widths};
+ghost use Rattle.elf_field.specs.SymLaws.{sym_laws};
+
+use crate::number::{put_u8, put_u16, put_u32, put_u64, u8_at, u16_at, u32_at, u64_at};
+use crate::order::Order;
+use crate::record::Record;
+use byteorder::{BigEndian, ByteOrder, LittleEndian};
+
+/// A symbol: one entry of a symbol table.
+/// 24 bytes (gABI chapter 4, Symbol Table).
+#[derive(Clone, Copy, Debug, PartialEq, Eq)]
+pub struct Sym {
+    /// Offset of the symbol's name in the linked string table.
+    pub st_name: u32,
+    /// Binding and type.
+    pub st_info: u8,
+    /// Visibility; kept, never interpreted.
+    pub st_other: u8,
+    /// Section header table index of the section that defines the symbol, or a reserved index.
+    pub st_shndx: u16,
+    /// Value: an address, an offset in a section, or the alignment of a common symbol.
+    pub st_value: u64,
+    /// Size in bytes, 0 where it is unknown or there is none.
+    pub st_size: u64,
+}
+
+impl Sym {
+    /// The symbol's binding (`ELF64_ST_BIND`): 0 local, 1 global, 2 weak.
+    pub fn binding(&self) -> u8
+        ensures { result ≡ self.now.st_info / 16 }
+    {
+        self.st_info / 16
+    }
+
+    /// The symbol's type (`ELF64_ST_TYPE`).
+    pub fn symbol_type(&self) -> u8
+        ensures { result ≡ self.now.st_info % 16 }
+    {
+        self.st_info % 16
+    }
+}
+
+impl Record for Sym {
+    ghost SIZE = { 24 };
+
+    ghost at = { sym_at };
+
+    ghost bytes = { sym_bytes };
+
+    ghost IsValid = { IsSym };
+
+    ghost laws = { sym_laws };
+
+    const SIZE: usize = 24;
+
+    #[tactic(auto, unfolding(crate::specs::Bytes::num))]
+    fn get(order: Order, b: &[u8]) -> Self {
+        match order {
+            Order::Little => read::<LittleEndian>(b),
+            Order::Big => read::<BigEndian>(b),
+        }
+    }
+
+    #[tactic(auto, unfolding(crate::specs::Bytes::bytes_of))]
+    fn put(&self, order: Order, b: &mut [u8]) {
+        match order {
+            Order::Little => write::<LittleEndian>(self, b),
+            Order::Big => write::<BigEndian>(self, b),
+        }
+    }
+
+    fn fits(&self) {
+        fields_fit(*self);
+    }
+}
+
+fn read<O: ByteOrder>(b: &[u8]) -> Sym
+    requires { length b.now ≡ 24 }
+    ensures { result ≡ sym_in O.number_of b.now 0 }
+{
+    Sym {
+        st_name: u32_at::<O>(b, 0),
+        st_info: u8_at::<O>(b, 4),
+        st_other: u8_at::<O>(b, 5),
+        st_shndx: u16_at::<O>(b, 6),
+        st_value: u64_at::<O>(b, 8),
+        st_size: u64_at::<O>(b, 16),
+    }
+}
+
+fn write<O: ByteOrder>(v: &Sym, b: &mut [u8])
+    requires { length b.old ≡ 24 }
+    ensures { b.new ≡ spelled O.bytes_of [] sym_widths (sym_values v.now) }
+{
+    put_u32::<O>(b, 0, v.st_name);
+    put_u8::<O>(b, 4, v.st_info);
+    put_u8::<O>(b, 5, v.st_other);
+    put_u16::<O>(b, 6, v.st_shndx);
+    put_u64::<O>(b, 8, v.st_value);
+    put_u64::<O>(b, 16, v.st_size);
+}
+
+// A value's fields are within their widths because their types are.
+fn fields_fit(v: Sym)
+    ensures { IsSym v }
+{
+    let _ = v;
+}

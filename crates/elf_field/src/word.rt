@@ -1,0 +1,41 @@
+ghost use Rattle.elf_field.specs.Word.{IsWord, word_at, word_bytes};
+ghost use Rattle.elf_field.specs.WordLaws.{word_laws};
+
+use crate::order::Order;
+use crate::record::Record;
+use byteorder::{BigEndian, ByteOrder, LittleEndian};
+
+/// A word of four bytes (`Elf64_Word`): index tables, section groups and hash tables are lists of them.
+impl Record for u32 {
+    ghost SIZE = { 4 };
+
+    ghost at = { word_at };
+
+    ghost bytes = { word_bytes };
+
+    ghost IsValid = { IsWord };
+
+    ghost laws = { word_laws };
+
+    const SIZE: usize = 4;
+
+    #[tactic(auto, unfolding(crate::specs::Bytes::num))]
+    fn get(order: Order, b: &[u8]) -> Self {
+        match order {
+            Order::Little => LittleEndian::read_u32(b),
+            Order::Big => BigEndian::read_u32(b),
+        }
+    }
+
+    #[tactic(auto, unfolding(crate::specs::Bytes::bytes_of))]
+    fn put(&self, order: Order, b: &mut [u8]) {
+        match order {
+            Order::Little => LittleEndian::write_u32(b, *self),
+            Order::Big => BigEndian::write_u32(b, *self),
+        }
+    }
+
+    fn fits(&self) {
+        let _word = *self;
+    }
+}
