@@ -1,9 +1,8 @@
 -- How numbers and their bytes go together, in both orders.
-use Rattle.std.proofs.Common.{◌≡◌, ◌≤◌, ◌<◌, ◌+◌, ◌*◌, ◌^◌, ◌%◌, ◌-◌, ◌⊎◌, ℕ, zero, suc, List, [], ◌∷◌, ◌++◌, length, take, drop, slice_index, refl, sym, ap, ◌∙◌, inl, inr, arith, length-append, lit<}
+use Rattle.std.proofs.Common.{◌≡◌, ◌≤◌, ◌<◌, ◌+◌, ◌*◌, ◌^◌, ℕ, zero, suc, List, [], ◌∷◌, ◌++◌, length, take, drop, refl, sym, ap, ◌∙◌, inl, inr, arith, length-append, lit<}
 use Rattle.std.proofs.Math.Nat.{add-mul, mod-lt, mul-le-mul_right}
-use Rattle.std.proofs.Math.ListN.{get_or}
 use Rattle.std.proofs.lemmas.Bool.{cases_lt}
-use Rattle.std.proofs.lemmas.List.{append-nil, get_or-drop, get_or-take, length-take-le, take_all, take_at}
+use Rattle.std.proofs.lemmas.List.{append-nil, get_or-drop, length-take-le, take_all, take_at}
 use Rattle.std.specs.Int.{byte_at, bytes_high_first, bytes_low_first}
 use Rattle.byteorder.specs.Endian.{big_from, little_from}
 use Rattle.byteorder.specs.Numbers.{big_from-cons, big_from-lt, big_from-take, big_number-reads_back, length-bytes_high_first, length-bytes_low_first, little_from-cons, little_from-lt, little_from-take, little_number-reads_back}

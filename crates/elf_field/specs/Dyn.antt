@@ -4,7 +4,7 @@ use Rattle.std.specs.Int.{w64, cast_signed, cast_unsigned}
 use Rattle.elf_field.specs.declared.order.Order.{Order}
 use Rattle.elf_field.specs.declared.dynamic.Dyn.{Dyn}
 use Rattle.elf_field.specs.Bytes.{bytes_of, from, num}
-use Rattle.elf_field.specs.Layout.{spelled}
+use Rattle.elf_field.specs.Layout.{AreAt, spelled}
 
 -- the layout: each field's offset and width in bytes, in the list b from offset x, by a way of reading numbers
 abbrev pub dyn_in : (ℕ → List ℕ → ℕ) → List ℕ → ℕ → Dyn
@@ -29,6 +29,10 @@ dyn_values v =
 -- its bytes, in an order: each number in its width
 abbrev pub dyn_bytes : Order → Dyn → List ℕ
 dyn_bytes o v = spelled (bytes_of o) [] dyn_widths (dyn_values v)
+
+-- its fields stand at their offsets from offset x of b
+abbrev pub IsDynAt : Order → List ℕ → ℕ → Dyn → Type 0
+IsDynAt o b x v = AreAt o b x 0 dyn_widths (dyn_values v)
 
 -- each field fits its width
 pub record IsDyn (v : Dyn) : Type 0 where

@@ -1,9 +1,9 @@
 -- The ELF header: a road map of the file, at its beginning. (gABI chapter 4, ELF Header.)
-use Rattle.std.specs.Prelude.{◌≡◌, ◌+◌, ◌<◌, ◌^◌, ℕ, List, [], ◌∷◌, length, drop}
+use Rattle.std.specs.Prelude.{◌≡◌, ◌+◌, ◌<◌, ◌^◌, ℕ, List, [], ◌∷◌, length, take, drop}
 use Rattle.elf_field.specs.declared.order.Order.{Order}
 use Rattle.elf_field.specs.declared.ehdr.Ehdr.{Ehdr}
 use Rattle.elf_field.specs.Bytes.{IsBytes, first_bytes, bytes_of, from, num}
-use Rattle.elf_field.specs.Layout.{spelled}
+use Rattle.elf_field.specs.Layout.{AreAt, spelled}
 
 -- the layout: each field's offset and width in bytes, in the list b from offset x, by a way of reading numbers
 abbrev pub ehdr_in : (ℕ → List ℕ → ℕ) → List ℕ → ℕ → Ehdr
@@ -40,6 +40,10 @@ ehdr_values v =
 -- its bytes, in an order: the identification, and then each number in its width
 abbrev pub ehdr_bytes : Order → Ehdr → List ℕ
 ehdr_bytes o v = spelled (bytes_of o) (first_bytes 16 v.e_ident) ehdr_widths (ehdr_values v)
+
+-- its fields stand at their offsets from offset x of b
+abbrev pub IsEhdrAt : Order → List ℕ → ℕ → Ehdr → Type 0
+IsEhdrAt o b x v = (take 16 (drop x b) ≡ v.e_ident) × AreAt o b x 16 ehdr_widths (ehdr_values v)
 
 -- each field fits its width
 pub record IsEhdr (v : Ehdr) : Type 0 where

@@ -1,14 +1,14 @@
 -- The laws of Ehdr.
-use Rattle.std.proofs.Common.{◌≡◌, ◌≤◌, ◌<◌, ◌+◌, ◌^◌, ℕ, List, [], ◌∷◌, ◌++◌, length, take, drop, slice_index, refl, sym, ap, ap₂, subst, ◌∙◌, arith, lit≤, add-zero, length-drop}
-use Rattle.std.proofs.lemmas.List.{take_all, length-take-le, take_at}
+use Rattle.std.proofs.Common.{◌≡◌, ◌≤◌, ◌+◌, ℕ, List, [], length, take, drop, slice_index, refl, sym, ap, ap₂, ◌∙◌, arith, lit≤, length-drop}
+use Rattle.std.proofs.lemmas.List.{take_all}
 use Rattle.elf_field.specs.declared.order.Order.{Order}
 use Rattle.elf_field.specs.declared.ehdr.Ehdr.{Ehdr}
-use Rattle.elf_field.specs.Bytes.{IsBytes, bytes_of, field, first_bytes, from, num}
-use Rattle.elf_field.specs.BytesLaws.{IsBytes-drop, IsBytes-first_bytes, IsBytes-nil, first_bytes-all, first_bytes-append, first_bytes-part, first_bytes-take, length-first_bytes, num-lt}
+use Rattle.elf_field.specs.Bytes.{IsBytes, bytes_of, first_bytes}
+use Rattle.elf_field.specs.BytesLaws.{IsBytes-drop, IsBytes-first_bytes, first_bytes-all, first_bytes-append, first_bytes-part, first_bytes-take, length-first_bytes}
 use Rattle.elf_field.specs.Layout.{FitWidths, fields_from, spelled}
-use Rattle.elf_field.specs.LayoutLaws.{FitWidths-fields_from, IsBytes-spelled, fields_from-part, fields_from-spelled, length-spelled, spelled-fields_from, spelled-front}
+use Rattle.elf_field.specs.LayoutLaws.{AreAt-fields_from, FitWidths-fields_from, IsBytes-spelled, fields_from-part, fields_from-spelled, length-spelled, spelled-fields_from, spelled-front}
 use Rattle.elf_field.specs.Record.{IsRecord}
-use Rattle.elf_field.specs.Ehdr.{IsEhdr, ehdr_at, ehdr_bytes, ehdr_values, ehdr_widths}
+use Rattle.elf_field.specs.Ehdr.{IsEhdr, IsEhdrAt, ehdr_at, ehdr_bytes, ehdr_values, ehdr_widths}
 
 abbrev ehdr_of : List ℕ → List ℕ → Ehdr
 ehdr_of ident vs = record { e_ident = ident; e_type = slice_index vs 0; e_machine = slice_index vs 1; e_version = slice_index vs 2; e_entry = slice_index vs 3; e_phoff = slice_index vs 4; e_shoff = slice_index vs 5; e_flags = slice_index vs 6; e_ehsize = slice_index vs 7; e_phentsize = slice_index vs 8; e_phnum = slice_index vs 9; e_shentsize = slice_index vs 10; e_shnum = slice_index vs 11; e_shstrndx = slice_index vs 12 }
@@ -50,3 +50,8 @@ ehdr_laws = record {
   valid = ehdr_valid;
   are_bytes = λ o v fits. IsBytes-spelled o (first_bytes 16 v.e_ident) ehdr_widths (ehdr_values v) (IsBytes-first_bytes 16 v.e_ident fits.e_ident_bytes);
 }
+
+pub ehdr_fields_at : (o : Order) (b : List ℕ) (x : ℕ) → x + 64 ≤ length b → IsBytes b → IsEhdrAt o b x (ehdr_at o b x)
+ehdr_fields_at o b x within bytes =
+    let there : 16 ≤ length (drop x b) = let e = length-drop x b in omega arith in
+    (sym (first_bytes-take 16 (drop x b) there), AreAt-fields_from o b x 16 ehdr_widths (omega arith))

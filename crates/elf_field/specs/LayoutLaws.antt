@@ -1,9 +1,9 @@
 -- What holds of every record, said of its widths and numbers.
-use Rattle.std.proofs.Common.{◌≡◌, ◌≤◌, ◌<◌, ◌+◌, ◌^◌, ◌-◌, ℕ, zero, suc, List, [], ◌∷◌, ◌++◌, length, take, drop, refl, sym, ap, ap₂, ◌∙◌, arith, append_assoc, length-append, length-drop, zero-add}
+use Rattle.std.proofs.Common.{◌≡◌, ◌≤◌, ◌<◌, ◌+◌, ◌^◌, ◌-◌, ℕ, List, [], ◌∷◌, ◌++◌, length, take, drop, refl, sym, ap, ap₂, ◌∙◌, arith, append_assoc, length-append, length-drop, zero-add}
 use Rattle.std.proofs.Math.Seq.{take-add}
 use Rattle.std.proofs.lemmas.List.{append-nil, drop-drop, drop-take, drop_at}
 use Rattle.elf_field.specs.declared.order.Order.{Order}
-use Rattle.elf_field.specs.Bytes.{At, IsBytes, num, bytes_of, field}
+use Rattle.elf_field.specs.Bytes.{IsBytes, num, bytes_of, field}
 use Rattle.elf_field.specs.BytesLaws.{IsBytes-append, IsBytes-bytes_of, IsBytes-drop, bytes_of-num, length-bytes_of, num-bytes_of, num-lt, num-take}
 use Rattle.elf_field.specs.Layout.{AreAt, FitWidths, fields_from, spelled, width_of}
 

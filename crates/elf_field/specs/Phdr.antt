@@ -3,7 +3,7 @@ use Rattle.std.specs.Prelude.{◌+◌, ◌<◌, ◌^◌, ℕ, List, [], ◌∷�
 use Rattle.elf_field.specs.declared.order.Order.{Order}
 use Rattle.elf_field.specs.declared.phdr.Phdr.{Phdr}
 use Rattle.elf_field.specs.Bytes.{bytes_of, from, num}
-use Rattle.elf_field.specs.Layout.{spelled}
+use Rattle.elf_field.specs.Layout.{AreAt, spelled}
 
 -- the layout: each field's offset and width in bytes, in the list b from offset x, by a way of reading numbers
 abbrev pub phdr_in : (ℕ → List ℕ → ℕ) → List ℕ → ℕ → Phdr
@@ -34,6 +34,10 @@ phdr_values v =
 -- its bytes, in an order: each number in its width
 abbrev pub phdr_bytes : Order → Phdr → List ℕ
 phdr_bytes o v = spelled (bytes_of o) [] phdr_widths (phdr_values v)
+
+-- its fields stand at their offsets from offset x of b
+abbrev pub IsPhdrAt : Order → List ℕ → ℕ → Phdr → Type 0
+IsPhdrAt o b x v = AreAt o b x 0 phdr_widths (phdr_values v)
 
 -- each field fits its width
 pub record IsPhdr (v : Phdr) : Type 0 where

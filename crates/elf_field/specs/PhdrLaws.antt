@@ -1,14 +1,14 @@
 -- The laws of Phdr.
-use Rattle.std.proofs.Common.{◌≡◌, ◌≤◌, ◌<◌, ◌+◌, ◌^◌, ℕ, List, [], ◌∷◌, ◌++◌, length, take, drop, slice_index, refl, sym, ap, ap₂, subst, ◌∙◌, arith, lit≤, add-zero, length-drop}
-use Rattle.std.proofs.lemmas.List.{take_all, length-take-le, take_at}
+use Rattle.std.proofs.Common.{◌≡◌, ◌≤◌, ◌+◌, ℕ, List, [], length, slice_index, refl, sym, ap, subst, ◌∙◌, arith, lit≤, add-zero}
+use Rattle.std.proofs.lemmas.List.{take_all}
 use Rattle.elf_field.specs.declared.order.Order.{Order}
 use Rattle.elf_field.specs.declared.phdr.Phdr.{Phdr}
-use Rattle.elf_field.specs.Bytes.{IsBytes, bytes_of, field, first_bytes, from, num}
-use Rattle.elf_field.specs.BytesLaws.{IsBytes-drop, IsBytes-first_bytes, IsBytes-nil, first_bytes-all, first_bytes-append, first_bytes-part, first_bytes-take, length-first_bytes, num-lt}
-use Rattle.elf_field.specs.Layout.{FitWidths, fields_from, spelled}
-use Rattle.elf_field.specs.LayoutLaws.{FitWidths-fields_from, IsBytes-spelled, fields_from-part, fields_from-spelled, length-spelled, spelled-fields_from, spelled-front}
+use Rattle.elf_field.specs.Bytes.{IsBytes, bytes_of, from, num}
+use Rattle.elf_field.specs.BytesLaws.{IsBytes-nil}
+use Rattle.elf_field.specs.Layout.{AreAt, FitWidths, fields_from, spelled}
+use Rattle.elf_field.specs.LayoutLaws.{AreAt-fields_from, FitWidths-fields_from, IsBytes-spelled, fields_from-part, fields_from-spelled, length-spelled, spelled-fields_from}
 use Rattle.elf_field.specs.Record.{IsRecord}
-use Rattle.elf_field.specs.Phdr.{IsPhdr, phdr_at, phdr_bytes, phdr_values, phdr_widths}
+use Rattle.elf_field.specs.Phdr.{IsPhdr, IsPhdrAt, phdr_at, phdr_bytes, phdr_values, phdr_widths}
 
 abbrev phdr_of : List ℕ → Phdr
 phdr_of vs = record { p_type = slice_index vs 0; p_flags = slice_index vs 1; p_offset = slice_index vs 2; p_vaddr = slice_index vs 3; p_paddr = slice_index vs 4; p_filesz = slice_index vs 5; p_memsz = slice_index vs 6; p_align = slice_index vs 7 }
@@ -39,3 +39,8 @@ phdr_laws = record {
   valid = phdr_valid;
   are_bytes = λ o v fits. IsBytes-spelled o [] phdr_widths (phdr_values v) IsBytes-nil;
 }
+
+pub phdr_fields_at : (o : Order) (b : List ℕ) (x : ℕ) → x + 56 ≤ length b → IsBytes b → IsPhdrAt o b x (phdr_at o b x)
+phdr_fields_at o b x within bytes =
+    let stand = AreAt-fields_from o b x 0 phdr_widths (omega arith) in
+    subst (AreAt o b x 0 phdr_widths) (sym (phdr_values-at o b x bytes)) stand

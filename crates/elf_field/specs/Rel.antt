@@ -3,7 +3,7 @@ use Rattle.std.specs.Prelude.{◌+◌, ◌<◌, ◌^◌, ℕ, List, [], ◌∷�
 use Rattle.elf_field.specs.declared.order.Order.{Order}
 use Rattle.elf_field.specs.declared.rel.Rel.{Rel}
 use Rattle.elf_field.specs.Bytes.{bytes_of, from, num}
-use Rattle.elf_field.specs.Layout.{spelled}
+use Rattle.elf_field.specs.Layout.{AreAt, spelled}
 
 -- the layout: each field's offset and width in bytes, in the list b from offset x, by a way of reading numbers
 abbrev pub rel_in : (ℕ → List ℕ → ℕ) → List ℕ → ℕ → Rel
@@ -28,6 +28,10 @@ rel_values v =
 -- its bytes, in an order: each number in its width
 abbrev pub rel_bytes : Order → Rel → List ℕ
 rel_bytes o v = spelled (bytes_of o) [] rel_widths (rel_values v)
+
+-- its fields stand at their offsets from offset x of b
+abbrev pub IsRelAt : Order → List ℕ → ℕ → Rel → Type 0
+IsRelAt o b x v = AreAt o b x 0 rel_widths (rel_values v)
 
 -- each field fits its width
 pub record IsRel (v : Rel) : Type 0 where

@@ -1,14 +1,14 @@
 -- The laws of Rel.
-use Rattle.std.proofs.Common.{◌≡◌, ◌≤◌, ◌<◌, ◌+◌, ◌^◌, ℕ, List, [], ◌∷◌, ◌++◌, length, take, drop, slice_index, refl, sym, ap, ap₂, subst, ◌∙◌, arith, lit≤, add-zero, length-drop}
-use Rattle.std.proofs.lemmas.List.{take_all, length-take-le, take_at}
+use Rattle.std.proofs.Common.{◌≡◌, ◌≤◌, ◌+◌, ℕ, List, [], length, slice_index, refl, sym, ap, subst, ◌∙◌, arith, lit≤, add-zero}
+use Rattle.std.proofs.lemmas.List.{take_all}
 use Rattle.elf_field.specs.declared.order.Order.{Order}
 use Rattle.elf_field.specs.declared.rel.Rel.{Rel}
-use Rattle.elf_field.specs.Bytes.{IsBytes, bytes_of, field, first_bytes, from, num}
-use Rattle.elf_field.specs.BytesLaws.{IsBytes-drop, IsBytes-first_bytes, IsBytes-nil, first_bytes-all, first_bytes-append, first_bytes-part, first_bytes-take, length-first_bytes, num-lt}
-use Rattle.elf_field.specs.Layout.{FitWidths, fields_from, spelled}
-use Rattle.elf_field.specs.LayoutLaws.{FitWidths-fields_from, IsBytes-spelled, fields_from-part, fields_from-spelled, length-spelled, spelled-fields_from, spelled-front}
+use Rattle.elf_field.specs.Bytes.{IsBytes, bytes_of, from, num}
+use Rattle.elf_field.specs.BytesLaws.{IsBytes-nil}
+use Rattle.elf_field.specs.Layout.{AreAt, FitWidths, fields_from, spelled}
+use Rattle.elf_field.specs.LayoutLaws.{AreAt-fields_from, FitWidths-fields_from, IsBytes-spelled, fields_from-part, fields_from-spelled, length-spelled, spelled-fields_from}
 use Rattle.elf_field.specs.Record.{IsRecord}
-use Rattle.elf_field.specs.Rel.{IsRel, rel_at, rel_bytes, rel_values, rel_widths}
+use Rattle.elf_field.specs.Rel.{IsRel, IsRelAt, rel_at, rel_bytes, rel_values, rel_widths}
 
 abbrev rel_of : List ℕ → Rel
 rel_of vs = record { r_offset = slice_index vs 0; r_info = slice_index vs 1 }
@@ -39,3 +39,8 @@ rel_laws = record {
   valid = rel_valid;
   are_bytes = λ o v fits. IsBytes-spelled o [] rel_widths (rel_values v) IsBytes-nil;
 }
+
+pub rel_fields_at : (o : Order) (b : List ℕ) (x : ℕ) → x + 16 ≤ length b → IsBytes b → IsRelAt o b x (rel_at o b x)
+rel_fields_at o b x within bytes =
+    let stand = AreAt-fields_from o b x 0 rel_widths (omega arith) in
+    subst (AreAt o b x 0 rel_widths) (sym (rel_values-at o b x bytes)) stand

@@ -4,7 +4,7 @@ use Rattle.std.specs.Int.{w64, cast_signed, cast_unsigned}
 use Rattle.elf_field.specs.declared.order.Order.{Order}
 use Rattle.elf_field.specs.declared.rela.Rela.{Rela}
 use Rattle.elf_field.specs.Bytes.{bytes_of, from, num}
-use Rattle.elf_field.specs.Layout.{spelled}
+use Rattle.elf_field.specs.Layout.{AreAt, spelled}
 
 -- the layout: each field's offset and width in bytes, in the list b from offset x, by a way of reading numbers
 abbrev pub rela_in : (ℕ → List ℕ → ℕ) → List ℕ → ℕ → Rela
@@ -30,6 +30,10 @@ rela_values v =
 -- its bytes, in an order: each number in its width
 abbrev pub rela_bytes : Order → Rela → List ℕ
 rela_bytes o v = spelled (bytes_of o) [] rela_widths (rela_values v)
+
+-- its fields stand at their offsets from offset x of b
+abbrev pub IsRelaAt : Order → List ℕ → ℕ → Rela → Type 0
+IsRelaAt o b x v = AreAt o b x 0 rela_widths (rela_values v)
 
 -- each field fits its width
 pub record IsRela (v : Rela) : Type 0 where

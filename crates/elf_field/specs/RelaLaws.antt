@@ -1,18 +1,18 @@
 -- The laws of Rela.
-use Rattle.std.proofs.Common.{◌≡◌, ◌≤◌, ◌<◌, ◌+◌, ◌^◌, ℕ, List, [], ◌∷◌, ◌++◌, length, take, drop, slice_index, refl, sym, ap, ap₂, subst, ◌∙◌, arith, lit≤, add-zero, length-drop}
-use Rattle.std.proofs.lemmas.List.{take_all, length-take-le, take_at}
+use Rattle.std.proofs.Common.{◌≡◌, ◌≤◌, ◌+◌, ℕ, List, [], ◌∷◌, length, drop, slice_index, refl, sym, ap, subst, ◌∙◌, arith, lit≤, add-zero}
+use Rattle.std.proofs.lemmas.List.{take_all}
 use Rattle.std.proofs.Math.Facts.{Fits-of_lt, sfits_to_z}
 use Rattle.std.proofs.lemmas.Int.{ints, of_z-to_z, to_z-of_z}
 use Rattle.std.specs.Prelude.{ℤ}
-use Rattle.std.specs.Int.{w64, cast_signed, cast_unsigned}
+use Rattle.std.specs.Int.{w64, cast_signed}
 use Rattle.elf_field.specs.declared.order.Order.{Order}
 use Rattle.elf_field.specs.declared.rela.Rela.{Rela}
-use Rattle.elf_field.specs.Bytes.{IsBytes, bytes_of, field, first_bytes, from, num}
-use Rattle.elf_field.specs.BytesLaws.{IsBytes-drop, IsBytes-first_bytes, IsBytes-nil, first_bytes-all, first_bytes-append, first_bytes-part, first_bytes-take, length-first_bytes, num-lt}
-use Rattle.elf_field.specs.Layout.{FitWidths, fields_from, spelled}
-use Rattle.elf_field.specs.LayoutLaws.{FitWidths-fields_from, IsBytes-spelled, fields_from-part, fields_from-spelled, length-spelled, spelled-fields_from, spelled-front}
+use Rattle.elf_field.specs.Bytes.{IsBytes, bytes_of, field, from, num}
+use Rattle.elf_field.specs.BytesLaws.{IsBytes-drop, IsBytes-nil, num-lt}
+use Rattle.elf_field.specs.Layout.{AreAt, FitWidths, fields_from, spelled}
+use Rattle.elf_field.specs.LayoutLaws.{AreAt-fields_from, FitWidths-fields_from, IsBytes-spelled, fields_from-part, fields_from-spelled, length-spelled, spelled-fields_from}
 use Rattle.elf_field.specs.Record.{IsRecord}
-use Rattle.elf_field.specs.Rela.{IsRela, rela_at, rela_bytes, rela_values, rela_widths}
+use Rattle.elf_field.specs.Rela.{IsRela, IsRelaAt, rela_at, rela_bytes, rela_values, rela_widths}
 
 abbrev rela_of : List ℕ → Rela
 rela_of vs = record { r_offset = slice_index vs 0; r_info = slice_index vs 1; r_addend = cast_signed w64 (slice_index vs 2) }
@@ -45,3 +45,8 @@ rela_laws = record {
   valid = rela_valid;
   are_bytes = λ o v fits. IsBytes-spelled o [] rela_widths (rela_values v) IsBytes-nil;
 }
+
+pub rela_fields_at : (o : Order) (b : List ℕ) (x : ℕ) → x + 24 ≤ length b → IsBytes b → IsRelaAt o b x (rela_at o b x)
+rela_fields_at o b x within bytes =
+    let stand = AreAt-fields_from o b x 0 rela_widths (omega arith) in
+    subst (AreAt o b x 0 rela_widths) (sym (rela_values-at o b x bytes)) stand

@@ -3,7 +3,7 @@ use Rattle.std.specs.Prelude.{◌+◌, ◌<◌, ◌^◌, ℕ, List, [], ◌∷�
 use Rattle.elf_field.specs.declared.order.Order.{Order}
 use Rattle.elf_field.specs.declared.shdr.Shdr.{Shdr}
 use Rattle.elf_field.specs.Bytes.{bytes_of, from, num}
-use Rattle.elf_field.specs.Layout.{spelled}
+use Rattle.elf_field.specs.Layout.{AreAt, spelled}
 
 -- the layout: each field's offset and width in bytes, in the list b from offset x, by a way of reading numbers
 abbrev pub shdr_in : (ℕ → List ℕ → ℕ) → List ℕ → ℕ → Shdr
@@ -36,6 +36,10 @@ shdr_values v =
 -- its bytes, in an order: each number in its width
 abbrev pub shdr_bytes : Order → Shdr → List ℕ
 shdr_bytes o v = spelled (bytes_of o) [] shdr_widths (shdr_values v)
+
+-- its fields stand at their offsets from offset x of b
+abbrev pub IsShdrAt : Order → List ℕ → ℕ → Shdr → Type 0
+IsShdrAt o b x v = AreAt o b x 0 shdr_widths (shdr_values v)
 
 -- each field fits its width
 pub record IsShdr (v : Shdr) : Type 0 where

@@ -1,14 +1,14 @@
 -- The laws of Shdr.
-use Rattle.std.proofs.Common.{◌≡◌, ◌≤◌, ◌<◌, ◌+◌, ◌^◌, ℕ, List, [], ◌∷◌, ◌++◌, length, take, drop, slice_index, refl, sym, ap, ap₂, subst, ◌∙◌, arith, lit≤, add-zero, length-drop}
-use Rattle.std.proofs.lemmas.List.{take_all, length-take-le, take_at}
+use Rattle.std.proofs.Common.{◌≡◌, ◌≤◌, ◌+◌, ℕ, List, [], length, slice_index, refl, sym, ap, subst, ◌∙◌, arith, lit≤, add-zero}
+use Rattle.std.proofs.lemmas.List.{take_all}
 use Rattle.elf_field.specs.declared.order.Order.{Order}
 use Rattle.elf_field.specs.declared.shdr.Shdr.{Shdr}
-use Rattle.elf_field.specs.Bytes.{IsBytes, bytes_of, field, first_bytes, from, num}
-use Rattle.elf_field.specs.BytesLaws.{IsBytes-drop, IsBytes-first_bytes, IsBytes-nil, first_bytes-all, first_bytes-append, first_bytes-part, first_bytes-take, length-first_bytes, num-lt}
-use Rattle.elf_field.specs.Layout.{FitWidths, fields_from, spelled}
-use Rattle.elf_field.specs.LayoutLaws.{FitWidths-fields_from, IsBytes-spelled, fields_from-part, fields_from-spelled, length-spelled, spelled-fields_from, spelled-front}
+use Rattle.elf_field.specs.Bytes.{IsBytes, bytes_of, from, num}
+use Rattle.elf_field.specs.BytesLaws.{IsBytes-nil}
+use Rattle.elf_field.specs.Layout.{AreAt, FitWidths, fields_from, spelled}
+use Rattle.elf_field.specs.LayoutLaws.{AreAt-fields_from, FitWidths-fields_from, IsBytes-spelled, fields_from-part, fields_from-spelled, length-spelled, spelled-fields_from}
 use Rattle.elf_field.specs.Record.{IsRecord}
-use Rattle.elf_field.specs.Shdr.{IsShdr, shdr_at, shdr_bytes, shdr_values, shdr_widths}
+use Rattle.elf_field.specs.Shdr.{IsShdr, IsShdrAt, shdr_at, shdr_bytes, shdr_values, shdr_widths}
 
 abbrev shdr_of : List ℕ → Shdr
 shdr_of vs = record { sh_name = slice_index vs 0; sh_type = slice_index vs 1; sh_flags = slice_index vs 2; sh_addr = slice_index vs 3; sh_offset = slice_index vs 4; sh_size = slice_index vs 5; sh_link = slice_index vs 6; sh_info = slice_index vs 7; sh_addralign = slice_index vs 8; sh_entsize = slice_index vs 9 }
@@ -39,3 +39,8 @@ shdr_laws = record {
   valid = shdr_valid;
   are_bytes = λ o v fits. IsBytes-spelled o [] shdr_widths (shdr_values v) IsBytes-nil;
 }
+
+pub shdr_fields_at : (o : Order) (b : List ℕ) (x : ℕ) → x + 64 ≤ length b → IsBytes b → IsShdrAt o b x (shdr_at o b x)
+shdr_fields_at o b x within bytes =
+    let stand = AreAt-fields_from o b x 0 shdr_widths (omega arith) in
+    subst (AreAt o b x 0 shdr_widths) (sym (shdr_values-at o b x bytes)) stand

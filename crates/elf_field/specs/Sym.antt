@@ -3,7 +3,7 @@ use Rattle.std.specs.Prelude.{◌+◌, ◌<◌, ◌^◌, ℕ, List, [], ◌∷�
 use Rattle.elf_field.specs.declared.order.Order.{Order}
 use Rattle.elf_field.specs.declared.sym.Sym.{Sym}
 use Rattle.elf_field.specs.Bytes.{bytes_of, from, num}
-use Rattle.elf_field.specs.Layout.{spelled}
+use Rattle.elf_field.specs.Layout.{AreAt, spelled}
 
 -- the layout: each field's offset and width in bytes, in the list b from offset x, by a way of reading numbers
 abbrev pub sym_in : (ℕ → List ℕ → ℕ) → List ℕ → ℕ → Sym
@@ -32,6 +32,10 @@ sym_values v =
 -- its bytes, in an order: each number in its width
 abbrev pub sym_bytes : Order → Sym → List ℕ
 sym_bytes o v = spelled (bytes_of o) [] sym_widths (sym_values v)
+
+-- its fields stand at their offsets from offset x of b
+abbrev pub IsSymAt : Order → List ℕ → ℕ → Sym → Type 0
+IsSymAt o b x v = AreAt o b x 0 sym_widths (sym_values v)
 
 -- each field fits its width
 pub record IsSym (v : Sym) : Type 0 where

@@ -1,14 +1,14 @@
 -- The laws of Sym.
-use Rattle.std.proofs.Common.{◌≡◌, ◌≤◌, ◌<◌, ◌+◌, ◌^◌, ℕ, List, [], ◌∷◌, ◌++◌, length, take, drop, slice_index, refl, sym, ap, ap₂, subst, ◌∙◌, arith, lit≤, add-zero, length-drop}
-use Rattle.std.proofs.lemmas.List.{take_all, length-take-le, take_at}
+use Rattle.std.proofs.Common.{◌≡◌, ◌≤◌, ◌+◌, ℕ, List, [], length, slice_index, refl, sym, ap, subst, ◌∙◌, arith, lit≤, add-zero}
+use Rattle.std.proofs.lemmas.List.{take_all}
 use Rattle.elf_field.specs.declared.order.Order.{Order}
 use Rattle.elf_field.specs.declared.sym.Sym.{Sym}
-use Rattle.elf_field.specs.Bytes.{IsBytes, bytes_of, field, first_bytes, from, num}
-use Rattle.elf_field.specs.BytesLaws.{IsBytes-drop, IsBytes-first_bytes, IsBytes-nil, first_bytes-all, first_bytes-append, first_bytes-part, first_bytes-take, length-first_bytes, num-lt}
-use Rattle.elf_field.specs.Layout.{FitWidths, fields_from, spelled}
-use Rattle.elf_field.specs.LayoutLaws.{FitWidths-fields_from, IsBytes-spelled, fields_from-part, fields_from-spelled, length-spelled, spelled-fields_from, spelled-front}
+use Rattle.elf_field.specs.Bytes.{IsBytes, bytes_of, from, num}
+use Rattle.elf_field.specs.BytesLaws.{IsBytes-nil}
+use Rattle.elf_field.specs.Layout.{AreAt, FitWidths, fields_from, spelled}
+use Rattle.elf_field.specs.LayoutLaws.{AreAt-fields_from, FitWidths-fields_from, IsBytes-spelled, fields_from-part, fields_from-spelled, length-spelled, spelled-fields_from}
 use Rattle.elf_field.specs.Record.{IsRecord}
-use Rattle.elf_field.specs.Sym.{IsSym, sym_at, sym_bytes, sym_values, sym_widths}
+use Rattle.elf_field.specs.Sym.{IsSym, IsSymAt, sym_at, sym_bytes, sym_values, sym_widths}
 
 abbrev sym_of : List ℕ → Sym
 sym_of vs = record { st_name = slice_index vs 0; st_info = slice_index vs 1; st_other = slice_index vs 2; st_shndx = slice_index vs 3; st_value = slice_index vs 4; st_size = slice_index vs 5 }
@@ -39,3 +39,8 @@ sym_laws = record {
   valid = sym_valid;
   are_bytes = λ o v fits. IsBytes-spelled o [] sym_widths (sym_values v) IsBytes-nil;
 }
+
+pub sym_fields_at : (o : Order) (b : List ℕ) (x : ℕ) → x + 24 ≤ length b → IsBytes b → IsSymAt o b x (sym_at o b x)
+sym_fields_at o b x within bytes =
+    let stand = AreAt-fields_from o b x 0 sym_widths (omega arith) in
+    subst (AreAt o b x 0 sym_widths) (sym (sym_values-at o b x bytes)) stand

@@ -2,7 +2,7 @@
 -- chapter 5, Hash Table).
 use Rattle.std.specs.Prelude.{◌<◌, ◌^◌, ℕ, List}
 use Rattle.elf_field.specs.declared.order.Order.{Order}
-use Rattle.elf_field.specs.Bytes.{bytes_of, field}
+use Rattle.elf_field.specs.Bytes.{At, bytes_of, field}
 
 -- the word at offset x of b
 abbrev pub word_at : Order → List ℕ → ℕ → ℕ
@@ -11,6 +11,9 @@ word_at o b x = field o b x 4
 -- its bytes
 abbrev pub word_bytes : Order → ℕ → List ℕ
 word_bytes o v = bytes_of o 4 v
+
+abbrev pub IsWordAt : Order → List ℕ → ℕ → ℕ → Type 0
+IsWordAt o b x v = At o b x 4 v
 
 abbrev pub IsWord : ℕ → Type 0
 IsWord v = v < 2 ^ 32

@@ -1,7 +1,7 @@
 ghost use Rattle.std.specs.Prelude.{◌≡◌, length, []};
 ghost use Rattle.elf_field.specs.Layout.{spelled};
-ghost use Rattle.elf_field.specs.Dyn.{IsDyn, dyn_at, dyn_bytes, dyn_in, dyn_values, dyn_widths};
-ghost use Rattle.elf_field.specs.DynLaws.{dyn_laws};
+ghost use Rattle.elf_field.specs.Dyn.{IsDyn, IsDynAt, dyn_at, dyn_bytes, dyn_in, dyn_values, dyn_widths};
+ghost use Rattle.elf_field.specs.DynLaws.{dyn_fields_at, dyn_laws};
 
 use crate::number::{i64_at, put_i64, put_u64, u64_at};
 use crate::order::Order;
@@ -25,9 +25,13 @@ impl Record for Dyn {
 
     ghost bytes = { dyn_bytes };
 
+    ghost IsAt = { IsDynAt };
+
     ghost IsValid = { IsDyn };
 
     ghost laws = { dyn_laws };
+
+    ghost fields_at = { dyn_fields_at };
 
     const SIZE: usize = 16;
 

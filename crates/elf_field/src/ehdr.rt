@@ -1,8 +1,8 @@
 ghost use Rattle.std.specs.Prelude.{◌≡◌, length, ◌≤◌, take};
 ghost use Rattle.elf_field.specs.Layout.{spelled};
 ghost use Rattle.elf_field.specs.Bytes.{first_bytes};
-ghost use Rattle.elf_field.specs.Ehdr.{IsEhdr, ehdr_at, ehdr_bytes, ehdr_in, ehdr_values, ehdr_widths};
-ghost use Rattle.elf_field.specs.EhdrLaws.{ehdr_laws};
+ghost use Rattle.elf_field.specs.Ehdr.{IsEhdr, IsEhdrAt, ehdr_at, ehdr_bytes, ehdr_in, ehdr_values, ehdr_widths};
+ghost use Rattle.elf_field.specs.EhdrLaws.{ehdr_fields_at, ehdr_laws};
 
 use crate::number::{put_u16, put_u32, put_u64, u16_at, u32_at, u64_at};
 use crate::order::Order;
@@ -50,9 +50,13 @@ impl Record for Ehdr {
 
     ghost bytes = { ehdr_bytes };
 
+    ghost IsAt = { IsEhdrAt };
+
     ghost IsValid = { IsEhdr };
 
     ghost laws = { ehdr_laws };
+
+    ghost fields_at = { ehdr_fields_at };
 
     const SIZE: usize = 64;
 

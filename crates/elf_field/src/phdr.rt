@@ -1,7 +1,7 @@
 ghost use Rattle.std.specs.Prelude.{◌≡◌, length, []};
 ghost use Rattle.elf_field.specs.Layout.{spelled};
-ghost use Rattle.elf_field.specs.Phdr.{IsPhdr, phdr_at, phdr_bytes, phdr_in, phdr_values, phdr_widths};
-ghost use Rattle.elf_field.specs.PhdrLaws.{phdr_laws};
+ghost use Rattle.elf_field.specs.Phdr.{IsPhdr, IsPhdrAt, phdr_at, phdr_bytes, phdr_in, phdr_values, phdr_widths};
+ghost use Rattle.elf_field.specs.PhdrLaws.{phdr_fields_at, phdr_laws};
 
 use crate::number::{put_u32, put_u64, u32_at, u64_at};
 use crate::order::Order;
@@ -37,9 +37,13 @@ impl Record for Phdr {
 
     ghost bytes = { phdr_bytes };
 
+    ghost IsAt = { IsPhdrAt };
+
     ghost IsValid = { IsPhdr };
 
     ghost laws = { phdr_laws };
+
+    ghost fields_at = { phdr_fields_at };
 
     const SIZE: usize = 56;
 

@@ -1,4 +1,5 @@
 ghost use Rattle.std.specs.Prelude.{◌≡◌, ◌+◌, ◌≤◌, ℕ, List, length};
+ghost use Rattle.elf_field.specs.Bytes.{IsBytes};
 ghost use Rattle.elf_field.specs.Record.{IsRecord};
 
 use crate::order::Order;
@@ -14,6 +15,9 @@ pub trait Record {
 
     // the record's bytes
     ghost bytes: { Order → Self → List ℕ };
+
+    // the record's fields stand at their offsets from a place of a list of bytes
+    ghost IsAt: { Order → List ℕ → ℕ → Self → Type 0 };
 
     // each field fits its width
     ghost IsValid: { Self → Type 0 };
@@ -37,12 +41,16 @@ pub trait Record {
 
     // What is written is read back, what is read is written back, and the other laws of records.
     ghost laws: { IsRecord SIZE at bytes IsValid };
+
+    // Each field of the record at a place is at its offset.
+    ghost fields_at: { (o : Order) (b : List ℕ) (x : ℕ) → x + SIZE ≤ length b → IsBytes b → IsAt o b x (at o b x) };
 }
 
 /// The record at an offset of a file's bytes.
 pub fn get_at<T: Record>(order: Order, bytes: &[u8], offset: usize) -> T
     requires { offset + T.SIZE ≤ length bytes.now }
-    ensures { result ≡ T.at order bytes.now offset }
+    ensures value { result ≡ T.at order bytes.now offset }
+    ensures fields { T.IsAt order bytes.now offset result }
 {
     T::get(order, &bytes[offset..offset + T::SIZE])
 }

@@ -1,7 +1,7 @@
 ghost use Rattle.std.specs.Prelude.{◌≡◌, length, ◌/◌, ◌%◌, ◌^◌, []};
 ghost use Rattle.elf_field.specs.Layout.{spelled};
-ghost use Rattle.elf_field.specs.Rel.{IsRel, rel_at, rel_bytes, rel_in, rel_values, rel_widths};
-ghost use Rattle.elf_field.specs.RelLaws.{rel_laws};
+ghost use Rattle.elf_field.specs.Rel.{IsRel, IsRelAt, rel_at, rel_bytes, rel_in, rel_values, rel_widths};
+ghost use Rattle.elf_field.specs.RelLaws.{rel_fields_at, rel_laws};
 
 use crate::number::{put_u64, u64_at};
 use crate::order::Order;
@@ -43,9 +43,13 @@ impl Record for Rel {
 
     ghost bytes = { rel_bytes };
 
+    ghost IsAt = { IsRelAt };
+
     ghost IsValid = { IsRel };
 
     ghost laws = { rel_laws };
+
+    ghost fields_at = { rel_fields_at };
 
     const SIZE: usize = 16;
 

@@ -1,7 +1,7 @@
 ghost use Rattle.std.specs.Prelude.{◌≡◌, length, ◌/◌, ◌%◌, ◌^◌, []};
 ghost use Rattle.elf_field.specs.Layout.{spelled};
-ghost use Rattle.elf_field.specs.Rela.{IsRela, rela_at, rela_bytes, rela_in, rela_values, rela_widths};
-ghost use Rattle.elf_field.specs.RelaLaws.{rela_laws};
+ghost use Rattle.elf_field.specs.Rela.{IsRela, IsRelaAt, rela_at, rela_bytes, rela_in, rela_values, rela_widths};
+ghost use Rattle.elf_field.specs.RelaLaws.{rela_fields_at, rela_laws};
 
 use crate::number::{i64_at, put_i64, put_u64, u64_at};
 use crate::order::Order;
@@ -45,9 +45,13 @@ impl Record for Rela {
 
     ghost bytes = { rela_bytes };
 
+    ghost IsAt = { IsRelaAt };
+
     ghost IsValid = { IsRela };
 
     ghost laws = { rela_laws };
+
+    ghost fields_at = { rela_fields_at };
 
     const SIZE: usize = 24;
 

@@ -1,7 +1,7 @@
 ghost use Rattle.std.specs.Prelude.{◌≡◌, length, []};
 ghost use Rattle.elf_field.specs.Layout.{spelled};
-ghost use Rattle.elf_field.specs.Shdr.{IsShdr, shdr_at, shdr_bytes, shdr_in, shdr_values, shdr_widths};
-ghost use Rattle.elf_field.specs.ShdrLaws.{shdr_laws};
+ghost use Rattle.elf_field.specs.Shdr.{IsShdr, IsShdrAt, shdr_at, shdr_bytes, shdr_in, shdr_values, shdr_widths};
+ghost use Rattle.elf_field.specs.ShdrLaws.{shdr_fields_at, shdr_laws};
 
 use crate::number::{put_u32, put_u64, u32_at, u64_at};
 use crate::order::Order;
@@ -41,9 +41,13 @@ impl Record for Shdr {
 
     ghost bytes = { shdr_bytes };
 
+    ghost IsAt = { IsShdrAt };
+
     ghost IsValid = { IsShdr };
 
     ghost laws = { shdr_laws };
+
+    ghost fields_at = { shdr_fields_at };
 
     const SIZE: usize = 64;
 

@@ -1,7 +1,7 @@
 ghost use Rattle.std.specs.Prelude.{◌≡◌, length, ◌/◌, ◌%◌, []};
 ghost use Rattle.elf_field.specs.Layout.{spelled};
-ghost use Rattle.elf_field.specs.Sym.{IsSym, sym_at, sym_bytes, sym_in, sym_values, sym_widths};
-ghost use Rattle.elf_field.specs.SymLaws.{sym_laws};
+ghost use Rattle.elf_field.specs.Sym.{IsSym, IsSymAt, sym_at, sym_bytes, sym_in, sym_values, sym_widths};
+ghost use Rattle.elf_field.specs.SymLaws.{sym_fields_at, sym_laws};
 
 use crate::number::{put_u8, put_u16, put_u32, put_u64, u8_at, u16_at, u32_at, u64_at};
 use crate::order::Order;
@@ -49,9 +49,13 @@ impl Record for Sym {
 
     ghost bytes = { sym_bytes };
 
+    ghost IsAt = { IsSymAt };
+
     ghost IsValid = { IsSym };
 
     ghost laws = { sym_laws };
+
+    ghost fields_at = { sym_fields_at };
 
     const SIZE: usize = 24;
 

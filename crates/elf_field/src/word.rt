@@ -1,5 +1,5 @@
-ghost use Rattle.elf_field.specs.Word.{IsWord, word_at, word_bytes};
-ghost use Rattle.elf_field.specs.WordLaws.{word_laws};
+ghost use Rattle.elf_field.specs.Word.{IsWord, IsWordAt, word_at, word_bytes};
+ghost use Rattle.elf_field.specs.WordLaws.{word_fields_at, word_laws};
 
 use crate::order::Order;
 use crate::record::Record;
@@ -13,9 +13,13 @@ impl Record for u32 {
 
     ghost bytes = { word_bytes };
 
+    ghost IsAt = { IsWordAt };
+
     ghost IsValid = { IsWord };
 
     ghost laws = { word_laws };
+
+    ghost fields_at = { word_fields_at };
 
     const SIZE: usize = 4;
 
