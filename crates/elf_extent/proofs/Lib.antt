@@ -1,0 +1,7 @@
+pub mod AccountLaws
+pub mod AccountLemmas
+pub mod Least
+pub mod MembersLemmas
+pub mod Overlaps
+pub mod PlaceLaws
+pub mod PlaceLemmas

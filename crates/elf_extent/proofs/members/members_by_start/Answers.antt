@@ -1,0 +1,14 @@
+use Rattle.std.proofs.Common.{rules}
+use Rattle.std.proofs.lemmas.List.Sorted.{IsNonDecreasingBy-from_sort_by_key}
+use Rattle.elf_extent.specs.declared.members.Member.{Member}
+use Rattle.elf_extent.proofs.MembersLemmas.{members_permuted}
+use Rattle.elf_extent.proofs.members.members_by_start.Goals as goal
+
+pub returns-clause-members : goal.returns-clause-members
+returns-clause-members c =
+    members_permuted _ _ _ _ c.sort_unstable_by_key.ensures.permutation c.in_ok-members.ensures
+
+pub returns-clause-ascending : goal.returns-clause-ascending
+returns-clause-ascending c =
+    IsNonDecreasingBy-from_sort_by_key (λ (m : Member). m.extent.start) _
+    c.sort_unstable_by_key.ensures.sorted (λ a r q k. search rules)

@@ -1,0 +1,21 @@
+use Rattle.std.proofs.Common.{◌+◌, sym, subst}
+use Rattle.std.proofs.lemmas.Option.{slice_get-get_or}
+use Rattle.elf_extent.specs.Members.{AreMembers}
+use Rattle.elf_extent.proofs.MembersLemmas.{members_more, members_skip}
+use Rattle.elf_extent.proofs.members.members_in_order.Goals as goal
+use Rattle.elf_extent.proofs.members.members_in_order.Goals.{then-extent-gt0+in-Ok, else-extent-gt0}
+
+pub loop-index-preserved : goal.loop-index-preserved
+loop-index-preserved c =
+    let es = c.args.extents.now in
+    let n = c.loop-index.index in
+    elim c.if-extent-gt0.branch [
+      | then-extent-gt0+in-Ok w ↦
+          rw w.members-is (subst (AreMembers es (n + 1)) (sym w.in-Ok.ensures.items)
+          (members_more es n _ _ (slice_get-get_or es n _ c.loop-index-test.true)
+          w.if-extent-gt0.true c.loop-index.invariant))
+      | else-extent-gt0 w ↦
+          rw w.members-is
+          (members_skip es n _ _ (slice_get-get_or es n _ c.loop-index-test.true)
+          w.if-extent-gt0.false c.loop-index.invariant)
+    ]

@@ -1,0 +1,5 @@
+pub mod Account
+pub mod Extent
+pub mod Least
+pub mod Members
+pub mod Place

@@ -1,0 +1,59 @@
+//! An account of every offset below a total: the extents that hold it, and the gaps between them.
+ghost use Rattle.std.specs.Prelude.{◌≡◌, ◌≤◌, [], ◌∷◌, ◌++◌, IfOk, OnOk};
+ghost use Rattle.elf_extent.specs.Account.{Accounts, gap_between};
+ghost use Rattle.elf_extent.specs.Extent.{AreDisjoint, AreWithin};
+
+use crate::extent::{Extent, OutOfMemory, Piece};
+use crate::members::members_by_start;
+use std::alloc::Global;
+
+/// The pieces that hold every offset below `total` exactly once, in ascending order, none of them
+/// empty: each extent that holds a byte, with its index as owner, and each gap between them, as
+/// long as it can be. Offsets and `total` are in bytes.
+///
+/// The extents share no byte and end at or below `total`. Answers `OutOfMemory` only where memory
+/// was refused.
+pub fn account(alloc: Global, extents: &[Extent], total: u64) -> Result<Vec<Piece>, OutOfMemory>
+    requires disjoint { AreDisjoint extents.now }
+    requires within { AreWithin extents.now total }
+    ensures { IfOk result (λ pieces. Accounts extents.now total 0 pieces.items) }
+{
+    let members = members_by_start(alloc, extents)?;
+    let mut pieces = Vec::new(alloc);
+    let mut at = 0;
+    for member in &members {
+        let Extent { start, len } = member.extent;
+        push_gap(&mut pieces, at, start)?;
+        let owner = Some(member.index);
+        push_piece(&mut pieces, Piece { owner, start, len })?;
+        at = start + len;
+    }
+    push_gap(&mut pieces, at, total)?;
+    Ok(pieces)
+}
+
+/// Adds the gap from `start` to `end`, if it is not empty.
+fn push_gap(pieces: &mut Vec<Piece>, start: u64, end: u64) -> Result<(), OutOfMemory>
+    requires { start ≤ end }
+    ensures { OnOk result (pieces.new.items ≡ pieces.old.items ++ gap_between start end) }
+{
+    if start < end {
+        let gap = Piece {
+            owner: None,
+            start,
+            len: end - start,
+        };
+        push_piece(pieces, gap)?;
+    }
+    Ok(())
+}
+
+/// Adds the piece.
+fn push_piece(pieces: &mut Vec<Piece>, piece: Piece) -> Result<(), OutOfMemory>
+    ensures { OnOk result (pieces.new.items ≡ pieces.old.items ++ piece ∷ []) }
+{
+    let Ok(()) = pieces.push(piece) else {
+        return Err(OutOfMemory);
+    };
+    Ok(())
+}

@@ -1,0 +1,24 @@
+//! An extent, a piece of an account, and want of memory.
+
+/// Memory was refused.
+#[derive(Clone, Copy, PartialEq, Eq, Debug)]
+pub struct OutOfMemory;
+
+/// The bytes at the offsets from `start` to below `start + len`; none where `len` is 0.
+#[derive(Clone, Copy, PartialEq, Eq, Debug)]
+pub struct Extent {
+    /// The offset of the first byte.
+    pub start: u64,
+    /// How many bytes.
+    pub len: u64,
+}
+
+/// The offsets from `start` to below `start + len`: those of an extent of a list, or of a gap
+/// between extents.
+#[derive(Clone, Copy, PartialEq, Eq, Debug)]
+pub struct Piece {
+    /// The index of the extent in the list; None for a gap.
+    pub owner: Option<usize>,
+    pub start: u64,
+    pub len: u64,
+}

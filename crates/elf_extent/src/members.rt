@@ -1,0 +1,43 @@
+//! The extents of a list that hold a byte, in ascending order of their starts.
+ghost use Rattle.std.specs.Prelude.{length, IfOk};
+ghost use Rattle.std.specs.List.Sorted.{IsNonDecreasingBy};
+ghost use Rattle.elf_extent.specs.Members.{AreMembers};
+
+use crate::extent::{Extent, OutOfMemory};
+use std::alloc::Global;
+
+/// An extent that holds a byte, and its index in the list.
+#[derive(Clone, Copy)]
+pub struct Member {
+    pub index: usize,
+    pub extent: Extent,
+}
+
+/// The extents that hold a byte, ascending by start.
+pub fn members_by_start(alloc: Global, extents: &[Extent]) -> Result<Vec<Member>, OutOfMemory>
+    ensures members { IfOk result (λ ms. AreMembers extents.now (length extents.now) ms.items) }
+    ensures ascending { IfOk result (λ ms. IsNonDecreasingBy (λ m. m.extent.start) ms.items) }
+{
+    let mut members = members_in_order(alloc, extents)?;
+    members.sort_unstable_by_key(|member| member.extent.start);
+    Ok(members)
+}
+
+/// The extents that hold a byte, in the order of the list.
+fn members_in_order(alloc: Global, extents: &[Extent]) -> Result<Vec<Member>, OutOfMemory>
+    ensures { IfOk result (λ ms. AreMembers extents.now (length extents.now) ms.items) }
+{
+    let mut members = Vec::new(alloc);
+    for (index, extent) in extents.iter().enumerate() {
+        if extent.len > 0 {
+            let member = Member {
+                index,
+                extent: *extent,
+            };
+            let Ok(()) = members.push(member) else {
+                return Err(OutOfMemory);
+            };
+        }
+    }
+    Ok(members)
+}

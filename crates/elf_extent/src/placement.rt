@@ -1,0 +1,57 @@
+//! Least places for parts that are laid one after the other.
+ghost use Rattle.std.specs.Prelude.{length, IfOk, IfErr, MatchOption};
+ghost use Rattle.elf_extent.specs.Place.{EndsFit, HasNoPlace, IsLeastPlace, IsPlaceFault, Least};
+
+use std::alloc::Global;
+
+/// Why parts have no places.
+#[derive(Clone, Copy, PartialEq, Eq, Debug)]
+pub enum PlaceFault {
+    /// At its least place the part at `index` starts or ends past the last offset of a u64; no
+    /// part before it does.
+    Overflow { index: usize },
+    /// Memory was refused.
+    OutOfMemory,
+}
+
+/// The least multiple of `align` not below `cursor`, in bytes; None if it does not fit a u64. The
+/// alignment 0 counts as 1.
+pub fn next_place(cursor: u64, align: u64) -> Option<u64>
+    ensures { MatchOption result (HasNoPlace cursor align) (IsLeastPlace cursor align) }
+{
+    let align = align.max(1);
+    let past = cursor % align;
+    if past == 0 {
+        Some(cursor)
+    } else {
+        cursor.checked_add(align - past)
+    }
+}
+
+/// The least places of the parts (size, alignment), in bytes: the first part is placed from `from`,
+/// each other one from the end of the one before it. The alignment 0 counts as 1.
+///
+/// Answers `Overflow` with the first part whose start or end does not fit a u64, and `OutOfMemory`
+/// only where memory was refused.
+pub fn place(alloc: Global, parts: &[(u64, u64)], from: u64) -> Result<Vec<u64>, PlaceFault>
+    ensures least { IfOk result (λ places. Least parts.now from places.items) }
+    ensures fits { IfOk result (λ places. EndsFit parts.now places.items (length parts.now)) }
+    ensures err { IfErr result (IsPlaceFault parts.now from) }
+{
+    let mut places = Vec::new(alloc);
+    let mut cursor = from;
+    for (index, part) in parts.iter().enumerate() {
+        let (size, align) = *part;
+        let Some(start) = next_place(cursor, align) else {
+            return Err(PlaceFault::Overflow { index });
+        };
+        let Some(end) = start.checked_add(size) else {
+            return Err(PlaceFault::Overflow { index });
+        };
+        let Ok(()) = places.push(start) else {
+            return Err(PlaceFault::OutOfMemory);
+        };
+        cursor = end;
+    }
+    Ok(places)
+}

@@ -1,0 +1,169 @@
+ghost use Rattle.std.specs.Prelude.{◌≤◌, ◌+◌, ◌↔◌, IsTrue};
+ghost use Rattle.std.specs.List.{All};
+
+use crate::{Extent, OutOfMemory, Piece, PlaceFault, account, first_double, next_place, place};
+use std::alloc::Global;
+use std::process::Abort;
+use std::test::Fail;
+
+fn extent(start: u64, len: u64) -> Extent {
+    Extent { start, len }
+}
+
+fn piece(owner: Option<usize>, start: u64, len: u64) -> Piece {
+    Piece { owner, start, len }
+}
+
+#[test]
+fn finds_the_lowest_double(rt: HostRuntime) -> Result<(), Fail> {
+    let several = [extent(10, 5), extent(0, 3), extent(2, 9), extent(14, 1)];
+    assert_eq!(rt; first_double(rt.alloc(), &several)?, Some(2));
+    let equal = [extent(5, 0), extent(5, 2), extent(5, 2)];
+    assert_eq!(rt; first_double(rt.alloc(), &equal)?, Some(5));
+    let touching = [extent(5, 0), extent(4, 3)];
+    assert_eq!(rt; first_double(rt.alloc(), &touching)?, None);
+    Ok(())
+}
+
+// Extents that end past a u64 are counted over whole numbers.
+#[test]
+fn finds_a_double_at_the_end(rt: HostRuntime) -> Result<(), Fail> {
+    let past = [extent(u64::MAX, 1), extent(u64::MAX - 1, u64::MAX)];
+    assert_eq!(rt; first_double(rt.alloc(), &past)?, Some(u64::MAX));
+    Ok(())
+}
+
+// The lowest offset below 11 that two of the extents hold, by counting at each offset.
+fn counted_double(extents: &[Extent]) -> Option<u64> {
+    (0..11).find(|x| {
+        let holders = extents
+            .iter()
+            .filter(|e| e.start <= *x && *x - e.start < e.len);
+        holders.count() > 1
+    })
+}
+
+fn check_double(rt: &impl Abort, alloc: Global, extents: &[Extent]) -> Result<(), OutOfMemory> {
+    assert_eq!(rt; first_double(alloc, extents)?, counted_double(extents));
+    Ok(())
+}
+
+// All lists of at most three extents with start and len from 0 to 5.
+#[test]
+fn agrees_with_a_count_at_each_offset(rt: HostRuntime) -> Result<(), Fail> {
+    let alloc = rt.alloc();
+    check_double(&rt, alloc, &[])?;
+    for i in 0..36 {
+        let first = extent(i / 6, i % 6);
+        check_double(&rt, alloc, &[first])?;
+        for j in 0..36 {
+            let second = extent(j / 6, j % 6);
+            check_double(&rt, alloc, &[first, second])?;
+            for k in 0..36 {
+                check_double(&rt, alloc, &[first, second, extent(k / 6, k % 6)])?;
+            }
+        }
+    }
+    Ok(())
+}
+
+fn all_within(extents: &[Extent], total: u64) -> bool
+    ensures { IsTrue result ↔ All (λ e. e.start + e.len ≤ total) extents.now }
+{
+    extents
+        .iter()
+        .all(|e| e.start <= total && e.len <= total - e.start)
+}
+
+// The account, where the extents are within the total and share no byte.
+fn checked_account(
+    alloc: Global,
+    extents: &[Extent],
+    total: u64,
+) -> Result<Option<Vec<Piece>>, OutOfMemory> {
+    if !all_within(extents, total) {
+        return Ok(None);
+    }
+    let None = first_double(alloc, extents)? else {
+        return Ok(None);
+    };
+    let pieces = account(alloc, extents, total)?;
+    Ok(Some(pieces))
+}
+
+fn check_account(
+    rt: &impl Abort,
+    alloc: Global,
+    extents: &[Extent],
+    total: u64,
+    expected: &[Piece],
+) -> Result<(), OutOfMemory> {
+    let pieces = checked_account(alloc, extents, total)?;
+    assert!(rt; matches!(&pieces, Some(found) if found.as_slice() == expected));
+    Ok(())
+}
+
+#[test]
+fn accounts_for_every_offset(rt: HostRuntime) -> Result<(), Fail> {
+    let alloc = rt.alloc();
+    let extents = [extent(4, 2), extent(0, 0), extent(1, 1)];
+    let pieces = [
+        piece(None, 0, 1),
+        piece(Some(2), 1, 1),
+        piece(None, 2, 2),
+        piece(Some(0), 4, 2),
+        piece(None, 6, 2),
+    ];
+    check_account(&rt, alloc, &extents, 8, &pieces)?;
+    check_account(&rt, alloc, &[], 0, &[])?;
+    check_account(&rt, alloc, &[], 3, &[piece(None, 0, 3)])?;
+    Ok(())
+}
+
+// The extents (2k, 1) for k below `count`, the last one first.
+fn every_other(alloc: Global, count: u64) -> Result<Vec<Extent>, OutOfMemory> {
+    let mut extents = Vec::new(alloc);
+    for k in (0..count).rev() {
+        let Ok(()) = extents.push(extent(k.saturating_mul(2), 1)) else {
+            return Err(OutOfMemory);
+        };
+    }
+    Ok(extents)
+}
+
+// As many extents as the section table of a large file has are accounted for in well under a second.
+#[test]
+fn many_extents_take_no_quadratic_time(rt: HostRuntime) -> Result<(), Fail> {
+    let alloc = rt.alloc();
+    let extents = every_other(alloc, 100_000)?;
+    assert_eq!(rt; first_double(alloc, &extents)?, None);
+    let pieces = checked_account(alloc, &extents, 200_000)?;
+    assert!(rt; matches!(&pieces, Some(found) if found.len() == 200_000));
+    Ok(())
+}
+
+#[test]
+fn finds_the_next_place(rt: HostRuntime) {
+    for (cursor, align, expected) in [
+        (5, 4, Some(8)),
+        (8, 4, Some(8)),
+        (5, 0, Some(5)),
+        (0, 16, Some(0)),
+        (7, 3, Some(9)),
+        (u64::MAX, 1, Some(u64::MAX)),
+        (u64::MAX, 2, None),
+    ] {
+        assert_eq!(rt; next_place(cursor, align), expected);
+    }
+}
+
+#[test]
+fn places_parts(rt: HostRuntime) -> Result<(), Fail> {
+    let alloc = rt.alloc();
+    let places = place(alloc, &[(1, 4), (0, 8), (3, 2)], 5)?;
+    assert_eq!(rt; places.as_slice(), [8, 16, 16].as_slice());
+    let last = u64::MAX - 1;
+    let overflow = place(alloc, &[(1, 1), (1, 2)], last);
+    assert!(rt; matches!(&overflow, Err(PlaceFault::Overflow { index: 1 })));
+    Ok(())
+}
