@@ -1,0 +1,253 @@
+-- Rules look at no more than the header, section header 0, the entries below the counts, and the name table's content:
+-- where these agree, a clean file and a clean value are one.
+use Rattle.std.proofs.Common.{◌≡◌, ◌≢◌, ◌≤◌, ◌<◌, ◌+◌, ◌*◌, ◌⊎◌, ℕ, zero, suc, None, List, [], ◌∷◌, ◌++◌, length, map, refl, sym, ap, ap₂, subst, ◌∙◌, inl, inr, arith, lit<}
+use Rattle.std.specs.List.{range_with_len}
+use Rattle.std.proofs.lemmas.Bool.{cases_eq, cases_lt, ne_eqb}
+use Rattle.elf_field.specs.declared.ehdr.Ehdr.{Ehdr}
+use Rattle.elf_field.specs.declared.shdr.Shdr.{Shdr}
+use Rattle.elf_field.specs.declared.phdr.Phdr.{Phdr}
+use Rattle.elf_extent.specs.declared.extent.Extent.{Extent}
+use Rattle.elf_extent.specs.Extent.{Doubly}
+use Rattle.elf_extent.specs.Least.{Never}
+use Rattle.elf_rules.specs.Rows.{FirstFrom, IsFaultOf, SomeEntry}
+use Rattle.elf_rules.proofs.Rows.{IsFaultOf-rows}
+use Rattle.elf_rules.specs.Tables.{content_extent, name_table, phdr_offset, section_count, segment_count, shdr_offset}
+use Rattle.elf_rules.specs.HeaderRules.{header_rows, ident_rows, length_rows}
+use Rattle.elf_rules.specs.ImageRules.{entry_rows, image_rows, table_rows}
+use Rattle.elf_rules.specs.NameRules.{name_rows, unclosed_name_table, wrong_name_table_type}
+use Rattle.elf_rules.specs.OverlapRule.{extents}
+use Rattle.elf_rules.specs.ProgramTableRules.{program_table_rows}
+use Rattle.elf_rules.specs.SectionRules.{IsMisaligned, IsNamePastEnd, IsWronglyAligned, PassesEnd, section_rows}
+use Rattle.elf_rules.specs.SectionTableRules.{InFirst, first_section_header_not_null, section_table_rows}
+use Rattle.elf_rules.specs.SegmentRules.{IsIncongruent, IsLargerInFile, IsLoad, IsLoadBefore, IsSegmentWronglyAligned, SegmentPassesEnd, load_out_of_order, segment_rows}
+use Rattle.elf_image.proofs.Clean.{IsClean, is_clean}
+
+-- the second entries are the first ones, as far as the rules look
+pub record Agree (h : Ehdr) (s t : ℕ → Shdr) (g k : ℕ → Phdr) : Type 0 where
+  pub first : (h.e_shoff ≡ 0) ⊎ (s 0 ≡ t 0)
+  pub sections : (i : ℕ) → i < section_count h (s 0) → s i ≡ t i
+  pub segments : (j : ℕ) → j < segment_count h (s 0) → g j ≡ k j
+
+-- ---- the counts
+
+pub same_section_count : (h : Ehdr) (a b : Shdr) → (h.e_shoff ≡ 0) ⊎ (a ≡ b) → section_count h a ≡ section_count h b
+same_section_count h a b first = elim first [ inl none ↦ rw none refl | inr same ↦ ap (section_count h) same ]
+
+pub same_segment_count : (h : Ehdr) (a b : Shdr) → (h.e_shoff ≡ 0) ⊎ (a ≡ b) → (h.e_shoff ≡ 0 → h.e_phnum ≢ 0xffff) → segment_count h a ≡ segment_count h b
+same_segment_count h a b first few =
+    elim first [ inl none ↦ rw (ne_eqb h.e_phnum 0xffff (few none)) refl | inr same ↦ ap (segment_count h) same ]
+
+pub same_name_table : (h : Ehdr) (a b : Shdr) → (h.e_shoff ≡ 0) ⊎ (a ≡ b) → (h.e_shoff ≡ 0 → h.e_shstrndx ≡ 0) → name_table h a ≡ name_table h b
+same_name_table h a b first none_named =
+    elim first [ inl none ↦ rw (none_named none) refl | inr same ↦ ap (name_table h) same ]
+
+-- ---- rows
+
+in_first : (h : Ehdr) (a b : Shdr) (P : Shdr → Type 0) (field x : ℕ) → (h.e_shoff ≡ 0) ⊎ (a ≡ b) → InFirst h (P b) field x → InFirst h (P a) field x
+in_first h a b P field x first ((there, p), at) =
+    elim first [ inl none ↦ absurd (there none) | inr same ↦ ((there, subst P (sym same) p), at) ]
+
+some_entry : {E : Type 0} (s t : ℕ → E) (from end last : ℕ) (P : E → Type 0) (place : ℕ → ℕ) (x : ℕ) → end ≡ last →
+    ((i : ℕ) → i < end → s i ≡ t i) → SomeEntry t from last P place x → SomeEntry s from end P place x
+some_entry s t from end last P place x same agree (i, above, below, p, at) =
+    let lt : i < end = omega arith in
+    (i, above, lt, subst P (sym (agree i lt)) p, at)
+
+loads : (h : Ehdr) (g k : ℕ → Phdr) (m l x : ℕ) → m ≡ l → ((j : ℕ) → j < m → g j ≡ k j) → load_out_of_order h l k x → load_out_of_order h m g x
+loads h g k m l x same agree (i, j, below, load, before, falls, at) =
+    let lt : j < m = omega arith in
+    let under = before.below in
+    let gi : g i ≡ k i = agree i (omega arith) in
+    let gj : g j ≡ k j = agree j lt in (
+      i,
+      j,
+      lt,
+      subst IsLoad (sym gj) load,
+      record {
+        below = under;
+        load = subst IsLoad (sym gi) before.load;
+        nearest = λ n above under' loaded. before.nearest n above under' (subst IsLoad (agree n (omega arith)) loaded);
+      },
+      subst (λ (q : Phdr). q.p_vaddr < (g i).p_vaddr) (sym gj) (subst (λ (q : Phdr). (k j).p_vaddr < q.p_vaddr) (sym gi) falls),
+      at,
+    )
+
+map_agree : {B : Type 0} (f g : ℕ → B) (a n : ℕ) → ((i : ℕ) → i < a + n → f i ≡ g i) → map f (range_with_len a n) ≡ map g (range_with_len a n)
+map_agree f g a zero agree = refl
+map_agree f g a (suc n) agree = ap₂ (λ (x : _) (xs : List _). x ∷ xs) (agree a (omega arith)) (map_agree f g (a + 1) n (λ i lt. agree i (omega arith)))
+
+same_extents : (h : Ehdr) (s t : ℕ → Shdr) (n m p q : ℕ) → n ≡ p → m ≡ q → ((i : ℕ) → i < n → s i ≡ t i) → extents h n m s ≡ extents h p q t
+unfolding extents
+same_extents h s t n m p q sections segments agree =
+    let contents : map (λ i. content_extent (s i)) (range_with_len 0 n) ≡ map (λ i. content_extent (t i)) (range_with_len 0 n) =
+    map_agree (λ i. content_extent (s i)) (λ i. content_extent (t i)) 0 n (λ i lt. ap content_extent (agree i (omega arith))) in
+    ap (λ (cs : List Extent). record { start = 0; len = 64 } ∷ record { start = h.e_shoff; len = 64 * n } ∷ record { start = h.e_phoff; len = 56 * m } ∷ cs) contents
+    ∙ ap₂ (λ (k l : ℕ). extents h k l t) sections segments
+
+-- rule 13, field by field
+null_fields : (h : Ehdr) (a b : Shdr) (x : ℕ) → (h.e_shoff ≡ 0) ⊎ (a ≡ b) → first_section_header_not_null h b x → first_section_header_not_null h a x
+null_fields h a b x first w = elim w [
+  | inl p ↦ inl (in_first h a b (λ q. q.sh_name ≢ 0) 0 x first p)
+  | inr w ↦ inr (elim w [
+    | inl p ↦ inl (in_first h a b (λ q. q.sh_type ≢ 0) 4 x first p)
+    | inr w ↦ inr (elim w [
+      | inl p ↦ inl (in_first h a b (λ q. q.sh_flags ≢ 0) 8 x first p)
+      | inr w ↦ inr (elim w [
+        | inl p ↦ inl (in_first h a b (λ q. q.sh_addr ≢ 0) 16 x first p)
+        | inr w ↦ inr (elim w [
+          | inl p ↦ inl (in_first h a b (λ q. q.sh_offset ≢ 0) 24 x first p)
+          | inr w ↦ inr (elim w [
+            | inl p ↦ inl (in_first h a b (λ q. q.sh_addralign ≢ 0) 48 x first p)
+            | inr w ↦ inr (elim w [
+              | inl p ↦ inl (in_first h a b (λ q. q.sh_entsize ≢ 0) 56 x first p)
+              | inr w ↦ inr w
+            ])
+          ])
+        ])
+      ])
+    ])
+  ])
+]
+
+pub same_clean : (len : ℕ) (h : Ehdr) (s t : ℕ → Shdr) (g k : ℕ → Phdr) (names : List ℕ) → Agree h s t g k →
+    IsFaultOf (image_rows len h s g names) None → IsFaultOf (image_rows len h t k names) None
+unfolding image_rows table_rows entry_rows length_rows ident_rows header_rows section_table_rows program_table_rows section_rows segment_rows name_rows
+same_clean len h s t g k names agree clean = IsFaultOf-rows (image_rows len h t k names) None ((
+  (λ x w. clean 1 x (lit< tt) w),
+  (
+    (λ x w. clean 2 x (lit< tt) w),
+    (
+      (λ x w. clean 3 x (lit< tt) w),
+      (
+        (λ x w. clean 4 x (lit< tt) w),
+        (
+          (λ x w. clean 5 x (lit< tt) w),
+          (
+            (λ x w. clean 6 x (lit< tt) w),
+            (
+              (λ x w. clean 7 x (lit< tt) w),
+              (
+                (λ x w. clean 8 x (lit< tt) w),
+                (
+                  (λ x w. clean 9 x (lit< tt) w),
+                  (
+                    (λ x w. clean 10 x (lit< tt) w),
+                    (
+                      (λ x w. clean 11 x (lit< tt) w),
+                      (
+                        (λ x w. clean 12 x (lit< tt) w),
+                        (
+                          (λ x w. clean 13 x (lit< tt) (null_fields h (s 0) (t 0) x agree.first w)),
+                          (
+                            (λ x w. clean 14 x (lit< tt) (in_first h (s 0) (t 0) (λ q. ((h.e_shnum ≢ 0) × (q.sh_size ≢ 0)) ⊎ ((h.e_shnum ≡ 0) × (q.sh_size < 0xff00))) 32 x agree.first w)),
+                            (
+                              (λ x w. clean 15 x (lit< tt) ((w.0.0, subst (λ c. len < shdr_offset h c) (sym count) w.0.1), w.1)),
+                              (
+                                (λ x w. clean 16 x (lit< tt) ((w.0.0, w.0.1, subst (λ c. (0xff00 ≤ h.e_shstrndx) ⊎ (c ≤ h.e_shstrndx)) (sym count) w.0.2), w.1)),
+                                (
+                                  (λ x w. clean 17 x (lit< tt) (in_first h (s 0) (t 0) (λ q. ((h.e_shstrndx ≡ 0xffff) × ((q.sh_link < 0xff00) ⊎ (section_count h q ≤ q.sh_link))) ⊎ ((h.e_shstrndx ≢ 0xffff) × (q.sh_link ≢ 0))) 40 x agree.first w)),
+                                  (
+                                    (λ x w. clean 18 x (lit< tt) w),
+                                    (
+                                      (λ x w. clean 19 x (lit< tt) w),
+                                      (
+                                        (λ x w. clean 20 x (lit< tt) (in_first h (s 0) (t 0) (λ q. ((h.e_phnum ≡ 0xffff) × (q.sh_info < 0xffff)) ⊎ ((h.e_phnum ≢ 0xffff) × (q.sh_info ≢ 0))) 44 x agree.first w)),
+                                        (
+                                          (λ x w. clean 21 x (lit< tt) (subst (λ c. (0 < c) × (len < phdr_offset h c)) (sym segments) w.0, w.1)),
+                                          (
+                                            (λ x w. clean 22 x (lit< tt) (some_entry s t 1 n nt (λ q. (q.sh_type ≢ 0) × IsWronglyAligned q) (λ i. shdr_offset h i + 48) x count agree.sections w)),
+                                            (
+                                              (λ x w. clean 23 x (lit< tt) (some_entry s t 1 n nt (λ q. (q.sh_type ≢ 0) × IsMisaligned q) (λ i. shdr_offset h i + 16) x count agree.sections w)),
+                                              (
+                                                (λ x w. clean 24 x (lit< tt) (some_entry s t 1 n nt (λ q. (q.sh_type ≢ 0) × (PassesEnd len) q) (λ i. shdr_offset h i + 24) x count agree.sections w)),
+                                                (
+                                                  (λ x w. clean 25 x (lit< tt) (some_entry g k 0 m mt (SegmentPassesEnd len) (λ j. phdr_offset h j + 8) x segments agree.segments w)),
+                                                  (
+                                                    (λ x w. clean 26 x (lit< tt) (some_entry g k 0 m mt IsLargerInFile (λ j. phdr_offset h j + 32) x segments agree.segments w)),
+                                                    (
+                                                      (λ x w. clean 27 x (lit< tt) (some_entry g k 0 m mt IsSegmentWronglyAligned (λ j. phdr_offset h j + 48) x segments agree.segments w)),
+                                                      (
+                                                        (λ x w. clean 28 x (lit< tt) (some_entry g k 0 m mt IsIncongruent (λ j. phdr_offset h j + 8) x segments agree.segments w)),
+                                                        (
+                                                          (λ x w. clean 29 x (lit< tt) (loads h g k m mt x segments agree.segments w)),
+                                                          (
+                                                            (λ x w. named x w),
+                                                            (
+                                                              (λ x w. closed x w),
+                                                              (
+                                                                (λ x w. clean 32 x (lit< tt) (some_entry s t 1 n nt (λ q. (q.sh_type ≢ 0) × IsNamePastEnd (length names) q) (λ i. shdr_offset h i + 0) x count agree.sections w)),
+                                                                ((λ x w. clean 33 x (lit< tt) (subst (λ es. Doubly es x) (sym (same_extents h s t n m nt mt count segments agree.sections)) w)), tt),
+                                                              ),
+                                                            ),
+                                                          ),
+                                                        ),
+                                                      ),
+                                                    ),
+                                                  ),
+                                                ),
+                                              ),
+                                            ),
+                                          ),
+                                        ),
+                                      ),
+                                    ),
+                                  ),
+                                ),
+                              ),
+                            ),
+                          ),
+                        ),
+                      ),
+                    ),
+                  ),
+                ),
+              ),
+            ),
+          ),
+        ),
+      ),
+    ),
+  ),
+))
+  where
+    facts : IsClean len h s g
+    facts = is_clean len h s g names clean
+
+    n : ℕ
+    n = section_count h (s 0)
+
+    nt : ℕ
+    nt = section_count h (t 0)
+
+    m : ℕ
+    m = segment_count h (s 0)
+
+    mt : ℕ
+    mt = segment_count h (t 0)
+
+    count : section_count h (s 0) ≡ section_count h (t 0)
+    count = same_section_count h (s 0) (t 0) agree.first
+
+    segments : segment_count h (s 0) ≡ segment_count h (t 0)
+    segments = same_segment_count h (s 0) (t 0) agree.first facts.few_segments
+
+    table : name_table h (s 0) ≡ name_table h (t 0)
+    table = same_name_table h (s 0) (t 0) agree.first facts.no_names
+
+    there : name_table h (s 0) ≢ 0 → name_table h (s 0) < section_count h (s 0)
+    there other = elim (cases_eq h.e_shoff 0) [
+      | inl none ↦ absurd (other (let unnamed = facts.no_names none in rw unnamed refl))
+      | inr table_there ↦ facts.name_table table_there
+    ]
+
+    named : (x : ℕ) → wrong_name_table_type h (name_table h (t 0)) t x → ⊥
+    named x w =
+        let other : name_table h (s 0) ≢ 0 = λ e. w.0.0 (sym table ∙ e) in
+        let entry : s (name_table h (s 0)) ≡ t (name_table h (t 0)) = agree.sections _ (there other) ∙ ap t table in
+        clean 30 _ (lit< tt) ((other, subst (λ (q : Shdr). q.sh_type ≢ 3) (sym entry) w.0.1), refl)
+
+    closed : (x : ℕ) → unclosed_name_table (name_table h (t 0)) t names x → ⊥
+    closed x w = elim w [
+      | inl p ↦ clean 31 _ (lit< tt) (inl (p.0, refl))
+      | inr w ↦ elim w [ inl p ↦ clean 31 _ (lit< tt) (inr (inl (p.0, refl))) | inr none ↦ none ]
+    ]

@@ -1,0 +1,7 @@
+use Rattle.std.proofs.Common.{◌≡◌, map}
+use Rattle.std.specs.List.{range_with_len}
+use Rattle.elf_rules.specs.Tables.{segments}
+use Rattle.elf_image.proofs.parsing.program_headers.Given as goal
+
+abbrev pub invariant-loop-index : goal.invariant-loop-index
+invariant-loop-index l = l.entries.items ≡ map (segments l.bytes l.header) (range_with_len 0 l.index)

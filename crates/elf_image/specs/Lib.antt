@@ -1,0 +1,10 @@
+-- The words of this crate's contracts.
+pub mod Edits
+pub mod Image
+pub mod Outline
+pub mod OutlineView
+pub mod Output
+pub mod Reading
+pub mod Strings
+pub mod View
+pub mod Parsing

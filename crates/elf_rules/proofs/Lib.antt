@@ -1,0 +1,7 @@
+pub mod Rows
+pub mod Runs
+pub mod PowerOfTwo
+pub mod LoadOrder
+pub mod Extents
+pub mod Clean
+pub mod ImageRules

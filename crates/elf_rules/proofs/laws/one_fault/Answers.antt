@@ -1,0 +1,9 @@
+use Rattle.elf_rules.specs.ImageRules.{image_rows, rows}
+use Rattle.elf_rules.proofs.Rows.{one_fault}
+use Rattle.elf_rules.proofs.laws.one_fault.Goals as goal
+
+pub returns : goal.returns
+returns c = record {
+  file = λ b x y. one_fault (rows b) x y;
+  tables = λ len h s g names x y. one_fault (image_rows len h s g names) x y;
+}

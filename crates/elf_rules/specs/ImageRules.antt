@@ -1,0 +1,44 @@
+-- The rules of an image, and the fault of a file.
+use Rattle.std.specs.Prelude.{ℕ, Option, List, [], ◌∷◌, ◌++◌, length}
+use Rattle.elf_field.specs.declared.ehdr.Ehdr.{Ehdr}
+use Rattle.elf_field.specs.declared.shdr.Shdr.{Shdr}
+use Rattle.elf_field.specs.declared.phdr.Phdr.{Phdr}
+use Rattle.elf_rules.specs.Rows.{Row, IsFaultOf}
+use Rattle.elf_rules.specs.Tables.{section_count, segment_count, name_table, header, sections, segments, names}
+use Rattle.elf_rules.specs.HeaderRules.{length_rows, ident_rows, header_rows}
+use Rattle.elf_rules.specs.SectionTableRules.{section_table_rows}
+use Rattle.elf_rules.specs.ProgramTableRules.{program_table_rows}
+use Rattle.elf_rules.specs.SectionRules.{section_rows}
+use Rattle.elf_rules.specs.SegmentRules.{segment_rows}
+use Rattle.elf_rules.specs.NameRules.{name_rows}
+use Rattle.elf_rules.specs.OverlapRule.{shared_byte}
+
+-- rules 22 to 33, of n section headers and m program headers, with the name table of index k
+unfoldable pub entry_rows : ℕ → Ehdr → ℕ → ℕ → ℕ → (ℕ → Shdr) → (ℕ → Phdr) → List ℕ → List {1} Row
+entry_rows len h n m k s g names =
+    section_rows len h n s ++
+    (segment_rows len h m g ++
+    (name_rows h n k s names ++
+    (shared_byte h n m s ∷ [])))
+
+-- rules 13 to 33, in order, of a file of len bytes with this header, these section headers and
+-- program headers by index, and this content of its section name string table
+unfoldable pub table_rows : ℕ → Ehdr → (ℕ → Shdr) → (ℕ → Phdr) → List ℕ → List {1} Row
+table_rows len h s g names =
+    let first = s 0 in
+    section_table_rows len h first ++
+    (program_table_rows len h first ++
+    entry_rows len h (section_count h first) (segment_count h first) (name_table h first) s g names)
+
+-- rules 1 to 33, in order
+unfoldable pub image_rows : ℕ → Ehdr → (ℕ → Shdr) → (ℕ → Phdr) → List ℕ → List {1} Row
+image_rows len h s g names =
+    length_rows len ++ (ident_rows h.e_ident ++ (header_rows len h ++ table_rows len h s g names))
+
+-- the rules of a file: of what its bytes hold
+unfoldable pub rows : List ℕ → List {1} Row
+rows b = let h = header b in image_rows (length b) h (sections b h) (segments b h) (names b h)
+
+-- the first rule that the file breaks and its lowest offset, or None
+abbrev pub IsFault : List ℕ → Option (ℕ × ℕ) → Type 0
+IsFault b found = IsFaultOf (rows b) found

@@ -1,0 +1,12 @@
+pub mod Rows
+pub mod Broken
+pub mod Tables
+pub mod HeaderRules
+pub mod SectionTableRules
+pub mod ProgramTableRules
+pub mod SectionRules
+pub mod SegmentRules
+pub mod NameRules
+pub mod OverlapRule
+pub mod FileExtents
+pub mod ImageRules

@@ -1,0 +1,34 @@
+-- Rules 30 to 32: the section name string table, and the sections' names in it. It is the table of
+-- index k, 0 for none, and names is its content, empty without one.
+-- (gABI chapter 4, ELF Header: e_shstrndx; String Table; Sections: sh_name.)
+use Rattle.std.specs.Prelude.{◌≢◌, ℕ, ◌+◌, ◌-◌, ◌<◌, List, [], ◌∷◌, length, slice_index}
+use Rattle.elf_field.specs.declared.ehdr.Ehdr.{Ehdr}
+use Rattle.elf_field.specs.declared.shdr.Shdr.{Shdr}
+use Rattle.elf_rules.specs.Rows.{Row, When, Either}
+use Rattle.elf_rules.specs.SectionRules.{SomeSection, IsNamePastEnd}
+use Rattle.elf_rules.specs.Tables.{shdr_offset}
+
+-- rule 30: the name table isn't a string table (STRTAB, 3)
+abbrev pub wrong_name_table_type : Ehdr → ℕ → (ℕ → Shdr) → Row
+wrong_name_table_type h k s = When ((k ≢ 0) × ((s k).sh_type ≢ 3)) (shdr_offset h k + 4)
+
+-- the first or the last byte of a string table at `start` isn't 0
+abbrev pub UnclosedAt : List ℕ → ℕ → Row
+UnclosedAt table start =
+    let last = length table - 1 in
+    Either (
+    When ((0 < length table) × (slice_index table 0 ≢ 0)) start ∷
+    When ((0 < length table) × (slice_index table last ≢ 0)) (start + last) ∷ [])
+
+-- rule 31: the name table's first or last byte isn't 0
+abbrev pub unclosed_name_table : ℕ → (ℕ → Shdr) → List ℕ → Row
+unclosed_name_table k s names = UnclosedAt names (s k).sh_offset
+
+-- rule 32: a section's name begins behind the name table
+abbrev pub name_past_end : Ehdr → ℕ → (ℕ → Shdr) → List ℕ → Row
+name_past_end h n s names = SomeSection h n s (IsNamePastEnd (length names)) 0
+
+-- rules 30 to 32
+unfoldable pub name_rows : Ehdr → ℕ → ℕ → (ℕ → Shdr) → List ℕ → List {1} Row
+name_rows h n k s names =
+    wrong_name_table_type h k s ∷ unclosed_name_table k s names ∷ name_past_end h n s names ∷ []

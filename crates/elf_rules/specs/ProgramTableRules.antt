@@ -1,0 +1,37 @@
+-- Rules 18 to 21: the program table's place and count. (gABI chapter 4, ELF Header; chapter 5,
+-- Program Header.)
+use Rattle.std.specs.Prelude.{◌≡◌, ◌≢◌, ℕ, ◌<◌, ◌⊎◌, List, [], ◌∷◌}
+use Rattle.elf_field.specs.declared.ehdr.Ehdr.{Ehdr}
+use Rattle.elf_field.specs.declared.shdr.Shdr.{Shdr}
+use Rattle.elf_rules.specs.Rows.{Row, When}
+use Rattle.elf_rules.specs.SectionTableRules.{InFirst}
+use Rattle.elf_rules.specs.Tables.{segment_count, phdr_offset}
+
+-- rule 18: a program table without a count, a count without a table, or a count that stands in a
+-- section header 0 that isn't there
+abbrev pub wrong_segment_count : Ehdr → Row
+wrong_segment_count h = When
+    (((h.e_phoff ≡ 0) × (h.e_phnum ≢ 0)) ⊎ ((h.e_phoff ≢ 0) × (h.e_phnum ≡ 0)) ⊎
+    ((h.e_phnum ≡ 0xffff) × (h.e_shoff ≡ 0))) 56
+
+-- rule 19: the program table's entries don't have the size of a program header
+abbrev pub wrong_program_header_size : Ehdr → Row
+wrong_program_header_size h = When ((h.e_phnum ≢ 0) × (h.e_phentsize ≢ 56)) 54
+
+-- rule 20: section header 0 has a count of segments that e_phnum could hold, or one beside e_phnum
+abbrev pub wrong_extended_segment_count : Ehdr → Shdr → Row
+wrong_extended_segment_count h first = InFirst h
+    (((h.e_phnum ≡ 0xffff) × (first.sh_info < 0xffff)) ⊎ ((h.e_phnum ≢ 0xffff) × (first.sh_info ≢ 0))) 44
+
+-- rule 21: the program table passes the end of the file
+abbrev pub program_table_past_end : ℕ → Ehdr → Shdr → Row
+program_table_past_end len h first =
+    let m = segment_count h first in When ((0 < m) × (len < phdr_offset h m)) 32
+
+-- rules 18 to 21
+unfoldable pub program_table_rows : ℕ → Ehdr → Shdr → List {1} Row
+program_table_rows len h first =
+    wrong_segment_count h ∷
+    wrong_program_header_size h ∷
+    wrong_extended_segment_count h first ∷
+    program_table_past_end len h first ∷ []

@@ -1,0 +1,65 @@
+-- Rules 22 to 24: each section by itself. Entry 0 and entries of type NULL are left out.
+-- (gABI chapter 4, Sections: sh_addralign, sh_addr, sh_offset, sh_size.)
+use Rattle.std.specs.Prelude.{◌≢◌, ℕ, ◌+◌, ◌%◌, ◌<◌, ◌≤◌, List, [], ◌∷◌}
+use Rattle.std.specs.Int.{IsPowerOfTwo}
+use Rattle.elf_field.specs.declared.ehdr.Ehdr.{Ehdr}
+use Rattle.elf_field.specs.declared.shdr.Shdr.{Shdr}
+use Rattle.elf_rules.specs.declared.section_rules.SectionRule.{SectionRule}
+use Rattle.elf_rules.specs.declared.section_rules.SectionRule.TheVariants.{Alignment, Address, Content, Name}
+use Rattle.elf_rules.specs.Rows.{Row, SomeEntry}
+use Rattle.elf_rules.specs.Tables.{shdr_offset}
+
+-- the row of a rule on each of n sections but entry 0 and those of type NULL, at `field` in the header
+abbrev pub SomeSection : Ehdr → ℕ → (ℕ → Shdr) → (Shdr → Type 0) → ℕ → Row
+SomeSection h n s P field =
+    SomeEntry s 1 n (λ entry. (entry.sh_type ≢ 0) × P entry) (λ i. shdr_offset h i + field)
+
+-- an alignment is 0, for none, or a power of two
+abbrev pub IsWrongAlignment : ℕ → Type 0
+IsWrongAlignment align = (align ≢ 0) × ¬ IsPowerOfTwo align
+
+-- rule 22: a section's alignment is neither 0 nor a power of two
+abbrev pub IsWronglyAligned : Shdr → Type 0
+IsWronglyAligned entry = IsWrongAlignment entry.sh_addralign
+
+abbrev pub wrong_section_alignment : Ehdr → ℕ → (ℕ → Shdr) → Row
+wrong_section_alignment h n s = SomeSection h n s IsWronglyAligned 48
+
+-- rule 23: a section's address is no multiple of its alignment
+abbrev pub IsMisaligned : Shdr → Type 0
+IsMisaligned entry = (1 < entry.sh_addralign) × (entry.sh_addr % entry.sh_addralign ≢ 0)
+
+abbrev pub misaligned_section : Ehdr → ℕ → (ℕ → Shdr) → Row
+misaligned_section h n s = SomeSection h n s IsMisaligned 16
+
+-- rule 24: a content passes the end of the file; NOBITS (8) has none in it
+abbrev pub PassesEnd : ℕ → Shdr → Type 0
+PassesEnd len entry =
+    (entry.sh_type ≢ 8) × (0 < entry.sh_size) × (len < entry.sh_offset + entry.sh_size)
+
+abbrev pub content_past_end : ℕ → Ehdr → ℕ → (ℕ → Shdr) → Row
+content_past_end len h n s = SomeSection h n s (PassesEnd len) 24
+
+-- rule 32: a section's name begins behind a section name string table of this size; 0, for no name,
+-- needs no table
+abbrev pub IsNamePastEnd : ℕ → Shdr → Type 0
+IsNamePastEnd size entry = (entry.sh_name ≢ 0) × (size ≤ entry.sh_name)
+
+-- what breaks each of these rules
+abbrev pub Breaks : SectionRule → Shdr → Type 0
+Breaks Alignment = IsWronglyAligned
+Breaks Address = IsMisaligned
+Breaks (Content len) = PassesEnd len
+Breaks (Name size) = IsNamePastEnd size
+
+-- the offset in the section header of the field that each of them answers
+abbrev pub field_of : SectionRule → ℕ
+field_of Alignment = 48
+field_of Address = 16
+field_of (Content len) = 24
+field_of (Name size) = 0
+
+-- rules 22 to 24
+unfoldable pub section_rows : ℕ → Ehdr → ℕ → (ℕ → Shdr) → List {1} Row
+section_rows len h n s =
+    wrong_section_alignment h n s ∷ misaligned_section h n s ∷ content_past_end len h n s ∷ []

@@ -1,0 +1,54 @@
+-- Rules 13 to 17: section header 0 and the counts of the section table. They are tested where there
+-- is a section table. (gABI chapter 4, ELF Header and Sections: extended numbering.)
+use Rattle.std.specs.Prelude.{◌≡◌, ◌≢◌, ℕ, ◌+◌, ◌<◌, ◌≤◌, ◌⊎◌, List, [], ◌∷◌}
+use Rattle.elf_field.specs.declared.ehdr.Ehdr.{Ehdr}
+use Rattle.elf_field.specs.declared.shdr.Shdr.{Shdr}
+use Rattle.elf_rules.specs.Rows.{Row, When, Either}
+use Rattle.elf_rules.specs.Tables.{section_count, shdr_offset}
+
+-- the row of a rule on one field of section header 0, at `field` in it
+abbrev pub InFirst : Ehdr → Type 0 → ℕ → Row
+InFirst h P field = When ((h.e_shoff ≢ 0) × P) (shdr_offset h 0 + field)
+
+-- rule 13: a field of section header 0 that has no meaning there isn't 0
+abbrev pub first_section_header_not_null : Ehdr → Shdr → Row
+first_section_header_not_null h first = Either (
+    InFirst h (first.sh_name ≢ 0) 0 ∷
+    InFirst h (first.sh_type ≢ 0) 4 ∷
+    InFirst h (first.sh_flags ≢ 0) 8 ∷
+    InFirst h (first.sh_addr ≢ 0) 16 ∷
+    InFirst h (first.sh_offset ≢ 0) 24 ∷
+    InFirst h (first.sh_addralign ≢ 0) 48 ∷
+    InFirst h (first.sh_entsize ≢ 0) 56 ∷ [])
+
+-- rule 14: section header 0 has a count beside e_shnum, or a count that e_shnum could hold
+abbrev pub wrong_extended_section_count : Ehdr → Shdr → Row
+wrong_extended_section_count h first = InFirst h
+    (((h.e_shnum ≢ 0) × (first.sh_size ≢ 0)) ⊎ ((h.e_shnum ≡ 0) × (first.sh_size < 0xff00))) 32
+
+-- rule 15: the section table passes the end of the file
+abbrev pub section_table_past_end : ℕ → Ehdr → Shdr → Row
+section_table_past_end len h first =
+    When ((h.e_shoff ≢ 0) × (len < shdr_offset h (section_count h first))) 40
+
+-- rule 16: the name table's index is reserved, or there is no such section
+abbrev pub wrong_name_table_index : Ehdr → Shdr → Row
+wrong_name_table_index h first = When
+    ((h.e_shoff ≢ 0) × (h.e_shstrndx ≢ 0xffff) ×
+    ((0xff00 ≤ h.e_shstrndx) ⊎ (section_count h first ≤ h.e_shstrndx))) 62
+
+-- rule 17: section header 0 has a name table's index that e_shstrndx could hold, or that no section
+-- has, or one beside e_shstrndx
+abbrev pub wrong_extended_name_table_index : Ehdr → Shdr → Row
+wrong_extended_name_table_index h first = InFirst h
+    (((h.e_shstrndx ≡ 0xffff) × ((first.sh_link < 0xff00) ⊎ (section_count h first ≤ first.sh_link))) ⊎
+    ((h.e_shstrndx ≢ 0xffff) × (first.sh_link ≢ 0))) 40
+
+-- rules 13 to 17
+unfoldable pub section_table_rows : ℕ → Ehdr → Shdr → List {1} Row
+section_table_rows len h first =
+    first_section_header_not_null h first ∷
+    wrong_extended_section_count h first ∷
+    section_table_past_end len h first ∷
+    wrong_name_table_index h first ∷
+    wrong_extended_name_table_index h first ∷ []

@@ -1,0 +1,69 @@
+-- What a file's header, section headers and program headers are, and what they say of the file.
+-- (gABI chapter 4, ELF Header and Sections; chapter 5, Program Header.)
+use Rattle.std.specs.Prelude.{ℕ, ◌+◌, ◌*◌, ◌==◌, ◌||◌, if◌then◌else◌, List, [], take, drop, slice_index}
+use Rattle.elf_field.specs.declared.order.Order.{Order}
+use Rattle.elf_field.specs.declared.order.Order.TheVariants.{Little, Big}
+use Rattle.elf_field.specs.declared.ehdr.Ehdr.{Ehdr}
+use Rattle.elf_field.specs.declared.shdr.Shdr.{Shdr}
+use Rattle.elf_field.specs.declared.phdr.Phdr.{Phdr}
+use Rattle.elf_field.specs.Ehdr.{ehdr_at}
+use Rattle.elf_field.specs.Shdr.{shdr_at}
+use Rattle.elf_field.specs.Phdr.{phdr_at}
+use Rattle.elf_extent.specs.declared.extent.Extent.{Extent}
+
+-- the order that the identification names by its byte 5: 2 is most significant byte first
+unfoldable pub order_of : List ℕ → Order
+order_of ident = if slice_index ident 5 == 2 then Big else Little
+
+-- H(i): the offset in the file of section header i
+abbrev pub shdr_offset : Ehdr → ℕ → ℕ
+shdr_offset h i = h.e_shoff + 64 * i
+
+-- G(j): the offset in the file of program header j
+abbrev pub phdr_offset : Ehdr → ℕ → ℕ
+phdr_offset h j = h.e_phoff + 56 * j
+
+-- n, the number of section headers: none without a table, and entry 0's sh_size where e_shnum is 0
+abbrev pub section_count : Ehdr → Shdr → ℕ
+section_count h first =
+    if h.e_shoff == 0 then 0 else (if h.e_shnum == 0 then first.sh_size else h.e_shnum)
+
+-- m, the number of program headers: entry 0's sh_info where e_phnum is 0xffff (PN_XNUM)
+abbrev pub segment_count : Ehdr → Shdr → ℕ
+segment_count h first = if h.e_phnum == 0xffff then first.sh_info else h.e_phnum
+
+-- the index of the section name string table, 0 for none: entry 0's sh_link where e_shstrndx is
+-- 0xffff (SHN_XINDEX)
+abbrev pub name_table : Ehdr → Shdr → ℕ
+name_table h first = if h.e_shstrndx == 0xffff then first.sh_link else h.e_shstrndx
+
+-- the bytes that a section holds in the file: none of type NULL (0) or NOBITS (8)
+abbrev pub content_extent : Shdr → Extent
+content_extent entry = record {
+  start = entry.sh_offset;
+  len = if (entry.sh_type == 0) || (entry.sh_type == 8) then 0 else entry.sh_size;
+}
+
+-- the file's header
+unfoldable pub header : List ℕ → Ehdr
+header b = ehdr_at (order_of (take 16 b)) b 0
+
+-- its section headers, by index
+unfoldable pub sections : List ℕ → Ehdr → ℕ → Shdr
+sections b h i = shdr_at (order_of h.e_ident) b (shdr_offset h i)
+
+-- its program headers, by index
+unfoldable pub segments : List ℕ → Ehdr → ℕ → Phdr
+segments b h j = phdr_at (order_of h.e_ident) b (phdr_offset h j)
+
+-- the bytes of an extent that lie in the file
+abbrev pub bytes_in : List ℕ → Extent → List ℕ
+bytes_in b e = take e.len (drop e.start b)
+
+-- the content of the section name string table of index k; 0 is none
+unfoldable pub names_at : List ℕ → Ehdr → ℕ → List ℕ
+names_at b h k = if k == 0 then [] else bytes_in b (content_extent (sections b h k))
+
+-- the content of the file's section name string table
+unfoldable pub names : List ℕ → Ehdr → List ℕ
+names b h = names_at b h (name_table h (sections b h 0))

@@ -1,0 +1,133 @@
+//! Rules 1 to 12: the file's length and its header (gABI chapter 4, ELF Header).
+ghost use Rattle.std.specs.Prelude.{◌≡◌, ◌+◌, ◌≤◌, IfNone, OnOk};
+ghost use Rattle.elf_extent.specs.Least.{IsLowest};
+ghost use Rattle.elf_rules.specs.Broken.{fault_of};
+ghost use Rattle.elf_rules.specs.HeaderRules.{count_without_section_table, length_rows, ident_rows, header_rows};
+ghost use Rattle.elf_rules.specs.Rows.{FirstFrom};
+
+use crate::abi::*;
+use crate::broken::Broken;
+use crate::rules::*;
+use elf_field::Ehdr;
+
+/// The length in bytes of the longest file.
+pub const MAX_LEN: u64 = 1 << 30;
+
+/// Rules 1 and 2, of a file of `len` bytes.
+#[tactic(auto, unfolding(crate::specs::HeaderRules::length_rows))]
+pub fn judge_length(len: u64) -> Result<(), Broken>
+    ensures fault { FirstFrom 1 (length_rows len) (fault_of result) }
+    ensures long { OnOk result (64 ≤ len) }
+{
+    if len > MAX_LEN {
+        return Err(Broken {
+            rule: TOO_LONG,
+            at: MAX_LEN,
+        });
+    }
+    if len < 64 {
+        return Err(Broken {
+            rule: TOO_SHORT,
+            at: len,
+        });
+    }
+    Ok(())
+}
+
+/// Rules 3 to 6, of the identification.
+#[tactic(auto, unfolding(crate::specs::HeaderRules::ident_rows))]
+pub fn judge_ident(ident: &[u8; 16]) -> Result<(), Broken>
+    ensures { FirstFrom 3 (ident_rows ident.now) (fault_of result) }
+{
+    for i in 0..MAGIC.len() {
+        if ident[i] != MAGIC[i] {
+            return Err(Broken {
+                rule: WRONG_MAGIC,
+                at: i as u64,
+            });
+        }
+    }
+    if ident[EI_CLASS] != ELFCLASS64 {
+        return Err(Broken {
+            rule: WRONG_CLASS,
+            at: EI_CLASS as u64,
+        });
+    }
+    if ident[EI_DATA] != ELFDATA2LSB && ident[EI_DATA] != ELFDATA2MSB {
+        return Err(Broken {
+            rule: WRONG_DATA,
+            at: EI_DATA as u64,
+        });
+    }
+    if ident[EI_VERSION] != EV_CURRENT {
+        return Err(Broken {
+            rule: WRONG_IDENT_VERSION,
+            at: EI_VERSION as u64,
+        });
+    }
+    Ok(())
+}
+
+/// Rules 7 to 12, of the header of a file of `len` bytes.
+#[tactic(auto, unfolding(crate::specs::HeaderRules::header_rows))]
+pub fn judge_header(header: &Ehdr, len: u64) -> Result<(), Broken>
+    ensures fault { FirstFrom 7 (header_rows len header.now) (fault_of result) }
+    ensures first { OnOk result (64 ≤ len → header.now.e_shoff + 64 ≤ len) }
+    ensures nameless { OnOk result (header.now.e_shoff ≡ 0 → header.now.e_shstrndx ≡ 0) }
+{
+    if header.e_version != EV_CURRENT as u32 {
+        return Err(Broken {
+            rule: WRONG_VERSION,
+            at: 20,
+        });
+    }
+    if header.e_ehsize != 64 {
+        return Err(Broken {
+            rule: WRONG_HEADER_SIZE,
+            at: 52,
+        });
+    }
+    if let Some(at) = count_without_table(header) {
+        return Err(Broken {
+            rule: COUNT_WITHOUT_SECTION_TABLE,
+            at,
+        });
+    }
+    if header.e_shoff != 0 && header.e_shentsize != 64 {
+        return Err(Broken {
+            rule: WRONG_SECTION_HEADER_SIZE,
+            at: 58,
+        });
+    }
+    if header.e_shnum >= SHN_LORESERVE {
+        return Err(Broken {
+            rule: RESERVED_SECTION_COUNT,
+            at: 60,
+        });
+    }
+    // The sum would not fit: section header 0 passes the end just where less than it is left.
+    if header.e_shoff != 0 && (len < 64 || header.e_shoff > len - 64) {
+        return Err(Broken {
+            rule: FIRST_SECTION_HEADER_PAST_END,
+            at: 40,
+        });
+    }
+    Ok(())
+}
+
+/// The offset in the file of the first of `e_shnum` and `e_shstrndx` that isn't 0 though there is
+/// no section table.
+fn count_without_table(header: &Ehdr) -> Option<u64>
+    ensures lowest { IsLowest (count_without_section_table header.now) result }
+    ensures nameless { IfNone result (header.now.e_shoff ≡ 0 → header.now.e_shstrndx ≡ 0) }
+{
+    if header.e_shoff != 0 {
+        None
+    } else if header.e_shnum != 0 {
+        Some(60)
+    } else if header.e_shstrndx != 0 {
+        Some(62)
+    } else {
+        None
+    }
+}

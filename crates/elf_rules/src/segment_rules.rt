@@ -1,0 +1,142 @@
+//! Rules 25 to 29, on the segments (gABI chapter 5, Program Header).
+ghost use Rattle.std.specs.Prelude.{◌≡◌, ◌≤◌, ◌≢◌, ◌<◌, ◌%◌, ◌↔◌, IsTrue, length};
+ghost use Rattle.elf_extent.specs.Least.{IsLowest};
+ghost use Rattle.elf_rules.specs.Broken.{fault_of};
+ghost use Rattle.elf_rules.specs.Rows.{FirstFrom};
+ghost use Rattle.elf_rules.specs.SegmentRules.{Breaks, SomeSegment, field_of, load_out_of_order, segment_rows};
+ghost use Rattle.elf_rules.specs.Tables.{phdr_offset, segments};
+
+use crate::abi::*;
+use crate::alignment::is_wrong_alignment;
+use crate::broken::Broken;
+use crate::rules::*;
+use crate::sums::ends_behind;
+use crate::tables::segment_at;
+use elf_field::{Ehdr, Phdr};
+
+/// A rule on one segment, whatever the others are.
+#[derive(Clone, Copy, Debug, PartialEq, Eq)]
+pub enum SegmentRule {
+    /// Rule 25: its bytes end in a file of so many bytes; not tested at type NULL.
+    End(u64),
+    /// Rule 26: a loadable segment has no more bytes in the file than in memory.
+    Size,
+    /// Rule 27: a loadable segment's alignment is 0 or a power of two.
+    Alignment,
+    /// Rule 28: a loadable segment's address and offset are congruent modulo its alignment.
+    Congruence,
+}
+
+impl SegmentRule {
+    /// Whether the program header breaks the rule.
+    pub fn is_broken_by(self, segment: &Phdr) -> bool
+        ensures { IsTrue result ↔ Breaks self segment.now }
+    {
+        let is_load = segment.p_type == PT_LOAD;
+        match self {
+            SegmentRule::End(len) => {
+                segment.p_type != PT_NULL
+                    && segment.p_filesz > 0
+                    && ends_behind(segment.p_offset, segment.p_filesz, len)
+            }
+            SegmentRule::Size => is_load && segment.p_filesz > segment.p_memsz,
+            SegmentRule::Alignment => is_load && is_wrong_alignment(segment.p_align),
+            SegmentRule::Congruence => is_load && is_incongruent(segment),
+        }
+    }
+
+    /// The offset in the program header of the field that the rule answers.
+    pub fn field(self) -> u64
+        ensures value { result ≡ field_of self }
+        ensures inside { result < 56 }
+    {
+        match self {
+            SegmentRule::End(_) | SegmentRule::Congruence => 8,
+            SegmentRule::Size => 32,
+            SegmentRule::Alignment => 48,
+        }
+    }
+}
+
+/// Whether the address and the offset differ modulo the alignment.
+fn is_incongruent(segment: &Phdr) -> bool
+    ensures { let p = segment.now in
+        IsTrue result ↔ ((1 < p.p_align) × (p.p_vaddr % p.p_align ≢ p.p_offset % p.p_align)) }
+{
+    segment.p_align > 1 && segment.p_vaddr % segment.p_align != segment.p_offset % segment.p_align
+}
+
+/// The lowest offset in the file at which one of `count` segments breaks the rule.
+pub fn lowest_segment(bytes: &[u8], header: &Ehdr, count: u64, rule: SegmentRule) -> Option<u64>
+    requires { 0 < count → phdr_offset header.now count ≤ length bytes.now }
+    ensures { let g = segments bytes.now header.now in
+        IsLowest (SomeSegment header.now count g (Breaks rule) (field_of rule)) result }
+{
+    for i in 0..count {
+        if rule.is_broken_by(&segment_at(bytes, header, i)) {
+            return Some(header.e_phoff + 56 * i + rule.field());
+        }
+    }
+    None
+}
+
+/// The lowest offset in the file of an address, of one of `count` segments, that is below that of
+/// the loadable segment before it.
+fn lowest_out_of_order(bytes: &[u8], header: &Ehdr, count: u64) -> Option<u64>
+    requires { 0 < count → phdr_offset header.now count ≤ length bytes.now }
+    ensures { IsLowest (load_out_of_order header.now count (segments bytes.now header.now)) result }
+{
+    // The address of the loadable segment before, 0 while there is none.
+    let mut floor = 0;
+    for i in 0..count {
+        let segment = segment_at(bytes, header, i);
+        if segment.p_type == PT_LOAD {
+            if segment.p_vaddr < floor {
+                return Some(header.e_phoff + 56 * i + 16);
+            }
+            floor = segment.p_vaddr;
+        }
+    }
+    None
+}
+
+/// Rules 25 to 29, of `count` segments.
+#[tactic(auto, unfolding(crate::specs::SegmentRules::segment_rows))]
+pub fn judge_segments(bytes: &[u8], header: &Ehdr, count: u64) -> Result<(), Broken>
+    requires { 0 < count → phdr_offset header.now count ≤ length bytes.now }
+    ensures { let g = segments bytes.now header.now in
+        FirstFrom 25 (segment_rows (length bytes.now) header.now count g) (fault_of result) }
+{
+    let len = bytes.len() as u64;
+    if let Some(at) = lowest_segment(bytes, header, count, SegmentRule::End(len)) {
+        return Err(Broken {
+            rule: SEGMENT_PAST_END,
+            at,
+        });
+    }
+    if let Some(at) = lowest_segment(bytes, header, count, SegmentRule::Size) {
+        return Err(Broken {
+            rule: FILE_SIZE_ABOVE_MEMORY_SIZE,
+            at,
+        });
+    }
+    if let Some(at) = lowest_segment(bytes, header, count, SegmentRule::Alignment) {
+        return Err(Broken {
+            rule: WRONG_SEGMENT_ALIGNMENT,
+            at,
+        });
+    }
+    if let Some(at) = lowest_segment(bytes, header, count, SegmentRule::Congruence) {
+        return Err(Broken {
+            rule: INCONGRUENT_SEGMENT,
+            at,
+        });
+    }
+    if let Some(at) = lowest_out_of_order(bytes, header, count) {
+        return Err(Broken {
+            rule: LOAD_OUT_OF_ORDER,
+            at,
+        });
+    }
+    Ok(())
+}

@@ -1,0 +1,87 @@
+//! A file's header, section headers and program headers, and what they say of the file
+//! (gABI chapter 4, ELF Header and Sections; chapter 5, Program Header).
+ghost use Rattle.std.specs.Prelude.{◌≡◌, ◌≤◌, ◌+◌, length};
+ghost use Rattle.elf_rules.specs.Tables.{order_of, shdr_offset, phdr_offset, header, sections, segments, section_count, segment_count, name_table};
+
+use crate::abi::*;
+use elf_field::{Ehdr, Order, Phdr, Shdr, get_at};
+
+/// The byte order that an identification names: any byte 5 but `ELFDATA2MSB` is taken for the
+/// least significant byte first.
+#[tactic(auto, unfolding(crate::specs::Tables::order_of))]
+pub fn order_in(ident: &[u8]) -> Order
+    requires { 6 ≤ length ident.now }
+    ensures { result ≡ order_of ident.now }
+{
+    if ident[EI_DATA] == ELFDATA2MSB {
+        Order::Big
+    } else {
+        Order::Little
+    }
+}
+
+/// The header of a file that is long enough to have one.
+pub fn header_of(bytes: &[u8]) -> Ehdr
+    requires { 64 ≤ length bytes.now }
+    ensures { result ≡ header bytes.now }
+{
+    get_at(order_in(&bytes[..16]), bytes, 0)
+}
+
+/// Section header `index` of a file with this header, where it lies in the file.
+#[tactic(auto, unfolding(crate::specs::Tables::sections))]
+pub fn section_at(bytes: &[u8], header: &Ehdr, index: u64) -> Shdr
+    requires { shdr_offset header.now index + 64 ≤ length bytes.now }
+    ensures { result ≡ sections bytes.now header.now index }
+{
+    let offset = header.e_shoff + 64 * index;
+    get_at(order_in(&header.e_ident), bytes, offset as usize)
+}
+
+/// Program header `index` of a file with this header, where it lies in the file.
+#[tactic(auto, unfolding(crate::specs::Tables::segments))]
+pub fn segment_at(bytes: &[u8], header: &Ehdr, index: u64) -> Phdr
+    requires { phdr_offset header.now index + 56 ≤ length bytes.now }
+    ensures { result ≡ segments bytes.now header.now index }
+{
+    let offset = header.e_phoff + 56 * index;
+    get_at(order_in(&header.e_ident), bytes, offset as usize)
+}
+
+/// How many section headers there are: none without a section table; where `e_shnum` is 0, as many
+/// as section header 0 says in `sh_size`.
+pub fn section_count_of(header: &Ehdr, first: &Shdr) -> u64
+    ensures { result ≡ section_count header.now first.now }
+{
+    if header.e_shoff == 0 {
+        0
+    } else if header.e_shnum == 0 {
+        first.sh_size
+    } else {
+        header.e_shnum as u64
+    }
+}
+
+/// How many program headers there are; where `e_phnum` is `PN_XNUM`, as many as section header 0
+/// says in `sh_info`.
+pub fn segment_count_of(header: &Ehdr, first: &Shdr) -> u64
+    ensures { result ≡ segment_count header.now first.now }
+{
+    if header.e_phnum == PN_XNUM {
+        first.sh_info as u64
+    } else {
+        header.e_phnum as u64
+    }
+}
+
+/// The index of the section name string table, 0 for none; where `e_shstrndx` is `SHN_XINDEX`, the
+/// one that section header 0 says in `sh_link`.
+pub fn name_table_of(header: &Ehdr, first: &Shdr) -> u64
+    ensures { result ≡ name_table header.now first.now }
+{
+    if header.e_shstrndx == SHN_XINDEX {
+        first.sh_link as u64
+    } else {
+        header.e_shstrndx as u64
+    }
+}

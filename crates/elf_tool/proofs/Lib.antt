@@ -1,0 +1,2 @@
+-- Lemmas on the program's command.
+pub mod Entered

@@ -1,0 +1,7 @@
+use Rattle.std.proofs.Common.{inl, inr}
+use Rattle.elf_tool.specs.Command.{check, elfmap}
+use Rattle.elf_tool.proofs.words.request_of.Goals as goal
+
+pub unreachable-requires : goal.unreachable-requires
+unfolding check elfmap
+unreachable-requires c = elim c.requires [ inl is_check ↦ c.in_default.not-check is_check | inr none ↦ absurd none ]

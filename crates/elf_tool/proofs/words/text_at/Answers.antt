@@ -1,0 +1,13 @@
+use Rattle.std.proofs.Common.{◌∙◌, ap, List, ℕ, Option, []}
+use Rattle.std.specs.Prelude.{unwrap_or}
+use Rattle.clap.specs.Matches.{found_of}
+use Rattle.clap.proofs.WalkLemmas.{first_value-rows}
+use Rattle.elf_tool.proofs.words.text_at.Goals as goal
+
+pub returns-in-Some : goal.returns-in-Some
+returns-in-Some c =
+    ap (λ (text : Option (List ℕ)). unwrap_or text []) (c.in-Some.ensures ∙ first_value-rows (found_of c.args.matches.now) c.args.id.now)
+
+pub returns-in-None : goal.returns-in-None
+returns-in-None c =
+    ap (λ (text : Option (List ℕ)). unwrap_or text []) (c.in-None.ensures ∙ first_value-rows (found_of c.args.matches.now) c.args.id.now)

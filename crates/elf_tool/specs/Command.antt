@@ -1,0 +1,28 @@
+-- The program's command: what its words may be, in the words of clap.
+use Rattle.std.specs.Prelude.{◌≡◌, ◌⊎◌, true, false, List, [], ◌∷◌, codes}
+use Rattle.clap.specs.Simple.{App, Shape, new_rule, new_shape}
+use Rattle.clap.specs.Walk.{Rule, Text}
+
+-- one file
+abbrev pub file : Rule
+file = record (new_rule (codes "FILE")) { required = true }
+
+-- `check FILE`
+unfoldable pub check : Shape
+check = record (new_shape (codes "check")) { rules = file ∷ [] }
+
+-- `elfmap COMMAND ..`; it has no subcommand `help`
+unfoldable pub elfmap : App
+elfmap = record {
+  top = record (new_shape (codes "elfmap")) {
+    subcommand_required = true;
+    disable_help_subcommand = true;
+    is_leaf = false;
+  };
+  subs = check ∷ [];
+}
+
+-- the name of one of the commands
+abbrev pub IsNameIn : Text → List Shape → Type 0
+IsNameIn name [] = ⊥
+IsNameIn name (shape ∷ rest) = (name ≡ shape.name) ⊎ IsNameIn name rest

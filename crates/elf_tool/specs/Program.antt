@@ -1,0 +1,52 @@
+-- How the program ends, and what is out then.
+use Rattle.std.specs.Prelude.{◌≡◌, ◌⊎◌, ℕ, List, Option, Some, Result, Ok, Err, IfSome}
+use Rattle.std.specs.Io.KnownBytes.{Keeps}
+use Rattle.clap.specs.Walk.{Text}
+use Rattle.elf_tool.specs.Check.{CheckSays}
+use Rattle.elf_tool.specs.Engine.{IsAnswered, Sayings}
+use Rattle.elf_tool.specs.Words.{IsAskedBy, IsRefusedBy}
+use Rattle.elf_tool.specs.declared.fault.ToolFault.{ToolFault}
+use Rattle.elf_tool.specs.declared.fault.Verdict.{Verdict}
+use Rattle.elf_tool.specs.declared.fault.Verdict.TheVariants as verdict
+use Rattle.elf_tool.specs.declared.program.Status.{Status}
+use Rattle.elf_tool.specs.declared.program.Status.TheVariants.{Done, Refused, Usage, Failed}
+use Rattle.elf_tool.specs.declared.words.Request.{Request}
+use Rattle.elf_tool.specs.declared.words.Request.TheVariants.{Check}
+use Rattle.elf_tool.specs.declared.words.WordsFault.{WordsFault}
+use Rattle.elf_tool.specs.declared.words.WordsFault.TheVariants.{Words, OutOfMemory}
+
+-- the exit status, as a number
+abbrev pub code_of : Status → ℕ
+code_of Done = 0
+code_of Refused = 1
+code_of Usage = 2
+code_of Failed = 3
+
+-- how the program ends where an engine answers so
+abbrev pub ending_of : Result Verdict ToolFault → Status
+ending_of (Ok verdict.Done) = Done
+ending_of (Ok (verdict.Refused refusal)) = Refused
+ending_of (Err fault) = Failed
+
+-- a file was opened, and the engine answered on a reader of its bytes, where these are known; or it was
+-- not, and nothing is out. A writer that held `old` holds `new`
+abbrev pub EndsFile : Sayings → Option (List ℕ) → Option (List ℕ) → Option (List ℕ) → Status → Type 0
+EndsFile says known old new status =
+    ((input rest : Option (List ℕ)) × (answer : Result Verdict ToolFault) × IfSome known (λ bytes. input ≡ Some bytes)
+    × IsAnswered says input rest old new answer × (status ≡ ending_of answer))
+    ⊎ ((status ≡ Failed) × Keeps old new)
+
+-- each command, over the files' known bytes by name
+abbrev pub EndsRequest : (Text → Option (List ℕ)) → Option (List ℕ) → Option (List ℕ) → Request → Status → Type 0
+EndsRequest holds old new (Check file) status = EndsFile CheckSays (holds file.now) old new status
+
+-- words that ask for nothing: nothing is out
+abbrev pub EndsWords : Option (List ℕ) → Option (List ℕ) → WordsFault → Status → Type 0
+EndsWords old new (Words error) status = (status ≡ Usage) × Keeps old new
+EndsWords old new OutOfMemory status = (status ≡ Failed) × Keeps old new
+
+-- the whole program
+abbrev pub EndsRun : List Text → (Text → Option (List ℕ)) → Option (List ℕ) → Option (List ℕ) → Status → Type 0
+EndsRun words holds old new status =
+    ((request : Request) × IsAskedBy words request × EndsRequest holds old new request status)
+    ⊎ ((fault : WordsFault) × IsRefusedBy words fault × EndsWords old new fault status)

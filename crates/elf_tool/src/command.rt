@@ -1,0 +1,32 @@
+//! The program's command line, defined once. A further command is one more function here and one
+//! more entry of `elfmap`, here and in `specs/Command.antt`.
+ghost use Rattle.std.specs.Prelude.{◌≡◌, false, IfOk};
+ghost use Rattle.clap.specs.Words.{app_of, shape_of};
+ghost use Rattle.clap.specs.declared.builder.command.Command.TheViews.{out-Command as fields_of};
+ghost use Rattle.elf_tool.specs.Command.{check, elfmap as elfmap_app};
+
+use clap::{Arg, Command};
+use std::alloc::{AllocError, Global};
+
+/// The whole command.
+pub(crate) fn elfmap<'a>(alloc: Global) -> Result<Command<'a>, AllocError>
+    ensures { IfOk result (λ command. app_of command ≡ elfmap_app) }
+{
+    Command::new(alloc, "elfmap")
+        .about("Checks ELF-64 object files")
+        .subcommand_required(true)
+        .disable_help_subcommand(true)
+        .subcommand(check_command(alloc)?)
+}
+
+fn check_command<'a>(alloc: Global) -> Result<Command<'a>, AllocError>
+    ensures shape { IfOk result (λ command. shape_of command ≡ check) }
+    ensures local { IfOk result (λ command. (fields_of command).has_globals ≡ false) }
+{
+    let file = Arg::new(alloc, "FILE")
+        .help("The file to check")
+        .required(true);
+    Command::new(alloc, "check")
+        .about("Tells whether FILE is an ELF-64 file, or the first rule that it breaks and where")
+        .arg(file)
+}

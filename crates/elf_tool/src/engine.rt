@@ -1,0 +1,4 @@
+//! The engines: each reads files whole, judges them, makes its text, and only then writes. A
+//! further command is one more file here.
+pub(crate) mod check;
+mod input;

@@ -1,0 +1,46 @@
+//! Files by name, of the machine or of a test.
+ghost use Rattle.std.specs.Prelude.{◌≡◌, ℕ, List, None, Option, Some, IfOk, IfSome};
+
+use std::fs::Files;
+use std::io::Read;
+use std::{fs, io};
+
+/// Why a file gives no reader.
+#[derive(Clone, Copy, Debug, PartialEq, Eq)]
+pub enum OpenFault {
+    /// There is no such file, or it may not be read.
+    Refused,
+    /// A growth was refused.
+    OutOfMemory,
+}
+
+/// What opens files by their names.
+pub trait Opener {
+    type Input: Read + Drop;
+
+    // The bytes of the file of this name, where they are known.
+    ghost holds: { Self → List ℕ → Option (List ℕ) } = { λ _ _. None };
+
+    /// A reader of the file's bytes from its beginning on.
+    fn reader(&mut self, name: &str) -> Result<Self::Input, OpenFault>
+        ensures { IfSome (holds self.old name.now) (λ bytes.
+            IfOk result (λ input. Self.Input.remaining input ≡ Some bytes)) };
+}
+
+/// The machine's files.
+#[derive(Drop)]
+pub struct MachineFiles<'r, R> {
+    pub files: &'r R,
+}
+
+impl<'r, R: Files> Opener for MachineFiles<'r, R> {
+    type Input = R::File;
+
+    fn reader(&mut self, name: &str) -> Result<R::File, OpenFault> {
+        match fs::open(self.files, name) {
+            Ok(file) => Ok(file),
+            Err(error) if error.kind() == io::ErrorKind::OutOfMemory => Err(OpenFault::OutOfMemory),
+            Err(_) => Err(OpenFault::Refused),
+        }
+    }
+}

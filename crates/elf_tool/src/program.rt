@@ -1,0 +1,121 @@
+//! The whole program: from the words of its command line to its exit status.
+ghost use Rattle.std.specs.Prelude.{◌≡◌, ◌≢◌, map};
+ghost use Rattle.std.specs.IoError.{error_kind};
+ghost use Rattle.std.specs.declared.io.ErrorKind.TheVariants.{InvalidData};
+ghost use Rattle.elf_tool.specs.Check.{CheckSays};
+ghost use Rattle.elf_tool.specs.Program.{EndsFile, EndsRun, code_of, ending_of};
+ghost use Rattle.elf_tool.specs.declared.program.Status.{Status as Ending};
+
+use crate::engine::check::check;
+use crate::fault::{ToolFault, Verdict};
+use crate::opener::{OpenFault, Opener};
+use crate::words::{Request, WordsFault, read_words};
+use std::alloc::Global;
+use std::convert::AsStr;
+use std::fmt::Display;
+use std::io;
+use std::io::Write;
+
+/// How the program ends. Its exit status is the place in this list, from 0.
+#[derive(Clone, Copy, Debug, PartialEq, Eq)]
+pub enum Status {
+    /// All that was asked is done.
+    Done,
+    /// A file is refused, and the output says why.
+    Refused,
+    /// The words are not as the command takes them, or call for help.
+    Usage,
+    /// A file could not be opened or read, the output could not be written, or memory was refused.
+    Failed,
+}
+
+/// Runs the program: `words` is its command line, whose first word is its own name, `files` opens
+/// the files that the words name, `out` takes what is said of them, and `err` takes the text of
+/// what goes wrong. A failed write to `err` changes nothing.
+///
+/// Answers the exit status: 0 done, 1 refused, 2 wrong usage or a call for help, 3 a file that
+/// cannot be opened, a failed read or write, or want of memory.
+pub fn run<S: AsStr, O: Opener, W: Write, E: Write>(
+    alloc: Global,
+    words: &[S],
+    files: &mut O,
+    out: &mut W,
+    err: &mut E,
+) -> u8
+    ensures { (status : Ending) × (result ≡ code_of status)
+        × EndsRun (map S.text words.now) (O.holds files.old) (W.contents out.old) (W.contents out.new) status }
+{
+    ending(alloc, words, files, out, err) as u8
+}
+
+fn ending<S: AsStr, O: Opener, W: Write, E: Write>(
+    alloc: Global,
+    words: &[S],
+    files: &mut O,
+    out: &mut W,
+    err: &mut E,
+) -> Status
+    ensures { EndsRun (map S.text words.now) (O.holds files.old) (W.contents out.old) (W.contents out.new) result }
+{
+    match read_words(alloc, words) {
+        Ok(Request::Check { file }) => check_file(alloc, file, files, out, err),
+        Err(WordsFault::Words(error)) => {
+            // This text ends with a line feed of its own.
+            let _ = write!(err, "{error}");
+            Status::Usage
+        }
+        Err(WordsFault::OutOfMemory) => fail(&ToolFault::OutOfMemory, err),
+    }
+}
+
+/// The exit status where the machine gives no words: 2, wrong usage, where a word is not UTF-8.
+pub fn refuse_words<E: Write>(error: &io::Error, err: &mut E) -> u8
+    ensures usage { error_kind error.now ≡ InvalidData → result ≡ code_of Status.Usage }
+    ensures failed { error_kind error.now ≢ InvalidData → result ≡ code_of Status.Failed }
+{
+    let status = match error.kind() {
+        io::ErrorKind::InvalidData => {
+            let _ = writeln!(err, "error: the words of the command line are not UTF-8");
+            Status::Usage
+        }
+        io::ErrorKind::OutOfMemory => fail(&ToolFault::OutOfMemory, err),
+        _ => fail(error, err),
+    };
+    status as u8
+}
+
+fn check_file<O: Opener, W: Write, E: Write>(
+    alloc: Global,
+    file: &str,
+    files: &mut O,
+    out: &mut W,
+    err: &mut E,
+) -> Status
+    ensures { EndsFile CheckSays (O.holds files.old file.now) (W.contents out.old) (W.contents out.new) result }
+{
+    match files.reader(file) {
+        Ok(mut input) => status_of(check(alloc, &mut input, out), err),
+        Err(OpenFault::Refused) => {
+            let _ = writeln!(err, "cannot open {file}");
+            Status::Failed
+        }
+        Err(OpenFault::OutOfMemory) => fail(&ToolFault::OutOfMemory, err),
+    }
+}
+
+fn status_of<E: Write>(answer: Result<Verdict, ToolFault>, err: &mut E) -> Status
+    ensures { result ≡ ending_of answer }
+{
+    match answer {
+        Ok(Verdict::Done) => Status::Done,
+        Ok(Verdict::Refused(_)) => Status::Refused,
+        Err(fault) => fail(&fault, err),
+    }
+}
+
+fn fail<F: Display, E: Write>(fault: &F, err: &mut E) -> Status
+    ensures { result ≡ Status.Failed }
+{
+    let _ = writeln!(err, "{fault}");
+    Status::Failed
+}
