@@ -16,6 +16,7 @@ mod tests;
 mod writing;
 
 pub use edits::{NoSection, ReplaceFault};
+pub use elf_rules::verdict;
 pub use fault::{Fault, WriteFault};
 pub use image::Image;
 pub use output::write_whole;
