@@ -1,4 +1,7 @@
 //! Readers and writers that move little, fail, or meet a refused growth.
+mod images;
+mod rows;
+
 use super::{Fault, WriteFault, read_to_end, write_whole};
 use std::io;
 use std::io::{ErrorKind, Read, Write};

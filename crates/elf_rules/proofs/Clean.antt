@@ -1,13 +1,13 @@
 -- What holds of a file, or of an image by itself, that breaks no rule.
 use Rattle.std.proofs.Common.{◌≡◌, ◌≢◌, ℕ, Bool, true, false, zero, suc, ◌+◌, ◌-◌, ◌*◌, ◌^◌, ◌<◌, ◌≤◌, ◌⊎◌, inl, inr, None, Some, List, refl, sym, ◌∙◌, ap, ap₂, subst, lit<, arith}
-use Rattle.std.specs.Prelude.{◌==◌, ◌||◌, if◌then◌else◌, slice_get}
+use Rattle.std.specs.Prelude.{◌==◌, ◌||◌, if◌then◌else◌}
 use Rattle.std.proofs.lemmas.Bool.{cases_lt, eq-eqb, eqb-true}
 use Rattle.std.proofs.lemmas.Option.{slice_get_within}
 use Rattle.elf_field.specs.declared.ehdr.Ehdr.{Ehdr}
 use Rattle.elf_field.specs.declared.shdr.Shdr.{Shdr}
 use Rattle.elf_field.specs.declared.phdr.Phdr.{Phdr}
 use Rattle.elf_extent.specs.declared.extent.Extent.{Extent}
-use Rattle.elf_extent.specs.Extent.{AreDisjoint, AreWithin, HasAt}
+use Rattle.elf_extent.specs.Extent.{AreDisjoint, AreWithin}
 use Rattle.elf_rules.specs.Rows.{IsFaultOf}
 use Rattle.elf_rules.specs.HeaderRules.{length_rows, ident_rows, header_rows}
 use Rattle.elf_rules.specs.SectionTableRules.{section_table_rows}

@@ -1,0 +1,266 @@
+//! Images of the worked files: read, edited and written.
+use super::rows::{empty_contents, empty_object, one_section, one_segment, set};
+use super::{Pieces, Shelf};
+use crate::{
+    Fault, Image, NoSection, Owner, Part, ReplaceFault, WriteFault, parse, read_to_end, write,
+};
+use elf_field::Order;
+use std::alloc::Global;
+use std::process::Abort;
+use std::test::Fail;
+
+const LITTLE: Order = Order::Little;
+
+fn part(owner: Owner, start: u64, len: u64) -> Part {
+    Part { owner, start, len }
+}
+
+/// A shelf that takes everything up to `room`.
+fn shelf(alloc: Global, room: usize) -> Result<Shelf, Fail> {
+    Ok(Shelf {
+        bytes: Vec::with_capacity(alloc, 456)?,
+        piece: 1000,
+        room,
+        failure: None,
+    })
+}
+
+fn assert_written(
+    rt: &impl Abort,
+    alloc: Global,
+    image: &Image<'_>,
+    bytes: &[u8],
+) -> Result<(), Fail> {
+    let mut out = shelf(alloc, 1000)?;
+    assert_eq!(rt; write(image, &mut out), Ok(()));
+    assert_eq!(rt; out.bytes.as_slice(), bytes);
+    Ok(())
+}
+
+#[test]
+fn tells_every_part(rt: HostRuntime) -> Result<(), Fail> {
+    let file = empty_object();
+    let image = parse(rt.alloc(), &file)?;
+    assert_eq!(rt;
+        image.parts(),
+        [
+            part(Owner::Header, 0, 64),
+            part(Owner::Content(1), 64, 24),
+            part(Owner::Content(2), 88, 1),
+            part(Owner::Content(3), 89, 27),
+            part(Owner::Gap, 116, 4),
+            part(Owner::SectionTable, 120, 256),
+        ]
+        .as_slice()
+    );
+
+    let file = one_section(LITTLE);
+    let image = parse(rt.alloc(), &file)?;
+    assert_eq!(rt;
+        image.parts(),
+        [
+            part(Owner::Header, 0, 64),
+            part(Owner::Content(1), 64, 1),
+            part(Owner::Gap, 65, 7),
+            part(Owner::Content(2), 72, 24),
+            part(Owner::Content(3), 96, 1),
+            part(Owner::Content(4), 97, 33),
+            part(Owner::Gap, 130, 6),
+            part(Owner::SectionTable, 136, 320),
+        ]
+        .as_slice()
+    );
+
+    let file = empty_contents();
+    let image = parse(rt.alloc(), &file)?;
+    assert_eq!(rt;
+        image.parts(),
+        [
+            part(Owner::Header, 0, 64),
+            part(Owner::SectionTable, 64, 192),
+        ]
+        .as_slice()
+    );
+
+    let file = one_segment();
+    let image = parse(rt.alloc(), &file)?;
+    assert_eq!(rt;
+        image.parts(),
+        [
+            part(Owner::Header, 0, 64),
+            part(Owner::ProgramTable, 64, 56),
+        ]
+        .as_slice()
+    );
+    Ok(())
+}
+
+#[test]
+fn tells_records_names_and_contents(rt: HostRuntime) -> Result<(), Fail> {
+    let file = one_section(LITTLE);
+    let image = parse(rt.alloc(), &file)?;
+    assert_eq!(rt; image.order(), LITTLE);
+    assert_eq!(rt; image.header().e_shoff, 136);
+    assert_eq!(rt; image.segment_count(), 0);
+    assert_eq!(rt; image.name_table(), 4);
+    assert_eq!(rt; image.section_count(), 5);
+    let names: [&[u8]; 5] = [b"", b".text", b".symtab", b".strtab", b".shstrtab"];
+    let sizes = [0, 1, 24, 1, 33];
+    for i in 0..5 {
+        assert_eq!(rt; image.name(i), names[i], "name {i}");
+        assert_eq!(rt; image.content(i).len(), sizes[i], "content {i}");
+        assert_eq!(rt; image.section(i).sh_size, sizes[i] as u64, "section {i}");
+    }
+    assert_eq!(rt; image.content(1), [0xc3].as_slice());
+
+    let file = empty_contents();
+    let image = parse(rt.alloc(), &file)?;
+    assert_eq!(rt; image.name_table(), 0);
+    assert_eq!(rt; image.section_count(), 3);
+    for i in 0..3 {
+        assert!(rt; image.name(i).is_empty(), "name {i}");
+        assert!(rt; image.content(i).is_empty(), "content {i}");
+    }
+
+    let file = one_segment();
+    let image = parse(rt.alloc(), &file)?;
+    assert_eq!(rt; image.segment_count(), 1);
+    assert_eq!(rt; image.segment(0).p_vaddr, 0x1000);
+    assert_eq!(rt; image.segment(0).p_filesz, 120);
+    Ok(())
+}
+
+/// A name outlives the image that told it.
+fn first_name<'a>(alloc: Global, file: &'a [u8]) -> Result<&'a [u8], Fault> {
+    let image = parse(alloc, file)?;
+    if image.section_count() < 2 {
+        return Ok(&[]);
+    }
+    Ok(image.name(1))
+}
+
+#[test]
+fn a_name_outlives_the_image(rt: HostRuntime) -> Result<(), Fail> {
+    let file = one_section(LITTLE);
+    assert_eq!(rt; first_name(rt.alloc(), &file)?, b".text".as_slice());
+    Ok(())
+}
+
+#[test]
+fn writes_back_what_it_read(rt: HostRuntime) -> Result<(), Fail> {
+    let object = empty_object();
+    let little = one_section(LITTLE);
+    let big = one_section(Order::Big);
+    let contents = empty_contents();
+    let segment = one_segment();
+    let files: [&[u8]; 5] = [&object, &little, &big, &contents, &segment];
+    for file in files {
+        let image = parse(rt.alloc(), file)?;
+        assert_written(&rt, rt.alloc(), &image, file)?;
+    }
+    Ok(())
+}
+
+#[test]
+fn big_order_byte_for_byte(rt: HostRuntime) {
+    let file = one_section(Order::Big);
+    assert_eq!(rt;
+        &file[..64],
+        [
+            0x7f, 0x45, 0x4c, 0x46, 2, 2, 1, 0, 0, 0, 0, 0, 0, 0, 0, 0, 0, 1, 0, 0x3e, 0, 0, 0, 1,
+            0, 0, 0, 0, 0, 0, 0, 0, 0, 0, 0, 0, 0, 0, 0, 0, 0, 0, 0, 0, 0, 0, 0, 0x88, 0, 0, 0, 0,
+            0, 0x40, 0, 0, 0, 0, 0, 0x40, 0, 5, 0, 4,
+        ]
+        .as_slice()
+    );
+}
+
+#[test]
+fn keeps_a_filled_gap_until_it_is_zeroed(rt: HostRuntime) -> Result<(), Fail> {
+    let mut file = empty_object();
+    file[116..120].copy_from_slice(&[1, 2, 3, 4]);
+    let mut image = parse(rt.alloc(), &file)?;
+    assert_written(&rt, rt.alloc(), &image, &file)?;
+    image.zero_gaps();
+    assert_written(&rt, rt.alloc(), &image, &empty_object())
+}
+
+#[test]
+fn replaces_a_content(rt: HostRuntime) -> Result<(), Fail> {
+    let file = one_section(LITTLE);
+    let mut image = parse(rt.alloc(), &file)?;
+    assert_eq!(rt; image.replace(0, &[]), Err(ReplaceFault::NoSection));
+    assert_eq!(rt; image.replace(5, &[]), Err(ReplaceFault::NoSection));
+    assert_eq!(rt;
+        image.replace(1, &[0x90, 0x90]),
+        Err(ReplaceFault::WrongLength)
+    );
+    assert_eq!(rt;
+        image.replace(4, &file[97..130]),
+        Err(ReplaceFault::NameTable)
+    );
+    assert_written(&rt, rt.alloc(), &image, &file)?;
+
+    assert_eq!(rt; image.replace(1, &[0x90]), Ok(()));
+    let mut want = one_section(LITTLE);
+    want[64] = 0x90;
+    assert_written(&rt, rt.alloc(), &image, &want)?;
+
+    let file = empty_contents();
+    let mut image = parse(rt.alloc(), &file)?;
+    assert_eq!(rt; image.replace(1, &[]), Ok(()));
+    assert_eq!(rt; image.replace(2, &[]), Err(ReplaceFault::NoSection));
+    Ok(())
+}
+
+#[test]
+fn sets_the_entry_and_flags(rt: HostRuntime) -> Result<(), Fail> {
+    let file = one_section(Order::Big);
+    let mut image = parse(rt.alloc(), &file)?;
+    image.set_entry(0x1234);
+    assert_eq!(rt; image.set_flags(0, 7), Err(NoSection));
+    assert_eq!(rt; image.set_flags(5, 7), Err(NoSection));
+    assert_eq!(rt; image.set_flags(1, 7), Ok(()));
+    let mut want = one_section(Order::Big);
+    set(&mut want, Order::Big, &[(24, 8, 0x1234), (208, 8, 7)]);
+    assert_written(&rt, rt.alloc(), &image, &want)
+}
+
+#[test]
+fn reads_one_byte_at_a_time(rt: HostRuntime) -> Result<(), Fail> {
+    let file = one_section(LITTLE);
+    let mut reader = Pieces {
+        bytes: &file,
+        piece: 1,
+        failure: None,
+    };
+    let mut buf = Vec::new(rt.alloc());
+    read_to_end(&mut reader, &mut buf)?;
+    let image = parse(rt.alloc(), &buf)?;
+    assert_written(&rt, rt.alloc(), &image, &file)
+}
+
+#[test]
+fn a_failed_write_tells_what_is_out(rt: HostRuntime) -> Result<(), Fail> {
+    let mut want = one_section(LITTLE);
+    want[65] = 1;
+    let file = want;
+    let mut image = parse(rt.alloc(), &file)?;
+    for zeroed in [false, true] {
+        if zeroed {
+            image.zero_gaps();
+            want[65] = 0;
+        }
+        for room in 0..456 {
+            let mut out = shelf(rt.alloc(), room)?;
+            let written = room as u64;
+            assert_eq!(rt;
+                write(&image, &mut out),
+                Err(WriteFault { written }),
+                "room for {room}"
+            );
+            assert_eq!(rt; out.bytes.as_slice(), &want[..room], "room for {room}");
+        }
+    }
+    Ok(())
+}

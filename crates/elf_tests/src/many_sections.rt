@@ -1,0 +1,119 @@
+//! Objects of so many sections that their count, and then the index of their section name string
+//! table too, stand in section header 0.
+ghost use Rattle.std.specs.Prelude.{◌<◌, ◌≡◌, length};
+
+use elf_field::{Ehdr, Order, Record, Shdr};
+use elf_image::{parse, verdict, write};
+use elf_tool::{Verdict, check};
+use std::alloc::{AllocError, Global};
+use std::test::Fail;
+
+/// The offset of the section header table: behind the symbol table's one entry, the empty string
+/// table, the name table and four bytes of padding.
+const TABLE: u64 = 120;
+
+const NAMES: &[u8; 27] = b"\0.symtab\0.strtab\0.shstrtab\0";
+
+/// A section header with no name, flags or address.
+fn section(sh_name: u32, sh_type: u32, sh_offset: u64, sh_size: u64, sh_addralign: u64) -> Shdr {
+    Shdr {
+        sh_name,
+        sh_type,
+        sh_flags: 0,
+        sh_addr: 0,
+        sh_offset,
+        sh_size,
+        sh_link: 0,
+        sh_info: 0,
+        sh_addralign,
+        sh_entsize: 0,
+    }
+}
+
+fn push_section(file: &mut Vec<u8>, section: &Shdr) -> Result<(), AllocError> {
+    let mut bytes = [0; 64];
+    section.put(Order::Little, &mut bytes);
+    file.extend_from_slice(&bytes)
+}
+
+/// A little-endian object of `count` empty sections without names, and no symbols: the sections, a
+/// symbol table, its string table and the section name string table.
+fn object(alloc: Global, count: u32) -> Result<Vec<u8>, AllocError>
+    requires { count < 100000 }
+{
+    let entries = count + 4;
+    let names = count + 3;
+    let is_counted = entries < 0xff00;
+    let is_named = names < 0xff00;
+    let header = Ehdr {
+        e_ident: [0x7f, 0x45, 0x4c, 0x46, 2, 1, 1, 0, 0, 0, 0, 0, 0, 0, 0, 0],
+        e_type: 1,
+        e_machine: 62,
+        e_version: 1,
+        e_entry: 0,
+        e_phoff: 0,
+        e_shoff: TABLE,
+        e_flags: 0,
+        e_ehsize: 64,
+        e_phentsize: 0,
+        e_phnum: 0,
+        e_shentsize: 64,
+        e_shnum: if is_counted { entries as u16 } else { 0 },
+        e_shstrndx: if is_named { names as u16 } else { 0xffff },
+    };
+    let mut file = Vec::new(alloc);
+    let mut bytes = [0; 64];
+    header.put(Order::Little, &mut bytes);
+    file.extend_from_slice(&bytes)?;
+    file.extend_from_slice(&[0; 25])?;
+    file.extend_from_slice(NAMES)?;
+    file.extend_from_slice(&[0; 4])?;
+
+    let mut first = section(0, 0, 0, 0, 0);
+    if !is_counted {
+        first.sh_size = entries as u64;
+    }
+    if !is_named {
+        first.sh_link = names;
+    }
+    push_section(&mut file, &first)?;
+    let empty = section(0, 1, 64, 0, 1);
+    for _ in 0..count {
+        push_section(&mut file, &empty)?;
+    }
+    let mut symbols = section(1, 2, 64, 24, 8);
+    symbols.sh_link = count + 2;
+    symbols.sh_info = 1;
+    symbols.sh_entsize = 24;
+    push_section(&mut file, &symbols)?;
+    push_section(&mut file, &section(9, 3, 88, 1, 1))?;
+    push_section(&mut file, &section(17, 3, 89, 27, 1))?;
+    Ok(file)
+}
+
+#[test]
+fn counts_in_section_header_0(rt: HostRuntime) -> Result<(), Fail> {
+    let rows = [
+        (65_275, 4_177_976, 65_278, "ok 4177976 65279 0\n"),
+        (65_276, 4_178_040, 65_279, "ok 4178040 65280 0\n"),
+        (65_277, 4_178_104, 65_280, "ok 4178104 65281 0\n"),
+    ];
+    for (count, len, names, line) in rows {
+        let file = object(rt.alloc(), count)?;
+        assert_eq!(rt; file.len(), len);
+        assert_eq!(rt; verdict(&file), None);
+
+        let mut said = Vec::new(rt.alloc());
+        let answer = check(rt.alloc(), &mut file.as_slice(), &mut said);
+        assert!(rt; matches!(answer, Ok(Verdict::Done)));
+        assert_eq!(rt; said.as_slice(), line.as_bytes());
+
+        let image = parse(rt.alloc(), &file).ok().ok_or("an image")?;
+        assert_eq!(rt; image.section_count() as u64, u64::from(count) + 4);
+        assert_eq!(rt; image.name_table(), names);
+        let mut written = Vec::new(rt.alloc());
+        assert!(rt; write(&image, &mut written).is_ok());
+        assert!(rt; written.as_slice() == file.as_slice());
+    }
+    Ok(())
+}
