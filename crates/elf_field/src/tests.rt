@@ -110,6 +110,7 @@ fn header_layout(rt: HostRuntime) {
     for order in [Order::Little, Order::Big] {
         let mut copy = [0; 64];
         let record: Ehdr = through_bound(order, &RULER, &mut copy);
+        assert_eq!(rt; Ehdr::get(order, &RULER[..64]), record);
         assert_eq!(rt; copy.as_slice(), &RULER[..64]);
         assert_eq!(rt; record.e_ident.as_slice(), &RULER[..16]);
         for (number, offset, width) in [
@@ -137,6 +138,7 @@ fn section_header_layout(rt: HostRuntime) {
     for order in [Order::Little, Order::Big] {
         let mut copy = [0; 64];
         let record: Shdr = through_bound(order, &RULER, &mut copy);
+        assert_eq!(rt; Shdr::get(order, &RULER[..64]), record);
         assert_eq!(rt; copy.as_slice(), &RULER[..64]);
         for (number, offset, width) in [
             (u64::from(record.sh_name), 0, 4),
@@ -160,6 +162,7 @@ fn program_header_layout(rt: HostRuntime) {
     for order in [Order::Little, Order::Big] {
         let mut copy = [0; 56];
         let record: Phdr = through_bound(order, &RULER, &mut copy);
+        assert_eq!(rt; Phdr::get(order, &RULER[..56]), record);
         assert_eq!(rt; copy.as_slice(), &RULER[..56]);
         for (number, offset, width) in [
             (u64::from(record.p_type), 0, 4),
@@ -181,6 +184,7 @@ fn symbol_layout(rt: HostRuntime) {
     for order in [Order::Little, Order::Big] {
         let mut copy = [0; 24];
         let record: Sym = through_bound(order, &RULER, &mut copy);
+        assert_eq!(rt; Sym::get(order, &RULER[..24]), record);
         assert_eq!(rt; copy.as_slice(), &RULER[..24]);
         for (number, offset, width) in [
             (u64::from(record.st_name), 0, 4),
@@ -200,6 +204,7 @@ fn relocation_layout(rt: HostRuntime) {
     for order in [Order::Little, Order::Big] {
         let mut copy = [0; 16];
         let record: Rel = through_bound(order, &RULER, &mut copy);
+        assert_eq!(rt; Rel::get(order, &RULER[..16]), record);
         assert_eq!(rt; copy.as_slice(), &RULER[..16]);
         for (number, offset, width) in [(record.r_offset, 0, 8), (record.r_info, 8, 8)] {
             assert_eq!(rt; number, ruled(order, offset, width), "at {offset}");
@@ -212,6 +217,7 @@ fn relocation_with_addend_layout(rt: HostRuntime) {
     for order in [Order::Little, Order::Big] {
         let mut copy = [0; 24];
         let record: Rela = through_bound(order, &RULER, &mut copy);
+        assert_eq!(rt; Rela::get(order, &RULER[..24]), record);
         assert_eq!(rt; copy.as_slice(), &RULER[..24]);
         for (number, offset, width) in [
             (record.r_offset, 0, 8),
@@ -228,6 +234,7 @@ fn dynamic_entry_layout(rt: HostRuntime) {
     for order in [Order::Little, Order::Big] {
         let mut copy = [0; 16];
         let record: Dyn = through_bound(order, &RULER, &mut copy);
+        assert_eq!(rt; Dyn::get(order, &RULER[..16]), record);
         assert_eq!(rt; copy.as_slice(), &RULER[..16]);
         for (number, offset, width) in [(record.d_tag.cast_unsigned(), 0, 8), (record.d_un, 8, 8)] {
             assert_eq!(rt; number, ruled(order, offset, width), "at {offset}");
@@ -239,6 +246,7 @@ fn dynamic_entry_layout(rt: HostRuntime) {
 fn words(rt: HostRuntime) {
     let mut copy = [0; 4];
     let word: u32 = through_bound(Order::Little, &RULER, &mut copy);
+    assert_eq!(rt; <u32 as Record>::get(Order::Little, &RULER[..4]), word);
     assert_eq!(rt; word, 0x0302_0100);
     assert_eq!(rt; copy, [0, 1, 2, 3]);
     assert_eq!(rt; get_at::<u32>(Order::Big, &RULER, 5), 0x0506_0708);

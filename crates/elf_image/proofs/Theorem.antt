@@ -188,16 +188,19 @@ shared_by_bytes v b image = shared_by_reads v b (reads_of v b image.stands) imag
 counted_by_bytes : (v : ImageValue) (b : List ℕ) → IsImage v b → IsCounted v
 counted_by_bytes v b image = counted_by_reads v b (reads_of v b image.stands) image.clean
 
--- a sound value stands as its joined parts, without fault
-pub joined_is_image : (v : ImageValue) → IsSound v → IsImage v (joined v)
-joined_is_image v sound =
-    let stands = joined_stands v sound in
+-- what a sound value stands as breaks no rule
+pub stands_is_image : (v : ImageValue) (b : List ℕ) → IsSound v → Stands v b → IsImage v b
+stands_is_image v b sound stands =
     let facts = clean_of v (counted_of v sound) in
     let count = sound.section_count in
-    let reads = reads_of v (joined v) stands in
-    let shared = shared_of v (joined v) reads (λ there. let lt = facts.some there in omega arith) facts.few_segments facts.no_names
+    let reads = reads_of v b stands in
+    let shared = shared_of v b reads (λ there. let lt = facts.some there in omega arith) facts.few_segments facts.no_names
     (λ there. let lt = facts.name_table there in omega arith) in
-    record { stands = stands; clean = clean_bytes v (joined v) reads shared sound.clean }
+    record { stands = stands; clean = clean_bytes v b reads shared sound.clean }
+
+-- a sound value stands as its joined parts, without fault
+pub joined_is_image : (v : ImageValue) → IsSound v → IsImage v (joined v)
+joined_is_image v sound = stands_is_image v (joined v) sound (joined_stands v sound)
 
 -- ---- and as nothing else: each part's bytes are those at its place
 

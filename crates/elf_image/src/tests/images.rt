@@ -165,13 +165,13 @@ fn writes_back_what_it_read(rt: HostRuntime) -> Result<(), Fail> {
 fn big_order_byte_for_byte(rt: HostRuntime) {
     let file = one_section(Order::Big);
     assert_eq!(rt;
-        &file[..64],
-        [
+        file.get(..64),
+        Some([
             0x7f, 0x45, 0x4c, 0x46, 2, 2, 1, 0, 0, 0, 0, 0, 0, 0, 0, 0, 0, 1, 0, 0x3e, 0, 0, 0, 1,
             0, 0, 0, 0, 0, 0, 0, 0, 0, 0, 0, 0, 0, 0, 0, 0, 0, 0, 0, 0, 0, 0, 0, 0x88, 0, 0, 0, 0,
             0, 0x40, 0, 0, 0, 0, 0, 0x40, 0, 5, 0, 4,
         ]
-        .as_slice()
+        .as_slice())
     );
 }
 
@@ -196,7 +196,7 @@ fn replaces_a_content(rt: HostRuntime) -> Result<(), Fail> {
         Err(ReplaceFault::WrongLength)
     );
     assert_eq!(rt;
-        image.replace(4, &file[97..130]),
+        image.replace(4, b"\0.text\0.symtab\0.strtab\0.shstrtab\0"),
         Err(ReplaceFault::NameTable)
     );
     assert_written(&rt, rt.alloc(), &image, &file)?;
@@ -259,7 +259,11 @@ fn a_failed_write_tells_what_is_out(rt: HostRuntime) -> Result<(), Fail> {
                 Err(WriteFault { written }),
                 "room for {room}"
             );
-            assert_eq!(rt; out.bytes.as_slice(), &want[..room], "room for {room}");
+            assert_eq!(rt;
+                Some(out.bytes.as_slice()),
+                want.get(..room),
+                "room for {room}"
+            );
         }
     }
     Ok(())
