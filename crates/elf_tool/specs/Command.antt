@@ -11,6 +11,10 @@ file = record (new_rule (codes "FILE")) { required = true }
 unfoldable pub check : Shape
 check = record (new_shape (codes "check")) { rules = file ∷ [] }
 
+-- `show FILE`
+unfoldable pub show : Shape
+show = record (new_shape (codes "show")) { rules = file ∷ [] }
+
 -- `elfmap COMMAND ..`; it has no subcommand `help`
 unfoldable pub elfmap : App
 elfmap = record {
@@ -19,7 +23,7 @@ elfmap = record {
     disable_help_subcommand = true;
     is_leaf = false;
   };
-  subs = check ∷ [];
+  subs = check ∷ show ∷ [];
 }
 
 -- the name of one of the commands

@@ -4,5 +4,8 @@ pub mod Command
 pub mod Engine
 pub mod Fault
 pub mod Line
+pub mod Output
 pub mod Program
+pub mod Show
+pub mod ShowLines
 pub mod Words

@@ -3,7 +3,8 @@ use Rattle.std.specs.Prelude.{◌≡◌, ◌⊎◌, ℕ, List, Option, Some, Res
 use Rattle.std.specs.Io.KnownBytes.{Keeps}
 use Rattle.clap.specs.Walk.{Text}
 use Rattle.elf_tool.specs.Check.{CheckSays}
-use Rattle.elf_tool.specs.Engine.{IsAnswered, Sayings}
+use Rattle.elf_tool.specs.Engine.{Answering, Answers, GradualAnswers, IsAnswered}
+use Rattle.elf_tool.specs.Show.{ShowSays}
 use Rattle.elf_tool.specs.Words.{IsAskedBy, IsRefusedBy}
 use Rattle.elf_tool.specs.declared.fault.ToolFault.{ToolFault}
 use Rattle.elf_tool.specs.declared.fault.Verdict.{Verdict}
@@ -11,7 +12,7 @@ use Rattle.elf_tool.specs.declared.fault.Verdict.TheVariants as verdict
 use Rattle.elf_tool.specs.declared.program.Status.{Status}
 use Rattle.elf_tool.specs.declared.program.Status.TheVariants.{Done, Refused, Usage, Failed}
 use Rattle.elf_tool.specs.declared.words.Request.{Request}
-use Rattle.elf_tool.specs.declared.words.Request.TheVariants.{Check}
+use Rattle.elf_tool.specs.declared.words.Request.TheVariants.{Check, Show}
 use Rattle.elf_tool.specs.declared.words.WordsFault.{WordsFault}
 use Rattle.elf_tool.specs.declared.words.WordsFault.TheVariants.{Words, OutOfMemory}
 
@@ -30,15 +31,16 @@ ending_of (Err fault) = Failed
 
 -- a file was opened, and the engine answered on a reader of its bytes, where these are known; or it was
 -- not, and nothing is out. A writer that held `old` holds `new`
-abbrev pub EndsFile : Sayings → Option (List ℕ) → Option (List ℕ) → Option (List ℕ) → Status → Type 0
-EndsFile says known old new status =
+abbrev pub EndsFile : Answering → Option (List ℕ) → Option (List ℕ) → Option (List ℕ) → Status → Type 0
+EndsFile answers known old new status =
     ((input rest : Option (List ℕ)) × (answer : Result Verdict ToolFault) × IfSome known (λ bytes. input ≡ Some bytes)
-    × IsAnswered says input rest old new answer × (status ≡ ending_of answer))
+    × IsAnswered answers input rest old new answer × (status ≡ ending_of answer))
     ⊎ ((status ≡ Failed) × Keeps old new)
 
 -- each command, over the files' known bytes by name
 abbrev pub EndsRequest : (Text → Option (List ℕ)) → Option (List ℕ) → Option (List ℕ) → Request → Status → Type 0
-EndsRequest holds old new (Check file) status = EndsFile CheckSays (holds file.now) old new status
+EndsRequest holds old new (Check file) status = EndsFile (Answers CheckSays) (holds file.now) old new status
+EndsRequest holds old new (Show file) status = EndsFile (GradualAnswers ShowSays) (holds file.now) old new status
 
 -- words that ask for nothing: nothing is out
 abbrev pub EndsWords : Option (List ℕ) → Option (List ℕ) → WordsFault → Status → Type 0

@@ -3,7 +3,7 @@
 ghost use Rattle.std.specs.Prelude.{◌≡◌, false, IfOk};
 ghost use Rattle.clap.specs.Words.{app_of, shape_of};
 ghost use Rattle.clap.specs.declared.builder.command.Command.TheViews.{out-Command as fields_of};
-ghost use Rattle.elf_tool.specs.Command.{check, elfmap as elfmap_app};
+ghost use Rattle.elf_tool.specs.Command.{check, elfmap as elfmap_app, show};
 
 use clap::{Arg, Command};
 use std::alloc::{AllocError, Global};
@@ -13,10 +13,11 @@ pub(crate) fn elfmap<'a>(alloc: Global) -> Result<Command<'a>, AllocError>
     ensures { IfOk result (λ command. app_of command ≡ elfmap_app) }
 {
     Command::new(alloc, "elfmap")
-        .about("Checks ELF-64 object files")
+        .about("Checks and shows ELF-64 object files")
         .subcommand_required(true)
         .disable_help_subcommand(true)
-        .subcommand(check_command(alloc)?)
+        .subcommand(check_command(alloc)?)?
+        .subcommand(show_command(alloc)?)
 }
 
 fn check_command<'a>(alloc: Global) -> Result<Command<'a>, AllocError>
@@ -28,5 +29,17 @@ fn check_command<'a>(alloc: Global) -> Result<Command<'a>, AllocError>
         .required(true);
     Command::new(alloc, "check")
         .about("Tells whether FILE is an ELF-64 file, or the first rule that it breaks and where")
+        .arg(file)
+}
+
+fn show_command<'a>(alloc: Global) -> Result<Command<'a>, AllocError>
+    ensures shape { IfOk result (λ command. shape_of command ≡ show) }
+    ensures local { IfOk result (λ command. (fields_of command).has_globals ≡ false) }
+{
+    let file = Arg::new(alloc, "FILE")
+        .help("The file to show")
+        .required(true);
+    Command::new(alloc, "show")
+        .about("Shows the header, the parts, the sections and the segments of FILE")
         .arg(file)
 }

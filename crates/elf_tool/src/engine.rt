@@ -1,4 +1,6 @@
-//! The engines: each reads files whole, judges them, makes its text, and only then writes. A
-//! further command is one more file here.
+//! The engines: each reads files whole, judges them, and only then writes. A further command is one
+//! more file here.
 pub(crate) mod check;
 mod input;
+mod output;
+pub(crate) mod show;

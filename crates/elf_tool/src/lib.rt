@@ -8,11 +8,13 @@ mod fault;
 mod line;
 mod opener;
 mod program;
+mod show_lines;
 #[cfg(test)]
 mod tests;
 mod words;
 
 pub use engine::check::check;
+pub use engine::show::show;
 pub use fault::{Refusal, ToolFault, Verdict};
 pub use opener::{MachineFiles, OpenFault, Opener};
 pub use program::{Status, refuse_words, run};

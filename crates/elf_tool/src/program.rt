@@ -1,12 +1,15 @@
 //! The whole program: from the words of its command line to its exit status.
-ghost use Rattle.std.specs.Prelude.{◌≡◌, ◌≢◌, map};
+ghost use Rattle.std.specs.Prelude.{◌≡◌, ◌≢◌, IfErr, IfOk, IfSome, map};
 ghost use Rattle.std.specs.IoError.{error_kind};
 ghost use Rattle.std.specs.declared.io.ErrorKind.TheVariants.{InvalidData};
 ghost use Rattle.elf_tool.specs.Check.{CheckSays};
+ghost use Rattle.elf_tool.specs.Engine.{Answers, GradualAnswers};
 ghost use Rattle.elf_tool.specs.Program.{EndsFile, EndsRun, code_of, ending_of};
+ghost use Rattle.elf_tool.specs.Show.{ShowSays};
 ghost use Rattle.elf_tool.specs.declared.program.Status.{Status as Ending};
 
 use crate::engine::check::check;
+use crate::engine::show::show;
 use crate::fault::{ToolFault, Verdict};
 use crate::opener::{OpenFault, Opener};
 use crate::words::{Request, WordsFault, read_words};
@@ -59,6 +62,7 @@ fn ending<S: AsStr, O: Opener, W: Write, E: Write>(
 {
     match read_words(alloc, words) {
         Ok(Request::Check { file }) => check_file(alloc, file, files, out, err),
+        Ok(Request::Show { file }) => show_file(alloc, file, files, out, err),
         Err(WordsFault::Words(error)) => {
             // This text ends with a line feed of its own.
             let _ = write!(err, "{error}");
@@ -91,15 +95,41 @@ fn check_file<O: Opener, W: Write, E: Write>(
     out: &mut W,
     err: &mut E,
 ) -> Status
-    ensures { EndsFile CheckSays (O.holds files.old file.now) (W.contents out.old) (W.contents out.new) result }
+    ensures { EndsFile (Answers CheckSays) (O.holds files.old file.now) (W.contents out.old) (W.contents out.new) result }
+{
+    match open(file, files, err) {
+        Ok(mut input) => status_of(check(alloc, &mut input, out), err),
+        Err(status) => status,
+    }
+}
+
+fn show_file<O: Opener, W: Write, E: Write>(
+    alloc: Global,
+    file: &str,
+    files: &mut O,
+    out: &mut W,
+    err: &mut E,
+) -> Status
+    ensures { EndsFile (GradualAnswers ShowSays) (O.holds files.old file.now) (W.contents out.old) (W.contents out.new) result }
+{
+    match open(file, files, err) {
+        Ok(mut input) => status_of(show(alloc, &mut input, out), err),
+        Err(status) => status,
+    }
+}
+
+// A reader of the file of this name, or how the program ends without one.
+fn open<O: Opener, E: Write>(file: &str, files: &mut O, err: &mut E) -> Result<O::Input, Status>
+    ensures ok { IfOk result (λ input. IfSome (O.holds files.old file.now) (λ bytes. O.Input.remaining input ≡ Some bytes)) }
+    ensures err { IfErr result (λ status. status ≡ Status.Failed) }
 {
     match files.reader(file) {
-        Ok(mut input) => status_of(check(alloc, &mut input, out), err),
+        Ok(input) => Ok(input),
         Err(OpenFault::Refused) => {
             let _ = writeln!(err, "cannot open {file}");
-            Status::Failed
+            Err(Status::Failed)
         }
-        Err(OpenFault::OutOfMemory) => fail(&ToolFault::OutOfMemory, err),
+        Err(OpenFault::OutOfMemory) => Err(fail(&ToolFault::OutOfMemory, err)),
     }
 }
 

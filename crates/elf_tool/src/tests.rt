@@ -1,5 +1,5 @@
 //! The whole program over fakes: what it answers, writes and says for each way that it can end.
-use super::{OpenFault, Opener, ToolFault, check, refuse_words, run};
+use super::{OpenFault, Opener, ToolFault, check, refuse_words, run, show};
 use std::alloc::Global;
 use std::io;
 use std::io::{ErrorKind, Read, Write};
@@ -12,11 +12,57 @@ const HEADER: [u8; 64] = [
     0, 0, 0, 0, 0, 0, 0, 0, 0,
 ];
 
+/// An object with a symbol table, a string table and section names, and with nothing in them.
+const EMPTY_OBJECT: [u8; 376] = [
+    0x7f, 0x45, 0x4c, 0x46, 2, 1, 1, 0, 0, 0, 0, 0, 0, 0, 0, 0, 1, 0, 0x3e, 0, 1, 0, 0, 0, 0, 0, 0,
+    0, 0, 0, 0, 0, 0, 0, 0, 0, 0, 0, 0, 0, 0x78, 0, 0, 0, 0, 0, 0, 0, 0, 0, 0, 0, 0x40, 0, 0, 0, 0,
+    0, 0x40, 0, 4, 0, 3, 0, 0, 0, 0, 0, 0, 0, 0, 0, 0, 0, 0, 0, 0, 0, 0, 0, 0, 0, 0, 0, 0, 0, 0, 0,
+    0, 0, 0x2e, 0x73, 0x79, 0x6d, 0x74, 0x61, 0x62, 0, 0x2e, 0x73, 0x74, 0x72, 0x74, 0x61, 0x62, 0,
+    0x2e, 0x73, 0x68, 0x73, 0x74, 0x72, 0x74, 0x61, 0x62, 0, 0, 0, 0, 0, 0, 0, 0, 0, 0, 0, 0, 0, 0,
+    0, 0, 0, 0, 0, 0, 0, 0, 0, 0, 0, 0, 0, 0, 0, 0, 0, 0, 0, 0, 0, 0, 0, 0, 0, 0, 0, 0, 0, 0, 0, 0,
+    0, 0, 0, 0, 0, 0, 0, 0, 0, 0, 0, 0, 0, 0, 0, 0, 0, 0, 0, 0, 0, 0, 0, 1, 0, 0, 0, 2, 0, 0, 0, 0,
+    0, 0, 0, 0, 0, 0, 0, 0, 0, 0, 0, 0, 0, 0, 0, 0x40, 0, 0, 0, 0, 0, 0, 0, 0x18, 0, 0, 0, 0, 0, 0,
+    0, 2, 0, 0, 0, 1, 0, 0, 0, 8, 0, 0, 0, 0, 0, 0, 0, 0x18, 0, 0, 0, 0, 0, 0, 0, 9, 0, 0, 0, 3, 0,
+    0, 0, 0, 0, 0, 0, 0, 0, 0, 0, 0, 0, 0, 0, 0, 0, 0, 0, 0x58, 0, 0, 0, 0, 0, 0, 0, 1, 0, 0, 0, 0,
+    0, 0, 0, 0, 0, 0, 0, 0, 0, 0, 0, 1, 0, 0, 0, 0, 0, 0, 0, 0, 0, 0, 0, 0, 0, 0, 0, 0x11, 0, 0, 0,
+    3, 0, 0, 0, 0, 0, 0, 0, 0, 0, 0, 0, 0, 0, 0, 0, 0, 0, 0, 0, 0x59, 0, 0, 0, 0, 0, 0, 0, 0x1b, 0,
+    0, 0, 0, 0, 0, 0, 0, 0, 0, 0, 0, 0, 0, 0, 1, 0, 0, 0, 0, 0, 0, 0, 0, 0, 0, 0, 0, 0, 0, 0,
+];
+
+/// An object with one section of one byte of code.
+const ONE_SECTION: [u8; 456] = [
+    0x7f, 0x45, 0x4c, 0x46, 2, 1, 1, 0, 0, 0, 0, 0, 0, 0, 0, 0, 1, 0, 0x3e, 0, 1, 0, 0, 0, 0, 0, 0,
+    0, 0, 0, 0, 0, 0, 0, 0, 0, 0, 0, 0, 0, 0x88, 0, 0, 0, 0, 0, 0, 0, 0, 0, 0, 0, 0x40, 0, 0, 0, 0,
+    0, 0x40, 0, 5, 0, 4, 0, 0xc3, 0, 0, 0, 0, 0, 0, 0, 0, 0, 0, 0, 0, 0, 0, 0, 0, 0, 0, 0, 0, 0, 0,
+    0, 0, 0, 0, 0, 0, 0, 0, 0, 0, 0, 0x2e, 0x74, 0x65, 0x78, 0x74, 0, 0x2e, 0x73, 0x79, 0x6d, 0x74,
+    0x61, 0x62, 0, 0x2e, 0x73, 0x74, 0x72, 0x74, 0x61, 0x62, 0, 0x2e, 0x73, 0x68, 0x73, 0x74, 0x72,
+    0x74, 0x61, 0x62, 0, 0, 0, 0, 0, 0, 0, 0, 0, 0, 0, 0, 0, 0, 0, 0, 0, 0, 0, 0, 0, 0, 0, 0, 0, 0,
+    0, 0, 0, 0, 0, 0, 0, 0, 0, 0, 0, 0, 0, 0, 0, 0, 0, 0, 0, 0, 0, 0, 0, 0, 0, 0, 0, 0, 0, 0, 0, 0,
+    0, 0, 0, 0, 0, 0, 0, 0, 0, 0, 0, 0, 0, 1, 0, 0, 0, 1, 0, 0, 0, 6, 0, 0, 0, 0, 0, 0, 0, 0, 0, 0,
+    0, 0, 0, 0, 0, 0x40, 0, 0, 0, 0, 0, 0, 0, 1, 0, 0, 0, 0, 0, 0, 0, 0, 0, 0, 0, 0, 0, 0, 0, 0x10,
+    0, 0, 0, 0, 0, 0, 0, 0, 0, 0, 0, 0, 0, 0, 0, 7, 0, 0, 0, 2, 0, 0, 0, 0, 0, 0, 0, 0, 0, 0, 0, 0,
+    0, 0, 0, 0, 0, 0, 0, 0x48, 0, 0, 0, 0, 0, 0, 0, 0x18, 0, 0, 0, 0, 0, 0, 0, 3, 0, 0, 0, 1, 0, 0,
+    0, 8, 0, 0, 0, 0, 0, 0, 0, 0x18, 0, 0, 0, 0, 0, 0, 0, 0xf, 0, 0, 0, 3, 0, 0, 0, 0, 0, 0, 0, 0,
+    0, 0, 0, 0, 0, 0, 0, 0, 0, 0, 0, 0x60, 0, 0, 0, 0, 0, 0, 0, 1, 0, 0, 0, 0, 0, 0, 0, 0, 0, 0, 0,
+    0, 0, 0, 0, 1, 0, 0, 0, 0, 0, 0, 0, 0, 0, 0, 0, 0, 0, 0, 0, 0x17, 0, 0, 0, 3, 0, 0, 0, 0, 0, 0,
+    0, 0, 0, 0, 0, 0, 0, 0, 0, 0, 0, 0, 0, 0x61, 0, 0, 0, 0, 0, 0, 0, 0x21, 0, 0, 0, 0, 0, 0, 0, 0,
+    0, 0, 0, 0, 0, 0, 0, 1, 0, 0, 0, 0, 0, 0, 0, 0, 0, 0, 0, 0, 0, 0, 0,
+];
+
+/// A file with one segment, and no sections.
+const ONE_SEGMENT: [u8; 120] = [
+    0x7f, 0x45, 0x4c, 0x46, 2, 1, 1, 0, 0, 0, 0, 0, 0, 0, 0, 0, 2, 0, 0x3e, 0, 1, 0, 0, 0, 0, 0, 0,
+    0, 0, 0, 0, 0, 0x40, 0, 0, 0, 0, 0, 0, 0, 0, 0, 0, 0, 0, 0, 0, 0, 0, 0, 0, 0, 0x40, 0, 0x38, 0,
+    1, 0, 0, 0, 0, 0, 0, 0, 1, 0, 0, 0, 5, 0, 0, 0, 0, 0, 0, 0, 0, 0, 0, 0, 0, 0x10, 0, 0, 0, 0, 0,
+    0, 0, 0x10, 0, 0, 0, 0, 0, 0, 0x78, 0, 0, 0, 0, 0, 0, 0, 0x78, 0, 0, 0, 0, 0, 0, 0, 0, 0x10, 0,
+    0, 0, 0, 0, 0,
+];
+
 /// The words that ask for its check.
 const CHECK: [&str; 3] = ["elfmap", "check", "a.o"];
 
 /// More than the program ever writes here.
-const ROOM: usize = 400;
+const ROOM: usize = 700;
 
 /// Gives its bytes at most `piece` at a time, and then an error, if it has one, or the end.
 #[derive(Drop)]
@@ -134,7 +180,7 @@ fn ends_as_the_words_and_the_file_have_it(rt: HostRuntime) {
     let mut wrong = HEADER;
     wrong[3] = 0x47;
     wrong[4] = 1;
-    let rows: [(&[&str], &[u8], u8, &str, &str); 13] = [
+    let rows: [(&[&str], &[u8], u8, &str, &str); 15] = [
         (&["elfmap", "check", "a.o"], &HEADER, 0, "ok 64 0 0\n", ""),
         (
             &["elfmap", "check", "--", "a.o"],
@@ -169,6 +215,20 @@ fn ends_as_the_words_and_the_file_have_it(rt: HostRuntime) {
         ),
         (
             &["elfmap", "show", "a.o"],
+            &HEADER,
+            0,
+            "file little 1 62 0x0 0x0\npart 0x0 0x40 header\n",
+            "",
+        ),
+        (
+            &["elfmap", "show", "a.o"],
+            &HEADER[..63],
+            1,
+            "refused 2 63\n",
+            "",
+        ),
+        (
+            &["elfmap", "dump", "a.o"],
             &HEADER,
             2,
             "",
@@ -292,4 +352,95 @@ fn a_refused_growth_leaves_nothing_out(rt: HostRuntime) {
     assert!(rt; ran.status == 0 || ran.status == 3);
     assert_eq!(rt; ran.out.text(), said.as_bytes());
     assert_eq!(rt; ran.err.text(), complained.as_bytes());
+}
+
+/// The text on [`EMPTY_OBJECT`].
+const EMPTY_OBJECT_TEXT: &str = "file little 1 62 0x0 0x0
+part 0x0 0x40 header
+part 0x40 0x18 content 1
+part 0x58 0x1 content 2
+part 0x59 0x1b content 3
+part 0x74 0x4 gap 00000000
+part 0x78 0x100 sections
+section 0 0 0x0 0x0 0x0 0x0 0 0 0x0 0x0 -
+section 1 2 0x0 0x0 0x40 0x18 2 1 0x8 0x18 .symtab
+section 2 3 0x0 0x0 0x58 0x1 0 0 0x1 0x0 .strtab
+section 3 3 0x0 0x0 0x59 0x1b 0 0 0x1 0x0 .shstrtab
+";
+
+/// The same with bytes 1, 2, 3 and 4 in the gap.
+const FILLED_GAP_TEXT: &str = "file little 1 62 0x0 0x0
+part 0x0 0x40 header
+part 0x40 0x18 content 1
+part 0x58 0x1 content 2
+part 0x59 0x1b content 3
+part 0x74 0x4 gap 01020304
+part 0x78 0x100 sections
+section 0 0 0x0 0x0 0x0 0x0 0 0 0x0 0x0 -
+section 1 2 0x0 0x0 0x40 0x18 2 1 0x8 0x18 .symtab
+section 2 3 0x0 0x0 0x58 0x1 0 0 0x1 0x0 .strtab
+section 3 3 0x0 0x0 0x59 0x1b 0 0 0x1 0x0 .shstrtab
+";
+
+/// The text on [`ONE_SECTION`].
+const ONE_SECTION_TEXT: &str = "file little 1 62 0x0 0x0
+part 0x0 0x40 header
+part 0x40 0x1 content 1
+part 0x41 0x7 gap 00000000000000
+part 0x48 0x18 content 2
+part 0x60 0x1 content 3
+part 0x61 0x21 content 4
+part 0x82 0x6 gap 000000000000
+part 0x88 0x140 sections
+section 0 0 0x0 0x0 0x0 0x0 0 0 0x0 0x0 -
+section 1 1 0x6 0x0 0x40 0x1 0 0 0x10 0x0 .text
+section 2 2 0x0 0x0 0x48 0x18 3 1 0x8 0x18 .symtab
+section 3 3 0x0 0x0 0x60 0x1 0 0 0x1 0x0 .strtab
+section 4 3 0x0 0x0 0x61 0x21 0 0 0x1 0x0 .shstrtab
+";
+
+/// The text on [`ONE_SEGMENT`].
+const ONE_SEGMENT_TEXT: &str = "file little 2 62 0x0 0x0
+part 0x0 0x40 header
+part 0x40 0x38 segments
+segment 0 1 0x5 0x0 0x1000 0x1000 0x78 0x78 0x1000
+";
+
+#[test]
+fn shows_each_line_of_a_file(rt: HostRuntime) {
+    let mut filled = EMPTY_OBJECT;
+    filled[116] = 1;
+    filled[117] = 2;
+    filled[118] = 3;
+    filled[119] = 4;
+    let rows: [(&[u8], &str); 4] = [
+        (&EMPTY_OBJECT, EMPTY_OBJECT_TEXT),
+        (&filled, FILLED_GAP_TEXT),
+        (&ONE_SECTION, ONE_SECTION_TEXT),
+        (&ONE_SEGMENT, ONE_SEGMENT_TEXT),
+    ];
+    for (bytes, text) in rows {
+        let mut reader = bytes;
+        let mut shelf = Shelf::new(ROOM, None);
+        let answer = show(rt.alloc(), &mut reader, &mut shelf);
+        assert!(rt; answer.is_ok());
+        assert_eq!(rt; shelf.text(), text.as_bytes());
+    }
+}
+
+#[test]
+fn a_failed_write_of_many_lines_is_told_with_what_is_out(rt: HostRuntime) {
+    let text = ONE_SEGMENT_TEXT.as_bytes();
+    for room in 0..text.len() {
+        let mut reader = ONE_SEGMENT.as_slice();
+        let mut shelf = Shelf::new(room, Some(ErrorKind::Other));
+        let answer = show(rt.alloc(), &mut reader, &mut shelf);
+        assert_eq!(rt;
+            answer,
+            Err(ToolFault::Write {
+                written: room as u64
+            })
+        );
+        assert_eq!(rt; shelf.text(), &text[..room]);
+    }
 }

@@ -1,5 +1,5 @@
 //! What the words of a command line ask for.
-ghost use Rattle.std.specs.Prelude.{◌≡◌, [], IfErr, IfOk, OnOk, map};
+ghost use Rattle.std.specs.Prelude.{◌≡◌, [], IfErr, IfOk, OnOk, codes, map};
 ghost use Rattle.clap.specs.Words.{fault_of, found_of, rows_of, subcommand_of, subcommand_rows_of};
 ghost use Rattle.elf_tool.specs.Command.{IsNameIn, elfmap as elfmap_app};
 ghost use Rattle.elf_tool.specs.Words.{IsAskedBy, IsRefusedBy, Says, text_of};
@@ -15,6 +15,8 @@ use std::convert::AsStr;
 pub enum Request<'a> {
     /// Tell whether the file of this name is an ELF-64 file.
     Check { file: &'a str },
+    /// Show what is in the file of this name.
+    Show { file: &'a str },
 }
 
 /// Why the words ask for nothing that the program does.
@@ -84,10 +86,20 @@ fn request_of<'a>(name: &str, matches: &ArgMatches<'a>) -> Request<'a>
 {
     match name {
         "check" => Request::Check {
-            file: text_at(matches, "FILE"),
+            file: file_in(matches),
+        },
+        "show" => Request::Show {
+            file: file_in(matches),
         },
         _ => unreachable!(),
     }
+}
+
+// The file that a command with one file names.
+fn file_in<'a>(matches: &ArgMatches<'a>) -> &'a str
+    ensures { result.now ≡ text_of (codes "FILE") (rows_of (found_of matches.now)) }
+{
+    text_at(matches, "FILE")
 }
 
 // The value of an argument, empty where it has none.

@@ -1,5 +1,5 @@
 //! Images of the worked files: read, edited and written.
-use super::rows::{empty_contents, empty_object, one_section, one_segment, set};
+use super::rows::{empty_contents, empty_object, filled_gap, one_section, one_segment, set};
 use super::{Pieces, Shelf};
 use crate::{
     Fault, Image, NoSection, Owner, Part, ReplaceFault, WriteFault, parse, read_to_end, write,
@@ -177,8 +177,7 @@ fn big_order_byte_for_byte(rt: HostRuntime) {
 
 #[test]
 fn keeps_a_filled_gap_until_it_is_zeroed(rt: HostRuntime) -> Result<(), Fail> {
-    let mut file = empty_object();
-    file[116..120].copy_from_slice(&[1, 2, 3, 4]);
+    let file = filled_gap();
     let mut image = parse(rt.alloc(), &file)?;
     assert_written(&rt, rt.alloc(), &image, &file)?;
     image.zero_gaps();

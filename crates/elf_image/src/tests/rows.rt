@@ -138,6 +138,16 @@ pub fn empty_object() -> [u8; 376] {
     file
 }
 
+/// That object with its gap filled.
+pub fn filled_gap() -> [u8; 376] {
+    let mut file = empty_object();
+    file[116] = 1;
+    file[117] = 2;
+    file[118] = 3;
+    file[119] = 4;
+    file
+}
+
 /// An object of one section `.text`, which holds one byte.
 pub fn one_section(order: Order) -> [u8; 456] {
     let mut file = [0; 456];

@@ -2,7 +2,7 @@
 ghost use Rattle.std.specs.Prelude.{◌≡◌, length, IfOk, string_bytes};
 ghost use Rattle.elf_rules.specs.ImageRules.{IsFault};
 ghost use Rattle.elf_tool.specs.Check.{CheckSays, file_sections, file_segments, verdict_of};
-ghost use Rattle.elf_tool.specs.Engine.{IsAnswered};
+ghost use Rattle.elf_tool.specs.Engine.{Answers, IsAnswered};
 ghost use Rattle.elf_tool.specs.Line.{ok_line as ok_line_of};
 
 use super::input::read_input;
@@ -26,7 +26,7 @@ pub fn check<R: Read, W: Write>(
     reader: &mut R,
     writer: &mut W,
 ) -> Result<Verdict, ToolFault>
-    ensures { IsAnswered CheckSays (R.remaining reader.old) (R.remaining reader.new)
+    ensures { IsAnswered (Answers CheckSays) (R.remaining reader.old) (R.remaining reader.new)
         (W.contents writer.old) (W.contents writer.new) result }
 {
     let mut buf = Vec::new(alloc);
