@@ -1,9 +1,9 @@
 -- An edit of a sound image value gives a sound one: no rule reads what it changes.
-use Rattle.std.proofs.Common.{◌≡◌, ◌≢◌, ◌<◌, ◌*◌, ◌^◌, ℕ, zero, suc, Bool, true, false, Option, None, List, [], ◌∷◌, length, map, get_or, set, refl, sym, ap, ap₂, subst, ◌∙◌, arith, lit<}
+use Rattle.std.proofs.Common.{◌≡◌, ◌<◌, ◌*◌, ◌^◌, ℕ, zero, suc, Bool, true, None, List, [], ◌∷◌, length, map, get_or, set, refl, sym, ap, ap₂, subst, ◌∙◌, arith, lit<}
 use Rattle.std.specs.Prelude.{replicate, if◌then◌else◌, ◌==◌, Result, Ok, Err, OnOk, OnErr}
 use Rattle.std.specs.List.{AllByRecursion}
-use Rattle.std.proofs.lemmas.List.{get_or-set_other, length-map, length-replicate, length-set}
-use Rattle.std.proofs.lemmas.Bool.{cases_eq, ne_eqb}
+use Rattle.std.proofs.lemmas.List.{get_or-set_other, length-replicate, length-set}
+use Rattle.std.proofs.lemmas.Bool.{ne_eqb}
 use Rattle.elf_field.specs.declared.shdr.Shdr.{Shdr}
 use Rattle.elf_field.specs.declared.phdr.Phdr.{Phdr}
 use Rattle.elf_field.specs.declared.ehdr.Ehdr.{Ehdr}
@@ -16,7 +16,7 @@ use Rattle.elf_extent.specs.Account.{Accounts}
 use Rattle.elf_rules.specs.Rows.{IsFaultOf}
 use Rattle.elf_rules.specs.Tables.{content_extent, name_table, section_count, segment_count}
 use Rattle.elf_rules.specs.HeaderRules.{header_rows}
-use Rattle.elf_rules.specs.ImageRules.{entry_rows, image_rows, table_rows}
+use Rattle.elf_rules.specs.ImageRules.{entry_rows, image_rows, record_rows, table_rows}
 use Rattle.elf_rules.specs.NameRules.{name_rows}
 use Rattle.elf_rules.specs.OverlapRule.{extents}
 use Rattle.elf_rules.specs.ProgramTableRules.{program_table_rows}
@@ -49,7 +49,7 @@ map-set_same f (x ∷ xs) (suc i) y d same = ap (λ (zs : List _). f x ∷ zs) (
 -- ---- e_entry
 
 pub sound-with_entry : (v : ImageValue) (entry : ℕ) → IsSound v → entry < 2 ^ 64 → IsSound (with_entry v entry)
-unfolding image_rows table_rows entry_rows header_rows section_table_rows program_table_rows section_rows segment_rows name_rows extents
+unfolding image_rows record_rows table_rows entry_rows header_rows section_table_rows program_table_rows section_rows segment_rows name_rows extents
 sound-with_entry v entry sound fits = let h = sound.header in record {
   header = record {
     e_ident = h.e_ident;
@@ -129,7 +129,7 @@ flagged_fits s flags fits fit = record {
 }
 
 pub sound-with_flags : (v : ImageValue) (i flags : ℕ) → IsSound v → 0 < i → i < length v.sections → flags < 2 ^ 64 → IsSound (with_flags v i flags)
-unfolding image_rows table_rows entry_rows header_rows section_table_rows program_table_rows section_rows segment_rows name_rows extents
+unfolding image_rows record_rows table_rows entry_rows header_rows section_table_rows program_table_rows section_rows segment_rows name_rows extents
 sound-with_flags v i flags sound above within fits =
     let s = section_of v.sections i in
     let t : Shdr = record s { sh_flags = flags } in

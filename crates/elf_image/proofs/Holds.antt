@@ -1,13 +1,11 @@
 -- What stands where in the joined parts of a sound image value.
-use Rattle.std.proofs.Common.{◌≡◌, ◌≢◌, ◌≤◌, ◌<◌, ◌+◌, ◌*◌, ◌⊎◌, ℕ, zero, suc, Option, None, Some, List, [], ◌∷◌, length, take, drop, map, get_or, refl, sym, ap, ap₂, subst, ◌∙◌, inl, inr, arith}
-use Rattle.std.specs.Prelude.{slice_get, unwrap_or}
+use Rattle.std.proofs.Common.{◌≡◌, ◌<◌, ◌+◌, ◌*◌, ℕ, zero, suc, None, Some, List, [], ◌∷◌, length, take, drop, map, get_or, refl, sym, ap, ap₂, ◌∙◌, inl, inr, arith}
+use Rattle.std.specs.Prelude.{slice_get}
 use Rattle.std.specs.List.{AllByRecursion, flat_map}
 use Rattle.std.proofs.lemmas.Bool.{cases_lt}
 use Rattle.std.proofs.lemmas.List.{nil_from_length}
 use Rattle.elf_field.specs.declared.shdr.Shdr.{Shdr}
-use Rattle.elf_field.specs.declared.phdr.Phdr.{Phdr}
 use Rattle.elf_field.specs.Bytes.{IsBytes}
-use Rattle.elf_field.specs.BytesLaws.{IsBytes-append, IsBytes-nil}
 use Rattle.elf_field.specs.Ehdr.{ehdr_bytes}
 use Rattle.elf_field.specs.Shdr.{shdr_bytes}
 use Rattle.elf_field.specs.Phdr.{phdr_bytes}
@@ -24,7 +22,7 @@ use Rattle.elf_image.specs.declared.part.Owner.TheVariants.{Header, ProgramTable
 use Rattle.elf_image.specs.Image.{ImageValue, IsSound, PlacedPart, gap_len, if_gap, index_of, joined, owned_bytes, part_bytes, piece_of, value_extents}
 use Rattle.elf_image.proofs.Joins.{HaveLengths, in_flat_parts, length-flat_parts}
 use Rattle.elf_image.proofs.Standing.{at_index, counted_of, disjoint_of, mapped_at, within_of}
-use Rattle.elf_image.proofs.Tables.{IsBytes-table, length-table}
+use Rattle.elf_image.proofs.Tables.{length-table}
 
 -- ---- each part's bytes are as many as its length
 

@@ -1,12 +1,10 @@
 -- Lemmas on what was read and written so far, and on what an image stands as.
-pub mod Clean
 pub mod Edited
 pub mod Holds
 pub mod Joins
 pub mod Moved
 pub mod Named
 pub mod Parsed
-pub mod Same
 pub mod Standing
 pub mod Stands
 pub mod Tables

@@ -1,5 +1,5 @@
 -- What moved from a reader, or to a writer, call by call.
-use Rattle.std.proofs.Common.{◌≡◌, ℕ, ◌+◌, ◌-◌, ◌≤◌, ◌⊎◌, inl, inr, List, [], ◌++◌, Option, None, Some, Result, Ok, Err, IfSome, OnOk, length, take, drop, sym, ap, ◌∙◌, append-nil, take_all, subst, take-add}
+use Rattle.std.proofs.Common.{◌≡◌, ℕ, ◌+◌, ◌-◌, ◌≤◌, ◌⊎◌, inl, inr, List, ◌++◌, Option, None, Some, Result, Ok, Err, IfSome, OnOk, length, take, drop, sym, ap, ◌∙◌, append-nil, take_all, take-add}
 use Rattle.std.proofs.lemmas.List.{take_rest}
 use lib.Seq.{take-append_seam}
 use Rattle.std.proofs.KnownBytes.{Consumes-trans, Appends-trans}

@@ -1,5 +1,5 @@
 -- From the tables, contents and parts that were read of a file that breaks no rule to its image.
-use Rattle.std.proofs.Common.{◌≡◌, ◌≢◌, ◌≤◌, ◌<◌, ◌+◌, ◌*◌, ◌^◌, ℕ, zero, suc, None, List, [], ◌∷◌, length, map, refl, sym, ap, subst, ◌∙◌, inl, inr, arith}
+use Rattle.std.proofs.Common.{◌≡◌, ◌≤◌, ◌*◌, ◌^◌, ℕ, Option, None, List, [], ◌∷◌, length, map, refl, sym, ap, ap₂, subst, ◌∙◌, inl, inr, arith}
 use Rattle.std.specs.Prelude.{false}
 use Rattle.std.specs.List.{AllByRecursion, range_with_len}
 use Rattle.std.proofs.lemmas.Bool.{cases_eq}
@@ -9,46 +9,20 @@ use Rattle.elf_field.specs.declared.shdr.Shdr.{Shdr}
 use Rattle.elf_field.specs.declared.phdr.Phdr.{Phdr}
 use Rattle.elf_field.specs.Bytes.{IsBytes}
 use Rattle.elf_extent.specs.Account.{Accounts}
-use Rattle.elf_extent.specs.Extent.{AreDisjoint, AreWithin}
-use Rattle.elf_rules.specs.Rows.{IsFaultOf}
-use Rattle.elf_rules.specs.ImageRules.{IsFault, rows}
-use Rattle.elf_rules.specs.Tables.{bytes_in, content_extent, header, names, phdr_offset, section_count, sections, segment_count, segments, shdr_offset}
+use Rattle.elf_extent.specs.Extent.{AreDisjoint, AreWithin, Doubly}
+use Rattle.elf_extent.specs.Least.{IsLowest}
+use Rattle.elf_extent.specs.declared.extent.Extent.{Extent}
+use Rattle.elf_rules.specs.OverlapRule.{contents, extents, shared_fault}
+use Rattle.elf_rules.proofs.ImageRules.{fault_of_extents}
+use Rattle.elf_rules.specs.ImageRules.{IsFault, KeepsRecordRules, extents_of_file}
+use Rattle.elf_rules.specs.Tables.{bytes_in, content_extent, header, section_count, sections, segment_count, segments}
 use Rattle.elf_image.specs.declared.part.Part.{Part}
-use Rattle.elf_image.specs.Image.{ImageValue, IsImage, PlacedPart, Stands, gap_in, piece_of, value_extents}
+use Rattle.elf_image.specs.Image.{ImageValue, IsImage, PlacedPart, gap_in, piece_of, value_extents}
 use Rattle.elf_image.specs.Outline.{image_of, outline_value, placed}
 use Rattle.elf_image.specs.Parsing.{AreTables, part_piece}
-use Rattle.elf_image.proofs.Clean.{IsClean, is_clean}
+use Rattle.elf_rules.proofs.Clean.{sections_there, sound_file}
 use Rattle.elf_image.proofs.Standing.{disjoint_of, within_of}
 use Rattle.elf_image.proofs.Theorem.{Reads, counted_by_reads}
-
--- what is known of the header of bytes that break no rule
-pub clean_header : (b : List ℕ) → IsFault b None → IsClean (length b) (header b) (sections b (header b)) (segments b (header b))
-unfolding rows
-clean_header b clean = is_clean (length b) (header b) (sections b (header b)) (segments b (header b)) (names b (header b)) clean
-
-clean_at : (b : List ℕ) (h : Ehdr) → h ≡ header b → IsFault b None → IsClean (length b) h (sections b h) (segments b h)
-clean_at b h same clean = subst (λ (k : Ehdr). IsClean (length b) k (sections b k) (segments b k)) (sym same) (clean_header b clean)
-
--- section header 0 lies in the file, or what stands in its place without a table does
-pub first_there : (b : List ℕ) (h : Ehdr) → h ≡ header b → IsFault b None → shdr_offset h 0 + 64 ≤ length b
-first_there b h same clean =
-    let facts = clean_at b h same clean in
-    elim (cases_eq h.e_shoff 0) [
-      | inl none ↦ (let long = facts.header in omega arith)
-      | inr there ↦ (let table = facts.section_table there in let some = facts.some there in omega arith)
-    ]
-
-pub sections_there : (b : List ℕ) (h : Ehdr) → h ≡ header b → IsFault b None → shdr_offset h (section_count h (sections b h 0)) ≤ length b
-sections_there b h same clean =
-    let facts = clean_at b h same clean in
-    elim (cases_eq h.e_shoff 0) [
-      | inl none ↦ (let zero_count : section_count h (sections b h 0) ≡ 0 = rw none refl in let long = facts.header in omega arith)
-      | inr there ↦ facts.section_table there
-    ]
-
-pub segments_there : (b : List ℕ) (h : Ehdr) → h ≡ header b → IsFault b None → 0 < segment_count h (sections b h 0) →
-    phdr_offset h (segment_count h (sections b h 0)) ≤ length b
-segments_there b h same clean some = (clean_at b h same clean).program_table some
 
 -- the value that these tables, contents and parts make
 abbrev pub made : List ℕ → Ehdr → List Shdr → List Phdr → List (List ℕ) → List Part → ImageValue
@@ -75,19 +49,47 @@ tables_within b h ss gs tables clean =
     within_of (made b h ss gs cs []) (counted_by_reads (made b h ss gs cs []) b (made_reads b h ss gs cs [] tables refl) clean)
 
 -- the tables are short enough for their sizes to be numbers of 64 bits
-pub sections_short : (b : List ℕ) (h : Ehdr) (ss : List Shdr) (gs : List Phdr) → AreTables b h ss gs → IsFault b None → 64 * length ss ≤ length b
-sections_short b h ss gs tables clean =
-    let there = sections_there b h tables.header clean in
+pub sections_short : (b : List ℕ) (h : Ehdr) (ss : List Shdr) (gs : List Phdr) → AreTables b h ss gs → KeepsRecordRules b → 64 * length ss ≤ length b
+sections_short b h ss gs tables kept =
+    let there = sections_there b h (sound_file b h tables.header kept) in
     let count : length ss ≡ section_count h (sections b h 0) = ap length tables.section_headers ∙ length-map-range_with_len (sections b h) 0 _ in
     omega arith
 
-pub segments_short : (b : List ℕ) (h : Ehdr) (ss : List Shdr) (gs : List Phdr) → AreTables b h ss gs → IsFault b None → 56 * length gs ≤ length b
-segments_short b h ss gs tables clean =
+pub segments_short : (b : List ℕ) (h : Ehdr) (ss : List Shdr) (gs : List Phdr) → AreTables b h ss gs → KeepsRecordRules b → 56 * length gs ≤ length b
+segments_short b h ss gs tables kept =
     let count : length gs ≡ segment_count h (sections b h 0) = ap length tables.program_headers ∙ length-map-range_with_len (segments b h) 0 _ in
     elim (cases_eq (segment_count h (sections b h 0)) 0) [
       | inl none ↦ omega arith
-      | inr some ↦ (let there = segments_there b h tables.header clean (omega arith) in omega arith)
+      | inr some ↦ (let there = (sound_file b h tables.header kept).program_table (omega arith) in omega arith)
     ]
+
+pub file_short : (b : List ℕ) → KeepsRecordRules b → length b ≤ 2 ^ 30
+file_short b kept = (sound_file b (header b) refl kept).short
+
+-- the extents of the tables that were read are those of the file
+map_composed : {A B C : Type 0} (f : A → B) (g : B → C) (xs : List A) → map g (map f xs) ≡ map (λ x. g (f x)) xs
+map_composed f g [] = refl
+map_composed f g (x ∷ xs) = ap (λ (ys : List _). g (f x) ∷ ys) (map_composed f g xs)
+
+pub extents_read : (b : List ℕ) (h : Ehdr) (ss : List Shdr) (gs : List Phdr) → AreTables b h ss gs → value_extents h ss gs ≡ extents_of_file b
+unfolding extents
+extents_read b h ss gs tables =
+    let n = section_count h (sections b h 0) in
+    let m = segment_count h (sections b h 0) in
+    let sections_e : length ss ≡ n = ap length tables.section_headers ∙ length-map-range_with_len (sections b h) 0 n in
+    let segments_e : length gs ≡ m = ap length tables.program_headers ∙ length-map-range_with_len (segments b h) 0 m in
+    let contents_e : map content_extent ss ≡ contents n (sections b h) =
+    ap (map content_extent) tables.section_headers ∙ map_composed (sections b h) content_extent (range_with_len 0 n) in
+    let of_header : value_extents h ss gs ≡ extents h n m (sections b h) =
+    ap (λ (cs : List Extent). record { start = 0; len = 64 } ∷ record { start = h.e_shoff; len = 64 * length ss } ∷ record { start = h.e_phoff; len = 56 * length gs } ∷ cs) contents_e
+    ∙ ap₂ (λ (k l : ℕ). record { start = 0; len = 64 } ∷ record { start = h.e_shoff; len = 64 * k } ∷ record { start = h.e_phoff; len = 56 * l } ∷ contents n (sections b h)) sections_e segments_e in
+    of_header ∙ ap (λ (k : Ehdr). extents k (section_count k (sections b k 0)) (segment_count k (sections b k 0)) (sections b k)) tables.header
+
+-- the lowest byte in two of them is the file's fault
+pub found_is_fault : (b : List ℕ) (h : Ehdr) (ss : List Shdr) (gs : List Phdr) (es : List Extent) (found : Option ℕ) → AreTables b h ss gs →
+    es ≡ value_extents h ss gs → KeepsRecordRules b → IsLowest (Doubly es) found → IsFault b (shared_fault found)
+found_is_fault b h ss gs es found tables same kept lowest =
+    fault_of_extents b found kept (subst (λ (xs : List Extent). IsLowest (Doubly xs) found) (same ∙ extents_read b h ss gs tables) lowest)
 
 pieces_of : (b : List ℕ) (ps : List Part) → map piece_of (map (placed false b) ps) ≡ map part_piece ps
 pieces_of b [] = refl

@@ -1,32 +1,18 @@
 -- A sound image value stands as its joined parts.
-use Rattle.std.proofs.Common.{◌≡◌, ◌≢◌, ◌≤◌, ◌<◌, ◌+◌, ◌*◌, ◌⊎◌, ℕ, zero, suc, Bool, true, false, cond, Option, None, Some, List, [], ◌∷◌, ◌++◌, length, take, drop, map, get_or, refl, sym, ap, ap₂, subst, ◌∙◌, inl, inr, arith, add-one}
-use Rattle.std.specs.Prelude.{slice_get, unwrap_or, ◌==◌, ◌||◌}
-use Rattle.std.specs.List.{AllByRecursion, flat_map, range_with_len}
-use Rattle.std.proofs.lemmas.Bool.{cases_eq, cases_lt, ne_eqb}
-use Rattle.std.proofs.lemmas.List.{nil_from_length}
+use Rattle.std.proofs.Common.{◌≡◌, ◌≢◌, ◌≤◌, ◌<◌, ◌+◌, ◌*◌, ℕ, zero, suc, None, Some, List, [], ◌∷◌, length, map, get_or, refl, sym, ap, subst, ◌∙◌, arith}
+use Rattle.std.specs.Prelude.{slice_get}
+use Rattle.std.specs.List.{AllByRecursion, range_with_len}
 use Rattle.elf_field.specs.declared.ehdr.Ehdr.{Ehdr}
 use Rattle.elf_field.specs.declared.shdr.Shdr.{Shdr}
 use Rattle.elf_field.specs.declared.phdr.Phdr.{Phdr}
-use Rattle.elf_field.specs.Ehdr.{ehdr_bytes}
-use Rattle.elf_field.specs.Shdr.{shdr_bytes}
-use Rattle.elf_field.specs.Phdr.{phdr_bytes}
-use Rattle.elf_field.specs.EhdrLaws.{ehdr_laws}
-use Rattle.elf_field.specs.ShdrLaws.{shdr_laws}
-use Rattle.elf_field.specs.PhdrLaws.{phdr_laws}
 use Rattle.elf_extent.specs.declared.extent.Extent.{Extent}
-use Rattle.elf_extent.specs.declared.extent.Piece.{Piece}
-use Rattle.elf_extent.specs.Account.{Accounts, IsOwned}
-use Rattle.elf_extent.specs.Extent.{AreDisjoint, AreWithin, Doubly, HasAt}
-use Rattle.elf_extent.proofs.AccountLaws.{piece_of_extent}
-use Rattle.elf_rules.specs.Tables.{content_extent, order_of, section_count, segment_count}
+use Rattle.elf_extent.specs.Extent.{AreDisjoint, AreWithin}
+use Rattle.elf_rules.specs.Tables.{content_extent, section_count, segment_count}
 use Rattle.elf_rules.specs.OverlapRule.{extents}
 use Rattle.elf_rules.specs.Rows.{IsFaultOf}
-use Rattle.elf_image.specs.declared.part.Owner.{Owner}
-use Rattle.elf_image.specs.declared.part.Owner.TheVariants.{Header, ProgramTable, SectionTable, Content, Gap}
-use Rattle.elf_image.specs.Image.{ImageValue, IsSound, PlacedPart, value_rows, if_gap, index_of, joined, no_section, owned_bytes, part_bytes, piece_of, section_of, segment_of, value_extents, value_names}
-use Rattle.elf_image.proofs.Clean.{IsClean, is_clean}
-use Rattle.elf_image.proofs.Joins.{HaveLengths, in_flat_parts, length-flat_parts}
-use Rattle.elf_image.proofs.Tables.{length-table}
+use Rattle.elf_rules.specs.SoundTables.{HasSoundTables}
+use Rattle.elf_rules.proofs.Clean.{clean_records, content_some, extents_disjoint, sound_tables}
+use Rattle.elf_image.specs.Image.{ImageValue, IsSound, value_rows, no_section, section_of, segment_of, value_extents, value_names}
 
 -- ---- lists by index
 
@@ -75,17 +61,6 @@ extents_are h ss gs n m sections segments =
     (ap (λ (cs : List Extent). record { start = 0; len = 64 } ∷ record { start = h.e_shoff; len = 64 * length ss } ∷ record { start = h.e_phoff; len = 56 * length gs } ∷ cs)
     (map_by_index content_extent ss no_section)))
 
--- what a content that is not empty says of its section
-pub content_some : (s : Shdr) → 0 < (content_extent s).len → (s.sh_type ≢ 0) × (s.sh_type ≢ 8) × ((content_extent s).len ≡ s.sh_size)
-content_some s some =
-    elim (cases_eq s.sh_type 0) [
-      | inl null ↦ absurd (let h = rw null at some in omega arith)
-      | inr other ↦ elim (cases_eq s.sh_type 8) [
-        | inl nobits ↦ absurd (let h = rw nobits at some in omega arith)
-        | inr bits ↦ (other, bits, rw (ne_eqb s.sh_type 0 other, ne_eqb s.sh_type 8 bits) refl)
-      ]
-    ]
-
 -- a value whose records are as many as it says, and that breaks no rule
 pub record IsCounted (v : ImageValue) : Type 0 where
   pub section_count : length v.sections ≡ section_count v.header (section_of v.sections 0)
@@ -96,22 +71,17 @@ pub counted_of : (v : ImageValue) → IsSound v → IsCounted v
 counted_of v sound = record { section_count = sound.section_count; segment_count = sound.segment_count; clean = sound.clean }
 
 -- what is known of a counted value from the rules that it keeps
-pub clean_of : (v : ImageValue) → IsCounted v → IsClean v.len v.header (section_of v.sections) (segment_of v.segments)
-clean_of v counted = is_clean v.len v.header (section_of v.sections) (segment_of v.segments) (value_names v.header v.sections v.contents) counted.clean
-
--- extents with no doubly held byte are disjoint
-apart_of : (es : List Extent) → ((x : ℕ) → Doubly es x → ⊥) → AreDisjoint es
-apart_of es apart i j x p q =
-    elim (cases_lt i j) [
-      | inl lt ↦ absurd (apart x (i, j, lt, p, q))
-      | inr ge ↦ elim (cases_lt j i) [ inl lt ↦ absurd (apart x (j, i, lt, q, p)) | inr le ↦ omega arith ]
-    ]
+pub clean_of : (v : ImageValue) → IsCounted v → HasSoundTables v.len v.header (section_of v.sections)
+clean_of v counted =
+    let names = value_names v.header v.sections v.contents in
+    sound_tables v.len v.header (section_of v.sections) (segment_of v.segments) names
+    (clean_records v.len v.header (section_of v.sections) (segment_of v.segments) names counted.clean)
 
 pub disjoint_of : (v : ImageValue) → IsCounted v → AreDisjoint (value_extents v.header v.sections v.segments)
 disjoint_of v counted =
     let same = extents_are v.header v.sections v.segments _ _ counted.section_count counted.segment_count in
-    let es = extents v.header (section_count v.header (section_of v.sections 0)) (segment_count v.header (section_of v.sections 0)) (section_of v.sections) in
-    subst AreDisjoint same (apart_of es (clean_of v counted).apart)
+    subst AreDisjoint same
+    (extents_disjoint v.len v.header (section_of v.sections) (segment_of v.segments) (value_names v.header v.sections v.contents) counted.clean)
 
 -- a section table that is not empty is there
 pub table_there : (v : ImageValue) → IsCounted v → 0 < length v.sections → v.header.e_shoff ≢ 0
@@ -125,7 +95,7 @@ pub content_within : (v : ImageValue) → IsCounted v → (k : ℕ) (s : Shdr) �
     s.sh_offset + (content_extent s).len ≤ v.len
 content_within v counted zero s at some =
     let is_first : section_of v.sections 0 ≡ s = get_or_at v.sections 0 s no_section at in
-    let null : s.sh_type ≡ 0 = ap (λ (t : Shdr). t.sh_type) (sym is_first) ∙ (clean_of v counted).first (table_there v counted (within_list v.sections 0 s at)) in
+    let null : s.sh_type ≡ 0 = ap (λ (t : Shdr). t.sh_type) (sym is_first) ∙ (clean_of v counted).null (table_there v counted (within_list v.sections 0 s at)) in
     absurd ((content_some s some).0 null)
 content_within v counted (suc k) s at some =
     let is : section_of v.sections (suc k) ≡ s = get_or_at v.sections (suc k) s no_section at in
@@ -138,7 +108,7 @@ content_within v counted (suc k) s at some =
 -- each extent of the value lies in the file
 pub within_of : (v : ImageValue) → IsCounted v → AreWithin (value_extents v.header v.sections v.segments) v.len
 within_of v counted i e here some = by_index i here where
-  clean : IsClean v.len v.header (section_of v.sections) (segment_of v.segments)
+  clean : HasSoundTables v.len v.header (section_of v.sections)
   clean = clean_of v counted
 
   in_table : 0 < length v.sections → v.header.e_shoff + 64 * length v.sections ≤ v.len

@@ -1,11 +1,10 @@
 -- A sound image value stands as its joined parts, without fault.
-use Rattle.std.proofs.Common.{◌≡◌, ◌≢◌, ◌≤◌, ◌<◌, ◌+◌, ◌*◌, ◌⊎◌, ℕ, zero, suc, Option, None, Some, List, [], ◌∷◌, ◌++◌, length, take, drop, map, get_or, refl, sym, ap, ap₂, subst, ◌∙◌, inl, inr, arith, add-zero, lit<, lit≤}
-use Rattle.std.specs.Prelude.{slice_get, ◌==◌, if◌then◌else◌}
+use Rattle.std.proofs.Common.{◌≡◌, ◌≢◌, ◌<◌, ◌*◌, ◌⊎◌, ℕ, zero, suc, Some, List, [], ◌∷◌, length, take, drop, map, get_or, refl, sym, ap, ap₂, ◌∙◌, inl, inr, arith, add-zero, lit≤}
+use Rattle.std.specs.Prelude.{slice_get}
 use Rattle.std.specs.List.{AllByRecursion, flat_map, range_with_len}
-use Rattle.std.proofs.lemmas.Bool.{cases_eq, cases_lt, ne_eqb}
+use Rattle.std.proofs.lemmas.Bool.{cases_eq}
 use Rattle.std.proofs.lemmas.List.{nil_from_length, take-take, take_at}
 use Rattle.std.proofs.lemmas.List.FromFn.{get_or-map-range_with_len}
-use Rattle.elf_field.specs.declared.order.Order.{Order}
 use Rattle.elf_field.specs.declared.ehdr.Ehdr.{Ehdr}
 use Rattle.elf_field.specs.declared.shdr.Shdr.{Shdr}
 use Rattle.elf_field.specs.declared.phdr.Phdr.{Phdr}
@@ -20,17 +19,13 @@ use Rattle.elf_field.specs.EhdrLaws.{ehdr_laws}
 use Rattle.elf_field.specs.ShdrLaws.{shdr_laws}
 use Rattle.elf_field.specs.PhdrLaws.{phdr_laws}
 use Rattle.elf_extent.specs.declared.extent.Extent.{Extent}
-use Rattle.elf_rules.specs.Rows.{IsFaultOf}
-use Rattle.elf_rules.specs.ImageRules.{image_rows, rows}
-use Rattle.elf_rules.specs.Tables.{bytes_in, content_extent, header, name_table, names, names_at, order_of, section_count, sections, segment_count, segments}
+use Rattle.elf_rules.specs.Tables.{bytes_in, content_extent, header, order_of, section_count, sections, segment_count, segments}
 use Rattle.elf_image.specs.declared.part.Owner.{Owner}
 use Rattle.elf_image.specs.declared.part.Owner.TheVariants.{Header, ProgramTable, SectionTable, Content, Gap}
-use Rattle.elf_image.specs.declared.part.Part.{Part}
-use Rattle.elf_image.specs.Image.{ImageValue, IsImage, IsSound, PlacedPart, Stands, gap_in, gap_len, if_gap, joined, no_section, no_segment, owned_bytes, part_bytes, section_of, segment_of, value_names}
-use Rattle.elf_image.proofs.Clean.{IsClean}
+use Rattle.elf_image.specs.Image.{ImageValue, IsSound, PlacedPart, Stands, gap_in, gap_len, if_gap, joined, no_section, owned_bytes, part_bytes, section_of}
 use Rattle.elf_image.proofs.Holds.{holds_content, holds_header, holds_sections, holds_segments, in_joined, length-joined}
-use Rattle.elf_image.proofs.Same.{Agree, same_clean, same_name_table, same_section_count, same_segment_count}
-use Rattle.elf_image.proofs.Standing.{IsCounted, clean_of, content_within, counted_of, get_or_at}
+use Rattle.elf_rules.proofs.Same.{same_section_count, same_segment_count}
+use Rattle.elf_image.proofs.Standing.{clean_of, counted_of}
 use Rattle.elf_image.proofs.Tables.{IsBytes-table, entries_read, record_read}
 
 -- ---- the joined parts are bytes

@@ -1,18 +1,16 @@
 -- An image value that is sound by itself stands as just one byte list, that list breaks no rule, and what stands as a
 -- byte list without fault is sound.
-use Rattle.std.proofs.Common.{◌≡◌, ◌≢◌, ◌≤◌, ◌<◌, ◌+◌, ◌*◌, ◌⊎◌, ℕ, zero, suc, Option, None, Some, List, [], ◌∷◌, ◌++◌, length, take, drop, map, get_or, refl, sym, ap, ap₂, subst, ◌∙◌, inl, inr, arith, add-zero, length-drop}
-use Rattle.std.specs.Prelude.{slice_get, ◌==◌}
+use Rattle.std.proofs.Common.{◌≡◌, ◌≢◌, ◌≤◌, ◌<◌, ◌+◌, ◌*◌, ◌⊎◌, ℕ, zero, suc, None, Some, List, [], ◌∷◌, length, take, drop, map, get_or, refl, sym, ap, ap₂, subst, ◌∙◌, inl, inr, arith, add-zero, length-drop}
+use Rattle.std.specs.Prelude.{slice_get}
 use Rattle.std.specs.List.{AllByRecursion, flat_map, range_with_len}
 use Rattle.std.proofs.lemmas.Bool.{cases_eq, cases_lt, ne_eqb}
-use Rattle.std.proofs.lemmas.List.{length-take-le, nil_from_length}
+use Rattle.std.proofs.lemmas.List.{length-take-le}
 use Rattle.std.proofs.lemmas.List.FromFn.{length-map-range_with_len}
-use Rattle.elf_field.specs.declared.order.Order.{Order}
 use Rattle.elf_field.specs.declared.ehdr.Ehdr.{Ehdr}
 use Rattle.elf_field.specs.declared.shdr.Shdr.{Shdr}
-use Rattle.elf_field.specs.declared.phdr.Phdr.{Phdr}
 use Rattle.elf_field.specs.Bytes.{IsBytes}
 use Rattle.elf_field.specs.BytesLaws.{IsBytes-drop, IsBytes-nil, IsBytes-take, first_bytes-take}
-use Rattle.elf_field.specs.Ehdr.{IsEhdr, ehdr_at, ehdr_bytes}
+use Rattle.elf_field.specs.Ehdr.{IsEhdr, ehdr_bytes}
 use Rattle.elf_field.specs.Shdr.{IsShdr, shdr_bytes}
 use Rattle.elf_field.specs.Phdr.{IsPhdr, phdr_bytes}
 use Rattle.elf_field.specs.EhdrLaws.{ehdr_laws}
@@ -26,12 +24,11 @@ use Rattle.elf_rules.specs.ImageRules.{image_rows, rows}
 use Rattle.elf_rules.specs.Tables.{bytes_in, content_extent, header, name_table, names, names_at, order_of, section_count, sections, segment_count, segments}
 use Rattle.elf_image.specs.declared.part.Owner.{Owner}
 use Rattle.elf_image.specs.declared.part.Owner.TheVariants.{Header, ProgramTable, SectionTable, Content, Gap}
-use Rattle.elf_image.specs.declared.part.Part.{Part}
 use Rattle.elf_image.specs.Image.{ImageValue, IsImage, IsSound, PlacedPart, Stands, gap_in, gap_len, if_gap, index_of, joined, no_section, no_segment, owned_bytes, part_bytes, piece_of, section_of, segment_of, value_extents, value_names, value_rows}
-use Rattle.elf_image.proofs.Clean.{IsClean, is_clean}
+use Rattle.elf_rules.proofs.Clean.{clean_records, sound_tables}
 use Rattle.elf_image.proofs.Holds as holds
 use Rattle.elf_image.proofs.Joins.{HaveLengths, flat_parts_are}
-use Rattle.elf_image.proofs.Same.{Agree, same_clean, same_name_table, same_section_count, same_segment_count}
+use Rattle.elf_rules.proofs.Same.{Agree, same_clean, same_name_table, same_section_count, same_segment_count}
 use Rattle.elf_image.proofs.Standing.{IsCounted, clean_of, content_within, counted_of, table_there}
 use Rattle.elf_image.proofs.Stands.{content_is, entry_at, joined_stands}
 use Rattle.elf_image.proofs.Tables.{entries_bytes, entries_fit, record_bytes}
@@ -158,7 +155,8 @@ rows_at_value v b stands clean =
 -- what is shared, from a clean byte list
 shared_by_reads : (v : ImageValue) (b : List ℕ) → Reads v b → IsFaultOf (rows b) None → IsShared v b
 shared_by_reads v b stands clean =
-    let facts = is_clean v.len v.header (sections b v.header) (segments b v.header) (names b v.header) (rows_at_value v b stands clean) in
+    let facts = sound_tables v.len v.header (sections b v.header) (segments b v.header) (names b v.header)
+    (clean_records v.len v.header (sections b v.header) (segments b v.header) (names b v.header) (rows_at_value v b stands clean)) in
     let n = section_count v.header (sections b v.header 0) in
     let count : length v.sections ≡ n = ap length stands.section_headers ∙ length-map-range_with_len (sections b v.header) 0 n in
     let some : v.header.e_shoff ≢ 0 → 0 < length v.sections = λ there. let lt = facts.some there in omega arith in

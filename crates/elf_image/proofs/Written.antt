@@ -1,13 +1,12 @@
 -- Bytes that go out piece by piece, and the number of those that are out when a piece fails.
-use Rattle.std.proofs.Common.{◌≡◌, ◌≤◌, ◌<◌, ◌+◌, ◌*◌, ℕ, zero, suc, Bool, Option, List, [], ◌∷◌, ◌++◌, length, take, drop, map, get_or, refl, sym, ap, ap₂, subst, ◌∙◌, arith, length-append, length-drop, inl, inr, lit<, ◌^◌}
-use Rattle.std.specs.Prelude.{replicate, ◌-◌}
-use Rattle.std.specs.List.{AllByRecursion, flat_map}
+use Rattle.std.proofs.Common.{◌≡◌, ◌≤◌, ◌<◌, ◌+◌, ◌*◌, ℕ, zero, suc, Bool, Option, List, [], ◌∷◌, ◌++◌, length, take, drop, map, get_or, sym, ap, ap₂, subst, ◌∙◌, arith, length-append, length-drop, ◌^◌}
+use Rattle.std.specs.Prelude.{replicate}
+use Rattle.std.specs.List.{flat_map}
 use Rattle.std.specs.Io.KnownBytes.{Appends}
 use Rattle.std.proofs.KnownBytes.{Appends-trans}
 use Rattle.std.proofs.Common.{mul-le-mul_left}
 use Rattle.std.proofs.Math.Nat.{mul-add, mul-one}
 use Rattle.std.proofs.Math.Seq.{take-add}
-use Rattle.std.proofs.lemmas.Bool.{cases_lt}
 use Rattle.std.proofs.lemmas.Grind.{flat_map-append}
 use Rattle.std.proofs.lemmas.List.{append-nil, drop_at, length-replicate, length-take-le, replicate-append-replicate, take-append-drop, take-append-le, take-replicate, take_at, take_more}
 use Rattle.std.proofs.lemmas.List.Folds.{flat_map-map}
@@ -16,12 +15,11 @@ use borrow.Rule.Slice.PartMut.{put_mid}
 use Rattle.elf_extent.specs.declared.extent.Extent.{Extent}
 use Rattle.elf_extent.specs.Account.{Accounts}
 use Rattle.elf_image.specs.declared.part.Part.{Part}
-use Rattle.elf_rules.specs.HeaderRules.{length_rows}
-use Rattle.elf_rules.specs.ImageRules.{image_rows}
 use Rattle.elf_image.specs.Image.{ImageValue, IsSound, PlacedPart, joined, part_bytes, piece_of}
 use Rattle.elf_image.specs.Outline.{OutlineValue, image_of, placed}
 use Rattle.elf_image.proofs.Holds.{length-joined}
 use Rattle.elf_image.proofs.Joins.{HaveLengths}
+use Rattle.elf_image.proofs.Standing.{clean_of, counted_of}
 use Rattle.elf_image.proofs.Theorem.{lengths_of}
 
 -- a piece failed behind bytes that are out
@@ -129,11 +127,7 @@ part_at f z file es total at (p ∷ ps) (suc k) d accounts lengths within =
 
 -- an image is not longer than a file may be
 not_long : (v : ImageValue) → IsSound v → v.len ≤ 2 ^ 30
-unfolding image_rows length_rows
-not_long v sound = elim (cases_lt (2 ^ 30) v.len) [
-  | inl long ↦ absurd (sound.clean 1 _ (lit< tt) (long, refl))
-  | inr short ↦ short
-]
+not_long v sound = (clean_of v (counted_of v sound)).short
 
 -- ---- the parts of an image
 

@@ -1,8 +1,7 @@
 -- An image: a file as a value, and the byte list that it stands as.
 -- (gABI chapter 4, ELF Header, Sections; chapter 5, Program Header.)
-use Rattle.std.specs.Prelude.{◌≡◌, ℕ, suc, ◌*◌, ◌==◌, if◌then◌else◌, List, [], ◌∷◌, ◌++◌, length, map, get_or, take, drop, Option, None, Some}
+use Rattle.std.specs.Prelude.{◌≡◌, ℕ, suc, ◌*◌, ◌==◌, if◌then◌else◌, List, [], ◌∷◌, length, map, get_or, take, drop, Option, None, Some}
 use Rattle.std.specs.List.{AllByRecursion, flat_map, range_with_len}
-use Rattle.elf_field.specs.declared.order.Order.{Order}
 use Rattle.elf_field.specs.declared.ehdr.Ehdr.{Ehdr}
 use Rattle.elf_field.specs.declared.shdr.Shdr.{Shdr}
 use Rattle.elf_field.specs.declared.phdr.Phdr.{Phdr}

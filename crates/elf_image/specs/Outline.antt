@@ -1,10 +1,10 @@
 -- An outline: the records and the parts of a file, without contents, and the image that it is of, with them.
-use Rattle.std.specs.Prelude.{ℕ, ◌==◌, Bool, false, if◌then◌else◌, List, map, replicate}
+use Rattle.std.specs.Prelude.{ℕ, Bool, false, if◌then◌else◌, List, map, replicate}
 use Rattle.elf_field.specs.declared.ehdr.Ehdr.{Ehdr}
 use Rattle.elf_field.specs.declared.shdr.Shdr.{Shdr}
 use Rattle.elf_field.specs.declared.phdr.Phdr.{Phdr}
 use Rattle.elf_image.specs.declared.part.Part.{Part}
-use Rattle.elf_image.specs.Image.{ImageValue, PlacedPart, gap_in, gap_len, section_of}
+use Rattle.elf_image.specs.Image.{ImageValue, PlacedPart, gap_in, gap_len}
 
 pub record OutlineValue : Type 0 where
   pub len : ℕ

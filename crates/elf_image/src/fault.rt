@@ -1,6 +1,8 @@
 //! What can stop a call that reads, judges or writes a file.
 ghost use Rattle.std.specs.Prelude.{◌≡◌, ◌+◌, ◌^◌, ◌<◌};
 
+use elf_extent::OutOfMemory;
+use elf_rules::Broken;
 use std::alloc::{AllocError, AllocFailed};
 
 /// Why there is no answer from a file's bytes.
@@ -30,6 +32,29 @@ impl<T: Drop> From<AllocFailed<T>> for Fault {
     ghost from_gives = { λ _ fault. fault ≡ OutOfMemory };
 
     fn from(_refused: AllocFailed<T>) -> Fault {
+        Fault::OutOfMemory
+    }
+}
+
+impl From<Broken> for Fault {
+    ghost use Rattle.elf_image.specs.declared.fault.Fault.TheVariants.{Rule};
+
+    ghost from_gives = { λ broken fault. fault ≡ Rule broken.rule broken.at };
+
+    fn from(broken: Broken) -> Fault {
+        Fault::Rule {
+            rule: broken.rule,
+            at: broken.at,
+        }
+    }
+}
+
+impl From<OutOfMemory> for Fault {
+    ghost use Rattle.elf_image.specs.declared.fault.Fault.TheVariants.{OutOfMemory};
+
+    ghost from_gives = { λ _ fault. fault ≡ OutOfMemory };
+
+    fn from(_refused: OutOfMemory) -> Fault {
         Fault::OutOfMemory
     }
 }

@@ -2,7 +2,8 @@
 ghost use Rattle.std.specs.Prelude.{◌≡◌, ◌+◌, ◌*◌, ◌<◌, ◌≤◌, ◌^◌, IfErr, IfOk, length, map};
 ghost use Rattle.std.specs.List.{range_with_len};
 ghost use Rattle.elf_extent.specs.Account.{Accounts};
-ghost use Rattle.elf_rules.specs.ImageRules.{IsFault};
+ghost use Rattle.elf_extent.specs.Extent.{AreDisjoint, AreWithin};
+ghost use Rattle.elf_rules.specs.ImageRules.{IsFault, KeepsRecordRules};
 ghost use Rattle.elf_rules.specs.Tables.{bytes_in, content_extent, phdr_offset, sections, segments, shdr_offset};
 ghost use Rattle.elf_image.specs.Image.{IsImage, index_of, value_extents};
 ghost use Rattle.elf_image.specs.Parsing.{AreTables, IsParseFault, part_piece};
@@ -11,26 +12,34 @@ use crate::fault::Fault;
 use crate::image::Image;
 use crate::outline::Outline;
 use crate::part::{Owner, Part};
-use elf_extent::{Extent, OutOfMemory, Piece, account};
+use elf_extent::{Extent, OutOfMemory, Piece, account, first_double};
 use elf_field::{Ehdr, Phdr, Shdr};
 use elf_rules::content::{content_of, extent_of_content};
+use elf_rules::judge_records;
+use elf_rules::rules::SHARED_BYTE;
 use elf_rules::tables::{header_of, section_at, section_count_of, segment_at, segment_count_of};
-use elf_rules::verdict;
 use std::alloc::{AllocError, Global};
 
 /// The image that these bytes are: an ELF-64 file that breaks no rule, its tables copied once and
 /// its names and contents borrowed for as long as the bytes live.
 ///
 /// [`Fault::Rule`] is the first of rules 1 to 33 that the bytes break, at the lowest offset where
-/// they break it. [`Fault::OutOfMemory`] comes only where they break none, and [`Fault::Io`] never.
+/// they break it. [`Fault::OutOfMemory`] comes only where they keep rules 1 to 32: the extents are
+/// sorted for rule 33, which takes memory. [`Fault::Io`] never comes.
 pub fn parse<'a>(alloc: Global, bytes: &'a [u8]) -> Result<Image<'a>, Fault>
     ensures ok { IfOk result (λ image. IsImage image bytes.entry.now) }
     ensures err { IfErr result (λ fault. IsParseFault bytes.entry.now fault) }
 {
-    if let Some((rule, at)) = verdict(bytes) {
-        return Err(Fault::Rule { rule, at });
+    judge_records(bytes)?;
+    let tables = read_tables(alloc, bytes)?;
+    let extents = extents_of(alloc, &tables.header, &tables.sections, &tables.segments)?;
+    if let Some(at) = first_double(alloc, &extents)? {
+        return Err(Fault::Rule {
+            rule: SHARED_BYTE,
+            at,
+        });
     }
-    match build(alloc, bytes) {
+    match build(alloc, bytes, tables, &extents) {
         Ok(image) => Ok(image),
         Err(_) => Err(Fault::OutOfMemory),
     }
@@ -44,25 +53,32 @@ struct Tables {
     segments: Vec<Phdr>,
 }
 
-/// The image of bytes that break no rule.
-fn build<'a>(alloc: Global, bytes: &'a [u8]) -> Result<Image<'a>, AllocError>
-    requires { IsFault bytes.now None }
+/// The image of bytes that break no rule, with these tables and extents.
+fn build<'a>(
+    alloc: Global,
+    bytes: &'a [u8],
+    tables: Tables,
+    extents: &[Extent],
+) -> Result<Image<'a>, AllocError>
+    requires clean { IsFault bytes.now None }
+    requires tables { AreTables bytes.now tables.header tables.sections.items tables.segments.items }
+    requires extents { extents.now ≡ value_extents tables.header tables.sections.items tables.segments.items }
     ensures { IfOk result (λ image. IsImage image bytes.entry.now) }
 {
-    let tables = read_tables(alloc, bytes)?;
-    let contents = contents_of(alloc, bytes, &tables.sections)?;
-    let parts = account_parts(alloc, bytes, &tables)?;
     let Tables {
         header,
         sections,
         segments,
     } = tables;
+    let contents = contents_of(alloc, bytes, &sections)?;
+    let parts = account_parts(alloc, extents, bytes.len() as u64)?;
     let outline = Outline::new(bytes.len() as u64, header, sections, segments, parts);
     Ok(Image::new(outline, bytes, contents))
 }
 
+/// The tables of a file that keeps rules 1 to 32.
 fn read_tables(alloc: Global, bytes: &[u8]) -> Result<Tables, AllocError>
-    requires { IsFault bytes.now None }
+    requires { KeepsRecordRules bytes.now }
     ensures { IfOk result (λ t. AreTables bytes.now t.header t.sections.items t.segments.items) }
 {
     let header = header_of(bytes);
@@ -76,16 +92,13 @@ fn read_tables(alloc: Global, bytes: &[u8]) -> Result<Tables, AllocError>
     })
 }
 
-/// The parts of a file with these tables.
-fn account_parts(alloc: Global, bytes: &[u8], tables: &Tables) -> Result<Vec<Part>, AllocError>
-    requires clean { IsFault bytes.now None }
-    requires tables { AreTables bytes.now tables.now.header tables.now.sections.items tables.now.segments.items }
-    ensures { IfOk result (λ parts. Accounts
-        (value_extents tables.now.header tables.now.sections.items tables.now.segments.items)
-        (length bytes.now) 0 (map part_piece parts.items)) }
+/// The parts of a file of `len` bytes with these extents.
+fn account_parts(alloc: Global, extents: &[Extent], len: u64) -> Result<Vec<Part>, AllocError>
+    requires disjoint { AreDisjoint extents.now }
+    requires within { AreWithin extents.now len }
+    ensures { IfOk result (λ parts. Accounts extents.now len 0 (map part_piece parts.items)) }
 {
-    let extents = extents_of(alloc, &tables.header, &tables.sections, &tables.segments)?;
-    match account(alloc, &extents, bytes.len() as u64) {
+    match account(alloc, extents, len) {
         Ok(pieces) => parts_of(alloc, &pieces),
         Err(OutOfMemory) => Err(AllocError),
     }

@@ -1,7 +1,6 @@
--- What holds of a file, or of an image by itself, that breaks no rule.
-use Rattle.std.proofs.Common.{◌≡◌, ◌≢◌, ℕ, Bool, true, false, zero, suc, ◌+◌, ◌-◌, ◌*◌, ◌^◌, ◌<◌, ◌≤◌, ◌⊎◌, inl, inr, None, Some, List, refl, sym, ◌∙◌, ap, ap₂, subst, lit<, arith}
-use Rattle.std.specs.Prelude.{◌==◌, ◌||◌, if◌then◌else◌}
-use Rattle.std.proofs.lemmas.Bool.{cases_lt, eq-eqb, eqb-true}
+-- What holds of a file, or of an image by itself, that keeps rules 1 to 32, and of one that breaks no rule.
+use Rattle.std.proofs.Common.{◌≡◌, ◌≢◌, ℕ, zero, suc, ◌+◌, ◌-◌, ◌*◌, ◌^◌, ◌<◌, ◌≤◌, ◌⊎◌, inl, inr, None, Some, List, length, refl, sym, ◌∙◌, ap, subst, lit<, arith}
+use Rattle.std.proofs.lemmas.Bool.{cases_eq, cases_lt, ne_eqb}
 use Rattle.std.proofs.lemmas.Option.{slice_get_within}
 use Rattle.elf_field.specs.declared.ehdr.Ehdr.{Ehdr}
 use Rattle.elf_field.specs.declared.shdr.Shdr.{Shdr}
@@ -9,62 +8,75 @@ use Rattle.elf_field.specs.declared.phdr.Phdr.{Phdr}
 use Rattle.elf_extent.specs.declared.extent.Extent.{Extent}
 use Rattle.elf_extent.specs.Extent.{AreDisjoint, AreWithin}
 use Rattle.elf_rules.specs.Rows.{IsFaultOf}
-use Rattle.elf_rules.specs.HeaderRules.{length_rows, ident_rows, header_rows}
+use Rattle.elf_rules.specs.HeaderRules.{header_rows, ident_rows, length_rows}
 use Rattle.elf_rules.specs.SectionTableRules.{section_table_rows}
 use Rattle.elf_rules.specs.ProgramTableRules.{program_table_rows}
 use Rattle.elf_rules.specs.SectionRules.{section_rows}
 use Rattle.elf_rules.specs.SegmentRules.{segment_rows}
 use Rattle.elf_rules.specs.NameRules.{name_rows}
 use Rattle.elf_rules.specs.OverlapRule.{extents}
-use Rattle.elf_rules.specs.ImageRules.{entry_rows, table_rows, image_rows}
-use Rattle.elf_rules.proofs.Extents.{length-extents, content_at}
-use Rattle.elf_rules.specs.Tables.{section_count, segment_count, name_table, shdr_offset, phdr_offset, content_extent}
+use Rattle.elf_rules.specs.ImageRules.{IsFault, KeepsRecordRules, entry_rows, image_rows, record_rows, rows, table_rows}
+use Rattle.elf_rules.specs.SoundTables.{HasSoundTables}
+use Rattle.elf_rules.specs.Tables.{content_extent, header, name_table, names, phdr_offset, section_count, sections, segment_count, segments, shdr_offset}
+use Rattle.elf_rules.proofs.Extents.{content_at, length-extents}
+use Rattle.elf_rules.proofs.Rows.{IsFaultOf-front}
 
--- no rule is broken
-abbrev pub IsClean : ℕ → Ehdr → (ℕ → Shdr) → (ℕ → Phdr) → List ℕ → Type 0
-IsClean len h s g names = IsFaultOf (image_rows len h s g names) None
+-- where no rule is broken, none of rules 1 to 32 is
+pub clean_records : (len : ℕ) (h : Ehdr) (s : ℕ → Shdr) (g : ℕ → Phdr) (names : List ℕ) →
+    IsFaultOf (image_rows len h s g names) None → IsFaultOf (record_rows len h s g names) None
+unfolding image_rows
+clean_records len h s g names clean = IsFaultOf-front (record_rows len h s g names) _ clean
 
-pub long_enough : (len : ℕ) (h : Ehdr) (s : ℕ → Shdr) (g : ℕ → Phdr) (names : List ℕ) →
-    IsClean len h s g names → 64 ≤ len
-unfolding image_rows length_rows
-long_enough len h s g names clean = elim (cases_lt len 64) [
-  | inl short ↦ absurd (clean 2 len (lit< tt) (short, refl))
-  | inr long ↦ long
-]
+-- what is not above is at most, and what isn't different is equal
+at_most : (m n : ℕ) → (n < m → ⊥) → m ≤ n
+at_most m n never = elim (cases_lt n m) [ inl lt ↦ absurd (never lt) | inr le ↦ le ]
 
-pub short_enough : (len : ℕ) (h : Ehdr) (s : ℕ → Shdr) (g : ℕ → Phdr) (names : List ℕ) →
-    IsClean len h s g names → len ≤ 2 ^ 30
-unfolding image_rows length_rows
-short_enough len h s g names clean = elim (cases_lt (2 ^ 30) len) [
-  | inl long ↦ absurd (clean 1 (2 ^ 30) (lit< tt) (long, refl))
-  | inr short ↦ short
-]
+above : (m n : ℕ) → (n ≤ m → ⊥) → m < n
+above m n never = elim (cases_lt m n) [ inl lt ↦ lt | inr le ↦ absurd (never le) ]
 
--- the section table lies in the file
-pub section_table_inside : (len : ℕ) (h : Ehdr) (s : ℕ → Shdr) (g : ℕ → Phdr) (names : List ℕ) →
-    IsClean len h s g names → h.e_shoff ≢ 0 → shdr_offset h (section_count h (s 0)) ≤ len
-unfolding image_rows length_rows ident_rows header_rows table_rows section_table_rows
-section_table_inside len h s g names clean table =
-    elim (cases_lt len (shdr_offset h (section_count h (s 0)))) [
-      | inl past ↦ absurd (clean 15 40 (lit< tt) ((table, past), refl))
-      | inr inside ↦ inside
+equal : (m n : ℕ) → (m ≢ n → ⊥) → m ≡ n
+equal m n never = elim (cases_eq m n) [ inl same ↦ same | inr other ↦ absurd (never other) ]
+
+-- a section table has entries, where its count is one that stands in the right place
+count_some : (h : Ehdr) (first : Shdr) → h.e_shoff ≢ 0 → (h.e_shnum ≡ 0 → 0xff00 ≤ first.sh_size) → 0 < section_count h first
+count_some h first there large =
+    rw (ne_eqb h.e_shoff 0 there) (elim (cases_eq h.e_shnum 0) [
+      | inl none ↦ rw none (let l = large none in omega arith)
+      | inr some ↦ rw (ne_eqb h.e_shnum 0 some) (omega arith)
+    ])
+
+-- the name table's index is below the count, where both indexes that name it are
+names_below : (h : Ehdr) (first : Shdr) (n : ℕ) → (h.e_shstrndx ≢ 0xffff → h.e_shstrndx < n) → (h.e_shstrndx ≡ 0xffff → first.sh_link < n) → name_table h first < n
+names_below h first n plain extended =
+    elim (cases_eq h.e_shstrndx 0xffff) [
+      | inl escape ↦ rw escape (extended escape)
+      | inr other ↦ rw (ne_eqb h.e_shstrndx 0xffff other) (plain other)
     ]
 
--- the program table lies in the file
-pub program_table_inside : (len : ℕ) (h : Ehdr) (s : ℕ → Shdr) (g : ℕ → Phdr) (names : List ℕ) →
-    IsClean len h s g names → 0 < segment_count h (s 0) → phdr_offset h (segment_count h (s 0)) ≤ len
-unfolding image_rows length_rows ident_rows header_rows table_rows section_table_rows program_table_rows
-program_table_inside len h s g names clean some =
-    elim (cases_lt len (phdr_offset h (segment_count h (s 0)))) [
-      | inl past ↦ absurd (clean 21 32 (lit< tt) ((some, past), refl))
-      | inr inside ↦ inside
-    ]
+pub sound_tables : (len : ℕ) (h : Ehdr) (s : ℕ → Shdr) (g : ℕ → Phdr) (names : List ℕ) →
+    IsFaultOf (record_rows len h s g names) None → HasSoundTables len h s
+unfolding record_rows table_rows entry_rows length_rows ident_rows header_rows section_table_rows program_table_rows section_rows segment_rows name_rows
+sound_tables len h s g names kept = record {
+  header = at_most 64 len (λ lt. kept 2 len (lit< tt) (lt, refl));
+  short = at_most len (2 ^ 30) (λ lt. kept 1 (2 ^ 30) (lit< tt) (lt, refl));
+  no_names = λ none. equal h.e_shstrndx 0 (λ other. kept 9 62 (lit< tt) (none, inr (other, refl)));
+  few_segments = λ none full. kept 18 56 (lit< tt) (inr (inr (full, none)), refl);
+  null = λ there. equal (s 0).sh_type 0 (λ other. kept 13 _ (lit< tt) (inr (inl ((there, other), refl))));
+  some = λ there. count_some h (s 0) there (λ none. at_most 0xff00 _ (λ lt. kept 14 _ (lit< tt) ((there, inr (none, lt)), refl)));
+  section_table = λ there. at_most _ len (λ lt. kept 15 40 (lit< tt) ((there, lt), refl));
+  name_table = λ there. names_below h (s 0) _
+      (λ other. above _ _ (λ le. kept 16 62 (lit< tt) ((there, other, inr le), refl)))
+      (λ escape. above _ _ (λ le. kept 17 _ (lit< tt) ((there, inl (escape, inr le)), refl)));
+  program_table = λ some. at_most _ len (λ lt. kept 21 32 (lit< tt) ((some, lt), refl));
+  content = λ i above below not_null not_nobits some. at_most _ len
+      (λ lt. kept 24 _ (lit< tt) (i, above, below, (not_null, (not_nobits, some, lt)), refl));
+}
 
 -- no byte belongs to two of the extents
 pub extents_disjoint : (len : ℕ) (h : Ehdr) (s : ℕ → Shdr) (g : ℕ → Phdr) (names : List ℕ) →
-    IsClean len h s g names →
+    IsFaultOf (image_rows len h s g names) None →
     AreDisjoint (extents h (section_count h (s 0)) (segment_count h (s 0)) s)
-unfolding image_rows length_rows ident_rows header_rows table_rows section_table_rows program_table_rows entry_rows section_rows segment_rows name_rows
+unfolding image_rows record_rows length_rows ident_rows header_rows table_rows section_table_rows program_table_rows entry_rows section_rows segment_rows name_rows
 extents_disjoint len h s g names clean = λ i j x one other. elim (cases_lt i j) [
   | inl below ↦ absurd (clean 33 x (lit< tt) (i, j, below, one, other))
   | inr above ↦ elim (cases_lt j i) [
@@ -74,45 +86,33 @@ extents_disjoint len h s g names clean = λ i j x one other. elim (cases_lt i j)
 ]
 
 -- a content that is not empty is that of a section of a type that has one
-content_some : (entry : Shdr) → 0 < (content_extent entry).len →
+pub content_some : (entry : Shdr) → 0 < (content_extent entry).len →
     (entry.sh_type ≢ 0) × (entry.sh_type ≢ 8) × ((content_extent entry).len ≡ entry.sh_size)
-content_some entry some = by_type (entry.sh_type == 0) refl (entry.sh_type == 8) refl some where
-  by_type : (null : Bool) → (entry.sh_type == 0) ≡ null → (nobits : Bool) → (entry.sh_type == 8) ≡ nobits →
-      0 < (if null || nobits then 0 else entry.sh_size) →
-      (entry.sh_type ≢ 0) × (entry.sh_type ≢ 8) × ((content_extent entry).len ≡ entry.sh_size)
-  by_type true n nobits b lt = absurd (omega arith)
-  by_type false n true b lt = absurd (omega arith)
-  by_type false n false b lt = (
-    λ e. (let yes = eq-eqb entry.sh_type 0 e in let no : ⊥ = cc in absurd no),
-    λ e. (let yes = eq-eqb entry.sh_type 8 e in let no : ⊥ = cc in absurd no),
-    ap₂ (λ (x y : Bool). if x || y then 0 else entry.sh_size) n b,
-  )
+content_some entry some =
+    elim (cases_eq entry.sh_type 0) [
+      | inl null ↦ absurd (let h = rw null at some in omega arith)
+      | inr other ↦ elim (cases_eq entry.sh_type 8) [
+        | inl nobits ↦ absurd (let h = rw nobits at some in omega arith)
+        | inr bits ↦ (other, bits, rw (ne_eqb entry.sh_type 0 other, ne_eqb entry.sh_type 8 bits) refl)
+      ]
+    ]
 
 -- where there is a section header there is a section table
-table_some : (h : Ehdr) (first : Shdr) → 0 < section_count h first → h.e_shoff ≢ 0
-table_some h first some e =
-    let none : section_count h first ≡ 0 =
-    ap (λ (t : Bool). if t then 0 else (if h.e_shnum == 0 then first.sh_size else h.e_shnum)) (eq-eqb h.e_shoff 0 e) in
+pub table_some : (h : Ehdr) (first : Shdr) → 0 < section_count h first → h.e_shoff ≢ 0
+table_some h first some none =
+    let zero_count : section_count h first ≡ 0 = rw none refl in
     omega arith
 
 -- each content that is not empty lies in the file
-pub content_inside : (len : ℕ) (h : Ehdr) (s : ℕ → Shdr) (g : ℕ → Phdr) (names : List ℕ) →
-    IsClean len h s g names → (i : ℕ) → i < section_count h (s 0) → 0 < (content_extent (s i)).len →
+pub content_inside : (len : ℕ) (h : Ehdr) (s : ℕ → Shdr) → HasSoundTables len h s →
+    (i : ℕ) → i < section_count h (s 0) → 0 < (content_extent (s i)).len →
     (s i).sh_offset + (content_extent (s i)).len ≤ len
-unfolding image_rows length_rows ident_rows header_rows table_rows section_table_rows program_table_rows entry_rows section_rows
-content_inside len h s g names clean i lt some =
-    let (typed, bits, size) = content_some (s i) some in
-    let table = table_some h (s 0) (omega arith) in
-    let null : (s 0).sh_type ≢ 0 → ⊥ = λ other. clean 13 (shdr_offset h 0 + 4) (lit< tt) (inr (inl ((table, other), refl))) in
-    let later : 1 ≤ i = elim (cases_lt i 1) [
-      | inl first ↦ (let same : i ≡ 0 = omega arith in absurd (null (subst (λ (k : ℕ). (s k).sh_type ≢ 0) same typed)))
-      | inr above ↦ above
-    ] in
-    elim (cases_lt len ((s i).sh_offset + (s i).sh_size)) [
-      | inl past ↦ absurd (clean 24 (shdr_offset h i + 24) (lit< tt)
-          (i, later, lt, (typed, (bits, omega arith, past)), refl))
-      | inr inside ↦ omega arith
-    ]
+content_inside len h s sound zero lt some =
+    absurd ((content_some (s 0) some).0 (sound.null (table_some h (s 0) (omega arith))))
+content_inside len h s sound (suc i) lt some =
+    let (typed, bits, size) = content_some (s (suc i)) some in
+    let inside = sound.content (suc i) (omega arith) lt typed bits (omega arith) in
+    omega arith
 
 -- what lies in the file does so by any equal name
 inside_of : (len : ℕ) (x e : Extent) → Some x ≡ Some e → (0 < x.len → x.start + x.len ≤ len) →
@@ -122,22 +122,21 @@ inside_of len x e read inside =
     subst (λ (t : Extent). 0 < t.len → t.start + t.len ≤ len) same inside
 
 -- each extent that is not empty lies in the file
-pub extents_within : (len : ℕ) (h : Ehdr) (s : ℕ → Shdr) (g : ℕ → Phdr) (names : List ℕ) →
-    IsClean len h s g names →
+pub extents_within : (len : ℕ) (h : Ehdr) (s : ℕ → Shdr) → HasSoundTables len h s →
     AreWithin (extents h (section_count h (s 0)) (segment_count h (s 0)) s) len
 unfolding extents
-extents_within len h s g names clean zero e read =
-    let long = long_enough len h s g names clean in
+extents_within len h s sound zero e read =
+    let long = sound.header in
     inside_of len (record { start = 0; len = 64 }) e read (λ some. omega arith)
-extents_within len h s g names clean (suc zero) e read =
+extents_within len h s sound (suc zero) e read =
     let n = section_count h (s 0) in
     inside_of len (record { start = h.e_shoff; len = 64 * n }) e read
-    (λ some. section_table_inside len h s g names clean (table_some h (s 0) (omega arith)))
-extents_within len h s g names clean (suc (suc zero)) e read =
+    (λ some. sound.section_table (table_some h (s 0) (omega arith)))
+extents_within len h s sound (suc (suc zero)) e read =
     let m = segment_count h (s 0) in
     inside_of len (record { start = h.e_phoff; len = 56 * m }) e read
-    (λ some. program_table_inside len h s g names clean (omega arith))
-extents_within len h s g names clean (suc (suc (suc k))) e read =
+    (λ some. sound.program_table (omega arith))
+extents_within len h s sound (suc (suc (suc k))) e read =
     let n = section_count h (s 0) in
     let m = segment_count h (s 0) in
     let long = length-extents h n m s in
@@ -147,41 +146,62 @@ extents_within len h s g names clean (suc (suc (suc k))) e read =
     let at = content_at h n m s (suc (suc (suc k))) (omega arith) (omega arith) in
     inside_of len (content_extent (s k)) e
     (ap (λ (j : ℕ). Some (content_extent (s j))) (sym place) ∙ sym at ∙ read)
-    (λ some. content_inside len h s g names clean k lt some)
+    (λ some. content_inside len h s sound k lt some)
 
 -- the section name string table is one of the sections, or there is none
-pub name_table_below : (len : ℕ) (h : Ehdr) (s : ℕ → Shdr) (g : ℕ → Phdr) (names : List ℕ) →
-    IsClean len h s g names →
+pub name_table_below : (len : ℕ) (h : Ehdr) (s : ℕ → Shdr) → HasSoundTables len h s →
     (name_table h (s 0) ≡ 0) ⊎ (name_table h (s 0) < section_count h (s 0))
-unfolding image_rows length_rows ident_rows header_rows table_rows section_table_rows
-name_table_below len h s g names clean =
-    by_index (h.e_shoff == 0) refl (h.e_shstrndx == 0xffff) refl where
-      by_index : (none : Bool) → (h.e_shoff == 0) ≡ none → (far : Bool) → (h.e_shstrndx == 0xffff) ≡ far →
-          (name_table h (s 0) ≡ 0) ⊎ (name_table h (s 0) < section_count h (s 0))
-      by_index true n true f =
-          let zero = eqb-true h.e_shoff 0 n in
-          let index = eqb-true h.e_shstrndx 0xffff f in
-          absurd (clean 9 62 (lit< tt) (zero, inr ((λ e. absurd (omega arith)), refl)))
-      by_index true n false f =
-          let table = eqb-true h.e_shoff 0 n in
-          let is : name_table h (s 0) ≡ h.e_shstrndx = ap (λ (t : Bool). if t then (s 0).sh_link else h.e_shstrndx) f in
-          elim (cases_lt 0 h.e_shstrndx) [
-            | inl some ↦ absurd (clean 9 62 (lit< tt) (table, inr ((λ e. absurd (omega arith)), refl)))
-            | inr none ↦ inl (omega arith)
-          ]
-      by_index false n true f =
-          let table : h.e_shoff ≢ 0 = λ e. (let yes = eq-eqb h.e_shoff 0 e in let no : ⊥ = cc in absurd no) in
-          let index = eqb-true h.e_shstrndx 0xffff f in
-          let is : name_table h (s 0) ≡ (s 0).sh_link = ap (λ (t : Bool). if t then (s 0).sh_link else h.e_shstrndx) f in
-          elim (cases_lt (s 0).sh_link (section_count h (s 0))) [
-            | inl below ↦ inr (omega arith)
-            | inr past ↦ absurd (clean 17 (shdr_offset h 0 + 40) (lit< tt) ((table, inl (index, inr past)), refl))
-          ]
-      by_index false n false f =
-          let table : h.e_shoff ≢ 0 = λ e. (let yes = eq-eqb h.e_shoff 0 e in let no : ⊥ = cc in absurd no) in
-          let other : h.e_shstrndx ≢ 0xffff = λ e. (let yes = eq-eqb h.e_shstrndx 0xffff e in let no : ⊥ = cc in absurd no) in
-          let is : name_table h (s 0) ≡ h.e_shstrndx = ap (λ (t : Bool). if t then (s 0).sh_link else h.e_shstrndx) f in
-          elim (cases_lt h.e_shstrndx (section_count h (s 0))) [
-            | inl below ↦ inr (omega arith)
-            | inr past ↦ absurd (clean 16 62 (lit< tt) ((table, other, inr past), refl))
-          ]
+name_table_below len h s sound = elim (cases_eq h.e_shoff 0) [
+  | inl none ↦ (let unnamed = sound.no_names none in inl (rw unnamed refl))
+  | inr there ↦ inr (sound.name_table there)
+]
+
+-- ---- of a file by its bytes
+
+pub kept_of_clean : (b : List ℕ) → IsFault b None → KeepsRecordRules b
+unfolding rows
+kept_of_clean b clean = clean_records (length b) (header b) (sections b (header b)) (segments b (header b)) (names b (header b)) clean
+
+pub sound_file : (b : List ℕ) (h : Ehdr) → h ≡ header b → KeepsRecordRules b → HasSoundTables (length b) h (sections b h)
+sound_file b h same kept = subst (λ (k : Ehdr). HasSoundTables (length b) k (sections b k)) (sym same)
+    (sound_tables (length b) (header b) (sections b (header b)) (segments b (header b)) (names b (header b)) kept)
+
+-- section header 0 lies in the file, or what is read in its place without a section table does
+pub first_there : (b : List ℕ) (h : Ehdr) → HasSoundTables (length b) h (sections b h) → shdr_offset h 0 + 64 ≤ length b
+first_there b h sound = elim (cases_eq h.e_shoff 0) [
+  | inl none ↦ (let long = sound.header in omega arith)
+  | inr there ↦ (let table = sound.section_table there in let some = sound.some there in omega arith)
+]
+
+-- all section headers do
+pub sections_there : (b : List ℕ) (h : Ehdr) → HasSoundTables (length b) h (sections b h) →
+    shdr_offset h (section_count h (sections b h 0)) ≤ length b
+sections_there b h sound = elim (cases_eq h.e_shoff 0) [
+  | inl none ↦
+      (let no_sections : section_count h (sections b h 0) ≡ 0 = rw none refl in
+      let long = sound.header in
+      omega arith)
+  | inr there ↦ sound.section_table there
+]
+
+-- ---- with counts by any equal name, as code reads them
+
+pub sections_inside : (b : List ℕ) (h : Ehdr) (first : Shdr) (n : ℕ) → HasSoundTables (length b) h (sections b h) →
+    first ≡ sections b h 0 → n ≡ section_count h first → shdr_offset h n ≤ length b
+sections_inside b h first n sound read count =
+    subst (λ (k : ℕ). shdr_offset h k ≤ length b) (sym (count ∙ ap (section_count h) read)) (sections_there b h sound)
+
+pub segments_inside : (b : List ℕ) (h : Ehdr) (first : Shdr) (m : ℕ) → HasSoundTables (length b) h (sections b h) →
+    first ≡ sections b h 0 → m ≡ segment_count h first → 0 < m → phdr_offset h m ≤ length b
+segments_inside b h first m sound read count =
+    subst (λ (k : ℕ). 0 < k → phdr_offset h k ≤ length b) (sym (count ∙ ap (segment_count h) read)) sound.program_table
+
+-- so that the program table's size is a number of 64 bits
+pub segments_short : (b : List ℕ) (h : Ehdr) (first : Shdr) (m : ℕ) → HasSoundTables (length b) h (sections b h) →
+    first ≡ sections b h 0 → m ≡ segment_count h first → 56 * m < 2 ^ 64
+segments_short b h first m sound read count =
+    let short = sound.short in
+    elim (cases_lt 0 m) [
+      | inl some ↦ (let inside = segments_inside b h first m sound read count some in omega arith)
+      | inr none ↦ omega arith
+    ]

@@ -5,3 +5,4 @@ pub mod LoadOrder
 pub mod Extents
 pub mod Clean
 pub mod ImageRules
+pub mod Same

@@ -1,5 +1,5 @@
 -- Laws of tables of rules: runs of rules join, a run from rule 1 is the table's fault, and there is one fault.
-use Rattle.std.proofs.Common.{◌≡◌, ℕ, zero, suc, ◌+◌, ◌-◌, ◌≤◌, Bool, true, false, Option, None, Some, List, [], ◌∷◌, ◌++◌, length, get_or, refl, sym, ◌∙◌, ap, subst, add-zero, arith}
+use Rattle.std.proofs.Common.{◌≡◌, ℕ, zero, suc, ◌+◌, ◌-◌, ◌≤◌, ◌<◌, Bool, true, false, Option, None, Some, List, [], ◌∷◌, ◌++◌, length, get_or, refl, sym, ◌∙◌, ap, subst, add-zero, arith}
 use Rattle.std.specs.Prelude.{◌==◌}
 use Rattle.std.specs.Bool.{MatchBool}
 use Rattle.std.proofs.lemmas.Bool.{eqb-true, ne_eqb}
@@ -95,6 +95,37 @@ IsFaultOf-rows rows (Some f) h =
       least = λ q y positive broken. (let le = at.least (q - 1) y broken in omega (arith, at.number));
       lowest = λ y broken. at.lowest y (subst (λ j. get_or rows j (λ _. ⊥) y) (sym place) broken);
     }
+
+-- a table without a fault is a run without one
+none_from : (n : ℕ) (rows : List {1} Row) → ((i x : ℕ) → get_or rows i (λ _. ⊥) x → ⊥) → FirstFrom n rows None
+none_from n [] never = tt
+none_from n (row ∷ rows) never = (λ x broken. never 0 x broken, none_from (n + 1) rows (λ i x broken. never (suc i) x broken))
+
+pub FirstFrom-none : (n : ℕ) (rows : List {1} Row) → IsFaultOf rows None → FirstFrom n rows None
+FirstFrom-none n rows clean = none_from n rows (λ i x broken.
+    let place : i ≡ suc i - 1 = omega arith in
+    clean (suc i) x (omega arith) (subst (λ (k : ℕ). get_or rows k (λ _. ⊥) x) place broken))
+
+-- a row of the front of a list of rows is one of the list
+row_in_front : (xs ys : List {1} Row) (i x : ℕ) → get_or xs i (λ _. ⊥) x → get_or (xs ++ ys) i (λ _. ⊥) x
+row_in_front [] ys i x broken = absurd broken
+row_in_front (row ∷ xs) ys zero x broken = broken
+row_in_front (row ∷ xs) ys (suc i) x broken = row_in_front xs ys i x broken
+
+-- where no row is broken, none of the front is
+pub IsFaultOf-front : (xs ys : List {1} Row) → IsFaultOf (xs ++ ys) None → IsFaultOf xs None
+IsFaultOf-front xs ys clean = λ r x positive broken. clean r x positive (row_in_front xs ys (r - 1) x broken)
+
+-- a row that is broken is one of the list, and one of the front where its place is
+pub broken_row_within : (rows : List {1} Row) (i x : ℕ) → get_or rows i (λ _. ⊥) x → i < length rows
+broken_row_within [] i x broken = absurd broken
+broken_row_within (row ∷ rows) zero x broken = omega arith
+broken_row_within (row ∷ rows) (suc i) x broken = let lt = broken_row_within rows i x broken in omega arith
+
+pub row_of_front : (xs ys : List {1} Row) (i x : ℕ) → i < length xs → get_or (xs ++ ys) i (λ _. ⊥) x → get_or xs i (λ _. ⊥) x
+row_of_front [] ys i x lt broken = absurd (omega arith)
+row_of_front (row ∷ xs) ys zero x lt broken = broken
+row_of_front (row ∷ xs) ys (suc i) x lt broken = row_of_front xs ys i x (omega arith) broken
 
 -- a fault is a pair of a rule and an offset
 same_fault : (f g : ℕ × ℕ) → f.0 ≡ g.0 → f.1 ≡ g.1 → f ≡ g

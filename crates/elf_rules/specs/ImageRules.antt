@@ -1,8 +1,9 @@
 -- The rules of an image, and the fault of a file.
-use Rattle.std.specs.Prelude.{ℕ, Option, List, [], ◌∷◌, ◌++◌, length}
+use Rattle.std.specs.Prelude.{ℕ, Option, None, List, [], ◌∷◌, ◌++◌, length}
 use Rattle.elf_field.specs.declared.ehdr.Ehdr.{Ehdr}
 use Rattle.elf_field.specs.declared.shdr.Shdr.{Shdr}
 use Rattle.elf_field.specs.declared.phdr.Phdr.{Phdr}
+use Rattle.elf_extent.specs.declared.extent.Extent.{Extent}
 use Rattle.elf_rules.specs.Rows.{Row, IsFaultOf}
 use Rattle.elf_rules.specs.Tables.{section_count, segment_count, name_table, header, sections, segments, names}
 use Rattle.elf_rules.specs.HeaderRules.{length_rows, ident_rows, header_rows}
@@ -11,17 +12,14 @@ use Rattle.elf_rules.specs.ProgramTableRules.{program_table_rows}
 use Rattle.elf_rules.specs.SectionRules.{section_rows}
 use Rattle.elf_rules.specs.SegmentRules.{segment_rows}
 use Rattle.elf_rules.specs.NameRules.{name_rows}
-use Rattle.elf_rules.specs.OverlapRule.{shared_byte}
+use Rattle.elf_rules.specs.OverlapRule.{extents, shared_byte}
 
--- rules 22 to 33, of n section headers and m program headers, with the name table of index k
+-- rules 22 to 32, of n section headers and m program headers, with the name table of index k
 unfoldable pub entry_rows : ℕ → Ehdr → ℕ → ℕ → ℕ → (ℕ → Shdr) → (ℕ → Phdr) → List ℕ → List {1} Row
 entry_rows len h n m k s g names =
-    section_rows len h n s ++
-    (segment_rows len h m g ++
-    (name_rows h n k s names ++
-    (shared_byte h n m s ∷ [])))
+    section_rows len h n s ++ (segment_rows len h m g ++ name_rows h n k s names)
 
--- rules 13 to 33, in order, of a file of len bytes with this header, these section headers and
+-- rules 13 to 32, in order, of a file of len bytes with this header, these section headers and
 -- program headers by index, and this content of its section name string table
 unfoldable pub table_rows : ℕ → Ehdr → (ℕ → Shdr) → (ℕ → Phdr) → List ℕ → List {1} Row
 table_rows len h s g names =
@@ -30,10 +28,16 @@ table_rows len h s g names =
     (program_table_rows len h first ++
     entry_rows len h (section_count h first) (segment_count h first) (name_table h first) s g names)
 
+-- rules 1 to 32, in order: those that look at one record at a time, or at the names
+unfoldable pub record_rows : ℕ → Ehdr → (ℕ → Shdr) → (ℕ → Phdr) → List ℕ → List {1} Row
+record_rows len h s g names =
+    length_rows len ++ (ident_rows h.e_ident ++ (header_rows len h ++ table_rows len h s g names))
+
 -- rules 1 to 33, in order
 unfoldable pub image_rows : ℕ → Ehdr → (ℕ → Shdr) → (ℕ → Phdr) → List ℕ → List {1} Row
 image_rows len h s g names =
-    length_rows len ++ (ident_rows h.e_ident ++ (header_rows len h ++ table_rows len h s g names))
+    let first = s 0 in
+    record_rows len h s g names ++ (shared_byte h (section_count h first) (segment_count h first) s ∷ [])
 
 -- the rules of a file: of what its bytes hold
 unfoldable pub rows : List ℕ → List {1} Row
@@ -42,3 +46,14 @@ rows b = let h = header b in image_rows (length b) h (sections b h) (segments b 
 -- the first rule that the file breaks and its lowest offset, or None
 abbrev pub IsFault : List ℕ → Option (ℕ × ℕ) → Type 0
 IsFault b found = IsFaultOf (rows b) found
+
+-- the file breaks none of rules 1 to 32; whether two of its parts share a byte is left open
+abbrev pub KeepsRecordRules : List ℕ → Type 0
+KeepsRecordRules b = let h = header b in IsFaultOf (record_rows (length b) h (sections b h) (segments b h) (names b h)) None
+
+-- the extents of a file: of what its bytes hold
+abbrev pub extents_of_file : List ℕ → List Extent
+extents_of_file b =
+    let h = header b in
+    let first = sections b h 0 in
+    extents h (section_count h first) (segment_count h first) (sections b h)

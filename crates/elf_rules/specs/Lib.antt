@@ -8,5 +8,6 @@ pub mod SectionRules
 pub mod SegmentRules
 pub mod NameRules
 pub mod OverlapRule
+pub mod SoundTables
 pub mod FileExtents
 pub mod ImageRules

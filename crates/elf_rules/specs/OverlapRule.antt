@@ -1,6 +1,6 @@
 -- Rule 33: no byte of the file belongs to two of its parts.
 -- (gABI chapter 4, Sections: "Sections in a file may not overlap".)
-use Rattle.std.specs.Prelude.{◌≡◌, ℕ, ◌*◌, ◌+◌, ◌<◌, ◌≤◌, Some, List, ◌∷◌, map, slice_get}
+use Rattle.std.specs.Prelude.{◌≡◌, ℕ, ◌*◌, ◌+◌, ◌<◌, ◌≤◌, Option, None, Some, List, ◌∷◌, map, slice_get}
 use Rattle.std.specs.List.{range_with_len}
 use Rattle.elf_field.specs.declared.ehdr.Ehdr.{Ehdr}
 use Rattle.elf_field.specs.declared.shdr.Shdr.{Shdr}
@@ -25,6 +25,11 @@ extents h n m s =
 -- rule 33: two extents share a byte
 abbrev pub shared_byte : Ehdr → ℕ → ℕ → (ℕ → Shdr) → Row
 shared_byte h n m s = Doubly (extents h n m s)
+
+-- the fault of a file whose lowest byte in two extents is this one, where it keeps all other rules
+abbrev pub shared_fault : Option ℕ → Option (ℕ × ℕ)
+shared_fault None = None
+shared_fault (Some x) = Some (33, x)
 
 -- extent j shares the byte at x with one of index below limit
 abbrev pub SharedBelow : List Extent → ℕ → ℕ → ℕ → Type 0

@@ -1,7 +1,7 @@
 //! The first rule that a file breaks.
-ghost use Rattle.std.specs.Prelude.{◌≡◌, ◌+◌, ◌<◌, ◌≤◌, length};
+ghost use Rattle.std.specs.Prelude.{◌≡◌, ◌+◌, ◌<◌, ◌≤◌, Some, IfErr, OnOk, length};
 ghost use Rattle.elf_rules.specs.Broken.{fault_of};
-ghost use Rattle.elf_rules.specs.ImageRules.{IsFault, entry_rows, table_rows};
+ghost use Rattle.elf_rules.specs.ImageRules.{IsFault, KeepsRecordRules, entry_rows, table_rows};
 ghost use Rattle.elf_rules.specs.Rows.{FirstFrom};
 ghost use Rattle.elf_rules.specs.Tables.{names, names_at, phdr_offset, sections, segments, shdr_offset};
 
@@ -31,6 +31,20 @@ pub fn verdict(bytes: &[u8]) -> Option<(u16, u64)>
 pub fn judge(bytes: &[u8]) -> Result<(), Broken>
     ensures { IsFault bytes.now (fault_of result) }
 {
+    judge_records(bytes)?;
+    let header = header_of(bytes);
+    let first = section_at(bytes, &header, 0);
+    let section_count = section_count_of(&header, &first);
+    let segment_count = segment_count_of(&header, &first);
+    judge_overlap(bytes, &header, section_count, segment_count)
+}
+
+/// Whether the file keeps rules 1 to 32, which leave open only whether two of its parts share a byte:
+/// else the first rule that it breaks, and its lowest offset.
+pub fn judge_records(bytes: &[u8]) -> Result<(), Broken>
+    ensures broken { IfErr result (λ broken. IsFault bytes.now (Some (broken.rule, broken.at))) }
+    ensures kept { OnOk result (KeepsRecordRules bytes.now) }
+{
     let len = bytes.len() as u64;
     judge_length(len)?;
     let header = header_of(bytes);
@@ -39,7 +53,7 @@ pub fn judge(bytes: &[u8]) -> Result<(), Broken>
     judge_tables(bytes, &header)
 }
 
-/// Rules 13 to 33, of the tables of a file with this header.
+/// Rules 13 to 32, of the tables of a file with this header.
 fn judge_tables(bytes: &[u8], header: &Ehdr) -> Result<(), Broken>
     requires first { header.now.e_shoff + 64 ≤ length bytes.now }
     requires nameless { header.now.e_shoff ≡ 0 → header.now.e_shstrndx ≡ 0 }
@@ -57,7 +71,7 @@ fn judge_tables(bytes: &[u8], header: &Ehdr) -> Result<(), Broken>
     judge_entries(bytes, header, section_count, segment_count, table)
 }
 
-/// Rules 22 to 33, of a file with so many section headers and program headers, and the name table
+/// Rules 22 to 32, of a file with so many section headers and program headers, and the name table
 /// of index `table`, 0 for none.
 fn judge_entries(
     bytes: &[u8],
@@ -79,6 +93,5 @@ fn judge_entries(
     judge_sections(bytes, header, section_count)?;
     judge_segments(bytes, header, segment_count)?;
     let names = names_of(bytes, header, table);
-    judge_names(bytes, header, section_count, table, names)?;
-    judge_overlap(bytes, header, section_count, segment_count)
+    judge_names(bytes, header, section_count, table, names)
 }

@@ -1,11 +1,12 @@
 //! What holds of the rules themselves.
-ghost use Rattle.std.specs.Prelude.{◌≡◌, ◌<◌, ◌⊎◌, ℕ, List, Option, None};
+ghost use Rattle.std.specs.Prelude.{◌≡◌, ◌<◌, ◌⊎◌, ℕ, List, Option, None, Some};
 ghost use Rattle.elf_field.specs.declared.ehdr.Ehdr.{Ehdr};
 ghost use Rattle.elf_field.specs.declared.phdr.Phdr.{Phdr};
 ghost use Rattle.elf_field.specs.declared.shdr.Shdr.{Shdr};
-ghost use Rattle.elf_rules.specs.ImageRules.{IsFault, image_rows};
-ghost use Rattle.elf_extent.specs.Extent.{AreDisjoint, AreWithin};
-ghost use Rattle.elf_rules.specs.OverlapRule.{extents};
+ghost use Rattle.elf_rules.specs.ImageRules.{IsFault, KeepsRecordRules, extents_of_file, image_rows};
+ghost use Rattle.elf_extent.specs.Extent.{AreDisjoint, AreWithin, Doubly};
+ghost use Rattle.elf_extent.specs.Least.{IsLowest};
+ghost use Rattle.elf_rules.specs.OverlapRule.{extents, shared_fault};
 ghost use Rattle.elf_rules.specs.Rows.{IsFaultOf};
 ghost use Rattle.elf_rules.specs.Tables.{name_table, section_count, segment_count};
 
@@ -29,4 +30,12 @@ pub fn extents_of_image()
     ensures named { (len : ℕ) (h : Ehdr) (s : ℕ → Shdr) (g : ℕ → Phdr) (names : List ℕ) →
         IsFaultOf (image_rows len h s g names) None →
         (name_table h (s 0) ≡ 0) ⊎ (name_table h (s 0) < section_count h (s 0)) }
+{}
+
+/// Where a file keeps rules 1 to 32, the lowest byte that two of its extents hold is its fault, by
+/// rule 33, and where there is none it has no fault: it can have one of no other rule.
+pub fn fault_of_extents()
+    ensures found { (b : List ℕ) (found : Option ℕ) → KeepsRecordRules b →
+        IsLowest (Doubly (extents_of_file b)) found → IsFault b (shared_fault found) }
+    ensures last { (b : List ℕ) (rule at : ℕ) → KeepsRecordRules b → IsFault b (Some (rule, at)) → rule ≡ 33 }
 {}

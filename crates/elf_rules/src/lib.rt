@@ -33,8 +33,8 @@ pub mod sums;
 pub mod tables;
 
 pub use broken::Broken;
-pub use image_rules::{judge, verdict};
-pub use laws::{extents_of_image, one_fault};
+pub use image_rules::{judge, judge_records, verdict};
+pub use laws::{extents_of_image, fault_of_extents, one_fault};
 
 #[cfg(test)]
 mod tests;

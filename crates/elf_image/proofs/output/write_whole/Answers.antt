@@ -1,4 +1,4 @@
-use Rattle.std.proofs.Common.{rules, arith}
+use Rattle.std.proofs.Common.{rules}
 use Rattle.elf_image.proofs.Moved.{Appends-more}
 use Rattle.elf_image.proofs.output.write_whole.Goals as goal
 

@@ -1,6 +1,4 @@
-use Rattle.std.proofs.Common.{List, ℕ}
-use Rattle.elf_image.specs.Image.{IsImage, joined}
-use Rattle.elf_image.specs.Output.{Went}
+use Rattle.elf_image.specs.Image.{joined}
 use Rattle.elf_image.specs.View.{view_of}
 use Rattle.elf_image.proofs.Theorem.{joined_is_image}
 use Rattle.elf_image.proofs.writing.write.Goals as goal

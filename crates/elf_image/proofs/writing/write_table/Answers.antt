@@ -1,5 +1,4 @@
-use Rattle.std.proofs.Common.{◌≡◌, ◌*◌, ◌+◌, ◌<◌, ◌-◌, length, take, drop, arith, ap, ◌∙◌}
-use Rattle.std.specs.List.{flat_map}
+use Rattle.std.proofs.Common.{◌≡◌, ◌*◌, ◌+◌, ◌-◌, take, arith, ap, ◌∙◌}
 use Rattle.std.proofs.lemmas.List.{length-take-le}
 use Rattle.elf_image.proofs.Written.{flat_err, flat_ok}
 use Rattle.elf_image.proofs.Tables.{length-table}

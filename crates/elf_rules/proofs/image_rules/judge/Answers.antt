@@ -1,32 +1,30 @@
-use Rattle.std.proofs.Common.{arith, refl}
-use Rattle.elf_rules.proofs.Runs.{FirstFrom-stop}
-use Rattle.elf_rules.proofs.ImageRules.{from_length, from_ident, from_header, from_tables}
+use Rattle.elf_rules.proofs.Clean.{first_there, sections_inside, segments_short, sound_file}
+use Rattle.elf_rules.proofs.ImageRules.{fault_of_overlap}
 use Rattle.elf_rules.proofs.image_rules.judge.Goals as goal
-
-pub returns-in_err-judge_length : goal.returns-in_err-judge_length
-returns-in_err-judge_length c =
-    from_length c.args.bytes.now _ _ refl
-    (FirstFrom-stop 1 _ _ _ _ c.in_err-judge_length.ensures.fault c.from_residual.ensures.1)
+use Rattle.std.proofs.Common.{refl}
 
 pub header_of-header-requires : goal.header_of-header-requires
-header_of-header-requires c = let long = c.in_ok-judge_length.ensures.long in omega arith
+header_of-header-requires c = (sound_file c.args.bytes.now _ refl c.in_ok-judge_records.ensures.kept).header
 
-pub returns-in_err-judge_ident : goal.returns-in_err-judge_ident
-returns-in_err-judge_ident c =
-    from_ident c.args.bytes.now _ _ c.header_of-header.ensures c.in_ok-judge_length.ensures.fault
-    (FirstFrom-stop 3 _ _ _ _ c.in_err-judge_ident.ensures c.from_residual-in_err-judge_ident.ensures.1)
+pub section_at-first-requires : goal.section_at-first-requires
+section_at-first-requires c =
+    first_there c.args.bytes.now c.header_of-header.result
+    (sound_file c.args.bytes.now _ c.header_of-header.ensures c.in_ok-judge_records.ensures.kept)
 
-pub returns-in_err-judge_header : goal.returns-in_err-judge_header
-returns-in_err-judge_header c =
-    from_header c.args.bytes.now _ _ c.header_of-header.ensures c.in_ok-judge_length.ensures.fault
-    c.in_ok-judge_ident.ensures
-    (FirstFrom-stop 7 _ _ _ _ c.in_err-judge_header.ensures.fault c.from_residual-in_err-judge_header.ensures.1)
+pub judge_overlap-requires-clause-sections : goal.judge_overlap-requires-clause-sections
+judge_overlap-requires-clause-sections c =
+    sections_inside c.args.bytes.now c.header_of-header.result _ _
+    (sound_file c.args.bytes.now _ c.header_of-header.ensures c.in_ok-judge_records.ensures.kept)
+    c.section_at-first.ensures c.section_count_of-section_count.ensures
 
-pub judge_tables-requires-clause-first : goal.judge_tables-requires-clause-first
-judge_tables-requires-clause-first c =
-    c.in_ok-judge_header.ensures.first c.in_ok-judge_length.ensures.long
+pub judge_overlap-requires-clause-segments : goal.judge_overlap-requires-clause-segments
+judge_overlap-requires-clause-segments c =
+    segments_short c.args.bytes.now c.header_of-header.result _ _
+    (sound_file c.args.bytes.now _ c.header_of-header.ensures c.in_ok-judge_records.ensures.kept)
+    c.section_at-first.ensures c.segment_count_of-segment_count.ensures
 
 pub returns : goal.returns
 returns c =
-    from_tables c.args.bytes.now _ _ c.header_of-header.ensures c.in_ok-judge_length.ensures.fault
-    c.in_ok-judge_ident.ensures c.in_ok-judge_header.ensures.fault c.judge_tables.ensures
+    fault_of_overlap c.args.bytes.now _ _ _ _ _ c.header_of-header.ensures c.section_at-first.ensures
+    c.section_count_of-section_count.ensures c.segment_count_of-segment_count.ensures
+    c.in_ok-judge_records.ensures.kept c.judge_overlap.ensures

@@ -1,11 +1,10 @@
-use Rattle.std.proofs.Common.{List, ℕ, None, ◌++◌, [], ◌∷◌, length, subst}
+use Rattle.std.proofs.Common.{List, ℕ, length, subst}
 use Rattle.elf_rules.specs.Rows.{FirstFrom}
 use Rattle.elf_rules.specs.Broken.{fault_of}
 use Rattle.elf_rules.specs.NameRules.{name_rows}
-use Rattle.elf_rules.specs.OverlapRule.{shared_byte}
 use Rattle.elf_rules.specs.Tables.{names_at, sections, segments}
 use Rattle.elf_rules.proofs.Runs.{FirstFrom-stop}
-use Rattle.elf_rules.proofs.ImageRules.{from_sections, from_segments, from_names, from_overlap}
+use Rattle.elf_rules.proofs.ImageRules.{from_sections, from_segments, from_names}
 use Rattle.elf_rules.proofs.image_rules.judge_entries.Goals as goal
 
 pub returns-in_err-judge_sections : goal.returns-in_err-judge_sections
@@ -22,29 +21,12 @@ returns-in_err-judge_segments c =
     (names_at c.args.bytes.now c.args.header.now c.args.table) _ c.in_ok-judge_sections.ensures
     (FirstFrom-stop 25 _ _ _ _ c.in_err-judge_segments.ensures c.from_residual-in_err-judge_segments.ensures.1)
 
-pub returns-in_err-judge_names : goal.returns-in_err-judge_names
-returns-in_err-judge_names c =
-    let b = c.args.bytes.now in
-    let h = c.args.header.now in
-    let run = FirstFrom-stop 30 (name_rows h c.args.section_count c.args.table (sections b h) c.names_of-names.result.now)
-    (shared_byte h c.args.section_count c.args.segment_count (sections b h) ∷ []) _ _
-    c.in_err-judge_names.ensures c.from_residual-in_err-judge_names.ensures.1 in
-    from_names (length b) h c.args.section_count c.args.segment_count c.args.table (sections b h) (segments b h)
-    (names_at b h c.args.table) _ c.in_ok-judge_sections.ensures c.in_ok-judge_segments.ensures
-    (subst
-    (λ (t : List ℕ). FirstFrom 30
-    (name_rows h c.args.section_count c.args.table (sections b h) t ++
-    (shared_byte h c.args.section_count c.args.segment_count (sections b h) ∷ []))
-    (fault_of c.from_residual-in_err-judge_names.result))
-    c.names_of-names.ensures.names run)
-
 pub returns : goal.returns
 returns c =
     let b = c.args.bytes.now in
     let h = c.args.header.now in
     let named = subst
-    (λ (t : List ℕ). FirstFrom 30 (name_rows h c.args.section_count c.args.table (sections b h) t) None)
-    c.names_of-names.ensures.names c.in_ok-judge_names.ensures in
-    from_overlap (length b) h c.args.section_count c.args.segment_count c.args.table (sections b h) (segments b h)
+    (λ (t : List ℕ). FirstFrom 30 (name_rows h c.args.section_count c.args.table (sections b h) t) (fault_of c.judge_names.result))
+    c.names_of-names.ensures.names c.judge_names.ensures in
+    from_names (length b) h c.args.section_count c.args.segment_count c.args.table (sections b h) (segments b h)
     (names_at b h c.args.table) _ c.in_ok-judge_sections.ensures c.in_ok-judge_segments.ensures named
-    c.judge_overlap.ensures

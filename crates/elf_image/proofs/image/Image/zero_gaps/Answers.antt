@@ -1,5 +1,3 @@
-use Rattle.std.proofs.Common.{sym, ◌∙◌, subst}
-use Rattle.elf_image.specs.Image.{IsSound}
 use Rattle.elf_image.proofs.Edited.{image-zeroed, sound-with_zero_gaps}
 use Rattle.elf_image.proofs.image.Image.zero_gaps.Goals as goal
 

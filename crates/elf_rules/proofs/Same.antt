@@ -1,26 +1,26 @@
 -- Rules look at no more than the header, section header 0, the entries below the counts, and the name table's content:
 -- where these agree, a clean file and a clean value are one.
-use Rattle.std.proofs.Common.{◌≡◌, ◌≢◌, ◌≤◌, ◌<◌, ◌+◌, ◌*◌, ◌⊎◌, ℕ, zero, suc, None, List, [], ◌∷◌, ◌++◌, length, map, refl, sym, ap, ap₂, subst, ◌∙◌, inl, inr, arith, lit<}
+use Rattle.std.proofs.Common.{◌≡◌, ◌≢◌, ◌≤◌, ◌<◌, ◌+◌, ◌*◌, ◌⊎◌, ℕ, zero, suc, None, List, ◌∷◌, length, map, refl, sym, ap, ap₂, subst, ◌∙◌, inl, inr, arith, lit<}
 use Rattle.std.specs.List.{range_with_len}
-use Rattle.std.proofs.lemmas.Bool.{cases_eq, cases_lt, ne_eqb}
+use Rattle.std.proofs.lemmas.Bool.{cases_eq, ne_eqb}
 use Rattle.elf_field.specs.declared.ehdr.Ehdr.{Ehdr}
 use Rattle.elf_field.specs.declared.shdr.Shdr.{Shdr}
 use Rattle.elf_field.specs.declared.phdr.Phdr.{Phdr}
 use Rattle.elf_extent.specs.declared.extent.Extent.{Extent}
 use Rattle.elf_extent.specs.Extent.{Doubly}
-use Rattle.elf_extent.specs.Least.{Never}
-use Rattle.elf_rules.specs.Rows.{FirstFrom, IsFaultOf, SomeEntry}
+use Rattle.elf_rules.specs.Rows.{IsFaultOf, SomeEntry}
 use Rattle.elf_rules.proofs.Rows.{IsFaultOf-rows}
 use Rattle.elf_rules.specs.Tables.{content_extent, name_table, phdr_offset, section_count, segment_count, shdr_offset}
 use Rattle.elf_rules.specs.HeaderRules.{header_rows, ident_rows, length_rows}
-use Rattle.elf_rules.specs.ImageRules.{entry_rows, image_rows, table_rows}
+use Rattle.elf_rules.specs.ImageRules.{entry_rows, image_rows, record_rows, table_rows}
 use Rattle.elf_rules.specs.NameRules.{name_rows, unclosed_name_table, wrong_name_table_type}
 use Rattle.elf_rules.specs.OverlapRule.{extents}
 use Rattle.elf_rules.specs.ProgramTableRules.{program_table_rows}
 use Rattle.elf_rules.specs.SectionRules.{IsMisaligned, IsNamePastEnd, IsWronglyAligned, PassesEnd, section_rows}
 use Rattle.elf_rules.specs.SectionTableRules.{InFirst, first_section_header_not_null, section_table_rows}
-use Rattle.elf_rules.specs.SegmentRules.{IsIncongruent, IsLargerInFile, IsLoad, IsLoadBefore, IsSegmentWronglyAligned, SegmentPassesEnd, load_out_of_order, segment_rows}
-use Rattle.elf_image.proofs.Clean.{IsClean, is_clean}
+use Rattle.elf_rules.specs.SegmentRules.{IsIncongruent, IsLargerInFile, IsLoad, IsSegmentWronglyAligned, SegmentPassesEnd, load_out_of_order, segment_rows}
+use Rattle.elf_rules.specs.SoundTables.{HasSoundTables}
+use Rattle.elf_rules.proofs.Clean.{clean_records, sound_tables}
 
 -- the second entries are the first ones, as far as the rules look
 pub record Agree (h : Ehdr) (s t : ℕ → Shdr) (g k : ℕ → Phdr) : Type 0 where
@@ -111,7 +111,7 @@ null_fields h a b x first w = elim w [
 
 pub same_clean : (len : ℕ) (h : Ehdr) (s t : ℕ → Shdr) (g k : ℕ → Phdr) (names : List ℕ) → Agree h s t g k →
     IsFaultOf (image_rows len h s g names) None → IsFaultOf (image_rows len h t k names) None
-unfolding image_rows table_rows entry_rows length_rows ident_rows header_rows section_table_rows program_table_rows section_rows segment_rows name_rows
+unfolding image_rows record_rows table_rows entry_rows length_rows ident_rows header_rows section_table_rows program_table_rows section_rows segment_rows name_rows
 same_clean len h s t g k names agree clean = IsFaultOf-rows (image_rows len h t k names) None ((
   (λ x w. clean 1 x (lit< tt) w),
   (
@@ -210,8 +210,8 @@ same_clean len h s t g k names agree clean = IsFaultOf-rows (image_rows len h t 
   ),
 ))
   where
-    facts : IsClean len h s g
-    facts = is_clean len h s g names clean
+    facts : HasSoundTables len h s
+    facts = sound_tables len h s g names (clean_records len h s g names clean)
 
     n : ℕ
     n = section_count h (s 0)
