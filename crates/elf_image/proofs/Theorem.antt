@@ -57,13 +57,13 @@ reads_of v b stands = record {
 }
 
 -- what both sides have in common, said of a value that is read of b
-record IsShared (v : ImageValue) (b : List ℕ) : Type 0 where
-  first : (v.header.e_shoff ≡ 0) ⊎ (sections b v.header 0 ≡ section_of v.sections 0)
-  count : length v.sections ≡ section_count v.header (sections b v.header 0)
-  segment_count : length v.segments ≡ segment_count v.header (sections b v.header 0)
-  few : v.header.e_shoff ≡ 0 → v.header.e_phnum ≢ 0xffff
-  unnamed : v.header.e_shoff ≡ 0 → v.header.e_shstrndx ≡ 0
-  named : v.header.e_shoff ≢ 0 → name_table v.header (section_of v.sections 0) < length v.sections
+pub record IsShared (v : ImageValue) (b : List ℕ) : Type 0 where
+  pub first : (v.header.e_shoff ≡ 0) ⊎ (sections b v.header 0 ≡ section_of v.sections 0)
+  pub count : length v.sections ≡ section_count v.header (sections b v.header 0)
+  pub segment_count : length v.segments ≡ segment_count v.header (sections b v.header 0)
+  pub few : v.header.e_shoff ≡ 0 → v.header.e_phnum ≢ 0xffff
+  pub unnamed : v.header.e_shoff ≡ 0 → v.header.e_shstrndx ≡ 0
+  pub named : v.header.e_shoff ≢ 0 → name_table v.header (section_of v.sections 0) < length v.sections
 
 -- where there is a section table, it has entries
 first_from : (v : ImageValue) (b : List ℕ) → Reads v b → (v.header.e_shoff ≢ 0 → 0 < length v.sections) →
@@ -180,10 +180,10 @@ counted_by_reads v b stands clean =
       clean = clean_value v b stands clean;
     }
 
-shared_by_bytes : (v : ImageValue) (b : List ℕ) → IsImage v b → IsShared v b
+pub shared_by_bytes : (v : ImageValue) (b : List ℕ) → IsImage v b → IsShared v b
 shared_by_bytes v b image = shared_by_reads v b (reads_of v b image.stands) image.clean
 
-counted_by_bytes : (v : ImageValue) (b : List ℕ) → IsImage v b → IsCounted v
+pub counted_by_bytes : (v : ImageValue) (b : List ℕ) → IsImage v b → IsCounted v
 counted_by_bytes v b image = counted_by_reads v b (reads_of v b image.stands) image.clean
 
 -- what a sound value stands as breaks no rule

@@ -1,10 +1,28 @@
 //! Laws of images, each as the contract of a function that does nothing.
-ghost use Rattle.std.specs.Prelude.{◌≡◌, ℕ, List};
-ghost use Rattle.elf_image.specs.Image.{ImageValue, IsImage, IsSound, Stands};
+ghost use Rattle.std.specs.Prelude.{◌≡◌, ◌<◌, ℕ, List, length};
+ghost use Rattle.elf_field.specs.Ehdr.{IsEhdrAt};
+ghost use Rattle.elf_field.specs.Phdr.{IsPhdrAt};
+ghost use Rattle.elf_field.specs.Shdr.{IsShdrAt};
+ghost use Rattle.elf_rules.specs.Tables.{order_of, phdr_offset, shdr_offset};
+ghost use Rattle.elf_image.specs.Image.{ImageValue, IsImage, IsSound, Stands, section_of, segment_of};
 
 /// An image stands as one list of bytes, and as no other, be it with a fault or without.
 pub fn one_list()
     ensures { (v : ImageValue) (b c : List ℕ) → IsImage v b → Stands v c → b ≡ c }
+{}
+
+/// A list of bytes that breaks no rule is one image: no other value stands as it.
+pub fn one_image()
+    ensures { (v w : ImageValue) (b : List ℕ) → IsImage v b → IsImage w b → v ≡ w }
+{}
+
+/// Each field of an image's records is at its offset in the bytes that the image stands as.
+pub fn fields()
+    ensures header { (v : ImageValue) (b : List ℕ) → IsImage v b → IsEhdrAt (order_of v.header.e_ident) b 0 v.header }
+    ensures sections { (v : ImageValue) (b : List ℕ) (i : ℕ) → IsImage v b → i < length v.sections →
+        IsShdrAt (order_of v.header.e_ident) b (shdr_offset v.header i) (section_of v.sections i) }
+    ensures segments { (v : ImageValue) (b : List ℕ) (j : ℕ) → IsImage v b → j < length v.segments →
+        IsPhdrAt (order_of v.header.e_ident) b (phdr_offset v.header j) (segment_of v.segments j) }
 {}
 
 /// An image value is sound by itself exactly where there is a list of bytes that it stands as, and

@@ -2,7 +2,8 @@
 use super::rows::{empty_contents, empty_object, filled_gap, one_section, one_segment, set};
 use super::{Pieces, Shelf};
 use crate::{
-    Fault, Image, NoSection, Owner, Part, ReplaceFault, WriteFault, parse, read_to_end, write,
+    Fault, Image, NoSection, Owner, Part, ReplaceFault, WriteFault, parse, read_to_end, verdict,
+    write,
 };
 use elf_field::Order;
 use std::alloc::Global;
@@ -263,6 +264,42 @@ fn a_failed_write_tells_what_is_out(rt: HostRuntime) -> Result<(), Fail> {
                 want.get(..room),
                 "room for {room}"
             );
+        }
+    }
+    Ok(())
+}
+
+/// The rule that `parse` tells, if any.
+fn rule_broken(alloc: Global, file: &[u8]) -> Result<Option<(u16, u64)>, Fault> {
+    match parse(alloc, file) {
+        Ok(_) => Ok(None),
+        Err(Fault::Rule { rule, at }) => Ok(Some((rule, at))),
+        Err(fault) => Err(fault),
+    }
+}
+
+#[test]
+fn judges_the_empty_object(rt: HostRuntime) -> Result<(), Fail> {
+    let mut file = empty_object();
+    assert_eq!(rt; verdict(&file), None);
+    assert_eq!(rt; rule_broken(rt.alloc(), &file)?, None);
+    // The count stands in section header 0, where `e_shnum` could hold it.
+    set(&mut file, LITTLE, &[(60, 2, 0), (152, 8, 4)]);
+    assert_eq!(rt; verdict(&file), Some((14, 152)));
+    assert_eq!(rt; rule_broken(rt.alloc(), &file)?, Some((14, 152)));
+    Ok(())
+}
+
+#[test]
+fn parse_tells_the_verdict(rt: HostRuntime) -> Result<(), Fail> {
+    for order in [LITTLE, Order::Big] {
+        for at in 0..456 {
+            for byte in [0, 1, 0x5f, 0xff] {
+                let mut file = one_section(order);
+                file[at] = byte;
+                let told = rule_broken(rt.alloc(), &file)?;
+                assert_eq!(rt; told, verdict(&file), "{order:?} {byte} at {at}");
+            }
         }
     }
     Ok(())
