@@ -1,5 +1,5 @@
--- A word of four bytes: index tables, section groups and hash tables are lists of them (gABI chapter 4, Section Groups;
--- chapter 5, Hash Table).
+-- A word of four bytes: index tables, section groups and hash tables are lists of them (gABI chapter 4, Sections:
+-- SHT_SYMTAB_SHNDX, and Section Groups; chapter 5, Hash Table).
 use Rattle.std.specs.Prelude.{◌<◌, ◌^◌, ℕ, List}
 use Rattle.elf_field.specs.declared.order.Order.{Order}
 use Rattle.elf_field.specs.Bytes.{At, bytes_of, field}

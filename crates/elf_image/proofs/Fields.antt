@@ -1,10 +1,7 @@
 -- Each field of an image's records is at its offset in the bytes that the image stands as.
-use Rattle.std.proofs.Common.{◌≡◌, ◌≤◌, ◌<◌, ◌+◌, ℕ, List, length, take, sym, ap, subst, ◌∙◌, arith}
-use Rattle.std.specs.List.{range_with_len}
+use Rattle.std.proofs.Common.{◌≡◌, ◌<◌, ℕ, List, length, take, sym, ap, subst, ◌∙◌, arith}
 use Rattle.elf_field.specs.declared.order.Order.{Order}
 use Rattle.elf_field.specs.declared.ehdr.Ehdr.{Ehdr}
-use Rattle.elf_field.specs.declared.shdr.Shdr.{Shdr}
-use Rattle.elf_field.specs.declared.phdr.Phdr.{Phdr}
 use Rattle.elf_field.specs.BytesLaws.{first_bytes-take}
 use Rattle.elf_field.specs.Ehdr.{IsEhdrAt}
 use Rattle.elf_field.specs.EhdrLaws.{ehdr_fields_at}
@@ -12,7 +9,7 @@ use Rattle.elf_field.specs.Shdr.{IsShdrAt}
 use Rattle.elf_field.specs.ShdrLaws.{shdr_fields_at}
 use Rattle.elf_field.specs.Phdr.{IsPhdrAt}
 use Rattle.elf_field.specs.PhdrLaws.{phdr_fields_at}
-use Rattle.elf_rules.specs.Tables.{header, order_of, phdr_offset, section_count, sections, segment_count, segments, shdr_offset}
+use Rattle.elf_rules.specs.Tables.{header, order_of, phdr_offset, sections, segments, shdr_offset}
 use Rattle.elf_image.specs.Image.{ImageValue, IsImage, no_section, no_segment, section_of, segment_of}
 use Rattle.elf_image.proofs.Standing.{clean_of, table_there}
 use Rattle.elf_image.proofs.Stands.{entry_at}

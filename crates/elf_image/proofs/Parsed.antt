@@ -17,9 +17,9 @@ use Rattle.elf_rules.proofs.ImageRules.{fault_of_extents}
 use Rattle.elf_rules.specs.ImageRules.{IsFault, KeepsRecordRules, extents_of_file}
 use Rattle.elf_rules.specs.Tables.{bytes_in, content_extent, header, section_count, sections, segment_count, segments}
 use Rattle.elf_image.specs.declared.part.Part.{Part}
-use Rattle.elf_image.specs.Image.{ImageValue, IsImage, PlacedPart, gap_in, piece_of, value_extents}
+use Rattle.elf_image.specs.Image.{ImageValue, IsImage, PlacedPart, gap_in, part_piece, piece_of, value_extents}
 use Rattle.elf_image.specs.Outline.{image_of, outline_value, placed}
-use Rattle.elf_image.specs.Parsing.{AreTables, part_piece}
+use Rattle.elf_image.specs.Parsing.{AreTables}
 use Rattle.elf_rules.proofs.Clean.{sections_there, sound_file}
 use Rattle.elf_image.proofs.Standing.{disjoint_of, within_of}
 use Rattle.elf_image.proofs.Theorem.{Reads, counted_by_reads}

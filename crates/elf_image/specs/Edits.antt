@@ -1,4 +1,5 @@
 -- The edits of an image: each changes just its own field, content or gaps.
+-- (gABI chapter 4, ELF Header: e_entry; Sections: sh_flags, contents, and the space that no section covers.)
 use Rattle.std.specs.Prelude.{◌≡◌, ◌≢◌, ℕ, ◌<◌, List, length, map, replicate, set}
 use Rattle.elf_field.specs.declared.shdr.Shdr.{Shdr}
 use Rattle.elf_rules.specs.Tables.{name_table}

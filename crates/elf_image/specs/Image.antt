@@ -75,8 +75,12 @@ index_of ProgramTable = Some 2
 index_of (Content i) = Some (suc (suc (suc i)))
 index_of Gap = None
 
+-- the piece of a part
+abbrev pub part_piece : Part → Piece
+part_piece p = record { owner = index_of p.owner; start = p.start; len = p.len }
+
 abbrev pub piece_of : PlacedPart → Piece
-piece_of p = record { owner = index_of p.part.owner; start = p.part.start; len = p.part.len }
+piece_of p = part_piece p.part
 
 -- ---- the byte list
 

@@ -8,9 +8,6 @@ use Rattle.elf_rules.specs.Tables.{header, section_count, sections, segment_coun
 use Rattle.elf_rules.specs.ImageRules.{IsFault, KeepsRecordRules}
 use Rattle.elf_image.specs.declared.fault.Fault.{Fault}
 use Rattle.elf_image.specs.declared.fault.Fault.TheVariants.{OutOfMemory, Io, Rule}
-use Rattle.elf_image.specs.declared.part.Part.{Part}
-use Rattle.elf_extent.specs.declared.extent.Piece.{Piece}
-use Rattle.elf_image.specs.Image.{index_of}
 
 -- a rule is the first one that the bytes break, at its lowest offset; want of memory comes only where they keep rules 1
 -- to 32, so that they break rule 33 or none
@@ -18,10 +15,6 @@ abbrev pub IsParseFault : List ℕ → Fault → Type 0
 IsParseFault b (Rule rule at) = IsFault b (Some (rule, at))
 IsParseFault b OutOfMemory = KeepsRecordRules b
 IsParseFault b (Io at) = ⊥
-
--- the piece of a part
-abbrev pub part_piece : Part → Piece
-part_piece p = record { owner = index_of p.owner; start = p.start; len = p.len }
 
 -- the header, the section headers and the program headers that the bytes hold
 pub record AreTables (b : List ℕ) (h : Ehdr) (ss : List Shdr) (gs : List Phdr) : Type 0 where

@@ -138,8 +138,8 @@ impl<'a> Image<'a> {
         self.contents[index]
     }
 
-    /// The bytes of section `i` in the file: `sh_size` of them, but none for a section header of type
-    /// `SHT_NULL` or `SHT_NOBITS`.
+    /// The content of section `i`, as read or as replaced: `sh_size` bytes, but none for a section
+    /// header of type `SHT_NULL` or `SHT_NOBITS`.
     pub fn content(&self, i: usize) -> &'a [u8]
         requires { i < length self.now.sections }
         ensures bytes { result.now ≡ get_or self.now.contents i [] }

@@ -57,17 +57,17 @@ pub sound_tables : (len : ℕ) (h : Ehdr) (s : ℕ → Shdr) (g : ℕ → Phdr) 
     IsFaultOf (record_rows len h s g names) None → HasSoundTables len h s
 unfolding record_rows table_rows entry_rows length_rows ident_rows header_rows section_table_rows program_table_rows section_rows segment_rows name_rows
 sound_tables len h s g names kept = record {
-  header = at_most 64 len (λ lt. kept 2 len (lit< tt) (lt, refl));
-  short = at_most len (2 ^ 30) (λ lt. kept 1 (2 ^ 30) (lit< tt) (lt, refl));
-  no_names = λ none. equal h.e_shstrndx 0 (λ other. kept 9 62 (lit< tt) (none, inr (other, refl)));
-  few_segments = λ none full. kept 18 56 (lit< tt) (inr (inr (full, none)), refl);
+  header = at_most 64 len (λ lt. kept 2 _ (lit< tt) (lt, refl));
+  short = at_most len (2 ^ 30) (λ lt. kept 1 _ (lit< tt) (lt, refl));
+  no_names = λ none. equal h.e_shstrndx 0 (λ other. kept 9 _ (lit< tt) (none, inr (other, refl)));
+  few_segments = λ none full. kept 18 _ (lit< tt) (inr (inr (full, none)), refl);
   null = λ there. equal (s 0).sh_type 0 (λ other. kept 13 _ (lit< tt) (inr (inl ((there, other), refl))));
   some = λ there. count_some h (s 0) there (λ none. at_most 0xff00 _ (λ lt. kept 14 _ (lit< tt) ((there, inr (none, lt)), refl)));
-  section_table = λ there. at_most _ len (λ lt. kept 15 40 (lit< tt) ((there, lt), refl));
+  section_table = λ there. at_most _ len (λ lt. kept 15 _ (lit< tt) ((there, lt), refl));
   name_table = λ there. names_below h (s 0) _
-      (λ other. above _ _ (λ le. kept 16 62 (lit< tt) ((there, other, inr le), refl)))
+      (λ other. above _ _ (λ le. kept 16 _ (lit< tt) ((there, (other, inr le)), refl)))
       (λ escape. above _ _ (λ le. kept 17 _ (lit< tt) ((there, inl (escape, inr le)), refl)));
-  program_table = λ some. at_most _ len (λ lt. kept 21 32 (lit< tt) ((some, lt), refl));
+  program_table = λ some. at_most _ len (λ lt. kept 21 _ (lit< tt) ((some, lt), refl));
   content = λ i above below not_null not_nobits some. at_most _ len
       (λ lt. kept 24 _ (lit< tt) (i, above, below, (not_null, (not_nobits, some, lt)), refl));
 }

@@ -1,6 +1,6 @@
 -- Rules look at no more than the header, section header 0, the entries below the counts, and the name table's content:
 -- where these agree, a clean file and a clean value are one.
-use Rattle.std.proofs.Common.{◌≡◌, ◌≢◌, ◌≤◌, ◌<◌, ◌+◌, ◌*◌, ◌⊎◌, ℕ, zero, suc, None, List, ◌∷◌, length, map, refl, sym, ap, ap₂, subst, ◌∙◌, inl, inr, arith, lit<}
+use Rattle.std.proofs.Common.{◌≡◌, ◌≢◌, ◌<◌, ◌+◌, ◌*◌, ◌⊎◌, ℕ, zero, suc, None, List, ◌∷◌, length, map, refl, sym, ap, ap₂, subst, ◌∙◌, inl, inr, arith, lit<}
 use Rattle.std.specs.List.{range_with_len}
 use Rattle.std.proofs.lemmas.Bool.{cases_eq, ne_eqb}
 use Rattle.elf_field.specs.declared.ehdr.Ehdr.{Ehdr}
@@ -15,10 +15,10 @@ use Rattle.elf_rules.specs.HeaderRules.{header_rows, ident_rows, length_rows}
 use Rattle.elf_rules.specs.ImageRules.{entry_rows, image_rows, record_rows, table_rows}
 use Rattle.elf_rules.specs.NameRules.{name_rows, unclosed_name_table, wrong_name_table_type}
 use Rattle.elf_rules.specs.OverlapRule.{extents}
-use Rattle.elf_rules.specs.ProgramTableRules.{program_table_rows}
-use Rattle.elf_rules.specs.SectionRules.{IsMisaligned, IsNamePastEnd, IsWronglyAligned, PassesEnd, section_rows}
-use Rattle.elf_rules.specs.SectionTableRules.{InFirst, first_section_header_not_null, section_table_rows}
-use Rattle.elf_rules.specs.SegmentRules.{IsIncongruent, IsLargerInFile, IsLoad, IsSegmentWronglyAligned, SegmentPassesEnd, load_out_of_order, segment_rows}
+use Rattle.elf_rules.specs.ProgramTableRules.{HasWrongExtendedSegmentCount, program_table_rows}
+use Rattle.elf_rules.specs.SectionRules.{IsMisaligned, IsNamePastEnd, IsWronglyAligned, PassesEnd, SomeSection, section_rows}
+use Rattle.elf_rules.specs.SectionTableRules.{HasWrongExtendedNameTableIndex, HasWrongExtendedSectionCount, HasWrongNameTableIndex, InFirst, first_section_header_not_null, section_table_rows}
+use Rattle.elf_rules.specs.SegmentRules.{IsIncongruent, IsLargerInFile, IsLoad, IsSegmentWronglyAligned, SegmentPassesEnd, SomeSegment, load_out_of_order, segment_rows}
 use Rattle.elf_rules.specs.SoundTables.{HasSoundTables}
 use Rattle.elf_rules.proofs.Clean.{clean_records, sound_tables}
 
@@ -52,6 +52,16 @@ some_entry : {E : Type 0} (s t : ℕ → E) (from end last : ℕ) (P : E → Typ
 some_entry s t from end last P place x same agree (i, above, below, p, at) =
     let lt : i < end = omega arith in
     (i, above, lt, subst P (sym (agree i lt)) p, at)
+
+some_section : (h : Ehdr) (s t : ℕ → Shdr) (end last : ℕ) (P : Shdr → Type 0) (field x : ℕ) → end ≡ last →
+    ((i : ℕ) → i < end → s i ≡ t i) → SomeSection h last t P field x → SomeSection h end s P field x
+some_section h s t end last P field x same agree w =
+    some_entry s t 1 end last (λ q. (q.sh_type ≢ 0) × P q) (λ i. shdr_offset h i + field) x same agree w
+
+some_segment : (h : Ehdr) (g k : ℕ → Phdr) (end last : ℕ) (P : Phdr → Type 0) (field x : ℕ) → end ≡ last →
+    ((j : ℕ) → j < end → g j ≡ k j) → SomeSegment h last k P field x → SomeSegment h end g P field x
+some_segment h g k end last P field x same agree w =
+    some_entry g k 0 end last P (λ j. phdr_offset h j + field) x same agree w
 
 loads : (h : Ehdr) (g k : ℕ → Phdr) (m l x : ℕ) → m ≡ l → ((j : ℕ) → j < m → g j ≡ k j) → load_out_of_order h l k x → load_out_of_order h m g x
 loads h g k m l x same agree (i, j, below, load, before, falls, at) =
@@ -87,19 +97,19 @@ same_extents h s t n m p q sections segments agree =
 -- rule 13, field by field
 null_fields : (h : Ehdr) (a b : Shdr) (x : ℕ) → (h.e_shoff ≡ 0) ⊎ (a ≡ b) → first_section_header_not_null h b x → first_section_header_not_null h a x
 null_fields h a b x first w = elim w [
-  | inl p ↦ inl (in_first h a b (λ q. q.sh_name ≢ 0) 0 x first p)
+  | inl p ↦ inl (in_first h a b (λ q. q.sh_name ≢ 0) _ x first p)
   | inr w ↦ inr (elim w [
-    | inl p ↦ inl (in_first h a b (λ q. q.sh_type ≢ 0) 4 x first p)
+    | inl p ↦ inl (in_first h a b (λ q. q.sh_type ≢ 0) _ x first p)
     | inr w ↦ inr (elim w [
-      | inl p ↦ inl (in_first h a b (λ q. q.sh_flags ≢ 0) 8 x first p)
+      | inl p ↦ inl (in_first h a b (λ q. q.sh_flags ≢ 0) _ x first p)
       | inr w ↦ inr (elim w [
-        | inl p ↦ inl (in_first h a b (λ q. q.sh_addr ≢ 0) 16 x first p)
+        | inl p ↦ inl (in_first h a b (λ q. q.sh_addr ≢ 0) _ x first p)
         | inr w ↦ inr (elim w [
-          | inl p ↦ inl (in_first h a b (λ q. q.sh_offset ≢ 0) 24 x first p)
+          | inl p ↦ inl (in_first h a b (λ q. q.sh_offset ≢ 0) _ x first p)
           | inr w ↦ inr (elim w [
-            | inl p ↦ inl (in_first h a b (λ q. q.sh_addralign ≢ 0) 48 x first p)
+            | inl p ↦ inl (in_first h a b (λ q. q.sh_addralign ≢ 0) _ x first p)
             | inr w ↦ inr (elim w [
-              | inl p ↦ inl (in_first h a b (λ q. q.sh_entsize ≢ 0) 56 x first p)
+              | inl p ↦ inl (in_first h a b (λ q. q.sh_entsize ≢ 0) _ x first p)
               | inr w ↦ inr w
             ])
           ])
@@ -139,35 +149,35 @@ same_clean len h s t g k names agree clean = IsFaultOf-rows (image_rows len h t 
                         (
                           (λ x w. clean 13 x (lit< tt) (null_fields h (s 0) (t 0) x agree.first w)),
                           (
-                            (λ x w. clean 14 x (lit< tt) (in_first h (s 0) (t 0) (λ q. ((h.e_shnum ≢ 0) × (q.sh_size ≢ 0)) ⊎ ((h.e_shnum ≡ 0) × (q.sh_size < 0xff00))) 32 x agree.first w)),
+                            (λ x w. clean 14 x (lit< tt) (in_first h (s 0) (t 0) (HasWrongExtendedSectionCount h) _ x agree.first w)),
                             (
                               (λ x w. clean 15 x (lit< tt) ((w.0.0, subst (λ c. len < shdr_offset h c) (sym count) w.0.1), w.1)),
                               (
-                                (λ x w. clean 16 x (lit< tt) ((w.0.0, w.0.1, subst (λ c. (0xff00 ≤ h.e_shstrndx) ⊎ (c ≤ h.e_shstrndx)) (sym count) w.0.2), w.1)),
+                                (λ x w. clean 16 x (lit< tt) ((w.0.0, subst (HasWrongNameTableIndex h) (sym count) w.0.1), w.1)),
                                 (
-                                  (λ x w. clean 17 x (lit< tt) (in_first h (s 0) (t 0) (λ q. ((h.e_shstrndx ≡ 0xffff) × ((q.sh_link < 0xff00) ⊎ (section_count h q ≤ q.sh_link))) ⊎ ((h.e_shstrndx ≢ 0xffff) × (q.sh_link ≢ 0))) 40 x agree.first w)),
+                                  (λ x w. clean 17 x (lit< tt) (in_first h (s 0) (t 0) (λ q. HasWrongExtendedNameTableIndex h q (section_count h q)) _ x agree.first w)),
                                   (
                                     (λ x w. clean 18 x (lit< tt) w),
                                     (
                                       (λ x w. clean 19 x (lit< tt) w),
                                       (
-                                        (λ x w. clean 20 x (lit< tt) (in_first h (s 0) (t 0) (λ q. ((h.e_phnum ≡ 0xffff) × (q.sh_info < 0xffff)) ⊎ ((h.e_phnum ≢ 0xffff) × (q.sh_info ≢ 0))) 44 x agree.first w)),
+                                        (λ x w. clean 20 x (lit< tt) (in_first h (s 0) (t 0) (HasWrongExtendedSegmentCount h) _ x agree.first w)),
                                         (
                                           (λ x w. clean 21 x (lit< tt) (subst (λ c. (0 < c) × (len < phdr_offset h c)) (sym segments) w.0, w.1)),
                                           (
-                                            (λ x w. clean 22 x (lit< tt) (some_entry s t 1 n nt (λ q. (q.sh_type ≢ 0) × IsWronglyAligned q) (λ i. shdr_offset h i + 48) x count agree.sections w)),
+                                            (λ x w. clean 22 x (lit< tt) (some_section h s t n nt IsWronglyAligned _ x count agree.sections w)),
                                             (
-                                              (λ x w. clean 23 x (lit< tt) (some_entry s t 1 n nt (λ q. (q.sh_type ≢ 0) × IsMisaligned q) (λ i. shdr_offset h i + 16) x count agree.sections w)),
+                                              (λ x w. clean 23 x (lit< tt) (some_section h s t n nt IsMisaligned _ x count agree.sections w)),
                                               (
-                                                (λ x w. clean 24 x (lit< tt) (some_entry s t 1 n nt (λ q. (q.sh_type ≢ 0) × (PassesEnd len) q) (λ i. shdr_offset h i + 24) x count agree.sections w)),
+                                                (λ x w. clean 24 x (lit< tt) (some_section h s t n nt (PassesEnd len) _ x count agree.sections w)),
                                                 (
-                                                  (λ x w. clean 25 x (lit< tt) (some_entry g k 0 m mt (SegmentPassesEnd len) (λ j. phdr_offset h j + 8) x segments agree.segments w)),
+                                                  (λ x w. clean 25 x (lit< tt) (some_segment h g k m mt (SegmentPassesEnd len) _ x segments agree.segments w)),
                                                   (
-                                                    (λ x w. clean 26 x (lit< tt) (some_entry g k 0 m mt IsLargerInFile (λ j. phdr_offset h j + 32) x segments agree.segments w)),
+                                                    (λ x w. clean 26 x (lit< tt) (some_segment h g k m mt IsLargerInFile _ x segments agree.segments w)),
                                                     (
-                                                      (λ x w. clean 27 x (lit< tt) (some_entry g k 0 m mt IsSegmentWronglyAligned (λ j. phdr_offset h j + 48) x segments agree.segments w)),
+                                                      (λ x w. clean 27 x (lit< tt) (some_segment h g k m mt IsSegmentWronglyAligned _ x segments agree.segments w)),
                                                       (
-                                                        (λ x w. clean 28 x (lit< tt) (some_entry g k 0 m mt IsIncongruent (λ j. phdr_offset h j + 8) x segments agree.segments w)),
+                                                        (λ x w. clean 28 x (lit< tt) (some_segment h g k m mt IsIncongruent _ x segments agree.segments w)),
                                                         (
                                                           (λ x w. clean 29 x (lit< tt) (loads h g k m mt x segments agree.segments w)),
                                                           (
@@ -175,7 +185,7 @@ same_clean len h s t g k names agree clean = IsFaultOf-rows (image_rows len h t 
                                                             (
                                                               (λ x w. closed x w),
                                                               (
-                                                                (λ x w. clean 32 x (lit< tt) (some_entry s t 1 n nt (λ q. (q.sh_type ≢ 0) × IsNamePastEnd (length names) q) (λ i. shdr_offset h i + 0) x count agree.sections w)),
+                                                                (λ x w. clean 32 x (lit< tt) (some_section h s t n nt (IsNamePastEnd (length names)) _ x count agree.sections w)),
                                                                 ((λ x w. clean 33 x (lit< tt) (subst (λ es. Doubly es x) (sym (same_extents h s t n m nt mt count segments agree.sections)) w)), tt),
                                                               ),
                                                             ),

@@ -4,7 +4,7 @@ use Rattle.std.specs.Prelude.{◌≡◌, ◌≢◌, ℕ, ◌+◌, ◌^◌, ◌<�
 use Rattle.elf_field.specs.declared.ehdr.Ehdr.{Ehdr}
 use Rattle.elf_rules.specs.Rows.{Row, When}
 
--- rule 1: the file is longer than 2^30 bytes
+-- rule 1: the file is longer than 2^30 bytes (a limit of elfmap, not of the gABI)
 abbrev pub too_long : ℕ → Row
 too_long len = When (2 ^ 30 < len) (2 ^ 30)
 
@@ -40,7 +40,7 @@ wrong_version h = When (h.e_version ≢ 1) 20
 abbrev pub wrong_header_size : Ehdr → Row
 wrong_header_size h = When (h.e_ehsize ≢ 64) 52
 
--- rule 9: there is no section table, but it has a count or a name table
+-- rule 9: there is no section table, but a count of sections or the index of a name table
 abbrev pub count_without_section_table : Ehdr → Row
 count_without_section_table h = λ x. (h.e_shoff ≡ 0) ×
     (((h.e_shnum ≢ 0) × (x ≡ 60)) ⊎ ((h.e_shstrndx ≢ 0) × (x ≡ 62)))
@@ -53,7 +53,7 @@ wrong_section_header_size h = When ((h.e_shoff ≢ 0) × (h.e_shentsize ≢ 64))
 abbrev pub reserved_section_count : Ehdr → Row
 reserved_section_count h = When (0xff00 ≤ h.e_shnum) 60
 
--- rule 12: section header 0 passes the end of the file
+-- rule 12: there is a section table, and section header 0 passes the end of the file
 abbrev pub first_section_header_past_end : ℕ → Ehdr → Row
 first_section_header_past_end len h = When ((h.e_shoff ≢ 0) × (len < h.e_shoff + 64)) 40
 

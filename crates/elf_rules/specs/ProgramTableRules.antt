@@ -9,19 +9,25 @@ use Rattle.elf_rules.specs.Tables.{segment_count, phdr_offset}
 
 -- rule 18: a program table without a count, a count without a table, or a count that stands in a
 -- section header 0 that isn't there
+abbrev pub HasWrongSegmentCount : Ehdr → Type 0
+HasWrongSegmentCount h =
+    ((h.e_phoff ≡ 0) × (h.e_phnum ≢ 0)) ⊎ ((h.e_phoff ≢ 0) × (h.e_phnum ≡ 0)) ⊎
+    ((h.e_phnum ≡ 0xffff) × (h.e_shoff ≡ 0))
+
 abbrev pub wrong_segment_count : Ehdr → Row
-wrong_segment_count h = When
-    (((h.e_phoff ≡ 0) × (h.e_phnum ≢ 0)) ⊎ ((h.e_phoff ≢ 0) × (h.e_phnum ≡ 0)) ⊎
-    ((h.e_phnum ≡ 0xffff) × (h.e_shoff ≡ 0))) 56
+wrong_segment_count h = When (HasWrongSegmentCount h) 56
 
 -- rule 19: the program table's entries don't have the size of a program header
 abbrev pub wrong_program_header_size : Ehdr → Row
 wrong_program_header_size h = When ((h.e_phnum ≢ 0) × (h.e_phentsize ≢ 56)) 54
 
 -- rule 20: section header 0 has a count of segments that e_phnum could hold, or one beside e_phnum
+abbrev pub HasWrongExtendedSegmentCount : Ehdr → Shdr → Type 0
+HasWrongExtendedSegmentCount h first =
+    ((h.e_phnum ≡ 0xffff) × (first.sh_info < 0xffff)) ⊎ ((h.e_phnum ≢ 0xffff) × (first.sh_info ≢ 0))
+
 abbrev pub wrong_extended_segment_count : Ehdr → Shdr → Row
-wrong_extended_segment_count h first = InFirst h
-    (((h.e_phnum ≡ 0xffff) × (first.sh_info < 0xffff)) ⊎ ((h.e_phnum ≢ 0xffff) × (first.sh_info ≢ 0))) 44
+wrong_extended_segment_count h first = InFirst h (HasWrongExtendedSegmentCount h first) 44
 
 -- rule 21: the program table passes the end of the file
 abbrev pub program_table_past_end : ℕ → Ehdr → Shdr → Row

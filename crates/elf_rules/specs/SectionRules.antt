@@ -1,5 +1,5 @@
--- Rules 22 to 24: each section by itself. Entry 0 and entries of type NULL are left out.
--- (gABI chapter 4, Sections: sh_addralign, sh_addr, sh_offset, sh_size.)
+-- Rules 22 to 24, and what breaks rule 32 on one section. Entry 0 and entries of type NULL are left out.
+-- (gABI chapter 4, Sections: sh_addralign, sh_addr, sh_offset, sh_size, sh_name.)
 use Rattle.std.specs.Prelude.{◌≢◌, ℕ, ◌+◌, ◌%◌, ◌<◌, ◌≤◌, List, [], ◌∷◌}
 use Rattle.std.specs.Int.{IsPowerOfTwo}
 use Rattle.elf_field.specs.declared.ehdr.Ehdr.{Ehdr}
@@ -14,7 +14,7 @@ abbrev pub SomeSection : Ehdr → ℕ → (ℕ → Shdr) → (Shdr → Type 0) �
 SomeSection h n s P field =
     SomeEntry s 1 n (λ entry. (entry.sh_type ≢ 0) × P entry) (λ i. shdr_offset h i + field)
 
--- an alignment is 0, for none, or a power of two
+-- an alignment is neither 0, for none, nor a power of two
 abbrev pub IsWrongAlignment : ℕ → Type 0
 IsWrongAlignment align = (align ≢ 0) × ¬ IsPowerOfTwo align
 
@@ -46,18 +46,18 @@ abbrev pub IsNamePastEnd : ℕ → Shdr → Type 0
 IsNamePastEnd size entry = (entry.sh_name ≢ 0) × (size ≤ entry.sh_name)
 
 -- what breaks each of these rules
-abbrev pub Breaks : SectionRule → Shdr → Type 0
-Breaks Alignment = IsWronglyAligned
-Breaks Address = IsMisaligned
-Breaks (Content len) = PassesEnd len
-Breaks (Name size) = IsNamePastEnd size
+abbrev pub BreaksSection : SectionRule → Shdr → Type 0
+BreaksSection Alignment = IsWronglyAligned
+BreaksSection Address = IsMisaligned
+BreaksSection (Content len) = PassesEnd len
+BreaksSection (Name size) = IsNamePastEnd size
 
 -- the offset in the section header of the field that each of them answers
-abbrev pub field_of : SectionRule → ℕ
-field_of Alignment = 48
-field_of Address = 16
-field_of (Content len) = 24
-field_of (Name size) = 0
+abbrev pub section_field : SectionRule → ℕ
+section_field Alignment = 48
+section_field Address = 16
+section_field (Content len) = 24
+section_field (Name size) = 0
 
 -- rules 22 to 24
 unfoldable pub section_rows : ℕ → Ehdr → ℕ → (ℕ → Shdr) → List {1} Row

@@ -22,27 +22,38 @@ first_section_header_not_null h first = Either (
     InFirst h (first.sh_entsize ≢ 0) 56 ∷ [])
 
 -- rule 14: section header 0 has a count beside e_shnum, or a count that e_shnum could hold
+abbrev pub HasWrongExtendedSectionCount : Ehdr → Shdr → Type 0
+HasWrongExtendedSectionCount h first =
+    ((h.e_shnum ≢ 0) × (first.sh_size ≢ 0)) ⊎ ((h.e_shnum ≡ 0) × (first.sh_size < 0xff00))
+
 abbrev pub wrong_extended_section_count : Ehdr → Shdr → Row
-wrong_extended_section_count h first = InFirst h
-    (((h.e_shnum ≢ 0) × (first.sh_size ≢ 0)) ⊎ ((h.e_shnum ≡ 0) × (first.sh_size < 0xff00))) 32
+wrong_extended_section_count h first = InFirst h (HasWrongExtendedSectionCount h first) 32
 
 -- rule 15: the section table passes the end of the file
 abbrev pub section_table_past_end : ℕ → Ehdr → Shdr → Row
 section_table_past_end len h first =
     When ((h.e_shoff ≢ 0) × (len < shdr_offset h (section_count h first))) 40
 
--- rule 16: the name table's index is reserved, or there is no such section
-abbrev pub wrong_name_table_index : Ehdr → Shdr → Row
-wrong_name_table_index h first = When
-    ((h.e_shoff ≢ 0) × (h.e_shstrndx ≢ 0xffff) ×
-    ((0xff00 ≤ h.e_shstrndx) ⊎ (section_count h first ≤ h.e_shstrndx))) 62
+-- rule 16: the name table's index is reserved, or there is no such section of n; 0xffff is left to
+-- rule 17
+abbrev pub HasWrongNameTableIndex : Ehdr → ℕ → Type 0
+HasWrongNameTableIndex h n =
+    (h.e_shstrndx ≢ 0xffff) × ((0xff00 ≤ h.e_shstrndx) ⊎ (n ≤ h.e_shstrndx))
 
--- rule 17: section header 0 has a name table's index that e_shstrndx could hold, or that no section
--- has, or one beside e_shstrndx
+abbrev pub wrong_name_table_index : Ehdr → Shdr → Row
+wrong_name_table_index h first =
+    When ((h.e_shoff ≢ 0) × HasWrongNameTableIndex h (section_count h first)) 62
+
+-- rule 17: section header 0 has a name table's index that e_shstrndx could hold, or that none of n
+-- sections has, or one beside e_shstrndx
+abbrev pub HasWrongExtendedNameTableIndex : Ehdr → Shdr → ℕ → Type 0
+HasWrongExtendedNameTableIndex h first n =
+    ((h.e_shstrndx ≡ 0xffff) × ((first.sh_link < 0xff00) ⊎ (n ≤ first.sh_link))) ⊎
+    ((h.e_shstrndx ≢ 0xffff) × (first.sh_link ≢ 0))
+
 abbrev pub wrong_extended_name_table_index : Ehdr → Shdr → Row
-wrong_extended_name_table_index h first = InFirst h
-    (((h.e_shstrndx ≡ 0xffff) × ((first.sh_link < 0xff00) ⊎ (section_count h first ≤ first.sh_link))) ⊎
-    ((h.e_shstrndx ≢ 0xffff) × (first.sh_link ≢ 0))) 40
+wrong_extended_name_table_index h first =
+    InFirst h (HasWrongExtendedNameTableIndex h first (section_count h first)) 40
 
 -- rules 13 to 17
 unfoldable pub section_table_rows : ℕ → Ehdr → Shdr → List {1} Row

@@ -48,18 +48,18 @@ abbrev pub incongruent_segment : Ehdr → ℕ → (ℕ → Phdr) → Row
 incongruent_segment h m g = SomeSegment h m g IsIncongruent 8
 
 -- what breaks each of these rules on a segment by itself
-abbrev pub Breaks : SegmentRule → Phdr → Type 0
-Breaks (End len) = SegmentPassesEnd len
-Breaks Size = IsLargerInFile
-Breaks Alignment = IsSegmentWronglyAligned
-Breaks Congruence = IsIncongruent
+abbrev pub BreaksSegment : SegmentRule → Phdr → Type 0
+BreaksSegment (End len) = SegmentPassesEnd len
+BreaksSegment Size = IsLargerInFile
+BreaksSegment Alignment = IsSegmentWronglyAligned
+BreaksSegment Congruence = IsIncongruent
 
 -- the offset in the program header of the field that each of them answers
-abbrev pub field_of : SegmentRule → ℕ
-field_of (End len) = 8
-field_of Size = 32
-field_of Alignment = 48
-field_of Congruence = 8
+abbrev pub segment_field : SegmentRule → ℕ
+segment_field (End len) = 8
+segment_field Size = 32
+segment_field Alignment = 48
+segment_field Congruence = 8
 
 -- k is the nearest loadable segment of a lower index than j
 pub record IsLoadBefore (g : ℕ → Phdr) (k j : ℕ) : Type 0 where

@@ -1,5 +1,5 @@
 -- What a file's header, section headers and program headers are, and what they say of the file.
--- (gABI chapter 4, ELF Header and Sections; chapter 5, Program Header.)
+-- (gABI chapter 4, ELF Header with ELF Identification, Sections, String Table; chapter 5, Program Header.)
 use Rattle.std.specs.Prelude.{ℕ, ◌+◌, ◌*◌, ◌==◌, ◌||◌, if◌then◌else◌, List, [], take, drop, slice_index}
 use Rattle.elf_field.specs.declared.order.Order.{Order}
 use Rattle.elf_field.specs.declared.order.Order.TheVariants.{Little, Big}

@@ -1,8 +1,8 @@
 //! Rules 18 to 21: the program table's place and count (gABI chapter 4, ELF Header; chapter 5,
 //! Program Header).
-ghost use Rattle.std.specs.Prelude.{◌≡◌, ◌≢◌, ◌≤◌, ◌+◌, ◌<◌, ◌⊎◌, ◌↔◌, IsTrue, OnOk};
+ghost use Rattle.std.specs.Prelude.{◌≤◌, ◌+◌, ◌<◌, ◌↔◌, IsTrue, OnOk};
 ghost use Rattle.elf_rules.specs.Broken.{fault_of};
-ghost use Rattle.elf_rules.specs.ProgramTableRules.{program_table_rows};
+ghost use Rattle.elf_rules.specs.ProgramTableRules.{HasWrongExtendedSegmentCount, HasWrongSegmentCount, program_table_rows};
 ghost use Rattle.elf_rules.specs.Rows.{FirstFrom};
 ghost use Rattle.elf_rules.specs.Tables.{phdr_offset, segment_count};
 
@@ -52,10 +52,7 @@ pub fn judge_program_table(header: &Ehdr, first: &Shdr, len: u64) -> Result<(), 
 /// Whether there is a count just where there is a program table, and a section header 0 where that
 /// has the count.
 fn is_segment_count_right(header: &Ehdr) -> bool
-    ensures { IsTrue result ↔
-        ¬ (((header.now.e_phoff ≡ 0) × (header.now.e_phnum ≢ 0)) ⊎
-        ((header.now.e_phoff ≢ 0) × (header.now.e_phnum ≡ 0)) ⊎
-        ((header.now.e_phnum ≡ 0xffff) × (header.now.e_shoff ≡ 0))) }
+    ensures { IsTrue result ↔ ¬ HasWrongSegmentCount header.now }
 {
     (header.e_phoff == 0) == (header.e_phnum == 0)
         && (header.e_phnum != PN_XNUM || header.e_shoff != 0)
@@ -63,9 +60,7 @@ fn is_segment_count_right(header: &Ehdr) -> bool
 
 /// Whether section header 0 has a count of segments just where `e_phnum` cannot hold it.
 fn is_extended_segment_count_right(header: &Ehdr, first: &Shdr) -> bool
-    ensures { IsTrue result ↔
-        ¬ (((header.now.e_phnum ≡ 0xffff) × (first.now.sh_info < 0xffff)) ⊎
-        ((header.now.e_phnum ≢ 0xffff) × (first.now.sh_info ≢ 0))) }
+    ensures { IsTrue result ↔ ¬ HasWrongExtendedSegmentCount header.now first.now }
 {
     if header.e_phnum == PN_XNUM {
         first.sh_info >= PN_XNUM as u32

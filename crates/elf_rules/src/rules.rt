@@ -16,13 +16,13 @@ pub const WRONG_IDENT_VERSION: u16 = 6;
 pub const WRONG_VERSION: u16 = 7;
 /// The header's size isn't that of the class.
 pub const WRONG_HEADER_SIZE: u16 = 8;
-/// There is no section table, but it has a count or a name table.
+/// There is no section table, but a count of sections or the index of a name table.
 pub const COUNT_WITHOUT_SECTION_TABLE: u16 = 9;
 /// The section table's entries don't have the size of a section header.
 pub const WRONG_SECTION_HEADER_SIZE: u16 = 10;
 /// The count of section headers is a reserved index.
 pub const RESERVED_SECTION_COUNT: u16 = 11;
-/// Section header 0 passes the end of the file.
+/// There is a section table, and section header 0 passes the end of the file.
 pub const FIRST_SECTION_HEADER_PAST_END: u16 = 12;
 /// A field of section header 0 that has no meaning there isn't 0.
 pub const FIRST_SECTION_HEADER_NOT_NULL: u16 = 13;

@@ -3,7 +3,7 @@ ghost use Rattle.std.specs.Prelude.{◌≡◌, ◌≤◌, ◌<◌, ◌↔◌, Is
 ghost use Rattle.elf_extent.specs.Least.{IsLowest};
 ghost use Rattle.elf_rules.specs.Broken.{fault_of};
 ghost use Rattle.elf_rules.specs.Rows.{FirstFrom};
-ghost use Rattle.elf_rules.specs.SectionRules.{Breaks, IsMisaligned, PassesEnd, SomeSection, field_of, section_rows};
+ghost use Rattle.elf_rules.specs.SectionRules.{BreaksSection, IsMisaligned, PassesEnd, SomeSection, section_field, section_rows};
 ghost use Rattle.elf_rules.specs.Tables.{sections, shdr_offset};
 
 use crate::abi::*;
@@ -30,7 +30,7 @@ pub enum SectionRule {
 impl SectionRule {
     /// Whether the section header breaks the rule.
     pub fn is_broken_by(self, entry: &Shdr) -> bool
-        ensures { IsTrue result ↔ Breaks self entry.now }
+        ensures { IsTrue result ↔ BreaksSection self entry.now }
     {
         match self {
             SectionRule::Alignment => is_wrong_alignment(entry.sh_addralign),
@@ -42,7 +42,7 @@ impl SectionRule {
 
     /// The offset in the section header of the field that the rule answers.
     pub fn field(self) -> u64
-        ensures value { result ≡ field_of self }
+        ensures value { result ≡ section_field self }
         ensures inside { result < 64 }
     {
         match self {
@@ -74,7 +74,7 @@ fn passes_end(entry: &Shdr, len: u64) -> bool
 pub fn lowest_section(bytes: &[u8], header: &Ehdr, count: u64, rule: SectionRule) -> Option<u64>
     requires { shdr_offset header.now count ≤ length bytes.now }
     ensures { let s = sections bytes.now header.now in
-        IsLowest (SomeSection header.now count s (Breaks rule) (field_of rule)) result }
+        IsLowest (SomeSection header.now count s (BreaksSection rule) (section_field rule)) result }
 {
     for i in 1..count {
         let entry = section_at(bytes, header, i);

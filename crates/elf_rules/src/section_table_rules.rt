@@ -1,10 +1,10 @@
 //! Rules 13 to 17: section header 0 and the counts of the section table, where there is one
 //! (gABI chapter 4, ELF Header and Sections: extended numbering).
-ghost use Rattle.std.specs.Prelude.{◌≡◌, ◌≢◌, ◌≤◌, ◌+◌, ◌<◌, ◌^◌, ◌⊎◌, ◌↔◌, IsTrue, OnOk};
+ghost use Rattle.std.specs.Prelude.{◌≢◌, ◌≤◌, ◌+◌, ◌<◌, ◌^◌, ◌↔◌, IsTrue, OnOk};
 ghost use Rattle.elf_extent.specs.Least.{IsLowest};
 ghost use Rattle.elf_rules.specs.Broken.{fault_of};
 ghost use Rattle.elf_rules.specs.Rows.{FirstFrom};
-ghost use Rattle.elf_rules.specs.SectionTableRules.{first_section_header_not_null, section_table_rows};
+ghost use Rattle.elf_rules.specs.SectionTableRules.{HasWrongExtendedNameTableIndex, HasWrongExtendedSectionCount, HasWrongNameTableIndex, first_section_header_not_null, section_table_rows};
 ghost use Rattle.elf_rules.specs.Tables.{name_table, section_count, shdr_offset};
 
 use crate::abi::*;
@@ -89,9 +89,7 @@ fn nonzero_field(header: &Ehdr, first: &Shdr) -> Option<u64>
 
 /// Whether section header 0 has a count of sections just where `e_shnum` cannot hold it.
 fn is_section_count_right(header: &Ehdr, first: &Shdr) -> bool
-    ensures { IsTrue result ↔
-        ¬ (((header.now.e_shnum ≢ 0) × (first.now.sh_size ≢ 0)) ⊎
-        ((header.now.e_shnum ≡ 0) × (first.now.sh_size < 0xff00))) }
+    ensures { IsTrue result ↔ ¬ HasWrongExtendedSectionCount header.now first.now }
 {
     if header.e_shnum == 0 {
         first.sh_size >= SHN_LORESERVE as u64
@@ -102,8 +100,7 @@ fn is_section_count_right(header: &Ehdr, first: &Shdr) -> bool
 
 /// Whether `e_shstrndx` is the index of a section, or says that section header 0 has it.
 fn is_name_index_right(header: &Ehdr, count: u64) -> bool
-    ensures { IsTrue result ↔
-        ¬ ((header.now.e_shstrndx ≢ 0xffff) × ((0xff00 ≤ header.now.e_shstrndx) ⊎ (count ≤ header.now.e_shstrndx))) }
+    ensures { IsTrue result ↔ ¬ HasWrongNameTableIndex header.now count }
 {
     header.e_shstrndx == SHN_XINDEX
         || header.e_shstrndx < SHN_LORESERVE && (header.e_shstrndx as u64) < count
@@ -111,9 +108,7 @@ fn is_name_index_right(header: &Ehdr, count: u64) -> bool
 
 /// Whether section header 0 has the name table's index just where `e_shstrndx` cannot hold it.
 fn is_extended_name_index_right(header: &Ehdr, first: &Shdr, count: u64) -> bool
-    ensures { IsTrue result ↔
-        ¬ (((header.now.e_shstrndx ≡ 0xffff) × ((first.now.sh_link < 0xff00) ⊎ (count ≤ first.now.sh_link))) ⊎
-        ((header.now.e_shstrndx ≢ 0xffff) × (first.now.sh_link ≢ 0))) }
+    ensures { IsTrue result ↔ ¬ HasWrongExtendedNameTableIndex header.now first.now count }
 {
     if header.e_shstrndx == SHN_XINDEX {
         first.sh_link >= SHN_LORESERVE as u32 && (first.sh_link as u64) < count

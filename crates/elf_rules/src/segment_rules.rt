@@ -3,7 +3,7 @@ ghost use Rattle.std.specs.Prelude.{◌≡◌, ◌≤◌, ◌≢◌, ◌<◌, �
 ghost use Rattle.elf_extent.specs.Least.{IsLowest};
 ghost use Rattle.elf_rules.specs.Broken.{fault_of};
 ghost use Rattle.elf_rules.specs.Rows.{FirstFrom};
-ghost use Rattle.elf_rules.specs.SegmentRules.{Breaks, SomeSegment, field_of, load_out_of_order, segment_rows};
+ghost use Rattle.elf_rules.specs.SegmentRules.{BreaksSegment, SomeSegment, load_out_of_order, segment_field, segment_rows};
 ghost use Rattle.elf_rules.specs.Tables.{phdr_offset, segments};
 
 use crate::abi::*;
@@ -30,7 +30,7 @@ pub enum SegmentRule {
 impl SegmentRule {
     /// Whether the program header breaks the rule.
     pub fn is_broken_by(self, segment: &Phdr) -> bool
-        ensures { IsTrue result ↔ Breaks self segment.now }
+        ensures { IsTrue result ↔ BreaksSegment self segment.now }
     {
         let is_load = segment.p_type == PT_LOAD;
         match self {
@@ -47,7 +47,7 @@ impl SegmentRule {
 
     /// The offset in the program header of the field that the rule answers.
     pub fn field(self) -> u64
-        ensures value { result ≡ field_of self }
+        ensures value { result ≡ segment_field self }
         ensures inside { result < 56 }
     {
         match self {
@@ -70,7 +70,7 @@ fn is_incongruent(segment: &Phdr) -> bool
 pub fn lowest_segment(bytes: &[u8], header: &Ehdr, count: u64, rule: SegmentRule) -> Option<u64>
     requires { 0 < count → phdr_offset header.now count ≤ length bytes.now }
     ensures { let g = segments bytes.now header.now in
-        IsLowest (SomeSegment header.now count g (Breaks rule) (field_of rule)) result }
+        IsLowest (SomeSegment header.now count g (BreaksSegment rule) (segment_field rule)) result }
 {
     for i in 0..count {
         if rule.is_broken_by(&segment_at(bytes, header, i)) {

@@ -18,9 +18,9 @@ abbrev pub text_of : Text → List Row → Text
 text_of id rows = unwrap_or (first_of id rows) []
 
 -- the command of this name, with these matches, is the request: one equation a command
-abbrev pub Says : Text → List Row → Request → Type 0
-Says name rows (Check file) = (name ≡ codes "check") × (file.now ≡ text_of (codes "FILE") rows)
-Says name rows (Show file) = (name ≡ codes "show") × (file.now ≡ text_of (codes "FILE") rows)
+abbrev pub Asks : Text → List Row → Request → Type 0
+Asks name rows (Check file) = (name ≡ codes "check") × (file.now ≡ text_of (codes "FILE") rows)
+Asks name rows (Show file) = (name ≡ codes "show") × (file.now ≡ text_of (codes "FILE") rows)
 
 -- clap's definition takes the words, and gives a command and matches of which this holds
 pub record Gives (words : List Text) (P : Text → List Row → Type 0) : Type 0 where
@@ -32,7 +32,7 @@ pub record Gives (words : List Text) (P : Text → List Row → Type 0) : Type 0
 
 -- the words ask for this
 abbrev pub IsAskedBy : List Text → Request → Type 0
-IsAskedBy words request = Gives words (λ name rows. Says name rows request)
+IsAskedBy words request = Gives words (λ name rows. Asks name rows request)
 
 -- the words are refused so: clap's definition gives the error's kind, and so does not take them, or memory was refused
 abbrev pub IsRefusedBy : List Text → WordsFault → Type 0

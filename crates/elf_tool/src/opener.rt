@@ -30,6 +30,7 @@ pub trait Opener {
 /// The machine's files.
 #[derive(Drop)]
 pub struct MachineFiles<'r, R> {
+    /// What opens them.
     pub files: &'r R,
 }
 

@@ -2,7 +2,7 @@
 ghost use Rattle.std.specs.Prelude.{◌≡◌, [], IfErr, IfOk, OnOk, codes, map};
 ghost use Rattle.clap.specs.Words.{fault_of, found_of, rows_of, subcommand_of, subcommand_rows_of};
 ghost use Rattle.elf_tool.specs.Command.{IsNameIn, elfmap as elfmap_app};
-ghost use Rattle.elf_tool.specs.Words.{IsAskedBy, IsRefusedBy, Says, text_of};
+ghost use Rattle.elf_tool.specs.Words.{Asks, IsAskedBy, IsRefusedBy, text_of};
 
 use crate::command::elfmap;
 use clap::error::ErrorKind;
@@ -82,7 +82,7 @@ fn matches_of<'a, S: AsStr>(alloc: Global, words: &'a [S]) -> Result<ArgMatches<
 // The request of the command of this name. A further command is one more arm.
 fn request_of<'a>(name: &str, matches: &ArgMatches<'a>) -> Request<'a>
     requires { IsNameIn name.now elfmap_app.subs }
-    ensures { Says name.now (rows_of (found_of matches.now)) result }
+    ensures { Asks name.now (rows_of (found_of matches.now)) result }
 {
     match name {
         "check" => Request::Check {

@@ -6,9 +6,8 @@ use Rattle.elf_extent.specs.declared.extent.Extent.{Extent}
 use Rattle.elf_extent.specs.Account.{Accounts}
 use Rattle.elf_extent.specs.Extent.{AreDisjoint, AreWithin}
 use Rattle.elf_rules.specs.Tables.{bytes_in, content_extent}
-use Rattle.elf_image.specs.Image.{ImageValue, IsImage, IsSound}
+use Rattle.elf_image.specs.Image.{ImageValue, IsImage, IsSound, part_piece}
 use Rattle.elf_image.specs.Outline.{OutlineValue, image_of}
-use Rattle.elf_image.specs.Parsing.{part_piece}
 use Rattle.elf_image.proofs.Parsed.{made, made_is_image, tables_disjoint, tables_within}
 use Rattle.elf_image.proofs.Theorem.{image_is_sound}
 use Rattle.elf_image.proofs.parsing.build.Goals as goal

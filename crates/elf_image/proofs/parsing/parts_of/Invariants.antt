@@ -1,5 +1,5 @@
 use Rattle.std.proofs.Common.{◌≡◌, map, take}
-use Rattle.elf_image.specs.Parsing.{part_piece}
+use Rattle.elf_image.specs.Image.{part_piece}
 use Rattle.elf_image.proofs.parsing.parts_of.Given as goal
 
 abbrev pub invariant-loop-piece : goal.invariant-loop-piece
