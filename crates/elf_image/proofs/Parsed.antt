@@ -17,9 +17,8 @@ use Rattle.elf_rules.proofs.ImageRules.{fault_of_extents}
 use Rattle.elf_rules.specs.ImageRules.{IsFault, KeepsRecordRules, extents_of_file}
 use Rattle.elf_rules.specs.Tables.{bytes_in, content_extent, header, section_count, sections, segment_count, segments}
 use Rattle.elf_image.specs.declared.part.Part.{Part}
-use Rattle.elf_image.specs.Image.{ImageValue, IsImage, PlacedPart, gap_in, part_piece, piece_of, value_extents}
+use Rattle.elf_image.specs.Image.{AreTables, ImageValue, IsImage, PlacedPart, gap_in, part_piece, piece_of, value_extents}
 use Rattle.elf_image.specs.Outline.{image_of, outline_value, placed}
-use Rattle.elf_image.specs.Parsing.{AreTables}
 use Rattle.elf_rules.proofs.Clean.{sections_there, sound_file}
 use Rattle.elf_image.proofs.Standing.{disjoint_of, within_of}
 use Rattle.elf_image.proofs.Theorem.{Reads, counted_by_reads}
@@ -32,9 +31,7 @@ made_reads : (b : List ℕ) (h : Ehdr) (ss : List Shdr) (gs : List Phdr) (cs : L
     cs ≡ map (λ s. bytes_in b (content_extent s)) ss → Reads (made b h ss gs cs ps) b
 made_reads b h ss gs cs ps tables contents = record {
   len = refl;
-  header = tables.header;
-  section_headers = tables.section_headers;
-  program_headers = tables.program_headers;
+  tables = tables;
   contents = contents;
 }
 
@@ -106,9 +103,7 @@ made_is_image b h ss gs cs ps are tables contents accounts clean = record {
   stands = record {
     bytes = are;
     len = refl;
-    header = tables.header;
-    section_headers = tables.section_headers;
-    program_headers = tables.program_headers;
+    tables = tables;
     contents = contents;
     accounts = subst (Accounts (value_extents h ss gs) (length b) 0) (sym (pieces_of b ps)) accounts;
     gaps = gaps_of b ps;

@@ -149,9 +149,11 @@ pub joined_stands : (v : ImageValue) → IsSound v → Stands v (joined v)
 joined_stands v sound = record {
   bytes = IsBytes-joined v sound;
   len = sym (length-joined v sound);
-  header = header_read (joined v) v.header sound.header (holds_header v sound);
-  section_headers = stands_sections v sound;
-  program_headers = stands_segments v sound;
+  tables = record {
+    header = header_read (joined v) v.header sound.header (holds_header v sound);
+    section_headers = stands_sections v sound;
+    program_headers = stands_segments v sound;
+  };
   contents = stands_contents v sound;
   accounts = sound.accounts;
   gaps = gaps_read v (joined v) v.parts (in_joined v sound) sound.gaps;

@@ -24,7 +24,7 @@ use Rattle.elf_rules.specs.ImageRules.{image_rows, rows}
 use Rattle.elf_rules.specs.Tables.{bytes_in, content_extent, header, name_table, names, names_at, order_of, section_count, sections, segment_count, segments}
 use Rattle.elf_image.specs.declared.part.Owner.{Owner}
 use Rattle.elf_image.specs.declared.part.Owner.TheVariants.{Header, ProgramTable, SectionTable, Content, Gap}
-use Rattle.elf_image.specs.Image.{ImageValue, IsImage, IsSound, PlacedPart, Stands, gap_in, gap_len, if_gap, index_of, joined, no_section, no_segment, owned_bytes, part_bytes, piece_of, section_of, segment_of, value_extents, value_names, value_rows}
+use Rattle.elf_image.specs.Image.{AreTables, ImageValue, IsImage, IsSound, PlacedPart, Stands, gap_in, gap_len, if_gap, index_of, joined, no_section, no_segment, owned_bytes, part_bytes, piece_of, section_of, segment_of, value_extents, value_names, value_rows}
 use Rattle.elf_rules.proofs.Clean.{clean_records, sound_tables}
 use Rattle.elf_image.proofs.Holds as holds
 use Rattle.elf_image.proofs.Joins.{HaveLengths, flat_parts_are}
@@ -42,17 +42,13 @@ lengths_of v sound = holds.lengths_of v sound
 -- what is read of a byte list: the value's records and contents, but not its parts
 pub record Reads (v : ImageValue) (b : List ℕ) : Type 0 where
   pub len : v.len ≡ length b
-  pub header : v.header ≡ header b
-  pub section_headers : v.sections ≡ map (sections b v.header) (range_with_len 0 (section_count v.header (sections b v.header 0)))
-  pub program_headers : v.segments ≡ map (segments b v.header) (range_with_len 0 (segment_count v.header (sections b v.header 0)))
+  pub tables : AreTables b v.header v.sections v.segments
   pub contents : v.contents ≡ map (λ s. bytes_in b (content_extent s)) v.sections
 
 reads_of : (v : ImageValue) (b : List ℕ) → Stands v b → Reads v b
 reads_of v b stands = record {
   len = stands.len;
-  header = stands.header;
-  section_headers = stands.section_headers;
-  program_headers = stands.program_headers;
+  tables = stands.tables;
   contents = stands.contents;
 }
 
@@ -72,9 +68,9 @@ first_from v b stands some = elim (cases_eq v.header.e_shoff 0) [
   | inl none ↦ inl none
   | inr there ↦
       (let n = section_count v.header (sections b v.header 0) in
-      let count : length v.sections ≡ n = ap length stands.section_headers ∙ length-map-range_with_len (sections b v.header) 0 n in
+      let count : length v.sections ≡ n = ap length stands.tables.section_headers ∙ length-map-range_with_len (sections b v.header) 0 n in
       let positive = some there in
-      inr (entry_at (sections b v.header) v.sections no_section n (sym stands.section_headers) 0 (omega arith)))
+      inr (entry_at (sections b v.header) v.sections no_section n (sym stands.tables.section_headers) 0 (omega arith)))
 ]
 
 shared_of : (v : ImageValue) (b : List ℕ) → Reads v b → (v.header.e_shoff ≢ 0 → 0 < length v.sections) →
@@ -82,8 +78,8 @@ shared_of : (v : ImageValue) (b : List ℕ) → Reads v b → (v.header.e_shoff 
     (v.header.e_shoff ≢ 0 → name_table v.header (section_of v.sections 0) < length v.sections) → IsShared v b
 shared_of v b stands some few unnamed named = record {
   first = first_from v b stands some;
-  count = ap length stands.section_headers ∙ length-map-range_with_len (sections b v.header) 0 _;
-  segment_count = ap length stands.program_headers ∙ length-map-range_with_len (segments b v.header) 0 _;
+  count = ap length stands.tables.section_headers ∙ length-map-range_with_len (sections b v.header) 0 _;
+  segment_count = ap length stands.tables.program_headers ∙ length-map-range_with_len (segments b v.header) 0 _;
   few = few;
   unnamed = unnamed;
   named = named;
@@ -93,8 +89,8 @@ agree_from : (v : ImageValue) (b : List ℕ) → Reads v b → IsShared v b →
     Agree v.header (sections b v.header) (section_of v.sections) (segments b v.header) (segment_of v.segments)
 agree_from v b stands shared = record {
   first = shared.first;
-  sections = entry_at (sections b v.header) v.sections no_section _ (sym stands.section_headers);
-  segments = entry_at (segments b v.header) v.segments no_segment _ (sym stands.program_headers);
+  sections = entry_at (sections b v.header) v.sections no_section _ (sym stands.tables.section_headers);
+  segments = entry_at (segments b v.header) v.segments no_segment _ (sym stands.tables.program_headers);
 }
 
 agree_back : (v : ImageValue) (b : List ℕ) → Reads v b → IsShared v b →
@@ -142,7 +138,7 @@ clean_bytes v b stands shared clean =
     let moved = same_clean v.len v.header _ _ _ _ _ (agree_back v b stands shared) clean in
     let named : IsFaultOf (image_rows v.len v.header (sections b v.header) (segments b v.header) (names b v.header)) None =
     subst (λ (ns : List ℕ). IsFaultOf (image_rows v.len v.header (sections b v.header) (segments b v.header) ns) None) (sym (names_same v b stands shared)) moved in
-    subst P stands.header (subst (λ (n : ℕ). IsFaultOf (image_rows n v.header (sections b v.header) (segments b v.header) (names b v.header)) None) stands.len named)
+    subst P stands.tables.header (subst (λ (n : ℕ). IsFaultOf (image_rows n v.header (sections b v.header) (segments b v.header) (names b v.header)) None) stands.len named)
 
 -- the rules of b, said with the header of the value that stands
 rows_at_value : (v : ImageValue) (b : List ℕ) → Reads v b → IsFaultOf (rows b) None →
@@ -150,7 +146,7 @@ rows_at_value : (v : ImageValue) (b : List ℕ) → Reads v b → IsFaultOf (row
 unfolding rows
 rows_at_value v b stands clean =
     let P : Ehdr → Type 0 = λ h. IsFaultOf (image_rows (length b) h (sections b h) (segments b h) (names b h)) None in
-    subst (λ (n : ℕ). IsFaultOf (image_rows n v.header (sections b v.header) (segments b v.header) (names b v.header)) None) (sym stands.len) (subst P (sym stands.header) clean)
+    subst (λ (n : ℕ). IsFaultOf (image_rows n v.header (sections b v.header) (segments b v.header) (names b v.header)) None) (sym stands.len) (subst P (sym stands.tables.header) clean)
 
 -- what is shared, from a clean byte list
 shared_by_reads : (v : ImageValue) (b : List ℕ) → Reads v b → IsFaultOf (rows b) None → IsShared v b
@@ -158,7 +154,7 @@ shared_by_reads v b stands clean =
     let facts = sound_tables v.len v.header (sections b v.header) (segments b v.header) (names b v.header)
     (clean_records v.len v.header (sections b v.header) (segments b v.header) (names b v.header) (rows_at_value v b stands clean)) in
     let n = section_count v.header (sections b v.header 0) in
-    let count : length v.sections ≡ n = ap length stands.section_headers ∙ length-map-range_with_len (sections b v.header) 0 n in
+    let count : length v.sections ≡ n = ap length stands.tables.section_headers ∙ length-map-range_with_len (sections b v.header) 0 n in
     let some : v.header.e_shoff ≢ 0 → 0 < length v.sections = λ there. let lt = facts.some there in omega arith in
     let first = first_from v b stands some in
     let table = same_name_table v.header _ _ first facts.no_names in
@@ -240,7 +236,7 @@ owned_at v b image Header gap start len some owned gaps =
     let long = facts.header in
     let e = holds.same_start _ _ owned in
     let l = holds.same_len _ _ owned in
-    header_bytes b v.header stands.bytes (omega arith) stands.header ∙ ap₂ (λ (m n : ℕ). take m (drop n b)) l e
+    header_bytes b v.header stands.bytes (omega arith) stands.tables.header ∙ ap₂ (λ (m n : ℕ). take m (drop n b)) l e
 owned_at v b image SectionTable gap start len some owned gaps =
     let stands = image.stands in
     let counted = counted_by_bytes v b image in
@@ -252,7 +248,7 @@ owned_at v b image SectionTable gap start len some owned gaps =
     let within = facts.section_table (table_there v counted positive) in
     let count = counted.section_count in
     let same = (shared_by_bytes v b image).count in
-    ap (flat_map (shdr_bytes (order_of v.header.e_ident))) (stands.section_headers ∙ ap (λ (n : ℕ). map (sections b v.header) (range_with_len 0 n)) (sym same))
+    ap (flat_map (shdr_bytes (order_of v.header.e_ident))) (stands.tables.section_headers ∙ ap (λ (n : ℕ). map (sections b v.header) (range_with_len 0 n)) (sym same))
     ∙ section_bytes b v.header (length v.sections) stands.bytes (omega arith) ∙ ap₂ (λ (m n : ℕ). take m (drop n b)) l e
 owned_at v b image ProgramTable gap start len some owned gaps =
     let stands = image.stands in
@@ -265,7 +261,7 @@ owned_at v b image ProgramTable gap start len some owned gaps =
     let positive : 0 < segment_count v.header (section_of v.sections 0) = omega arith in
     let within = facts.program_table positive in
     let same = (shared_by_bytes v b image).segment_count in
-    ap (flat_map (phdr_bytes (order_of v.header.e_ident))) (stands.program_headers ∙ ap (λ (n : ℕ). map (segments b v.header) (range_with_len 0 n)) (sym same))
+    ap (flat_map (phdr_bytes (order_of v.header.e_ident))) (stands.tables.program_headers ∙ ap (λ (n : ℕ). map (segments b v.header) (range_with_len 0 n)) (sym same))
     ∙ segment_bytes b v.header (length v.segments) stands.bytes (omega arith) ∙ ap₂ (λ (m n : ℕ). take m (drop n b)) l e
 owned_at v b image (Content i) gap start len some owned gaps =
     ap (λ (cs : List (List ℕ)). get_or cs i []) image.stands.contents ∙ content_bytes b v.sections i _ owned
@@ -343,9 +339,9 @@ image_is_sound v b image =
     let counted = counted_by_bytes v b image in
     let whole = stands.len in
     record {
-      header = subst IsEhdr (sym stands.header) (fit_header b stands.bytes);
-      section_headers = subst (AllByRecursion IsShdr) (sym stands.section_headers) (fit_sections b v.header _ stands.bytes);
-      program_headers = subst (AllByRecursion IsPhdr) (sym stands.program_headers) (fit_segments b v.header _ stands.bytes);
+      header = subst IsEhdr (sym stands.tables.header) (fit_header b stands.bytes);
+      section_headers = subst (AllByRecursion IsShdr) (sym stands.tables.section_headers) (fit_sections b v.header _ stands.bytes);
+      program_headers = subst (AllByRecursion IsPhdr) (sym stands.tables.program_headers) (fit_segments b v.header _ stands.bytes);
       section_count = counted.section_count;
       segment_count = counted.segment_count;
       lengths = ap (map length) stands.contents ∙ lengths_by b v.sections (λ k s at some. subst (λ (n : ℕ). s.sh_offset + (content_extent s).len ≤ n) whole (content_within v counted k s at some));

@@ -96,14 +96,17 @@ if_gap (Content i) x d = d
 abbrev pub gap_in : List ℕ → Part → List ℕ
 gap_in b p = if_gap p.owner (take p.len (drop p.start b)) []
 
+-- the records are those that the byte list b has at their offsets
+pub record AreTables (b : List ℕ) (h : Ehdr) (ss : List Shdr) (gs : List Phdr) : Type 0 where
+  pub header : h ≡ header b
+  pub section_headers : ss ≡ map (sections b h) (range_with_len 0 (section_count h (sections b h 0)))
+  pub program_headers : gs ≡ map (segments b h) (range_with_len 0 (segment_count h (sections b h 0)))
+
 -- the value stands as the byte list b
 pub record Stands (v : ImageValue) (b : List ℕ) : Type 0 where
   pub bytes : IsBytes b
   pub len : v.len ≡ length b
-  pub header : v.header ≡ header b
-  -- the records are those at their offsets
-  pub section_headers : v.sections ≡ map (sections b v.header) (range_with_len 0 (section_count v.header (sections b v.header 0)))
-  pub program_headers : v.segments ≡ map (segments b v.header) (range_with_len 0 (segment_count v.header (sections b v.header 0)))
+  pub tables : AreTables b v.header v.sections v.segments
   -- each content is the bytes at its offset
   pub contents : v.contents ≡ map (λ s. bytes_in b (content_extent s)) v.sections
   -- the parts are the extents, and the longest runs of offsets that lie in none

@@ -5,8 +5,8 @@ ghost use Rattle.elf_extent.specs.Account.{Accounts};
 ghost use Rattle.elf_extent.specs.Extent.{AreDisjoint, AreWithin};
 ghost use Rattle.elf_rules.specs.ImageRules.{IsFault, KeepsRecordRules};
 ghost use Rattle.elf_rules.specs.Tables.{bytes_in, content_extent, phdr_offset, sections, segments, shdr_offset};
-ghost use Rattle.elf_image.specs.Image.{IsImage, index_of, part_piece, value_extents};
-ghost use Rattle.elf_image.specs.Parsing.{AreTables, IsParseFault};
+ghost use Rattle.elf_image.specs.Image.{AreTables, IsImage, index_of, part_piece, value_extents};
+ghost use Rattle.elf_image.specs.Parsing.{IsParseFault};
 
 use crate::fault::Fault;
 use crate::image::Image;

@@ -3,6 +3,7 @@ use super::{OpenFault, Opener, ToolFault, check, refuse_words, run, show};
 use std::alloc::Global;
 use std::io;
 use std::io::{ErrorKind, Read, Write};
+use std::process::Abort;
 
 /// A header alone, of 64 bytes, in little order.
 const HEADER: [u8; 64] = [
@@ -175,71 +176,12 @@ fn run_on(
     Ran { status, out, err }
 }
 
-#[test]
-fn ends_as_the_words_and_the_file_have_it(rt: HostRuntime) {
-    let mut wrong = HEADER;
-    wrong[3] = 0x47;
-    wrong[4] = 1;
-    let rows: [(&[&str], &[u8], u8, &str, &str); 15] = [
-        (&["elfmap", "check", "a.o"], &HEADER, 0, "ok 64 0 0\n", ""),
-        (
-            &["elfmap", "check", "--", "a.o"],
-            &HEADER,
-            0,
-            "ok 64 0 0\n",
-            "",
-        ),
-        (
-            &["elfmap", "check", "a.o"],
-            &HEADER[..63],
-            1,
-            "refused 2 63\n",
-            "",
-        ),
-        (&["elfmap", "check", "a.o"], &[], 1, "refused 2 0\n", ""),
-        (&["elfmap", "check", "a.o"], &wrong, 1, "refused 3 3\n", ""),
-        (
-            &["elfmap", "check", "b.o"],
-            &HEADER,
-            3,
-            "",
-            "cannot open b.o\n",
-        ),
-        (&["elfmap", "check"], &HEADER, 2, "", "try '--help'.\n"),
-        (
-            &["elfmap", "check", "a.o", "a.o"],
-            &HEADER,
-            2,
-            "",
-            "try '--help'.\n",
-        ),
-        (
-            &["elfmap", "show", "a.o"],
-            &HEADER,
-            0,
-            "file little 1 62 0x0 0x0\npart 0x0 0x40 header\n",
-            "",
-        ),
-        (
-            &["elfmap", "show", "a.o"],
-            &HEADER[..63],
-            1,
-            "refused 2 63\n",
-            "",
-        ),
-        (
-            &["elfmap", "dump", "a.o"],
-            &HEADER,
-            2,
-            "",
-            "try '--help'.\n",
-        ),
-        (&["elfmap", "help"], &HEADER, 2, "", "try '--help'.\n"),
-        (&["elfmap", "--help"], &HEADER, 2, "", "Print help\n"),
-        (&["elfmap"], &HEADER, 2, "", "try '--help'.\n"),
-        (&[], &HEADER, 2, "", "try '--help'.\n"),
-    ];
-    // A failed write to standard error changes nothing.
+/// The words, the bytes of `a.o`, the status, what stands on the output, and how the text on standard
+/// error ends.
+type Row<'a> = (&'a [&'a str], &'a [u8], u8, &'a str, &'a str);
+
+/// Runs the program on each row; a failed write to standard error changes nothing.
+fn assert_ends(rt: &impl Abort, alloc: Global, rows: &[Row<'_>]) {
     for err_room in [ROOM, 0] {
         for (words, bytes, status, said, complained) in rows {
             let mut files = Folder {
@@ -247,27 +189,54 @@ fn ends_as_the_words_and_the_file_have_it(rt: HostRuntime) {
                 piece: 7,
                 failure: None,
             };
-            let ran = run_on(
-                rt.alloc(),
-                words,
-                &mut files,
-                Shelf::new(ROOM, None),
-                err_room,
-            );
-            assert_eq!(rt; ran.status, status, "{words:?}");
+            let ran = run_on(alloc, words, &mut files, Shelf::new(ROOM, None), err_room);
+            assert_eq!(rt; ran.status, *status, "{words:?}");
             assert_eq!(rt; ran.out.text(), said.as_bytes(), "{words:?}");
             if err_room > 0 {
-                assert_eq!(rt;
-                    ran.err.text().is_empty(),
-                    complained.is_empty(),
-                    "{words:?}"
-                );
-                assert!(rt;
-                    ran.err.text().ends_with(complained.as_bytes()),
-                    "{words:?}"
-                );
+                let told = ran.err.text();
+                assert_eq!(rt; told.is_empty(), complained.is_empty(), "{words:?}");
+                assert!(rt; told.ends_with(complained.as_bytes()), "{words:?}");
             }
         }
+    }
+}
+
+#[test]
+fn ends_as_the_file_has_it(rt: HostRuntime) {
+    let mut wrong = HEADER;
+    wrong[3] = 0x47;
+    wrong[4] = 1;
+    let check: &[&str] = &["elfmap", "check", "a.o"];
+    let after_dashes: &[&str] = &["elfmap", "check", "--", "a.o"];
+    let show: &[&str] = &["elfmap", "show", "a.o"];
+    let other: &[&str] = &["elfmap", "check", "b.o"];
+    let shown = "file little 1 62 0x0 0x0\npart 0x0 0x40 header\n";
+    let rows: [Row<'_>; 8] = [
+        (check, &HEADER, 0, "ok 64 0 0\n", ""),
+        (after_dashes, &HEADER, 0, "ok 64 0 0\n", ""),
+        (check, &HEADER[..63], 1, "refused 2 63\n", ""),
+        (check, &[], 1, "refused 2 0\n", ""),
+        (check, &wrong, 1, "refused 3 3\n", ""),
+        (other, &HEADER, 3, "", "cannot open b.o\n"),
+        (show, &HEADER, 0, shown, ""),
+        (show, &HEADER[..63], 1, "refused 2 63\n", ""),
+    ];
+    assert_ends(&rt, rt.alloc(), &rows);
+}
+
+#[test]
+fn refuses_other_words(rt: HostRuntime) {
+    let rows: [(&[&str], &str); 7] = [
+        (&["elfmap", "check"], "try '--help'.\n"),
+        (&["elfmap", "check", "a.o", "a.o"], "try '--help'.\n"),
+        (&["elfmap", "dump", "a.o"], "try '--help'.\n"),
+        (&["elfmap", "help"], "try '--help'.\n"),
+        (&["elfmap", "--help"], "Print help\n"),
+        (&["elfmap"], "try '--help'.\n"),
+        (&[], "try '--help'.\n"),
+    ];
+    for (words, complained) in rows {
+        assert_ends(&rt, rt.alloc(), &[(words, &HEADER, 2, "", complained)]);
     }
 }
 
