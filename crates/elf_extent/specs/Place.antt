@@ -52,7 +52,11 @@ pub record IsOverflowAt (parts : List (ℕ × ℕ)) (from index : ℕ) (places :
   pub earlier : EndsFit parts places index
   pub past : 2 ^ 64 ≤ end_of parts places index
 
--- each fault with when it comes; memory may be refused at any time
+-- all parts end within a u64 at their least places
+abbrev pub AllFit : List (ℕ × ℕ) → ℕ → Type 0
+AllFit parts from = (places : List ℕ) × Least parts from places × EndsFit parts places (length parts)
+
+-- each fault with when it comes; want of memory is told only of parts that all fit
 abbrev pub IsPlaceFault : List (ℕ × ℕ) → ℕ → PlaceFault → Type 0
 IsPlaceFault parts from (Overflow index) = (places : List ℕ) × IsOverflowAt parts from index places
-IsPlaceFault parts from OutOfMemory = ⊤
+IsPlaceFault parts from OutOfMemory = AllFit parts from

@@ -1,6 +1,6 @@
 //! Least places for parts that are laid one after the other.
 ghost use Rattle.std.specs.Prelude.{length, IfOk, IfErr, MatchOption};
-ghost use Rattle.elf_extent.specs.Place.{EndsFit, HasNoPlace, IsLeastPlace, IsPlaceFault, Least};
+ghost use Rattle.elf_extent.specs.Place.{AllFit, EndsFit, HasNoPlace, IsLeastPlace, IsPlaceFault, Least};
 
 use std::alloc::Global;
 
@@ -10,7 +10,7 @@ pub enum PlaceFault {
     /// At its least place the part at `index` starts or ends past the last offset of a u64; no
     /// part before it does.
     Overflow { index: usize },
-    /// Memory was refused.
+    /// Memory was refused. Each part has a place.
     OutOfMemory,
 }
 
@@ -32,7 +32,7 @@ pub fn next_place(cursor: u64, align: u64) -> Option<u64>
 /// each other one from the end of the one before it. The alignment 0 counts as 1.
 ///
 /// Answers `Overflow` with the first part whose start or end does not fit a u64, and `OutOfMemory`
-/// only where memory was refused.
+/// only where there is none and memory was refused.
 pub fn place(alloc: Global, parts: &[(u64, u64)], from: u64) -> Result<Vec<u64>, PlaceFault>
     ensures least { IfOk result (λ places. Least parts.now from places.items) }
     ensures fits { IfOk result (λ places. EndsFit parts.now places.items (length parts.now)) }
@@ -49,9 +49,37 @@ pub fn place(alloc: Global, parts: &[(u64, u64)], from: u64) -> Result<Vec<u64>,
             return Err(PlaceFault::Overflow { index });
         };
         let Ok(()) = places.push(start) else {
-            return Err(PlaceFault::OutOfMemory);
+            return Err(fault_without_room(parts, from));
         };
         cursor = end;
     }
     Ok(places)
+}
+
+// The fault where memory was refused: an overflow, if any, comes before it.
+fn fault_without_room(parts: &[(u64, u64)], from: u64) -> PlaceFault
+    ensures { IsPlaceFault parts.now from result }
+{
+    match first_overflow(parts, from) {
+        Some(index) => PlaceFault::Overflow { index },
+        None => PlaceFault::OutOfMemory,
+    }
+}
+
+// The first part whose start or end does not fit a u64.
+fn first_overflow(parts: &[(u64, u64)], from: u64) -> Option<usize>
+    ensures { MatchOption result (AllFit parts.now from) (λ index. IsPlaceFault parts.now from (PlaceFault.Overflow index)) }
+{
+    let mut cursor = from;
+    for (index, part) in parts.iter().enumerate() {
+        let (size, align) = *part;
+        let Some(start) = next_place(cursor, align) else {
+            return Some(index);
+        };
+        let Some(after) = start.checked_add(size) else {
+            return Some(index);
+        };
+        cursor = after;
+    }
+    None
 }

@@ -165,5 +165,7 @@ fn places_parts(rt: HostRuntime) -> Result<(), Fail> {
     let last = u64::MAX - 1;
     let overflow = place(alloc, &[(1, 1), (1, 2)], last);
     assert!(rt; matches!(&overflow, Err(PlaceFault::Overflow { index: 1 })));
+    let end = place(alloc, &[(1, 1), (2, 1)], last);
+    assert!(rt; matches!(&end, Err(PlaceFault::Overflow { index: 1 })));
     Ok(())
 }

@@ -1,5 +1,5 @@
 //! The whole program over fakes: what it answers, writes and says for each way that it can end.
-use super::{OpenFault, Opener, ToolFault, check, refuse_words, run, show};
+use super::{MachineFiles, OpenFault, Opener, ToolFault, check, refuse_words, run, show};
 use std::alloc::Global;
 use std::io;
 use std::io::{ErrorKind, Read, Write};
@@ -288,6 +288,19 @@ fn a_failed_write_is_told_with_what_is_out(rt: HostRuntime) {
                 "room for {room}"
             );
         }
+    }
+}
+
+// No contract tells what the machine's files are: the null device is one, of just this name.
+#[test]
+fn opens_the_files_of_the_machine(rt: HostRuntime) {
+    let mut files = MachineFiles { files: &rt };
+    assert!(rt; matches!(&files.reader("/dev/null"), Ok(_)));
+    for name in ["no-such-file", "/dev/null ", ""] {
+        assert!(rt;
+            matches!(&files.reader(name), Err(OpenFault::Refused)),
+            "{name}"
+        );
     }
 }
 
