@@ -15,6 +15,10 @@ const MOST_BYTES: usize = (1 << 30) + 1;
 /// The room that the first read is given, in bytes.
 const FIRST_ROOM: usize = 1 << 16;
 
+/// No read is given more room than this: what is filled with zeros before a read is then still in
+/// the cache when the bytes come.
+const MOST_ROOM: usize = 1 << 18;
+
 /// Reads until a read gives 0 bytes or `buf`, which is empty at the call, holds 2^30 + 1 bytes.
 ///
 /// After a fault too `buf` holds exactly the bytes that the reader gave, in order. Any error of the
@@ -60,8 +64,9 @@ fn fill<R: Read>(reader: &mut R, buf: &mut Vec<u8>) -> (usize, Result<(), Fault>
     (filled, Ok(()))
 }
 
-// At least one byte of room after the first `filled`. It doubles, so that growing costs each byte
-// a constant number of copies.
+// At least one byte of room after the first `filled`. The vector's capacity doubles as it grows, so
+// that growing costs each byte a constant number of copies, but only room for the next read is
+// filled: memory behind it is never touched.
 fn make_room(buf: &mut Vec<u8>, filled: usize) -> Result<(), AllocError>
     requires within { filled ≤ vec_len buf.old }
     requires below { filled < 2 ^ 30 + 1 }
@@ -74,7 +79,8 @@ fn make_room(buf: &mut Vec<u8>, filled: usize) -> Result<(), AllocError>
     if filled < buf.len() {
         return Ok(());
     }
-    buf.resize((2 * filled).max(FIRST_ROOM).min(MOST_BYTES), 0)
+    let room = filled.max(FIRST_ROOM).min(MOST_ROOM);
+    buf.resize((filled + room).min(MOST_BYTES), 0)
 }
 
 // One read into `buf` after its first `filled` bytes, which stay.

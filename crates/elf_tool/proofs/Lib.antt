@@ -1,3 +1,4 @@
--- Lemmas on the program's command, and on texts that go out in pieces.
+-- Lemmas on the program's command, on digits, and on texts that go out in pieces.
+pub mod Digits
 pub mod Entered
 pub mod Output

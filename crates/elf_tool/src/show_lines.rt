@@ -5,6 +5,9 @@ ghost use Rattle.std.specs.List.{list_all};
 ghost use Rattle.hex.specs.Hex.{encode_lower};
 ghost use Rattle.elf_tool.specs.ShowLines.{file_line, is_graphic as is_graphic_byte, is_plain as is_plain_name, name_text, order_text, owner_text, part_line, section_head, section_line, section_tail, segment_head, segment_line, segment_tail};
 
+mod digits;
+
+use digits::{push_decimal, push_hexadecimal};
 use elf_field::{Ehdr, Order, Phdr, Shdr};
 use elf_image::{Owner, Part};
 use elf_rules::tables::order_in;
@@ -50,8 +53,9 @@ pub(crate) fn push_part_line(
     ensures { OnOk result (text.new.items ≡ text.old.items ++ part_line bytes.now part) }
 {
     let Part { start, len, .. } = part;
-    let place = format!(in alloc; "part 0x{start:x} 0x{len:x} ")?;
-    text.extend_from_slice(place.as_bytes())?;
+    push_hexadecimal(text, b"part 0x", start)?;
+    push_hexadecimal(text, b" 0x", len)?;
+    text.extend_from_slice(b" ")?;
     push_owner(alloc, text, bytes, part)?;
     text.extend_from_slice(b"\n")
 }
@@ -65,23 +69,22 @@ fn push_owner(alloc: Global, text: &mut Vec<u8>, bytes: &[u8], part: Part) -> Re
         Owner::Header => text.extend_from_slice(b"header"),
         Owner::ProgramTable => text.extend_from_slice(b"segments"),
         Owner::SectionTable => text.extend_from_slice(b"sections"),
-        Owner::Content(index) => push_content(alloc, text, index),
+        Owner::Content(index) => push_content(text, index),
         Owner::Gap => push_gap(alloc, text, gap_front(bytes, part)),
     }
 }
 
-fn push_content(alloc: Global, text: &mut Vec<u8>, index: usize) -> Result<(), AllocError>
+fn push_content(text: &mut Vec<u8>, index: usize) -> Result<(), AllocError>
     ensures { OnOk result (text.new.items ≡ text.old.items ++ (codes "content " ++ decimal index)) }
 {
-    let words = format!(in alloc; "content {index}")?;
-    text.extend_from_slice(words.as_bytes())
+    push_decimal(text, b"content ", index as u64)
 }
 
 fn push_gap(alloc: Global, text: &mut Vec<u8>, front: &[u8]) -> Result<(), AllocError>
     ensures { OnOk result (text.new.items ≡ text.old.items ++ (codes "gap " ++ encode_lower front.now)) }
 {
     text.extend_from_slice(b"gap ")?;
-    push_hexadecimal(alloc, text, front)
+    push_bytes(alloc, text, front)
 }
 
 // The bytes of a gap that are shown.
@@ -115,23 +118,19 @@ pub(crate) fn push_section_line(
 ) -> Result<(), AllocError>
     ensures { OnOk result (text.new.items ≡ text.old.items ++ section_line index section.now name.now) }
 {
-    push_section_head(alloc, text, index, section)?;
+    push_section_head(text, index, section)?;
     push_section_tail(alloc, text, section, name)
 }
 
-fn push_section_head(
-    alloc: Global,
-    text: &mut Vec<u8>,
-    index: usize,
-    section: &Shdr,
-) -> Result<(), AllocError>
+fn push_section_head(text: &mut Vec<u8>, index: usize, section: &Shdr) -> Result<(), AllocError>
     ensures { OnOk result (text.new.items ≡ text.old.items ++ section_head index section.now) }
 {
-    let head = format!(in alloc;
-        "section {index} {} 0x{:x} 0x{:x} 0x{:x} 0x{:x}",
-        section.sh_type, section.sh_flags, section.sh_addr, section.sh_offset, section.sh_size
-    )?;
-    text.extend_from_slice(head.as_bytes())
+    push_decimal(text, b"section ", index as u64)?;
+    push_decimal(text, b" ", section.sh_type as u64)?;
+    push_hexadecimal(text, b" 0x", section.sh_flags)?;
+    push_hexadecimal(text, b" 0x", section.sh_addr)?;
+    push_hexadecimal(text, b" 0x", section.sh_offset)?;
+    push_hexadecimal(text, b" 0x", section.sh_size)
 }
 
 fn push_section_tail(
@@ -142,11 +141,19 @@ fn push_section_tail(
 ) -> Result<(), AllocError>
     ensures { OnOk result (text.new.items ≡ text.old.items ++ section_tail section.now name.now) }
 {
-    let numbers = format!(in alloc;
-        " {} {} 0x{:x} 0x{:x} ",
-        section.sh_link, section.sh_info, section.sh_addralign, section.sh_entsize
-    )?;
-    text.extend_from_slice(numbers.as_bytes())?;
+    push_decimal(text, b" ", section.sh_link as u64)?;
+    push_decimal(text, b" ", section.sh_info as u64)?;
+    push_hexadecimal(text, b" 0x", section.sh_addralign)?;
+    push_hexadecimal(text, b" 0x", section.sh_entsize)?;
+    push_last_name(alloc, text, name)
+}
+
+// A name at the end of a line.
+fn push_last_name(alloc: Global, text: &mut Vec<u8>, name: &[u8]) -> Result<(), AllocError>
+    ensures { OnOk result (text.new.items ≡
+        text.old.items ++ (codes " " ++ (name_text name.now ++ codes "\n"))) }
+{
+    text.extend_from_slice(b" ")?;
     push_name(alloc, text, name)?;
     text.extend_from_slice(b"\n")
 }
@@ -154,40 +161,34 @@ fn push_section_tail(
 /// `segment J TYPE FLAGS OFFSET VADDR PADDR FILESZ MEMSZ ALIGNMENT`.
 #[tactic(auto, unfolding(crate::specs::ShowLines::segment_line))]
 pub(crate) fn push_segment_line(
-    alloc: Global,
     text: &mut Vec<u8>,
     index: usize,
     segment: &Phdr,
 ) -> Result<(), AllocError>
     ensures { OnOk result (text.new.items ≡ text.old.items ++ segment_line index segment.now) }
 {
-    push_segment_head(alloc, text, index, segment)?;
-    push_segment_tail(alloc, text, segment)
+    push_segment_head(text, index, segment)?;
+    push_segment_tail(text, segment)
 }
 
-fn push_segment_head(
-    alloc: Global,
-    text: &mut Vec<u8>,
-    index: usize,
-    segment: &Phdr,
-) -> Result<(), AllocError>
+fn push_segment_head(text: &mut Vec<u8>, index: usize, segment: &Phdr) -> Result<(), AllocError>
     ensures { OnOk result (text.new.items ≡ text.old.items ++ segment_head index segment.now) }
 {
-    let head = format!(in alloc;
-        "segment {index} {} 0x{:x} 0x{:x} 0x{:x}",
-        segment.p_type, segment.p_flags, segment.p_offset, segment.p_vaddr
-    )?;
-    text.extend_from_slice(head.as_bytes())
+    push_decimal(text, b"segment ", index as u64)?;
+    push_decimal(text, b" ", segment.p_type as u64)?;
+    push_hexadecimal(text, b" 0x", segment.p_flags as u64)?;
+    push_hexadecimal(text, b" 0x", segment.p_offset)?;
+    push_hexadecimal(text, b" 0x", segment.p_vaddr)
 }
 
-fn push_segment_tail(alloc: Global, text: &mut Vec<u8>, segment: &Phdr) -> Result<(), AllocError>
+fn push_segment_tail(text: &mut Vec<u8>, segment: &Phdr) -> Result<(), AllocError>
     ensures { OnOk result (text.new.items ≡ text.old.items ++ segment_tail segment.now) }
 {
-    let tail = format!(in alloc;
-        " 0x{:x} 0x{:x} 0x{:x} 0x{:x}\n",
-        segment.p_paddr, segment.p_filesz, segment.p_memsz, segment.p_align
-    )?;
-    text.extend_from_slice(tail.as_bytes())
+    push_hexadecimal(text, b" 0x", segment.p_paddr)?;
+    push_hexadecimal(text, b" 0x", segment.p_filesz)?;
+    push_hexadecimal(text, b" 0x", segment.p_memsz)?;
+    push_hexadecimal(text, b" 0x", segment.p_align)?;
+    text.extend_from_slice(b"\n")
 }
 
 // A name as it stands where it is plain, `-` where it is empty, and else in hexadecimal behind `#`.
@@ -202,10 +203,10 @@ fn push_name(alloc: Global, text: &mut Vec<u8>, name: &[u8]) -> Result<(), Alloc
         return text.extend_from_slice(name);
     }
     text.extend_from_slice(b"#")?;
-    push_hexadecimal(alloc, text, name)
+    push_bytes(alloc, text, name)
 }
 
-fn push_hexadecimal(alloc: Global, text: &mut Vec<u8>, bytes: &[u8]) -> Result<(), AllocError>
+fn push_bytes(alloc: Global, text: &mut Vec<u8>, bytes: &[u8]) -> Result<(), AllocError>
     ensures { OnOk result (text.new.items ≡ text.old.items ++ encode_lower bytes.now) }
 {
     let digits = hex::encode(alloc, bytes)?;

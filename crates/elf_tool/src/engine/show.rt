@@ -123,7 +123,7 @@ fn show_segments<W: Write>(
         (segment_lines image.now) result }
 {
     for j in 0..image.segment_count() {
-        push_segment_line(alloc, &mut output.pending, j, &image.segment(j))?;
+        push_segment_line(&mut output.pending, j, &image.segment(j))?;
         output.flush_piece(writer)?;
     }
     Ok(())
