@@ -4,7 +4,7 @@ ghost use Rattle.std.specs.Prelude.{◌<◌, ◌≡◌, length};
 
 use elf_field::{Ehdr, Order, Record, Shdr};
 use elf_image::{parse, verdict, write};
-use elf_tool::{Verdict, check};
+use elf_tool::{Verdict, check, show};
 use std::alloc::{AllocError, Global};
 use std::test::Fail;
 
@@ -36,16 +36,9 @@ fn push_section(file: &mut Vec<u8>, section: &Shdr) -> Result<(), AllocError> {
     file.extend_from_slice(&bytes)
 }
 
-/// A little-endian object of `count` empty sections without names, and no symbols: the sections, a
-/// symbol table, its string table and the section name string table.
-fn object(alloc: Global, count: u32) -> Result<Vec<u8>, AllocError>
-    requires { count < 100000 }
-{
-    let entries = count + 4;
-    let names = count + 3;
-    let is_counted = entries < 0xff00;
-    let is_named = names < 0xff00;
-    let header = Ehdr {
+/// The header of an object of so many section headers, with the name table of index `names`.
+fn header(entries: u32, names: u32) -> Ehdr {
+    Ehdr {
         e_ident: [0x7f, 0x45, 0x4c, 0x46, 2, 1, 1, 0, 0, 0, 0, 0, 0, 0, 0, 0],
         e_type: 1,
         e_machine: 62,
@@ -58,25 +51,37 @@ fn object(alloc: Global, count: u32) -> Result<Vec<u8>, AllocError>
         e_phentsize: 0,
         e_phnum: 0,
         e_shentsize: 64,
-        e_shnum: if is_counted { entries as u16 } else { 0 },
-        e_shstrndx: if is_named { names as u16 } else { 0xffff },
-    };
+        e_shnum: if entries < 0xff00 { entries as u16 } else { 0 },
+        e_shstrndx: if names < 0xff00 { names as u16 } else { 0xffff },
+    }
+}
+
+/// Its section header 0, with the numbers that the header cannot hold.
+fn first_section(entries: u32, names: u32) -> Shdr {
+    let mut first = section(0, 0, 0, 0, 0);
+    if entries >= 0xff00 {
+        first.sh_size = entries as u64;
+    }
+    if names >= 0xff00 {
+        first.sh_link = names;
+    }
+    first
+}
+
+/// A little-endian object of `count` empty sections without names, and no symbols: the sections, a
+/// symbol table, its string table and the section name string table.
+fn object(alloc: Global, count: u32) -> Result<Vec<u8>, AllocError>
+    requires { count < 100000 }
+{
     let mut file = Vec::new(alloc);
     let mut bytes = [0; 64];
-    header.put(Order::Little, &mut bytes);
+    header(count + 4, count + 3).put(Order::Little, &mut bytes);
     file.extend_from_slice(&bytes)?;
     file.extend_from_slice(&[0; 25])?;
     file.extend_from_slice(NAMES)?;
     file.extend_from_slice(&[0; 4])?;
 
-    let mut first = section(0, 0, 0, 0, 0);
-    if !is_counted {
-        first.sh_size = entries as u64;
-    }
-    if !is_named {
-        first.sh_link = names;
-    }
-    push_section(&mut file, &first)?;
+    push_section(&mut file, &first_section(count + 4, count + 3))?;
     let empty = section(0, 1, 64, 0, 1);
     for _ in 0..count {
         push_section(&mut file, &empty)?;
@@ -115,5 +120,22 @@ fn counts_in_section_header_0(rt: HostRuntime) -> Result<(), Fail> {
         assert!(rt; write(&image, &mut written).is_ok());
         assert!(rt; written.as_slice() == file.as_slice());
     }
+    Ok(())
+}
+
+/// The text is far longer than the pieces in which it goes out.
+#[test]
+fn shows_each_section(rt: HostRuntime) -> Result<(), Fail> {
+    let file = object(rt.alloc(), 65_275)?;
+    let mut said = Vec::new(rt.alloc());
+    let answer = show(rt.alloc(), &mut file.as_slice(), &mut said);
+    assert!(rt; matches!(answer, Ok(Verdict::Done)));
+    // The header's line, six parts, and the sections.
+    let lines = said.iter().filter(|byte| **byte == b'\n').count();
+    assert_eq!(rt; lines, 1 + 6 + 65_279);
+    let front = b"file little 1 62 0x0 0x0\npart 0x0 0x40 header\npart 0x40 0x18 content 65276\n";
+    assert!(rt; said.starts_with(front));
+    let end = b"\nsection 65278 3 0x0 0x0 0x59 0x1b 0 0 0x1 0x0 .shstrtab\n";
+    assert!(rt; said.ends_with(end));
     Ok(())
 }
