@@ -6,6 +6,8 @@ use elf_field::{Ehdr, Order, Record, Shdr};
 use elf_image::{parse, verdict, write};
 use elf_tool::{Verdict, check, show};
 use std::alloc::{AllocError, Global};
+use std::io;
+use std::io::Write;
 use std::test::Fail;
 
 /// The offset of the section header table: behind the symbol table's one entry, the empty string
@@ -123,13 +125,39 @@ fn counts_in_section_header_0(rt: HostRuntime) -> Result<(), Fail> {
     Ok(())
 }
 
+/// A writer that knows the longest piece that it was offered.
+#[derive(Drop)]
+struct Pieces {
+    text: Vec<u8>,
+    longest: usize,
+}
+
+impl Write for Pieces {
+    fn write(&mut self, buf: &[u8]) -> io::Result<usize> {
+        if self.text.extend_from_slice(buf).is_err() {
+            return Err(io::ErrorKind::OutOfMemory.into());
+        }
+        self.longest = self.longest.max(buf.len());
+        Ok(buf.len())
+    }
+
+    fn flush(&mut self) -> io::Result<()> {
+        Ok(())
+    }
+}
+
 /// The text is far longer than the pieces in which it goes out.
 #[test]
 fn shows_each_section(rt: HostRuntime) -> Result<(), Fail> {
     let file = object(rt.alloc(), 65_275)?;
-    let mut said = Vec::new(rt.alloc());
-    let answer = show(rt.alloc(), &mut file.as_slice(), &mut said);
+    let mut out = Pieces {
+        text: Vec::new(rt.alloc()),
+        longest: 0,
+    };
+    let answer = show(rt.alloc(), &mut file.as_slice(), &mut out);
     assert!(rt; matches!(answer, Ok(Verdict::Done)));
+    assert!(rt; out.longest < 66_000);
+    let said = out.text;
     // The header's line, six parts, and the sections.
     let lines = said.iter().filter(|byte| **byte == b'\n').count();
     assert_eq!(rt; lines, 1 + 6 + 65_279);
