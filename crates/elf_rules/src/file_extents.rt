@@ -1,8 +1,8 @@
 //! The extents of a file, read as they are asked for: no memory is taken.
-ghost use Rattle.std.specs.Prelude.{◌≡◌, ◌≤◌, ◌<◌, ◌+◌, ◌*◌, ◌^◌, ◌↔◌, IsTrue, Some, min, length, slice_get};
+ghost use Rattle.std.specs.Prelude.{◌≡◌, ◌≤◌, ◌<◌, ◌+◌, ◌*◌, ◌^◌, ◌↔◌, IsTrue, IfOk, Some, length, slice_get};
 ghost use Rattle.elf_extent.specs.Extent.{Doubly, Has};
 ghost use Rattle.elf_extent.specs.Least.{IsLowest, lower_of};
-ghost use Rattle.elf_rules.specs.OverlapRule.{AreAscending, DoublyBelow, SharedBelow, extents};
+ghost use Rattle.elf_rules.specs.OverlapRule.{DoublyBelow, SharedBelow, extents};
 ghost use Rattle.elf_rules.specs.Tables.{sections, shdr_offset};
 
 use crate::content::extent_of_content;
@@ -77,58 +77,72 @@ impl<'a> FileExtents<'a> {
     pub fn lowest_shared_byte(&self) -> Option<u64>
         ensures { IsLowest (Doubly (file_extents self.now)) result }
     {
-        // Contents that ascend share no byte with one another, but may with the header and tables.
-        let limit = if self.contents_ascend() {
-            FileExtents::TABLES
-        } else {
-            self.len()
-        };
-        self.lowest_double(limit)
+        match self.lowest_of_ascending() {
+            Ok(lowest) => lowest,
+            Err(NotAscending) => self.lowest_double(self.len()),
+        }
     }
 
-    /// Whether the contents that are not empty stand in the order of their section headers, each
-    /// behind the ones before it.
-    fn contents_ascend(&self) -> bool
-        ensures { let es = file_extents self.now in IsTrue result ↔ AreAscending es 3 (length es) }
+    /// The lowest byte that two of them hold, where the contents that are not empty stand in the order
+    /// of their section headers, each behind the ones before it: these share no byte with one another,
+    /// but may with the header and the tables.
+    fn lowest_of_ascending(&self) -> Result<Option<u64>, NotAscending>
+        ensures { IfOk result (IsLowest (Doubly (file_extents self.now))) }
     {
+        let mut lowest = self.lowest_double(FileExtents::TABLES);
         let mut last = Extent { start: 0, len: 0 };
         for index in FileExtents::TABLES..self.len() {
             let extent = self.at(index);
             if extent.len > 0 {
                 if begins_before_end(&extent, &last) {
-                    return false;
+                    return Err(NotAscending);
                 }
+                lowest = lower(lowest, self.lowest_in_tables(index, &extent));
                 last = extent;
             }
         }
-        true
+        Ok(lowest)
     }
 
-    /// The lowest byte that an extent shares with an earlier one of index below `limit`.
-    fn lowest_double(&self, limit: u64) -> Option<u64>
-        ensures { let es = file_extents self.now in IsLowest (DoublyBelow es limit (length es)) result }
+    /// The lowest byte that the content of this index shares with the header or a table.
+    fn lowest_in_tables(&self, index: u64, extent: &Extent) -> Option<u64>
+        requires { slice_get (file_extents self.now) index ≡ Some extent.now }
+        ensures { IsLowest (SharedBelow (file_extents self.now) 3 index) result }
+    {
+        let header = shared(&self.at(0), extent);
+        let section_table = shared(&self.at(1), extent);
+        let program_table = shared(&self.at(2), extent);
+        lower(lower(header, section_table), program_table)
+    }
+
+    /// The lowest byte that two of the first `end` extents hold.
+    fn lowest_double(&self, end: u64) -> Option<u64>
+        requires { end ≤ length (file_extents self.now) }
+        ensures { IsLowest (DoublyBelow (file_extents self.now) end end) result }
     {
         let mut lowest = None;
-        for index in 0..self.len() {
-            lowest = lower(lowest, self.lowest_shared(index, limit.min(index)));
+        for index in 0..end {
+            lowest = lower(lowest, self.lowest_shared(index));
         }
         lowest
     }
 
-    /// The lowest byte that extent `index` shares with one of index below `limit`.
-    fn lowest_shared(&self, index: u64, limit: u64) -> Option<u64>
-        requires index { index < length (file_extents self.now) }
-        requires limit { limit ≤ length (file_extents self.now) }
-        ensures { IsLowest (SharedBelow (file_extents self.now) limit index) result }
+    /// The lowest byte that extent `index` shares with one of a lower index.
+    fn lowest_shared(&self, index: u64) -> Option<u64>
+        requires { index < length (file_extents self.now) }
+        ensures { IsLowest (SharedBelow (file_extents self.now) index index) result }
     {
         let extent = self.at(index);
         let mut lowest = None;
-        for other in 0..limit {
+        for other in 0..index {
             lowest = lower(lowest, shared(&self.at(other), &extent));
         }
         lowest
     }
 }
+
+/// A content stands before one of a lower index.
+struct NotAscending;
 
 /// Whether an extent begins before another one ends.
 fn begins_before_end(extent: &Extent, other: &Extent) -> bool

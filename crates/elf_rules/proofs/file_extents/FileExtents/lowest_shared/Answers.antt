@@ -15,5 +15,5 @@ loop-other-preserved c =
 pub returns : goal.returns
 returns c =
     let es = file_extents c.args.self.now in
-    let end : c.loop-other.other ≡ c.args.limit = omega arith in
+    let end : c.loop-other.other ≡ c.args.index = omega arith in
     subst (λ (n : ℕ). IsLowest (SharedBelow es n c.args.index) c.loop-other.lowest) end c.loop-other.invariant
