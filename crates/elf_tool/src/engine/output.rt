@@ -1,5 +1,5 @@
 //! A text that goes out in large pieces.
-ghost use Rattle.std.specs.Prelude.{◌≡◌, [], OnOk};
+ghost use Rattle.std.specs.Prelude.{◌≡◌, ◌<◌, [], OnOk, length};
 ghost use Rattle.elf_tool.specs.Output.{IsSent};
 
 use crate::fault::ToolFault;
@@ -31,7 +31,8 @@ impl Output {
 
     /// Lets what is pending go out where it is a large piece.
     pub(crate) fn flush_piece<W: Write>(&mut self, writer: &mut W) -> Result<(), ToolFault>
-        ensures { IsSent (W.contents writer.old) (W.contents writer.new) self.old self.new [] result }
+        ensures sent { IsSent (W.contents writer.old) (W.contents writer.new) self.old self.new [] result }
+        ensures short { OnOk result (length self.new.pending.items < 65536) }
     {
         if self.pending.len() < PIECE {
             return Ok(());

@@ -19,9 +19,9 @@ pub returns-in_err-flush_piece : goal.returns-in_err-flush_piece
 returns-in_err-flush_piece g c =
     let p = err_from_is_err_and c.from_residual-in_err-flush_piece.result c.from_residual-in_err-flush_piece.ensures.1 in
     rw (p.1, p.2) (line_stopped (part_line c.args.bytes.now) c.args.parts.now c.loop-part.part-index no_part c.loop-part-test.true _ _ _ _ _ c.loop-part.invariant refl
-    _ (record { pending = c.push_part_line.new.text; written = c.loop-part.output.written }) c.in_err-flush_piece.field-0.0 c.in_ok-push_part_line.ensures refl c.in_err-flush_piece.ensures)
+    _ (record { pending = c.push_part_line.new.text; written = c.loop-part.output.written }) c.in_err-flush_piece.field-0.0 c.in_ok-push_part_line.ensures refl c.in_err-flush_piece.ensures.sent)
 
 pub loop-part-preserved : goal.loop-part-preserved
 loop-part-preserved g c =
     line_sent (part_line c.args.bytes.now) c.args.parts.now c.loop-part.part-index no_part c.loop-part-test.true _ _ _ _ _ c.loop-part.invariant refl
-    _ (record { pending = c.push_part_line.new.text; written = c.loop-part.output.written }) _ c.in_ok-push_part_line.ensures refl c.in_ok-flush_piece.ensures
+    _ (record { pending = c.push_part_line.new.text; written = c.loop-part.output.written }) _ c.in_ok-push_part_line.ensures refl c.in_ok-flush_piece.ensures.sent

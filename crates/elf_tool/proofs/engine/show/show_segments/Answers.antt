@@ -22,7 +22,7 @@ returns-in_err-flush_piece g c =
     let is = line_at (segment_text c.args.image.now) c.loop-j.j c.segment_count-j-end.result (length c.args.image.now.segments) line c.loop-j-test.true c.segment_count-j-end.ensures (ap (λ (s : Phdr). segment_line c.loop-j.j s) c.segment.ensures) in
     let p = err_from_is_err_and c.from_residual-in_err-flush_piece.result c.from_residual-in_err-flush_piece.ensures.1 in
     rw (p.1, p.2) (line_stopped (segment_text c.args.image.now) (range_with_len 0 (length c.args.image.now.segments)) c.loop-j.j 0 within _ _ _ _ line c.loop-j.invariant is
-    _ (record { pending = c.push_segment_line.new.text; written = c.loop-j.output.written }) c.in_err-flush_piece.field-0.0 c.in_ok-push_segment_line.ensures refl c.in_err-flush_piece.ensures)
+    _ (record { pending = c.push_segment_line.new.text; written = c.loop-j.output.written }) c.in_err-flush_piece.field-0.0 c.in_ok-push_segment_line.ensures refl c.in_err-flush_piece.ensures.sent)
 
 pub loop-j-preserved : goal.loop-j-preserved
 loop-j-preserved g c =
@@ -30,7 +30,7 @@ loop-j-preserved g c =
     let line = segment_line c.loop-j.j c.segment.result in
     let is = line_at (segment_text c.args.image.now) c.loop-j.j c.segment_count-j-end.result (length c.args.image.now.segments) line c.loop-j-test.true c.segment_count-j-end.ensures (ap (λ (s : Phdr). segment_line c.loop-j.j s) c.segment.ensures) in
     line_sent (segment_text c.args.image.now) (range_with_len 0 (length c.args.image.now.segments)) c.loop-j.j 0 within _ _ _ _ line c.loop-j.invariant is
-    _ (record { pending = c.push_segment_line.new.text; written = c.loop-j.output.written }) _ c.in_ok-push_segment_line.ensures refl c.in_ok-flush_piece.ensures
+    _ (record { pending = c.push_segment_line.new.text; written = c.loop-j.output.written }) _ c.in_ok-push_segment_line.ensures refl c.in_ok-flush_piece.ensures.sent
 
 pub returns : goal.returns
 unfolding segment_lines
