@@ -3,3 +3,5 @@
 
 #[cfg(test)]
 mod many_sections;
+#[cfg(test)]
+mod program;

@@ -9,8 +9,6 @@ mod line;
 mod opener;
 mod program;
 mod show_lines;
-#[cfg(test)]
-mod tests;
 mod words;
 
 pub use engine::check::check;

@@ -1,5 +1,5 @@
 //! The whole program over fakes: what it answers, writes and says for each way that it can end.
-use super::{MachineFiles, OpenFault, Opener, ToolFault, check, refuse_words, run, show};
+use elf_tool::{MachineFiles, OpenFault, Opener, ToolFault, check, refuse_words, run, show};
 use std::alloc::Global;
 use std::io;
 use std::io::{ErrorKind, Read, Write};
