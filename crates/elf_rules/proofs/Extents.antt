@@ -11,7 +11,7 @@ use Rattle.elf_extent.specs.declared.extent.Extent.{Extent}
 use Rattle.elf_extent.specs.Extent.{Has, HasAt, Doubly}
 use Rattle.elf_extent.specs.Least.{IsLowest, lower_of}
 use Rattle.elf_extent.proofs.Least.{IsLowest-same, IsLowest-lower}
-use Rattle.elf_rules.specs.OverlapRule.{DoublyBelow, SharedBelow, contents, extents}
+use Rattle.elf_rules.specs.OverlapRule.{AreAscending, DoublyBelow, SharedBelow, contents, extents}
 use Rattle.elf_rules.specs.declared.file_extents.FileExtents.{FileExtents}
 use Rattle.elf_rules.specs.FileExtents.{file_extents}
 use Rattle.elf_rules.specs.Tables.{content_extent, sections}
@@ -127,12 +127,6 @@ pub doubly_all : (es : List Extent) (found : Option ℕ) →
 doubly_all es found lowest =
     doubly_below es (length es) found (λ i j x high lt within one other. absurd (omega arith)) lowest
 
--- among the first `count` extents those from index `from` on that are not empty stand in the order of
--- the list, each behind the ones before it
-abbrev pub AreAscending : List Extent → ℕ → ℕ → Type 0
-AreAscending es from count = (i j : ℕ) (a e : Extent) → from ≤ i → i < j → j < count →
-    slice_get es i ≡ Some a → slice_get es j ≡ Some e → 0 < a.len → 0 < e.len → a.start + a.len ≤ e.start
-
 -- extents that ascend share no byte
 pub doubly_ascending : (es : List Extent) (limit : ℕ) (found : Option ℕ) → AreAscending es limit (length es) →
     IsLowest (DoublyBelow es limit (length es)) found → IsLowest (Doubly es) found
@@ -144,11 +138,13 @@ doubly_ascending es limit found ascend lowest = doubly_below es limit found apar
       let behind = ascend i j a e high lt within at_i at_j some also in
       omega arith
 
--- the walk over the contents: those below index k ascend, and none of them ends behind `last`
+-- the walk over the contents: those below index k ascend, none of them ends behind `last`, and `last` is one of them that is
+-- not empty, or holds no offset at all
 pub record IsWalk (es : List Extent) (from k : ℕ) (last : Extent) : Type 0 where
   pub ascending : AreAscending es from k
   pub behind : (i : ℕ) (a : Extent) → from ≤ i → i < k → slice_get es i ≡ Some a → 0 < a.len →
       a.start + a.len ≤ last.start + last.len
+  pub held : 0 < last.start + last.len → (i : ℕ) × (from ≤ i) × (i < k) × (slice_get es i ≡ Some last) × (0 < last.len)
 
 -- what is known of the member at k holds of the one that was read there
 at_read : (es : List Extent) (P : Extent → Type 0) (i k : ℕ) (a e : Extent) → i ≡ k → slice_get es k ≡ Some e →
@@ -170,12 +166,13 @@ walk_past es from k last e read empty walk = record {
     | inl earlier ↦ walk.behind i a low earlier at some
     | inr here ↦ absurd (at_read es (λ d. 0 < d.len → ⊥) i k a e (omega arith) read at empty some)
   ];
+  held = λ some. (let (i, low, below, at, has) = walk.held some in (i, low, omega arith, at, has));
 }
 
 -- to a member that begins behind the last
-pub walk_on : (es : List Extent) (from k : ℕ) (last e : Extent) → slice_get es k ≡ Some e → last.start + last.len ≤ e.start →
-    IsWalk es from k last → IsWalk es from (k + 1) e
-walk_on es from k last e read later walk = record {
+pub walk_on : (es : List Extent) (from k : ℕ) (last e : Extent) → from ≤ k → slice_get es k ≡ Some e → 0 < e.len →
+    last.start + last.len ≤ e.start → IsWalk es from k last → IsWalk es from (k + 1) e
+walk_on es from k last e under read has later walk = record {
   ascending = λ i j a b low lt below at_i at_j some_i some_j. elim (cases_lt j k) [
     | inl earlier ↦ walk.ascending i j a b low lt earlier at_i at_j some_i some_j
     | inr here ↦
@@ -186,6 +183,7 @@ walk_on es from k last e read later walk = record {
     | inl earlier ↦ (let end = walk.behind i a low earlier at some in omega arith)
     | inr here ↦ at_read es (λ d. d.start + d.len ≤ e.start + e.len) i k a e (omega arith) read at (omega arith)
   ];
+  held = λ some. (k, under, omega arith, read, has);
 }
 
 -- a search over the first members that goes on past an empty one

@@ -1,6 +1,6 @@
 -- Rule 33: no byte of the file belongs to two of its parts.
 -- (gABI chapter 4, Sections: "Sections in a file may not overlap".)
-use Rattle.std.specs.Prelude.{ℕ, ◌*◌, ◌<◌, Option, None, Some, List, ◌∷◌, map}
+use Rattle.std.specs.Prelude.{◌≡◌, ℕ, ◌*◌, ◌+◌, ◌<◌, ◌≤◌, Option, None, Some, List, ◌∷◌, map, slice_get}
 use Rattle.std.specs.List.{range_with_len}
 use Rattle.elf_field.specs.declared.ehdr.Ehdr.{Ehdr}
 use Rattle.elf_field.specs.declared.shdr.Shdr.{Shdr}
@@ -38,3 +38,9 @@ SharedBelow es limit j x = (i : ℕ) × (i < limit) × HasAt es i x × HasAt es 
 -- one of the first `count` extents shares the byte at x with an earlier one of index below limit
 abbrev pub DoublyBelow : List Extent → ℕ → ℕ → ℕ → Type 0
 DoublyBelow es limit count x = (i j : ℕ) × (i < j) × (i < limit) × (j < count) × HasAt es i x × HasAt es j x
+
+-- among the first `count` extents those from index `from` on that are not empty stand in the order of
+-- the list, each behind the ones before it
+abbrev pub AreAscending : List Extent → ℕ → ℕ → Type 0
+AreAscending es from count = (i j : ℕ) (a e : Extent) → from ≤ i → i < j → j < count →
+    slice_get es i ≡ Some a → slice_get es j ≡ Some e → 0 < a.len → 0 < e.len → a.start + a.len ≤ e.start

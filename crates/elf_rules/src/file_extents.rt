@@ -1,8 +1,8 @@
 //! The extents of a file, read as they are asked for: no memory is taken.
-ghost use Rattle.std.specs.Prelude.{◌≡◌, ◌≤◌, ◌<◌, ◌+◌, ◌*◌, ◌^◌, ◌↔◌, IsTrue, IfOk, Some, length, slice_get};
+ghost use Rattle.std.specs.Prelude.{◌≡◌, ◌≤◌, ◌<◌, ◌+◌, ◌*◌, ◌^◌, ◌↔◌, IsTrue, IfOk, OnErr, Some, length, slice_get};
 ghost use Rattle.elf_extent.specs.Extent.{Doubly, Has};
 ghost use Rattle.elf_extent.specs.Least.{IsLowest, lower_of};
-ghost use Rattle.elf_rules.specs.OverlapRule.{DoublyBelow, SharedBelow, extents};
+ghost use Rattle.elf_rules.specs.OverlapRule.{AreAscending, DoublyBelow, SharedBelow, extents};
 ghost use Rattle.elf_rules.specs.Tables.{sections, shdr_offset};
 
 use crate::content::extent_of_content;
@@ -87,7 +87,8 @@ impl<'a> FileExtents<'a> {
     /// of their section headers, each behind the ones before it: these share no byte with one another,
     /// but may with the header and the tables.
     fn lowest_of_ascending(&self) -> Result<Option<u64>, NotAscending>
-        ensures { IfOk result (IsLowest (Doubly (file_extents self.now))) }
+        ensures lowest { IfOk result (IsLowest (Doubly (file_extents self.now))) }
+        ensures otherwise { let es = file_extents self.now in OnErr result (¬ AreAscending es 3 (length es)) }
     {
         let mut lowest = self.lowest_double(FileExtents::TABLES);
         let mut last = Extent { start: 0, len: 0 };

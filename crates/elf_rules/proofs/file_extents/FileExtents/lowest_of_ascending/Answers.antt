@@ -3,8 +3,8 @@ use Rattle.std.proofs.lemmas.Bool.{cases_lt, iff_false}
 use Rattle.elf_extent.specs.declared.extent.Extent.{Extent}
 use Rattle.elf_extent.specs.Least.{IsLowest}
 use Rattle.elf_rules.specs.FileExtents.{file_extents}
-use Rattle.elf_rules.specs.OverlapRule.{DoublyBelow}
-use Rattle.elf_rules.proofs.Extents.{AreAscending, IsWalk, doubly_ascending, doubly_on, doubly_past, three_first, walk_on, walk_past}
+use Rattle.elf_rules.specs.OverlapRule.{AreAscending, DoublyBelow}
+use Rattle.elf_rules.proofs.Extents.{IsWalk, doubly_ascending, doubly_on, doubly_past, three_first, walk_on, walk_past}
 use Rattle.elf_rules.proofs.file_extents.FileExtents.lowest_of_ascending.Goals as goal
 use Rattle.elf_rules.proofs.file_extents.FileExtents.lowest_of_ascending.Goals.{then-extent-gt0+else-begins_before_end, else-extent-gt0}
 
@@ -20,7 +20,7 @@ loop-index-preserved c =
     let Found : Option ℕ → Type 0 = λ lowest. IsLowest (DoublyBelow es 3 (j + 1)) lowest in
     elim c.if-extent-gt0.branch [
       | then-extent-gt0+else-begins_before_end w ↦ (
-        subst Walk (sym w.last-is) (walk_on es 3 j c.loop-index.last c.at-extent.result c.at-extent.ensures
+        subst Walk (sym w.last-is) (walk_on es 3 j c.loop-index.last c.at-extent.result (omega arith) c.at-extent.ensures (omega arith)
             (elim (cases_lt c.at-extent.result.start (c.loop-index.last.start + c.loop-index.last.len)) [
               | inl sooner ↦ absurd (iff_false w.begins_before_end.ensures w.if-begins_before_end.false sooner)
               | inr behind ↦ behind
@@ -41,5 +41,8 @@ returns c =
     let long = c.len-index-end.ensures in
     let end : c.loop-index.index ≡ length es = omega arith in
     let walk = subst (λ (n : ℕ). AreAscending es 3 n) end c.loop-index.invariant.0.ascending in
-    doubly_ascending es 3 c.loop-index.lowest walk
-    (subst (λ (n : ℕ). IsLowest (DoublyBelow es 3 n) c.loop-index.lowest) end c.loop-index.invariant.1)
+    record {
+      lowest = doubly_ascending es 3 c.loop-index.lowest walk
+          (subst (λ (n : ℕ). IsLowest (DoublyBelow es 3 n) c.loop-index.lowest) end c.loop-index.invariant.1);
+      otherwise = tt;
+    }
