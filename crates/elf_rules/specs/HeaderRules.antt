@@ -2,7 +2,7 @@
 -- A header is judged as a value, h, of a file of len bytes.
 use Rattle.std.specs.Prelude.{◌≡◌, ◌≢◌, ℕ, ◌+◌, ◌^◌, ◌<◌, ◌≤◌, ◌⊎◌, List, [], ◌∷◌, slice_index}
 use Rattle.elf_field.specs.declared.ehdr.Ehdr.{Ehdr}
-use Rattle.elf_rules.specs.Rows.{Row, When}
+use Rattle.elf_rules.specs.Rows.{Row, Ruled, rule, When}
 
 -- rule 1: the file is longer than 2^30 bytes (a limit of elfmap, not of the gABI)
 abbrev pub too_long : ℕ → Row
@@ -58,20 +58,25 @@ abbrev pub first_section_header_past_end : ℕ → Ehdr → Row
 first_section_header_past_end len h = When ((h.e_shoff ≢ 0) × (len < h.e_shoff + 64)) 40
 
 -- rules 1 and 2
-unfoldable pub length_rows : ℕ → List {1} Row
-length_rows len = too_long len ∷ too_short len ∷ []
+unfoldable pub length_rows : ℕ → List {1} Ruled
+length_rows len =
+    rule 1 (too_long len) ∷
+    rule 2 (too_short len) ∷ []
 
 -- rules 3 to 6
-unfoldable pub ident_rows : List ℕ → List {1} Row
+unfoldable pub ident_rows : List ℕ → List {1} Ruled
 ident_rows ident =
-    wrong_magic ident ∷ wrong_class ident ∷ wrong_data ident ∷ wrong_ident_version ident ∷ []
+    rule 3 (wrong_magic ident) ∷
+    rule 4 (wrong_class ident) ∷
+    rule 5 (wrong_data ident) ∷
+    rule 6 (wrong_ident_version ident) ∷ []
 
 -- rules 7 to 12
-unfoldable pub header_rows : ℕ → Ehdr → List {1} Row
+unfoldable pub header_rows : ℕ → Ehdr → List {1} Ruled
 header_rows len h =
-    wrong_version h ∷
-    wrong_header_size h ∷
-    count_without_section_table h ∷
-    wrong_section_header_size h ∷
-    reserved_section_count h ∷
-    first_section_header_past_end len h ∷ []
+    rule 7 (wrong_version h) ∷
+    rule 8 (wrong_header_size h) ∷
+    rule 9 (count_without_section_table h) ∷
+    rule 10 (wrong_section_header_size h) ∷
+    rule 11 (reserved_section_count h) ∷
+    rule 12 (first_section_header_past_end len h) ∷ []

@@ -4,7 +4,7 @@
 use Rattle.std.specs.Prelude.{◌≢◌, ℕ, ◌+◌, ◌-◌, ◌<◌, List, [], ◌∷◌, length, slice_index}
 use Rattle.elf_field.specs.declared.ehdr.Ehdr.{Ehdr}
 use Rattle.elf_field.specs.declared.shdr.Shdr.{Shdr}
-use Rattle.elf_rules.specs.Rows.{Row, When, Either}
+use Rattle.elf_rules.specs.Rows.{Row, Ruled, rule, When, Either}
 use Rattle.elf_rules.specs.SectionRules.{SomeSection, IsNamePastEnd}
 use Rattle.elf_rules.specs.Tables.{shdr_offset}
 
@@ -29,6 +29,8 @@ abbrev pub name_past_end : Ehdr → ℕ → (ℕ → Shdr) → List ℕ → Row
 name_past_end h n s names = SomeSection h n s (IsNamePastEnd (length names)) 0
 
 -- rules 30 to 32
-unfoldable pub name_rows : Ehdr → ℕ → ℕ → (ℕ → Shdr) → List ℕ → List {1} Row
+unfoldable pub name_rows : Ehdr → ℕ → ℕ → (ℕ → Shdr) → List ℕ → List {1} Ruled
 name_rows h n k s names =
-    wrong_name_table_type h k s ∷ unclosed_name_table k s names ∷ name_past_end h n s names ∷ []
+    rule 30 (wrong_name_table_type h k s) ∷
+    rule 31 (unclosed_name_table k s names) ∷
+    rule 32 (name_past_end h n s names) ∷ []

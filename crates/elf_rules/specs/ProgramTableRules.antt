@@ -3,7 +3,7 @@
 use Rattle.std.specs.Prelude.{◌≡◌, ◌≢◌, ℕ, ◌<◌, ◌⊎◌, List, [], ◌∷◌}
 use Rattle.elf_field.specs.declared.ehdr.Ehdr.{Ehdr}
 use Rattle.elf_field.specs.declared.shdr.Shdr.{Shdr}
-use Rattle.elf_rules.specs.Rows.{Row, When}
+use Rattle.elf_rules.specs.Rows.{Row, Ruled, rule, When}
 use Rattle.elf_rules.specs.SectionTableRules.{InFirst}
 use Rattle.elf_rules.specs.Tables.{segment_count, phdr_offset}
 
@@ -35,9 +35,9 @@ program_table_past_end len h first =
     let m = segment_count h first in When ((0 < m) × (len < phdr_offset h m)) 32
 
 -- rules 18 to 21
-unfoldable pub program_table_rows : ℕ → Ehdr → Shdr → List {1} Row
+unfoldable pub program_table_rows : ℕ → Ehdr → Shdr → List {1} Ruled
 program_table_rows len h first =
-    wrong_segment_count h ∷
-    wrong_program_header_size h ∷
-    wrong_extended_segment_count h first ∷
-    program_table_past_end len h first ∷ []
+    rule 18 (wrong_segment_count h) ∷
+    rule 19 (wrong_program_header_size h) ∷
+    rule 20 (wrong_extended_segment_count h first) ∷
+    rule 21 (program_table_past_end len h first) ∷ []

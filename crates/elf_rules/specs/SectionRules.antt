@@ -6,7 +6,7 @@ use Rattle.elf_field.specs.declared.ehdr.Ehdr.{Ehdr}
 use Rattle.elf_field.specs.declared.shdr.Shdr.{Shdr}
 use Rattle.elf_rules.specs.declared.section_rules.SectionRule.{SectionRule}
 use Rattle.elf_rules.specs.declared.section_rules.SectionRule.TheVariants.{Alignment, Address, Content, Name}
-use Rattle.elf_rules.specs.Rows.{Row, SomeEntry}
+use Rattle.elf_rules.specs.Rows.{Row, Ruled, rule, SomeEntry}
 use Rattle.elf_rules.specs.Tables.{shdr_offset}
 
 -- the row of a rule on each of n sections but entry 0 and those of type NULL, at `field` in the header
@@ -60,6 +60,8 @@ section_field (Content len) = 24
 section_field (Name size) = 0
 
 -- rules 22 to 24
-unfoldable pub section_rows : ℕ → Ehdr → ℕ → (ℕ → Shdr) → List {1} Row
+unfoldable pub section_rows : ℕ → Ehdr → ℕ → (ℕ → Shdr) → List {1} Ruled
 section_rows len h n s =
-    wrong_section_alignment h n s ∷ misaligned_section h n s ∷ content_past_end len h n s ∷ []
+    rule 22 (wrong_section_alignment h n s) ∷
+    rule 23 (misaligned_section h n s) ∷
+    rule 24 (content_past_end len h n s) ∷ []

@@ -3,7 +3,7 @@
 use Rattle.std.specs.Prelude.{◌≡◌, ◌≢◌, ℕ, ◌+◌, ◌<◌, ◌≤◌, ◌⊎◌, List, [], ◌∷◌}
 use Rattle.elf_field.specs.declared.ehdr.Ehdr.{Ehdr}
 use Rattle.elf_field.specs.declared.shdr.Shdr.{Shdr}
-use Rattle.elf_rules.specs.Rows.{Row, When, Either}
+use Rattle.elf_rules.specs.Rows.{Row, Ruled, rule, When, Either}
 use Rattle.elf_rules.specs.Tables.{section_count, shdr_offset}
 
 -- the row of a rule on one field of section header 0, at `field` in it
@@ -56,10 +56,10 @@ wrong_extended_name_table_index h first =
     InFirst h (HasWrongExtendedNameTableIndex h first (section_count h first)) 40
 
 -- rules 13 to 17
-unfoldable pub section_table_rows : ℕ → Ehdr → Shdr → List {1} Row
+unfoldable pub section_table_rows : ℕ → Ehdr → Shdr → List {1} Ruled
 section_table_rows len h first =
-    first_section_header_not_null h first ∷
-    wrong_extended_section_count h first ∷
-    section_table_past_end len h first ∷
-    wrong_name_table_index h first ∷
-    wrong_extended_name_table_index h first ∷ []
+    rule 13 (first_section_header_not_null h first) ∷
+    rule 14 (wrong_extended_section_count h first) ∷
+    rule 15 (section_table_past_end len h first) ∷
+    rule 16 (wrong_name_table_index h first) ∷
+    rule 17 (wrong_extended_name_table_index h first) ∷ []

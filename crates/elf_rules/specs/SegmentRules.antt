@@ -5,7 +5,7 @@ use Rattle.elf_field.specs.declared.ehdr.Ehdr.{Ehdr}
 use Rattle.elf_field.specs.declared.phdr.Phdr.{Phdr}
 use Rattle.elf_rules.specs.declared.segment_rules.SegmentRule.{SegmentRule}
 use Rattle.elf_rules.specs.declared.segment_rules.SegmentRule.TheVariants.{End, Size, Alignment, Congruence}
-use Rattle.elf_rules.specs.Rows.{Row, SomeEntry}
+use Rattle.elf_rules.specs.Rows.{Row, Ruled, rule, SomeEntry}
 use Rattle.elf_rules.specs.SectionRules.{IsWrongAlignment}
 use Rattle.elf_rules.specs.Tables.{phdr_offset}
 
@@ -73,10 +73,10 @@ load_out_of_order h m g = λ x. (k j : ℕ) × (j < m) × IsLoad (g j) × IsLoad
     ((g j).p_vaddr < (g k).p_vaddr) × (x ≡ phdr_offset h j + 16)
 
 -- rules 25 to 29
-unfoldable pub segment_rows : ℕ → Ehdr → ℕ → (ℕ → Phdr) → List {1} Row
+unfoldable pub segment_rows : ℕ → Ehdr → ℕ → (ℕ → Phdr) → List {1} Ruled
 segment_rows len h m g =
-    segment_past_end len h m g ∷
-    file_size_above_memory_size h m g ∷
-    wrong_segment_alignment h m g ∷
-    incongruent_segment h m g ∷
-    load_out_of_order h m g ∷ []
+    rule 25 (segment_past_end len h m g) ∷
+    rule 26 (file_size_above_memory_size h m g) ∷
+    rule 27 (wrong_segment_alignment h m g) ∷
+    rule 28 (incongruent_segment h m g) ∷
+    rule 29 (load_out_of_order h m g) ∷ []

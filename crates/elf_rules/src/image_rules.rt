@@ -2,7 +2,7 @@
 ghost use Rattle.std.specs.Prelude.{◌≡◌, ◌+◌, ◌<◌, ◌≤◌, Some, IfErr, OnOk, length};
 ghost use Rattle.elf_rules.specs.Broken.{fault_of};
 ghost use Rattle.elf_rules.specs.ImageRules.{IsFault, KeepsRecordRules, entry_rows, table_rows};
-ghost use Rattle.elf_rules.specs.Rows.{FirstFrom};
+ghost use Rattle.elf_rules.specs.Rows.{FirstIn};
 ghost use Rattle.elf_rules.specs.Tables.{names, names_at, phdr_offset, sections, segments, shdr_offset};
 
 use crate::broken::Broken;
@@ -59,7 +59,7 @@ fn judge_tables(bytes: &[u8], header: &Ehdr) -> Result<(), Broken>
     requires nameless { header.now.e_shoff ≡ 0 → header.now.e_shstrndx ≡ 0 }
     ensures { let b = bytes.now in
         let h = header.now in
-        FirstFrom 13 (table_rows (length b) h (sections b h) (segments b h) (names b h)) (fault_of result) }
+        FirstIn (table_rows (length b) h (sections b h) (segments b h) (names b h)) (fault_of result) }
 {
     let len = bytes.len() as u64;
     let first = section_at(bytes, header, 0);
@@ -86,7 +86,7 @@ fn judge_entries(
     ensures { let b = bytes.now in
         let h = header.now in
         let names = names_at b h table in
-        FirstFrom 22
+        FirstIn
         (entry_rows (length b) h section_count segment_count table (sections b h) (segments b h) names)
         (fault_of result) }
 {

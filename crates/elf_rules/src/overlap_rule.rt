@@ -1,8 +1,8 @@
 //! Rule 33: no byte of the file belongs to two of its parts (gABI chapter 4, Sections).
 ghost use Rattle.std.specs.Prelude.{◌≤◌, ◌<◌, ◌*◌, ◌^◌, [], ◌∷◌, length};
 ghost use Rattle.elf_rules.specs.Broken.{fault_of};
-ghost use Rattle.elf_rules.specs.OverlapRule.{shared_byte};
-ghost use Rattle.elf_rules.specs.Rows.{FirstFrom};
+ghost use Rattle.elf_rules.specs.OverlapRule.{overlap_rows};
+ghost use Rattle.elf_rules.specs.Rows.{FirstIn};
 ghost use Rattle.elf_rules.specs.Tables.{sections, shdr_offset};
 
 use crate::broken::Broken;
@@ -15,14 +15,11 @@ pub fn judge_overlap(bytes: &[u8], header: &Ehdr, count: u64, segments: u64) -> 
     requires sections { shdr_offset header.now count ≤ length bytes.now }
     requires segments { 56 * segments < 2 ^ 64 }
     ensures { let s = sections bytes.now header.now in
-        FirstFrom 33 (shared_byte header.now count segments s ∷ []) (fault_of result) }
+        FirstIn (overlap_rows header.now count segments s) (fault_of result) }
 {
     let extents = FileExtents::new(bytes, *header, count, segments);
     match extents.lowest_shared_byte() {
-        Some(at) => Err(Broken {
-            rule: SHARED_BYTE,
-            at,
-        }),
+        Some(at) => Err(Broken::new(SHARED_BYTE, at)),
         None => Ok(()),
     }
 }

@@ -2,7 +2,7 @@
 ghost use Rattle.std.specs.Prelude.{◌≡◌, ◌≤◌, ◌<◌, ◌↔◌, IsTrue, length};
 ghost use Rattle.elf_extent.specs.Least.{IsLowest};
 ghost use Rattle.elf_rules.specs.Broken.{fault_of};
-ghost use Rattle.elf_rules.specs.Rows.{FirstFrom};
+ghost use Rattle.elf_rules.specs.Rows.{FirstIn};
 ghost use Rattle.elf_rules.specs.SectionRules.{BreaksSection, IsMisaligned, PassesEnd, SomeSection, section_field, section_rows};
 ghost use Rattle.elf_rules.specs.Tables.{sections, shdr_offset};
 
@@ -90,26 +90,17 @@ pub fn lowest_section(bytes: &[u8], header: &Ehdr, count: u64, rule: SectionRule
 pub fn judge_sections(bytes: &[u8], header: &Ehdr, count: u64) -> Result<(), Broken>
     requires { shdr_offset header.now count ≤ length bytes.now }
     ensures { let s = sections bytes.now header.now in
-        FirstFrom 22 (section_rows (length bytes.now) header.now count s) (fault_of result) }
+        FirstIn (section_rows (length bytes.now) header.now count s) (fault_of result) }
 {
     let len = bytes.len() as u64;
     if let Some(at) = lowest_section(bytes, header, count, SectionRule::Alignment) {
-        return Err(Broken {
-            rule: WRONG_SECTION_ALIGNMENT,
-            at,
-        });
+        return Err(Broken::new(WRONG_SECTION_ALIGNMENT, at));
     }
     if let Some(at) = lowest_section(bytes, header, count, SectionRule::Address) {
-        return Err(Broken {
-            rule: MISALIGNED_SECTION,
-            at,
-        });
+        return Err(Broken::new(MISALIGNED_SECTION, at));
     }
     if let Some(at) = lowest_section(bytes, header, count, SectionRule::Content(len)) {
-        return Err(Broken {
-            rule: CONTENT_PAST_END,
-            at,
-        });
+        return Err(Broken::new(CONTENT_PAST_END, at));
     }
     Ok(())
 }

@@ -3,7 +3,7 @@
 ghost use Rattle.std.specs.Prelude.{◌≢◌, ◌≤◌, ◌+◌, ◌<◌, ◌^◌, ◌↔◌, IsTrue, OnOk};
 ghost use Rattle.elf_extent.specs.Least.{IsLowest};
 ghost use Rattle.elf_rules.specs.Broken.{fault_of};
-ghost use Rattle.elf_rules.specs.Rows.{FirstFrom};
+ghost use Rattle.elf_rules.specs.Rows.{FirstIn};
 ghost use Rattle.elf_rules.specs.SectionTableRules.{HasWrongExtendedNameTableIndex, HasWrongExtendedSectionCount, HasWrongNameTableIndex, first_section_header_not_null, section_table_rows};
 ghost use Rattle.elf_rules.specs.Tables.{name_table, section_count, shdr_offset};
 
@@ -17,7 +17,7 @@ use elf_field::{Ehdr, Shdr};
 #[tactic(auto, unfolding(crate::specs::SectionTableRules::section_table_rows))]
 pub fn judge_section_table(header: &Ehdr, first: &Shdr, len: u64) -> Result<(), Broken>
     requires { header.now.e_shoff + 64 ≤ len }
-    ensures fault { FirstFrom 13 (section_table_rows len header.now first.now) (fault_of result) }
+    ensures fault { FirstIn (section_table_rows len header.now first.now) (fault_of result) }
     ensures inside { OnOk result (shdr_offset header.now (section_count header.now first.now) ≤ len) }
     ensures named { OnOk result
         (header.now.e_shoff ≢ 0 → name_table header.now first.now < section_count header.now first.now) }
@@ -26,36 +26,21 @@ pub fn judge_section_table(header: &Ehdr, first: &Shdr, len: u64) -> Result<(), 
         return Ok(());
     }
     if let Some(at) = nonzero_field(header, first) {
-        return Err(Broken {
-            rule: FIRST_SECTION_HEADER_NOT_NULL,
-            at,
-        });
+        return Err(Broken::new(FIRST_SECTION_HEADER_NOT_NULL, at));
     }
     if !is_section_count_right(header, first) {
-        return Err(Broken {
-            rule: WRONG_EXTENDED_SECTION_COUNT,
-            at: header.e_shoff + 32,
-        });
+        return Err(Broken::new(WRONG_EXTENDED_SECTION_COUNT, header.e_shoff + 32));
     }
     let count = section_count_of(header, first);
     // Counted in entries, so that no product can pass the integers.
     if count > (len - header.e_shoff) / 64 {
-        return Err(Broken {
-            rule: SECTION_TABLE_PAST_END,
-            at: 40,
-        });
+        return Err(Broken::new(SECTION_TABLE_PAST_END, 40));
     }
     if !is_name_index_right(header, count) {
-        return Err(Broken {
-            rule: WRONG_NAME_TABLE_INDEX,
-            at: 62,
-        });
+        return Err(Broken::new(WRONG_NAME_TABLE_INDEX, 62));
     }
     if !is_extended_name_index_right(header, first, count) {
-        return Err(Broken {
-            rule: WRONG_EXTENDED_NAME_TABLE_INDEX,
-            at: header.e_shoff + 40,
-        });
+        return Err(Broken::new(WRONG_EXTENDED_NAME_TABLE_INDEX, header.e_shoff + 40));
     }
     Ok(())
 }

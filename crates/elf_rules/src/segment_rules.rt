@@ -2,7 +2,7 @@
 ghost use Rattle.std.specs.Prelude.{◌≡◌, ◌≤◌, ◌≢◌, ◌<◌, ◌%◌, ◌↔◌, IsTrue, length};
 ghost use Rattle.elf_extent.specs.Least.{IsLowest};
 ghost use Rattle.elf_rules.specs.Broken.{fault_of};
-ghost use Rattle.elf_rules.specs.Rows.{FirstFrom};
+ghost use Rattle.elf_rules.specs.Rows.{FirstIn};
 ghost use Rattle.elf_rules.specs.SegmentRules.{BreaksSegment, SomeSegment, load_out_of_order, segment_field, segment_rows};
 ghost use Rattle.elf_rules.specs.Tables.{phdr_offset, segments};
 
@@ -105,38 +105,23 @@ fn lowest_out_of_order(bytes: &[u8], header: &Ehdr, count: u64) -> Option<u64>
 pub fn judge_segments(bytes: &[u8], header: &Ehdr, count: u64) -> Result<(), Broken>
     requires { 0 < count → phdr_offset header.now count ≤ length bytes.now }
     ensures { let g = segments bytes.now header.now in
-        FirstFrom 25 (segment_rows (length bytes.now) header.now count g) (fault_of result) }
+        FirstIn (segment_rows (length bytes.now) header.now count g) (fault_of result) }
 {
     let len = bytes.len() as u64;
     if let Some(at) = lowest_segment(bytes, header, count, SegmentRule::End(len)) {
-        return Err(Broken {
-            rule: SEGMENT_PAST_END,
-            at,
-        });
+        return Err(Broken::new(SEGMENT_PAST_END, at));
     }
     if let Some(at) = lowest_segment(bytes, header, count, SegmentRule::Size) {
-        return Err(Broken {
-            rule: FILE_SIZE_ABOVE_MEMORY_SIZE,
-            at,
-        });
+        return Err(Broken::new(FILE_SIZE_ABOVE_MEMORY_SIZE, at));
     }
     if let Some(at) = lowest_segment(bytes, header, count, SegmentRule::Alignment) {
-        return Err(Broken {
-            rule: WRONG_SEGMENT_ALIGNMENT,
-            at,
-        });
+        return Err(Broken::new(WRONG_SEGMENT_ALIGNMENT, at));
     }
     if let Some(at) = lowest_segment(bytes, header, count, SegmentRule::Congruence) {
-        return Err(Broken {
-            rule: INCONGRUENT_SEGMENT,
-            at,
-        });
+        return Err(Broken::new(INCONGRUENT_SEGMENT, at));
     }
     if let Some(at) = lowest_out_of_order(bytes, header, count) {
-        return Err(Broken {
-            rule: LOAD_OUT_OF_ORDER,
-            at,
-        });
+        return Err(Broken::new(LOAD_OUT_OF_ORDER, at));
     }
     Ok(())
 }
