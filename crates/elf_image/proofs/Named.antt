@@ -1,5 +1,5 @@
 -- What a sound image value says of its contents and of its sections' names.
-use Rattle.std.proofs.Common.{◌≡◌, ◌≢◌, ◌<◌, ◌≤◌, ◌-◌, ℕ, Bool, true, false, Bor, List, [], length, map, min, get_or, take, drop, refl, sym, ap, ◌∙◌, arith, inl, inr}
+use Rattle.std.proofs.Common.{◌≡◌, ◌≢◌, ◌<◌, ◌≤◌, ◌-◌, ◌+◌, ◌^◌, ℕ, Bool, true, false, Bor, List, [], length, map, min, get_or, take, drop, refl, sym, ap, ◌∙◌, arith, inl, inr}
 use Rattle.std.specs.Prelude.{◌==◌, if◌then◌else◌, slice_index}
 use Rattle.std.specs.List.{before_first}
 use Rattle.std.proofs.Math.ListN.{drop_of_length-le}
@@ -7,9 +7,10 @@ use Rattle.std.proofs.lemmas.Bool.{cases_eq, cases_lt, ne_eqb}
 use Rattle.std.proofs.lemmas.List.{get_or-map, length-map, take_all, take_rest}
 use Rattle.std.proofs.lemmas.List.Sums.{position_or_len_is}
 use Rattle.elf_field.specs.declared.shdr.Shdr.{Shdr}
-use Rattle.elf_rules.specs.Tables.{content_extent, name_table}
+use Rattle.std.proofs.lemmas.Option.{slice_get-get_or}
+use Rattle.elf_rules.specs.Tables.{content_extent, name_table, shdr_offset}
 use Rattle.elf_image.specs.Image.{ImageValue, IsSound, no_section, section_of, value_names}
-use Rattle.elf_image.proofs.Standing.{clean_of, counted_of}
+use Rattle.elf_image.proofs.Standing.{clean_of, content_within, counted_of, table_there}
 
 not_true : (b : Bool) → (b ≡ true → ⊥) → b ≡ false
 not_true true never = absurd (never refl)
@@ -31,6 +32,24 @@ content_len v i sound within =
     sym (get_or-map (length {A = ℕ}) v.contents i [] 0 (omega arith)) ∙
     ap (λ (ns : List ℕ). get_or ns i 0) sound.lengths ∙
     get_or-map (λ (s : Shdr). (content_extent s).len) v.sections i no_section 0 within
+
+-- each section header lies in the file
+pub header_inside : (v : ImageValue) (i : ℕ) → IsSound v → i < length v.sections → shdr_offset v.header i + 64 ≤ 2 ^ 30
+header_inside v i sound within =
+    let clean = clean_of v (counted_of v sound) in
+    let table = clean.section_table (table_there v (counted_of v sound) (omega arith)) in
+    let short = clean.short in
+    let count = sound.section_count in
+    omega arith
+
+-- and so does each content that is not empty
+pub content_inside : (v : ImageValue) (i : ℕ) → IsSound v → i < length v.sections → 0 < length (get_or v.contents i []) →
+    (section_of v.sections i).sh_offset + length (get_or v.contents i []) ≤ 2 ^ 30
+content_inside v i sound within some =
+    let size = content_len v i sound within in
+    let inside = content_within v (counted_of v sound) i (section_of v.sections i) (slice_get-get_or v.sections i no_section within) (omega arith) in
+    let short = (clean_of v (counted_of v sound)).short in
+    omega arith
 
 -- the section name string table is the table of a section
 pub names_there : (v : ImageValue) → IsSound v → name_table v.header (section_of v.sections 0) ≢ 0 →

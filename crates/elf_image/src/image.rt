@@ -1,6 +1,6 @@
 //! A file as a value: its records, contents and parts, read and edited in place.
-ghost use Rattle.std.specs.Prelude.{◌≡◌, ◌<◌, ◌≤◌, ℕ, [], List, MatchResult, OnErr, OnOk, get_or, length, map};
-ghost use Rattle.elf_rules.specs.Tables.{content_extent, name_table, order_of};
+ghost use Rattle.std.specs.Prelude.{◌≡◌, ◌+◌, ◌^◌, ◌<◌, ◌≤◌, ℕ, [], List, MatchResult, OnErr, OnOk, get_or, length, map};
+ghost use Rattle.elf_rules.specs.Tables.{content_extent, name_table, order_of, shdr_offset};
 ghost use Rattle.elf_image.specs.Edits.{IsReplaceFault, IsReplaceable, IsSection, with_content, with_entry, with_flags, with_zero_gaps};
 ghost use Rattle.elf_image.specs.Image.{IsImage, IsSound, section_of, segment_of, value_names};
 ghost use Rattle.elf_image.specs.Outline.{image_of};
@@ -106,6 +106,16 @@ impl<'a> Image<'a> {
         self.outline.section(i)
     }
 
+    /// The offset in the file of section header `i`, which is below [`section_count`](Image::section_count).
+    pub fn header_offset(&self, i: usize) -> u64
+        requires { i < length self.now.sections }
+        ensures value { result ≡ shdr_offset self.now.header i }
+        ensures inside { result + 64 ≤ 2 ^ 30 }
+    {
+        let header = self.outline.header();
+        header.e_shoff + 64 * i as u64
+    }
+
     /// Program header `j`, which is below [`segment_count`](Image::segment_count).
     pub fn segment(&self, j: usize) -> Phdr
         requires { j < length self.now.segments }
@@ -144,6 +154,7 @@ impl<'a> Image<'a> {
         requires { i < length self.now.sections }
         ensures bytes { result.now ≡ get_or self.now.contents i [] }
         ensures size { length result.now ≡ (content_extent (section_of self.now.sections i)).len }
+        ensures inside { 0 < length result.now → (section_of self.now.sections i).sh_offset + length result.now ≤ 2 ^ 30 }
     {
         self.contents[i]
     }
@@ -213,8 +224,9 @@ impl<'a> Image<'a> {
     }
 }
 
-// The bytes of a string table from an offset to the first zero.
-fn string_at(table: &[u8], offset: usize) -> &[u8]
+/// The bytes of a string table from an offset to the first zero, or to its end where there is none (gABI
+/// chapter 4, String Table).
+pub fn string_at(table: &[u8], offset: usize) -> &[u8]
     ensures { result.now ≡ string table.now offset }
 {
     let rest = &table[offset.min(table.len())..];

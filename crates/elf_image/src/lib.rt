@@ -18,7 +18,7 @@ mod writing;
 pub use edits::{NoSection, ReplaceFault};
 pub use elf_rules::verdict;
 pub use fault::{Fault, WriteFault};
-pub use image::Image;
+pub use image::{Image, string_at};
 pub use output::write_whole;
 pub use parsing::parse;
 pub use part::{Owner, Part};
