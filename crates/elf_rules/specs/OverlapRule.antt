@@ -2,6 +2,7 @@
 -- (gABI chapter 4, Sections: "Sections in a file may not overlap".)
 use Rattle.std.specs.Prelude.{◌≡◌, ℕ, ◌*◌, ◌+◌, ◌<◌, ◌≤◌, Option, None, Some, List, [], ◌∷◌, map, slice_get}
 use Rattle.std.specs.List.{range_with_len}
+use Rattle.elf_field.specs.Abi.{EHDR_SIZE, PHDR_SIZE, SHDR_SIZE}
 use Rattle.elf_field.specs.declared.ehdr.Ehdr.{Ehdr}
 use Rattle.elf_field.specs.declared.shdr.Shdr.{Shdr}
 use Rattle.elf_extent.specs.declared.extent.Extent.{Extent}
@@ -17,9 +18,9 @@ contents n s = map (λ i. content_extent (s i)) (range_with_len 0 n)
 -- content of each section, which is empty where it has none; segments own no byte
 unfoldable pub extents : Ehdr → ℕ → ℕ → (ℕ → Shdr) → List Extent
 extents h n m s =
-    record { start = 0; len = 64 } ∷
-    record { start = h.e_shoff; len = 64 * n } ∷
-    record { start = h.e_phoff; len = 56 * m } ∷
+    record { start = 0; len = EHDR_SIZE } ∷
+    record { start = h.e_shoff; len = SHDR_SIZE * n } ∷
+    record { start = h.e_phoff; len = PHDR_SIZE * m } ∷
     contents n s
 
 -- rule 33: two extents share a byte

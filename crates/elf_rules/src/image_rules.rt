@@ -15,6 +15,7 @@ use crate::section_table_rules::judge_section_table;
 use crate::segment_rules::judge_segments;
 use crate::tables::{header_of, name_table_of, section_at, section_count_of, segment_count_of};
 use elf_field::Ehdr;
+use elf_field::abi::SHDR_SIZE;
 
 /// The first rule of 1 to 33 that the file breaks, and its lowest offset in bytes; None where it
 /// breaks none. It takes no memory.
@@ -55,7 +56,7 @@ pub fn judge_records(bytes: &[u8]) -> Result<(), Broken>
 
 /// Rules 13 to 32, of the tables of a file with this header.
 fn judge_tables(bytes: &[u8], header: &Ehdr) -> Result<(), Broken>
-    requires first { header.now.e_shoff + 64 ≤ length bytes.now }
+    requires first { header.now.e_shoff + SHDR_SIZE ≤ length bytes.now }
     requires nameless { header.now.e_shoff ≡ 0 → header.now.e_shstrndx ≡ 0 }
     ensures { let b = bytes.now in
         let h = header.now in
@@ -82,7 +83,7 @@ fn judge_entries(
 ) -> Result<(), Broken>
     requires sections { shdr_offset header.now section_count ≤ length bytes.now }
     requires segments { 0 < segment_count → phdr_offset header.now segment_count ≤ length bytes.now }
-    requires table { shdr_offset header.now table + 64 ≤ length bytes.now }
+    requires table { shdr_offset header.now table + SHDR_SIZE ≤ length bytes.now }
     ensures { let b = bytes.now in
         let h = header.now in
         let names = names_at b h table in

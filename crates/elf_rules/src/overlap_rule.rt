@@ -9,11 +9,12 @@ use crate::broken::Broken;
 use crate::file_extents::FileExtents;
 use crate::rules::SHARED_BYTE;
 use elf_field::Ehdr;
+use elf_field::abi::PHDR_SIZE;
 
 /// Rule 33, of a file with `count` section headers and `segments` program headers.
 pub fn judge_overlap(bytes: &[u8], header: &Ehdr, count: u64, segments: u64) -> Result<(), Broken>
     requires sections { shdr_offset header.now count ≤ length bytes.now }
-    requires segments { 56 * segments < 2 ^ 64 }
+    requires segments { PHDR_SIZE * segments < 2 ^ 64 }
     ensures { let s = sections bytes.now header.now in
         FirstIn (overlap_rows header.now count segments s) (fault_of result) }
 {
