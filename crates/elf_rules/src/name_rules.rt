@@ -65,7 +65,7 @@ pub fn judge_names(
 
 /// The offset in the file of the first or last byte of a string table at `start`, if one of them
 /// isn't 0; the lower one where both aren't.
-fn unclosed_at(table: &[u8], start: u64) -> Option<u64>
+pub fn unclosed_at(table: &[u8], start: u64) -> Option<u64>
     requires { 0 < length table.now → start + length table.now < 2 ^ 64 }
     ensures { IsLowest (UnclosedAt table.now start) result }
 {

@@ -1,0 +1,5 @@
+-- Lemmas of this crate.
+pub mod Lowest
+pub mod IndexTables
+pub mod SymbolLists
+pub mod AllIndexTables
