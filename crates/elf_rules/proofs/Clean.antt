@@ -166,12 +166,9 @@ pub sound_file : (b : List ℕ) (h : Ehdr) → h ≡ header b → KeepsRecordRul
 sound_file b h same kept = subst (λ (k : Ehdr). HasSoundTables (length b) k (sections b k)) (sym same)
     (sound_tables (length b) (header b) (sections b (header b)) (segments b (header b)) (names b (header b)) kept)
 
--- section header 0 lies in the file, or what is read in its place without a section table does
-pub first_there : (b : List ℕ) (h : Ehdr) → HasSoundTables (length b) h (sections b h) → shdr_offset h 0 + 64 ≤ length b
-first_there b h sound = elim (cases_eq h.e_shoff 0) [
-  | inl none ↦ (let long = sound.header in omega arith)
-  | inr there ↦ (let table = sound.section_table there in let some = sound.some there in omega arith)
-]
+-- section header 0 lies in the file where there is a section table
+pub first_there : (b : List ℕ) (h : Ehdr) → HasSoundTables (length b) h (sections b h) → h.e_shoff ≢ 0 → shdr_offset h 0 + 64 ≤ length b
+first_there b h sound there = let table = sound.section_table there in let some = sound.some there in omega arith
 
 -- all section headers do
 pub sections_there : (b : List ℕ) (h : Ehdr) → HasSoundTables (length b) h (sections b h) →
