@@ -16,8 +16,10 @@ use crate::section_rules::judge_sections;
 use crate::section_table_rules::judge_section_table;
 use crate::segment_rules::judge_segments;
 use crate::tables::{Counts, counts_of, header_of, section_at};
+use elf_extent::OutOfMemory;
 use elf_field::Ehdr;
 use elf_field::abi::SHDR_SIZE;
+use std::alloc::Global;
 
 /// The first rule of 1 to 33 that the file breaks, and its lowest offset in bytes; None where it
 /// breaks none. It takes no memory.
@@ -37,6 +39,23 @@ pub fn judge(bytes: &[u8]) -> Result<(), Broken>
     match judge_records(bytes)?.shared_byte() {
         Some(at) => Err(Broken::new(SHARED_BYTE, at)),
         None => Ok(()),
+    }
+}
+
+/// The same by sorting, where the contents don't stand in the order of their section headers and memory
+/// for it isn't refused; an image with its header and counts.
+pub fn judge_by_sorting<'a>(alloc: Global, bytes: &'a [u8]) -> Result<JudgedRecords<'a>, Broken>
+    ensures fault { IsFault bytes.entry.now (fault_of result) }
+    ensures file { IfOk result (λ records. file_of records ≡ bytes.entry.now) }
+{
+    let records = judge_records(bytes)?;
+    let found = match records.shared_byte_by_sorting(alloc) {
+        Ok(found) => found,
+        Err(OutOfMemory) => records.shared_byte(),
+    };
+    match found {
+        Some(at) => Err(Broken::new(SHARED_BYTE, at)),
+        None => Ok(records),
     }
 }
 

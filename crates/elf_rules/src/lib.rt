@@ -34,7 +34,7 @@ pub mod tables;
 
 pub use broken::Broken;
 pub use header_rules::MAX_LEN;
-pub use image_rules::{judge, judge_records, verdict};
+pub use image_rules::{judge, judge_by_sorting, judge_records, verdict};
 pub use judged_records::JudgedRecords;
 pub use laws::{extents_of_image, fault_of_extents, one_fault};
 
