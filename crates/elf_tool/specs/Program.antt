@@ -2,13 +2,13 @@
 use Rattle.std.specs.Prelude.{◌≡◌, ◌⊎◌, ℕ, List, Option, Some, Result, Ok, Err, IfSome}
 use Rattle.std.specs.Io.KnownBytes.{Keeps}
 use Rattle.clap.specs.Walk.{Text}
-use Rattle.elf_tool.specs.Check.{CheckSays}
-use Rattle.elf_tool.specs.Engine.{Answering, Answers, GradualAnswers, IsAnswered}
-use Rattle.elf_tool.specs.Show.{ShowSays}
+use Rattle.elf_engine.specs.Check.{CheckSays}
+use Rattle.elf_engine.specs.Engine.{Answering, Answers, GradualAnswers, IsAnswered}
+use Rattle.elf_engine.specs.Show.{ShowSays}
 use Rattle.elf_tool.specs.Words.{IsAskedBy, IsRefusedBy}
-use Rattle.elf_tool.specs.declared.fault.ToolFault.{ToolFault}
-use Rattle.elf_tool.specs.declared.fault.Verdict.{Verdict}
-use Rattle.elf_tool.specs.declared.fault.Verdict.TheVariants as verdict
+use Rattle.elf_engine.specs.declared.fault.ToolFault.{ToolFault}
+use Rattle.elf_engine.specs.declared.fault.Verdict.{Verdict}
+use Rattle.elf_engine.specs.declared.fault.Verdict.TheVariants as verdict
 use Rattle.elf_tool.specs.declared.program.Status.{Status}
 use Rattle.elf_tool.specs.declared.program.Status.TheVariants.{Done, Refused, Usage, Failed}
 use Rattle.elf_tool.specs.declared.words.Request.{Request}

@@ -2,17 +2,15 @@
 ghost use Rattle.std.specs.Prelude.{◌≡◌, ◌≢◌, IfErr, IfOk, IfSome, map};
 ghost use Rattle.std.specs.IoError.{error_kind};
 ghost use Rattle.std.specs.declared.io.ErrorKind.TheVariants.{InvalidData};
-ghost use Rattle.elf_tool.specs.Check.{CheckSays};
-ghost use Rattle.elf_tool.specs.Engine.{Answers, GradualAnswers};
+ghost use Rattle.elf_engine.specs.Check.{CheckSays};
+ghost use Rattle.elf_engine.specs.Engine.{Answers, GradualAnswers};
+ghost use Rattle.elf_engine.specs.Show.{ShowSays};
 ghost use Rattle.elf_tool.specs.Program.{EndsFile, EndsRun, code_of, ending_of};
-ghost use Rattle.elf_tool.specs.Show.{ShowSays};
 ghost use Rattle.elf_tool.specs.declared.program.Status.{Status as Ending};
 
-use crate::engine::check::check;
-use crate::engine::show::show;
-use crate::fault::{ToolFault, Verdict};
 use crate::opener::{OpenFault, Opener};
 use crate::words::{Request, WordsFault, read_words};
+use elf_engine::{ToolFault, Verdict, check, show};
 use std::alloc::Global;
 use std::convert::AsStr;
 use std::fmt::Display;
