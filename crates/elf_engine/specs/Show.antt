@@ -1,12 +1,11 @@
 -- What `show` says of a file.
-use Rattle.std.specs.Prelude.{◌≡◌, ℕ, List, ◌++◌, length, map, None, Some}
+use Rattle.std.specs.Prelude.{◌≡◌, ℕ, List, ◌++◌, length, Some}
 use Rattle.std.specs.List.{flat_map, range_with_len}
 use Rattle.elf_rules.specs.ImageRules.{IsFault}
 use Rattle.elf_image.specs.Image.{ImageValue, IsImage, section_of, segment_of}
 use Rattle.elf_image.specs.Strings.{section_name}
 use Rattle.elf_engine.specs.Line.{refused_line}
 use Rattle.elf_engine.specs.ShowLines.{file_line, part_line, section_line, segment_line}
-use Rattle.elf_engine.specs.declared.fault.Refusal.{Refusal}
 use Rattle.elf_engine.specs.declared.fault.Refusal.TheVariants.{File, Link, TooLong}
 use Rattle.elf_engine.specs.declared.fault.Verdict.{Verdict}
 use Rattle.elf_engine.specs.declared.fault.Verdict.TheVariants.{Done, Refused}

@@ -1,9 +1,6 @@
--- The lines of `show`, each ended by a line feed. Numbers are decimal, and hexadecimal behind `0x`.
--- (gABI chapter 4, ELF Header and Sections; chapter 5, Program Header.)
-use Rattle.std.specs.Prelude.{ℕ, Bool, false, not, nat_le, ◌==◌, ◌&&◌, List, [], ◌∷◌, ◌++◌, codes, if◌then◌else◌, take, drop, min}
-use Rattle.std.specs.List.{list_all}
-use Rattle.std.specs.Str.{bytes_eq}
-use Rattle.std.specs.Fmt.{decimal, digits}
+-- The lines of `show`, word by word. (gABI chapter 4, ELF Header and Sections; chapter 5, Program Header.)
+use Rattle.std.specs.Prelude.{ℕ, List, [], ◌∷◌, codes, take, drop}
+use Rattle.std.specs.Fmt.{decimal}
 use Rattle.hex.specs.Hex.{encode_lower}
 use Rattle.elf_field.specs.declared.order.Order.{Order}
 use Rattle.elf_field.specs.declared.order.Order.TheVariants.{Little, Big}
@@ -14,24 +11,7 @@ use Rattle.elf_rules.specs.Tables.{order_of}
 use Rattle.elf_image.specs.declared.part.Owner.{Owner}
 use Rattle.elf_image.specs.declared.part.Owner.TheVariants.{Header, ProgramTable, SectionTable, Content, Gap}
 use Rattle.elf_image.specs.declared.part.Part.{Part}
-
--- ---- names
-
--- a byte that is printed as it stands: from ! to ~
-abbrev pub is_graphic : ℕ → Bool
-is_graphic b = nat_le 33 b && nat_le b 126
-
--- a name that is printed as it stands: not empty, not beginning with #, not just -, and of such bytes alone
-abbrev pub is_plain : List ℕ → Bool
-is_plain [] = false
-is_plain (b ∷ bs) = not (b == 35) && (not (bytes_eq (b ∷ bs) (codes "-")) && list_all is_graphic (b ∷ bs))
-
--- a name: its bytes where they are plain, - for the empty one, and any other in hexadecimal behind #
-unfoldable pub name_text : List ℕ → List ℕ
-name_text [] = codes "-"
-name_text (b ∷ bs) = if is_plain (b ∷ bs) then b ∷ bs else codes "#" ++ encode_lower (b ∷ bs)
-
--- ---- lines
+use Rattle.elf_engine.specs.Line.{hexadecimal, line, name_text}
 
 abbrev pub order_text : Order → List ℕ
 order_text Little = codes "little"
@@ -39,53 +19,29 @@ order_text Big = codes "big"
 
 -- `file little|big TYPE MACHINE ENTRY FLAGS`
 unfoldable pub file_line : Ehdr → List ℕ
-file_line h =
-    codes "file " ++ (order_text (order_of h.e_ident) ++ (codes " " ++ (decimal h.e_type ++ (codes " " ++ (decimal h.e_machine
-    ++ (codes " 0x" ++ (digits 16 false h.e_entry ++ (codes " 0x" ++ (digits 16 false h.e_flags ++ codes "\n")))))))))
+file_line h = line (
+    codes "file" ∷ order_text (order_of h.e_ident) ∷ decimal h.e_type ∷ decimal h.e_machine ∷ hexadecimal h.e_entry ∷ hexadecimal h.e_flags ∷ [])
 
 -- what a part of this owner is; of a gap its first 16 bytes at most
-abbrev pub owner_text : List ℕ → Owner → List ℕ
-owner_text gap Header = codes "header"
-owner_text gap ProgramTable = codes "segments"
-owner_text gap SectionTable = codes "sections"
-owner_text gap (Content i) = codes "content " ++ decimal i
-owner_text gap Gap = codes "gap " ++ encode_lower (take 16 gap)
+abbrev pub owner_words : List ℕ → Owner → List (List ℕ)
+owner_words gap Header = codes "header" ∷ []
+owner_words gap ProgramTable = codes "segments" ∷ []
+owner_words gap SectionTable = codes "sections" ∷ []
+owner_words gap (Content i) = codes "content" ∷ decimal i ∷ []
+owner_words gap Gap = codes "gap" ∷ encode_lower (take 16 gap) ∷ []
 
 -- `part START LENGTH` and what it is
 unfoldable pub part_line : List ℕ → Part → List ℕ
-part_line b p =
-    codes "part 0x" ++ (digits 16 false p.start ++ (codes " 0x" ++ (digits 16 false p.len
-    ++ (codes " " ++ (owner_text (take p.len (drop p.start b)) p.owner ++ codes "\n")))))
-
--- of a section header its type, its flags, and where it lies in memory and in the file
-abbrev pub section_head : ℕ → Shdr → List ℕ
-section_head i s =
-    codes "section " ++ (decimal i ++ (codes " " ++ (decimal s.sh_type ++ (codes " 0x" ++ (digits 16 false s.sh_flags
-    ++ (codes " 0x" ++ (digits 16 false s.sh_addr ++ (codes " 0x" ++ (digits 16 false s.sh_offset
-    ++ (codes " 0x" ++ digits 16 false s.sh_size))))))))))
-
--- and the rest of it, with the section's name
-abbrev pub section_tail : Shdr → List ℕ → List ℕ
-section_tail s name =
-    codes " " ++ (decimal s.sh_link ++ (codes " " ++ (decimal s.sh_info ++ (codes " 0x" ++ (digits 16 false s.sh_addralign
-    ++ (codes " 0x" ++ (digits 16 false s.sh_entsize ++ (codes " " ++ (name_text name ++ codes "\n")))))))))
+part_line b p = line (codes "part" ∷ hexadecimal p.start ∷ hexadecimal p.len ∷ owner_words (take p.len (drop p.start b)) p.owner)
 
 -- `section I TYPE FLAGS ADDRESS OFFSET SIZE LINK INFO ALIGNMENT ENTSIZE NAME`
 unfoldable pub section_line : ℕ → Shdr → List ℕ → List ℕ
-section_line i s name = section_head i s ++ section_tail s name
-
--- of a program header its type, its flags, its offset and its virtual address
-abbrev pub segment_head : ℕ → Phdr → List ℕ
-segment_head j g =
-    codes "segment " ++ (decimal j ++ (codes " " ++ (decimal g.p_type ++ (codes " 0x" ++ (digits 16 false g.p_flags
-    ++ (codes " 0x" ++ (digits 16 false g.p_offset ++ (codes " 0x" ++ digits 16 false g.p_vaddr))))))))
-
--- and the rest of it
-abbrev pub segment_tail : Phdr → List ℕ
-segment_tail g =
-    codes " 0x" ++ (digits 16 false g.p_paddr ++ (codes " 0x" ++ (digits 16 false g.p_filesz
-    ++ (codes " 0x" ++ (digits 16 false g.p_memsz ++ (codes " 0x" ++ (digits 16 false g.p_align ++ codes "\n")))))))
+section_line i s name = line (
+    codes "section" ∷ decimal i ∷ decimal s.sh_type ∷ hexadecimal s.sh_flags ∷ hexadecimal s.sh_addr ∷ hexadecimal s.sh_offset ∷ hexadecimal s.sh_size
+    ∷ decimal s.sh_link ∷ decimal s.sh_info ∷ hexadecimal s.sh_addralign ∷ hexadecimal s.sh_entsize ∷ name_text name ∷ [])
 
 -- `segment J TYPE FLAGS OFFSET VADDR PADDR FILESZ MEMSZ ALIGNMENT`
 unfoldable pub segment_line : ℕ → Phdr → List ℕ
-segment_line j g = segment_head j g ++ segment_tail g
+segment_line j g = line (
+    codes "segment" ∷ decimal j ∷ decimal g.p_type ∷ hexadecimal g.p_flags ∷ hexadecimal g.p_offset ∷ hexadecimal g.p_vaddr ∷ hexadecimal g.p_paddr
+    ∷ hexadecimal g.p_filesz ∷ hexadecimal g.p_memsz ∷ hexadecimal g.p_align ∷ [])

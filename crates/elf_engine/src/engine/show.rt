@@ -72,7 +72,7 @@ fn show_image<W: Write>(
     ensures { IsOut (W.contents writer.old) (W.contents writer.new) (show_text bytes.now image.now) result }
 {
     let mut output = Output::new(alloc);
-    push_file_line(alloc, &mut output.pending, &image.header())?;
+    push_file_line(&mut output.pending, &image.header())?;
     show_parts(alloc, bytes, image.parts(), &mut output, writer)?;
     show_sections(alloc, image, &mut output, writer)?;
     show_segments(alloc, image, &mut output, writer)?;

@@ -5,7 +5,7 @@ use Rattle.std.proofs.lemmas.Result.{err_from_is_err_and}
 use Rattle.elf_field.specs.declared.ehdr.Ehdr.{Ehdr}
 use Rattle.elf_image.specs.Image.{ImageValue, PlacedPart}
 use Rattle.elf_image.specs.declared.part.Part.{Part}
-use Rattle.elf_engine.specs.Output.{IsOut, Sends, Stops}
+use Rattle.elf_engine.specs.Output.{Sends, Stops}
 use Rattle.elf_engine.specs.Show.{part_lines, section_lines, segment_lines, show_text}
 use Rattle.elf_engine.specs.ShowLines.{file_line, part_line}
 use Rattle.elf_engine.specs.declared.engine.output.Output.{Output}

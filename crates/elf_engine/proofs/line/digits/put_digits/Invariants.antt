@@ -1,6 +1,6 @@
 use Rattle.std.proofs.Common.{◌≡◌, ◌≤◌, false, drop, length}
 use Rattle.std.specs.Fmt.{digits, digits_onto}
-use Rattle.elf_engine.proofs.show_lines.digits.put_digits.Given as goal
+use Rattle.elf_engine.proofs.line.digits.put_digits.Given as goal
 
 -- with the digits of the rest in front, those that are put are all
 abbrev pub invariant-loop-start : goal.invariant-loop-start

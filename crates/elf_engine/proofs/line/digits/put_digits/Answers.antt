@@ -2,7 +2,7 @@ use Rattle.std.proofs.Common.{◌∙◌, ◌-◌, ◌/◌, ℕ, ◌∷◌, false
 use Rattle.std.proofs.lemmas.List.{drop_all, length-set}
 use Rattle.std.specs.Fmt.{digits, digits_onto}
 use Rattle.elf_engine.proofs.Digits.{last_digit, more_digits, put_before}
-use Rattle.elf_engine.proofs.show_lines.digits.put_digits.Goals as goal
+use Rattle.elf_engine.proofs.line.digits.put_digits.Goals as goal
 
 pub loop-start-init : goal.loop-start-init
 unfolding digits
