@@ -1,5 +1,5 @@
 -- What an engine does between its reader and its writer, in the words that all engines share.
-use Rattle.std.specs.Prelude.{◌≡◌, ◌⊎◌, ℕ, ◌+◌, ◌^◌, ◌<◌, ◌≤◌, List, length, take, Option, Result, Ok, Err}
+use Rattle.std.specs.Prelude.{◌≡◌, ◌⊎◌, ℕ, ◌+◌, ◌^◌, ◌<◌, ◌≤◌, List, length, take, Option, Result, Ok, Err, IfOk, MatchResult}
 use Rattle.std.specs.Io.KnownBytes.{Appends, Consumes, IsAtEnd, Keeps}
 use Rattle.elf_engine.specs.declared.fault.ToolFault.{ToolFault}
 use Rattle.elf_engine.specs.declared.fault.ToolFault.TheVariants.{Read, Write, OutOfMemory}
@@ -11,37 +11,44 @@ IsInputFault (Read at) count = at ≡ count
 IsInputFault (Write written) count = ⊥
 IsInputFault OutOfMemory count = Unit {0}
 
--- what an engine says of the bytes of a file: its verdict, and its text
-abbrev pub Sayings : Type 1
-Sayings = List ℕ → Verdict → List ℕ → Type 0
+-- the bytes that a reader gave are all of its file, or all that the limit lets through
+abbrev pub IsReadWhole : Option (List ℕ) → List ℕ → Type 0
+IsReadWhole rest bytes = IsAtEnd rest ⊎ (length bytes ≡ 2 ^ 30 + 1)
 
--- what a writer that held one list of bytes and now holds another was given at a result, on the bytes of a
--- file; the fact is that the file was read whole
-abbrev pub Answering : Type 1
-Answering = List ℕ → Type 0 → Option (List ℕ) → Option (List ℕ) → Result Verdict ToolFault → Type 0
+-- a writer that held `old` holds `new`, with a beginning of a text behind it: after a failed write just its first
+-- `written` bytes
+abbrev pub IsBegun : List ℕ → Option (List ℕ) → Option (List ℕ) → ToolFault → Type 0
+IsBegun text old new (Write written) = (written < length text) × Appends old new (take written text)
+IsBegun text old new OutOfMemory = (count : ℕ) × (count ≤ length text) × Appends old new (take count text)
+IsBegun text old new (Read at) = ⊥
 
--- on the bytes b a writer that held `old` holds `new` at this result: the whole text, or its first bytes
--- after a failed write; after a failed read, which comes after all of b, and for want of memory nothing more.
--- Where there is a text, the file was read whole
-abbrev pub Answers : Sayings → List ℕ → Type 0 → Option (List ℕ) → Option (List ℕ) → Result Verdict ToolFault → Type 0
-Answers says b whole old new (Ok verdict) = (text : List ℕ) × says b verdict text × whole × Appends old new text
-Answers says b whole old new (Err (Write written)) =
-    (verdict : Verdict) × (text : List ℕ) × says b verdict text × whole × (written < length text) × Appends old new (take written text)
-Answers says b whole old new (Err (Read at)) = (at ≡ length b) × Keeps old new
-Answers says b whole old new (Err OutOfMemory) = Keeps old new
+-- with all of a text behind it, or at a fault a beginning
+abbrev pub IsWritten : {T : Type 0} → List ℕ → Option (List ℕ) → Option (List ℕ) → Result T ToolFault → Type 0
+IsWritten text old new result = MatchResult result (λ _. Appends old new text) (IsBegun text old new)
 
--- the same of an engine that writes as it goes: for want of memory nothing more, or a beginning of the text
-abbrev pub GradualAnswers : Sayings → List ℕ → Type 0 → Option (List ℕ) → Option (List ℕ) → Result Verdict ToolFault → Type 0
-GradualAnswers says b whole old new (Ok verdict) = Answers says b whole old new (Ok verdict)
-GradualAnswers says b whole old new (Err (Write written)) = Answers says b whole old new (Err (Write written))
-GradualAnswers says b whole old new (Err (Read at)) = Answers says b whole old new (Err (Read at))
-GradualAnswers says b whole old new (Err OutOfMemory) =
-    Keeps old new ⊎ ((verdict : Verdict) × (text : List ℕ) × (count : ℕ) × says b verdict text × whole × Appends old new (take count text))
+-- what a command reports of the bytes of a file: a verdict and a text
+abbrev pub Report : Type 1
+Report = List ℕ → Verdict → List ℕ → Type 0
 
--- a call of an engine: from `input` its reader gave some bytes and has `rest` left, and on these bytes the engine
--- answers; read whole is to the end, or to the limit
-pub record IsAnswered (answers : Answering) (input rest old new : Option (List ℕ)) (result : Result Verdict ToolFault) : Type 0 where
+-- the text of a report is written, and where all of it is, its verdict is answered
+pub record IsReported (report : Verdict → List ℕ → Type 0) (old new : Option (List ℕ)) (result : Result Verdict ToolFault) : Type 0 where
+  pub verdict : Verdict
+  pub text : List ℕ
+  pub is : report verdict text
+  pub answer : IfOk result (λ answered. answered ≡ verdict)
+  pub written : IsWritten text old new result
+
+-- nothing is written: a read failed, after just these bytes, or memory was refused
+abbrev pub IsGivenUp : List ℕ → Option (List ℕ) → Option (List ℕ) → Result Verdict ToolFault → Type 0
+IsGivenUp bytes old new (Ok verdict) = ⊥
+IsGivenUp bytes old new (Err (Write written)) = ⊥
+IsGivenUp bytes old new (Err (Read at)) = (at ≡ length bytes) × Keeps old new
+IsGivenUp bytes old new (Err OutOfMemory) = Keeps old new
+
+-- a call of an engine: its reader, which had `input` left and has `rest`, gave some bytes; then the engine gave up, or
+-- they are the whole file and their report is written
+pub record IsAnswered (report : Report) (input rest old new : Option (List ℕ)) (result : Result Verdict ToolFault) : Type 0 where
   pub bytes : List ℕ
   pub taken : Consumes input rest bytes
   pub limit : length bytes ≤ 2 ^ 30 + 1
-  pub answered : answers bytes (IsAtEnd rest ⊎ (length bytes ≡ 2 ^ 30 + 1)) old new result
+  pub answered : IsGivenUp bytes old new result ⊎ (IsReadWhole rest bytes × IsReported (report bytes) old new result)

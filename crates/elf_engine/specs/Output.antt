@@ -6,7 +6,7 @@ use Rattle.elf_engine.specs.declared.fault.ToolFault.{ToolFault}
 use Rattle.elf_engine.specs.declared.fault.ToolFault.TheVariants.{Read, Write, OutOfMemory}
 
 -- some bytes went out and are counted, and with what is pending now they are what was pending before and the text
-pub record Sends (old new : Option (List ℕ)) (before after : Output) (text : List ℕ) : Type 0 where
+pub record Buffers (old new : Option (List ℕ)) (before after : Output) (text : List ℕ) : Type 0 where
   pub out : List ℕ
   pub went : Appends old new out
   pub rest : out ++ after.pending.items ≡ before.pending.items ++ text
@@ -14,23 +14,14 @@ pub record Sends (old new : Option (List ℕ)) (before after : Output) (text : L
 
 -- of what was pending before and the text only the first bytes went out, of which a fault of writing has the
 -- count, with all that was out before
-abbrev pub Stops : Option (List ℕ) → Option (List ℕ) → Output → List ℕ → ToolFault → Type 0
-Stops old new before text (Write written) =
+abbrev pub IsCutShort : Option (List ℕ) → Option (List ℕ) → Output → List ℕ → ToolFault → Type 0
+IsCutShort old new before text (Write written) =
     (count : ℕ) × (written ≡ before.written + count) × (count < length (before.pending.items ++ text))
     × Appends old new (take count (before.pending.items ++ text))
-Stops old new before text OutOfMemory =
+IsCutShort old new before text OutOfMemory =
     (count : ℕ) × (count ≤ length (before.pending.items ++ text)) × Appends old new (take count (before.pending.items ++ text))
-Stops old new before text (Read at) = ⊥
+IsCutShort old new before text (Read at) = ⊥
 
-abbrev pub IsSent : {T : Type 0} → Option (List ℕ) → Option (List ℕ) → Output → Output → List ℕ → Result T ToolFault → Type 0
-IsSent old new before after text result =
-    MatchResult result (λ _. Sends old new before after text) (Stops old new before text)
-
--- all of a text went out, or only its first bytes, of which a fault of writing has the count
-abbrev pub StopsIn : Option (List ℕ) → Option (List ℕ) → List ℕ → ToolFault → Type 0
-StopsIn old new text (Write written) = (written < length text) × Appends old new (take written text)
-StopsIn old new text OutOfMemory = (count : ℕ) × (count ≤ length text) × Appends old new (take count text)
-StopsIn old new text (Read at) = ⊥
-
-abbrev pub IsOut : {T : Type 0} → Option (List ℕ) → Option (List ℕ) → List ℕ → Result T ToolFault → Type 0
-IsOut old new text result = MatchResult result (λ _. Appends old new text) (StopsIn old new text)
+abbrev pub IsBuffered : {T : Type 0} → Option (List ℕ) → Option (List ℕ) → Output → Output → List ℕ → Result T ToolFault → Type 0
+IsBuffered old new before after text result =
+    MatchResult result (λ _. Buffers old new before after text) (IsCutShort old new before text)

@@ -1,12 +1,14 @@
 -- What `show` says of a file.
-use Rattle.std.specs.Prelude.{◌≡◌, ℕ, List, ◌++◌, length, Some}
+use Rattle.std.specs.Prelude.{◌≡◌, ℕ, List, ◌++◌, length, Option, Some, Result}
 use Rattle.std.specs.List.{flat_map, range_with_len}
 use Rattle.elf_rules.specs.ImageRules.{IsFault}
 use Rattle.elf_image.specs.Image.{ImageValue, IsImage, section_of, segment_of}
 use Rattle.elf_image.specs.Strings.{section_name}
+use Rattle.elf_engine.specs.Engine.{IsAnswered}
 use Rattle.elf_engine.specs.Line.{refused_line}
 use Rattle.elf_engine.specs.ShowLines.{file_line, part_line, section_line, segment_line}
 use Rattle.elf_engine.specs.declared.fault.Refusal.TheVariants.{File, Link, TooLong}
+use Rattle.elf_engine.specs.declared.fault.ToolFault.{ToolFault}
 use Rattle.elf_engine.specs.declared.fault.Verdict.{Verdict}
 use Rattle.elf_engine.specs.declared.fault.Verdict.TheVariants.{Done, Refused}
 
@@ -38,3 +40,7 @@ ShowSays b Done text = (v : ImageValue) × IsImage v b × (text ≡ show_text b 
 ShowSays b (Refused (File file rule at)) text = IsFault b (Some (rule, at)) × (file ≡ 0) × (text ≡ refused_line rule at)
 ShowSays b (Refused (Link rule file index entry)) text = ⊥
 ShowSays b (Refused TooLong) text = ⊥
+
+-- a call of `show`
+abbrev pub IsShown : Option (List ℕ) → Option (List ℕ) → Option (List ℕ) → Option (List ℕ) → Result Verdict ToolFault → Type 0
+IsShown = IsAnswered ShowSays

@@ -2,9 +2,8 @@
 use Rattle.std.specs.Prelude.{◌≡◌, ◌⊎◌, ℕ, List, Option, Some, Result, Ok, Err, IfSome}
 use Rattle.std.specs.Io.KnownBytes.{Keeps}
 use Rattle.clap.specs.Walk.{Text}
-use Rattle.elf_engine.specs.Check.{CheckSays}
-use Rattle.elf_engine.specs.Engine.{Answering, Answers, GradualAnswers, IsAnswered}
-use Rattle.elf_engine.specs.Show.{ShowSays}
+use Rattle.elf_engine.specs.Check.{IsChecked}
+use Rattle.elf_engine.specs.Show.{IsShown}
 use Rattle.elf_tool.specs.Words.{IsAskedBy, IsRefusedBy}
 use Rattle.elf_engine.specs.declared.fault.ToolFault.{ToolFault}
 use Rattle.elf_engine.specs.declared.fault.Verdict.{Verdict}
@@ -29,18 +28,22 @@ ending_of (Ok verdict.Done) = Done
 ending_of (Ok (verdict.Refused refusal)) = Refused
 ending_of (Err fault) = Failed
 
--- a file was opened, and the engine answered on a reader of its bytes, where these are known; or it was
--- not, and nothing is out. A writer that held `old` holds `new`
-abbrev pub EndsFile : Answering → Option (List ℕ) → Option (List ℕ) → Option (List ℕ) → Status → Type 0
-EndsFile answers known old new status =
+-- a call of an engine: what its reader had and has left, what its writer held and holds, and its answer
+abbrev pub Call : Type 1
+Call = Option (List ℕ) → Option (List ℕ) → Option (List ℕ) → Option (List ℕ) → Result Verdict ToolFault → Type 0
+
+-- a file was opened, and an engine was called on a reader of its bytes, where these are known; or it was not, and
+-- nothing is out. A writer that held `old` holds `new`
+abbrev pub EndsFile : Call → Option (List ℕ) → Option (List ℕ) → Option (List ℕ) → Status → Type 0
+EndsFile call known old new status =
     ((input rest : Option (List ℕ)) × (answer : Result Verdict ToolFault) × IfSome known (λ bytes. input ≡ Some bytes)
-    × IsAnswered answers input rest old new answer × (status ≡ ending_of answer))
+    × call input rest old new answer × (status ≡ ending_of answer))
     ⊎ ((status ≡ Failed) × Keeps old new)
 
 -- each command, over the files' known bytes by name
 abbrev pub EndsRequest : (Text → Option (List ℕ)) → Option (List ℕ) → Option (List ℕ) → Request → Status → Type 0
-EndsRequest holds old new (Check file) status = EndsFile (Answers CheckSays) (holds file.now) old new status
-EndsRequest holds old new (Show file) status = EndsFile (GradualAnswers ShowSays) (holds file.now) old new status
+EndsRequest holds old new (Check file) status = EndsFile IsChecked (holds file.now) old new status
+EndsRequest holds old new (Show file) status = EndsFile IsShown (holds file.now) old new status
 
 -- words that ask for nothing: nothing is out
 abbrev pub EndsWords : Option (List ℕ) → Option (List ℕ) → WordsFault → Status → Type 0

@@ -2,9 +2,8 @@
 ghost use Rattle.std.specs.Prelude.{◌≡◌, ◌≢◌, IfErr, IfOk, IfSome, map};
 ghost use Rattle.std.specs.IoError.{error_kind};
 ghost use Rattle.std.specs.declared.io.ErrorKind.TheVariants.{InvalidData};
-ghost use Rattle.elf_engine.specs.Check.{CheckSays};
-ghost use Rattle.elf_engine.specs.Engine.{Answers, GradualAnswers};
-ghost use Rattle.elf_engine.specs.Show.{ShowSays};
+ghost use Rattle.elf_engine.specs.Check.{IsChecked};
+ghost use Rattle.elf_engine.specs.Show.{IsShown};
 ghost use Rattle.elf_tool.specs.Program.{EndsFile, EndsRun, code_of, ending_of};
 ghost use Rattle.elf_tool.specs.declared.program.Status.{Status as Ending};
 
@@ -94,7 +93,7 @@ fn check_file<O: Opener, W: Write, E: Write>(
     out: &mut W,
     err: &mut E,
 ) -> Status
-    ensures { EndsFile (Answers CheckSays) (O.holds files.old file.now) (W.contents out.old) (W.contents out.new) result }
+    ensures { EndsFile IsChecked (O.holds files.old file.now) (W.contents out.old) (W.contents out.new) result }
 {
     match open(file, files, err) {
         Ok(mut input) => status_of(check(alloc, &mut input, out), err),
@@ -109,7 +108,7 @@ fn show_file<O: Opener, W: Write, E: Write>(
     out: &mut W,
     err: &mut E,
 ) -> Status
-    ensures { EndsFile (GradualAnswers ShowSays) (O.holds files.old file.now) (W.contents out.old) (W.contents out.new) result }
+    ensures { EndsFile IsShown (O.holds files.old file.now) (W.contents out.old) (W.contents out.new) result }
 {
     match open(file, files, err) {
         Ok(mut input) => status_of(show(alloc, &mut input, out), err),

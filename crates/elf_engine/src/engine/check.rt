@@ -1,8 +1,7 @@
 //! `check`: is this an ELF-64 file, and if not, why and where.
 ghost use Rattle.std.specs.Prelude.{◌≡◌, length, IfOk, string_bytes};
 ghost use Rattle.elf_rules.specs.ImageRules.{IsFault};
-ghost use Rattle.elf_engine.specs.Check.{CheckSays, file_sections, file_segments, verdict_of};
-ghost use Rattle.elf_engine.specs.Engine.{Answers, IsAnswered};
+ghost use Rattle.elf_engine.specs.Check.{CheckSays, IsChecked, file_sections, file_segments, verdict_of};
 ghost use Rattle.elf_engine.specs.Line.{ok_line as ok_line_of};
 
 use super::input::read_input;
@@ -26,7 +25,7 @@ pub fn check<R: Read, W: Write>(
     reader: &mut R,
     writer: &mut W,
 ) -> Result<Verdict, ToolFault>
-    ensures { IsAnswered (Answers CheckSays) (R.remaining reader.old) (R.remaining reader.new)
+    ensures { IsChecked (R.remaining reader.old) (R.remaining reader.new)
         (W.contents writer.old) (W.contents writer.new) result }
 {
     let mut buf = Vec::new(alloc);

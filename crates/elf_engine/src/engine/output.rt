@@ -1,6 +1,6 @@
 //! A text that goes out in large pieces.
 ghost use Rattle.std.specs.Prelude.{◌≡◌, ◌<◌, [], OnOk, length};
-ghost use Rattle.elf_engine.specs.Output.{IsSent};
+ghost use Rattle.elf_engine.specs.Output.{IsBuffered};
 
 use crate::fault::ToolFault;
 use elf_image::write_whole;
@@ -31,7 +31,7 @@ impl Output {
 
     /// Lets what is pending go out where it is a large piece.
     pub(crate) fn flush_piece<W: Write>(&mut self, writer: &mut W) -> Result<(), ToolFault>
-        ensures sent { IsSent (W.contents writer.old) (W.contents writer.new) self.old self.new [] result }
+        ensures buffered { IsBuffered (W.contents writer.old) (W.contents writer.new) self.old self.new [] result }
         ensures short { OnOk result (length self.new.pending.items < 65536) }
     {
         if self.pending.len() < PIECE {
@@ -45,7 +45,7 @@ impl Output {
     /// A text of 2^64 bytes and more would end here, before the count of what is out no longer fits:
     /// no file of at most 2^30 bytes has so long a text.
     pub(crate) fn flush<W: Write>(&mut self, writer: &mut W) -> Result<(), ToolFault>
-        ensures sent { IsSent (W.contents writer.old) (W.contents writer.new) self.old self.new [] result }
+        ensures buffered { IsBuffered (W.contents writer.old) (W.contents writer.new) self.old self.new [] result }
         ensures empty { OnOk result (self.new.pending.items ≡ []) }
     {
         let written = self.written;

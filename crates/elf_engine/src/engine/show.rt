@@ -1,10 +1,10 @@
 //! `show`: the header, the parts, the sections and the segments of a file.
 ghost use Rattle.std.specs.Prelude.{◌≡◌, List, length, map};
 ghost use Rattle.std.specs.List.{flat_map};
-ghost use Rattle.elf_engine.specs.Engine.{GradualAnswers, IsAnswered};
+ghost use Rattle.elf_engine.specs.Engine.{IsWritten};
 ghost use Rattle.elf_engine.specs.Line.{refused_line as refused_line_of};
-ghost use Rattle.elf_engine.specs.Output.{IsOut, IsSent};
-ghost use Rattle.elf_engine.specs.Show.{ShowSays, section_lines, segment_lines, show_text};
+ghost use Rattle.elf_engine.specs.Output.{IsBuffered};
+ghost use Rattle.elf_engine.specs.Show.{IsShown, section_lines, segment_lines, show_text};
 ghost use Rattle.elf_engine.specs.ShowLines.{part_line};
 
 use super::input::read_input;
@@ -28,7 +28,7 @@ pub fn show<R: Read, W: Write>(
     reader: &mut R,
     writer: &mut W,
 ) -> Result<Verdict, ToolFault>
-    ensures { IsAnswered (GradualAnswers ShowSays) (R.remaining reader.old) (R.remaining reader.new)
+    ensures { IsShown (R.remaining reader.old) (R.remaining reader.new)
         (W.contents writer.old) (W.contents writer.new) result }
 {
     let mut buf = Vec::new(alloc);
@@ -55,7 +55,7 @@ fn show_refusal<W: Write>(
     at: u64,
     writer: &mut W,
 ) -> Result<(), ToolFault>
-    ensures { IsOut (W.contents writer.old) (W.contents writer.new) (refused_line_of rule at) result }
+    ensures { IsWritten (refused_line_of rule at) (W.contents writer.old) (W.contents writer.new) result }
 {
     let line = refused_line(alloc, rule, at)?;
     write_whole(writer, line.as_bytes())?;
@@ -69,7 +69,7 @@ fn show_image<W: Write>(
     image: &Image<'_>,
     writer: &mut W,
 ) -> Result<(), ToolFault>
-    ensures { IsOut (W.contents writer.old) (W.contents writer.new) (show_text bytes.now image.now) result }
+    ensures { IsWritten (show_text bytes.now image.now) (W.contents writer.old) (W.contents writer.new) result }
 {
     let mut output = Output::new(alloc);
     push_file_line(&mut output.pending, &image.header())?;
@@ -86,7 +86,7 @@ fn show_parts<W: Write>(
     output: &mut Output,
     writer: &mut W,
 ) -> Result<(), ToolFault>
-    ensures { IsSent (W.contents writer.old) (W.contents writer.new) output.old output.new
+    ensures { IsBuffered (W.contents writer.old) (W.contents writer.new) output.old output.new
         (flat_map (part_line bytes.now) parts.now) result }
 {
     for part in parts {
@@ -102,7 +102,7 @@ fn show_sections<W: Write>(
     output: &mut Output,
     writer: &mut W,
 ) -> Result<(), ToolFault>
-    ensures { IsSent (W.contents writer.old) (W.contents writer.new) output.old output.new
+    ensures { IsBuffered (W.contents writer.old) (W.contents writer.new) output.old output.new
         (section_lines image.now) result }
 {
     for i in 0..image.section_count() {
@@ -119,7 +119,7 @@ fn show_segments<W: Write>(
     output: &mut Output,
     writer: &mut W,
 ) -> Result<(), ToolFault>
-    ensures { IsSent (W.contents writer.old) (W.contents writer.new) output.old output.new
+    ensures { IsBuffered (W.contents writer.old) (W.contents writer.new) output.old output.new
         (segment_lines image.now) result }
 {
     for j in 0..image.segment_count() {

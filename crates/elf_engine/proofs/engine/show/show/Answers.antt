@@ -1,34 +1,11 @@
-use Rattle.std.proofs.Common.{◌≡◌, ◌+◌, ◌^◌, ◌≤◌, ◌⊎◌, List, ℕ, Option, Err, inr, length, refl, vec_len, arith}
-use Rattle.std.specs.Io.KnownBytes.{Consumes, IsAtEnd}
+use Rattle.std.proofs.Common.{refl, vec_len, arith}
 use Rattle.std.proofs.lemmas.Result.{err_from_is_err_and}
-use Rattle.elf_engine.specs.Engine.{GradualAnswers, IsAnswered, Sayings}
 use Rattle.elf_engine.specs.Line.{refused_line}
-use Rattle.elf_engine.specs.Output.{StopsIn}
 use Rattle.elf_engine.specs.Show.{ShowSays, show_text}
 use Rattle.elf_engine.specs.declared.fault.Refusal.TheVariants.{File}
-use Rattle.elf_engine.specs.declared.fault.ToolFault.{ToolFault}
-use Rattle.elf_engine.specs.declared.fault.ToolFault.TheVariants.{Read, Write, OutOfMemory}
-use Rattle.elf_engine.specs.declared.fault.Verdict.{Verdict}
 use Rattle.elf_engine.specs.declared.fault.Verdict.TheVariants.{Done, Refused}
+use Rattle.elf_engine.proofs.Calls.{stopped}
 use Rattle.elf_engine.proofs.engine.show.show.Goals as goal
-
--- a fault with the first bytes of a text out
-stopped_answer : (says : Sayings) (b : List ℕ) (whole : Type 0) (a c : Option (List ℕ)) (verdict : Verdict) (text : List ℕ) (fault : ToolFault)
-    → says b verdict text → whole → StopsIn a c text fault → GradualAnswers says b whole a c (Err fault)
-stopped_answer says b whole a c verdict text (Write written) said read stop = (verdict, text, said, read, stop.0, stop.1)
-stopped_answer says b whole a c verdict text OutOfMemory said read stop = inr (verdict, text, stop.0, said, read, stop.2)
-stopped_answer says b whole a c verdict text (Read at) said read stop = absurd stop
-
--- a file was read, whole, and a fault came with the first bytes of its text out
-stopped : (says : Sayings) (input rest old new : Option (List ℕ)) (read items : List ℕ) (count : ℕ) (verdict : Verdict) (text : List ℕ) (fault : ToolFault)
-    → read ≡ items → length read ≡ count → Consumes input rest items → count ≤ 2 ^ 30 + 1 → IsAtEnd rest ⊎ (count ≡ 2 ^ 30 + 1)
-    → says read verdict text → StopsIn old new text fault → IsAnswered (GradualAnswers says) input rest old new (Err fault)
-stopped says input rest old new read items count verdict text fault same long taken limit whole said stop = record {
-  bytes = read;
-  taken = rw same taken;
-  limit = rw long limit;
-  answered = stopped_answer says read (IsAtEnd rest ⊎ (length read ≡ 2 ^ 30 + 1)) old new verdict text fault said (rw long whole) stop;
-}
 
 pub returns-in_err-show_image-in-Ok : goal.returns-in_err-show_image-in-Ok
 returns-in_err-show_image-in-Ok g c =

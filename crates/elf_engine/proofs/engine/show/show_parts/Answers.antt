@@ -3,7 +3,7 @@ use Rattle.std.proofs.lemmas.Result.{err_from_is_err_and}
 use Rattle.elf_image.specs.declared.part.Part.{Part}
 use Rattle.elf_image.specs.declared.part.Owner.TheVariants.{Header}
 use Rattle.elf_engine.specs.ShowLines.{part_line}
-use Rattle.elf_engine.proofs.Output.{line_refused, line_sent, line_stopped}
+use Rattle.elf_engine.proofs.Output.{line_refused, line_buffered, line_cut}
 use Rattle.elf_engine.proofs.engine.show.show_parts.Goals as goal
 
 -- stands for a part that isn't there
@@ -18,10 +18,10 @@ returns-in_err-push_part_line g c =
 pub returns-in_err-flush_piece : goal.returns-in_err-flush_piece
 returns-in_err-flush_piece g c =
     let p = err_from_is_err_and c.from_residual-in_err-flush_piece.result c.from_residual-in_err-flush_piece.ensures.1 in
-    rw (p.1, p.2) (line_stopped (part_line c.args.bytes.now) c.args.parts.now c.loop-part.part-index no_part c.loop-part-test.true _ _ _ _ _ c.loop-part.invariant refl
-    _ (record { pending = c.push_part_line.new.text; written = c.loop-part.output.written }) c.in_err-flush_piece.field-0.0 c.in_ok-push_part_line.ensures refl c.in_err-flush_piece.ensures.sent)
+    rw (p.1, p.2) (line_cut (part_line c.args.bytes.now) c.args.parts.now c.loop-part.part-index no_part c.loop-part-test.true _ _ _ _ _ c.loop-part.invariant refl
+    _ (record { pending = c.push_part_line.new.text; written = c.loop-part.output.written }) c.in_err-flush_piece.field-0.0 c.in_ok-push_part_line.ensures refl c.in_err-flush_piece.ensures.buffered)
 
 pub loop-part-preserved : goal.loop-part-preserved
 loop-part-preserved g c =
-    line_sent (part_line c.args.bytes.now) c.args.parts.now c.loop-part.part-index no_part c.loop-part-test.true _ _ _ _ _ c.loop-part.invariant refl
-    _ (record { pending = c.push_part_line.new.text; written = c.loop-part.output.written }) _ c.in_ok-push_part_line.ensures refl c.in_ok-flush_piece.ensures.sent
+    line_buffered (part_line c.args.bytes.now) c.args.parts.now c.loop-part.part-index no_part c.loop-part-test.true _ _ _ _ _ c.loop-part.invariant refl
+    _ (record { pending = c.push_part_line.new.text; written = c.loop-part.output.written }) _ c.in_ok-push_part_line.ensures refl c.in_ok-flush_piece.ensures.buffered
