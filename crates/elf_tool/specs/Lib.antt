@@ -1,4 +1,5 @@
 -- The words of this crate's contracts.
 pub mod Command
+pub mod Opener
 pub mod Program
 pub mod Words

@@ -1,5 +1,5 @@
 //! The whole program: from the words of its command line to its exit status.
-ghost use Rattle.std.specs.Prelude.{◌≡◌, ◌≢◌, IfErr, IfOk, IfSome, map};
+ghost use Rattle.std.specs.Prelude.{◌≡◌, ◌≢◌, map};
 ghost use Rattle.std.specs.IoError.{error_kind};
 ghost use Rattle.std.specs.declared.io.ErrorKind.TheVariants.{InvalidData};
 ghost use Rattle.elf_engine.specs.Check.{IsChecked};
@@ -43,7 +43,7 @@ pub fn run<S: AsStr, O: Opener, W: Write, E: Write>(
     err: &mut E,
 ) -> u8
     ensures { (status : Ending) × (result ≡ code_of status)
-        × EndsRun (map S.text words.now) (O.holds files.old) (W.contents out.old) (W.contents out.new) status }
+        × EndsRun (map S.text words.now) (O.holds files.old) (O.opens files.old) (W.contents out.old) (W.contents out.new) status }
 {
     ending(alloc, words, files, out, err) as u8
 }
@@ -55,7 +55,7 @@ fn ending<S: AsStr, O: Opener, W: Write, E: Write>(
     out: &mut W,
     err: &mut E,
 ) -> Status
-    ensures { EndsRun (map S.text words.now) (O.holds files.old) (W.contents out.old) (W.contents out.new) result }
+    ensures { EndsRun (map S.text words.now) (O.holds files.old) (O.opens files.old) (W.contents out.old) (W.contents out.new) result }
 {
     match read_words(alloc, words) {
         Ok(Request::Check { file }) => check_file(alloc, file, files, out, err),
@@ -93,11 +93,12 @@ fn check_file<O: Opener, W: Write, E: Write>(
     out: &mut W,
     err: &mut E,
 ) -> Status
-    ensures { EndsFile IsChecked (O.holds files.old file.now) (W.contents out.old) (W.contents out.new) result }
+    ensures { EndsFile IsChecked (O.holds files.old file.now) (O.opens files.old file.now)
+        (W.contents out.old) (W.contents out.new) result }
 {
-    match open(file, files, err) {
+    match files.reader(file) {
         Ok(mut input) => status_of(check(alloc, &mut input, out), err),
-        Err(status) => status,
+        Err(fault) => unopened(fault, file, err),
     }
 }
 
@@ -108,26 +109,25 @@ fn show_file<O: Opener, W: Write, E: Write>(
     out: &mut W,
     err: &mut E,
 ) -> Status
-    ensures { EndsFile IsShown (O.holds files.old file.now) (W.contents out.old) (W.contents out.new) result }
+    ensures { EndsFile IsShown (O.holds files.old file.now) (O.opens files.old file.now)
+        (W.contents out.old) (W.contents out.new) result }
 {
-    match open(file, files, err) {
+    match files.reader(file) {
         Ok(mut input) => status_of(show(alloc, &mut input, out), err),
-        Err(status) => status,
+        Err(fault) => unopened(fault, file, err),
     }
 }
 
-// A reader of the file of this name, or how the program ends without one.
-fn open<O: Opener, E: Write>(file: &str, files: &mut O, err: &mut E) -> Result<O::Input, Status>
-    ensures ok { IfOk result (λ input. IfSome (O.holds files.old file.now) (λ bytes. O.Input.remaining input ≡ Some bytes)) }
-    ensures err { IfErr result (λ status. status ≡ Status.Failed) }
+// How the program ends where the file of this name gave no reader.
+fn unopened<E: Write>(fault: OpenFault, file: &str, err: &mut E) -> Status
+    ensures { result ≡ Status.Failed }
 {
-    match files.reader(file) {
-        Ok(input) => Ok(input),
-        Err(OpenFault::Refused) => {
+    match fault {
+        OpenFault::Refused => {
             let _ = writeln!(err, "cannot open {file}");
-            Err(Status::Failed)
+            Status::Failed
         }
-        Err(OpenFault::OutOfMemory) => Err(fail(&ToolFault::OutOfMemory, err)),
+        OpenFault::OutOfMemory => fail(&ToolFault::OutOfMemory, err),
     }
 }
 
