@@ -3,11 +3,13 @@
 #![tactic(auto)]
 
 mod command;
+mod machine;
 mod opener;
 mod program;
 mod words;
 
 pub use elf_engine::{Refusal, ToolFault, Verdict, check, show};
+pub use machine::run_on_machine;
 pub use opener::{MachineFiles, OpenFault, Opener};
 pub use program::{Status, refuse_words, run};
 pub use words::{Request, WordsFault, read_words};

@@ -72,6 +72,7 @@ fn ending<S: AsStr, O: Opener, W: Write, E: Write>(
 /// The exit status where the machine gives no words: 2, wrong usage, where a word is not UTF-8, and
 /// else 3.
 pub fn refuse_words<E: Write>(error: &io::Error, err: &mut E) -> u8
+    ensures status { (status : Ending) × (result ≡ code_of status) }
     ensures usage { error_kind error.now ≡ InvalidData → result ≡ code_of Status.Usage }
     ensures failed { error_kind error.now ≢ InvalidData → result ≡ code_of Status.Failed }
 {
