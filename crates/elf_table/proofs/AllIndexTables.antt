@@ -5,7 +5,7 @@ use Rattle.std.proofs.lemmas.List.{length-set}
 use Rattle.elf_table.specs.declared.index_tables.IndexTables.{IndexTables}
 use Rattle.elf_table.specs.IndexTable.{IsIndexTable, noted}
 use Rattle.elf_table.specs.Sections.{Sections, count}
-use Rattle.elf_table.specs.SymbolTables.{AreAllIndexTables, no_index_tables}
+use Rattle.elf_table.specs.TableVerdicts.{AreAllIndexTables, no_index_tables}
 use Rattle.elf_table.proofs.IndexTables.{index_tables_noted, index_tables_passed}
 
 -- a section that is an index table of none changes nothing

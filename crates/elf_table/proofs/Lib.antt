@@ -3,3 +3,4 @@ pub mod Lowest
 pub mod IndexTables
 pub mod SymbolLists
 pub mod AllIndexTables
+pub mod TableRuleLemmas

@@ -8,7 +8,9 @@ pub mod IndexTable
 pub mod SymbolParts
 pub mod SymbolRules
 pub mod Symbols
-pub mod SymbolTables
+pub mod TableRules
+pub mod TableVerdicts
+pub mod TablesView
 pub mod SymbolView
 pub mod SymbolsLeft
 pub mod Judged

@@ -3,17 +3,20 @@
 #![tactic(auto)]
 
 mod index_tables;
+mod laws;
 mod own_rules;
 pub mod rules;
 mod strings;
 mod symbol;
 mod symbol_parts;
 mod symbol_rules;
-mod symbol_tables;
+mod tables;
 mod symbols;
 mod table_kind;
 
+pub use laws::{entries_in_file, one_table_fault, sections_of_bytes};
 pub use strings::Strings;
 pub use symbol::{Place, Symbol};
-pub use symbol_tables::SymbolTables;
+pub use table_kind::is_symbol_type;
+pub use tables::Tables;
 pub use symbols::{SymbolIter, Symbols};

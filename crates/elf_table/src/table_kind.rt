@@ -55,7 +55,8 @@ impl TableKind {
     }
 }
 
-fn is_symbol_type(section_type: u32) -> bool
+/// Whether a section of this type holds symbols.
+pub fn is_symbol_type(section_type: u32) -> bool
     ensures { IsTrue result ↔ IsSymbolType section_type }
 {
     section_type == SHT_SYMTAB || section_type == SHT_DYNSYM

@@ -2,10 +2,10 @@ use Rattle.std.proofs.Common.{◌<◌, length, ap, sym, ◌∙◌, arith}
 use Rattle.std.proofs.lemmas.List.{get_or_default}
 use Rattle.elf_table.specs.declared.index_tables.IndexTables.{IndexTables}
 use Rattle.elf_table.specs.IndexTable.{noted}
-use Rattle.elf_table.specs.SymbolTables.{no_index_tables}
+use Rattle.elf_table.specs.TableVerdicts.{no_index_tables}
 use Rattle.elf_table.proofs.AllIndexTables.{all_noted, all_passed}
-use Rattle.elf_table.proofs.symbol_tables.all_index_tables.Goals as goal
-use Rattle.elf_table.proofs.symbol_tables.all_index_tables.Goals.{then-section-eq-SHT_SYMTAB_SHNDX+then-link-section_count, else-section-eq-SHT_SYMTAB_SHNDX, else-section-eq-SHT_SYMTAB_SHNDX-via-then-section-eq-SHT_SYMTAB_SHNDX+else-link-section_count, else-section-eq-SHT_SYMTAB_SHNDX-via-else-section-eq-SHT_SYMTAB_SHNDX}
+use Rattle.elf_table.proofs.tables.all_index_tables.Goals as goal
+use Rattle.elf_table.proofs.tables.all_index_tables.Goals.{then-section-eq-SHT_SYMTAB_SHNDX+then-link-section_count, else-section-eq-SHT_SYMTAB_SHNDX, else-section-eq-SHT_SYMTAB_SHNDX-via-then-section-eq-SHT_SYMTAB_SHNDX+else-link-section_count, else-section-eq-SHT_SYMTAB_SHNDX-via-else-section-eq-SHT_SYMTAB_SHNDX}
 
 pub loop-j-preserved : goal.loop-j-preserved
 loop-j-preserved c =
