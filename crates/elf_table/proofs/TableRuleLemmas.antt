@@ -1,9 +1,9 @@
 -- Which rules a section's type asks for.
-use Rattle.std.proofs.Common.{◌≡◌, ℕ, Bool, true, false, Option, inl, inr, subst, sym}
+use Rattle.std.proofs.Common.{◌≡◌, ℕ, Bool, true, false, Option, inl, inr, subst}
 use Rattle.std.specs.Prelude.{◌==◌, ◌||◌}
 use Rattle.std.proofs.lemmas.Bool.{eq-eqb}
 use Rattle.elf_field.specs.Abi.{SHT_DYNSYM, SHT_SYMTAB}
-use Rattle.elf_rules.specs.Rows.{FirstIn, Ruled}
+use Rattle.elf_rules.specs.Rows.{FirstIn}
 use Rattle.elf_table.specs.Sections.{Sections, section}
 use Rattle.elf_table.specs.SymbolRules.{symbol_table_rules}
 use Rattle.elf_table.specs.TableKind.{IsSymbolType}

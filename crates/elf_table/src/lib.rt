@@ -10,13 +10,13 @@ mod strings;
 mod symbol;
 mod symbol_parts;
 mod symbol_rules;
-mod tables;
 mod symbols;
 mod table_kind;
+mod tables;
 
 pub use laws::{entries_in_file, one_table_fault, sections_of_bytes};
 pub use strings::Strings;
 pub use symbol::{Place, Symbol};
+pub use symbols::{SymbolIter, Symbols};
 pub use table_kind::is_symbol_type;
 pub use tables::Tables;
-pub use symbols::{SymbolIter, Symbols};

@@ -1,7 +1,5 @@
-use Rattle.std.proofs.Common.{None, Option, ℕ, subst}
-use Rattle.elf_rules.specs.Rows.{FirstIn}
+use Rattle.std.proofs.Common.{None}
 use Rattle.elf_table.specs.Sections.{sections_of}
-use Rattle.elf_table.specs.TableRules.{table_rules}
 use Rattle.elf_table.proofs.TableRuleLemmas.{symbol_table_asked}
 use Rattle.elf_table.proofs.tables.Tables.symbols.Goals as goal
 
