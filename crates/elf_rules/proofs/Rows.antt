@@ -1,5 +1,5 @@
 -- Laws of tables of rules: runs of rules join, and there is one fault.
-use Rattle.std.proofs.Common.{◌≡◌, ℕ, zero, suc, inl, inr, Option, None, Some, List, [], ◌∷◌, ◌++◌, Result, Ok, Err, refl, sym, ap, subst, arith}
+use Rattle.std.proofs.Common.{◌≡◌, ℕ, zero, suc, inl, inr, Option, None, Some, List, [], ◌∷◌, ◌++◌, Result, Ok, Err, refl, sym, ap, subst, ◌∙◌, arith}
 use Rattle.std.specs.Result.{IsErrAnd}
 use Rattle.elf_extent.specs.Least.{IsLeast}
 use Rattle.elf_rules.specs.declared.broken.Broken.{Broken}
@@ -43,6 +43,39 @@ pub FirstIn-stop : {T : Type 0} (xs ys : List {1} Ruled) (broken : Broken) (resu
     FirstIn xs (Some (broken.rule, broken.at)) → IsErrAnd result (λ error. error ≡ broken) → FirstIn (xs ++ ys) (fault_of result)
 FirstIn-stop xs ys broken result found same =
     FirstIn-handed (xs ++ ys) broken result (FirstIn-sooner xs ys (broken.rule, broken.at) found) same
+
+-- ---- two tables of the same rules
+
+-- their rules are broken at the same offsets, one by one
+abbrev pub AreSame : List {1} Ruled → List {1} Ruled → Type 0
+AreSame [] [] = Unit {0}
+AreSame [] (q ∷ qs) = ⊥
+AreSame (p ∷ ps) [] = ⊥
+AreSame (p ∷ ps) (q ∷ qs) =
+    (p.number ≡ q.number) × ((x : ℕ) → p.row x → q.row x) × ((x : ℕ) → q.row x → p.row x) × AreSame ps qs
+
+pub AreSame-refl : (rules : List {1} Ruled) → AreSame rules rules
+AreSame-refl [] = tt
+AreSame-refl (r ∷ rules) = (refl, (λ x broken. broken), (λ x broken. broken), AreSame-refl rules)
+
+pub AreSame-append : (ps qs xs ys : List {1} Ruled) → AreSame ps qs → AreSame xs ys → AreSame (ps ++ xs) (qs ++ ys)
+AreSame-append [] [] xs ys front rest = rest
+AreSame-append [] (q ∷ qs) xs ys front rest = absurd front
+AreSame-append (p ∷ ps) [] xs ys front rest = absurd front
+AreSame-append (p ∷ ps) (q ∷ qs) xs ys front rest = (front.0, front.1, front.2, AreSame-append ps qs xs ys front.3 rest)
+
+-- so they have the same fault
+pub FirstIn-same : (ps qs : List {1} Ruled) (found : Option (ℕ × ℕ)) → AreSame ps qs → FirstIn ps found → FirstIn qs found
+FirstIn-same [] [] found same first = first
+FirstIn-same [] (q ∷ qs) found same first = absurd same
+FirstIn-same (p ∷ ps) [] found same first = absurd same
+FirstIn-same (p ∷ ps) (q ∷ qs) None same first = ((λ x broken. first.0 x (same.2 x broken)), FirstIn-same ps qs None same.3 first.1)
+FirstIn-same (p ∷ ps) (q ∷ qs) (Some fault) same (inl (number, least)) =
+    inl (number ∙ same.0, record { holds = same.1 fault.1 least.holds; lowest = λ y broken. least.lowest y (same.2 y broken) })
+FirstIn-same (p ∷ ps) (q ∷ qs) (Some fault) same (inr (never, later)) =
+    inr ((λ x broken. never x (same.2 x broken)), FirstIn-same ps qs (Some fault) same.3 later)
+
+-- ---- one fault
 
 -- a fault is a pair of a rule and an offset
 same_fault : (f g : ℕ × ℕ) → f.0 ≡ g.0 → f.1 ≡ g.1 → f ≡ g

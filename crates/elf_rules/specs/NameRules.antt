@@ -1,10 +1,11 @@
 -- Rules 30 to 32: the section name string table, and the sections' names in it. It is the table of
 -- index k, 0 for none, and names is its content, empty without one.
 -- (gABI chapter 4, ELF Header: e_shstrndx; String Table; Sections: sh_name.)
-use Rattle.std.specs.Prelude.{◌≢◌, ℕ, ◌+◌, ◌-◌, ◌<◌, List, [], ◌∷◌, length, slice_index}
+use Rattle.std.specs.Prelude.{◌≡◌, ◌≢◌, ℕ, ◌+◌, ◌-◌, ◌<◌, List, [], ◌∷◌, length, slice_index}
 use Rattle.elf_field.specs.Abi.{SHT_STRTAB, SH_NAME_AT, SH_TYPE_AT}
 use Rattle.elf_field.specs.declared.ehdr.Ehdr.{Ehdr}
 use Rattle.elf_field.specs.declared.shdr.Shdr.{Shdr}
+use Rattle.elf_rules.specs.declared.name_rules.TableEnds.{TableEnds}
 use Rattle.elf_rules.specs.Rows.{Row, Ruled, rule, When, Either}
 use Rattle.elf_rules.specs.SectionRules.{SomeSection, IsNamePastEnd}
 use Rattle.elf_rules.specs.Tables.{shdr_offset}
@@ -12,6 +13,12 @@ use Rattle.elf_rules.specs.Tables.{shdr_offset}
 -- rule 30: the name table isn't a string table (STRTAB)
 abbrev pub wrong_name_table_type : Ehdr → ℕ → (ℕ → Shdr) → Row
 wrong_name_table_type h k s = When ((k ≢ 0) × ((s k).sh_type ≢ SHT_STRTAB)) (shdr_offset h k + SH_TYPE_AT)
+
+-- the length and the ends of a string table
+pub record AreEnds (ends : TableEnds) (table : List ℕ) : Type 0 where
+  pub len : ends.len ≡ length table
+  pub first : 0 < length table → slice_index table 0 ≡ ends.first
+  pub last : 0 < length table → slice_index table (length table - 1) ≡ ends.last
 
 -- the first or the last byte of a string table at `start` isn't 0
 abbrev pub UnclosedAt : List ℕ → ℕ → Row

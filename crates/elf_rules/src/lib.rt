@@ -25,6 +25,7 @@ mod laws;
 pub mod name_rules;
 mod overlap_rule;
 pub mod program_table_rules;
+mod records;
 pub mod rules;
 pub mod section_rules;
 pub mod section_table_rules;
@@ -37,6 +38,7 @@ pub use header_rules::MAX_LEN;
 pub use image_rules::{judge, judge_by_sorting, judge_records, verdict};
 pub use judged_records::JudgedRecords;
 pub use laws::{extents_of_image, fault_of_extents, one_fault};
+pub use records::{FileRecords, Records, TableRecords};
 
 #[cfg(test)]
 mod tests;

@@ -28,8 +28,8 @@ pub fn header_of(bytes: &[u8]) -> Ehdr
     get_at(order_in(&bytes[..EI_NIDENT]), bytes, 0)
 }
 
-/// What stands for section header 0 where there is no section table.
-const NO_SECTION: Shdr = Shdr {
+/// What stands for a section header that isn't there.
+pub(crate) const NO_SECTION: Shdr = Shdr {
     sh_name: 0,
     sh_type: 0,
     sh_flags: 0,
@@ -40,6 +40,18 @@ const NO_SECTION: Shdr = Shdr {
     sh_info: 0,
     sh_addralign: 0,
     sh_entsize: 0,
+};
+
+/// What stands for a program header that isn't there.
+pub(crate) const NO_SEGMENT: Phdr = Phdr {
+    p_type: 0,
+    p_flags: 0,
+    p_offset: 0,
+    p_vaddr: 0,
+    p_paddr: 0,
+    p_filesz: 0,
+    p_memsz: 0,
+    p_align: 0,
 };
 
 /// Section header `index` of a file with this header, where it lies in the file; all zeros without a
