@@ -19,7 +19,7 @@ use Rattle.elf_rules.specs.OverlapRule.{extents}
 use Rattle.elf_rules.specs.ImageRules.{IsFault, KeepsRecordRules, entry_rows, image_rows, record_rows, rows, table_rows}
 use Rattle.elf_rules.specs.SoundTables.{HasSoundTables}
 use Rattle.elf_rules.specs.Tables.{content_extent, header, name_table, names, no_section, order_of, phdr_offset, section_count, sections, segment_count, segments, shdr_offset}
-use Rattle.elf_rules.proofs.Extents.{content_at, length-extents}
+use Rattle.elf_rules.proofs.Extents.{content_extent_at, length-extents}
 use Rattle.elf_rules.proofs.Rows.{FirstIn-front, unbroken}
 
 -- where no rule is broken, none of rules 1 to 32 is
@@ -144,7 +144,7 @@ extents_within len h s sound (suc (suc (suc k))) e read =
     let below = slice_get_within (extents h n m s) (suc (suc (suc k))) e read in
     let lt : k < n = omega arith in
     let place : suc (suc (suc k)) - 3 ≡ k = omega arith in
-    let at = content_at h n m s (suc (suc (suc k))) (omega arith) (omega arith) in
+    let at = content_extent_at h n m s (suc (suc (suc k))) (omega arith) (omega arith) in
     inside_of len (content_extent (s k)) e
     (ap (λ (j : ℕ). Some (content_extent (s j))) (sym place) ∙ sym at ∙ read)
     (λ some. content_inside len h s sound k lt some)
@@ -167,11 +167,7 @@ pub sound_file : (b : List ℕ) (h : Ehdr) → h ≡ header b → KeepsRecordRul
 sound_file b h same kept = subst (λ (k : Ehdr). HasSoundTables (length b) k (sections b k)) (sym same)
     (sound_tables (length b) (header b) (sections b (header b)) (segments b (header b)) (names b (header b)) kept)
 
--- section header 0 lies in the file where there is a section table
-pub first_there : (b : List ℕ) (h : Ehdr) → HasSoundTables (length b) h (sections b h) → h.e_shoff ≢ 0 → shdr_offset h 0 + 64 ≤ length b
-first_there b h sound there = let table = sound.section_table there in let some = sound.some there in omega arith
-
--- all section headers do
+-- all section headers lie in the file
 pub sections_there : (b : List ℕ) (h : Ehdr) → HasSoundTables (length b) h (sections b h) →
     shdr_offset h (section_count h (sections b h 0)) ≤ length b
 sections_there b h sound = elim (cases_eq h.e_shoff 0) [
@@ -193,25 +189,3 @@ sections_read_at b h there =
 pub sections_none : (b : List ℕ) (h : Ehdr) → h.e_shoff ≡ 0 → sections b h ≡ (λ (i : ℕ). no_section)
 unfolding sections
 sections_none b h none = rw none refl
-
--- ---- with counts by any equal name, as code reads them
-
-pub sections_inside : (b : List ℕ) (h : Ehdr) (first : Shdr) (n : ℕ) → HasSoundTables (length b) h (sections b h) →
-    first ≡ sections b h 0 → n ≡ section_count h first → shdr_offset h n ≤ length b
-sections_inside b h first n sound read count =
-    subst (λ (k : ℕ). shdr_offset h k ≤ length b) (sym (count ∙ ap (section_count h) read)) (sections_there b h sound)
-
-pub segments_inside : (b : List ℕ) (h : Ehdr) (first : Shdr) (m : ℕ) → HasSoundTables (length b) h (sections b h) →
-    first ≡ sections b h 0 → m ≡ segment_count h first → 0 < m → phdr_offset h m ≤ length b
-segments_inside b h first m sound read count =
-    subst (λ (k : ℕ). 0 < k → phdr_offset h k ≤ length b) (sym (count ∙ ap (segment_count h) read)) sound.program_table
-
--- so that the program table's size is a number of 64 bits
-pub segments_short : (b : List ℕ) (h : Ehdr) (first : Shdr) (m : ℕ) → HasSoundTables (length b) h (sections b h) →
-    first ≡ sections b h 0 → m ≡ segment_count h first → 56 * m < 2 ^ 64
-segments_short b h first m sound read count =
-    let short = sound.short in
-    elim (cases_lt 0 m) [
-      | inl some ↦ (let inside = segments_inside b h first m sound read count some in omega arith)
-      | inr none ↦ omega arith
-    ]

@@ -1,4 +1,4 @@
--- Laws of tables of rules: runs of rules join, and there is one fault.
+-- Laws of lists of rules: runs of rules join, lists of the same rules have the same fault, and there is one fault.
 use Rattle.std.proofs.Common.{◌≡◌, ℕ, zero, suc, inl, inr, Option, None, Some, List, [], ◌∷◌, ◌++◌, Result, Ok, Err, refl, sym, ap, subst, ◌∙◌, arith}
 use Rattle.std.specs.Result.{IsErrAnd}
 use Rattle.elf_extent.specs.Least.{IsLeast}
@@ -44,7 +44,7 @@ pub FirstIn-stop : {T : Type 0} (xs ys : List {1} Ruled) (broken : Broken) (resu
 FirstIn-stop xs ys broken result found same =
     FirstIn-handed (xs ++ ys) broken result (FirstIn-sooner xs ys (broken.rule, broken.at) found) same
 
--- ---- two tables of the same rules
+-- ---- two lists of the same rules
 
 -- their rules are broken at the same offsets, one by one
 abbrev pub AreSame : List {1} Ruled → List {1} Ruled → Type 0
@@ -87,7 +87,7 @@ least_is_one row x y one other =
     let above = other.lowest x one.holds in
     omega arith
 
--- a table has one fault
+-- a list of rules has one fault
 pub one_fault : (rules : List {1} Ruled) (a b : Option (ℕ × ℕ)) → FirstIn rules a → FirstIn rules b → a ≡ b
 one_fault [] None None p q = refl
 one_fault [] None (Some g) p q = absurd q

@@ -14,7 +14,8 @@ use Rattle.elf_rules.proofs.Rows.{AreSame, AreSame-append, AreSame-refl, FirstIn
 use Rattle.elf_rules.specs.Tables.{content_extent, counts_in, name_table, phdr_offset, section_count, segment_count, shdr_offset}
 use Rattle.elf_rules.specs.HeaderRules.{header_rows, ident_rows, length_rows}
 use Rattle.elf_rules.specs.ImageRules.{entry_rows, image_rows, record_rows, table_rows}
-use Rattle.elf_rules.specs.NameRules.{UnclosedAt, name_rows}
+use Rattle.elf_rules.specs.NameRules.{name_rows}
+use Rattle.elf_rules.specs.StringTable.{UnclosedAt}
 use Rattle.elf_rules.specs.OverlapRule.{extents, overlap_rows}
 use Rattle.elf_rules.specs.ProgramTableRules.{program_table_rows}
 use Rattle.elf_rules.specs.SectionRules.{IsMisaligned, IsNamePastEnd, IsWronglyAligned, PassesEnd, SomeSection, section_rows}

@@ -6,6 +6,7 @@ pub mod SectionTableRules
 pub mod ProgramTableRules
 pub mod SectionRules
 pub mod SegmentRules
+pub mod StringTable
 pub mod NameRules
 pub mod OverlapRule
 pub mod SoundTables

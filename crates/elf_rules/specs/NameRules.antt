@@ -5,28 +5,14 @@ use Rattle.std.specs.Prelude.{◌≡◌, ◌≢◌, ℕ, ◌+◌, ◌-◌, ◌<�
 use Rattle.elf_field.specs.Abi.{SHT_STRTAB, SH_NAME_AT, SH_TYPE_AT}
 use Rattle.elf_field.specs.declared.ehdr.Ehdr.{Ehdr}
 use Rattle.elf_field.specs.declared.shdr.Shdr.{Shdr}
-use Rattle.elf_rules.specs.declared.name_rules.TableEnds.{TableEnds}
-use Rattle.elf_rules.specs.Rows.{Row, Ruled, rule, When, Either}
+use Rattle.elf_rules.specs.Rows.{Row, Ruled, rule, When}
 use Rattle.elf_rules.specs.SectionRules.{SomeSection, IsNamePastEnd}
+pub use Rattle.elf_rules.specs.StringTable.{UnclosedAt}
 use Rattle.elf_rules.specs.Tables.{shdr_offset}
 
 -- rule 30: the name table isn't a string table (STRTAB)
 abbrev pub wrong_name_table_type : Ehdr → ℕ → (ℕ → Shdr) → Row
 wrong_name_table_type h k s = When ((k ≢ 0) × ((s k).sh_type ≢ SHT_STRTAB)) (shdr_offset h k + SH_TYPE_AT)
-
--- the length and the ends of a string table
-pub record AreEnds (ends : TableEnds) (table : List ℕ) : Type 0 where
-  pub len : ends.len ≡ length table
-  pub first : 0 < length table → slice_index table 0 ≡ ends.first
-  pub last : 0 < length table → slice_index table (length table - 1) ≡ ends.last
-
--- the first or the last byte of a string table at `start` isn't 0
-abbrev pub UnclosedAt : List ℕ → ℕ → Row
-UnclosedAt table start =
-    let last = length table - 1 in
-    Either (
-    When ((0 < length table) × (slice_index table 0 ≢ 0)) start ∷
-    When ((0 < length table) × (slice_index table last ≢ 0)) (start + last) ∷ [])
 
 -- rule 31: the name table's first or last byte isn't 0
 abbrev pub unclosed_name_table : ℕ → (ℕ → Shdr) → List ℕ → Row

@@ -3,20 +3,21 @@ ghost use Rattle.std.specs.Prelude.{◌≡◌, ◌+◌, ◌<◌, ◌≤◌, ◌^
 ghost use Rattle.elf_rules.specs.Broken.{fault_of};
 ghost use Rattle.elf_rules.specs.ImageRules.{IsFault, KeepsRecordRules, entry_rows, table_rows};
 ghost use Rattle.elf_rules.specs.JudgedRecords.{file_of};
-ghost use Rattle.elf_rules.specs.NameRules.{AreEnds};
+ghost use Rattle.elf_rules.specs.StringTable.{AreEnds};
 ghost use Rattle.elf_rules.specs.Rows.{FirstIn};
 ghost use Rattle.elf_rules.specs.Tables.{counts_in, names, names_at, phdr_offset, sections, segments, shdr_offset};
 
 use crate::broken::Broken;
 use crate::header_rules::{judge_header, judge_ident, judge_length};
 use crate::judged_records::JudgedRecords;
-use crate::name_rules::{TableEnds, ends_of, judge_names, names_of};
+use crate::name_rules::{judge_names, names_of};
 use crate::program_table_rules::judge_program_table;
 use crate::records::{FileRecords, Records};
 use crate::rules::SHARED_BYTE;
 use crate::section_rules::judge_sections;
 use crate::section_table_rules::judge_section_table;
 use crate::segment_rules::judge_segments;
+use crate::string_table::{TableEnds, ends_of};
 use crate::tables::{Counts, counts_of, header_of, section_at};
 use elf_extent::OutOfMemory;
 use elf_field::Ehdr;

@@ -1,10 +1,10 @@
 //! Rules 30 to 32: the section name string table, and the sections' names in it
 //! (gABI chapter 4, ELF Header: e_shstrndx; String Table; Sections: sh_name).
 ghost use Rattle.std.specs.Prelude.{◌≡◌, ◌≢◌, ◌≤◌, ◌<◌, ◌+◌, ◌^◌, ℕ, List, length};
-ghost use Rattle.elf_extent.specs.Least.{IsLowest};
 ghost use Rattle.elf_rules.specs.Broken.{fault_of};
-ghost use Rattle.elf_rules.specs.NameRules.{AreEnds, name_rows, UnclosedAt};
+ghost use Rattle.elf_rules.specs.NameRules.{name_rows};
 ghost use Rattle.elf_rules.specs.Rows.{FirstIn};
+ghost use Rattle.elf_rules.specs.StringTable.{AreEnds};
 ghost use Rattle.elf_rules.specs.Tables.{names_at, sections, shdr_offset};
 
 use crate::broken::Broken;
@@ -12,6 +12,7 @@ use crate::content::content_of;
 use crate::records::Records;
 use crate::rules::*;
 use crate::section_rules::{SectionRule, lowest_section};
+use crate::string_table::{TableEnds, unclosed_end};
 use crate::tables::section_at;
 use elf_field::Ehdr;
 use elf_field::abi::*;
@@ -28,30 +29,6 @@ pub fn names_of<'a>(bytes: &'a [u8], header: &Ehdr, table: u64) -> &'a [u8]
         return &[];
     }
     content_of(bytes, &section_at(bytes, header, table))
-}
-
-/// What rules 30 to 32 look at of a string table: its length in bytes, and its first and last byte,
-/// which are any where it is empty.
-#[derive(Clone, Copy, Debug, PartialEq, Eq)]
-pub struct TableEnds {
-    pub len: u64,
-    pub first: u8,
-    pub last: u8,
-}
-
-/// The length and the ends of a string table.
-pub fn ends_of(table: &[u8]) -> TableEnds
-    ensures { AreEnds result table.now }
-{
-    let (first, last) = match (table.first(), table.last()) {
-        (Some(first), Some(last)) => (*first, *last),
-        _ => (0, 0),
-    };
-    TableEnds {
-        len: table.len() as u64,
-        first,
-        last,
-    }
 }
 
 /// Rules 30 to 32, of `count` sections with the name table of index `table`, 0 for none, of this
@@ -79,7 +56,7 @@ pub fn judge_names<T: Records>(
             header.e_shoff + SHDR_SIZE * table + SH_TYPE_AT,
         ));
     }
-    if let Some(at) = unclosed_at(ends, entry.sh_offset) {
+    if let Some(at) = unclosed_end(ends, entry.sh_offset) {
         return Err(Broken::new(UNCLOSED_NAME_TABLE, at));
     }
     let rule = SectionRule::Name(ends.len);
@@ -87,21 +64,4 @@ pub fn judge_names<T: Records>(
         return Err(Broken::new(NAME_PAST_END, at));
     }
     Ok(())
-}
-
-/// The offset in the file of the first or last byte of a string table at `start`, if one of them
-/// isn't 0; the lower one where both aren't.
-pub fn unclosed_at(ends: TableEnds, start: u64) -> Option<u64>
-    requires { 0 < ends.len → start + ends.len < 2 ^ 64 }
-    ensures { (table : List ℕ) → AreEnds ends table → IsLowest (UnclosedAt table start) result }
-{
-    if ends.len == 0 {
-        None
-    } else if ends.first != 0 {
-        Some(start)
-    } else if ends.last != 0 {
-        Some(start + (ends.len - 1))
-    } else {
-        None
-    }
 }

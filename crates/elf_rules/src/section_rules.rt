@@ -17,13 +17,13 @@ use elf_field::{Ehdr, Shdr};
 /// A rule on one section header, whatever the others are; it is not tested at type NULL.
 #[derive(Clone, Copy, Debug, PartialEq, Eq)]
 pub enum SectionRule {
-    /// Rule 22: the alignment is 0 or a power of two.
+    /// Rule 22, [`WRONG_SECTION_ALIGNMENT`].
     Alignment,
-    /// Rule 23: the address is a multiple of the alignment.
+    /// Rule 23, [`MISALIGNED_SECTION`].
     Address,
-    /// Rule 24: the content ends in a file of so many bytes.
+    /// Rule 24, [`CONTENT_PAST_END`], in a file of so many bytes.
     Content(u64),
-    /// Rule 32: the name begins in a section name string table of so many bytes, or is 0.
+    /// Rule 32, [`NAME_PAST_END`], with a section name string table of so many bytes.
     Name(u64),
 }
 

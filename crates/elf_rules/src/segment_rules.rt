@@ -17,13 +17,13 @@ use elf_field::{Ehdr, Phdr};
 /// A rule on one segment, whatever the others are.
 #[derive(Clone, Copy, Debug, PartialEq, Eq)]
 pub enum SegmentRule {
-    /// Rule 25: its bytes end in a file of so many bytes; not tested at type NULL.
+    /// Rule 25, [`SEGMENT_PAST_END`], in a file of so many bytes; not tested at type NULL.
     End(u64),
-    /// Rule 26: a loadable segment has no more bytes in the file than in memory.
+    /// Rule 26, [`FILE_SIZE_ABOVE_MEMORY_SIZE`].
     Size,
-    /// Rule 27: a loadable segment's alignment is 0 or a power of two.
+    /// Rule 27, [`WRONG_SEGMENT_ALIGNMENT`].
     Alignment,
-    /// Rule 28: a loadable segment's address and offset are congruent modulo its alignment.
+    /// Rule 28, [`INCONGRUENT_SEGMENT`].
     Congruence,
 }
 

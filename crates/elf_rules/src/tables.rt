@@ -57,7 +57,7 @@ pub(crate) const NO_SEGMENT: Phdr = Phdr {
 /// Section header `index` of a file with this header, where it lies in the file; all zeros without a
 /// section table.
 #[tactic(auto, unfolding(crate::specs::Tables::sections))]
-pub fn section_at(bytes: &[u8], header: &Ehdr, index: u64) -> Shdr
+pub(crate) fn section_at(bytes: &[u8], header: &Ehdr, index: u64) -> Shdr
     requires { header.now.e_shoff ≢ 0 → shdr_offset header.now index + SHDR_SIZE ≤ length bytes.now }
     ensures { result ≡ sections bytes.now header.now index }
 {
@@ -72,7 +72,7 @@ pub fn section_at(bytes: &[u8], header: &Ehdr, index: u64) -> Shdr
 
 /// Program header `index` of a file with this header, where it lies in the file.
 #[tactic(auto, unfolding(crate::specs::Tables::segments))]
-pub fn segment_at(bytes: &[u8], header: &Ehdr, index: u64) -> Phdr
+pub(crate) fn segment_at(bytes: &[u8], header: &Ehdr, index: u64) -> Phdr
     requires { phdr_offset header.now index + PHDR_SIZE ≤ length bytes.now }
     ensures { result ≡ segments bytes.now header.now index }
 {
@@ -103,7 +103,7 @@ pub fn counts_of(header: &Ehdr, first: &Shdr) -> Counts
 
 /// How many section headers there are: none without a section table; where `e_shnum` is 0, as many
 /// as section header 0 says in `sh_size`.
-pub fn section_count_of(header: &Ehdr, first: &Shdr) -> u64
+pub(crate) fn section_count_of(header: &Ehdr, first: &Shdr) -> u64
     ensures { result ≡ section_count header.now first.now }
 {
     if header.e_shoff == 0 {
@@ -117,7 +117,7 @@ pub fn section_count_of(header: &Ehdr, first: &Shdr) -> u64
 
 /// How many program headers there are; where `e_phnum` is `PN_XNUM`, as many as section header 0
 /// says in `sh_info`.
-pub fn segment_count_of(header: &Ehdr, first: &Shdr) -> u64
+pub(crate) fn segment_count_of(header: &Ehdr, first: &Shdr) -> u64
     ensures { result ≡ segment_count header.now first.now }
 {
     if header.e_phnum == PN_XNUM {
@@ -129,7 +129,7 @@ pub fn segment_count_of(header: &Ehdr, first: &Shdr) -> u64
 
 /// The index of the section name string table, 0 for none; where `e_shstrndx` is `SHN_XINDEX`, the
 /// one that section header 0 says in `sh_link`.
-pub fn name_table_of(header: &Ehdr, first: &Shdr) -> u64
+pub(crate) fn name_table_of(header: &Ehdr, first: &Shdr) -> u64
     ensures value { result ≡ name_table header.now first.now }
     ensures small { result < 2 ^ 32 }
 {

@@ -1,5 +1,5 @@
 use Rattle.std.proofs.Common.{subst}
-use Rattle.elf_rules.specs.NameRules.{AreEnds}
+use Rattle.elf_rules.specs.StringTable.{AreEnds}
 use Rattle.elf_rules.proofs.Rows.{FirstIn-stop, FirstIn-handed}
 use Rattle.elf_rules.proofs.ImageRules.{from_section_table, from_program_table, from_entries}
 use Rattle.elf_rules.proofs.image_rules.judge_tables.Goals as goal

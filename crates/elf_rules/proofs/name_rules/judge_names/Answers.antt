@@ -1,7 +1,8 @@
 use Rattle.std.proofs.Common.{ℕ, inl, inr, refl, rules, subst}
 use Rattle.elf_field.specs.declared.shdr.Shdr.{Shdr}
 use Rattle.elf_extent.specs.Least.{Never, IsLeast}
-use Rattle.elf_rules.specs.NameRules.{UnclosedAt, name_rows, wrong_name_table_type}
+use Rattle.elf_rules.specs.NameRules.{name_rows, wrong_name_table_type}
+use Rattle.elf_rules.specs.StringTable.{UnclosedAt}
 use Rattle.elf_rules.specs.SectionRules.{IsNamePastEnd, SomeSection}
 use Rattle.elf_rules.proofs.name_rules.judge_names.Goals as goal
 
