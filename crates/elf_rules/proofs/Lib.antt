@@ -3,8 +3,11 @@ mod Clean
 mod Extents
 mod ImageRules
 mod Kept
+mod Decided
+mod KeepsRules
 mod LoadOrder
 mod PowerOfTwo
 pub mod Public
+mod RowKinds
 mod Rows
 mod Same

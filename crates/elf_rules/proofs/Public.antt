@@ -3,6 +3,7 @@
 pub use Rattle.elf_rules.proofs.Clean.{clean_records, content_some, extents_disjoint, extents_within, name_table_below, sections_none, sections_read_at, sections_there, sound_file, sound_tables, table_some}
 pub use Rattle.elf_rules.proofs.Extents.{content_extent_at, length-extents}
 pub use Rattle.elf_rules.proofs.ImageRules.{fault_of_extents, overlap_alone}
+pub use Rattle.elf_rules.proofs.KeepsRules.{records_kept, records_unbroken, rules_kept, rules_unbroken}
 pub use Rattle.elf_rules.proofs.Kept.{kept_sections, kept_segments, kept_short}
-pub use Rattle.elf_rules.proofs.Rows.{AreSame, AreSame-append, AreSame-refl, BreaksAt, FirstIn-behind, FirstIn-front, FirstIn-handed, FirstIn-later, FirstIn-rest, FirstIn-same, FirstIn-sooner, FirstIn-stop, one_fault, unbroken}
+pub use Rattle.elf_rules.proofs.Rows.{AreSame, AreSame-append, AreSame-refl, FirstIn-behind, FirstIn-front, FirstIn-handed, FirstIn-later, FirstIn-rest, FirstIn-same, FirstIn-sooner, FirstIn-stop, one_fault}
 pub use Rattle.elf_rules.proofs.Same.{Agree, same_clean, same_entries, same_rows}

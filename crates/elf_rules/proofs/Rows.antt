@@ -1,5 +1,5 @@
 -- Laws of lists of rules: runs of rules join, lists of the same rules have the same fault, and there is one fault.
-use Rattle.std.proofs.Common.{◌≡◌, ℕ, zero, suc, inl, inr, Option, None, Some, List, [], ◌∷◌, ◌++◌, Result, Ok, Err, refl, sym, ap, subst, ◌∙◌, arith}
+use Rattle.std.proofs.Common.{◌≡◌, ℕ, inl, inr, Option, None, Some, List, [], ◌∷◌, ◌++◌, Result, Ok, Err, refl, sym, ap, subst, ◌∙◌, arith}
 use Rattle.std.specs.Result.{IsErrAnd}
 use Rattle.elf_extent.specs.Least.{IsLeast}
 use Rattle.elf_rules.specs.declared.broken.Broken.{Broken}
@@ -103,17 +103,3 @@ one_fault (r ∷ rules) (Some f) (Some g) (inl here) (inl there) =
 one_fault (r ∷ rules) (Some f) (Some g) (inl here) (inr later) = absurd (later.0 f.1 here.1.holds)
 one_fault (r ∷ rules) (Some f) (Some g) (inr later) (inl here) = absurd (later.0 g.1 here.1.holds)
 one_fault (r ∷ rules) (Some f) (Some g) (inr one) (inr other) = one_fault rules (Some f) (Some g) one.1 other.1
-
--- ---- a rule by its place in the list
-
--- the rule at place i of the list is broken at x
-abbrev pub BreaksAt : List {1} Ruled → ℕ → Row
-BreaksAt [] i = λ x. ⊥
-BreaksAt (r ∷ rules) zero = r.row
-BreaksAt (r ∷ rules) (suc i) = BreaksAt rules i
-
--- where none is broken, none is at any place
-pub unbroken : (rules : List {1} Ruled) → FirstIn rules None → (i x : ℕ) → BreaksAt rules i x → ⊥
-unbroken [] clean i x broken = broken
-unbroken (r ∷ rules) clean zero x broken = clean.0 x broken
-unbroken (r ∷ rules) clean (suc i) x broken = unbroken rules clean.1 i x broken

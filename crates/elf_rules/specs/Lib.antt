@@ -9,6 +9,7 @@ pub mod SegmentRules
 pub mod StringTable
 pub mod NameRules
 pub mod OverlapRule
+pub mod KeepsRules
 pub mod SoundTables
 pub mod ImageRules
 pub mod Kept

@@ -1,7 +1,7 @@
 -- Rules 30 to 32: the section name string table, and the sections' names in it. It is the table of
 -- index k, 0 for none, and names is its content, empty without one.
 -- (gABI chapter 4, ELF Header: e_shstrndx; String Table; Sections: sh_name.)
-use Rattle.std.specs.Prelude.{◌≡◌, ◌≢◌, ℕ, ◌+◌, ◌-◌, ◌<◌, List, [], ◌∷◌, length, slice_index}
+use Rattle.std.specs.Prelude.{◌≢◌, ℕ, ◌+◌, List, [], ◌∷◌, length}
 use Rattle.elf_field.specs.Abi.{SHT_STRTAB, SH_NAME_AT, SH_TYPE_AT}
 use Rattle.elf_field.specs.declared.ehdr.Ehdr.{Ehdr}
 use Rattle.elf_field.specs.declared.shdr.Shdr.{Shdr}
