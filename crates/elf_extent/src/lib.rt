@@ -6,7 +6,8 @@ pub use accounting::account;
 pub use double::first_double;
 pub use extent::{Extent, OutOfMemory, Piece};
 pub use laws::{
-    above_earlier, above_from, fits_length, in_piece, one_account, piece_for, same_least,
+    above_earlier, above_from, disjoint, fits_length, in_piece, one_account, piece_for, same_least,
+    some_account,
 };
 pub use placement::{PlaceFault, next_place, place};
 

@@ -7,6 +7,7 @@ pub mod Moved
 pub mod Named
 pub mod OneImage
 pub mod Parsed
+pub mod SomeImage
 pub mod Standing
 pub mod Stands
 pub mod Tables

@@ -25,7 +25,7 @@ use Rattle.elf_image.specs.declared.part.Owner.TheVariants.{Header, ProgramTable
 use Rattle.elf_image.specs.Image.{ImageValue, IsSound, PlacedPart, Stands, gap_in, gap_len, if_gap, joined, no_section, owned_bytes, part_bytes, section_of}
 use Rattle.elf_image.proofs.Holds.{holds_content, holds_header, holds_sections, holds_segments, in_joined, length-joined}
 use Rattle.elf_rules.proofs.Same.{same_section_count, same_segment_count}
-use Rattle.elf_image.proofs.Standing.{clean_of, counted_of}
+use Rattle.elf_image.proofs.Standing.{clean_of, counted_of, records_within}
 use Rattle.elf_image.proofs.Tables.{IsBytes-table, entries_read, record_read}
 
 -- ---- the joined parts are bytes
@@ -154,6 +154,7 @@ joined_stands v sound = record {
     section_headers = stands_sections v sound;
     program_headers = stands_segments v sound;
   };
+  within = records_within v (joined v) (counted_of v sound) (sym (length-joined v sound));
   contents = stands_contents v sound;
   accounts = sound.accounts;
   gaps = gaps_read v (joined v) v.parts (in_joined v sound) sound.gaps;

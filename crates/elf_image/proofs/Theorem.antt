@@ -18,7 +18,7 @@ use Rattle.elf_field.specs.ShdrLaws.{shdr_laws}
 use Rattle.elf_field.specs.PhdrLaws.{phdr_laws}
 use Rattle.elf_extent.specs.declared.extent.Extent.{Extent}
 use Rattle.elf_extent.specs.Account.{Accounts, IsOwned}
-use Rattle.elf_extent.proofs.AccountLaws.{accounts_le}
+use Rattle.elf_extent.proofs.Public.{accounts_le}
 use Rattle.elf_rules.specs.Rows.{IsFaultOf}
 use Rattle.elf_rules.specs.ImageRules.{image_rows, rows}
 use Rattle.elf_rules.specs.Tables.{bytes_in, content_extent, header, name_table, names, names_at, order_of, section_count, sections, segment_count, segments}
