@@ -1,3 +1,4 @@
+pub mod Abi
 pub mod Bytes
 pub mod BytesLaws
 pub mod Dyn

@@ -1,6 +1,7 @@
 //! The records of an ELF-64 file (gABI chapters 4 and 5), read and written in both byte orders.
 #![tactic(auto)]
 
+pub mod abi;
 mod dynamic;
 mod ehdr;
 mod number;

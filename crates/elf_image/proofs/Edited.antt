@@ -13,7 +13,7 @@ use Rattle.elf_field.specs.Shdr.{IsShdr}
 use Rattle.elf_extent.specs.declared.extent.Extent.{Extent}
 use Rattle.elf_extent.specs.declared.extent.Piece.{Piece}
 use Rattle.elf_extent.specs.Account.{Accounts}
-use Rattle.elf_rules.specs.Rows.{IsFaultOf}
+use Rattle.elf_rules.specs.Rows.{FirstIn}
 use Rattle.elf_rules.specs.Tables.{content_extent, name_table, section_count, segment_count}
 use Rattle.elf_rules.specs.HeaderRules.{header_rows}
 use Rattle.elf_rules.specs.ImageRules.{entry_rows, image_rows, record_rows, table_rows}
@@ -135,7 +135,7 @@ sound-with_flags v i flags sound above within fits =
     let t : Shdr = record s { sh_flags = flags } in
     let first : section_of v.sections 0 ≡ section_of (flagged v.sections i flags) 0 = plain_at-flagged v.sections i flags 0 above in
     let Names : Shdr → List ℕ = λ e. let k = name_table v.header e in if k == 0 then [] else get_or v.contents k [] in
-    let Keeps : (ℕ → Shdr) → Type 0 = λ e. IsFaultOf (image_rows v.len v.header e (segment_of v.segments) (Names (e 0))) None in
+    let Keeps : (ℕ → Shdr) → Type 0 = λ e. FirstIn (image_rows v.len v.header e (segment_of v.segments) (Names (e 0))) None in
     let all : (λ (k : ℕ). plain_at k (section_of v.sections k)) ≡ (λ (k : ℕ). plain_at k (section_of (flagged v.sections i flags) k)) =
     λ j k. plain_at-flagged v.sections i flags k above j in
     record {
@@ -173,7 +173,7 @@ sound-with_content v i content sound within long other are = record {
   bytes = all_set IsBytes v.contents i content sound.bytes are;
   accounts = sound.accounts;
   gaps = sound.gaps;
-  clean = subst (λ (names : List ℕ). IsFaultOf (image_rows v.len v.header (section_of v.sections) (segment_of v.segments) names) None)
+  clean = subst (λ (names : List ℕ). FirstIn (image_rows v.len v.header (section_of v.sections) (segment_of v.segments) names) None)
       (names-set v.header v.sections v.contents i content other) sound.clean;
 }
 

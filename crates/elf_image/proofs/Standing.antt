@@ -9,7 +9,7 @@ use Rattle.elf_extent.specs.declared.extent.Extent.{Extent}
 use Rattle.elf_extent.specs.Extent.{AreDisjoint, AreWithin}
 use Rattle.elf_rules.specs.Tables.{content_extent, section_count, segment_count}
 use Rattle.elf_rules.specs.OverlapRule.{extents}
-use Rattle.elf_rules.specs.Rows.{IsFaultOf}
+use Rattle.elf_rules.specs.Rows.{FirstIn}
 use Rattle.elf_rules.specs.SoundTables.{HasSoundTables}
 use Rattle.elf_rules.proofs.Clean.{clean_records, content_some, extents_disjoint, sound_tables}
 use Rattle.elf_image.specs.Image.{AreWithinBytes, ImageValue, IsSound, value_rows, no_section, section_of, segment_of, value_extents, value_names}
@@ -65,7 +65,7 @@ extents_are h ss gs n m sections segments =
 pub record IsCounted (v : ImageValue) : Type 0 where
   pub section_count : length v.sections ≡ section_count v.header (section_of v.sections 0)
   pub segment_count : length v.segments ≡ segment_count v.header (section_of v.sections 0)
-  pub clean : IsFaultOf (value_rows v) None
+  pub clean : FirstIn (value_rows v) None
 
 pub counted_of : (v : ImageValue) → IsSound v → IsCounted v
 counted_of v sound = record { section_count = sound.section_count; segment_count = sound.segment_count; clean = sound.clean }

@@ -19,7 +19,7 @@ use Rattle.elf_field.specs.PhdrLaws.{phdr_laws}
 use Rattle.elf_extent.specs.declared.extent.Extent.{Extent}
 use Rattle.elf_extent.specs.Account.{Accounts, IsOwned}
 use Rattle.elf_extent.proofs.Public.{accounts_le}
-use Rattle.elf_rules.specs.Rows.{IsFaultOf}
+use Rattle.elf_rules.specs.Rows.{FirstIn}
 use Rattle.elf_rules.specs.ImageRules.{image_rows, rows}
 use Rattle.elf_rules.specs.Tables.{bytes_in, content_extent, header, name_table, names, names_at, order_of, section_count, sections, segment_count, segments}
 use Rattle.elf_image.specs.declared.part.Owner.{Owner}
@@ -131,25 +131,25 @@ names_same v b stands shared =
         ap (λ (s : Shdr). bytes_in b (content_extent s)) entry ∙ sym (content_is b v.sections k lt) ∙ ap (λ (cs : List (List ℕ)). get_or cs k []) (sym stands.contents)
 
 -- a clean value's byte list breaks no rule
-clean_bytes : (v : ImageValue) (b : List ℕ) → Reads v b → IsShared v b → IsFaultOf (value_rows v) None → IsFaultOf (rows b) None
+clean_bytes : (v : ImageValue) (b : List ℕ) → Reads v b → IsShared v b → FirstIn (value_rows v) None → FirstIn (rows b) None
 unfolding rows
 clean_bytes v b stands shared clean =
-    let P : Ehdr → Type 0 = λ h. IsFaultOf (image_rows (length b) h (sections b h) (segments b h) (names b h)) None in
+    let P : Ehdr → Type 0 = λ h. FirstIn (image_rows (length b) h (sections b h) (segments b h) (names b h)) None in
     let moved = same_clean v.len v.header _ _ _ _ _ (agree_back v b stands shared) clean in
-    let named : IsFaultOf (image_rows v.len v.header (sections b v.header) (segments b v.header) (names b v.header)) None =
-    subst (λ (ns : List ℕ). IsFaultOf (image_rows v.len v.header (sections b v.header) (segments b v.header) ns) None) (sym (names_same v b stands shared)) moved in
-    subst P stands.tables.header (subst (λ (n : ℕ). IsFaultOf (image_rows n v.header (sections b v.header) (segments b v.header) (names b v.header)) None) stands.len named)
+    let named : FirstIn (image_rows v.len v.header (sections b v.header) (segments b v.header) (names b v.header)) None =
+    subst (λ (ns : List ℕ). FirstIn (image_rows v.len v.header (sections b v.header) (segments b v.header) ns) None) (sym (names_same v b stands shared)) moved in
+    subst P stands.tables.header (subst (λ (n : ℕ). FirstIn (image_rows n v.header (sections b v.header) (segments b v.header) (names b v.header)) None) stands.len named)
 
 -- the rules of b, said with the header of the value that stands
-rows_at_value : (v : ImageValue) (b : List ℕ) → Reads v b → IsFaultOf (rows b) None →
-    IsFaultOf (image_rows v.len v.header (sections b v.header) (segments b v.header) (names b v.header)) None
+rows_at_value : (v : ImageValue) (b : List ℕ) → Reads v b → FirstIn (rows b) None →
+    FirstIn (image_rows v.len v.header (sections b v.header) (segments b v.header) (names b v.header)) None
 unfolding rows
 rows_at_value v b stands clean =
-    let P : Ehdr → Type 0 = λ h. IsFaultOf (image_rows (length b) h (sections b h) (segments b h) (names b h)) None in
-    subst (λ (n : ℕ). IsFaultOf (image_rows n v.header (sections b v.header) (segments b v.header) (names b v.header)) None) (sym stands.len) (subst P (sym stands.tables.header) clean)
+    let P : Ehdr → Type 0 = λ h. FirstIn (image_rows (length b) h (sections b h) (segments b h) (names b h)) None in
+    subst (λ (n : ℕ). FirstIn (image_rows n v.header (sections b v.header) (segments b v.header) (names b v.header)) None) (sym stands.len) (subst P (sym stands.tables.header) clean)
 
 -- what is shared, from a clean byte list
-shared_by_reads : (v : ImageValue) (b : List ℕ) → Reads v b → IsFaultOf (rows b) None → IsShared v b
+shared_by_reads : (v : ImageValue) (b : List ℕ) → Reads v b → FirstIn (rows b) None → IsShared v b
 shared_by_reads v b stands clean =
     let facts = sound_tables v.len v.header (sections b v.header) (segments b v.header) (names b v.header)
     (clean_records v.len v.header (sections b v.header) (segments b v.header) (names b v.header) (rows_at_value v b stands clean)) in
@@ -161,13 +161,13 @@ shared_by_reads v b stands clean =
     shared_of v b stands some facts.few_segments facts.no_names (λ there. let lt = facts.name_table there in omega arith)
 
 -- the value that stands as a clean byte list is clean
-clean_value : (v : ImageValue) (b : List ℕ) → Reads v b → IsFaultOf (rows b) None → IsFaultOf (value_rows v) None
+clean_value : (v : ImageValue) (b : List ℕ) → Reads v b → FirstIn (rows b) None → FirstIn (value_rows v) None
 clean_value v b stands clean =
     let shared = shared_by_reads v b stands clean in
     let moved = same_clean v.len v.header _ _ _ _ _ (agree_from v b stands shared) (rows_at_value v b stands clean) in
-    subst (λ (ns : List ℕ). IsFaultOf (image_rows v.len v.header (section_of v.sections) (segment_of v.segments) ns) None) (names_same v b stands shared) moved
+    subst (λ (ns : List ℕ). FirstIn (image_rows v.len v.header (section_of v.sections) (segment_of v.segments) ns) None) (names_same v b stands shared) moved
 
-pub counted_by_reads : (v : ImageValue) (b : List ℕ) → Reads v b → IsFaultOf (rows b) None → IsCounted v
+pub counted_by_reads : (v : ImageValue) (b : List ℕ) → Reads v b → FirstIn (rows b) None → IsCounted v
 counted_by_reads v b stands clean =
     let shared = shared_by_reads v b stands clean in
     record {

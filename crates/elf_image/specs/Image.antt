@@ -12,7 +12,7 @@ use Rattle.elf_field.specs.Phdr.{IsPhdr, phdr_bytes}
 use Rattle.elf_extent.specs.declared.extent.Extent.{Extent}
 use Rattle.elf_extent.specs.declared.extent.Piece.{Piece}
 use Rattle.elf_extent.specs.Account.{Accounts}
-use Rattle.elf_rules.specs.Rows.{Row, IsFaultOf}
+use Rattle.elf_rules.specs.Rows.{Ruled, FirstIn}
 use Rattle.elf_rules.specs.Tables.{bytes_in, content_extent, header, name_table, order_of, phdr_offset, section_count, sections, segment_count, segments, shdr_offset}
 use Rattle.elf_rules.specs.ImageRules.{image_rows, rows}
 use Rattle.elf_image.specs.declared.part.Owner.{Owner}
@@ -64,7 +64,7 @@ value_names h ss cs =
     if k == 0 then [] else get_or cs k []
 
 -- the rules of the image, of what the value says
-abbrev pub value_rows : ImageValue → List {1} Row
+abbrev pub value_rows : ImageValue → List {1} Ruled
 value_rows v = image_rows v.len v.header (section_of v.sections) (segment_of v.segments) (value_names v.header v.sections v.contents)
 
 -- an owner as an index in the list of extents
@@ -124,7 +124,7 @@ pub record Stands (v : ImageValue) (b : List ℕ) : Type 0 where
 -- the value stands as b, and b breaks no rule
 pub record IsImage (v : ImageValue) (b : List ℕ) : Type 0 where
   pub stands : Stands v b
-  pub clean : IsFaultOf (rows b) None
+  pub clean : FirstIn (rows b) None
 
 -- ---- an image value by itself, with no byte list in it
 
@@ -142,7 +142,7 @@ pub record IsSound (v : ImageValue) : Type 0 where
   pub bytes : AllByRecursion IsBytes v.contents
   pub accounts : Accounts (value_extents v.header v.sections v.segments) v.len 0 (map piece_of v.parts)
   pub gaps : AllByRecursion (λ p. IsBytes p.gap × (length p.gap ≡ gap_len p.part)) v.parts
-  pub clean : IsFaultOf (value_rows v) None
+  pub clean : FirstIn (value_rows v) None
 
 -- ---- the one byte list
 

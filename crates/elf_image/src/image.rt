@@ -10,7 +10,7 @@ use crate::edits::{NoSection, ReplaceFault};
 use crate::outline::Outline;
 use crate::part::Part;
 use elf_field::{Ehdr, Order, Phdr, Shdr};
-use elf_rules::abi::{SHT_NOBITS, SHT_NULL};
+use elf_field::abi::{SHT_NOBITS, SHT_NULL};
 use memchr::memchr;
 use std::marker::Model;
 

@@ -1,5 +1,5 @@
 -- What holds of a file, or of an image by itself, that keeps rules 1 to 32, and of one that breaks no rule.
-use Rattle.std.proofs.Common.{◌≡◌, ◌≢◌, ℕ, zero, suc, ◌+◌, ◌-◌, ◌*◌, ◌^◌, ◌<◌, ◌≤◌, ◌⊎◌, inl, inr, None, Some, List, length, refl, sym, ◌∙◌, ap, subst, lit<, arith}
+use Rattle.std.proofs.Common.{◌≡◌, ◌≢◌, ℕ, zero, suc, ◌+◌, ◌-◌, ◌*◌, ◌^◌, ◌<◌, ◌≤◌, ◌⊎◌, inl, inr, None, Some, List, length, refl, sym, ◌∙◌, ap, subst, arith}
 use Rattle.std.proofs.lemmas.Bool.{cases_eq, cases_lt, ne_eqb}
 use Rattle.std.proofs.lemmas.Option.{slice_get_within}
 use Rattle.elf_field.specs.declared.ehdr.Ehdr.{Ehdr}
@@ -7,7 +7,7 @@ use Rattle.elf_field.specs.declared.shdr.Shdr.{Shdr}
 use Rattle.elf_field.specs.declared.phdr.Phdr.{Phdr}
 use Rattle.elf_extent.specs.declared.extent.Extent.{Extent}
 use Rattle.elf_extent.specs.Extent.{AreDisjoint, AreWithin}
-use Rattle.elf_rules.specs.Rows.{IsFaultOf}
+use Rattle.elf_rules.specs.Rows.{FirstIn}
 use Rattle.elf_rules.specs.HeaderRules.{header_rows, ident_rows, length_rows}
 use Rattle.elf_rules.specs.SectionTableRules.{section_table_rows}
 use Rattle.elf_rules.specs.ProgramTableRules.{program_table_rows}
@@ -19,13 +19,13 @@ use Rattle.elf_rules.specs.ImageRules.{IsFault, KeepsRecordRules, entry_rows, im
 use Rattle.elf_rules.specs.SoundTables.{HasSoundTables}
 use Rattle.elf_rules.specs.Tables.{content_extent, header, name_table, names, phdr_offset, section_count, sections, segment_count, segments, shdr_offset}
 use Rattle.elf_rules.proofs.Extents.{content_at, length-extents}
-use Rattle.elf_rules.proofs.Rows.{IsFaultOf-front}
+use Rattle.elf_rules.proofs.Rows.{FirstIn-front, unbroken}
 
 -- where no rule is broken, none of rules 1 to 32 is
 pub clean_records : (len : ℕ) (h : Ehdr) (s : ℕ → Shdr) (g : ℕ → Phdr) (names : List ℕ) →
-    IsFaultOf (image_rows len h s g names) None → IsFaultOf (record_rows len h s g names) None
+    FirstIn (image_rows len h s g names) None → FirstIn (record_rows len h s g names) None
 unfolding image_rows
-clean_records len h s g names clean = IsFaultOf-front (record_rows len h s g names) _ clean
+clean_records len h s g names clean = FirstIn-front (record_rows len h s g names) _ clean
 
 -- what is not above is at most, and what isn't different is equal
 at_most : (m n : ℕ) → (n < m → ⊥) → m ≤ n
@@ -54,33 +54,33 @@ names_below h first n plain extended =
     ]
 
 pub sound_tables : (len : ℕ) (h : Ehdr) (s : ℕ → Shdr) (g : ℕ → Phdr) (names : List ℕ) →
-    IsFaultOf (record_rows len h s g names) None → HasSoundTables len h s
+    FirstIn (record_rows len h s g names) None → HasSoundTables len h s
 unfolding record_rows table_rows entry_rows length_rows ident_rows header_rows section_table_rows program_table_rows section_rows segment_rows name_rows
-sound_tables len h s g names kept = record {
-  header = at_most 64 len (λ lt. kept 2 _ (lit< tt) (lt, refl));
-  short = at_most len (2 ^ 30) (λ lt. kept 1 _ (lit< tt) (lt, refl));
-  no_names = λ none. equal h.e_shstrndx 0 (λ other. kept 9 _ (lit< tt) (none, inr (other, refl)));
-  few_segments = λ none full. kept 18 _ (lit< tt) (inr (inr (full, none)), refl);
-  null = λ there. equal (s 0).sh_type 0 (λ other. kept 13 _ (lit< tt) (inr (inl ((there, other), refl))));
-  some = λ there. count_some h (s 0) there (λ none. at_most 0xff00 _ (λ lt. kept 14 _ (lit< tt) ((there, inr (none, lt)), refl)));
-  section_table = λ there. at_most _ len (λ lt. kept 15 _ (lit< tt) ((there, lt), refl));
+sound_tables len h s g names kept = let never = unbroken (record_rows len h s g names) kept in record {
+  header = at_most 64 len (λ lt. never 1 _ (lt, refl));
+  short = at_most len (2 ^ 30) (λ lt. never 0 _ (lt, refl));
+  no_names = λ none. equal h.e_shstrndx 0 (λ other. never 8 _ (none, inr (other, refl)));
+  few_segments = λ none full. never 17 _ (inr (inr (full, none)), refl);
+  null = λ there. equal (s 0).sh_type 0 (λ other. never 12 _ (inr (inl ((there, other), refl))));
+  some = λ there. count_some h (s 0) there (λ none. at_most 0xff00 _ (λ lt. never 13 _ ((there, inr (none, lt)), refl)));
+  section_table = λ there. at_most _ len (λ lt. never 14 _ ((there, lt), refl));
   name_table = λ there. names_below h (s 0) _
-      (λ other. above _ _ (λ le. kept 16 _ (lit< tt) ((there, (other, inr le)), refl)))
-      (λ escape. above _ _ (λ le. kept 17 _ (lit< tt) ((there, inl (escape, inr le)), refl)));
-  program_table = λ some. at_most _ len (λ lt. kept 21 _ (lit< tt) ((some, lt), refl));
+      (λ other. above _ _ (λ le. never 15 _ ((there, (other, inr le)), refl)))
+      (λ escape. above _ _ (λ le. never 16 _ ((there, inl (escape, inr le)), refl)));
+  program_table = λ some. at_most _ len (λ lt. never 20 _ ((some, lt), refl));
   content = λ i above below not_null not_nobits some. at_most _ len
-      (λ lt. kept 24 _ (lit< tt) (i, above, below, (not_null, (not_nobits, some, lt)), refl));
+      (λ lt. never 23 _ (i, above, below, (not_null, (not_nobits, some, lt)), refl));
 }
 
 -- no byte belongs to two of the extents
 pub extents_disjoint : (len : ℕ) (h : Ehdr) (s : ℕ → Shdr) (g : ℕ → Phdr) (names : List ℕ) →
-    IsFaultOf (image_rows len h s g names) None →
+    FirstIn (image_rows len h s g names) None →
     AreDisjoint (extents h (section_count h (s 0)) (segment_count h (s 0)) s)
 unfolding image_rows record_rows length_rows ident_rows header_rows table_rows section_table_rows program_table_rows entry_rows section_rows segment_rows name_rows
-extents_disjoint len h s g names clean = λ i j x one other. elim (cases_lt i j) [
-  | inl below ↦ absurd (clean 33 x (lit< tt) (i, j, below, one, other))
+extents_disjoint len h s g names clean = λ i j x one other. let never = unbroken (image_rows len h s g names) clean in elim (cases_lt i j) [
+  | inl below ↦ absurd (never 32 x (i, j, below, one, other))
   | inr above ↦ elim (cases_lt j i) [
-    | inl below ↦ absurd (clean 33 x (lit< tt) (j, i, below, other, one))
+    | inl below ↦ absurd (never 32 x (j, i, below, other, one))
     | inr same ↦ omega arith
   ]
 ]

@@ -1,5 +1,4 @@
 pub mod Rows
-pub mod Runs
 pub mod PowerOfTwo
 pub mod LoadOrder
 pub mod Extents

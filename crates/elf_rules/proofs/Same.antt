@@ -1,6 +1,6 @@
 -- Rules look at no more than the header, section header 0, the entries below the counts, and the name table's content:
 -- where these agree, a clean file and a clean value are one.
-use Rattle.std.proofs.Common.{◌≡◌, ◌≢◌, ◌<◌, ◌+◌, ◌*◌, ◌⊎◌, ℕ, zero, suc, None, List, ◌∷◌, length, map, refl, sym, ap, ap₂, subst, ◌∙◌, inl, inr, arith, lit<}
+use Rattle.std.proofs.Common.{◌≡◌, ◌≢◌, ◌<◌, ◌+◌, ◌*◌, ◌⊎◌, ℕ, zero, suc, None, List, ◌∷◌, length, map, refl, sym, ap, ap₂, subst, ◌∙◌, inl, inr, arith}
 use Rattle.std.specs.List.{range_with_len}
 use Rattle.std.proofs.lemmas.Bool.{cases_eq, ne_eqb}
 use Rattle.elf_field.specs.declared.ehdr.Ehdr.{Ehdr}
@@ -8,8 +8,8 @@ use Rattle.elf_field.specs.declared.shdr.Shdr.{Shdr}
 use Rattle.elf_field.specs.declared.phdr.Phdr.{Phdr}
 use Rattle.elf_extent.specs.declared.extent.Extent.{Extent}
 use Rattle.elf_extent.specs.Extent.{Doubly}
-use Rattle.elf_rules.specs.Rows.{IsFaultOf, SomeEntry}
-use Rattle.elf_rules.proofs.Rows.{IsFaultOf-rows}
+use Rattle.elf_rules.specs.Rows.{FirstIn, SomeEntry}
+use Rattle.elf_rules.proofs.Rows.{BreaksAt, unbroken}
 use Rattle.elf_rules.specs.Tables.{content_extent, name_table, phdr_offset, section_count, segment_count, shdr_offset}
 use Rattle.elf_rules.specs.HeaderRules.{header_rows, ident_rows, length_rows}
 use Rattle.elf_rules.specs.ImageRules.{entry_rows, image_rows, record_rows, table_rows}
@@ -120,73 +120,73 @@ null_fields h a b x first w = elim w [
 ]
 
 pub same_clean : (len : ℕ) (h : Ehdr) (s t : ℕ → Shdr) (g k : ℕ → Phdr) (names : List ℕ) → Agree h s t g k →
-    IsFaultOf (image_rows len h s g names) None → IsFaultOf (image_rows len h t k names) None
+    FirstIn (image_rows len h s g names) None → FirstIn (image_rows len h t k names) None
 unfolding image_rows record_rows table_rows entry_rows length_rows ident_rows header_rows section_table_rows program_table_rows section_rows segment_rows name_rows
-same_clean len h s t g k names agree clean = IsFaultOf-rows (image_rows len h t k names) None ((
-  (λ x w. clean 1 x (lit< tt) w),
+same_clean len h s t g k names agree clean = ((
+  (λ x w. never 0 x w),
   (
-    (λ x w. clean 2 x (lit< tt) w),
+    (λ x w. never 1 x w),
     (
-      (λ x w. clean 3 x (lit< tt) w),
+      (λ x w. never 2 x w),
       (
-        (λ x w. clean 4 x (lit< tt) w),
+        (λ x w. never 3 x w),
         (
-          (λ x w. clean 5 x (lit< tt) w),
+          (λ x w. never 4 x w),
           (
-            (λ x w. clean 6 x (lit< tt) w),
+            (λ x w. never 5 x w),
             (
-              (λ x w. clean 7 x (lit< tt) w),
+              (λ x w. never 6 x w),
               (
-                (λ x w. clean 8 x (lit< tt) w),
+                (λ x w. never 7 x w),
                 (
-                  (λ x w. clean 9 x (lit< tt) w),
+                  (λ x w. never 8 x w),
                   (
-                    (λ x w. clean 10 x (lit< tt) w),
+                    (λ x w. never 9 x w),
                     (
-                      (λ x w. clean 11 x (lit< tt) w),
+                      (λ x w. never 10 x w),
                       (
-                        (λ x w. clean 12 x (lit< tt) w),
+                        (λ x w. never 11 x w),
                         (
-                          (λ x w. clean 13 x (lit< tt) (null_fields h (s 0) (t 0) x agree.first w)),
+                          (λ x w. never 12 x (null_fields h (s 0) (t 0) x agree.first w)),
                           (
-                            (λ x w. clean 14 x (lit< tt) (in_first h (s 0) (t 0) (HasWrongExtendedSectionCount h) _ x agree.first w)),
+                            (λ x w. never 13 x (in_first h (s 0) (t 0) (HasWrongExtendedSectionCount h) _ x agree.first w)),
                             (
-                              (λ x w. clean 15 x (lit< tt) ((w.0.0, subst (λ c. len < shdr_offset h c) (sym count) w.0.1), w.1)),
+                              (λ x w. never 14 x ((w.0.0, subst (λ c. len < shdr_offset h c) (sym count) w.0.1), w.1)),
                               (
-                                (λ x w. clean 16 x (lit< tt) ((w.0.0, subst (HasWrongNameTableIndex h) (sym count) w.0.1), w.1)),
+                                (λ x w. never 15 x ((w.0.0, subst (HasWrongNameTableIndex h) (sym count) w.0.1), w.1)),
                                 (
-                                  (λ x w. clean 17 x (lit< tt) (in_first h (s 0) (t 0) (λ q. HasWrongExtendedNameTableIndex h q (section_count h q)) _ x agree.first w)),
+                                  (λ x w. never 16 x (in_first h (s 0) (t 0) (λ q. HasWrongExtendedNameTableIndex h q (section_count h q)) _ x agree.first w)),
                                   (
-                                    (λ x w. clean 18 x (lit< tt) w),
+                                    (λ x w. never 17 x w),
                                     (
-                                      (λ x w. clean 19 x (lit< tt) w),
+                                      (λ x w. never 18 x w),
                                       (
-                                        (λ x w. clean 20 x (lit< tt) (in_first h (s 0) (t 0) (HasWrongExtendedSegmentCount h) _ x agree.first w)),
+                                        (λ x w. never 19 x (in_first h (s 0) (t 0) (HasWrongExtendedSegmentCount h) _ x agree.first w)),
                                         (
-                                          (λ x w. clean 21 x (lit< tt) (subst (λ c. (0 < c) × (len < phdr_offset h c)) (sym segments) w.0, w.1)),
+                                          (λ x w. never 20 x (subst (λ c. (0 < c) × (len < phdr_offset h c)) (sym segments) w.0, w.1)),
                                           (
-                                            (λ x w. clean 22 x (lit< tt) (some_section h s t n nt IsWronglyAligned _ x count agree.sections w)),
+                                            (λ x w. never 21 x (some_section h s t n nt IsWronglyAligned _ x count agree.sections w)),
                                             (
-                                              (λ x w. clean 23 x (lit< tt) (some_section h s t n nt IsMisaligned _ x count agree.sections w)),
+                                              (λ x w. never 22 x (some_section h s t n nt IsMisaligned _ x count agree.sections w)),
                                               (
-                                                (λ x w. clean 24 x (lit< tt) (some_section h s t n nt (PassesEnd len) _ x count agree.sections w)),
+                                                (λ x w. never 23 x (some_section h s t n nt (PassesEnd len) _ x count agree.sections w)),
                                                 (
-                                                  (λ x w. clean 25 x (lit< tt) (some_segment h g k m mt (SegmentPassesEnd len) _ x segments agree.segments w)),
+                                                  (λ x w. never 24 x (some_segment h g k m mt (SegmentPassesEnd len) _ x segments agree.segments w)),
                                                   (
-                                                    (λ x w. clean 26 x (lit< tt) (some_segment h g k m mt IsLargerInFile _ x segments agree.segments w)),
+                                                    (λ x w. never 25 x (some_segment h g k m mt IsLargerInFile _ x segments agree.segments w)),
                                                     (
-                                                      (λ x w. clean 27 x (lit< tt) (some_segment h g k m mt IsSegmentWronglyAligned _ x segments agree.segments w)),
+                                                      (λ x w. never 26 x (some_segment h g k m mt IsSegmentWronglyAligned _ x segments agree.segments w)),
                                                       (
-                                                        (λ x w. clean 28 x (lit< tt) (some_segment h g k m mt IsIncongruent _ x segments agree.segments w)),
+                                                        (λ x w. never 27 x (some_segment h g k m mt IsIncongruent _ x segments agree.segments w)),
                                                         (
-                                                          (λ x w. clean 29 x (lit< tt) (loads h g k m mt x segments agree.segments w)),
+                                                          (λ x w. never 28 x (loads h g k m mt x segments agree.segments w)),
                                                           (
                                                             (λ x w. named x w),
                                                             (
                                                               (λ x w. closed x w),
                                                               (
-                                                                (λ x w. clean 32 x (lit< tt) (some_section h s t n nt (IsNamePastEnd (length names)) _ x count agree.sections w)),
-                                                                ((λ x w. clean 33 x (lit< tt) (subst (λ es. Doubly es x) (sym (same_extents h s t n m nt mt count segments agree.sections)) w)), tt),
+                                                                (λ x w. never 31 x (some_section h s t n nt (IsNamePastEnd (length names)) _ x count agree.sections w)),
+                                                                ((λ x w. never 32 x (subst (λ es. Doubly es x) (sym (same_extents h s t n m nt mt count segments agree.sections)) w)), tt),
                                                               ),
                                                             ),
                                                           ),
@@ -220,6 +220,9 @@ same_clean len h s t g k names agree clean = IsFaultOf-rows (image_rows len h t 
   ),
 ))
   where
+    never : (i x : ℕ) → BreaksAt (image_rows len h s g names) i x → ⊥
+    never = unbroken (image_rows len h s g names) clean
+
     facts : HasSoundTables len h s
     facts = sound_tables len h s g names (clean_records len h s g names clean)
 
@@ -254,10 +257,10 @@ same_clean len h s t g k names agree clean = IsFaultOf-rows (image_rows len h t 
     named x w =
         let other : name_table h (s 0) ≢ 0 = λ e. w.0.0 (sym table ∙ e) in
         let entry : s (name_table h (s 0)) ≡ t (name_table h (t 0)) = agree.sections _ (there other) ∙ ap t table in
-        clean 30 _ (lit< tt) ((other, subst (λ (q : Shdr). q.sh_type ≢ 3) (sym entry) w.0.1), refl)
+        never 29 _ ((other, subst (λ (q : Shdr). q.sh_type ≢ 3) (sym entry) w.0.1), refl)
 
     closed : (x : ℕ) → unclosed_name_table (name_table h (t 0)) t names x → ⊥
     closed x w = elim w [
-      | inl p ↦ clean 31 _ (lit< tt) (inl (p.0, refl))
-      | inr w ↦ elim w [ inl p ↦ clean 31 _ (lit< tt) (inr (inl (p.0, refl))) | inr none ↦ none ]
+      | inl p ↦ never 30 _ (inl (p.0, refl))
+      | inr w ↦ elim w [ inl p ↦ never 30 _ (inr (inl (p.0, refl))) | inr none ↦ none ]
     ]

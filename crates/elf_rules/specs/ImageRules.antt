@@ -1,10 +1,10 @@
 -- The rules of an image, and the fault of a file.
-use Rattle.std.specs.Prelude.{ℕ, Option, None, List, [], ◌∷◌, ◌++◌, length}
+use Rattle.std.specs.Prelude.{ℕ, Option, None, List, ◌++◌, length}
 use Rattle.elf_field.specs.declared.ehdr.Ehdr.{Ehdr}
 use Rattle.elf_field.specs.declared.shdr.Shdr.{Shdr}
 use Rattle.elf_field.specs.declared.phdr.Phdr.{Phdr}
 use Rattle.elf_extent.specs.declared.extent.Extent.{Extent}
-use Rattle.elf_rules.specs.Rows.{Row, IsFaultOf}
+use Rattle.elf_rules.specs.Rows.{Ruled, FirstIn}
 use Rattle.elf_rules.specs.Tables.{section_count, segment_count, name_table, header, sections, segments, names}
 use Rattle.elf_rules.specs.HeaderRules.{length_rows, ident_rows, header_rows}
 use Rattle.elf_rules.specs.SectionTableRules.{section_table_rows}
@@ -12,16 +12,16 @@ use Rattle.elf_rules.specs.ProgramTableRules.{program_table_rows}
 use Rattle.elf_rules.specs.SectionRules.{section_rows}
 use Rattle.elf_rules.specs.SegmentRules.{segment_rows}
 use Rattle.elf_rules.specs.NameRules.{name_rows}
-use Rattle.elf_rules.specs.OverlapRule.{extents, shared_byte}
+use Rattle.elf_rules.specs.OverlapRule.{extents, overlap_rows}
 
 -- rules 22 to 32, of n section headers and m program headers, with the name table of index k
-unfoldable pub entry_rows : ℕ → Ehdr → ℕ → ℕ → ℕ → (ℕ → Shdr) → (ℕ → Phdr) → List ℕ → List {1} Row
+unfoldable pub entry_rows : ℕ → Ehdr → ℕ → ℕ → ℕ → (ℕ → Shdr) → (ℕ → Phdr) → List ℕ → List {1} Ruled
 entry_rows len h n m k s g names =
     section_rows len h n s ++ (segment_rows len h m g ++ name_rows h n k s names)
 
 -- rules 13 to 32, in order, of a file of len bytes with this header, these section headers and
 -- program headers by index, and this content of its section name string table
-unfoldable pub table_rows : ℕ → Ehdr → (ℕ → Shdr) → (ℕ → Phdr) → List ℕ → List {1} Row
+unfoldable pub table_rows : ℕ → Ehdr → (ℕ → Shdr) → (ℕ → Phdr) → List ℕ → List {1} Ruled
 table_rows len h s g names =
     let first = s 0 in
     section_table_rows len h first ++
@@ -29,27 +29,27 @@ table_rows len h s g names =
     entry_rows len h (section_count h first) (segment_count h first) (name_table h first) s g names)
 
 -- rules 1 to 32, in order: those that look at one record at a time, or at the names
-unfoldable pub record_rows : ℕ → Ehdr → (ℕ → Shdr) → (ℕ → Phdr) → List ℕ → List {1} Row
+unfoldable pub record_rows : ℕ → Ehdr → (ℕ → Shdr) → (ℕ → Phdr) → List ℕ → List {1} Ruled
 record_rows len h s g names =
     length_rows len ++ (ident_rows h.e_ident ++ (header_rows len h ++ table_rows len h s g names))
 
 -- rules 1 to 33, in order
-unfoldable pub image_rows : ℕ → Ehdr → (ℕ → Shdr) → (ℕ → Phdr) → List ℕ → List {1} Row
+unfoldable pub image_rows : ℕ → Ehdr → (ℕ → Shdr) → (ℕ → Phdr) → List ℕ → List {1} Ruled
 image_rows len h s g names =
     let first = s 0 in
-    record_rows len h s g names ++ (shared_byte h (section_count h first) (segment_count h first) s ∷ [])
+    record_rows len h s g names ++ overlap_rows h (section_count h first) (segment_count h first) s
 
 -- the rules of a file: of what its bytes hold
-unfoldable pub rows : List ℕ → List {1} Row
+unfoldable pub rows : List ℕ → List {1} Ruled
 rows b = let h = header b in image_rows (length b) h (sections b h) (segments b h) (names b h)
 
 -- the first rule that the file breaks and its lowest offset, or None
 abbrev pub IsFault : List ℕ → Option (ℕ × ℕ) → Type 0
-IsFault b found = IsFaultOf (rows b) found
+IsFault b found = FirstIn (rows b) found
 
 -- the file breaks none of rules 1 to 32; whether two of its parts share a byte is left open
 abbrev pub KeepsRecordRules : List ℕ → Type 0
-KeepsRecordRules b = let h = header b in IsFaultOf (record_rows (length b) h (sections b h) (segments b h) (names b h)) None
+KeepsRecordRules b = let h = header b in FirstIn (record_rows (length b) h (sections b h) (segments b h) (names b h)) None
 
 -- the extents of a file: of what its bytes hold
 abbrev pub extents_of_file : List ℕ → List Extent

@@ -2,15 +2,16 @@
 -- index k, 0 for none, and names is its content, empty without one.
 -- (gABI chapter 4, ELF Header: e_shstrndx; String Table; Sections: sh_name.)
 use Rattle.std.specs.Prelude.{◌≢◌, ℕ, ◌+◌, ◌-◌, ◌<◌, List, [], ◌∷◌, length, slice_index}
+use Rattle.elf_field.specs.Abi.{SHT_STRTAB, SH_NAME_AT, SH_TYPE_AT}
 use Rattle.elf_field.specs.declared.ehdr.Ehdr.{Ehdr}
 use Rattle.elf_field.specs.declared.shdr.Shdr.{Shdr}
-use Rattle.elf_rules.specs.Rows.{Row, When, Either}
+use Rattle.elf_rules.specs.Rows.{Row, Ruled, rule, When, Either}
 use Rattle.elf_rules.specs.SectionRules.{SomeSection, IsNamePastEnd}
 use Rattle.elf_rules.specs.Tables.{shdr_offset}
 
--- rule 30: the name table isn't a string table (STRTAB, 3)
+-- rule 30: the name table isn't a string table (STRTAB)
 abbrev pub wrong_name_table_type : Ehdr → ℕ → (ℕ → Shdr) → Row
-wrong_name_table_type h k s = When ((k ≢ 0) × ((s k).sh_type ≢ 3)) (shdr_offset h k + 4)
+wrong_name_table_type h k s = When ((k ≢ 0) × ((s k).sh_type ≢ SHT_STRTAB)) (shdr_offset h k + SH_TYPE_AT)
 
 -- the first or the last byte of a string table at `start` isn't 0
 abbrev pub UnclosedAt : List ℕ → ℕ → Row
@@ -26,9 +27,11 @@ unclosed_name_table k s names = UnclosedAt names (s k).sh_offset
 
 -- rule 32: a section's name begins behind the name table
 abbrev pub name_past_end : Ehdr → ℕ → (ℕ → Shdr) → List ℕ → Row
-name_past_end h n s names = SomeSection h n s (IsNamePastEnd (length names)) 0
+name_past_end h n s names = SomeSection h n s (IsNamePastEnd (length names)) SH_NAME_AT
 
 -- rules 30 to 32
-unfoldable pub name_rows : Ehdr → ℕ → ℕ → (ℕ → Shdr) → List ℕ → List {1} Row
+unfoldable pub name_rows : Ehdr → ℕ → ℕ → (ℕ → Shdr) → List ℕ → List {1} Ruled
 name_rows h n k s names =
-    wrong_name_table_type h k s ∷ unclosed_name_table k s names ∷ name_past_end h n s names ∷ []
+    rule 30 (wrong_name_table_type h k s) ∷
+    rule 31 (unclosed_name_table k s names) ∷
+    rule 32 (name_past_end h n s names) ∷ []

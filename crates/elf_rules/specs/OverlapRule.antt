@@ -1,12 +1,13 @@
 -- Rule 33: no byte of the file belongs to two of its parts.
 -- (gABI chapter 4, Sections: "Sections in a file may not overlap".)
-use Rattle.std.specs.Prelude.{◌≡◌, ℕ, ◌*◌, ◌+◌, ◌<◌, ◌≤◌, Option, None, Some, List, ◌∷◌, map, slice_get}
+use Rattle.std.specs.Prelude.{◌≡◌, ℕ, ◌*◌, ◌+◌, ◌<◌, ◌≤◌, Option, None, Some, List, [], ◌∷◌, map, slice_get}
 use Rattle.std.specs.List.{range_with_len}
+use Rattle.elf_field.specs.Abi.{EHDR_SIZE, PHDR_SIZE, SHDR_SIZE}
 use Rattle.elf_field.specs.declared.ehdr.Ehdr.{Ehdr}
 use Rattle.elf_field.specs.declared.shdr.Shdr.{Shdr}
 use Rattle.elf_extent.specs.declared.extent.Extent.{Extent}
 use Rattle.elf_extent.specs.Extent.{Doubly, HasAt}
-use Rattle.elf_rules.specs.Rows.{Row}
+use Rattle.elf_rules.specs.Rows.{Row, Ruled, rule}
 use Rattle.elf_rules.specs.Tables.{content_extent}
 
 -- the extents of n contents, in the order of their section headers
@@ -17,14 +18,17 @@ contents n s = map (λ i. content_extent (s i)) (range_with_len 0 n)
 -- content of each section, which is empty where it has none; segments own no byte
 unfoldable pub extents : Ehdr → ℕ → ℕ → (ℕ → Shdr) → List Extent
 extents h n m s =
-    record { start = 0; len = 64 } ∷
-    record { start = h.e_shoff; len = 64 * n } ∷
-    record { start = h.e_phoff; len = 56 * m } ∷
+    record { start = 0; len = EHDR_SIZE } ∷
+    record { start = h.e_shoff; len = SHDR_SIZE * n } ∷
+    record { start = h.e_phoff; len = PHDR_SIZE * m } ∷
     contents n s
 
 -- rule 33: two extents share a byte
 abbrev pub shared_byte : Ehdr → ℕ → ℕ → (ℕ → Shdr) → Row
 shared_byte h n m s = Doubly (extents h n m s)
+
+abbrev pub overlap_rows : Ehdr → ℕ → ℕ → (ℕ → Shdr) → List {1} Ruled
+overlap_rows h n m s = rule 33 (shared_byte h n m s) ∷ []
 
 -- the fault of a file whose lowest byte in two extents is this one, where it keeps all other rules
 abbrev pub shared_fault : Option ℕ → Option (ℕ × ℕ)

@@ -2,17 +2,18 @@
 -- (gABI chapter 4, Sections: sh_addralign, sh_addr, sh_offset, sh_size, sh_name.)
 use Rattle.std.specs.Prelude.{◌≢◌, ℕ, ◌+◌, ◌%◌, ◌<◌, ◌≤◌, List, [], ◌∷◌}
 use Rattle.std.specs.Int.{IsPowerOfTwo}
+use Rattle.elf_field.specs.Abi.{SHT_NOBITS, SHT_NULL, SH_ADDRALIGN_AT, SH_ADDR_AT, SH_NAME_AT, SH_OFFSET_AT}
 use Rattle.elf_field.specs.declared.ehdr.Ehdr.{Ehdr}
 use Rattle.elf_field.specs.declared.shdr.Shdr.{Shdr}
 use Rattle.elf_rules.specs.declared.section_rules.SectionRule.{SectionRule}
 use Rattle.elf_rules.specs.declared.section_rules.SectionRule.TheVariants.{Alignment, Address, Content, Name}
-use Rattle.elf_rules.specs.Rows.{Row, SomeEntry}
+use Rattle.elf_rules.specs.Rows.{Row, Ruled, rule, SomeEntry}
 use Rattle.elf_rules.specs.Tables.{shdr_offset}
 
 -- the row of a rule on each of n sections but entry 0 and those of type NULL, at `field` in the header
 abbrev pub SomeSection : Ehdr → ℕ → (ℕ → Shdr) → (Shdr → Type 0) → ℕ → Row
 SomeSection h n s P field =
-    SomeEntry s 1 n (λ entry. (entry.sh_type ≢ 0) × P entry) (λ i. shdr_offset h i + field)
+    SomeEntry s 1 n (λ entry. (entry.sh_type ≢ SHT_NULL) × P entry) (λ i. shdr_offset h i + field)
 
 -- an alignment is neither 0, for none, nor a power of two
 abbrev pub IsWrongAlignment : ℕ → Type 0
@@ -23,22 +24,22 @@ abbrev pub IsWronglyAligned : Shdr → Type 0
 IsWronglyAligned entry = IsWrongAlignment entry.sh_addralign
 
 abbrev pub wrong_section_alignment : Ehdr → ℕ → (ℕ → Shdr) → Row
-wrong_section_alignment h n s = SomeSection h n s IsWronglyAligned 48
+wrong_section_alignment h n s = SomeSection h n s IsWronglyAligned SH_ADDRALIGN_AT
 
 -- rule 23: a section's address is no multiple of its alignment
 abbrev pub IsMisaligned : Shdr → Type 0
 IsMisaligned entry = (1 < entry.sh_addralign) × (entry.sh_addr % entry.sh_addralign ≢ 0)
 
 abbrev pub misaligned_section : Ehdr → ℕ → (ℕ → Shdr) → Row
-misaligned_section h n s = SomeSection h n s IsMisaligned 16
+misaligned_section h n s = SomeSection h n s IsMisaligned SH_ADDR_AT
 
--- rule 24: a content passes the end of the file; NOBITS (8) has none in it
+-- rule 24: a content passes the end of the file; NOBITS has none in it
 abbrev pub PassesEnd : ℕ → Shdr → Type 0
 PassesEnd len entry =
-    (entry.sh_type ≢ 8) × (0 < entry.sh_size) × (len < entry.sh_offset + entry.sh_size)
+    (entry.sh_type ≢ SHT_NOBITS) × (0 < entry.sh_size) × (len < entry.sh_offset + entry.sh_size)
 
 abbrev pub content_past_end : ℕ → Ehdr → ℕ → (ℕ → Shdr) → Row
-content_past_end len h n s = SomeSection h n s (PassesEnd len) 24
+content_past_end len h n s = SomeSection h n s (PassesEnd len) SH_OFFSET_AT
 
 -- rule 32: a section's name begins behind a section name string table of this size; 0, for no name,
 -- needs no table
@@ -54,12 +55,14 @@ BreaksSection (Name size) = IsNamePastEnd size
 
 -- the offset in the section header of the field that each of them answers
 abbrev pub section_field : SectionRule → ℕ
-section_field Alignment = 48
-section_field Address = 16
-section_field (Content len) = 24
-section_field (Name size) = 0
+section_field Alignment = SH_ADDRALIGN_AT
+section_field Address = SH_ADDR_AT
+section_field (Content len) = SH_OFFSET_AT
+section_field (Name size) = SH_NAME_AT
 
 -- rules 22 to 24
-unfoldable pub section_rows : ℕ → Ehdr → ℕ → (ℕ → Shdr) → List {1} Row
+unfoldable pub section_rows : ℕ → Ehdr → ℕ → (ℕ → Shdr) → List {1} Ruled
 section_rows len h n s =
-    wrong_section_alignment h n s ∷ misaligned_section h n s ∷ content_past_end len h n s ∷ []
+    rule 22 (wrong_section_alignment h n s) ∷
+    rule 23 (misaligned_section h n s) ∷
+    rule 24 (content_past_end len h n s) ∷ []

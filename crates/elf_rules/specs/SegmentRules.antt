@@ -1,11 +1,12 @@
 -- Rules 25 to 29: the segments. (gABI chapter 5, Program Header: p_offset, p_filesz, p_memsz,
 -- p_align; segment type LOAD and its order.)
 use Rattle.std.specs.Prelude.{◌≡◌, ◌≢◌, ℕ, ◌+◌, ◌%◌, ◌<◌, List, [], ◌∷◌}
+use Rattle.elf_field.specs.Abi.{PT_LOAD, PT_NULL, P_ALIGN_AT, P_FILESZ_AT, P_OFFSET_AT, P_VADDR_AT}
 use Rattle.elf_field.specs.declared.ehdr.Ehdr.{Ehdr}
 use Rattle.elf_field.specs.declared.phdr.Phdr.{Phdr}
 use Rattle.elf_rules.specs.declared.segment_rules.SegmentRule.{SegmentRule}
 use Rattle.elf_rules.specs.declared.segment_rules.SegmentRule.TheVariants.{End, Size, Alignment, Congruence}
-use Rattle.elf_rules.specs.Rows.{Row, SomeEntry}
+use Rattle.elf_rules.specs.Rows.{Row, Ruled, rule, SomeEntry}
 use Rattle.elf_rules.specs.SectionRules.{IsWrongAlignment}
 use Rattle.elf_rules.specs.Tables.{phdr_offset}
 
@@ -13,31 +14,31 @@ use Rattle.elf_rules.specs.Tables.{phdr_offset}
 abbrev pub SomeSegment : Ehdr → ℕ → (ℕ → Phdr) → (Phdr → Type 0) → ℕ → Row
 SomeSegment h m g P field = SomeEntry g 0 m P (λ j. phdr_offset h j + field)
 
--- a loadable segment (type LOAD, 1)
+-- a loadable segment (type LOAD)
 abbrev pub IsLoad : Phdr → Type 0
-IsLoad segment = segment.p_type ≡ 1
+IsLoad segment = segment.p_type ≡ PT_LOAD
 
--- rule 25: a segment's bytes pass the end of the file; one of type NULL (0) has none
+-- rule 25: a segment's bytes pass the end of the file; one of type NULL has none
 abbrev pub SegmentPassesEnd : ℕ → Phdr → Type 0
 SegmentPassesEnd len segment =
-    (segment.p_type ≢ 0) × (0 < segment.p_filesz) × (len < segment.p_offset + segment.p_filesz)
+    (segment.p_type ≢ PT_NULL) × (0 < segment.p_filesz) × (len < segment.p_offset + segment.p_filesz)
 
 abbrev pub segment_past_end : ℕ → Ehdr → ℕ → (ℕ → Phdr) → Row
-segment_past_end len h m g = SomeSegment h m g (SegmentPassesEnd len) 8
+segment_past_end len h m g = SomeSegment h m g (SegmentPassesEnd len) P_OFFSET_AT
 
 -- rule 26: a loadable segment has more bytes in the file than in memory
 abbrev pub IsLargerInFile : Phdr → Type 0
 IsLargerInFile segment = IsLoad segment × (segment.p_memsz < segment.p_filesz)
 
 abbrev pub file_size_above_memory_size : Ehdr → ℕ → (ℕ → Phdr) → Row
-file_size_above_memory_size h m g = SomeSegment h m g IsLargerInFile 32
+file_size_above_memory_size h m g = SomeSegment h m g IsLargerInFile P_FILESZ_AT
 
 -- rule 27: a loadable segment's alignment is neither 0 nor a power of two
 abbrev pub IsSegmentWronglyAligned : Phdr → Type 0
 IsSegmentWronglyAligned segment = IsLoad segment × IsWrongAlignment segment.p_align
 
 abbrev pub wrong_segment_alignment : Ehdr → ℕ → (ℕ → Phdr) → Row
-wrong_segment_alignment h m g = SomeSegment h m g IsSegmentWronglyAligned 48
+wrong_segment_alignment h m g = SomeSegment h m g IsSegmentWronglyAligned P_ALIGN_AT
 
 -- rule 28: a loadable segment's address and offset are not congruent modulo its alignment
 abbrev pub IsIncongruent : Phdr → Type 0
@@ -45,7 +46,7 @@ IsIncongruent segment = IsLoad segment × (1 < segment.p_align) ×
     (segment.p_vaddr % segment.p_align ≢ segment.p_offset % segment.p_align)
 
 abbrev pub incongruent_segment : Ehdr → ℕ → (ℕ → Phdr) → Row
-incongruent_segment h m g = SomeSegment h m g IsIncongruent 8
+incongruent_segment h m g = SomeSegment h m g IsIncongruent P_OFFSET_AT
 
 -- what breaks each of these rules on a segment by itself
 abbrev pub BreaksSegment : SegmentRule → Phdr → Type 0
@@ -56,10 +57,10 @@ BreaksSegment Congruence = IsIncongruent
 
 -- the offset in the program header of the field that each of them answers
 abbrev pub segment_field : SegmentRule → ℕ
-segment_field (End len) = 8
-segment_field Size = 32
-segment_field Alignment = 48
-segment_field Congruence = 8
+segment_field (End len) = P_OFFSET_AT
+segment_field Size = P_FILESZ_AT
+segment_field Alignment = P_ALIGN_AT
+segment_field Congruence = P_OFFSET_AT
 
 -- k is the nearest loadable segment of a lower index than j
 pub record IsLoadBefore (g : ℕ → Phdr) (k j : ℕ) : Type 0 where
@@ -70,13 +71,13 @@ pub record IsLoadBefore (g : ℕ → Phdr) (k j : ℕ) : Type 0 where
 -- rule 29: a loadable segment's address is below that of the loadable segment before it
 abbrev pub load_out_of_order : Ehdr → ℕ → (ℕ → Phdr) → Row
 load_out_of_order h m g = λ x. (k j : ℕ) × (j < m) × IsLoad (g j) × IsLoadBefore g k j ×
-    ((g j).p_vaddr < (g k).p_vaddr) × (x ≡ phdr_offset h j + 16)
+    ((g j).p_vaddr < (g k).p_vaddr) × (x ≡ phdr_offset h j + P_VADDR_AT)
 
 -- rules 25 to 29
-unfoldable pub segment_rows : ℕ → Ehdr → ℕ → (ℕ → Phdr) → List {1} Row
+unfoldable pub segment_rows : ℕ → Ehdr → ℕ → (ℕ → Phdr) → List {1} Ruled
 segment_rows len h m g =
-    segment_past_end len h m g ∷
-    file_size_above_memory_size h m g ∷
-    wrong_segment_alignment h m g ∷
-    incongruent_segment h m g ∷
-    load_out_of_order h m g ∷ []
+    rule 25 (segment_past_end len h m g) ∷
+    rule 26 (file_size_above_memory_size h m g) ∷
+    rule 27 (wrong_segment_alignment h m g) ∷
+    rule 28 (incongruent_segment h m g) ∷
+    rule 29 (load_out_of_order h m g) ∷ []

@@ -1,6 +1,7 @@
 -- What a file's header, section headers and program headers are, and what they say of the file.
 -- (gABI chapter 4, ELF Header with ELF Identification, Sections, String Table; chapter 5, Program Header.)
 use Rattle.std.specs.Prelude.{ℕ, ◌+◌, ◌*◌, ◌==◌, ◌||◌, if◌then◌else◌, List, [], take, drop, slice_index}
+use Rattle.elf_field.specs.Abi.{EI_DATA, EI_NIDENT, ELFDATA2MSB, PHDR_SIZE, PN_XNUM, SHDR_SIZE, SHN_XINDEX, SHT_NOBITS, SHT_NULL}
 use Rattle.elf_field.specs.declared.order.Order.{Order}
 use Rattle.elf_field.specs.declared.order.Order.TheVariants.{Little, Big}
 use Rattle.elf_field.specs.declared.ehdr.Ehdr.{Ehdr}
@@ -11,42 +12,42 @@ use Rattle.elf_field.specs.Shdr.{shdr_at}
 use Rattle.elf_field.specs.Phdr.{phdr_at}
 use Rattle.elf_extent.specs.declared.extent.Extent.{Extent}
 
--- the order that the identification names by its byte 5: 2 is most significant byte first
+-- the order that the identification names: any data encoding but ELFDATA2MSB is least significant byte first
 unfoldable pub order_of : List ℕ → Order
-order_of ident = if slice_index ident 5 == 2 then Big else Little
+order_of ident = if slice_index ident EI_DATA == ELFDATA2MSB then Big else Little
 
 -- H(i): the offset in the file of section header i
 abbrev pub shdr_offset : Ehdr → ℕ → ℕ
-shdr_offset h i = h.e_shoff + 64 * i
+shdr_offset h i = h.e_shoff + SHDR_SIZE * i
 
 -- G(j): the offset in the file of program header j
 abbrev pub phdr_offset : Ehdr → ℕ → ℕ
-phdr_offset h j = h.e_phoff + 56 * j
+phdr_offset h j = h.e_phoff + PHDR_SIZE * j
 
 -- n, the number of section headers: none without a table, and entry 0's sh_size where e_shnum is 0
 abbrev pub section_count : Ehdr → Shdr → ℕ
 section_count h first =
     if h.e_shoff == 0 then 0 else (if h.e_shnum == 0 then first.sh_size else h.e_shnum)
 
--- m, the number of program headers: entry 0's sh_info where e_phnum is 0xffff (PN_XNUM)
+-- m, the number of program headers: entry 0's sh_info where e_phnum is PN_XNUM
 abbrev pub segment_count : Ehdr → Shdr → ℕ
-segment_count h first = if h.e_phnum == 0xffff then first.sh_info else h.e_phnum
+segment_count h first = if h.e_phnum == PN_XNUM then first.sh_info else h.e_phnum
 
 -- the index of the section name string table, 0 for none: entry 0's sh_link where e_shstrndx is
--- 0xffff (SHN_XINDEX)
+-- SHN_XINDEX
 abbrev pub name_table : Ehdr → Shdr → ℕ
-name_table h first = if h.e_shstrndx == 0xffff then first.sh_link else h.e_shstrndx
+name_table h first = if h.e_shstrndx == SHN_XINDEX then first.sh_link else h.e_shstrndx
 
--- the bytes that a section holds in the file: none of type NULL (0) or NOBITS (8)
+-- the bytes that a section holds in the file: none of type NULL or NOBITS
 abbrev pub content_extent : Shdr → Extent
 content_extent entry = record {
   start = entry.sh_offset;
-  len = if (entry.sh_type == 0) || (entry.sh_type == 8) then 0 else entry.sh_size;
+  len = if (entry.sh_type == SHT_NULL) || (entry.sh_type == SHT_NOBITS) then 0 else entry.sh_size;
 }
 
 -- the file's header
 unfoldable pub header : List ℕ → Ehdr
-header b = ehdr_at (order_of (take 16 b)) b 0
+header b = ehdr_at (order_of (take EI_NIDENT b)) b 0
 
 -- its section headers, by index
 unfoldable pub sections : List ℕ → Ehdr → ℕ → Shdr

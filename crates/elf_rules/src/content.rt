@@ -2,9 +2,9 @@
 ghost use Rattle.std.specs.Prelude.{◌≡◌, ◌≤◌, ◌<◌, ◌+◌, length};
 ghost use Rattle.elf_rules.specs.Tables.{bytes_in, content_extent};
 
-use crate::abi::*;
 use elf_extent::Extent;
 use elf_field::Shdr;
+use elf_field::abi::*;
 
 /// The offsets that a section's content has in the file: none of type NULL or NOBITS.
 pub fn extent_of_content(entry: &Shdr) -> Extent

@@ -1,5 +1,6 @@
 //! The extents of a file, read as they are asked for: no memory is taken.
 ghost use Rattle.std.specs.Prelude.{◌≡◌, ◌≤◌, ◌<◌, ◌+◌, ◌*◌, ◌^◌, ◌↔◌, IsTrue, IfOk, OnErr, Some, length, slice_get};
+ghost use Rattle.elf_field.specs.Abi.{PHDR_SIZE};
 ghost use Rattle.elf_extent.specs.Extent.{Doubly, Has};
 ghost use Rattle.elf_extent.specs.Least.{IsLowest, lower_of};
 ghost use Rattle.elf_rules.specs.OverlapRule.{AreAscending, DoublyBelow, SharedBelow, extents};
@@ -9,6 +10,7 @@ use crate::content::extent_of_content;
 use crate::tables::section_at;
 use elf_extent::Extent;
 use elf_field::Ehdr;
+use elf_field::abi::{EHDR_SIZE, PHDR_SIZE, SHDR_SIZE};
 
 /// The header, the section table, the program table, and then the content of each section.
 #[derive(Drop)]
@@ -18,7 +20,7 @@ pub struct FileExtents<'a> {
     count: u64,
     segments: u64,
     ghost inside: { shdr_offset header count ≤ length bytes.now },
-    ghost fits: { 56 * segments < 2 ^ 64 },
+    ghost fits: { PHDR_SIZE * segments < 2 ^ 64 },
 }
 
 impl<'a> FileExtents<'a> {
@@ -31,7 +33,7 @@ impl<'a> FileExtents<'a> {
     #[tactic(auto, unfolding(crate::specs::FileExtents::file_extents))]
     pub fn new(bytes: &'a [u8], header: Ehdr, count: u64, segments: u64) -> FileExtents<'a>
         requires sections { shdr_offset header count ≤ length bytes.now }
-        requires segments { 56 * segments < 2 ^ 64 }
+        requires segments { PHDR_SIZE * segments < 2 ^ 64 }
         ensures { file_extents result ≡ extents header count segments (sections bytes.entry.now header) }
     {
         FileExtents {
@@ -55,14 +57,17 @@ impl<'a> FileExtents<'a> {
         ensures { slice_get (file_extents self.now) index ≡ Some result }
     {
         match index {
-            0 => Extent { start: 0, len: 64 },
+            0 => Extent {
+                start: 0,
+                len: EHDR_SIZE,
+            },
             1 => Extent {
                 start: self.header.e_shoff,
-                len: 64 * self.count,
+                len: SHDR_SIZE * self.count,
             },
             2 => Extent {
                 start: self.header.e_phoff,
-                len: 56 * self.segments,
+                len: PHDR_SIZE * self.segments,
             },
             _ => extent_of_content(&section_at(
                 self.bytes,

@@ -3,67 +3,49 @@ ghost use Rattle.std.specs.Prelude.{◌≡◌, ◌+◌, ◌≤◌, IfNone, OnOk}
 ghost use Rattle.elf_extent.specs.Least.{IsLowest};
 ghost use Rattle.elf_rules.specs.Broken.{fault_of};
 ghost use Rattle.elf_rules.specs.HeaderRules.{count_without_section_table, length_rows, ident_rows, header_rows};
-ghost use Rattle.elf_rules.specs.Rows.{FirstFrom};
+ghost use Rattle.elf_rules.specs.Rows.{FirstIn};
 
-use crate::abi::*;
 use crate::broken::Broken;
 use crate::rules::*;
 use elf_field::Ehdr;
+use elf_field::abi::*;
 
-/// The length in bytes of the longest file.
+/// The length of the longest file in bytes: a limit of elfmap, not of the gABI.
 pub const MAX_LEN: u64 = 1 << 30;
 
 /// Rules 1 and 2, of a file of `len` bytes.
 #[tactic(auto, unfolding(crate::specs::HeaderRules::length_rows))]
 pub fn judge_length(len: u64) -> Result<(), Broken>
-    ensures fault { FirstFrom 1 (length_rows len) (fault_of result) }
-    ensures long { OnOk result (64 ≤ len) }
+    ensures fault { FirstIn (length_rows len) (fault_of result) }
+    ensures long { OnOk result (EHDR_SIZE ≤ len) }
 {
     if len > MAX_LEN {
-        return Err(Broken {
-            rule: TOO_LONG,
-            at: MAX_LEN,
-        });
+        return Err(Broken::new(TOO_LONG, MAX_LEN));
     }
-    if len < 64 {
-        return Err(Broken {
-            rule: TOO_SHORT,
-            at: len,
-        });
+    if len < EHDR_SIZE {
+        return Err(Broken::new(TOO_SHORT, len));
     }
     Ok(())
 }
 
 /// Rules 3 to 6, of the identification.
 #[tactic(auto, unfolding(crate::specs::HeaderRules::ident_rows))]
-pub fn judge_ident(ident: &[u8; 16]) -> Result<(), Broken>
-    ensures { FirstFrom 3 (ident_rows ident.now) (fault_of result) }
+pub fn judge_ident(ident: &[u8; EI_NIDENT]) -> Result<(), Broken>
+    ensures { FirstIn (ident_rows ident.now) (fault_of result) }
 {
     for i in 0..MAGIC.len() {
         if ident[i] != MAGIC[i] {
-            return Err(Broken {
-                rule: WRONG_MAGIC,
-                at: i as u64,
-            });
+            return Err(Broken::new(WRONG_MAGIC, i as u64));
         }
     }
     if ident[EI_CLASS] != ELFCLASS64 {
-        return Err(Broken {
-            rule: WRONG_CLASS,
-            at: EI_CLASS as u64,
-        });
+        return Err(Broken::new(WRONG_CLASS, EI_CLASS as u64));
     }
     if ident[EI_DATA] != ELFDATA2LSB && ident[EI_DATA] != ELFDATA2MSB {
-        return Err(Broken {
-            rule: WRONG_DATA,
-            at: EI_DATA as u64,
-        });
+        return Err(Broken::new(WRONG_DATA, EI_DATA as u64));
     }
     if ident[EI_VERSION] != EV_CURRENT {
-        return Err(Broken {
-            rule: WRONG_IDENT_VERSION,
-            at: EI_VERSION as u64,
-        });
+        return Err(Broken::new(WRONG_IDENT_VERSION, EI_VERSION as u64));
     }
     Ok(())
 }
@@ -71,46 +53,28 @@ pub fn judge_ident(ident: &[u8; 16]) -> Result<(), Broken>
 /// Rules 7 to 12, of the header of a file of `len` bytes.
 #[tactic(auto, unfolding(crate::specs::HeaderRules::header_rows))]
 pub fn judge_header(header: &Ehdr, len: u64) -> Result<(), Broken>
-    ensures fault { FirstFrom 7 (header_rows len header.now) (fault_of result) }
-    ensures first { OnOk result (64 ≤ len → header.now.e_shoff + 64 ≤ len) }
+    ensures fault { FirstIn (header_rows len header.now) (fault_of result) }
+    ensures first { OnOk result (EHDR_SIZE ≤ len → header.now.e_shoff + SHDR_SIZE ≤ len) }
     ensures nameless { OnOk result (header.now.e_shoff ≡ 0 → header.now.e_shstrndx ≡ 0) }
 {
     if header.e_version != EV_CURRENT as u32 {
-        return Err(Broken {
-            rule: WRONG_VERSION,
-            at: 20,
-        });
+        return Err(Broken::new(WRONG_VERSION, E_VERSION_AT));
     }
-    if header.e_ehsize != 64 {
-        return Err(Broken {
-            rule: WRONG_HEADER_SIZE,
-            at: 52,
-        });
+    if header.e_ehsize as u64 != EHDR_SIZE {
+        return Err(Broken::new(WRONG_HEADER_SIZE, E_EHSIZE_AT));
     }
     if let Some(at) = count_without_table(header) {
-        return Err(Broken {
-            rule: COUNT_WITHOUT_SECTION_TABLE,
-            at,
-        });
+        return Err(Broken::new(COUNT_WITHOUT_SECTION_TABLE, at));
     }
-    if header.e_shoff != 0 && header.e_shentsize != 64 {
-        return Err(Broken {
-            rule: WRONG_SECTION_HEADER_SIZE,
-            at: 58,
-        });
+    if header.e_shoff != 0 && header.e_shentsize as u64 != SHDR_SIZE {
+        return Err(Broken::new(WRONG_SECTION_HEADER_SIZE, E_SHENTSIZE_AT));
     }
     if header.e_shnum >= SHN_LORESERVE {
-        return Err(Broken {
-            rule: RESERVED_SECTION_COUNT,
-            at: 60,
-        });
+        return Err(Broken::new(RESERVED_SECTION_COUNT, E_SHNUM_AT));
     }
     // The sum would not fit: section header 0 passes the end just where less than it is left.
-    if header.e_shoff != 0 && (len < 64 || header.e_shoff > len - 64) {
-        return Err(Broken {
-            rule: FIRST_SECTION_HEADER_PAST_END,
-            at: 40,
-        });
+    if header.e_shoff != 0 && (len < SHDR_SIZE || header.e_shoff > len - SHDR_SIZE) {
+        return Err(Broken::new(FIRST_SECTION_HEADER_PAST_END, E_SHOFF_AT));
     }
     Ok(())
 }
@@ -124,9 +88,9 @@ fn count_without_table(header: &Ehdr) -> Option<u64>
     if header.e_shoff != 0 {
         None
     } else if header.e_shnum != 0 {
-        Some(60)
+        Some(E_SHNUM_AT)
     } else if header.e_shstrndx != 0 {
-        Some(62)
+        Some(E_SHSTRNDX_AT)
     } else {
         None
     }

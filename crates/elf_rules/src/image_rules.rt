@@ -2,7 +2,7 @@
 ghost use Rattle.std.specs.Prelude.{◌≡◌, ◌+◌, ◌<◌, ◌≤◌, Some, IfErr, OnOk, length};
 ghost use Rattle.elf_rules.specs.Broken.{fault_of};
 ghost use Rattle.elf_rules.specs.ImageRules.{IsFault, KeepsRecordRules, entry_rows, table_rows};
-ghost use Rattle.elf_rules.specs.Rows.{FirstFrom};
+ghost use Rattle.elf_rules.specs.Rows.{FirstIn};
 ghost use Rattle.elf_rules.specs.Tables.{names, names_at, phdr_offset, sections, segments, shdr_offset};
 
 use crate::broken::Broken;
@@ -15,6 +15,7 @@ use crate::section_table_rules::judge_section_table;
 use crate::segment_rules::judge_segments;
 use crate::tables::{header_of, name_table_of, section_at, section_count_of, segment_count_of};
 use elf_field::Ehdr;
+use elf_field::abi::SHDR_SIZE;
 
 /// The first rule of 1 to 33 that the file breaks, and its lowest offset in bytes; None where it
 /// breaks none. It takes no memory.
@@ -55,11 +56,11 @@ pub fn judge_records(bytes: &[u8]) -> Result<(), Broken>
 
 /// Rules 13 to 32, of the tables of a file with this header.
 fn judge_tables(bytes: &[u8], header: &Ehdr) -> Result<(), Broken>
-    requires first { header.now.e_shoff + 64 ≤ length bytes.now }
+    requires first { header.now.e_shoff + SHDR_SIZE ≤ length bytes.now }
     requires nameless { header.now.e_shoff ≡ 0 → header.now.e_shstrndx ≡ 0 }
     ensures { let b = bytes.now in
         let h = header.now in
-        FirstFrom 13 (table_rows (length b) h (sections b h) (segments b h) (names b h)) (fault_of result) }
+        FirstIn (table_rows (length b) h (sections b h) (segments b h) (names b h)) (fault_of result) }
 {
     let len = bytes.len() as u64;
     let first = section_at(bytes, header, 0);
@@ -82,11 +83,11 @@ fn judge_entries(
 ) -> Result<(), Broken>
     requires sections { shdr_offset header.now section_count ≤ length bytes.now }
     requires segments { 0 < segment_count → phdr_offset header.now segment_count ≤ length bytes.now }
-    requires table { shdr_offset header.now table + 64 ≤ length bytes.now }
+    requires table { shdr_offset header.now table + SHDR_SIZE ≤ length bytes.now }
     ensures { let b = bytes.now in
         let h = header.now in
         let names = names_at b h table in
-        FirstFrom 22
+        FirstIn
         (entry_rows (length b) h section_count segment_count table (sections b h) (segments b h) names)
         (fault_of result) }
 {

@@ -14,7 +14,6 @@
 //! [`section_rules::SectionRule::is_broken_by`], serve a caller that reads a file in pieces.
 #![tactic(auto)]
 
-pub mod abi;
 pub mod alignment;
 mod broken;
 pub mod content;
@@ -33,6 +32,7 @@ pub mod sums;
 pub mod tables;
 
 pub use broken::Broken;
+pub use header_rules::MAX_LEN;
 pub use image_rules::{judge, judge_records, verdict};
 pub use laws::{extents_of_image, fault_of_extents, one_fault};
 

@@ -4,21 +4,21 @@ ghost use Rattle.std.specs.Prelude.{◌≡◌, ◌≤◌, ◌<◌, ◌+◌, ◌^
 ghost use Rattle.elf_extent.specs.Least.{IsLowest};
 ghost use Rattle.elf_rules.specs.Broken.{fault_of};
 ghost use Rattle.elf_rules.specs.NameRules.{name_rows, UnclosedAt};
-ghost use Rattle.elf_rules.specs.Rows.{FirstFrom};
+ghost use Rattle.elf_rules.specs.Rows.{FirstIn};
 ghost use Rattle.elf_rules.specs.Tables.{names_at, sections, shdr_offset};
 
-use crate::abi::*;
 use crate::broken::Broken;
 use crate::content::content_of;
 use crate::rules::*;
 use crate::section_rules::{SectionRule, lowest_section};
 use crate::tables::section_at;
 use elf_field::Ehdr;
+use elf_field::abi::*;
 
 /// The content of the section name string table of index `table`; 0 is none, and empty.
 #[tactic(auto, unfolding(crate::specs::Tables::names_at))]
 pub fn names_of<'a>(bytes: &'a [u8], header: &Ehdr, table: u64) -> &'a [u8]
-    requires { shdr_offset header.now table + 64 ≤ length bytes.now }
+    requires { shdr_offset header.now table + SHDR_SIZE ≤ length bytes.now }
     ensures names { result.now ≡ names_at bytes.now header.now table }
     ensures inside { let start = (sections bytes.now header.now table).sh_offset in
         0 < length result.now → start + length result.now ≤ length bytes.now }
@@ -40,31 +40,25 @@ pub fn judge_names(
     names: &[u8],
 ) -> Result<(), Broken>
     requires sections { shdr_offset header.now count ≤ length bytes.now }
-    requires table { shdr_offset header.now table + 64 ≤ length bytes.now }
+    requires table { shdr_offset header.now table + SHDR_SIZE ≤ length bytes.now }
     requires names { let start = (sections bytes.now header.now table).sh_offset in
         0 < length names.now → start + length names.now ≤ length bytes.now }
     ensures { let s = sections bytes.now header.now in
-        FirstFrom 30 (name_rows header.now count table s names.now) (fault_of result) }
+        FirstIn (name_rows header.now count table s names.now) (fault_of result) }
 {
     let entry = section_at(bytes, header, table);
     if table != 0 && entry.sh_type != SHT_STRTAB {
-        return Err(Broken {
-            rule: WRONG_NAME_TABLE_TYPE,
-            at: header.e_shoff + 64 * table + 4,
-        });
+        return Err(Broken::new(
+            WRONG_NAME_TABLE_TYPE,
+            header.e_shoff + SHDR_SIZE * table + SH_TYPE_AT,
+        ));
     }
     if let Some(at) = unclosed_at(names, entry.sh_offset) {
-        return Err(Broken {
-            rule: UNCLOSED_NAME_TABLE,
-            at,
-        });
+        return Err(Broken::new(UNCLOSED_NAME_TABLE, at));
     }
     let rule = SectionRule::Name(names.len() as u64);
     if let Some(at) = lowest_section(bytes, header, count, rule) {
-        return Err(Broken {
-            rule: NAME_PAST_END,
-            at,
-        });
+        return Err(Broken::new(NAME_PAST_END, at));
     }
     Ok(())
 }

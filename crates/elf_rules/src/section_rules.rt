@@ -2,16 +2,16 @@
 ghost use Rattle.std.specs.Prelude.{◌≡◌, ◌≤◌, ◌<◌, ◌↔◌, IsTrue, length};
 ghost use Rattle.elf_extent.specs.Least.{IsLowest};
 ghost use Rattle.elf_rules.specs.Broken.{fault_of};
-ghost use Rattle.elf_rules.specs.Rows.{FirstFrom};
+ghost use Rattle.elf_rules.specs.Rows.{FirstIn};
 ghost use Rattle.elf_rules.specs.SectionRules.{BreaksSection, IsMisaligned, PassesEnd, SomeSection, section_field, section_rows};
 ghost use Rattle.elf_rules.specs.Tables.{sections, shdr_offset};
 
-use crate::abi::*;
 use crate::alignment::is_wrong_alignment;
 use crate::broken::Broken;
 use crate::rules::*;
 use crate::sums::ends_behind;
 use crate::tables::section_at;
+use elf_field::abi::*;
 use elf_field::{Ehdr, Shdr};
 
 /// A rule on one section header, whatever the others are; it is not tested at type NULL.
@@ -43,13 +43,13 @@ impl SectionRule {
     /// The offset in the section header of the field that the rule answers.
     pub fn field(self) -> u64
         ensures value { result ≡ section_field self }
-        ensures inside { result < 64 }
+        ensures inside { result < SHDR_SIZE }
     {
         match self {
-            SectionRule::Alignment => 48,
-            SectionRule::Address => 16,
-            SectionRule::Content(_) => 24,
-            SectionRule::Name(_) => 0,
+            SectionRule::Alignment => SH_ADDRALIGN_AT,
+            SectionRule::Address => SH_ADDR_AT,
+            SectionRule::Content(_) => SH_OFFSET_AT,
+            SectionRule::Name(_) => SH_NAME_AT,
         }
     }
 }
@@ -79,7 +79,7 @@ pub fn lowest_section(bytes: &[u8], header: &Ehdr, count: u64, rule: SectionRule
     for i in 1..count {
         let entry = section_at(bytes, header, i);
         if entry.sh_type != SHT_NULL && rule.is_broken_by(&entry) {
-            return Some(header.e_shoff + 64 * i + rule.field());
+            return Some(header.e_shoff + SHDR_SIZE * i + rule.field());
         }
     }
     None
@@ -90,26 +90,17 @@ pub fn lowest_section(bytes: &[u8], header: &Ehdr, count: u64, rule: SectionRule
 pub fn judge_sections(bytes: &[u8], header: &Ehdr, count: u64) -> Result<(), Broken>
     requires { shdr_offset header.now count ≤ length bytes.now }
     ensures { let s = sections bytes.now header.now in
-        FirstFrom 22 (section_rows (length bytes.now) header.now count s) (fault_of result) }
+        FirstIn (section_rows (length bytes.now) header.now count s) (fault_of result) }
 {
     let len = bytes.len() as u64;
     if let Some(at) = lowest_section(bytes, header, count, SectionRule::Alignment) {
-        return Err(Broken {
-            rule: WRONG_SECTION_ALIGNMENT,
-            at,
-        });
+        return Err(Broken::new(WRONG_SECTION_ALIGNMENT, at));
     }
     if let Some(at) = lowest_section(bytes, header, count, SectionRule::Address) {
-        return Err(Broken {
-            rule: MISALIGNED_SECTION,
-            at,
-        });
+        return Err(Broken::new(MISALIGNED_SECTION, at));
     }
     if let Some(at) = lowest_section(bytes, header, count, SectionRule::Content(len)) {
-        return Err(Broken {
-            rule: CONTENT_PAST_END,
-            at,
-        });
+        return Err(Broken::new(CONTENT_PAST_END, at));
     }
     Ok(())
 }

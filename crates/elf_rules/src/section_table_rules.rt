@@ -3,21 +3,21 @@
 ghost use Rattle.std.specs.Prelude.{◌≢◌, ◌≤◌, ◌+◌, ◌<◌, ◌^◌, ◌↔◌, IsTrue, OnOk};
 ghost use Rattle.elf_extent.specs.Least.{IsLowest};
 ghost use Rattle.elf_rules.specs.Broken.{fault_of};
-ghost use Rattle.elf_rules.specs.Rows.{FirstFrom};
+ghost use Rattle.elf_rules.specs.Rows.{FirstIn};
 ghost use Rattle.elf_rules.specs.SectionTableRules.{HasWrongExtendedNameTableIndex, HasWrongExtendedSectionCount, HasWrongNameTableIndex, first_section_header_not_null, section_table_rows};
 ghost use Rattle.elf_rules.specs.Tables.{name_table, section_count, shdr_offset};
 
-use crate::abi::*;
 use crate::broken::Broken;
 use crate::rules::*;
 use crate::tables::section_count_of;
+use elf_field::abi::*;
 use elf_field::{Ehdr, Shdr};
 
 /// Rules 13 to 17, of the header and section header 0 of a file of `len` bytes.
 #[tactic(auto, unfolding(crate::specs::SectionTableRules::section_table_rows))]
 pub fn judge_section_table(header: &Ehdr, first: &Shdr, len: u64) -> Result<(), Broken>
-    requires { header.now.e_shoff + 64 ≤ len }
-    ensures fault { FirstFrom 13 (section_table_rows len header.now first.now) (fault_of result) }
+    requires { header.now.e_shoff + SHDR_SIZE ≤ len }
+    ensures fault { FirstIn (section_table_rows len header.now first.now) (fault_of result) }
     ensures inside { OnOk result (shdr_offset header.now (section_count header.now first.now) ≤ len) }
     ensures named { OnOk result
         (header.now.e_shoff ≢ 0 → name_table header.now first.now < section_count header.now first.now) }
@@ -26,36 +26,21 @@ pub fn judge_section_table(header: &Ehdr, first: &Shdr, len: u64) -> Result<(), 
         return Ok(());
     }
     if let Some(at) = nonzero_field(header, first) {
-        return Err(Broken {
-            rule: FIRST_SECTION_HEADER_NOT_NULL,
-            at,
-        });
+        return Err(Broken::new(FIRST_SECTION_HEADER_NOT_NULL, at));
     }
     if !is_section_count_right(header, first) {
-        return Err(Broken {
-            rule: WRONG_EXTENDED_SECTION_COUNT,
-            at: header.e_shoff + 32,
-        });
+        return Err(Broken::new(WRONG_EXTENDED_SECTION_COUNT, header.e_shoff + SH_SIZE_AT));
     }
     let count = section_count_of(header, first);
     // Counted in entries, so that no product can pass the integers.
-    if count > (len - header.e_shoff) / 64 {
-        return Err(Broken {
-            rule: SECTION_TABLE_PAST_END,
-            at: 40,
-        });
+    if count > (len - header.e_shoff) / SHDR_SIZE {
+        return Err(Broken::new(SECTION_TABLE_PAST_END, E_SHOFF_AT));
     }
     if !is_name_index_right(header, count) {
-        return Err(Broken {
-            rule: WRONG_NAME_TABLE_INDEX,
-            at: 62,
-        });
+        return Err(Broken::new(WRONG_NAME_TABLE_INDEX, E_SHSTRNDX_AT));
     }
     if !is_extended_name_index_right(header, first, count) {
-        return Err(Broken {
-            rule: WRONG_EXTENDED_NAME_TABLE_INDEX,
-            at: header.e_shoff + 40,
-        });
+        return Err(Broken::new(WRONG_EXTENDED_NAME_TABLE_INDEX, header.e_shoff + SH_LINK_AT));
     }
     Ok(())
 }
@@ -64,23 +49,23 @@ pub fn judge_section_table(header: &Ehdr, first: &Shdr, len: u64) -> Result<(), 
 /// isn't 0.
 fn nonzero_field(header: &Ehdr, first: &Shdr) -> Option<u64>
     requires table { header.now.e_shoff ≢ 0 }
-    requires inside { header.now.e_shoff + 64 < 2 ^ 64 }
+    requires inside { header.now.e_shoff + SHDR_SIZE < 2 ^ 64 }
     ensures { IsLowest (first_section_header_not_null header.now first.now) result }
 {
     let field = if first.sh_name != 0 {
-        0
-    } else if first.sh_type != 0 {
-        4
+        SH_NAME_AT
+    } else if first.sh_type != SHT_NULL {
+        SH_TYPE_AT
     } else if first.sh_flags != 0 {
-        8
+        SH_FLAGS_AT
     } else if first.sh_addr != 0 {
-        16
+        SH_ADDR_AT
     } else if first.sh_offset != 0 {
-        24
+        SH_OFFSET_AT
     } else if first.sh_addralign != 0 {
-        48
+        SH_ADDRALIGN_AT
     } else if first.sh_entsize != 0 {
-        56
+        SH_ENTSIZE_AT
     } else {
         return None;
     };

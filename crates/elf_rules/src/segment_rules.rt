@@ -2,16 +2,16 @@
 ghost use Rattle.std.specs.Prelude.{◌≡◌, ◌≤◌, ◌≢◌, ◌<◌, ◌%◌, ◌↔◌, IsTrue, length};
 ghost use Rattle.elf_extent.specs.Least.{IsLowest};
 ghost use Rattle.elf_rules.specs.Broken.{fault_of};
-ghost use Rattle.elf_rules.specs.Rows.{FirstFrom};
+ghost use Rattle.elf_rules.specs.Rows.{FirstIn};
 ghost use Rattle.elf_rules.specs.SegmentRules.{BreaksSegment, SomeSegment, load_out_of_order, segment_field, segment_rows};
 ghost use Rattle.elf_rules.specs.Tables.{phdr_offset, segments};
 
-use crate::abi::*;
 use crate::alignment::is_wrong_alignment;
 use crate::broken::Broken;
 use crate::rules::*;
 use crate::sums::ends_behind;
 use crate::tables::segment_at;
+use elf_field::abi::*;
 use elf_field::{Ehdr, Phdr};
 
 /// A rule on one segment, whatever the others are.
@@ -48,12 +48,12 @@ impl SegmentRule {
     /// The offset in the program header of the field that the rule answers.
     pub fn field(self) -> u64
         ensures value { result ≡ segment_field self }
-        ensures inside { result < 56 }
+        ensures inside { result < PHDR_SIZE }
     {
         match self {
-            SegmentRule::End(_) | SegmentRule::Congruence => 8,
-            SegmentRule::Size => 32,
-            SegmentRule::Alignment => 48,
+            SegmentRule::End(_) | SegmentRule::Congruence => P_OFFSET_AT,
+            SegmentRule::Size => P_FILESZ_AT,
+            SegmentRule::Alignment => P_ALIGN_AT,
         }
     }
 }
@@ -74,7 +74,7 @@ pub fn lowest_segment(bytes: &[u8], header: &Ehdr, count: u64, rule: SegmentRule
 {
     for i in 0..count {
         if rule.is_broken_by(&segment_at(bytes, header, i)) {
-            return Some(header.e_phoff + 56 * i + rule.field());
+            return Some(header.e_phoff + PHDR_SIZE * i + rule.field());
         }
     }
     None
@@ -92,7 +92,7 @@ fn lowest_out_of_order(bytes: &[u8], header: &Ehdr, count: u64) -> Option<u64>
         let segment = segment_at(bytes, header, i);
         if segment.p_type == PT_LOAD {
             if segment.p_vaddr < floor {
-                return Some(header.e_phoff + 56 * i + 16);
+                return Some(header.e_phoff + PHDR_SIZE * i + P_VADDR_AT);
             }
             floor = segment.p_vaddr;
         }
@@ -105,38 +105,23 @@ fn lowest_out_of_order(bytes: &[u8], header: &Ehdr, count: u64) -> Option<u64>
 pub fn judge_segments(bytes: &[u8], header: &Ehdr, count: u64) -> Result<(), Broken>
     requires { 0 < count → phdr_offset header.now count ≤ length bytes.now }
     ensures { let g = segments bytes.now header.now in
-        FirstFrom 25 (segment_rows (length bytes.now) header.now count g) (fault_of result) }
+        FirstIn (segment_rows (length bytes.now) header.now count g) (fault_of result) }
 {
     let len = bytes.len() as u64;
     if let Some(at) = lowest_segment(bytes, header, count, SegmentRule::End(len)) {
-        return Err(Broken {
-            rule: SEGMENT_PAST_END,
-            at,
-        });
+        return Err(Broken::new(SEGMENT_PAST_END, at));
     }
     if let Some(at) = lowest_segment(bytes, header, count, SegmentRule::Size) {
-        return Err(Broken {
-            rule: FILE_SIZE_ABOVE_MEMORY_SIZE,
-            at,
-        });
+        return Err(Broken::new(FILE_SIZE_ABOVE_MEMORY_SIZE, at));
     }
     if let Some(at) = lowest_segment(bytes, header, count, SegmentRule::Alignment) {
-        return Err(Broken {
-            rule: WRONG_SEGMENT_ALIGNMENT,
-            at,
-        });
+        return Err(Broken::new(WRONG_SEGMENT_ALIGNMENT, at));
     }
     if let Some(at) = lowest_segment(bytes, header, count, SegmentRule::Congruence) {
-        return Err(Broken {
-            rule: INCONGRUENT_SEGMENT,
-            at,
-        });
+        return Err(Broken::new(INCONGRUENT_SEGMENT, at));
     }
     if let Some(at) = lowest_out_of_order(bytes, header, count) {
-        return Err(Broken {
-            rule: LOAD_OUT_OF_ORDER,
-            at,
-        });
+        return Err(Broken::new(LOAD_OUT_OF_ORDER, at));
     }
     Ok(())
 }

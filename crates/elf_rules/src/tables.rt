@@ -1,16 +1,16 @@
 //! A file's header, section headers and program headers, and what they say of the file
 //! (gABI chapter 4, ELF Header and Sections; chapter 5, Program Header).
-ghost use Rattle.std.specs.Prelude.{◌≡◌, ◌≤◌, ◌+◌, length};
+ghost use Rattle.std.specs.Prelude.{◌≡◌, ◌≤◌, ◌<◌, ◌+◌, length};
 ghost use Rattle.elf_rules.specs.Tables.{order_of, shdr_offset, phdr_offset, header, sections, segments, section_count, segment_count, name_table};
 
-use crate::abi::*;
+use elf_field::abi::*;
 use elf_field::{Ehdr, Order, Phdr, Shdr, get_at};
 
 /// The byte order that an identification names: any byte 5 but `ELFDATA2MSB` is taken for the
 /// least significant byte first.
 #[tactic(auto, unfolding(crate::specs::Tables::order_of))]
 pub fn order_in(ident: &[u8]) -> Order
-    requires { 6 ≤ length ident.now }
+    requires { EI_DATA < length ident.now }
     ensures { result ≡ order_of ident.now }
 {
     if ident[EI_DATA] == ELFDATA2MSB {
@@ -22,29 +22,29 @@ pub fn order_in(ident: &[u8]) -> Order
 
 /// The header of a file that is long enough to have one.
 pub fn header_of(bytes: &[u8]) -> Ehdr
-    requires { 64 ≤ length bytes.now }
+    requires { EHDR_SIZE ≤ length bytes.now }
     ensures { result ≡ header bytes.now }
 {
-    get_at(order_in(&bytes[..16]), bytes, 0)
+    get_at(order_in(&bytes[..EI_NIDENT]), bytes, 0)
 }
 
 /// Section header `index` of a file with this header, where it lies in the file.
 #[tactic(auto, unfolding(crate::specs::Tables::sections))]
 pub fn section_at(bytes: &[u8], header: &Ehdr, index: u64) -> Shdr
-    requires { shdr_offset header.now index + 64 ≤ length bytes.now }
+    requires { shdr_offset header.now index + SHDR_SIZE ≤ length bytes.now }
     ensures { result ≡ sections bytes.now header.now index }
 {
-    let offset = header.e_shoff + 64 * index;
+    let offset = header.e_shoff + SHDR_SIZE * index;
     get_at(order_in(&header.e_ident), bytes, offset as usize)
 }
 
 /// Program header `index` of a file with this header, where it lies in the file.
 #[tactic(auto, unfolding(crate::specs::Tables::segments))]
 pub fn segment_at(bytes: &[u8], header: &Ehdr, index: u64) -> Phdr
-    requires { phdr_offset header.now index + 56 ≤ length bytes.now }
+    requires { phdr_offset header.now index + PHDR_SIZE ≤ length bytes.now }
     ensures { result ≡ segments bytes.now header.now index }
 {
-    let offset = header.e_phoff + 56 * index;
+    let offset = header.e_phoff + PHDR_SIZE * index;
     get_at(order_in(&header.e_ident), bytes, offset as usize)
 }
 

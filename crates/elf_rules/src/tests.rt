@@ -134,13 +134,7 @@ fn refuses_lengths(rt: HostRuntime) {
     set_header(&mut short, Order::Little);
     assert_eq!(rt; verdict(&short), Some((2, 63)));
     assert_eq!(rt; judge_length(MAX_LEN), Ok(()));
-    assert_eq!(rt;
-        judge_length(MAX_LEN + 1),
-        Err(Broken {
-            rule: 1,
-            at: 1 << 30
-        })
-    );
+    assert_eq!(rt; judge_length(MAX_LEN + 1), Err(Broken::new(1, 1 << 30)));
 }
 
 #[test]

@@ -1,9 +1,9 @@
 use Rattle.std.proofs.Common.{List, ℕ, length, subst}
-use Rattle.elf_rules.specs.Rows.{FirstFrom}
+use Rattle.elf_rules.specs.Rows.{FirstIn}
 use Rattle.elf_rules.specs.Broken.{fault_of}
 use Rattle.elf_rules.specs.NameRules.{name_rows}
 use Rattle.elf_rules.specs.Tables.{names_at, sections, segments}
-use Rattle.elf_rules.proofs.Runs.{FirstFrom-stop}
+use Rattle.elf_rules.proofs.Rows.{FirstIn-stop}
 use Rattle.elf_rules.proofs.ImageRules.{from_sections, from_segments, from_names}
 use Rattle.elf_rules.proofs.image_rules.judge_entries.Goals as goal
 
@@ -12,21 +12,21 @@ returns-in_err-judge_sections c =
     from_sections (length c.args.bytes.now) c.args.header.now c.args.section_count c.args.segment_count c.args.table
     (sections c.args.bytes.now c.args.header.now) (segments c.args.bytes.now c.args.header.now)
     (names_at c.args.bytes.now c.args.header.now c.args.table) _
-    (FirstFrom-stop 22 _ _ _ _ c.in_err-judge_sections.ensures c.from_residual.ensures.1)
+    (FirstIn-stop _ _ _ _ c.in_err-judge_sections.ensures c.from_residual.ensures.1)
 
 pub returns-in_err-judge_segments : goal.returns-in_err-judge_segments
 returns-in_err-judge_segments c =
     from_segments (length c.args.bytes.now) c.args.header.now c.args.section_count c.args.segment_count c.args.table
     (sections c.args.bytes.now c.args.header.now) (segments c.args.bytes.now c.args.header.now)
     (names_at c.args.bytes.now c.args.header.now c.args.table) _ c.in_ok-judge_sections.ensures
-    (FirstFrom-stop 25 _ _ _ _ c.in_err-judge_segments.ensures c.from_residual-in_err-judge_segments.ensures.1)
+    (FirstIn-stop _ _ _ _ c.in_err-judge_segments.ensures c.from_residual-in_err-judge_segments.ensures.1)
 
 pub returns : goal.returns
 returns c =
     let b = c.args.bytes.now in
     let h = c.args.header.now in
     let named = subst
-    (λ (t : List ℕ). FirstFrom 30 (name_rows h c.args.section_count c.args.table (sections b h) t) (fault_of c.judge_names.result))
+    (λ (t : List ℕ). FirstIn (name_rows h c.args.section_count c.args.table (sections b h) t) (fault_of c.judge_names.result))
     c.names_of-names.ensures.names c.judge_names.ensures in
     from_names (length b) h c.args.section_count c.args.segment_count c.args.table (sections b h) (segments b h)
     (names_at b h c.args.table) _ c.in_ok-judge_sections.ensures c.in_ok-judge_segments.ensures named
