@@ -22,7 +22,7 @@ use Rattle.elf_image.specs.declared.part.Owner.TheVariants.{Header, ProgramTable
 use Rattle.elf_image.specs.Image.{ImageValue, IsSound, PlacedPart, gap_len, if_gap, index_of, joined, owned_bytes, part_bytes, piece_of, value_extents}
 use Rattle.elf_image.proofs.Joins.{HaveLengths, in_flat_parts, length-flat_parts}
 use Rattle.elf_image.proofs.Standing.{at_index, counted_of, disjoint_of, mapped_at, within_of}
-use Rattle.elf_image.proofs.Tables.{length-table}
+use Rattle.elf_field.specs.RecordTableLaws.{length-table}
 
 -- ---- each part's bytes are as many as its length
 

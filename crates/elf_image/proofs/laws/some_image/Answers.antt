@@ -1,4 +1,4 @@
-use Rattle.elf_image.proofs.SomeImage.{some_image}
+use Rattle.elf_image.proofs.Public.{some_image}
 use Rattle.elf_image.proofs.laws.some_image.Goals as goal
 
 pub returns : goal.returns
