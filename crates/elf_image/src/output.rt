@@ -3,7 +3,7 @@
 //! Any error of the writer, an interruption too, is a [`WriteFault`], and so is a write that takes 0
 //! bytes of a rest that is not empty. Nothing is tried again, nothing is flushed, and no memory is
 //! taken.
-ghost use Rattle.std.specs.Prelude.{◌≡◌, ◌*◌, ◌^◌, ◌<◌, ◌≤◌, length, replicate};
+ghost use Rattle.std.specs.Prelude.{◌≡◌, ◌+◌, ◌*◌, ◌^◌, ◌<◌, ◌≤◌, ◌++◌, length, replicate};
 ghost use Rattle.std.specs.List.{flat_map};
 ghost use Rattle.elf_image.specs.Output.{Went};
 
@@ -49,6 +49,22 @@ pub fn write_zeros<W: Write>(writer: &mut W, count: u64) -> Result<(), WriteFaul
         written += size;
     }
     Ok(())
+}
+
+/// Writes so many zeros and then all of `bytes`, or exactly the first `written` of both together, fewer
+/// than all, and a fault. So a part is written that stands behind padding.
+pub fn write_padded<W: Write>(writer: &mut W, padding: u64, bytes: &[u8]) -> Result<(), WriteFault>
+    requires { padding + length bytes.now < 2 ^ 64 }
+    ensures { Went (W.contents writer.old) (W.contents writer.new) (replicate padding 0 ++ bytes.now) result }
+{
+    match write_zeros(writer, padding) {
+        Ok(()) => {}
+        Err(fault) => return Err(fault),
+    }
+    match write_whole(writer, bytes) {
+        Ok(()) => Ok(()),
+        Err(fault) => Err(fault.after(padding)),
+    }
 }
 
 /// Writes the bytes of these records one after the other, or exactly the first `written` of them, fewer
