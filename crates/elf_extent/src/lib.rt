@@ -1,5 +1,15 @@
 //! Extents of a file: the lowest byte that two of them hold, an account of every offset, and the
 //! least places for parts that are laid one after the other. Nothing here is of ELF.
+//!
+//! ```
+//! // The bytes 2 and 3 lie in both extents.
+//! let extents = [Extent { start: 0, len: 4 }, Extent { start: 2, len: 4 }];
+//! assert_eq!(first_double(alloc, &extents)?, Some(2));
+//!
+//! // A byte, then eight at a multiple of eight.
+//! let places = place(alloc, &[(1, 1), (8, 8)], 64)?;
+//! assert_eq!(places.as_slice(), [64, 72]);
+//! ```
 #![tactic(auto)]
 
 pub use accounting::account;
