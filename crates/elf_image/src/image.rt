@@ -173,6 +173,20 @@ impl<'a> Image<'a> {
         self.contents[i]
     }
 
+    /// The offset in the file of the content of section `i`: `sh_offset`, at which the section has
+    /// bytes only where its content is not empty.
+    pub fn content_offset(&self, i: usize) -> u64
+        requires { i < length self.now.sections }
+        ensures value { result ≡ (section_of self.now.sections i).sh_offset }
+        ensures inside { 0 < (content_extent (section_of self.now.sections i)).len →
+            result + (content_extent (section_of self.now.sections i)).len ≤ self.now.len }
+        ensures short { self.now.len ≤ 2 ^ 30 }
+    {
+        // That content lies in the file.
+        let _ = self.content(i);
+        self.section(i).sh_offset
+    }
+
     /// What each byte of the file belongs to: the parts in ascending order, none of them empty, each
     /// byte in just one.
     pub fn parts(&self) -> &[Part]

@@ -208,15 +208,17 @@ fn keeps_the_bytes_before_a_failed_read(rt: HostRuntime) {
 // one sees `OutOfMemory` in place of an answer, and still no byte that was given is lost.
 #[test]
 fn a_refused_growth_loses_no_byte(rt: HostRuntime) {
-    let whole = 300_000;
-    let mut reader = Counting { left: whole };
-    let mut buf = Vec::new(rt.alloc());
-    match read_to_end(&mut reader, &mut buf) {
-        Ok(()) => assert_eq!(rt; reader.left, 0),
-        Err(fault) => assert_eq!(rt; fault, Fault::OutOfMemory),
+    // Of the longer file capacity is asked for well ahead.
+    for whole in [300_000, 6_000_000] {
+        let mut reader = Counting { left: whole };
+        let mut buf = Vec::new(rt.alloc());
+        match read_to_end(&mut reader, &mut buf) {
+            Ok(()) => assert_eq!(rt; reader.left, 0),
+            Err(fault) => assert_eq!(rt; fault, Fault::OutOfMemory),
+        }
+        assert_eq!(rt; reader.left.checked_add(buf.len()), Some(whole));
+        assert!(rt; buf.iter().all(|byte| *byte == 7));
     }
-    assert_eq!(rt; reader.left.checked_add(buf.len()), Some(whole));
-    assert!(rt; buf.iter().all(|byte| *byte == 7));
 }
 
 #[test]

@@ -133,9 +133,11 @@ fn tells_contents(rt: HostRuntime) -> Result<(), Fail> {
     let file = one_section(LITTLE);
     let image = parse(rt.alloc(), &file)?;
     let sizes = [0, 1, 24, 1, 33];
+    let offsets = [0, 64, 72, 96, 97];
     assert_eq!(rt; image.section_count(), 5);
     for i in 0..5 {
         assert_eq!(rt; image.content(i).len(), sizes[i], "content {i}");
+        assert_eq!(rt; image.content_offset(i), offsets[i], "content {i}");
     }
     assert_eq!(rt; image.content(1), [0xc3].as_slice());
     Ok(())
