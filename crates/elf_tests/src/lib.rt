@@ -1,6 +1,7 @@
 //! Tests that cross crates.
 #![tactic(auto)]
 
+mod known_files;
 #[cfg(test)]
 mod image_faults;
 #[cfg(test)]
@@ -11,3 +12,5 @@ mod images;
 mod many_sections;
 #[cfg(test)]
 mod program;
+
+pub use known_files::{KnownBytes, KnownFile, status_of_check};

@@ -1,4 +1,2 @@
--- Lemmas on the program's command, on digits, and on texts that go out in pieces.
-pub mod Digits
+-- Lemmas on the program's command.
 pub mod Entered
-pub mod Output

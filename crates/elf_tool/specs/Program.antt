@@ -1,14 +1,15 @@
 -- How the program ends, and what is out then.
-use Rattle.std.specs.Prelude.{◌≡◌, ◌⊎◌, ℕ, List, Option, Some, Result, Ok, Err, IfSome}
+use Rattle.std.specs.Prelude.{◌≡◌, ◌⊎◌, ℕ, Bool, List, Option, Some, Result, Ok, Err, IfSome}
 use Rattle.std.specs.Io.KnownBytes.{Keeps}
 use Rattle.clap.specs.Walk.{Text}
-use Rattle.elf_tool.specs.Check.{CheckSays}
-use Rattle.elf_tool.specs.Engine.{Answering, Answers, GradualAnswers, IsAnswered}
-use Rattle.elf_tool.specs.Show.{ShowSays}
+use Rattle.elf_engine.specs.Check.{IsChecked}
+use Rattle.elf_engine.specs.Show.{IsShown}
+use Rattle.elf_tool.specs.Opener.{IsOpenFault}
 use Rattle.elf_tool.specs.Words.{IsAskedBy, IsRefusedBy}
-use Rattle.elf_tool.specs.declared.fault.ToolFault.{ToolFault}
-use Rattle.elf_tool.specs.declared.fault.Verdict.{Verdict}
-use Rattle.elf_tool.specs.declared.fault.Verdict.TheVariants as verdict
+use Rattle.elf_engine.specs.declared.fault.ToolFault.{ToolFault}
+use Rattle.elf_engine.specs.declared.fault.Verdict.{Verdict}
+use Rattle.elf_engine.specs.declared.fault.Verdict.TheVariants as verdict
+use Rattle.elf_tool.specs.declared.opener.OpenFault.{OpenFault}
 use Rattle.elf_tool.specs.declared.program.Status.{Status}
 use Rattle.elf_tool.specs.declared.program.Status.TheVariants.{Done, Refused, Usage, Failed}
 use Rattle.elf_tool.specs.declared.words.Request.{Request}
@@ -29,18 +30,22 @@ ending_of (Ok verdict.Done) = Done
 ending_of (Ok (verdict.Refused refusal)) = Refused
 ending_of (Err fault) = Failed
 
--- a file was opened, and the engine answered on a reader of its bytes, where these are known; or it was
--- not, and nothing is out. A writer that held `old` holds `new`
-abbrev pub EndsFile : Answering → Option (List ℕ) → Option (List ℕ) → Option (List ℕ) → Status → Type 0
-EndsFile answers known old new status =
-    ((input rest : Option (List ℕ)) × (answer : Result Verdict ToolFault) × IfSome known (λ bytes. input ≡ Some bytes)
-    × IsAnswered answers input rest old new answer × (status ≡ ending_of answer))
-    ⊎ ((status ≡ Failed) × Keeps old new)
+-- a call of an engine: what its reader had and has left, what its writer held and holds, and its answer
+abbrev pub Call : Type 1
+Call = Option (List ℕ) → Option (List ℕ) → Option (List ℕ) → Option (List ℕ) → Result Verdict ToolFault → Type 0
 
--- each command, over the files' known bytes by name
-abbrev pub EndsRequest : (Text → Option (List ℕ)) → Option (List ℕ) → Option (List ℕ) → Request → Status → Type 0
-EndsRequest holds old new (Check file) status = EndsFile (Answers CheckSays) (holds file.now) old new status
-EndsRequest holds old new (Show file) status = EndsFile (GradualAnswers ShowSays) (holds file.now) old new status
+-- a file was opened, and an engine was called on a reader of its bytes, where these are known; or it gave no reader, and
+-- nothing is out. A writer that held `old` holds `new`
+abbrev pub EndsFile : Call → Option (List ℕ) → Bool → Option (List ℕ) → Option (List ℕ) → Status → Type 0
+EndsFile call known opens old new status =
+    ((input rest : Option (List ℕ)) × (answer : Result Verdict ToolFault) × IfSome known (λ bytes. input ≡ Some bytes)
+    × call input rest old new answer × (status ≡ ending_of answer))
+    ⊎ ((fault : OpenFault) × IsOpenFault opens fault × (status ≡ Failed) × Keeps old new)
+
+-- each command, over the files' known bytes by name, and which are known to open
+abbrev pub EndsRequest : (Text → Option (List ℕ)) → (Text → Bool) → Option (List ℕ) → Option (List ℕ) → Request → Status → Type 0
+EndsRequest holds opens old new (Check file) status = EndsFile IsChecked (holds file.now) (opens file.now) old new status
+EndsRequest holds opens old new (Show file) status = EndsFile IsShown (holds file.now) (opens file.now) old new status
 
 -- words that ask for nothing: nothing is out
 abbrev pub EndsWords : Option (List ℕ) → Option (List ℕ) → WordsFault → Status → Type 0
@@ -48,7 +53,7 @@ EndsWords old new (Words error) status = (status ≡ Usage) × Keeps old new
 EndsWords old new OutOfMemory status = (status ≡ Failed) × Keeps old new
 
 -- the whole program
-abbrev pub EndsRun : List Text → (Text → Option (List ℕ)) → Option (List ℕ) → Option (List ℕ) → Status → Type 0
-EndsRun words holds old new status =
-    ((request : Request) × IsAskedBy words request × EndsRequest holds old new request status)
+abbrev pub EndsRun : List Text → (Text → Option (List ℕ)) → (Text → Bool) → Option (List ℕ) → Option (List ℕ) → Status → Type 0
+EndsRun words holds opens old new status =
+    ((request : Request) × IsAskedBy words request × EndsRequest holds opens old new request status)
     ⊎ ((fault : WordsFault) × IsRefusedBy words fault × EndsWords old new fault status)

@@ -1,5 +1,6 @@
 //! Files by name, of the machine or of a test.
-ghost use Rattle.std.specs.Prelude.{◌≡◌, ℕ, List, None, Option, Some, IfOk, IfSome};
+ghost use Rattle.std.specs.Prelude.{◌≡◌, ◌≢◌, ℕ, Bool, false, List, None, Option, Some, IfErr, IfOk, IfSome};
+ghost use Rattle.elf_tool.specs.Opener.{IsOpenFault};
 
 use std::fs::Files;
 use std::io::Read;
@@ -21,10 +22,17 @@ pub trait Opener {
     // The bytes of the file of this name, where they are known.
     ghost holds: { Self → List ℕ → Option (List ℕ) } = { λ _ _. None };
 
-    /// A reader of the file's bytes from its beginning on.
+    // Whether a file of this name is known to open.
+    ghost opens: { Self → List ℕ → Bool } = { λ _ _. false };
+
+    /// A reader of the file's bytes from its beginning on. [`OpenFault::Refused`] comes only for a
+    /// file that is not known to open. Every other name is held as it was.
     fn reader(&mut self, name: &str) -> Result<Self::Input, OpenFault>
-        ensures { IfSome (holds self.old name.now) (λ bytes.
-            IfOk result (λ input. Self.Input.remaining input ≡ Some bytes)) };
+        ensures bytes { IfSome (holds self.old name.now) (λ bytes.
+            IfOk result (λ input. Self.Input.remaining input ≡ Some bytes)) }
+        ensures fault { IfErr result (IsOpenFault (opens self.old name.now)) }
+        ensures kept { (other : List ℕ) → other ≢ name.now → holds self.new other ≡ holds self.old other }
+        ensures still { (other : List ℕ) → other ≢ name.now → opens self.new other ≡ opens self.old other };
 }
 
 /// The machine's files.

@@ -1,18 +1,15 @@
 //! The whole program: from the words of its command line to its exit status.
-ghost use Rattle.std.specs.Prelude.{◌≡◌, ◌≢◌, IfErr, IfOk, IfSome, map};
+ghost use Rattle.std.specs.Prelude.{◌≡◌, ◌≢◌, map};
 ghost use Rattle.std.specs.IoError.{error_kind};
 ghost use Rattle.std.specs.declared.io.ErrorKind.TheVariants.{InvalidData};
-ghost use Rattle.elf_tool.specs.Check.{CheckSays};
-ghost use Rattle.elf_tool.specs.Engine.{Answers, GradualAnswers};
+ghost use Rattle.elf_engine.specs.Check.{IsChecked};
+ghost use Rattle.elf_engine.specs.Show.{IsShown};
 ghost use Rattle.elf_tool.specs.Program.{EndsFile, EndsRun, code_of, ending_of};
-ghost use Rattle.elf_tool.specs.Show.{ShowSays};
 ghost use Rattle.elf_tool.specs.declared.program.Status.{Status as Ending};
 
-use crate::engine::check::check;
-use crate::engine::show::show;
-use crate::fault::{ToolFault, Verdict};
 use crate::opener::{OpenFault, Opener};
 use crate::words::{Request, WordsFault, read_words};
+use elf_engine::{ToolFault, Verdict, check, show};
 use std::alloc::Global;
 use std::convert::AsStr;
 use std::fmt::Display;
@@ -46,7 +43,7 @@ pub fn run<S: AsStr, O: Opener, W: Write, E: Write>(
     err: &mut E,
 ) -> u8
     ensures { (status : Ending) × (result ≡ code_of status)
-        × EndsRun (map S.text words.now) (O.holds files.old) (W.contents out.old) (W.contents out.new) status }
+        × EndsRun (map S.text words.now) (O.holds files.old) (O.opens files.old) (W.contents out.old) (W.contents out.new) status }
 {
     ending(alloc, words, files, out, err) as u8
 }
@@ -58,7 +55,7 @@ fn ending<S: AsStr, O: Opener, W: Write, E: Write>(
     out: &mut W,
     err: &mut E,
 ) -> Status
-    ensures { EndsRun (map S.text words.now) (O.holds files.old) (W.contents out.old) (W.contents out.new) result }
+    ensures { EndsRun (map S.text words.now) (O.holds files.old) (O.opens files.old) (W.contents out.old) (W.contents out.new) result }
 {
     match read_words(alloc, words) {
         Ok(Request::Check { file }) => check_file(alloc, file, files, out, err),
@@ -75,6 +72,7 @@ fn ending<S: AsStr, O: Opener, W: Write, E: Write>(
 /// The exit status where the machine gives no words: 2, wrong usage, where a word is not UTF-8, and
 /// else 3.
 pub fn refuse_words<E: Write>(error: &io::Error, err: &mut E) -> u8
+    ensures status { (status : Ending) × (result ≡ code_of status) }
     ensures usage { error_kind error.now ≡ InvalidData → result ≡ code_of Status.Usage }
     ensures failed { error_kind error.now ≢ InvalidData → result ≡ code_of Status.Failed }
 {
@@ -96,11 +94,12 @@ fn check_file<O: Opener, W: Write, E: Write>(
     out: &mut W,
     err: &mut E,
 ) -> Status
-    ensures { EndsFile (Answers CheckSays) (O.holds files.old file.now) (W.contents out.old) (W.contents out.new) result }
+    ensures { EndsFile IsChecked (O.holds files.old file.now) (O.opens files.old file.now)
+        (W.contents out.old) (W.contents out.new) result }
 {
-    match open(file, files, err) {
+    match files.reader(file) {
         Ok(mut input) => status_of(check(alloc, &mut input, out), err),
-        Err(status) => status,
+        Err(fault) => unopened(fault, file, err),
     }
 }
 
@@ -111,26 +110,25 @@ fn show_file<O: Opener, W: Write, E: Write>(
     out: &mut W,
     err: &mut E,
 ) -> Status
-    ensures { EndsFile (GradualAnswers ShowSays) (O.holds files.old file.now) (W.contents out.old) (W.contents out.new) result }
+    ensures { EndsFile IsShown (O.holds files.old file.now) (O.opens files.old file.now)
+        (W.contents out.old) (W.contents out.new) result }
 {
-    match open(file, files, err) {
+    match files.reader(file) {
         Ok(mut input) => status_of(show(alloc, &mut input, out), err),
-        Err(status) => status,
+        Err(fault) => unopened(fault, file, err),
     }
 }
 
-// A reader of the file of this name, or how the program ends without one.
-fn open<O: Opener, E: Write>(file: &str, files: &mut O, err: &mut E) -> Result<O::Input, Status>
-    ensures ok { IfOk result (λ input. IfSome (O.holds files.old file.now) (λ bytes. O.Input.remaining input ≡ Some bytes)) }
-    ensures err { IfErr result (λ status. status ≡ Status.Failed) }
+// How the program ends where the file of this name gave no reader.
+fn unopened<E: Write>(fault: OpenFault, file: &str, err: &mut E) -> Status
+    ensures { result ≡ Status.Failed }
 {
-    match files.reader(file) {
-        Ok(input) => Ok(input),
-        Err(OpenFault::Refused) => {
+    match fault {
+        OpenFault::Refused => {
             let _ = writeln!(err, "cannot open {file}");
-            Err(Status::Failed)
+            Status::Failed
         }
-        Err(OpenFault::OutOfMemory) => Err(fail(&ToolFault::OutOfMemory, err)),
+        OpenFault::OutOfMemory => fail(&ToolFault::OutOfMemory, err),
     }
 }
 

@@ -1,0 +1,5 @@
+-- Lemmas on calls of engines, on digits, on texts that go out in pieces, and on lines made word by word.
+pub mod Calls
+pub mod Digits
+pub mod Output
+pub mod Words

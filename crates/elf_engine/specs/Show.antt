@@ -1,0 +1,46 @@
+-- What `show` says of a file.
+use Rattle.std.specs.Prelude.{◌≡◌, ℕ, List, ◌++◌, length, Option, Some, Result}
+use Rattle.std.specs.List.{flat_map, range_with_len}
+use Rattle.elf_rules.specs.ImageRules.{IsFault}
+use Rattle.elf_image.specs.Image.{ImageValue, IsImage, section_of, segment_of}
+use Rattle.elf_image.specs.Strings.{section_name}
+use Rattle.elf_engine.specs.Engine.{IsAnswered}
+use Rattle.elf_engine.specs.Line.{refused_line}
+use Rattle.elf_engine.specs.ShowLines.{file_line, part_line, section_line, segment_line}
+use Rattle.elf_engine.specs.declared.fault.Refusal.TheVariants.{File, Link, TooLong}
+use Rattle.elf_engine.specs.declared.fault.ToolFault.{ToolFault}
+use Rattle.elf_engine.specs.declared.fault.Verdict.{Verdict}
+use Rattle.elf_engine.specs.declared.fault.Verdict.TheVariants.{Done, Refused}
+
+-- the line of a section or segment by its index
+abbrev pub section_text : ImageValue → ℕ → List ℕ
+section_text v i = section_line i (section_of v.sections i) (section_name v i)
+
+abbrev pub segment_text : ImageValue → ℕ → List ℕ
+segment_text v j = segment_line j (segment_of v.segments j)
+
+-- the line of each part, of each section (section header 0 too), and of each segment, in order
+unfoldable pub part_lines : List ℕ → ImageValue → List ℕ
+part_lines b v = flat_map (λ p. part_line b p.part) v.parts
+
+unfoldable pub section_lines : ImageValue → List ℕ
+section_lines v = flat_map (section_text v) (range_with_len 0 (length v.sections))
+
+unfoldable pub segment_lines : ImageValue → List ℕ
+segment_lines v = flat_map (segment_text v) (range_with_len 0 (length v.segments))
+
+-- the whole text on an image that stands as b
+unfoldable pub show_text : List ℕ → ImageValue → List ℕ
+show_text b v = file_line v.header ++ (part_lines b v ++ (section_lines v ++ segment_lines v))
+
+-- the file is an image, and the text is of it; or the line is `refused` with the first broken rule and its lowest
+-- offset, which the verdict carries
+abbrev pub ShowSays : List ℕ → Verdict → List ℕ → Type 0
+ShowSays b Done text = (v : ImageValue) × IsImage v b × (text ≡ show_text b v)
+ShowSays b (Refused (File file rule at)) text = IsFault b (Some (rule, at)) × (file ≡ 0) × (text ≡ refused_line rule at)
+ShowSays b (Refused (Link rule file index entry)) text = ⊥
+ShowSays b (Refused TooLong) text = ⊥
+
+-- a call of `show`
+abbrev pub IsShown : Option (List ℕ) → Option (List ℕ) → Option (List ℕ) → Option (List ℕ) → Result Verdict ToolFault → Type 0
+IsShown = IsAnswered ShowSays

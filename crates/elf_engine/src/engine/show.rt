@@ -1,0 +1,130 @@
+//! `show`: the header, the parts, the sections and the segments of a file.
+ghost use Rattle.std.specs.Prelude.{◌≡◌, List, length, map};
+ghost use Rattle.std.specs.List.{flat_map};
+ghost use Rattle.elf_engine.specs.Engine.{IsWritten};
+ghost use Rattle.elf_engine.specs.Line.{refused_line as refused_line_of};
+ghost use Rattle.elf_engine.specs.Output.{IsBuffered};
+ghost use Rattle.elf_engine.specs.Show.{IsShown, section_lines, segment_lines, show_text};
+ghost use Rattle.elf_engine.specs.ShowLines.{part_line};
+
+use super::input::read_input;
+use super::output::Output;
+use crate::fault::{Refusal, ToolFault, Verdict};
+use crate::line::refused_line;
+use crate::show_lines::{push_file_line, push_part_line, push_section_line, push_segment_line};
+use elf_image::{Fault, Image, Part, parse, write_whole};
+use std::alloc::Global;
+use std::io::{Read, Write};
+
+/// Reads a whole file and writes a line on its header, and one on each of its parts, its sections and
+/// its segments, in this order; or the line `refused R A` with the first rule that it breaks and the
+/// lowest offset where it breaks it.
+///
+/// The verdict is what the text says. The text goes out in large pieces as it is made. Nothing is out
+/// after [`ToolFault::Read`]; after [`ToolFault::Write`] exactly the first `written` bytes of the text
+/// are; and after [`ToolFault::OutOfMemory`] a beginning of it may be.
+pub fn show<R: Read, W: Write>(
+    alloc: Global,
+    reader: &mut R,
+    writer: &mut W,
+) -> Result<Verdict, ToolFault>
+    ensures { IsShown (R.remaining reader.old) (R.remaining reader.new)
+        (W.contents writer.old) (W.contents writer.new) result }
+{
+    let mut buf = Vec::new(alloc);
+    read_input(reader, &mut buf)?;
+    let bytes = buf.as_slice();
+    match parse(alloc, bytes) {
+        Ok(image) => {
+            show_image(alloc, bytes, &image, writer)?;
+            Ok(Verdict::Done)
+        }
+        Err(Fault::Rule { rule, at }) => {
+            show_refusal(alloc, rule, at, writer)?;
+            Ok(Verdict::Refused(Refusal::File { file: 0, rule, at }))
+        }
+        Err(Fault::OutOfMemory) => Err(ToolFault::OutOfMemory),
+        // No reader is called while bytes are judged.
+        Err(Fault::Io { .. }) => unreachable!(),
+    }
+}
+
+fn show_refusal<W: Write>(
+    alloc: Global,
+    rule: u16,
+    at: u64,
+    writer: &mut W,
+) -> Result<(), ToolFault>
+    ensures { IsWritten (refused_line_of rule at) (W.contents writer.old) (W.contents writer.new) result }
+{
+    let line = refused_line(alloc, rule, at)?;
+    write_whole(writer, line.as_bytes())?;
+    Ok(())
+}
+
+// The lines on an image whose file has these bytes.
+fn show_image<W: Write>(
+    alloc: Global,
+    bytes: &[u8],
+    image: &Image<'_>,
+    writer: &mut W,
+) -> Result<(), ToolFault>
+    ensures { IsWritten (show_text bytes.now image.now) (W.contents writer.old) (W.contents writer.new) result }
+{
+    let mut output = Output::new(alloc);
+    push_file_line(&mut output.pending, &image.header())?;
+    show_parts(alloc, bytes, image.parts(), &mut output, writer)?;
+    show_sections(alloc, image, &mut output, writer)?;
+    show_segments(alloc, image, &mut output, writer)?;
+    output.flush(writer)
+}
+
+fn show_parts<W: Write>(
+    alloc: Global,
+    bytes: &[u8],
+    parts: &[Part],
+    output: &mut Output,
+    writer: &mut W,
+) -> Result<(), ToolFault>
+    ensures { IsBuffered (W.contents writer.old) (W.contents writer.new) output.old output.new
+        (flat_map (part_line bytes.now) parts.now) result }
+{
+    for part in parts {
+        push_part_line(alloc, &mut output.pending, bytes, *part)?;
+        output.flush_piece(writer)?;
+    }
+    Ok(())
+}
+
+fn show_sections<W: Write>(
+    alloc: Global,
+    image: &Image<'_>,
+    output: &mut Output,
+    writer: &mut W,
+) -> Result<(), ToolFault>
+    ensures { IsBuffered (W.contents writer.old) (W.contents writer.new) output.old output.new
+        (section_lines image.now) result }
+{
+    for i in 0..image.section_count() {
+        let section = image.section(i);
+        push_section_line(alloc, &mut output.pending, i, &section, image.name(i))?;
+        output.flush_piece(writer)?;
+    }
+    Ok(())
+}
+
+fn show_segments<W: Write>(
+    alloc: Global,
+    image: &Image<'_>,
+    output: &mut Output,
+    writer: &mut W,
+) -> Result<(), ToolFault>
+    ensures { IsBuffered (W.contents writer.old) (W.contents writer.new) output.old output.new
+        (segment_lines image.now) result }
+{
+    for j in 0..image.segment_count() {
+        push_segment_line(&mut output.pending, j, &image.segment(j))?;
+        output.flush_piece(writer)?;
+    }
+    Ok(())
+}

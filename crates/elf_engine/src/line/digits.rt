@@ -1,0 +1,40 @@
+//! The digits of numbers. A line of `show` has a dozen of them, and through a format each would cost
+//! several times as much.
+ghost use Rattle.std.specs.Prelude.{◌≡◌, ◌<◌, ◌≤◌, false, drop};
+ghost use Rattle.std.specs.Fmt.{digit_glyph, digits};
+
+/// A number of 64 bits has no more digits than these, in any base.
+pub(super) const MOST_DIGITS: usize = 64;
+
+/// Puts the digits at the end of `out`, and answers where they start. It is inlined for the sake of
+/// the base, so that no division is left.
+#[inline(always)]
+pub(super) fn put_digits(number: u64, base: u64, out: &mut [u8; MOST_DIGITS]) -> usize
+    requires least { 2 ≤ base }
+    requires most { base ≤ 16 }
+    ensures inside { result ≤ 64 }
+    ensures digits { drop result out.new ≡ digits base false number }
+{
+    let mut start = MOST_DIGITS;
+    let mut rest = number;
+    while start > 0 {
+        start -= 1;
+        out[start] = glyph(rest % base);
+        rest /= base;
+        if rest == 0 {
+            break;
+        }
+    }
+    start
+}
+
+fn glyph(digit: u64) -> u8
+    requires { digit < 16 }
+    ensures { result ≡ digit_glyph false digit }
+{
+    if digit < 10 {
+        b'0' + digit as u8
+    } else {
+        b'a' + (digit as u8 - 10)
+    }
+}

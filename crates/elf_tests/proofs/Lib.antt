@@ -1,0 +1,2 @@
+-- Lemmas on what the program's exit status says.
+pub mod Statuses

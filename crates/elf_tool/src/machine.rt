@@ -1,0 +1,33 @@
+//! The program on the machine.
+ghost use Rattle.std.specs.Prelude.{◌≡◌};
+ghost use Rattle.elf_tool.specs.Program.{code_of};
+ghost use Rattle.elf_tool.specs.declared.program.Status.{Status as Ending};
+
+use crate::opener::MachineFiles;
+use crate::program::{refuse_words, run};
+use std::{env, io};
+
+/// Runs the program over the machine's words and files, standard output and standard error. Answers
+/// the exit status, as [`run`] does.
+pub fn run_on_machine(rt: &HostRuntime) -> u8
+    ensures { (status : Ending) × (result ≡ code_of status) }
+{
+    let mut err = rt.stderr();
+    match words_of(rt) {
+        Ok(words) => {
+            let mut files = MachineFiles { files: rt };
+            run(
+                rt.alloc(),
+                words.as_slice(),
+                &mut files,
+                &mut rt.stdout(),
+                &mut err,
+            )
+        }
+        Err(error) => refuse_words(&error, &mut err),
+    }
+}
+
+fn words_of(rt: &HostRuntime) -> io::Result<Vec<String>> {
+    Ok(env::args(rt)?.collect(rt.alloc())?)
+}
