@@ -2,6 +2,7 @@
 use Rattle.std.proofs.Common.{◌≡◌, ◌<◌, ℕ, List, length, take, sym, ap, subst, ◌∙◌, arith}
 use Rattle.elf_field.specs.declared.order.Order.{Order}
 use Rattle.elf_field.specs.declared.ehdr.Ehdr.{Ehdr}
+use Rattle.elf_field.specs.declared.shdr.Shdr.{Shdr}
 use Rattle.elf_field.specs.BytesLaws.{first_bytes-take}
 use Rattle.elf_field.specs.Ehdr.{IsEhdrAt}
 use Rattle.elf_field.specs.EhdrLaws.{ehdr_fields_at}
@@ -11,6 +12,7 @@ use Rattle.elf_field.specs.Phdr.{IsPhdrAt}
 use Rattle.elf_field.specs.PhdrLaws.{phdr_fields_at}
 use Rattle.elf_rules.specs.Tables.{header, order_of, phdr_offset, sections, segments, shdr_offset}
 use Rattle.elf_image.specs.Image.{ImageValue, IsImage, no_section, no_segment, section_of, segment_of}
+use Rattle.elf_rules.proofs.Clean.{sections_read_at}
 use Rattle.elf_image.proofs.Standing.{clean_of, table_there}
 use Rattle.elf_image.proofs.Stands.{entry_at}
 use Rattle.elf_image.proofs.Theorem.{counted_by_bytes, shared_by_bytes}
@@ -28,15 +30,15 @@ header_fields v b image =
 
 pub section_fields : (v : ImageValue) (b : List ℕ) (k : ℕ) → IsImage v b → k < length v.sections →
     IsShdrAt (order_of v.header.e_ident) b (shdr_offset v.header k) (section_of v.sections k)
-unfolding sections
 section_fields v b k image below =
     let stands = image.stands in
     let whole = stands.len in
     let counted = counted_by_bytes v b image in
     let count = counted.section_count in
     let shared = (shared_by_bytes v b image).count in
-    let table = (clean_of v counted).section_table (table_there v counted (omega arith)) in
-    let read = entry_at (sections b v.header) v.sections no_section _ (sym stands.tables.section_headers) k (omega arith) in
+    let there = table_there v counted (omega arith) in
+    let table = (clean_of v counted).section_table there in
+    let read = ap (λ (f : ℕ → Shdr). f k) (sym (sections_read_at b v.header there)) ∙ entry_at (sections b v.header) v.sections no_section _ (sym stands.tables.section_headers) k (omega arith) in
     subst (IsShdrAt (order_of v.header.e_ident) b (shdr_offset v.header k)) read
     (shdr_fields_at (order_of v.header.e_ident) b (shdr_offset v.header k) (omega arith) stands.bytes)
 

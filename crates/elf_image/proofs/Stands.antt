@@ -24,8 +24,8 @@ use Rattle.elf_image.specs.declared.part.Owner.{Owner}
 use Rattle.elf_image.specs.declared.part.Owner.TheVariants.{Header, ProgramTable, SectionTable, Content, Gap}
 use Rattle.elf_image.specs.Image.{ImageValue, IsSound, PlacedPart, Stands, gap_in, gap_len, if_gap, joined, no_section, owned_bytes, part_bytes, section_of}
 use Rattle.elf_image.proofs.Holds.{holds_content, holds_header, holds_sections, holds_segments, in_joined, length-joined}
-use Rattle.elf_rules.proofs.Same.{same_section_count, same_segment_count}
-use Rattle.elf_image.proofs.Standing.{clean_of, counted_of}
+use Rattle.elf_rules.proofs.Clean.{sections_none, sections_read_at}
+use Rattle.elf_image.proofs.Standing.{clean_of, counted_of, table_there}
 use Rattle.elf_image.proofs.Tables.{IsBytes-table, entries_read, record_read}
 
 -- ---- the joined parts are bytes
@@ -67,11 +67,14 @@ header_read b h fits stand =
     rw same (sym (record_read ehdr_laws o b 0 h fits stand))
 
 -- the section headers, as many as there are
-sections_read : (b : List ℕ) (h : Ehdr) (ss : List Shdr) → AllByRecursion IsShdr ss → take (64 * length ss) (drop h.e_shoff b) ≡ flat_map (shdr_bytes (order_of h.e_ident)) ss →
+sections_read : (b : List ℕ) (h : Ehdr) (ss : List Shdr) → (0 < length ss → h.e_shoff ≢ 0) → AllByRecursion IsShdr ss → take (64 * length ss) (drop h.e_shoff b) ≡ flat_map (shdr_bytes (order_of h.e_ident)) ss →
     map (sections b h) (range_with_len 0 (length ss)) ≡ ss
-unfolding sections
-sections_read b h ss fit stand =
-    entries_read shdr_laws (order_of h.e_ident) b h.e_shoff 0 ss fit (ap (λ (x : ℕ). take (64 * length ss) (drop x b)) (add-zero h.e_shoff) ∙ stand)
+sections_read b h [] table fit stand = refl
+sections_read b h (s ∷ ss) table fit stand =
+    let there : h.e_shoff ≢ 0 = table (omega arith) in
+    let n = length (s ∷ ss) in
+    ap (λ (f : ℕ → Shdr). map f (range_with_len 0 n)) (sections_read_at b h there)
+    ∙ entries_read shdr_laws (order_of h.e_ident) b h.e_shoff 0 (s ∷ ss) fit (ap (λ (x : ℕ). take (64 * n) (drop x b)) (add-zero h.e_shoff) ∙ stand)
 
 segments_read : (b : List ℕ) (h : Ehdr) (gs : List Phdr) → AllByRecursion IsPhdr gs → take (56 * length gs) (drop h.e_phoff b) ≡ flat_map (phdr_bytes (order_of h.e_ident)) gs →
     map (segments b h) (range_with_len 0 (length gs)) ≡ gs
@@ -85,32 +88,37 @@ entry_at f xs d n same i lt = sym (get_or-map-range_with_len f 0 n i i d lt (ome
 
 -- ---- the value and its joined parts agree, as far as the rules look
 
--- section header 0 of the joined parts is the value's, where there is a section table
-first_of : (v : ImageValue) → IsSound v → (v.header.e_shoff ≡ 0) ⊎ (sections (joined v) v.header 0 ≡ section_of v.sections 0)
+-- a list of no section headers has zeros for section header 0
+pub first_of_none : (ss : List Shdr) → length ss ≡ 0 → section_of ss 0 ≡ no_section
+first_of_none ss none = ap (λ (xs : List Shdr). section_of xs 0) (nil_from_length ss none)
+
+sections_joined : (v : ImageValue) → IsSound v → map (sections (joined v) v.header) (range_with_len 0 (length v.sections)) ≡ v.sections
+sections_joined v sound =
+    sections_read (joined v) v.header v.sections (table_there v (counted_of v sound)) sound.section_headers (holds_sections v sound)
+
+-- section header 0 of the joined parts is the value's
+first_of : (v : ImageValue) → IsSound v → sections (joined v) v.header 0 ≡ section_of v.sections 0
 first_of v sound = elim (cases_eq v.header.e_shoff 0) [
-  | inl none ↦ inl none
+  | inl none ↦
+      (let no_sections : length v.sections ≡ 0 = sound.section_count ∙ rw none refl in
+      ap (λ (f : ℕ → Shdr). f 0) (sections_none (joined v) v.header none) ∙ sym (first_of_none v.sections no_sections))
   | inr there ↦
       (let some = (clean_of v (counted_of v sound)).some there in
       let count = sound.section_count in
-      let read = sections_read (joined v) v.header v.sections sound.section_headers (holds_sections v sound) in
-      inr (entry_at (sections (joined v) v.header) v.sections no_section (length v.sections) read 0 (omega arith)))
+      entry_at (sections (joined v) v.header) v.sections no_section (length v.sections) (sections_joined v sound) 0 (omega arith))
 ]
 
 pub stands_sections : (v : ImageValue) → IsSound v →
     v.sections ≡ map (sections (joined v) v.header) (range_with_len 0 (section_count v.header (sections (joined v) v.header 0)))
 stands_sections v sound =
-    let read = sections_read (joined v) v.header v.sections sound.section_headers (holds_sections v sound) in
-    let count = sound.section_count ∙ sym (same_section_count v.header _ _ (first_of v sound)) in
-    sym read ∙ ap (λ (n : ℕ). map (sections (joined v) v.header) (range_with_len 0 n)) count
-
-few : (v : ImageValue) → IsSound v → v.header.e_shoff ≡ 0 → v.header.e_phnum ≢ 0xffff
-few v sound = (clean_of v (counted_of v sound)).few_segments
+    let count = sound.section_count ∙ sym (ap (section_count v.header) (first_of v sound)) in
+    sym (sections_joined v sound) ∙ ap (λ (n : ℕ). map (sections (joined v) v.header) (range_with_len 0 n)) count
 
 pub stands_segments : (v : ImageValue) → IsSound v →
     v.segments ≡ map (segments (joined v) v.header) (range_with_len 0 (segment_count v.header (sections (joined v) v.header 0)))
 stands_segments v sound =
     let read = segments_read (joined v) v.header v.segments sound.program_headers (holds_segments v sound) in
-    let count = sound.segment_count ∙ sym (same_segment_count v.header _ _ (first_of v sound) (few v sound)) in
+    let count = sound.segment_count ∙ sym (ap (segment_count v.header) (first_of v sound)) in
     sym read ∙ ap (λ (n : ℕ). map (segments (joined v) v.header) (range_with_len 0 n)) count
 
 -- contents that stand at their extents are those read there

@@ -25,12 +25,12 @@ use Rattle.elf_rules.specs.Tables.{bytes_in, content_extent, header, name_table,
 use Rattle.elf_image.specs.declared.part.Owner.{Owner}
 use Rattle.elf_image.specs.declared.part.Owner.TheVariants.{Header, ProgramTable, SectionTable, Content, Gap}
 use Rattle.elf_image.specs.Image.{AreTables, ImageValue, IsImage, IsSound, PlacedPart, Stands, gap_in, gap_len, if_gap, index_of, joined, no_section, no_segment, owned_bytes, part_bytes, piece_of, section_of, segment_of, value_extents, value_names, value_rows}
-use Rattle.elf_rules.proofs.Clean.{clean_records, sound_tables}
+use Rattle.elf_rules.proofs.Clean.{clean_records, sections_none, sections_read_at, sound_tables, table_some}
 use Rattle.elf_image.proofs.Holds as holds
 use Rattle.elf_image.proofs.Joins.{HaveLengths, flat_parts_are}
-use Rattle.elf_rules.proofs.Same.{Agree, same_clean, same_name_table, same_section_count, same_segment_count}
+use Rattle.elf_rules.proofs.Same.{Agree, same_clean}
 use Rattle.elf_image.proofs.Standing.{IsCounted, clean_of, content_within, counted_of, table_there}
-use Rattle.elf_image.proofs.Stands.{content_is, entry_at, joined_stands}
+use Rattle.elf_image.proofs.Stands.{content_is, entry_at, first_of_none, joined_stands}
 use Rattle.elf_image.proofs.Tables.{entries_bytes, entries_fit, record_bytes}
 
 -- the parts' bytes have the parts' lengths
@@ -54,33 +54,34 @@ reads_of v b stands = record {
 
 -- what both sides have in common, said of a value that is read of b
 pub record IsShared (v : ImageValue) (b : List ℕ) : Type 0 where
-  pub first : (v.header.e_shoff ≡ 0) ⊎ (sections b v.header 0 ≡ section_of v.sections 0)
+  pub first : sections b v.header 0 ≡ section_of v.sections 0
   pub count : length v.sections ≡ section_count v.header (sections b v.header 0)
   pub segment_count : length v.segments ≡ segment_count v.header (sections b v.header 0)
-  pub few : v.header.e_shoff ≡ 0 → v.header.e_phnum ≢ 0xffff
   pub unnamed : v.header.e_shoff ≡ 0 → v.header.e_shstrndx ≡ 0
   pub named : v.header.e_shoff ≢ 0 → name_table v.header (section_of v.sections 0) < length v.sections
 
--- where there is a section table, it has entries
+-- section header 0 of the byte list is the value's, where a section table has entries
 first_from : (v : ImageValue) (b : List ℕ) → Reads v b → (v.header.e_shoff ≢ 0 → 0 < length v.sections) →
-    (v.header.e_shoff ≡ 0) ⊎ (sections b v.header 0 ≡ section_of v.sections 0)
-first_from v b stands some = elim (cases_eq v.header.e_shoff 0) [
-  | inl none ↦ inl none
-  | inr there ↦
-      (let n = section_count v.header (sections b v.header 0) in
-      let count : length v.sections ≡ n = ap length stands.tables.section_headers ∙ length-map-range_with_len (sections b v.header) 0 n in
-      let positive = some there in
-      inr (entry_at (sections b v.header) v.sections no_section n (sym stands.tables.section_headers) 0 (omega arith)))
-]
+    sections b v.header 0 ≡ section_of v.sections 0
+first_from v b stands some =
+    let n = section_count v.header (sections b v.header 0) in
+    let count : length v.sections ≡ n = ap length stands.tables.section_headers ∙ length-map-range_with_len (sections b v.header) 0 n in
+    elim (cases_eq v.header.e_shoff 0) [
+      | inl none ↦
+          (let no_sections : length v.sections ≡ 0 = count ∙ rw none refl in
+          ap (λ (f : ℕ → Shdr). f 0) (sections_none b v.header none) ∙ sym (first_of_none v.sections no_sections))
+      | inr there ↦
+          (let positive = some there in
+          entry_at (sections b v.header) v.sections no_section n (sym stands.tables.section_headers) 0 (omega arith))
+    ]
 
 shared_of : (v : ImageValue) (b : List ℕ) → Reads v b → (v.header.e_shoff ≢ 0 → 0 < length v.sections) →
-    (v.header.e_shoff ≡ 0 → v.header.e_phnum ≢ 0xffff) → (v.header.e_shoff ≡ 0 → v.header.e_shstrndx ≡ 0) →
+    (v.header.e_shoff ≡ 0 → v.header.e_shstrndx ≡ 0) →
     (v.header.e_shoff ≢ 0 → name_table v.header (section_of v.sections 0) < length v.sections) → IsShared v b
-shared_of v b stands some few unnamed named = record {
+shared_of v b stands some unnamed named = record {
   first = first_from v b stands some;
   count = ap length stands.tables.section_headers ∙ length-map-range_with_len (sections b v.header) 0 _;
   segment_count = ap length stands.tables.program_headers ∙ length-map-range_with_len (segments b v.header) 0 _;
-  few = few;
   unnamed = unnamed;
   named = named;
 }
@@ -97,10 +98,10 @@ agree_back : (v : ImageValue) (b : List ℕ) → Reads v b → IsShared v b →
     Agree v.header (section_of v.sections) (sections b v.header) (segment_of v.segments) (segments b v.header)
 agree_back v b stands shared =
     let there = agree_from v b stands shared in
-    let count = same_section_count v.header _ _ shared.first in
-    let segment = same_segment_count v.header _ _ shared.first shared.few in
+    let count = ap (section_count v.header) shared.first in
+    let segment = ap (segment_count v.header) shared.first in
     record {
-      first = elim shared.first [ inl none ↦ inl none | inr same ↦ inr (sym same) ];
+      first = sym shared.first;
       sections = λ i lt. sym (there.sections i (omega arith));
       segments = λ j lt. sym (there.segments j (omega arith));
     }
@@ -109,7 +110,7 @@ agree_back v b stands shared =
 names_same : (v : ImageValue) (b : List ℕ) → Reads v b → IsShared v b → names b v.header ≡ value_names v.header v.sections v.contents
 unfolding names names_at
 names_same v b stands shared =
-    let table = same_name_table v.header _ _ shared.first shared.unnamed in
+    let table = ap (name_table v.header) shared.first in
     rw table (elim (cases_eq (name_table v.header (section_of v.sections 0)) 0) [
       | inl none ↦ rw none refl
       | inr other ↦ rw (ne_eqb _ 0 other) (content_there other)
@@ -157,8 +158,8 @@ shared_by_reads v b stands clean =
     let count : length v.sections ≡ n = ap length stands.tables.section_headers ∙ length-map-range_with_len (sections b v.header) 0 n in
     let some : v.header.e_shoff ≢ 0 → 0 < length v.sections = λ there. let lt = facts.some there in omega arith in
     let first = first_from v b stands some in
-    let table = same_name_table v.header _ _ first facts.no_names in
-    shared_of v b stands some facts.few_segments facts.no_names (λ there. let lt = facts.name_table there in omega arith)
+    let table = ap (name_table v.header) first in
+    shared_of v b stands some facts.no_names (λ there. let lt = facts.name_table there in omega arith)
 
 -- the value that stands as a clean byte list is clean
 clean_value : (v : ImageValue) (b : List ℕ) → Reads v b → FirstIn (rows b) None → FirstIn (value_rows v) None
@@ -171,8 +172,8 @@ pub counted_by_reads : (v : ImageValue) (b : List ℕ) → Reads v b → FirstIn
 counted_by_reads v b stands clean =
     let shared = shared_by_reads v b stands clean in
     record {
-      section_count = shared.count ∙ same_section_count v.header _ _ shared.first;
-      segment_count = shared.segment_count ∙ same_segment_count v.header _ _ shared.first shared.few;
+      section_count = shared.count ∙ ap (section_count v.header) shared.first;
+      segment_count = shared.segment_count ∙ ap (segment_count v.header) shared.first;
       clean = clean_value v b stands clean;
     }
 
@@ -188,7 +189,7 @@ stands_is_image v b sound stands =
     let facts = clean_of v (counted_of v sound) in
     let count = sound.section_count in
     let reads = reads_of v b stands in
-    let shared = shared_of v b reads (λ there. let lt = facts.some there in omega arith) facts.few_segments facts.no_names
+    let shared = shared_of v b reads (λ there. let lt = facts.some there in omega arith) facts.no_names
     (λ there. let lt = facts.name_table there in omega arith) in
     record { stands = stands; clean = clean_bytes v b reads shared sound.clean }
 
@@ -207,11 +208,11 @@ header_bytes b h are long same =
     let order : order_of h.e_ident ≡ o = ap order_of ident in
     ap₂ ehdr_bytes order same ∙ record_bytes ehdr_laws o b 0 are (omega arith)
 
-section_bytes : (b : List ℕ) (h : Ehdr) (n : ℕ) → IsBytes b → h.e_shoff + 64 * n ≤ length b →
+section_bytes : (b : List ℕ) (h : Ehdr) (n : ℕ) → h.e_shoff ≢ 0 → IsBytes b → h.e_shoff + 64 * n ≤ length b →
     flat_map (shdr_bytes (order_of h.e_ident)) (map (sections b h) (range_with_len 0 n)) ≡ take (64 * n) (drop h.e_shoff b)
-unfolding sections
-section_bytes b h n are within =
-    entries_bytes shdr_laws (order_of h.e_ident) b h.e_shoff 0 n are (omega arith) ∙ ap (λ (x : ℕ). take (64 * n) (drop x b)) (add-zero h.e_shoff)
+section_bytes b h n there are within =
+    ap (λ (f : ℕ → Shdr). flat_map (shdr_bytes (order_of h.e_ident)) (map f (range_with_len 0 n))) (sections_read_at b h there)
+    ∙ entries_bytes shdr_laws (order_of h.e_ident) b h.e_shoff 0 n are (omega arith) ∙ ap (λ (x : ℕ). take (64 * n) (drop x b)) (add-zero h.e_shoff)
 
 segment_bytes : (b : List ℕ) (h : Ehdr) (n : ℕ) → IsBytes b → h.e_phoff + 56 * n ≤ length b →
     flat_map (phdr_bytes (order_of h.e_ident)) (map (segments b h) (range_with_len 0 n)) ≡ take (56 * n) (drop h.e_phoff b)
@@ -245,11 +246,12 @@ owned_at v b image SectionTable gap start len some owned gaps =
     let e = holds.same_start _ _ owned in
     let l = holds.same_len _ _ owned in
     let positive : 0 < length v.sections = omega arith in
-    let within = facts.section_table (table_there v counted positive) in
+    let there = table_there v counted positive in
+    let within = facts.section_table there in
     let count = counted.section_count in
     let same = (shared_by_bytes v b image).count in
     ap (flat_map (shdr_bytes (order_of v.header.e_ident))) (stands.tables.section_headers ∙ ap (λ (n : ℕ). map (sections b v.header) (range_with_len 0 n)) (sym same))
-    ∙ section_bytes b v.header (length v.sections) stands.bytes (omega arith) ∙ ap₂ (λ (m n : ℕ). take m (drop n b)) l e
+    ∙ section_bytes b v.header (length v.sections) there stands.bytes (omega arith) ∙ ap₂ (λ (m n : ℕ). take m (drop n b)) l e
 owned_at v b image ProgramTable gap start len some owned gaps =
     let stands = image.stands in
     let counted = counted_by_bytes v b image in
@@ -321,9 +323,11 @@ gaps_sound b es total at (p ∷ ps) are whole accounts gaps =
       gaps_sound b es total (at + p.part.len) ps are whole accounts.3 gaps.1,
     )
 
-fit_sections : (b : List ℕ) (h : Ehdr) (n : ℕ) → IsBytes b → AllByRecursion IsShdr (map (sections b h) (range_with_len 0 n))
-unfolding sections
-fit_sections b h n are = entries_fit shdr_laws (order_of h.e_ident) b h.e_shoff 0 n are
+fit_sections : (b : List ℕ) (h : Ehdr) (n : ℕ) → (0 < n → h.e_shoff ≢ 0) → IsBytes b → AllByRecursion IsShdr (map (sections b h) (range_with_len 0 n))
+fit_sections b h zero table are = tt
+fit_sections b h (suc n) table are =
+    subst (λ (f : ℕ → Shdr). AllByRecursion IsShdr (map f (range_with_len 0 (suc n)))) (sym (sections_read_at b h (table (omega arith))))
+    (entries_fit shdr_laws (order_of h.e_ident) b h.e_shoff 0 (suc n) are)
 
 fit_segments : (b : List ℕ) (h : Ehdr) (n : ℕ) → IsBytes b → AllByRecursion IsPhdr (map (segments b h) (range_with_len 0 n))
 unfolding segments
@@ -340,7 +344,7 @@ image_is_sound v b image =
     let whole = stands.len in
     record {
       header = subst IsEhdr (sym stands.tables.header) (fit_header b stands.bytes);
-      section_headers = subst (AllByRecursion IsShdr) (sym stands.tables.section_headers) (fit_sections b v.header _ stands.bytes);
+      section_headers = subst (AllByRecursion IsShdr) (sym stands.tables.section_headers) (fit_sections b v.header _ (table_some v.header (sections b v.header 0)) stands.bytes);
       program_headers = subst (AllByRecursion IsPhdr) (sym stands.tables.program_headers) (fit_segments b v.header _ stands.bytes);
       section_count = counted.section_count;
       segment_count = counted.segment_count;

@@ -14,6 +14,7 @@ use Rattle.elf_extent.specs.declared.extent.Piece.{Piece}
 use Rattle.elf_extent.specs.Account.{Accounts}
 use Rattle.elf_rules.specs.Rows.{Ruled, FirstIn}
 use Rattle.elf_rules.specs.Tables.{bytes_in, content_extent, header, name_table, order_of, section_count, sections, segment_count, segments}
+pub use Rattle.elf_rules.specs.Tables.{no_section, no_segment, section_of, segment_of}
 use Rattle.elf_rules.specs.ImageRules.{image_rows, rows}
 use Rattle.elf_image.specs.declared.part.Owner.{Owner}
 use Rattle.elf_image.specs.declared.part.Owner.TheVariants.{Header, ProgramTable, SectionTable, Content, Gap}
@@ -34,20 +35,6 @@ pub record ImageValue : Type 0 where
   pub parts : List PlacedPart
 
 -- ---- what the value says by itself
-
--- the section header that stands for one that isn't there
-abbrev pub no_section : Shdr
-no_section = record { sh_name = 0; sh_type = 0; sh_flags = 0; sh_addr = 0; sh_offset = 0; sh_size = 0; sh_link = 0; sh_info = 0; sh_addralign = 0; sh_entsize = 0 }
-
--- the program header that stands for one that isn't there
-abbrev pub no_segment : Phdr
-no_segment = record { p_type = 0; p_flags = 0; p_offset = 0; p_vaddr = 0; p_paddr = 0; p_filesz = 0; p_memsz = 0; p_align = 0 }
-
-abbrev pub section_of : List Shdr → ℕ → Shdr
-section_of ss i = get_or ss i no_section
-
-abbrev pub segment_of : List Phdr → ℕ → Phdr
-segment_of gs j = get_or gs j no_segment
 
 -- the extents of the header, the section table, the program table, and from index 3 on of each section's content
 abbrev pub value_extents : Ehdr → List Shdr → List Phdr → List Extent

@@ -9,8 +9,8 @@ ghost use Rattle.elf_image.specs.Strings.{section_name, string};
 use crate::edits::{NoSection, ReplaceFault};
 use crate::outline::Outline;
 use crate::part::Part;
-use elf_field::{Ehdr, Order, Phdr, Shdr};
 use elf_field::abi::{SHT_NOBITS, SHT_NULL};
+use elf_field::{Ehdr, Order, Phdr, Shdr};
 use memchr::memchr;
 use std::marker::Model;
 

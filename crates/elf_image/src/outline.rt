@@ -7,8 +7,8 @@ ghost use Rattle.elf_image.specs.Outline.{outline_value};
 
 use crate::edits::NoSection;
 use crate::part::Part;
-use elf_field::{Ehdr, Order, Phdr, Shdr};
 use elf_field::abi::SHN_XINDEX;
+use elf_field::{Ehdr, Order, Phdr, Shdr};
 use elf_rules::tables::order_in;
 use std::marker::Model;
 

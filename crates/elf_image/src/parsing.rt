@@ -1,10 +1,11 @@
 //! From a file's bytes to its image.
-ghost use Rattle.std.specs.Prelude.{◌≡◌, ◌+◌, ◌*◌, ◌<◌, ◌≤◌, ◌^◌, IfErr, IfOk, length, map};
+ghost use Rattle.std.specs.Prelude.{◌≡◌, ◌*◌, ◌<◌, ◌^◌, IfErr, IfOk, length, map};
 ghost use Rattle.std.specs.List.{range_with_len};
 ghost use Rattle.elf_extent.specs.Account.{Accounts};
 ghost use Rattle.elf_extent.specs.Extent.{AreDisjoint, AreWithin};
-ghost use Rattle.elf_rules.specs.ImageRules.{IsFault, KeepsRecordRules};
-ghost use Rattle.elf_rules.specs.Tables.{bytes_in, content_extent, phdr_offset, sections, segments, shdr_offset};
+ghost use Rattle.elf_rules.specs.ImageRules.{IsFault};
+ghost use Rattle.elf_rules.specs.JudgedRecords.{file_of};
+ghost use Rattle.elf_rules.specs.Tables.{bytes_in, content_extent, file_counts, header, sections, segments};
 ghost use Rattle.elf_image.specs.Image.{AreTables, IsImage, index_of, part_piece, value_extents};
 ghost use Rattle.elf_image.specs.Parsing.{IsParseFault};
 
@@ -12,12 +13,11 @@ use crate::fault::Fault;
 use crate::image::Image;
 use crate::outline::Outline;
 use crate::part::{Owner, Part};
-use elf_extent::{Extent, OutOfMemory, Piece, account, first_double};
+use elf_extent::{Extent, OutOfMemory, Piece, account};
 use elf_field::{Ehdr, Phdr, Shdr};
 use elf_rules::content::{content_of, extent_of_content};
-use elf_rules::judge_records;
 use elf_rules::rules::SHARED_BYTE;
-use elf_rules::tables::{header_of, section_at, section_count_of, segment_at, segment_count_of};
+use elf_rules::{JudgedRecords, judge_records};
 use std::alloc::{AllocError, Global};
 
 /// The image that these bytes are: an ELF-64 file that breaks no rule, its tables copied once and
@@ -30,15 +30,15 @@ pub fn parse<'a>(alloc: Global, bytes: &'a [u8]) -> Result<Image<'a>, Fault>
     ensures ok { IfOk result (λ image. IsImage image bytes.entry.now) }
     ensures err { IfErr result (λ fault. IsParseFault bytes.entry.now fault) }
 {
-    judge_records(bytes)?;
-    let tables = read_tables(alloc, bytes)?;
-    let extents = extents_of(alloc, &tables.header, &tables.sections, &tables.segments)?;
-    if let Some(at) = first_double(alloc, &extents)? {
+    let records = judge_records(bytes)?;
+    if let Some(at) = records.shared_byte_by_sorting(alloc)? {
         return Err(Fault::Rule {
             rule: SHARED_BYTE,
             at,
         });
     }
+    let tables = read_tables(alloc, &records)?;
+    let extents = extents_of(alloc, &tables.header, &tables.sections, &tables.segments)?;
     match build(alloc, bytes, tables, &extents) {
         Ok(image) => Ok(image),
         Err(_) => Err(Fault::OutOfMemory),
@@ -77,16 +77,13 @@ fn build<'a>(
 }
 
 /// The tables of a file that keeps rules 1 to 32.
-fn read_tables(alloc: Global, bytes: &[u8]) -> Result<Tables, AllocError>
-    requires { KeepsRecordRules bytes.now }
-    ensures { IfOk result (λ t. AreTables bytes.now t.header t.sections.items t.segments.items) }
+fn read_tables(alloc: Global, records: &JudgedRecords<'_>) -> Result<Tables, AllocError>
+    ensures { IfOk result (λ t. AreTables (file_of records.now) t.header t.sections.items t.segments.items) }
 {
-    let header = header_of(bytes);
-    let first = section_at(bytes, &header, 0);
-    let sections = section_headers(alloc, bytes, &header, section_count_of(&header, &first))?;
-    let segments = program_headers(alloc, bytes, &header, segment_count_of(&header, &first))?;
+    let sections = section_headers(alloc, records)?;
+    let segments = program_headers(alloc, records)?;
     Ok(Tables {
-        header,
+        header: records.header(),
         sections,
         segments,
     })
@@ -104,36 +101,26 @@ fn account_parts(alloc: Global, extents: &[Extent], len: u64) -> Result<Vec<Part
     }
 }
 
-/// The section headers of a file with so many of them, in a table of their own.
-fn section_headers(
-    alloc: Global,
-    bytes: &[u8],
-    header: &Ehdr,
-    count: u64,
-) -> Result<Vec<Shdr>, AllocError>
-    requires { shdr_offset header.now count ≤ length bytes.now }
-    ensures { IfOk result (λ v. v.items ≡ map (sections bytes.now header.now) (range_with_len 0 count)) }
+/// The section headers of a file, in a table of their own.
+fn section_headers(alloc: Global, records: &JudgedRecords<'_>) -> Result<Vec<Shdr>, AllocError>
+    ensures { let b = file_of records.now in
+        IfOk result (λ v. v.items ≡ map (sections b (header b)) (range_with_len 0 (file_counts b).sections)) }
 {
     let mut entries = Vec::new(alloc);
-    for index in 0..count {
-        entries.push(section_at(bytes, header, index))?;
+    for index in 0..records.section_count() {
+        entries.push(records.section(index))?;
     }
     Ok(entries)
 }
 
-/// The program headers of a file with so many of them.
-fn program_headers(
-    alloc: Global,
-    bytes: &[u8],
-    header: &Ehdr,
-    count: u64,
-) -> Result<Vec<Phdr>, AllocError>
-    requires { 0 < count → phdr_offset header.now count ≤ length bytes.now }
-    ensures { IfOk result (λ v. v.items ≡ map (segments bytes.now header.now) (range_with_len 0 count)) }
+/// The program headers of a file.
+fn program_headers(alloc: Global, records: &JudgedRecords<'_>) -> Result<Vec<Phdr>, AllocError>
+    ensures { let b = file_of records.now in
+        IfOk result (λ v. v.items ≡ map (segments b (header b)) (range_with_len 0 (file_counts b).segments)) }
 {
     let mut entries = Vec::new(alloc);
-    for index in 0..count {
-        entries.push(segment_at(bytes, header, index))?;
+    for index in 0..records.segment_count() {
+        entries.push(records.segment(index))?;
     }
     Ok(entries)
 }

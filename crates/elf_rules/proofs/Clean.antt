@@ -5,6 +5,7 @@ use Rattle.std.proofs.lemmas.Option.{slice_get_within}
 use Rattle.elf_field.specs.declared.ehdr.Ehdr.{Ehdr}
 use Rattle.elf_field.specs.declared.shdr.Shdr.{Shdr}
 use Rattle.elf_field.specs.declared.phdr.Phdr.{Phdr}
+use Rattle.elf_field.specs.Shdr.{shdr_at}
 use Rattle.elf_extent.specs.declared.extent.Extent.{Extent}
 use Rattle.elf_extent.specs.Extent.{AreDisjoint, AreWithin}
 use Rattle.elf_rules.specs.Rows.{FirstIn}
@@ -17,7 +18,7 @@ use Rattle.elf_rules.specs.NameRules.{name_rows}
 use Rattle.elf_rules.specs.OverlapRule.{extents}
 use Rattle.elf_rules.specs.ImageRules.{IsFault, KeepsRecordRules, entry_rows, image_rows, record_rows, rows, table_rows}
 use Rattle.elf_rules.specs.SoundTables.{HasSoundTables}
-use Rattle.elf_rules.specs.Tables.{content_extent, header, name_table, names, phdr_offset, section_count, sections, segment_count, segments, shdr_offset}
+use Rattle.elf_rules.specs.Tables.{content_extent, header, name_table, names, no_section, order_of, phdr_offset, section_count, sections, segment_count, segments, shdr_offset}
 use Rattle.elf_rules.proofs.Extents.{content_at, length-extents}
 use Rattle.elf_rules.proofs.Rows.{FirstIn-front, unbroken}
 
@@ -166,12 +167,9 @@ pub sound_file : (b : List ℕ) (h : Ehdr) → h ≡ header b → KeepsRecordRul
 sound_file b h same kept = subst (λ (k : Ehdr). HasSoundTables (length b) k (sections b k)) (sym same)
     (sound_tables (length b) (header b) (sections b (header b)) (segments b (header b)) (names b (header b)) kept)
 
--- section header 0 lies in the file, or what is read in its place without a section table does
-pub first_there : (b : List ℕ) (h : Ehdr) → HasSoundTables (length b) h (sections b h) → shdr_offset h 0 + 64 ≤ length b
-first_there b h sound = elim (cases_eq h.e_shoff 0) [
-  | inl none ↦ (let long = sound.header in omega arith)
-  | inr there ↦ (let table = sound.section_table there in let some = sound.some there in omega arith)
-]
+-- section header 0 lies in the file where there is a section table
+pub first_there : (b : List ℕ) (h : Ehdr) → HasSoundTables (length b) h (sections b h) → h.e_shoff ≢ 0 → shdr_offset h 0 + 64 ≤ length b
+first_there b h sound there = let table = sound.section_table there in let some = sound.some there in omega arith
 
 -- all section headers do
 pub sections_there : (b : List ℕ) (h : Ehdr) → HasSoundTables (length b) h (sections b h) →
@@ -183,6 +181,18 @@ sections_there b h sound = elim (cases_eq h.e_shoff 0) [
       omega arith)
   | inr there ↦ sound.section_table there
 ]
+
+-- ---- what is read of the section table, or without one
+
+pub sections_read_at : (b : List ℕ) (h : Ehdr) → h.e_shoff ≢ 0 → sections b h ≡ (λ (i : ℕ). shdr_at (order_of h.e_ident) b (shdr_offset h i))
+unfolding sections
+sections_read_at b h there =
+    let each : (i : ℕ) → sections b h i ≡ shdr_at (order_of h.e_ident) b (shdr_offset h i) = λ i. rw (ne_eqb h.e_shoff 0 there) refl in
+    λ k i. each i k
+
+pub sections_none : (b : List ℕ) (h : Ehdr) → h.e_shoff ≡ 0 → sections b h ≡ (λ (i : ℕ). no_section)
+unfolding sections
+sections_none b h none = rw none refl
 
 -- ---- with counts by any equal name, as code reads them
 

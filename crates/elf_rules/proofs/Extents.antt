@@ -14,7 +14,8 @@ use Rattle.elf_extent.proofs.Least.{IsLowest-same, IsLowest-lower}
 use Rattle.elf_rules.specs.OverlapRule.{AreAscending, DoublyBelow, SharedBelow, contents, extents}
 use Rattle.elf_rules.specs.declared.file_extents.FileExtents.{FileExtents}
 use Rattle.elf_rules.specs.FileExtents.{file_extents}
-use Rattle.elf_rules.specs.Tables.{content_extent, sections}
+use Rattle.elf_rules.specs.JudgedRecords.{file_of}
+use Rattle.elf_rules.specs.Tables.{content_extent, file_counts, header, sections}
 
 -- an extent without a byte
 abbrev nothing : Extent
@@ -28,7 +29,11 @@ length-extents h n m s =
 -- the header and the tables are among the extents that are read from a file
 pub three_first : (f : FileExtents) → 3 ≤ length (file_extents f)
 unfolding file_extents
-three_first f = let long = length-extents f.header f.count f.segments (sections f.bytes.now f.header) in omega arith
+three_first f =
+    let b = file_of f.records in
+    let c = file_counts b in
+    let long = length-extents (header b) c.sections c.segments (sections b (header b)) in
+    omega arith
 
 -- from index 3 on they are the contents
 pub content_at : (h : Ehdr) (n m : ℕ) (s : ℕ → Shdr) (i : ℕ) → 3 ≤ i → i < 3 + n →

@@ -4,4 +4,5 @@ pub mod LoadOrder
 pub mod Extents
 pub mod Clean
 pub mod ImageRules
+pub mod Kept
 pub mod Same

@@ -24,28 +24,14 @@ use Rattle.elf_rules.proofs.Clean.{clean_records, sound_tables}
 
 -- the second entries are the first ones, as far as the rules look
 pub record Agree (h : Ehdr) (s t : ℕ → Shdr) (g k : ℕ → Phdr) : Type 0 where
-  pub first : (h.e_shoff ≡ 0) ⊎ (s 0 ≡ t 0)
+  pub first : s 0 ≡ t 0
   pub sections : (i : ℕ) → i < section_count h (s 0) → s i ≡ t i
   pub segments : (j : ℕ) → j < segment_count h (s 0) → g j ≡ k j
 
--- ---- the counts
-
-pub same_section_count : (h : Ehdr) (a b : Shdr) → (h.e_shoff ≡ 0) ⊎ (a ≡ b) → section_count h a ≡ section_count h b
-same_section_count h a b first = elim first [ inl none ↦ rw none refl | inr same ↦ ap (section_count h) same ]
-
-pub same_segment_count : (h : Ehdr) (a b : Shdr) → (h.e_shoff ≡ 0) ⊎ (a ≡ b) → (h.e_shoff ≡ 0 → h.e_phnum ≢ 0xffff) → segment_count h a ≡ segment_count h b
-same_segment_count h a b first few =
-    elim first [ inl none ↦ rw (ne_eqb h.e_phnum 0xffff (few none)) refl | inr same ↦ ap (segment_count h) same ]
-
-pub same_name_table : (h : Ehdr) (a b : Shdr) → (h.e_shoff ≡ 0) ⊎ (a ≡ b) → (h.e_shoff ≡ 0 → h.e_shstrndx ≡ 0) → name_table h a ≡ name_table h b
-same_name_table h a b first none_named =
-    elim first [ inl none ↦ rw (none_named none) refl | inr same ↦ ap (name_table h) same ]
-
 -- ---- rows
 
-in_first : (h : Ehdr) (a b : Shdr) (P : Shdr → Type 0) (field x : ℕ) → (h.e_shoff ≡ 0) ⊎ (a ≡ b) → InFirst h (P b) field x → InFirst h (P a) field x
-in_first h a b P field x first ((there, p), at) =
-    elim first [ inl none ↦ absurd (there none) | inr same ↦ ((there, subst P (sym same) p), at) ]
+in_first : (h : Ehdr) (a b : Shdr) (P : Shdr → Type 0) (field x : ℕ) → a ≡ b → InFirst h (P b) field x → InFirst h (P a) field x
+in_first h a b P field x first ((there, p), at) = ((there, subst P (sym first) p), at)
 
 some_entry : {E : Type 0} (s t : ℕ → E) (from end last : ℕ) (P : E → Type 0) (place : ℕ → ℕ) (x : ℕ) → end ≡ last →
     ((i : ℕ) → i < end → s i ≡ t i) → SomeEntry t from last P place x → SomeEntry s from end P place x
@@ -94,30 +80,9 @@ same_extents h s t n m p q sections segments agree =
     ap (λ (cs : List Extent). record { start = 0; len = 64 } ∷ record { start = h.e_shoff; len = 64 * n } ∷ record { start = h.e_phoff; len = 56 * m } ∷ cs) contents
     ∙ ap₂ (λ (k l : ℕ). extents h k l t) sections segments
 
--- rule 13, field by field
-null_fields : (h : Ehdr) (a b : Shdr) (x : ℕ) → (h.e_shoff ≡ 0) ⊎ (a ≡ b) → first_section_header_not_null h b x → first_section_header_not_null h a x
-null_fields h a b x first w = elim w [
-  | inl p ↦ inl (in_first h a b (λ q. q.sh_name ≢ 0) _ x first p)
-  | inr w ↦ inr (elim w [
-    | inl p ↦ inl (in_first h a b (λ q. q.sh_type ≢ 0) _ x first p)
-    | inr w ↦ inr (elim w [
-      | inl p ↦ inl (in_first h a b (λ q. q.sh_flags ≢ 0) _ x first p)
-      | inr w ↦ inr (elim w [
-        | inl p ↦ inl (in_first h a b (λ q. q.sh_addr ≢ 0) _ x first p)
-        | inr w ↦ inr (elim w [
-          | inl p ↦ inl (in_first h a b (λ q. q.sh_offset ≢ 0) _ x first p)
-          | inr w ↦ inr (elim w [
-            | inl p ↦ inl (in_first h a b (λ q. q.sh_addralign ≢ 0) _ x first p)
-            | inr w ↦ inr (elim w [
-              | inl p ↦ inl (in_first h a b (λ q. q.sh_entsize ≢ 0) _ x first p)
-              | inr w ↦ inr w
-            ])
-          ])
-        ])
-      ])
-    ])
-  ])
-]
+-- rule 13
+null_fields : (h : Ehdr) (a b : Shdr) (x : ℕ) → a ≡ b → first_section_header_not_null h b x → first_section_header_not_null h a x
+null_fields h a b x first w = subst (λ (q : Shdr). first_section_header_not_null h q x) (sym first) w
 
 pub same_clean : (len : ℕ) (h : Ehdr) (s t : ℕ → Shdr) (g k : ℕ → Phdr) (names : List ℕ) → Agree h s t g k →
     FirstIn (image_rows len h s g names) None → FirstIn (image_rows len h t k names) None
@@ -239,13 +204,13 @@ same_clean len h s t g k names agree clean = ((
     mt = segment_count h (t 0)
 
     count : section_count h (s 0) ≡ section_count h (t 0)
-    count = same_section_count h (s 0) (t 0) agree.first
+    count = ap (section_count h) agree.first
 
     segments : segment_count h (s 0) ≡ segment_count h (t 0)
-    segments = same_segment_count h (s 0) (t 0) agree.first facts.few_segments
+    segments = ap (segment_count h) agree.first
 
     table : name_table h (s 0) ≡ name_table h (t 0)
-    table = same_name_table h (s 0) (t 0) agree.first facts.no_names
+    table = ap (name_table h) agree.first
 
     there : name_table h (s 0) ≢ 0 → name_table h (s 0) < section_count h (s 0)
     there other = elim (cases_eq h.e_shoff 0) [

@@ -5,7 +5,8 @@ use Rattle.elf_field.specs.declared.shdr.Shdr.{Shdr}
 use Rattle.elf_field.specs.declared.phdr.Phdr.{Phdr}
 use Rattle.elf_extent.specs.declared.extent.Extent.{Extent}
 use Rattle.elf_rules.specs.Rows.{Ruled, FirstIn}
-use Rattle.elf_rules.specs.Tables.{section_count, segment_count, name_table, header, sections, segments, names}
+use Rattle.elf_rules.specs.declared.tables.Counts.{Counts}
+use Rattle.elf_rules.specs.Tables.{counts_in, section_count, segment_count, header, sections, segments, names}
 use Rattle.elf_rules.specs.HeaderRules.{length_rows, ident_rows, header_rows}
 use Rattle.elf_rules.specs.SectionTableRules.{section_table_rows}
 use Rattle.elf_rules.specs.ProgramTableRules.{program_table_rows}
@@ -14,10 +15,10 @@ use Rattle.elf_rules.specs.SegmentRules.{segment_rows}
 use Rattle.elf_rules.specs.NameRules.{name_rows}
 use Rattle.elf_rules.specs.OverlapRule.{extents, overlap_rows}
 
--- rules 22 to 32, of n section headers and m program headers, with the name table of index k
-unfoldable pub entry_rows : ℕ → Ehdr → ℕ → ℕ → ℕ → (ℕ → Shdr) → (ℕ → Phdr) → List ℕ → List {1} Ruled
-entry_rows len h n m k s g names =
-    section_rows len h n s ++ (segment_rows len h m g ++ name_rows h n k s names)
+-- rules 22 to 32, of as many section headers and program headers as counted
+unfoldable pub entry_rows : ℕ → Ehdr → Counts → (ℕ → Shdr) → (ℕ → Phdr) → List ℕ → List {1} Ruled
+entry_rows len h c s g names =
+    section_rows len h c.sections s ++ (segment_rows len h c.segments g ++ name_rows h c.sections c.name_table s names)
 
 -- rules 13 to 32, in order, of a file of len bytes with this header, these section headers and
 -- program headers by index, and this content of its section name string table
@@ -26,7 +27,7 @@ table_rows len h s g names =
     let first = s 0 in
     section_table_rows len h first ++
     (program_table_rows len h first ++
-    entry_rows len h (section_count h first) (segment_count h first) (name_table h first) s g names)
+    entry_rows len h (counts_in h first) s g names)
 
 -- rules 1 to 32, in order: those that look at one record at a time, or at the names
 unfoldable pub record_rows : ℕ → Ehdr → (ℕ → Shdr) → (ℕ → Phdr) → List ℕ → List {1} Ruled

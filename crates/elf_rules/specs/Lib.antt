@@ -9,5 +9,7 @@ pub mod SegmentRules
 pub mod NameRules
 pub mod OverlapRule
 pub mod SoundTables
-pub mod FileExtents
 pub mod ImageRules
+pub mod Kept
+pub mod JudgedRecords
+pub mod FileExtents

@@ -1,6 +1,6 @@
 -- What a file's header, section headers and program headers are, and what they say of the file.
 -- (gABI chapter 4, ELF Header with ELF Identification, Sections, String Table; chapter 5, Program Header.)
-use Rattle.std.specs.Prelude.{ℕ, ◌+◌, ◌*◌, ◌==◌, ◌||◌, if◌then◌else◌, List, [], take, drop, slice_index}
+use Rattle.std.specs.Prelude.{ℕ, ◌+◌, ◌*◌, ◌==◌, ◌||◌, if◌then◌else◌, List, [], get_or, take, drop, slice_index}
 use Rattle.elf_field.specs.Abi.{EI_DATA, EI_NIDENT, ELFDATA2MSB, PHDR_SIZE, PN_XNUM, SHDR_SIZE, SHN_XINDEX, SHT_NOBITS, SHT_NULL}
 use Rattle.elf_field.specs.declared.order.Order.{Order}
 use Rattle.elf_field.specs.declared.order.Order.TheVariants.{Little, Big}
@@ -11,6 +11,7 @@ use Rattle.elf_field.specs.Ehdr.{ehdr_at}
 use Rattle.elf_field.specs.Shdr.{shdr_at}
 use Rattle.elf_field.specs.Phdr.{phdr_at}
 use Rattle.elf_extent.specs.declared.extent.Extent.{Extent}
+use Rattle.elf_rules.specs.declared.tables.Counts.{Counts}
 
 -- the order that the identification names: any data encoding but ELFDATA2MSB is least significant byte first
 unfoldable pub order_of : List ℕ → Order
@@ -38,6 +39,29 @@ segment_count h first = if h.e_phnum == PN_XNUM then first.sh_info else h.e_phnu
 abbrev pub name_table : Ehdr → Shdr → ℕ
 name_table h first = if h.e_shstrndx == SHN_XINDEX then first.sh_link else h.e_shstrndx
 
+-- all three of them
+abbrev pub counts_in : Ehdr → Shdr → Counts
+counts_in h first = record {
+  sections = section_count h first;
+  segments = segment_count h first;
+  name_table = name_table h first;
+}
+
+-- the section header that stands for one that isn't there
+abbrev pub no_section : Shdr
+no_section = record { sh_name = 0; sh_type = 0; sh_flags = 0; sh_addr = 0; sh_offset = 0; sh_size = 0; sh_link = 0; sh_info = 0; sh_addralign = 0; sh_entsize = 0 }
+
+-- the program header that stands for one that isn't there
+abbrev pub no_segment : Phdr
+no_segment = record { p_type = 0; p_flags = 0; p_offset = 0; p_vaddr = 0; p_paddr = 0; p_filesz = 0; p_memsz = 0; p_align = 0 }
+
+-- section header i and program header j of a list
+abbrev pub section_of : List Shdr → ℕ → Shdr
+section_of ss i = get_or ss i no_section
+
+abbrev pub segment_of : List Phdr → ℕ → Phdr
+segment_of gs j = get_or gs j no_segment
+
 -- the bytes that a section holds in the file: none of type NULL or NOBITS
 abbrev pub content_extent : Shdr → Extent
 content_extent entry = record {
@@ -49,9 +73,13 @@ content_extent entry = record {
 unfoldable pub header : List ℕ → Ehdr
 header b = ehdr_at (order_of (take EI_NIDENT b)) b 0
 
--- its section headers, by index
+-- its section headers, by index: all zeros without a section table
 unfoldable pub sections : List ℕ → Ehdr → ℕ → Shdr
-sections b h i = shdr_at (order_of h.e_ident) b (shdr_offset h i)
+sections b h i = if h.e_shoff == 0 then no_section else shdr_at (order_of h.e_ident) b (shdr_offset h i)
+
+-- its counts of them, and the index of its section name string table
+abbrev pub file_counts : List ℕ → Counts
+file_counts b = let h = header b in counts_in h (sections b h 0)
 
 -- its program headers, by index
 unfoldable pub segments : List ℕ → Ehdr → ℕ → Phdr

@@ -1,26 +1,21 @@
 //! The extents of a file, read as they are asked for: no memory is taken.
-ghost use Rattle.std.specs.Prelude.{◌≡◌, ◌≤◌, ◌<◌, ◌+◌, ◌*◌, ◌^◌, ◌↔◌, IsTrue, IfOk, OnErr, Some, length, slice_get};
-ghost use Rattle.elf_field.specs.Abi.{PHDR_SIZE};
+ghost use Rattle.std.specs.Prelude.{◌≡◌, ◌≤◌, ◌<◌, ◌+◌, ◌↔◌, IsTrue, IfOk, OnErr, Some, length, slice_get};
 ghost use Rattle.elf_extent.specs.Extent.{Doubly, Has};
 ghost use Rattle.elf_extent.specs.Least.{IsLowest, lower_of};
-ghost use Rattle.elf_rules.specs.OverlapRule.{AreAscending, DoublyBelow, SharedBelow, extents};
-ghost use Rattle.elf_rules.specs.Tables.{sections, shdr_offset};
+ghost use Rattle.elf_rules.specs.ImageRules.{extents_of_file};
+ghost use Rattle.elf_rules.specs.JudgedRecords.{file_of};
+ghost use Rattle.elf_rules.specs.OverlapRule.{AreAscending, DoublyBelow, SharedBelow};
 
 use crate::content::extent_of_content;
-use crate::tables::section_at;
-use elf_extent::Extent;
-use elf_field::Ehdr;
+use crate::judged_records::JudgedRecords;
+use elf_extent::{Extent, OutOfMemory, first_double};
 use elf_field::abi::{EHDR_SIZE, PHDR_SIZE, SHDR_SIZE};
+use std::alloc::{AllocError, Global};
 
 /// The header, the section table, the program table, and then the content of each section.
 #[derive(Drop)]
 pub struct FileExtents<'a> {
-    bytes: &'a [u8],
-    header: Ehdr,
-    count: u64,
-    segments: u64,
-    ghost inside: { shdr_offset header count ≤ length bytes.now },
-    ghost fits: { PHDR_SIZE * segments < 2 ^ 64 },
+    records: JudgedRecords<'a>,
 }
 
 impl<'a> FileExtents<'a> {
@@ -29,26 +24,18 @@ impl<'a> FileExtents<'a> {
     /// How many extents stand before the contents.
     const TABLES: u64 = 3;
 
-    /// The extents of a file with `count` section headers and `segments` program headers.
-    #[tactic(auto, unfolding(crate::specs::FileExtents::file_extents))]
-    pub fn new(bytes: &'a [u8], header: Ehdr, count: u64, segments: u64) -> FileExtents<'a>
-        requires sections { shdr_offset header count ≤ length bytes.now }
-        requires segments { PHDR_SIZE * segments < 2 ^ 64 }
-        ensures { file_extents result ≡ extents header count segments (sections bytes.entry.now header) }
+    /// The extents of a judged file.
+    pub fn new(records: &JudgedRecords<'a>) -> FileExtents<'a>
+        ensures { file_extents result ≡ extents_of_file (file_of records.now) }
     {
-        FileExtents {
-            bytes,
-            header,
-            count,
-            segments,
-        }
+        FileExtents { records: *records }
     }
 
     /// How many there are.
     fn len(&self) -> u64
         ensures { result ≡ length (file_extents self.now) }
     {
-        FileExtents::TABLES + self.count
+        FileExtents::TABLES + self.records.section_count()
     }
 
     /// The extent of this index.
@@ -62,23 +49,19 @@ impl<'a> FileExtents<'a> {
                 len: EHDR_SIZE,
             },
             1 => Extent {
-                start: self.header.e_shoff,
-                len: SHDR_SIZE * self.count,
+                start: self.records.header().e_shoff,
+                len: SHDR_SIZE * self.records.section_count(),
             },
             2 => Extent {
-                start: self.header.e_phoff,
-                len: PHDR_SIZE * self.segments,
+                start: self.records.header().e_phoff,
+                len: PHDR_SIZE * self.records.segment_count(),
             },
-            _ => extent_of_content(&section_at(
-                self.bytes,
-                &self.header,
-                index - FileExtents::TABLES,
-            )),
+            _ => extent_of_content(&self.records.section(index - FileExtents::TABLES)),
         }
     }
 
     /// The lowest byte that two of them hold. Where the contents stand in the order of their section
-    /// headers, as they nearly always do, one pass settles it; else every two are compared.
+    /// headers one pass settles it; else every two are compared.
     pub fn lowest_shared_byte(&self) -> Option<u64>
         ensures { IsLowest (Doubly (file_extents self.now)) result }
     {
@@ -86,6 +69,33 @@ impl<'a> FileExtents<'a> {
             Ok(lowest) => lowest,
             Err(NotAscending) => self.lowest_double(self.len()),
         }
+    }
+
+    /// The lowest byte that two of them hold. Where the contents stand in the order of their section
+    /// headers one pass settles it; else they are sorted, which takes memory. Assemblers don't keep
+    /// that order: they lay a table of relocations behind the tables of symbols and names, and give
+    /// it the index behind its section's.
+    pub fn lowest_shared_byte_by_sorting(&self, alloc: Global) -> Result<Option<u64>, OutOfMemory>
+        ensures { IfOk result (IsLowest (Doubly (file_extents self.now))) }
+    {
+        match self.lowest_of_ascending() {
+            Ok(lowest) => Ok(lowest),
+            Err(NotAscending) => match self.all(alloc) {
+                Ok(extents) => first_double(alloc, &extents),
+                Err(_) => Err(OutOfMemory),
+            },
+        }
+    }
+
+    /// All of them in a list.
+    fn all(&self, alloc: Global) -> Result<Vec<Extent>, AllocError>
+        ensures { IfOk result (λ es. es.items ≡ file_extents self.now) }
+    {
+        let mut extents = Vec::new(alloc);
+        for index in 0..self.len() {
+            extents.push(self.at(index))?;
+        }
+        Ok(extents)
     }
 
     /// The lowest byte that two of them hold, where the contents that are not empty stand in the order

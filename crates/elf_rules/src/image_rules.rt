@@ -1,21 +1,25 @@
 //! The first rule that a file breaks.
-ghost use Rattle.std.specs.Prelude.{◌≡◌, ◌+◌, ◌<◌, ◌≤◌, Some, IfErr, OnOk, length};
+ghost use Rattle.std.specs.Prelude.{◌≡◌, ◌≢◌, ◌+◌, ◌<◌, ◌≤◌, ◌^◌, Some, IfErr, IfOk, OnOk, length};
 ghost use Rattle.elf_rules.specs.Broken.{fault_of};
 ghost use Rattle.elf_rules.specs.ImageRules.{IsFault, KeepsRecordRules, entry_rows, table_rows};
+ghost use Rattle.elf_rules.specs.JudgedRecords.{file_of};
 ghost use Rattle.elf_rules.specs.Rows.{FirstIn};
-ghost use Rattle.elf_rules.specs.Tables.{names, names_at, phdr_offset, sections, segments, shdr_offset};
+ghost use Rattle.elf_rules.specs.Tables.{counts_in, names, names_at, phdr_offset, sections, segments, shdr_offset};
 
 use crate::broken::Broken;
 use crate::header_rules::{judge_header, judge_ident, judge_length};
+use crate::judged_records::JudgedRecords;
 use crate::name_rules::{judge_names, names_of};
-use crate::overlap_rule::judge_overlap;
 use crate::program_table_rules::judge_program_table;
+use crate::rules::SHARED_BYTE;
 use crate::section_rules::judge_sections;
 use crate::section_table_rules::judge_section_table;
 use crate::segment_rules::judge_segments;
-use crate::tables::{header_of, name_table_of, section_at, section_count_of, segment_count_of};
+use crate::tables::{Counts, counts_of, header_of, section_at};
+use elf_extent::OutOfMemory;
 use elf_field::Ehdr;
 use elf_field::abi::SHDR_SIZE;
+use std::alloc::Global;
 
 /// The first rule of 1 to 33 that the file breaks, and its lowest offset in bytes; None where it
 /// breaks none. It takes no memory.
@@ -32,67 +36,75 @@ pub fn verdict(bytes: &[u8]) -> Option<(u16, u64)>
 pub fn judge(bytes: &[u8]) -> Result<(), Broken>
     ensures { IsFault bytes.now (fault_of result) }
 {
-    judge_records(bytes)?;
-    let header = header_of(bytes);
-    let first = section_at(bytes, &header, 0);
-    let section_count = section_count_of(&header, &first);
-    let segment_count = segment_count_of(&header, &first);
-    judge_overlap(bytes, &header, section_count, segment_count)
+    match judge_records(bytes)?.shared_byte() {
+        Some(at) => Err(Broken::new(SHARED_BYTE, at)),
+        None => Ok(()),
+    }
 }
 
-/// Whether the file keeps rules 1 to 32, which leave open only whether two of its parts share a byte:
-/// else the first rule that it breaks, and its lowest offset.
-pub fn judge_records(bytes: &[u8]) -> Result<(), Broken>
-    ensures broken { IfErr result (λ broken. IsFault bytes.now (Some (broken.rule, broken.at))) }
-    ensures kept { OnOk result (KeepsRecordRules bytes.now) }
+/// The same by sorting, where the contents don't stand in the order of their section headers and memory
+/// for it isn't refused; an image with its header and counts.
+pub fn judge_by_sorting<'a>(alloc: Global, bytes: &'a [u8]) -> Result<JudgedRecords<'a>, Broken>
+    ensures fault { IsFault bytes.entry.now (fault_of result) }
+    ensures file { IfOk result (λ records. file_of records ≡ bytes.entry.now) }
+{
+    let records = judge_records(bytes)?;
+    let found = match records.shared_byte_by_sorting(alloc) {
+        Ok(found) => found,
+        Err(OutOfMemory) => records.shared_byte(),
+    };
+    match found {
+        Some(at) => Err(Broken::new(SHARED_BYTE, at)),
+        None => Ok(records),
+    }
+}
+
+/// The file with its header and counts, where it keeps rules 1 to 32, which leave open only whether two
+/// of its parts share a byte: else the first rule that it breaks, and its lowest offset.
+pub fn judge_records<'a>(bytes: &'a [u8]) -> Result<JudgedRecords<'a>, Broken>
+    ensures broken { IfErr result (λ broken. IsFault bytes.entry.now (Some (broken.rule, broken.at))) }
+    ensures kept { OnOk result (KeepsRecordRules bytes.entry.now) }
+    ensures file { IfOk result (λ records. file_of records ≡ bytes.entry.now) }
 {
     let len = bytes.len() as u64;
     judge_length(len)?;
     let header = header_of(bytes);
     judge_ident(&header.e_ident)?;
     judge_header(&header, len)?;
-    judge_tables(bytes, &header)
+    let counts = judge_tables(bytes, &header)?;
+    Ok(JudgedRecords::new(bytes, header, counts))
 }
 
-/// Rules 13 to 32, of the tables of a file with this header.
-fn judge_tables(bytes: &[u8], header: &Ehdr) -> Result<(), Broken>
-    requires first { header.now.e_shoff + SHDR_SIZE ≤ length bytes.now }
-    requires nameless { header.now.e_shoff ≡ 0 → header.now.e_shstrndx ≡ 0 }
-    ensures { let b = bytes.now in
+/// Rules 13 to 32, of the tables of a file with this header: its counts.
+fn judge_tables(bytes: &[u8], header: &Ehdr) -> Result<Counts, Broken>
+    requires { header.now.e_shoff + SHDR_SIZE ≤ length bytes.now }
+    ensures fault { let b = bytes.now in
         let h = header.now in
         FirstIn (table_rows (length b) h (sections b h) (segments b h) (names b h)) (fault_of result) }
+    ensures value { IfOk result (λ c. c ≡ counts_in header.now (sections bytes.now header.now 0)) }
 {
     let len = bytes.len() as u64;
     let first = section_at(bytes, header, 0);
     judge_section_table(header, &first, len)?;
     judge_program_table(header, &first, len)?;
-    let section_count = section_count_of(header, &first);
-    let segment_count = segment_count_of(header, &first);
-    let table = name_table_of(header, &first);
-    judge_entries(bytes, header, section_count, segment_count, table)
+    let counts = counts_of(header, &first);
+    judge_entries(bytes, header, counts)?;
+    Ok(counts)
 }
 
-/// Rules 22 to 32, of a file with so many section headers and program headers, and the name table
-/// of index `table`, 0 for none.
-fn judge_entries(
-    bytes: &[u8],
-    header: &Ehdr,
-    section_count: u64,
-    segment_count: u64,
-    table: u64,
-) -> Result<(), Broken>
-    requires sections { shdr_offset header.now section_count ≤ length bytes.now }
-    requires segments { 0 < segment_count → phdr_offset header.now segment_count ≤ length bytes.now }
-    requires table { shdr_offset header.now table + SHDR_SIZE ≤ length bytes.now }
+/// Rules 22 to 32, of a file with these counts.
+fn judge_entries(bytes: &[u8], header: &Ehdr, counts: Counts) -> Result<(), Broken>
+    requires sections { shdr_offset header.now counts.sections ≤ length bytes.now }
+    requires segments { 0 < counts.segments → phdr_offset header.now counts.segments ≤ length bytes.now }
+    requires table { header.now.e_shoff ≢ 0 → shdr_offset header.now counts.name_table + SHDR_SIZE ≤ length bytes.now }
+    requires place { shdr_offset header.now counts.name_table + SHDR_SIZE < 2 ^ 64 }
     ensures { let b = bytes.now in
         let h = header.now in
-        let names = names_at b h table in
-        FirstIn
-        (entry_rows (length b) h section_count segment_count table (sections b h) (segments b h) names)
+        FirstIn (entry_rows (length b) h counts (sections b h) (segments b h) (names_at b h counts.name_table))
         (fault_of result) }
 {
-    judge_sections(bytes, header, section_count)?;
-    judge_segments(bytes, header, segment_count)?;
-    let names = names_of(bytes, header, table);
-    judge_names(bytes, header, section_count, table, names)
+    judge_sections(bytes, header, counts.sections)?;
+    judge_segments(bytes, header, counts.segments)?;
+    let names = names_of(bytes, header, counts.name_table);
+    judge_names(bytes, header, counts.sections, counts.name_table, names)
 }

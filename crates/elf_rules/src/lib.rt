@@ -20,9 +20,10 @@ pub mod content;
 mod file_extents;
 pub mod header_rules;
 mod image_rules;
+mod judged_records;
 mod laws;
 pub mod name_rules;
-pub mod overlap_rule;
+mod overlap_rule;
 pub mod program_table_rules;
 pub mod rules;
 pub mod section_rules;
@@ -33,7 +34,8 @@ pub mod tables;
 
 pub use broken::Broken;
 pub use header_rules::MAX_LEN;
-pub use image_rules::{judge, judge_records, verdict};
+pub use image_rules::{judge, judge_by_sorting, judge_records, verdict};
+pub use judged_records::JudgedRecords;
 pub use laws::{extents_of_image, fault_of_extents, one_fault};
 
 #[cfg(test)]

@@ -1,6 +1,6 @@
 //! Rules 30 to 32: the section name string table, and the sections' names in it
 //! (gABI chapter 4, ELF Header: e_shstrndx; String Table; Sections: sh_name).
-ghost use Rattle.std.specs.Prelude.{◌≡◌, ◌≤◌, ◌<◌, ◌+◌, ◌^◌, length};
+ghost use Rattle.std.specs.Prelude.{◌≡◌, ◌≢◌, ◌≤◌, ◌<◌, ◌+◌, ◌^◌, length};
 ghost use Rattle.elf_extent.specs.Least.{IsLowest};
 ghost use Rattle.elf_rules.specs.Broken.{fault_of};
 ghost use Rattle.elf_rules.specs.NameRules.{name_rows, UnclosedAt};
@@ -18,7 +18,7 @@ use elf_field::abi::*;
 /// The content of the section name string table of index `table`; 0 is none, and empty.
 #[tactic(auto, unfolding(crate::specs::Tables::names_at))]
 pub fn names_of<'a>(bytes: &'a [u8], header: &Ehdr, table: u64) -> &'a [u8]
-    requires { shdr_offset header.now table + SHDR_SIZE ≤ length bytes.now }
+    requires { header.now.e_shoff ≢ 0 → shdr_offset header.now table + SHDR_SIZE ≤ length bytes.now }
     ensures names { result.now ≡ names_at bytes.now header.now table }
     ensures inside { let start = (sections bytes.now header.now table).sh_offset in
         0 < length result.now → start + length result.now ≤ length bytes.now }
@@ -40,7 +40,8 @@ pub fn judge_names(
     names: &[u8],
 ) -> Result<(), Broken>
     requires sections { shdr_offset header.now count ≤ length bytes.now }
-    requires table { shdr_offset header.now table + SHDR_SIZE ≤ length bytes.now }
+    requires table { header.now.e_shoff ≢ 0 → shdr_offset header.now table + SHDR_SIZE ≤ length bytes.now }
+    requires place { shdr_offset header.now table + SHDR_SIZE < 2 ^ 64 }
     requires names { let start = (sections bytes.now header.now table).sh_offset in
         0 < length names.now → start + length names.now ≤ length bytes.now }
     ensures { let s = sections bytes.now header.now in

@@ -1,26 +1,28 @@
 //! Rule 33: no byte of the file belongs to two of its parts (gABI chapter 4, Sections).
-ghost use Rattle.std.specs.Prelude.{◌≤◌, ◌<◌, ◌*◌, ◌^◌, [], ◌∷◌, length};
-ghost use Rattle.elf_rules.specs.Broken.{fault_of};
-ghost use Rattle.elf_rules.specs.OverlapRule.{overlap_rows};
-ghost use Rattle.elf_rules.specs.Rows.{FirstIn};
-ghost use Rattle.elf_rules.specs.Tables.{sections, shdr_offset};
+ghost use Rattle.std.specs.Prelude.{IfOk};
+ghost use Rattle.elf_rules.specs.ImageRules.{IsFault};
+ghost use Rattle.elf_rules.specs.JudgedRecords.{file_of};
+ghost use Rattle.elf_rules.specs.OverlapRule.{shared_fault};
 
-use crate::broken::Broken;
 use crate::file_extents::FileExtents;
-use crate::rules::SHARED_BYTE;
-use elf_field::Ehdr;
-use elf_field::abi::PHDR_SIZE;
+use crate::judged_records::JudgedRecords;
+use elf_extent::OutOfMemory;
+use std::alloc::Global;
 
-/// Rule 33, of a file with `count` section headers and `segments` program headers.
-pub fn judge_overlap(bytes: &[u8], header: &Ehdr, count: u64, segments: u64) -> Result<(), Broken>
-    requires sections { shdr_offset header.now count ≤ length bytes.now }
-    requires segments { PHDR_SIZE * segments < 2 ^ 64 }
-    ensures { let s = sections bytes.now header.now in
-        FirstIn (overlap_rows header.now count segments s) (fault_of result) }
-{
-    let extents = FileExtents::new(bytes, *header, count, segments);
-    match extents.lowest_shared_byte() {
-        Some(at) => Err(Broken::new(SHARED_BYTE, at)),
-        None => Ok(()),
+impl<'a> JudgedRecords<'a> {
+    /// The lowest byte that two parts of the file hold, which breaks rule 33; None where there is none,
+    /// and the file is an image. It takes no memory: where the contents don't stand in the order of
+    /// their section headers it compares every two of them, which takes the square of their number.
+    pub fn shared_byte(&self) -> Option<u64>
+        ensures { IsFault (file_of self.now) (shared_fault result) }
+    {
+        FileExtents::new(self).lowest_shared_byte()
+    }
+
+    /// The same by sorting, where the contents don't stand in the order of their section headers.
+    pub fn shared_byte_by_sorting(&self, alloc: Global) -> Result<Option<u64>, OutOfMemory>
+        ensures { IfOk result (λ found. IsFault (file_of self.now) (shared_fault found)) }
+    {
+        FileExtents::new(self).lowest_shared_byte_by_sorting(alloc)
     }
 }

@@ -1,7 +1,7 @@
 //! A file's header, section headers and program headers, and what they say of the file
 //! (gABI chapter 4, ELF Header and Sections; chapter 5, Program Header).
-ghost use Rattle.std.specs.Prelude.{◌≡◌, ◌≤◌, ◌<◌, ◌+◌, length};
-ghost use Rattle.elf_rules.specs.Tables.{order_of, shdr_offset, phdr_offset, header, sections, segments, section_count, segment_count, name_table};
+ghost use Rattle.std.specs.Prelude.{◌≡◌, ◌≢◌, ◌≤◌, ◌<◌, ◌+◌, ◌^◌, length};
+ghost use Rattle.elf_rules.specs.Tables.{counts_in, order_of, shdr_offset, phdr_offset, header, sections, segments, section_count, segment_count, name_table};
 
 use elf_field::abi::*;
 use elf_field::{Ehdr, Order, Phdr, Shdr, get_at};
@@ -28,14 +28,34 @@ pub fn header_of(bytes: &[u8]) -> Ehdr
     get_at(order_in(&bytes[..EI_NIDENT]), bytes, 0)
 }
 
-/// Section header `index` of a file with this header, where it lies in the file.
+/// What stands for section header 0 where there is no section table.
+const NO_SECTION: Shdr = Shdr {
+    sh_name: 0,
+    sh_type: 0,
+    sh_flags: 0,
+    sh_addr: 0,
+    sh_offset: 0,
+    sh_size: 0,
+    sh_link: 0,
+    sh_info: 0,
+    sh_addralign: 0,
+    sh_entsize: 0,
+};
+
+/// Section header `index` of a file with this header, where it lies in the file; all zeros without a
+/// section table.
 #[tactic(auto, unfolding(crate::specs::Tables::sections))]
 pub fn section_at(bytes: &[u8], header: &Ehdr, index: u64) -> Shdr
-    requires { shdr_offset header.now index + SHDR_SIZE ≤ length bytes.now }
+    requires { header.now.e_shoff ≢ 0 → shdr_offset header.now index + SHDR_SIZE ≤ length bytes.now }
     ensures { result ≡ sections bytes.now header.now index }
 {
-    let offset = header.e_shoff + SHDR_SIZE * index;
-    get_at(order_in(&header.e_ident), bytes, offset as usize)
+    match header.e_shoff {
+        0 => NO_SECTION,
+        table => {
+            let offset = table + SHDR_SIZE * index;
+            get_at(order_in(&header.e_ident), bytes, offset as usize)
+        }
+    }
 }
 
 /// Program header `index` of a file with this header, where it lies in the file.
@@ -46,6 +66,27 @@ pub fn segment_at(bytes: &[u8], header: &Ehdr, index: u64) -> Phdr
 {
     let offset = header.e_phoff + PHDR_SIZE * index;
     get_at(order_in(&header.e_ident), bytes, offset as usize)
+}
+
+/// How many section headers and program headers a file has, and the index of its section name string
+/// table, 0 for none.
+#[derive(Clone, Copy, Debug, PartialEq, Eq)]
+pub struct Counts {
+    pub sections: u64,
+    pub segments: u64,
+    pub name_table: u64,
+}
+
+/// The counts that the header and section header 0 give.
+pub fn counts_of(header: &Ehdr, first: &Shdr) -> Counts
+    ensures value { result ≡ counts_in header.now first.now }
+    ensures small { result.name_table < 2 ^ 32 }
+{
+    Counts {
+        sections: section_count_of(header, first),
+        segments: segment_count_of(header, first),
+        name_table: name_table_of(header, first),
+    }
 }
 
 /// How many section headers there are: none without a section table; where `e_shnum` is 0, as many
@@ -77,7 +118,8 @@ pub fn segment_count_of(header: &Ehdr, first: &Shdr) -> u64
 /// The index of the section name string table, 0 for none; where `e_shstrndx` is `SHN_XINDEX`, the
 /// one that section header 0 says in `sh_link`.
 pub fn name_table_of(header: &Ehdr, first: &Shdr) -> u64
-    ensures { result ≡ name_table header.now first.now }
+    ensures value { result ≡ name_table header.now first.now }
+    ensures small { result < 2 ^ 32 }
 {
     if header.e_shstrndx == SHN_XINDEX {
         first.sh_link as u64

@@ -1,6 +1,8 @@
 //! `check`: is this an ELF-64 file, and if not, why and where.
 ghost use Rattle.std.specs.Prelude.{◌≡◌, length, IfOk, string_bytes};
+ghost use Rattle.elf_rules.specs.Broken.{fault_of};
 ghost use Rattle.elf_rules.specs.ImageRules.{IsFault};
+ghost use Rattle.elf_rules.specs.JudgedRecords.{file_of};
 ghost use Rattle.elf_engine.specs.Check.{CheckSays, IsChecked, file_sections, file_segments, verdict_of};
 ghost use Rattle.elf_engine.specs.Line.{ok_line as ok_line_of};
 
@@ -8,8 +10,7 @@ use super::input::read_input;
 use crate::fault::{Refusal, ToolFault, Verdict};
 use crate::line::{ok_line, refused_line};
 use elf_image::write_whole;
-use elf_rules::tables::{header_of, section_at, section_count_of, segment_count_of};
-use elf_rules::verdict;
+use elf_rules::{Broken, JudgedRecords, judge_by_sorting};
 use std::alloc::{AllocError, Global};
 use std::io::{Read, Write};
 
@@ -31,39 +32,41 @@ pub fn check<R: Read, W: Write>(
     let mut buf = Vec::new(alloc);
     read_input(reader, &mut buf)?;
     let bytes = buf.as_slice();
-    let found = verdict(bytes);
-    let line = line_on(alloc, bytes, found)?;
+    let judged = judge_by_sorting(alloc, bytes);
+    let line = line_on(alloc, bytes, judged)?;
     write_whole(writer, line.as_bytes())?;
-    Ok(verdict_on(found))
+    Ok(verdict_on(judged))
 }
 
-fn line_on(alloc: Global, bytes: &[u8], found: Option<(u16, u64)>) -> Result<String, AllocError>
-    requires { IsFault bytes.now found }
-    ensures { IfOk result (λ line. CheckSays bytes.now (verdict_of found) (string_bytes line)) }
+fn line_on(
+    alloc: Global,
+    bytes: &[u8],
+    judged: Result<JudgedRecords<'_>, Broken>,
+) -> Result<String, AllocError>
+    requires fault { IsFault bytes.now (fault_of judged) }
+    requires file { IfOk judged (λ records. file_of records ≡ bytes.now) }
+    ensures { IfOk result (λ line. CheckSays bytes.now (verdict_of (fault_of judged.entry)) (string_bytes line)) }
 {
-    match found {
-        None => line_on_image(alloc, bytes),
-        Some((rule, at)) => refused_line(alloc, rule, at),
+    match judged {
+        Ok(records) => line_on_image(alloc, &records),
+        Err(Broken { rule, at }) => refused_line(alloc, rule, at),
     }
 }
 
-fn line_on_image(alloc: Global, bytes: &[u8]) -> Result<String, AllocError>
-    requires { IsFault bytes.now None }
-    ensures { IfOk result (λ line.
-        string_bytes line ≡ ok_line_of (length bytes.now) (file_sections bytes.now) (file_segments bytes.now)) }
+fn line_on_image(alloc: Global, records: &JudgedRecords<'_>) -> Result<String, AllocError>
+    ensures { let b = file_of records.now in
+        IfOk result (λ line. string_bytes line ≡ ok_line_of (length b) (file_sections b) (file_segments b)) }
 {
-    let header = header_of(bytes);
-    let first = section_at(bytes, &header, 0);
-    let sections = section_count_of(&header, &first);
-    let segments = segment_count_of(&header, &first);
-    ok_line(alloc, bytes.len(), sections, segments)
+    let sections = records.section_count();
+    let segments = records.segment_count();
+    ok_line(alloc, records.bytes().len(), sections, segments)
 }
 
-fn verdict_on(found: Option<(u16, u64)>) -> Verdict
-    ensures { result ≡ verdict_of found }
+fn verdict_on(judged: Result<JudgedRecords<'_>, Broken>) -> Verdict
+    ensures { result ≡ verdict_of (fault_of judged.entry) }
 {
-    match found {
-        None => Verdict::Done,
-        Some((rule, at)) => Verdict::Refused(Refusal::File { file: 0, rule, at }),
+    match judged {
+        Ok(_) => Verdict::Done,
+        Err(Broken { rule, at }) => Verdict::Refused(Refusal::File { file: 0, rule, at }),
     }
 }
