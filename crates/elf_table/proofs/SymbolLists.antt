@@ -5,7 +5,7 @@ use Rattle.std.proofs.lemmas.List.FromFn.{get_or-map-range_with_len, length-map-
 use Rattle.elf_field.specs.Abi.{SHN_XINDEX, WORD_SIZE}
 use Rattle.elf_field.specs.declared.order.Order.{Order}
 use Rattle.elf_rules.specs.Rows.{FirstIn}
-use Rattle.elf_rules.proofs.Rows.{FirstIn-behind, FirstIn-front}
+use Rattle.elf_rules.proofs.Public.{FirstIn-behind, FirstIn-front}
 use Rattle.elf_table.specs.declared.table_kind.TableKind.TheVariants.{SymbolTable}
 use Rattle.elf_table.specs.IndexTable.{index_table}
 use Rattle.elf_table.specs.OwnRules.{own_rules}

@@ -9,9 +9,9 @@ ghost use Rattle.elf_table.specs.StringRules.{linked_string_rules, string_table_
 
 use crate::rules::*;
 use elf_field::abi::*;
-use elf_image::{Fault, Image, string_at};
-use elf_rules::Broken;
-use elf_rules::name_rules::unclosed_at;
+use elf_image::strings::string_at;
+use elf_image::{Fault, Image};
+use elf_rules::{Broken, unclosed_at};
 use std::marker::Model;
 
 /// A string table: strings one after the other, each ended by a zero. It is a list of bytes, and borrows from the bytes

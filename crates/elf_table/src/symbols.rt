@@ -16,7 +16,8 @@ use crate::symbol_parts::{SymbolParts, entry};
 use crate::symbol_rules::judge_symbol_table;
 use elf_field::Order;
 use elf_field::abi::*;
-use elf_image::{Fault, Image, string_at};
+use elf_image::strings::string_at;
+use elf_image::{Fault, Image};
 use std::marker::Model;
 
 /// A symbol table: the list of its symbols, symbol 0 among them. It borrows from the bytes of the file, as the names of its

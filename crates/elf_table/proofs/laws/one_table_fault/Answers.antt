@@ -1,4 +1,4 @@
-use Rattle.elf_rules.proofs.Rows.{one_fault}
+use Rattle.elf_rules.proofs.Public.{one_fault}
 use Rattle.elf_table.specs.StringRules.{string_table_rules}
 use Rattle.elf_table.specs.SymbolRules.{symbol_table_rules}
 use Rattle.elf_table.specs.TableRules.{table_rules}

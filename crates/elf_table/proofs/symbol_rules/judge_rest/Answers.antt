@@ -1,5 +1,5 @@
 use Rattle.std.proofs.Common.{◌≡◌, ℕ, Option, Some, length, ap, sym, ◌∙◌}
-use Rattle.elf_rules.proofs.Rows.{FirstIn-later, FirstIn-stop}
+use Rattle.elf_rules.proofs.Public.{FirstIn-later, FirstIn-stop}
 use Rattle.elf_table.specs.IndexTable.{AreIndexTables, index_table, index_words}
 use Rattle.elf_table.specs.Sections.{Sections, content, count}
 use Rattle.elf_table.specs.SymbolParts.{SymbolPartsValue, symbol_parts}

@@ -1,5 +1,5 @@
 use Rattle.std.proofs.Common.{subst}
-use Rattle.elf_rules.proofs.Rows.{FirstIn-later, FirstIn-stop}
+use Rattle.elf_rules.proofs.Public.{FirstIn-later, FirstIn-stop}
 use Rattle.elf_rules.specs.Broken.{fault_of}
 use Rattle.elf_rules.specs.Rows.{FirstIn}
 use Rattle.elf_table.specs.Sections.{sections_of}

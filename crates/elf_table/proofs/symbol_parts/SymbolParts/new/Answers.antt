@@ -10,10 +10,10 @@ returns-clause-value c =
       c.header_offset.ensures.value,
       c.content.ensures.bytes,
       c.content-2.ensures.bytes,
-      c.section.ensures,
+      c.section.ensures.value,
       c.index_words_in-words_start.ensures.words,
       c.index_words_in-words_start.ensures.start,
       c.section_count.ensures,
-      c.section-section.ensures,
+      c.section-section.ensures.value,
       first,
     ) refl
