@@ -10,7 +10,7 @@ use Rattle.elf_field.specs.declared.shdr.Shdr.{Shdr}
 use Rattle.elf_extent.specs.declared.extent.Extent.{Extent}
 use Rattle.elf_extent.specs.Extent.{Has, HasAt, Doubly}
 use Rattle.elf_extent.specs.Least.{IsLowest, lower_of}
-use Rattle.elf_extent.proofs.Least.{IsLowest-same, IsLowest-lower}
+use Rattle.elf_extent.proofs.Public.{IsLowest-same, IsLowest-lower}
 use Rattle.elf_rules.specs.OverlapRule.{AreAscending, DoublyBelow, SharedBelow, contents, extents}
 use Rattle.elf_rules.specs.declared.file_extents.FileExtents.{FileExtents}
 use Rattle.elf_rules.specs.FileExtents.{file_extents}

@@ -1,10 +1,24 @@
 //! Tests that cross crates.
 #![tactic(auto)]
 
+#[cfg(test)]
+mod failing_calls;
+#[cfg(test)]
+mod file_names;
 mod known_files;
+#[cfg(test)]
+mod image_faults;
+#[cfg(test)]
+mod image_files;
+#[cfg(test)]
+mod images;
 #[cfg(test)]
 mod many_sections;
 #[cfg(test)]
+mod many_segments;
+#[cfg(test)]
 mod program;
+#[cfg(test)]
+mod two_of_each;
 
 pub use known_files::{KnownBytes, KnownFile, status_of_check};

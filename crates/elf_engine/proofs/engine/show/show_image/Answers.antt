@@ -37,7 +37,7 @@ returns-in_err-show_parts g c =
     rw (q.1, q.2) (all_cut a _ o (show_text b v) fault c.new-output.ensures.pending c.new-output.ensures.written
     (cut_later a a _ o p (file_line v.header) (part_lines b v ++ (section_lines v ++ segment_lines v)) fault first
     (cut_longer a _ p (part_lines b v) (section_lines v ++ segment_lines v) fault
-    (subst (λ (s : List ℕ). IsCutShort a (g.W.Write.contents c.show_parts.new.writer) p s fault) (parts_text b v c.parts.result.now c.parts.ensures) c.in_err-show_parts.ensures))))
+    (subst (λ (s : List ℕ). IsCutShort a (g.W.Write.contents c.show_parts.new.writer) p s fault) (parts_text b v c.parts.result.now c.parts.ensures.value) c.in_err-show_parts.ensures))))
 
 pub returns-in_err-show_sections : goal.returns-in_err-show_sections
 unfolding show_text
@@ -48,7 +48,7 @@ returns-in_err-show_sections g c =
     let o = c.new-output.result in
     let p : Output = record { pending = c.push_file_line.new.text; written = c.new-output.result.written } in
     let first = file_buffered a o p c.header.result v.header c.header.ensures c.in_ok-push_file_line.ensures refl in
-    let second = subst (λ (s : List ℕ). Buffers a (g.W.Write.contents c.show_parts.new.writer) p c.show_parts.new.output s) (parts_text b v c.parts.result.now c.parts.ensures) c.in_ok-show_parts.ensures in
+    let second = subst (λ (s : List ℕ). Buffers a (g.W.Write.contents c.show_parts.new.writer) p c.show_parts.new.output s) (parts_text b v c.parts.result.now c.parts.ensures.value) c.in_ok-show_parts.ensures in
     let q = err_from_is_err_and c.from_residual-in_err-show_sections.result c.from_residual-in_err-show_sections.ensures.1 in
     let fault = c.in_err-show_sections.field-0.0 in
     rw (q.1, q.2) (all_cut a _ o (show_text b v) fault c.new-output.ensures.pending c.new-output.ensures.written
@@ -65,7 +65,7 @@ returns-in_err-show_segments g c =
     let o = c.new-output.result in
     let p : Output = record { pending = c.push_file_line.new.text; written = c.new-output.result.written } in
     let first = file_buffered a o p c.header.result v.header c.header.ensures c.in_ok-push_file_line.ensures refl in
-    let second = subst (λ (s : List ℕ). Buffers a (g.W.Write.contents c.show_parts.new.writer) p c.show_parts.new.output s) (parts_text b v c.parts.result.now c.parts.ensures) c.in_ok-show_parts.ensures in
+    let second = subst (λ (s : List ℕ). Buffers a (g.W.Write.contents c.show_parts.new.writer) p c.show_parts.new.output s) (parts_text b v c.parts.result.now c.parts.ensures.value) c.in_ok-show_parts.ensures in
     let q = err_from_is_err_and c.from_residual-in_err-show_segments.result c.from_residual-in_err-show_segments.ensures.1 in
     let fault = c.in_err-show_segments.field-0.0 in
     rw (q.1, q.2) (all_cut a _ o (show_text b v) fault c.new-output.ensures.pending c.new-output.ensures.written
@@ -82,7 +82,7 @@ returns g c =
     let o = c.new-output.result in
     let p : Output = record { pending = c.push_file_line.new.text; written = c.new-output.result.written } in
     let first = file_buffered a o p c.header.result v.header c.header.ensures c.in_ok-push_file_line.ensures refl in
-    let second = subst (λ (s : List ℕ). Buffers a (g.W.Write.contents c.show_parts.new.writer) p c.show_parts.new.output s) (parts_text b v c.parts.result.now c.parts.ensures) c.in_ok-show_parts.ensures in
+    let second = subst (λ (s : List ℕ). Buffers a (g.W.Write.contents c.show_parts.new.writer) p c.show_parts.new.output s) (parts_text b v c.parts.result.now c.parts.ensures.value) c.in_ok-show_parts.ensures in
     let whole = buffers_both a a _ o p c.show_segments.new.output (file_line v.header) (part_lines b v ++ (section_lines v ++ segment_lines v)) first
     (buffers_both a _ _ p c.show_parts.new.output c.show_segments.new.output (part_lines b v) (section_lines v ++ segment_lines v) second
     (buffers_both _ _ _ c.show_parts.new.output c.show_sections.new.output c.show_segments.new.output (section_lines v) (segment_lines v) c.in_ok-show_sections.ensures c.in_ok-show_segments.ensures)) in

@@ -1,8 +1,9 @@
 -- A table of records as a list of bytes, and back: said once for every kind of record.
-use Rattle.std.proofs.Common.{◌≡◌, ◌≤◌, ◌+◌, ◌*◌, ℕ, zero, suc, List, [], ◌∷◌, ◌++◌, length, take, drop, map, refl, sym, ap, ap₂, ◌∙◌, arith, length-append, length-drop}
+use Rattle.std.proofs.Common.{◌≡◌, ◌≤◌, ◌<◌, ◌+◌, ◌-◌, ◌*◌, ℕ, zero, suc, List, [], ◌∷◌, ◌++◌, length, take, drop, get_or, take_all, map, refl, sym, ap, ap₂, ◌∙◌, arith, length-append, length-drop}
 use Rattle.std.specs.List.{AllByRecursion, flat_map, range_with_len}
 use Rattle.std.proofs.Math.Nat.{mul-add, mul-one, mul-suc, mul-zero}
 use Rattle.std.proofs.Math.Seq.{take-add}
+use Rattle.std.proofs.lemmas.List.FromFn.{get_or-map-range_with_len}
 use Rattle.std.proofs.lemmas.List.{drop-drop, drop-take, drop_at, length-take-le, take-take, take_at}
 use Rattle.elf_field.specs.declared.order.Order.{Order}
 use Rattle.elf_field.specs.Bytes.{IsBytes}
@@ -89,3 +90,28 @@ pub entries_fit : {A : Type 0} {size : ℕ} {at : Order → List ℕ → ℕ →
     AllByRecursion V (map (λ i. at o b (x + size * i)) (range_with_len a n))
 entries_fit laws o b x a zero are = tt
 entries_fit {size = size} laws o b x a (suc n) are = (laws.valid o b (x + size * a) are, entries_fit laws o b x (a + 1) n are)
+
+-- record k of a table is the one read at its place in the table's bytes
+pub record_at : {A : Type 0} {size : ℕ} {at : Order → List ℕ → ℕ → A} {bytes : Order → A → List ℕ} {V : A → Type 0} →
+    IsRecord size at bytes V → (o : Order) (vs : List A) (k : ℕ) (d : A) → AllByRecursion V vs → k < length vs →
+    at o (flat_map (bytes o) vs) (size * k) ≡ get_or vs k d
+record_at {size = size} {at = at} {bytes = bytes} laws o vs k d fit lt =
+    let b = flat_map (bytes o) vs in
+    let front : 0 + size * 0 ≡ 0 = let e = mul-zero size in omega arith in
+    let place : size * k ≡ 0 + size * k = omega arith in
+    let whole : take (size * length vs) (drop (0 + size * 0) b) ≡ b =
+    ap (λ (x : ℕ). take (size * length vs) (drop x b)) front ∙ take_all (size * length vs) b (let e = length-table laws o vs in omega arith) in
+    let read = entries_read laws o b 0 0 vs fit whole in
+    ap (at o b) place ∙ sym (get_or-map-range_with_len (λ i. at o b (0 + size * i)) 0 (length vs) k k d lt (omega arith)) ∙ ap (λ (us : List _). get_or us k d) read
+
+-- the record at a place of a part is that at its place in the whole
+pub record_of_part : {A : Type 0} {size : ℕ} {at : Order → List ℕ → ℕ → A} {bytes : Order → A → List ℕ} {V : A → Type 0} →
+    IsRecord size at bytes V → (o : Order) (b : List ℕ) (start len x : ℕ) → x + size ≤ len →
+    at o (take len (drop start b)) x ≡ at o b (start + x)
+record_of_part {size = size} {at = at} laws o b start len x within =
+    let split : len ≡ x + (len - x) = omega arith in
+    let rest : drop x (take len (drop start b)) ≡ take (len - x) (drop x (drop start b)) =
+    ap (λ (n : ℕ). drop x (take n (drop start b))) split ∙ drop-take x (len - x) (drop start b) in
+    let moved : take size (drop x (take len (drop start b))) ≡ take size (drop (start + x) b) =
+    ap (take size) rest ∙ take-take size (len - x) (drop x (drop start b)) (omega arith) ∙ ap (take size) (drop-drop x start b) in
+    sym (laws.part o (take len (drop start b)) x) ∙ ap (λ (s : List ℕ). at o s 0) moved ∙ laws.part o b (start + x)

@@ -1,11 +1,13 @@
 //! Images of the worked files: read, edited and written.
-use super::rows::{empty_contents, empty_object, filled_gap, one_section, one_segment, set};
-use super::{Pieces, Shelf};
-use crate::{
+use crate::image_faults::{Pieces, Shelf};
+use crate::image_files::{
+    empty_contents, empty_object, filled_gap, one_section, one_segment, set, two_of_each,
+};
+use elf_field::Order;
+use elf_image::{
     Fault, Image, NoSection, Owner, Part, ReplaceFault, WriteFault, parse, read_to_end, verdict,
     write,
 };
-use elf_field::Order;
 use std::alloc::Global;
 use std::process::Abort;
 use std::test::Fail;
@@ -102,23 +104,61 @@ fn tells_the_parts_of_tables_alone(rt: HostRuntime) -> Result<(), Fail> {
 }
 
 #[test]
-fn tells_records_names_and_contents(rt: HostRuntime) -> Result<(), Fail> {
+fn tells_the_header(rt: HostRuntime) -> Result<(), Fail> {
     let file = one_section(LITTLE);
     let image = parse(rt.alloc(), &file)?;
+    assert_eq!(rt; image.len(), 456);
     assert_eq!(rt; image.order(), LITTLE);
     assert_eq!(rt; image.header().e_shoff, 136);
+    assert_eq!(rt; image.section_count(), 5);
     assert_eq!(rt; image.segment_count(), 0);
     assert_eq!(rt; image.name_table(), 4);
-    assert_eq!(rt; image.section_count(), 5);
+    Ok(())
+}
+
+#[test]
+fn tells_names(rt: HostRuntime) -> Result<(), Fail> {
+    let file = one_section(LITTLE);
+    let image = parse(rt.alloc(), &file)?;
     let names: [&[u8]; 5] = [b"", b".text", b".symtab", b".strtab", b".shstrtab"];
-    let sizes = [0, 1, 24, 1, 33];
+    assert_eq!(rt; image.section_count(), 5);
     for i in 0..5 {
         assert_eq!(rt; image.name(i), names[i], "name {i}");
+    }
+    Ok(())
+}
+
+#[test]
+fn tells_contents(rt: HostRuntime) -> Result<(), Fail> {
+    let file = one_section(LITTLE);
+    let image = parse(rt.alloc(), &file)?;
+    let sizes = [0, 1, 24, 1, 33];
+    let offsets = [0, 64, 72, 96, 97];
+    assert_eq!(rt; image.section_count(), 5);
+    for i in 0..5 {
         assert_eq!(rt; image.content(i).len(), sizes[i], "content {i}");
-        assert_eq!(rt; image.section(i).sh_size, sizes[i] as u64, "section {i}");
+        assert_eq!(rt; image.content_offset(i), offsets[i], "content {i}");
     }
     assert_eq!(rt; image.content(1), [0xc3].as_slice());
+    Ok(())
+}
 
+#[test]
+fn tells_section_headers(rt: HostRuntime) -> Result<(), Fail> {
+    let file = one_section(LITTLE);
+    let image = parse(rt.alloc(), &file)?;
+    let sizes = [0, 1, 24, 1, 33];
+    let offsets = [136, 200, 264, 328, 392];
+    assert_eq!(rt; image.section_count(), 5);
+    for i in 0..5 {
+        assert_eq!(rt; image.section(i).sh_size, sizes[i], "section {i}");
+        assert_eq!(rt; image.header_offset(i), offsets[i], "section {i}");
+    }
+    Ok(())
+}
+
+#[test]
+fn has_no_names_without_a_name_table(rt: HostRuntime) -> Result<(), Fail> {
     let file = empty_contents();
     let image = parse(rt.alloc(), &file)?;
     assert_eq!(rt; image.name_table(), 0);
@@ -127,7 +167,11 @@ fn tells_records_names_and_contents(rt: HostRuntime) -> Result<(), Fail> {
         assert!(rt; image.name(i).is_empty(), "name {i}");
         assert!(rt; image.content(i).is_empty(), "content {i}");
     }
+    Ok(())
+}
 
+#[test]
+fn tells_a_program_header(rt: HostRuntime) -> Result<(), Fail> {
     let file = one_segment();
     let image = parse(rt.alloc(), &file)?;
     assert_eq!(rt; image.segment_count(), 1);
@@ -149,6 +193,99 @@ fn first_name<'a>(alloc: Global, file: &'a [u8]) -> Result<&'a [u8], Fault> {
 fn a_name_outlives_the_image(rt: HostRuntime) -> Result<(), Fail> {
     let file = one_section(LITTLE);
     assert_eq!(rt; first_name(rt.alloc(), &file)?, b".text".as_slice());
+    Ok(())
+}
+
+/// So does a content.
+fn first_content<'a>(alloc: Global, file: &'a [u8]) -> Result<&'a [u8], Fault> {
+    let image = parse(alloc, file)?;
+    if image.section_count() < 2 {
+        return Ok(&[]);
+    }
+    Ok(image.content(1))
+}
+
+#[test]
+fn a_content_outlives_the_image(rt: HostRuntime) -> Result<(), Fail> {
+    let file = one_section(LITTLE);
+    assert_eq!(rt; first_content(rt.alloc(), &file)?, [0xc3].as_slice());
+    Ok(())
+}
+
+// The example of the crate's root.
+#[test]
+fn sets_the_entry_of_what_a_reader_gives(rt: HostRuntime) -> Result<(), Fail> {
+    let alloc = rt.alloc();
+    let file = two_of_each(LITTLE);
+    let mut reader = file.as_slice();
+    let mut writer = shelf(alloc, 1000)?;
+
+    let mut bytes = Vec::new(alloc);
+    read_to_end(&mut reader, &mut bytes)?;
+    let mut image = parse(alloc, &bytes)?;
+    image.set_entry(0x1000);
+    assert_eq!(rt; write(&image, &mut writer), Ok(()));
+
+    let mut want = two_of_each(LITTLE);
+    set(&mut want, LITTLE, &[(24, 8, 0x1000)]);
+    assert_eq!(rt; writer.bytes.as_slice(), want.as_slice());
+    Ok(())
+}
+
+// ---- two sections and two segments, in either order
+
+/// The parts of that file, and the file again.
+fn assert_two_of_each(rt: &impl Abort, alloc: Global, order: Order) -> Result<(), Fail> {
+    let file = two_of_each(order);
+    assert_eq!(rt; verdict(&file), None);
+    let image = parse(alloc, &file)?;
+    assert_eq!(rt; image.order(), order);
+    assert_eq!(rt;
+        image.parts(),
+        [
+            part(Owner::Header, 0, 64),
+            part(Owner::ProgramTable, 64, 112),
+            part(Owner::Content(1), 176, 4),
+            part(Owner::Gap, 180, 4),
+            part(Owner::Content(2), 184, 8),
+            part(Owner::SectionTable, 192, 192),
+        ]
+        .as_slice()
+    );
+    assert_written(rt, alloc, &image, &file)
+}
+
+#[test]
+fn two_of_each_in_little_order(rt: HostRuntime) -> Result<(), Fail> {
+    assert_two_of_each(&rt, rt.alloc(), LITTLE)
+}
+
+#[test]
+fn two_of_each_in_big_order(rt: HostRuntime) -> Result<(), Fail> {
+    assert_two_of_each(&rt, rt.alloc(), Order::Big)
+}
+
+#[test]
+fn tells_both_segments_and_sections(rt: HostRuntime) -> Result<(), Fail> {
+    let file = two_of_each(Order::Big);
+    let image = parse(rt.alloc(), &file)?;
+    assert_eq!(rt; image.segment_count(), 2);
+    assert_eq!(rt; image.segment(0).p_filesz, 180);
+    assert_eq!(rt; image.segment(1).p_memsz, 16);
+    assert_eq!(rt; image.section_count(), 3);
+    assert_eq!(rt; image.section(2).sh_addr, 0x20b8);
+    assert_eq!(rt; image.content(1), b"text".as_slice());
+    assert_eq!(rt; image.content(2), b"datadata".as_slice());
+    Ok(())
+}
+
+// The segment of the higher address first.
+#[test]
+fn tells_segments_out_of_order(rt: HostRuntime) -> Result<(), Fail> {
+    let mut file = two_of_each(Order::Big);
+    set(&mut file, Order::Big, &[(80, 8, 0x3000)]);
+    assert_eq!(rt; verdict(&file), Some((29, 136)));
+    assert_eq!(rt; rule_broken(rt.alloc(), &file)?, Some((29, 136)));
     Ok(())
 }
 

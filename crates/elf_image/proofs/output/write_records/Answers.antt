@@ -1,8 +1,8 @@
 use Rattle.std.proofs.Common.{◌≡◌, ◌*◌, ◌+◌, ◌-◌, take, arith, ap, ◌∙◌}
 use Rattle.std.proofs.lemmas.List.{length-take-le}
 use Rattle.elf_image.proofs.Written.{flat_err, flat_ok}
-use Rattle.elf_image.proofs.Tables.{length-table}
-use Rattle.elf_image.proofs.writing.write_table.Goals as goal
+use Rattle.elf_field.specs.RecordTableLaws.{length-table}
+use Rattle.elf_image.proofs.output.write_records.Goals as goal
 
 pub after-requires : goal.after-requires
 after-requires g c =

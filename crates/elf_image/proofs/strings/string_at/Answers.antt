@@ -1,6 +1,6 @@
 use Rattle.std.proofs.Common.{◌≡◌, ◌-◌, length, take, drop}
-use Rattle.elf_image.proofs.Named.{before_zero, no_zero, rest_from}
-use Rattle.elf_image.proofs.image.string_at.Goals as goal
+use Rattle.elf_image.proofs.ZeroEnded.{before_zero, no_zero, rest_from}
+use Rattle.elf_image.proofs.strings.string_at.Goals as goal
 
 pub returns-in-Some : goal.returns-in-Some
 returns-in-Some c =

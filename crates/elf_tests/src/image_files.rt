@@ -1,4 +1,4 @@
-//! Worked files, in either byte order.
+//! Worked files of images, in either byte order.
 use elf_field::Order;
 
 /// A field: its offset in the file, its width in bytes and its value.
@@ -106,6 +106,54 @@ const ONE_SEGMENT: [Field; 11] = [
     (112, 8, 0x1000),
 ];
 
+/// Those of a file of two loadable segments and two sections, with a gap between the sections.
+const TWO_OF_EACH: [Field; 33] = [
+    (16, 2, 2),
+    (32, 8, 64),
+    (40, 8, 192),
+    (54, 2, 56),
+    (56, 2, 2),
+    (58, 2, 64),
+    (60, 2, 3),
+    (64, 4, 1),
+    (68, 4, 5),
+    (80, 8, 0x1000),
+    (88, 8, 0x1000),
+    (96, 8, 180),
+    (104, 8, 180),
+    (112, 8, 0x1000),
+    (120, 4, 1),
+    (124, 4, 6),
+    (128, 8, 184),
+    (136, 8, 0x20b8),
+    (144, 8, 0x20b8),
+    (152, 8, 8),
+    (160, 8, 16),
+    (168, 8, 0x1000),
+    (260, 4, 1),
+    (264, 8, 6),
+    (272, 8, 0x10b0),
+    (280, 8, 176),
+    (288, 8, 4),
+    (304, 8, 4),
+    (324, 4, 1),
+    (328, 8, 3),
+    (336, 8, 0x20b8),
+    (344, 8, 184),
+    (352, 8, 8),
+];
+
+/// Those of a file of one section, whose content and the gap before it are longer than a block.
+const LONG_PARTS: [Field; 7] = [
+    (40, 8, 64),
+    (58, 2, 64),
+    (60, 2, 2),
+    (132, 4, 1),
+    (152, 8, 9192),
+    (160, 8, 9000),
+    (176, 8, 8),
+];
+
 /// Writes fields into a file.
 pub fn set(file: &mut [u8], order: Order, fields: &[Field]) {
     for (offset, width, value) in fields {
@@ -167,5 +215,25 @@ pub fn empty_contents() -> [u8; 256] {
 pub fn one_segment() -> [u8; 120] {
     let mut file = [0; 120];
     set_header(&mut file, Order::Little, &ONE_SEGMENT);
+    file
+}
+
+/// A file of two loadable segments and two sections without names: the header, the program header
+/// table, the first content, a gap of four bytes that are not zero, the second content, and the
+/// section header table.
+pub fn two_of_each(order: Order) -> [u8; 384] {
+    let mut file = [0; 384];
+    set_header(&mut file, order, &TWO_OF_EACH);
+    file[176..192].copy_from_slice(b"textgap.datadata");
+    file
+}
+
+/// The header, two section headers, 9000 bytes in no section, and a content of 9000 bytes.
+pub fn long_parts() -> [u8; 18192] {
+    let mut file = [0; 18192];
+    set_header(&mut file, Order::Little, &LONG_PARTS);
+    for byte in &mut file[192..] {
+        *byte = 7;
+    }
     file
 }

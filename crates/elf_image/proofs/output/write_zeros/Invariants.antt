@@ -1,7 +1,7 @@
 use Rattle.std.proofs.Common.{◌-◌, ◌≤◌}
 use Rattle.std.specs.Prelude.{replicate}
 use Rattle.std.specs.Io.KnownBytes.{Appends}
-use Rattle.elf_image.proofs.writing.write_zeros.Given as goal
+use Rattle.elf_image.proofs.output.write_zeros.Given as goal
 
 -- exactly the first zeros are out
 abbrev pub invariant-loop-written : goal.invariant-loop-written

@@ -1,6 +1,6 @@
 use Rattle.std.proofs.Common.{◌≡◌, ◌*◌, length, take}
 use Rattle.std.specs.List.{flat_map}
-use Rattle.elf_image.proofs.writing.put_records.Given as goal
+use Rattle.elf_image.proofs.output.put_records.Given as goal
 
 -- the first records stand in the front
 abbrev pub invariant-loop-i : goal.invariant-loop-i

@@ -1,6 +1,6 @@
 use Rattle.std.proofs.Common.{List, ℕ, length, ap, arith, ◌∙◌}
 use Rattle.elf_image.proofs.Written.{in_records, length-put_mid, record_put}
-use Rattle.elf_image.proofs.writing.put_records.Goals as goal
+use Rattle.elf_image.proofs.output.put_records.Goals as goal
 
 pub loop-i-preserved : goal.loop-i-preserved
 loop-i-preserved g c =
