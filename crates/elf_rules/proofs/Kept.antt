@@ -2,6 +2,7 @@
 use Rattle.std.proofs.Common.{◌≡◌, ◌<◌, ◌≤◌, ◌^◌, ℕ, List, length, subst, sym, refl}
 use Rattle.elf_field.specs.declared.ehdr.Ehdr.{Ehdr}
 use Rattle.elf_rules.specs.declared.tables.Counts.{Counts}
+use Rattle.elf_rules.specs.HeaderRules.{MAX_LEN}
 use Rattle.elf_rules.specs.ImageRules.{KeepsRecordRules}
 use Rattle.elf_rules.specs.Tables.{file_counts, header, phdr_offset, shdr_offset}
 use Rattle.elf_rules.proofs.Clean.{sections_there, sound_file}
@@ -20,5 +21,5 @@ kept_segments b h c kept own_header own_counts =
     subst (λ (k : Ehdr). 0 < c.segments → phdr_offset k c.segments ≤ length b) (sym own_header)
     (subst (λ (d : Counts). 0 < d.segments → phdr_offset (header b) d.segments ≤ length b) (sym own_counts) there)
 
-pub kept_short : (b : List ℕ) → KeepsRecordRules b → length b ≤ 2 ^ 30
+pub kept_short : (b : List ℕ) → KeepsRecordRules b → length b ≤ MAX_LEN
 kept_short b kept = (sound_file b (header b) refl kept).short

@@ -1,6 +1,6 @@
 use crate::header_rules::{MAX_LEN, judge_length};
 use crate::rules::TOO_SHORT;
-use crate::{Broken, judge, verdict};
+use crate::{Broken, judge, judge_by_sorting, verdict};
 use elf_field::Order;
 use std::test::Fail;
 
@@ -197,6 +197,18 @@ fn refuses_sections(rt: HostRuntime) {
             assert_eq!(rt; verdict(&file), Some(want), "{order:?} {want:?}");
         }
     }
+}
+
+/// The content of section 1 lies behind all others, sharing no byte, and then on that of section 3.
+#[test]
+fn judges_contents_out_of_order(rt: HostRuntime) {
+    let mut file = one_section(Order::Little);
+    set(&mut file, Order::Little, &[(224, 8, 130)]);
+    assert_eq!(rt; judge_by_sorting(rt.alloc(), &file).err(), None);
+    set(&mut file, Order::Little, &[(224, 8, 96)]);
+    let broken = Broken::new(33, 96);
+    assert_eq!(rt; judge_by_sorting(rt.alloc(), &file).err(), Some(broken));
+    assert_eq!(rt; verdict(&file), Some((33, 96)));
 }
 
 #[test]
