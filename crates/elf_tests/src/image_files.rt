@@ -168,7 +168,8 @@ pub fn set(file: &mut [u8], order: Order, fields: &[Field]) {
     }
 }
 
-fn set_header(file: &mut [u8], order: Order, fields: &[Field]) {
+/// Writes the header's bytes that all files here share, and then fields.
+pub fn set_header(file: &mut [u8], order: Order, fields: &[Field]) {
     set(file, order, &HEADER);
     let data = match order {
         Order::Little => 1,
