@@ -74,9 +74,9 @@ some_piece es total at (p ∷ ps) x (start, nonempty, owned, rest) above below =
     ]
 
 -- each offset below the total lies in one piece, and in no other
-pub only_piece : (es : List Extent) (total : ℕ) (ps : List Piece) (x : ℕ) → Accounts es total 0 ps →
+pub in_piece : (es : List Extent) (total : ℕ) (ps : List Piece) (x : ℕ) → Accounts es total 0 ps →
     x < total → (k : ℕ) × (p : Piece) × IsOnlyPieceAt ps x k p
-only_piece es total ps x accounts below =
+in_piece es total ps x accounts below =
     let found = some_piece es total 0 ps x accounts (omega arith) below in
     let from = found.3 in
     let to = found.4 in (
@@ -108,10 +108,10 @@ pub owner_holds : (es : List Extent) (start len i x : ℕ) →
 owner_holds es start len i x here above below = (record { start = start; len = len }, here, (above, below))
 
 -- an extent that holds a byte below the total is a piece
-pub piece_of_extent : (es : List Extent) (total : ℕ) (ps : List Piece) (i : ℕ) (e : Extent) → AreDisjoint es →
+pub piece_for : (es : List Extent) (total : ℕ) (ps : List Piece) (i : ℕ) (e : Extent) → AreDisjoint es →
     Accounts es total 0 ps → slice_get es i ≡ Some e → 0 < e.len → e.start < total →
     (k : ℕ) × (slice_get ps k ≡ Some (record { owner = Some i; start = e.start; len = e.len }))
-piece_of_extent es total ps i e disjoint accounts here nonempty below =
+piece_for es total ps i e disjoint accounts here nonempty below =
     let found = some_piece es total 0 ps e.start accounts (omega arith) below in
     let piece = piece_at es total 0 ps found.0 found.1 accounts found.2 in
     (found.0, found.2 ∙ ap Some (named found.1.owner found.1.start found.1.len piece.owned found.3 found.4))
@@ -177,18 +177,18 @@ pub same_piece : (a b : Option ℕ) (s t m n : ℕ) → a ≡ b → s ≡ t → 
 same_piece a b s t m n owners starts lens = cc
 
 -- one list of pieces accounts for the offsets from at on
-pub one_list : (es : List Extent) (total at : ℕ) (ps qs : List Piece) → AreDisjoint es →
+pub one_account_from : (es : List Extent) (total at : ℕ) (ps qs : List Piece) → AreDisjoint es →
     Accounts es total at ps → Accounts es total at qs → ps ≡ qs
-one_list es total at [] [] disjoint one two = refl
-one_list es total at [] (q ∷ qs) disjoint done (start, nonempty, owned, rest) =
+one_account_from es total at [] [] disjoint one two = refl
+one_account_from es total at [] (q ∷ qs) disjoint done (start, nonempty, owned, rest) =
     let le = accounts_le es total (at + q.len) qs rest in
     let no : ⊥ = omega arith in
     absurd no
-one_list es total at (p ∷ ps) [] disjoint (start, nonempty, owned, rest) done =
+one_account_from es total at (p ∷ ps) [] disjoint (start, nonempty, owned, rest) done =
     let le = accounts_le es total (at + p.len) ps rest in
     let no : ⊥ = omega arith in
     absurd no
-one_list es total at (p ∷ ps) (q ∷ qs) disjoint (start_p, pos_p, own_p, rest_p) (start_q, pos_q, own_q, rest_q) =
+one_account_from es total at (p ∷ ps) (q ∷ qs) disjoint (start_p, pos_p, own_p, rest_p) (start_q, pos_q, own_q, rest_q) =
     let at_p : IsOwned es total at p.len p.owner =
     subst (λ s. IsOwned es total s p.len p.owner) start_p own_p in
     let at_q : IsOwned es total at q.len q.owner =
@@ -199,5 +199,10 @@ one_list es total at (p ∷ ps) (q ∷ qs) disjoint (start_p, pos_p, own_p, rest
     same_piece p.owner q.owner p.start q.start p.len q.len same.0 (start_p ∙ sym start_q) same.1 in
     let moved : Accounts es total (at + p.len) qs =
     subst (λ n. Accounts es total (at + n) qs) (sym same.1) rest_q in
-    let tails : ps ≡ qs = one_list es total (at + p.len) ps qs disjoint rest_p moved in
+    let tails : ps ≡ qs = one_account_from es total (at + p.len) ps qs disjoint rest_p moved in
     cc
+
+-- and so does one list alone for all of them
+pub one_account : (es : List Extent) (total : ℕ) (ps qs : List Piece) → AreDisjoint es →
+    Accounts es total 0 ps → Accounts es total 0 qs → ps ≡ qs
+one_account es total ps qs = one_account_from es total 0 ps qs

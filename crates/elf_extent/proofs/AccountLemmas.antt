@@ -12,33 +12,33 @@ use Rattle.elf_extent.specs.Extent.{HasAt, IsHeld, AreDisjoint, AreWithin}
 use Rattle.elf_extent.specs.Members.{AreMembers, EndsBefore}
 use Rattle.elf_extent.proofs.Overlaps.{once, place_of}
 
-abbrev pub start_of : Member → ℕ
-start_of m = m.extent.start
+abbrev pub member_start : Member → ℕ
+member_start m = m.extent.start
 
-abbrev pub end_of : Member → ℕ
-end_of m = m.extent.start + m.extent.len
+abbrev pub member_end : Member → ℕ
+member_end m = m.extent.start + m.extent.len
 
 -- the piece of a member
-abbrev pub piece_of : Member → Piece
-piece_of m = record { owner = Some m.index; start = m.extent.start; len = m.extent.len }
+abbrev pub member_piece : Member → Piece
+member_piece m = record { owner = Some m.index; start = m.extent.start; len = m.extent.len }
 
 -- a member holds what lies between its start and its end
 pub held_by : (es : List Extent) (n : ℕ) (ms : List Member) → AreMembers es n ms → (k : ℕ) (d : Member) (x : ℕ) →
-    k < length ms → start_of (get_or ms k d) ≤ x → x < end_of (get_or ms k d) →
+    k < length ms → member_start (get_or ms k d) ≤ x → x < member_end (get_or ms k d) →
     HasAt es (get_or ms k d).index x
 held_by es n ms given k d x within above below =
     ((get_or ms k d).extent, (given.each k d within).here, (above, below))
 
 -- of ascending members that share no byte, an earlier one ends before a later one
 pub disjoint_far : (es : List Extent) (n : ℕ) (ms : List Member) → AreDisjoint es → AreMembers es n ms →
-    IsNonDecreasingBy start_of ms → (j k : ℕ) (d : Member) → j < k → k < length ms →
+    IsNonDecreasingBy member_start ms → (j k : ℕ) (d : Member) → j < k → k < length ms →
     EndsBefore (get_or ms j d) (get_or ms k d)
 disjoint_far es n ms disjoint given up j k d lt within =
     let rises = up j k d (omega arith) within in
     let nonempty = (given.each k d within).nonempty in
-    elim (cases_lt (start_of (get_or ms k d)) (end_of (get_or ms j d))) [
+    elim (cases_lt (member_start (get_or ms k d)) (member_end (get_or ms j d))) [
       | inl shared ↦ absurd (once es n ms given d j k lt within
-          (disjoint _ _ (start_of (get_or ms k d))
+          (disjoint _ _ (member_start (get_or ms k d))
           (held_by es n ms given j d _ (omega arith) rises shared)
           (held_by es n ms given k d _ within (omega arith) (omega arith))))
       | inr apart ↦ apart
@@ -76,14 +76,14 @@ gap_then es total at end rest le gap accounts = elim (gap_cases at end) [
 ]
 
 -- the pieces so far account for what lies below at, where the members before i end and no other begins
-pub record IsWalk (es : List Extent) (total : ℕ) (ms : List Member) (i at : ℕ) (ps : List Piece) : Type 0 where
+pub record AccountsBelow (es : List Extent) (total : ℕ) (ms : List Member) (i at : ℕ) (ps : List Piece) : Type 0 where
   pub within : at ≤ total
   pub before : (at ≡ 0) ⊎ IsHeld es (at - 1)
-  pub passed : (k : ℕ) (d : Member) → k < i → k < length ms → end_of (get_or ms k d) ≤ at
-  pub ahead : (k : ℕ) (d : Member) → i ≤ k → k < length ms → at ≤ start_of (get_or ms k d)
+  pub passed : (k : ℕ) (d : Member) → k < i → k < length ms → member_end (get_or ms k d) ≤ at
+  pub ahead : (k : ℕ) (d : Member) → i ≤ k → k < length ms → at ≤ member_start (get_or ms k d)
   pub continues : (rest : List Piece) → Accounts es total at rest → Accounts es total 0 (ps ++ rest)
 
-pub walk_begins : (es : List Extent) (total : ℕ) (ms : List Member) → IsWalk es total ms 0 0 []
+pub walk_begins : (es : List Extent) (total : ℕ) (ms : List Member) → AccountsBelow es total ms 0 0 []
 walk_begins es total ms = record {
   within = omega arith;
   before = inl refl;
@@ -94,8 +94,8 @@ walk_begins es total ms = record {
 
 -- between at and an offset up to which no member begins, no byte is held
 pub walk_free : (es : List Extent) (total : ℕ) (ms : List Member) (i at end : ℕ) (ps : List Piece) →
-    AreMembers es (length es) ms → IsWalk es total ms i at ps →
-    ((k : ℕ) (d : Member) → i ≤ k → k < length ms → end ≤ start_of (get_or ms k d)) →
+    AreMembers es (length es) ms → AccountsBelow es total ms i at ps →
+    ((k : ℕ) (d : Member) → i ≤ k → k < length ms → end ≤ member_start (get_or ms k d)) →
     (x : ℕ) → at ≤ x → x < at + (end - at) → IsHeld es x → ⊥
 walk_free es total ms i at end ps given walk later x above below (j, held) =
     let m : Member = record { index = 0; extent = record { start = 0; len = 0 } } in
@@ -108,28 +108,28 @@ walk_free es total ms i at end ps given walk later x above below (j, held) =
 
 -- the gap before member i, if there is one
 pub gap_before : (es : List Extent) (total : ℕ) (ms : List Member) (i at : ℕ) (ps : List Piece) (d : Member) →
-    AreMembers es (length es) ms → IsNonDecreasingBy start_of ms → IsWalk es total ms i at ps →
-    i < length ms → at < start_of (get_or ms i d) →
-    IsGap es total at (start_of (get_or ms i d) - at)
+    AreMembers es (length es) ms → IsNonDecreasingBy member_start ms → AccountsBelow es total ms i at ps →
+    i < length ms → at < member_start (get_or ms i d) →
+    IsGap es total at (member_start (get_or ms i d) - at)
 gap_before es total ms i at ps d given up walk within lt =
     let m = get_or ms i d in
     let nonempty = (given.each i d within).nonempty in
-    let ends : start_of m ≡ at + (start_of m - at) = omega arith in
+    let ends : member_start m ≡ at + (member_start m - at) = omega arith in
     record {
-      free = walk_free es total ms i at (start_of m) ps given walk
-          (λ k e le below. subst (λ (n : Member). start_of n ≤ start_of (get_or ms k e))
+      free = walk_free es total ms i at (member_start m) ps given walk
+          (λ k e le below. subst (λ (n : Member). member_start n ≤ member_start (get_or ms k e))
           (get_or_default ms i e d within) (up i k e le below));
       before = walk.before;
       after = inr (subst (IsHeld es) ends
-          (m.index, held_by es (length es) ms given i d (start_of m) within (omega arith) (omega arith)));
+          (m.index, held_by es (length es) ms given i d (member_start m) within (omega arith) (omega arith)));
     }
 
 -- one member further
 pub walk_on : (es : List Extent) (total : ℕ) (ms : List Member) (i at : ℕ) (ps : List Piece) (d : Member) →
     AreDisjoint es → AreWithin es total → AreMembers es (length es) ms →
-    IsNonDecreasingBy start_of ms → i < length ms → IsWalk es total ms i at ps →
-    IsWalk es total ms (i + 1) (end_of (get_or ms i d))
-    ((ps ++ gap_between at (start_of (get_or ms i d))) ++ piece_of (get_or ms i d) ∷ [])
+    IsNonDecreasingBy member_start ms → i < length ms → AccountsBelow es total ms i at ps →
+    AccountsBelow es total ms (i + 1) (member_end (get_or ms i d))
+    ((ps ++ gap_between at (member_start (get_or ms i d))) ++ member_piece (get_or ms i d) ∷ [])
 walk_on es total ms i at ps d disjoint inside given up within walk =
     let m = get_or ms i d in
     let member = given.each i d within in
@@ -138,7 +138,7 @@ walk_on es total ms i at ps d disjoint inside given up within walk =
       within = inside m.index m.extent member.here member.nonempty;
       before = inr (
         m.index,
-        held_by es (length es) ms given i d (end_of m - 1) within
+        held_by es (length es) ms given i d (member_end m - 1) within
             (omega (arith, member.nonempty)) (omega (arith, member.nonempty)),
       );
       passed = λ k e lt below. elim (cases_lt k i) [
@@ -146,19 +146,19 @@ walk_on es total ms i at ps d disjoint inside given up within walk =
         | inr other ↦
             let same : k ≡ i = omega arith in
             let read : get_or ms k e ≡ m = ap (λ j. get_or ms j e) same ∙ get_or_default ms i e d within in
-            let ends : end_of (get_or ms k e) ≡ end_of m = ap end_of read in
+            let ends : member_end (get_or ms k e) ≡ member_end m = ap member_end read in
             omega arith
       ];
       ahead = λ k e le below.
-          subst (λ (n : Member). end_of n ≤ start_of (get_or ms k e)) (get_or_default ms i e d within)
+          subst (λ (n : Member). member_end n ≤ member_start (get_or ms k e)) (get_or_default ms i e d within)
           (disjoint_far es (length es) ms disjoint given up i k e (omega arith) below);
       continues = λ rest accounts.
-          let gap = gap_between at (start_of m) in
-          let grouped : ps ++ (gap ++ (piece_of m ∷ rest)) ≡ ((ps ++ gap) ++ piece_of m ∷ []) ++ rest =
-          sym (append_assoc (ps ++ gap) (piece_of m ∷ []) rest ∙ append_assoc ps gap (piece_of m ∷ rest)) in
+          let gap = gap_between at (member_start m) in
+          let grouped : ps ++ (gap ++ (member_piece m ∷ rest)) ≡ ((ps ++ gap) ++ member_piece m ∷ []) ++ rest =
+          sym (append_assoc (ps ++ gap) (member_piece m ∷ []) rest ∙ append_assoc ps gap (member_piece m ∷ rest)) in
           subst (Accounts es total 0) grouped
-          (walk.continues (gap ++ (piece_of m ∷ rest))
-          (gap_then es total at (start_of m) (piece_of m ∷ rest) begins
+          (walk.continues (gap ++ (member_piece m ∷ rest))
+          (gap_then es total at (member_start m) (member_piece m ∷ rest) begins
           (gap_before es total ms i at ps d given up walk within)
           (refl, member.nonempty, member.here, accounts)));
     }
@@ -167,18 +167,18 @@ walk_on es total ms i at ps d disjoint inside given up within walk =
 pub walk_pushed : (es : List Extent) (total : ℕ) (ms : List Member) (i at : ℕ) (ps gapped pushed : List Piece)
     (d : Member) →
     AreDisjoint es → AreWithin es total → AreMembers es (length es) ms →
-    IsNonDecreasingBy start_of ms → i < length ms → IsWalk es total ms i at ps →
-    gapped ≡ ps ++ gap_between at (start_of (get_or ms i d)) →
-    pushed ≡ gapped ++ piece_of (get_or ms i d) ∷ [] →
-    IsWalk es total ms (i + 1) (end_of (get_or ms i d)) pushed
+    IsNonDecreasingBy member_start ms → i < length ms → AccountsBelow es total ms i at ps →
+    gapped ≡ ps ++ gap_between at (member_start (get_or ms i d)) →
+    pushed ≡ gapped ++ member_piece (get_or ms i d) ∷ [] →
+    AccountsBelow es total ms (i + 1) (member_end (get_or ms i d)) pushed
 walk_pushed es total ms i at ps gapped pushed d disjoint inside given up within walk gap piece =
-    subst (IsWalk es total ms (i + 1) (end_of (get_or ms i d)))
-    (sym (piece ∙ ap (λ qs. qs ++ piece_of (get_or ms i d) ∷ []) gap))
+    subst (AccountsBelow es total ms (i + 1) (member_end (get_or ms i d)))
+    (sym (piece ∙ ap (λ qs. qs ++ member_piece (get_or ms i d) ∷ []) gap))
     (walk_on es total ms i at ps d disjoint inside given up within walk)
 
 -- behind the last member there is a gap or nothing
 pub walk_ends : (es : List Extent) (total : ℕ) (ms : List Member) (i at : ℕ) (ps : List Piece) →
-    AreMembers es (length es) ms → length ms ≤ i → IsWalk es total ms i at ps →
+    AreMembers es (length es) ms → length ms ≤ i → AccountsBelow es total ms i at ps →
     Accounts es total 0 (ps ++ gap_between at total)
 walk_ends es total ms i at ps given done walk =
     let le = walk.within in

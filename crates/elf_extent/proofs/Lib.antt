@@ -1,7 +1,10 @@
-pub mod AccountLaws
-pub mod AccountLemmas
-pub mod Least
-pub mod MembersLemmas
-pub mod Overlaps
-pub mod PlaceLaws
-pub mod PlaceLemmas
+-- `Public` is for the proofs of the crates above, the others are for those of this one.
+mod AccountLaws
+mod AccountLemmas
+pub mod Public
+mod Least
+mod MembersLemmas
+mod Overlaps
+mod PlaceLaws
+mod PlaceLemmas
+mod SomeAccount

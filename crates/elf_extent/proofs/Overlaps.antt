@@ -58,15 +58,15 @@ apart_far ms n up apart d j k lt below within =
     omega arith
 
 -- a byte of two members is held at two places, the earlier one first
-pub record IsShared (ms : List Member) (j k x : ℕ) : Type 0 where
+pub record AreBothAt (ms : List Member) (j k x : ℕ) : Type 0 where
   pub order : j < k
   pub within : k < length ms
   pub earlier : (d : Member) → Has (get_or ms j d).extent x
   pub later : (d : Member) → Has (get_or ms k d).extent x
 
-pub shared_of : (es : List Extent) (ms : List Member) (x : ℕ) → AreMembers es (length es) ms →
-    Doubly es x → (j k : ℕ) × IsShared ms j k x
-shared_of es ms x given (a, b, lt, at_a, at_b) =
+pub both_at : (es : List Extent) (ms : List Member) (x : ℕ) → AreMembers es (length es) ms →
+    Doubly es x → (j k : ℕ) × AreBothAt ms j k x
+both_at es ms x given (a, b, lt, at_a, at_b) =
     let p = place_of es ms a x given at_a in
     let q = place_of es ms b x given at_b in
     elim (cases_lt p.0 q.0) [
@@ -132,7 +132,7 @@ pub lowest_double : (es : List Extent) (ms : List Member) (found : Option ℕ) �
     IsLowest (Doubly es) found
 lowest_double es ms None given up apart = λ x double.
     let m : Member = record { index = 0; extent = record { start = 0; len = 0 } } in
-    let s = shared_of es ms x given double in
+    let s = both_at es ms x given double in
     let far = apart_far ms (length ms) up apart m s.0 s.1 s.2.order s.2.within s.2.within in
     let earlier = s.2.earlier m in
     let later = s.2.later m in
@@ -141,7 +141,7 @@ lowest_double es ms (Some x) given up (k, overlap) = record {
   holds = overlap_shared es ms k x given up overlap;
   lowest = λ y double.
       let m : Member = record { index = 0; extent = record { start = 0; len = 0 } } in
-      let s = shared_of es ms y given double in
+      let s = both_at es ms y given double in
       let earlier = s.2.earlier m in
       let later = s.2.later m in
       elim (cases_lt s.1 (k + 1)) [
@@ -186,3 +186,9 @@ disjoint_from_never es none i j x at_i at_j = elim (cases_lt i j) [
     | inr same ↦ omega arith
   ]
 ]
+
+-- and of disjoint extents no byte is held twice
+pub never_from_disjoint : (es : List Extent) → AreDisjoint es → Never (Doubly es)
+never_from_disjoint es disjoint x (i, j, less, at_i, at_j) =
+    let same = disjoint i j x at_i at_j in
+    omega arith

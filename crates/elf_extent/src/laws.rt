@@ -1,11 +1,24 @@
-//! Laws of accounts and of least places, for the layers above: each function is the proof of what
+//! Laws of extents, of accounts and of least places, for the layers above: each function is the proof of what
 //! it ensures, and does nothing.
 ghost use Rattle.std.specs.Prelude.{ℕ, ◌≡◌, ◌<◌, ◌≤◌, List, Some, length, slice_get, slice_index};
 ghost use Rattle.elf_extent.specs.declared.extent.Extent.{Extent};
 ghost use Rattle.elf_extent.specs.declared.extent.Piece.{Piece};
 ghost use Rattle.elf_extent.specs.Account.{Accounts, IsOnlyPieceAt};
-ghost use Rattle.elf_extent.specs.Extent.{AreDisjoint};
+ghost use Rattle.elf_extent.specs.Extent.{AreDisjoint, AreWithin, Doubly};
+ghost use Rattle.elf_extent.specs.Least.{Never};
 ghost use Rattle.elf_extent.specs.Place.{Fits, Least, end_of};
+
+/// Extents are disjoint exactly where no byte is held by two of them.
+pub fn disjoint()
+    ensures only { (es : List Extent) → AreDisjoint es → Never (Doubly es) }
+    ensures from { (es : List Extent) → Never (Doubly es) → AreDisjoint es }
+{}
+
+/// Extents that share no byte and end at or below the total have an account.
+pub fn some_account()
+    ensures { (es : List Extent) (total : ℕ) → AreDisjoint es → AreWithin es total →
+        (ps : List Piece) × Accounts es total 0 ps }
+{}
 
 /// An account is one list: no other list of pieces meets it.
 pub fn one_account()

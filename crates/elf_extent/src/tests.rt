@@ -14,6 +14,17 @@ fn piece(owner: Option<usize>, start: u64, len: u64) -> Piece {
     Piece { owner, start, len }
 }
 
+// The example of the crate's root.
+#[test]
+fn finds_a_double_and_places_parts(rt: HostRuntime) -> Result<(), Fail> {
+    let alloc = rt.alloc();
+    let extents = [extent(0, 4), extent(2, 4)];
+    assert_eq!(rt; first_double(alloc, &extents)?, Some(2));
+    let places = place(alloc, &[(1, 1), (8, 8)], 64)?;
+    assert_eq!(rt; places.as_slice(), [64, 72].as_slice());
+    Ok(())
+}
+
 #[test]
 fn finds_the_lowest_double(rt: HostRuntime) -> Result<(), Fail> {
     let several = [extent(10, 5), extent(0, 3), extent(2, 9), extent(14, 1)];

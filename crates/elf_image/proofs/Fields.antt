@@ -12,10 +12,10 @@ use Rattle.elf_field.specs.Phdr.{IsPhdrAt}
 use Rattle.elf_field.specs.PhdrLaws.{phdr_fields_at}
 use Rattle.elf_rules.specs.Tables.{header, order_of, phdr_offset, sections, segments, shdr_offset}
 use Rattle.elf_image.specs.Image.{ImageValue, IsImage, no_section, no_segment, section_of, segment_of}
-use Rattle.elf_rules.proofs.Clean.{sections_read_at}
+use Rattle.elf_rules.proofs.Public.{sections_read_at}
 use Rattle.elf_image.proofs.Standing.{clean_of, table_there}
 use Rattle.elf_image.proofs.Stands.{entry_at}
-use Rattle.elf_image.proofs.Theorem.{counted_by_bytes, shared_by_bytes}
+use Rattle.elf_image.proofs.Theorem.{counted_by_bytes, has_tables_by_bytes}
 
 pub header_fields : (v : ImageValue) (b : List ℕ) → IsImage v b → IsEhdrAt (order_of v.header.e_ident) b 0 v.header
 unfolding header
@@ -35,7 +35,7 @@ section_fields v b k image below =
     let whole = stands.len in
     let counted = counted_by_bytes v b image in
     let count = counted.section_count in
-    let shared = (shared_by_bytes v b image).count in
+    let shared = (has_tables_by_bytes v b image).count in
     let there = table_there v counted (omega arith) in
     let table = (clean_of v counted).section_table there in
     let read = ap (λ (f : ℕ → Shdr). f k) (sym (sections_read_at b v.header there)) ∙ entry_at (sections b v.header) v.sections no_section _ (sym stands.tables.section_headers) k (omega arith) in
@@ -50,7 +50,7 @@ segment_fields v b j image below =
     let whole = stands.len in
     let counted = counted_by_bytes v b image in
     let count = counted.segment_count in
-    let shared = (shared_by_bytes v b image).segment_count in
+    let shared = (has_tables_by_bytes v b image).segment_count in
     let table = (clean_of v counted).program_table (omega arith) in
     let read = entry_at (segments b v.header) v.segments no_segment _ (sym stands.tables.program_headers) j (omega arith) in
     subst (IsPhdrAt (order_of v.header.e_ident) b (phdr_offset v.header j)) read

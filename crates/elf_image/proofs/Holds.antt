@@ -15,14 +15,14 @@ use Rattle.elf_field.specs.PhdrLaws.{phdr_laws}
 use Rattle.elf_extent.specs.declared.extent.Extent.{Extent}
 use Rattle.elf_extent.specs.declared.extent.Piece.{Piece}
 use Rattle.elf_extent.specs.Account.{Accounts, IsOwned}
-use Rattle.elf_extent.proofs.AccountLaws.{piece_of_extent}
+use Rattle.elf_extent.proofs.Public.{piece_for}
 use Rattle.elf_rules.specs.Tables.{content_extent, order_of}
 use Rattle.elf_image.specs.declared.part.Owner.{Owner}
 use Rattle.elf_image.specs.declared.part.Owner.TheVariants.{Header, ProgramTable, SectionTable, Content, Gap}
 use Rattle.elf_image.specs.Image.{ImageValue, IsSound, PlacedPart, gap_len, if_gap, index_of, joined, owned_bytes, part_bytes, piece_of, value_extents}
 use Rattle.elf_image.proofs.Joins.{HaveLengths, in_flat_parts, length-flat_parts}
 use Rattle.elf_image.proofs.Standing.{at_index, counted_of, disjoint_of, mapped_at, within_of}
-use Rattle.elf_image.proofs.Tables.{length-table}
+use Rattle.elf_field.specs.RecordTableLaws.{length-table}
 
 -- ---- each part's bytes are as many as its length
 
@@ -117,7 +117,7 @@ part_of_extent : (v : ImageValue) → IsSound v → (i : ℕ) (e : Extent) →
 part_of_extent v sound i e here some =
     let es = value_extents v.header v.sections v.segments in
     let within = within_of v (counted_of v sound) i e here some in
-    let found = piece_of_extent es v.len (map piece_of v.parts) i e (disjoint_of v (counted_of v sound)) sound.accounts here some (omega arith) in
+    let found = piece_for es v.len (map piece_of v.parts) i e (disjoint_of v (counted_of v sound)) sound.accounts here some (omega arith) in
     let from = mapped_at piece_of v.parts found.0 _ found.1 in
     let stand = at_index (λ p. take p.part.len (drop p.part.start (joined v)) ≡ part_bytes v p) v.parts found.0 from.0 (in_joined v sound) from.1 in
     let owner : index_of from.0.part.owner ≡ Some i = ap (λ (q : Piece). q.owner) from.2 in

@@ -1,14 +1,17 @@
--- Lemmas on what was read and written so far, and on what an image stands as.
-pub mod Edited
-pub mod Fields
-pub mod Holds
-pub mod Joins
-pub mod Moved
-pub mod Named
-pub mod OneImage
-pub mod Parsed
-pub mod Standing
-pub mod Stands
-pub mod Tables
-pub mod Theorem
-pub mod Written
+-- `Public` is for the proofs of the crates above, the others are for those of this one.
+mod Edited
+mod Fields
+mod Holds
+mod Joins
+mod Moved
+mod Named
+mod OneImage
+mod Parsed
+mod PartsOfImage
+pub mod Public
+mod SomeImage
+mod Standing
+mod Stands
+mod Theorem
+mod Written
+mod ZeroEnded

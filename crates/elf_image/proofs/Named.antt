@@ -1,19 +1,13 @@
--- What a sound image value says of its contents and of its sections' names.
-use Rattle.std.proofs.Common.{◌≡◌, ◌≢◌, ◌<◌, ◌≤◌, ◌-◌, ℕ, Bool, true, false, Bor, List, [], length, map, min, get_or, take, drop, refl, sym, ap, ◌∙◌, arith, inl, inr}
-use Rattle.std.specs.Prelude.{◌==◌, if◌then◌else◌, slice_index}
-use Rattle.std.specs.List.{before_first}
-use Rattle.std.proofs.Math.ListN.{drop_of_length-le}
-use Rattle.std.proofs.lemmas.Bool.{cases_eq, cases_lt, ne_eqb}
-use Rattle.std.proofs.lemmas.List.{get_or-map, length-map, take_all, take_rest}
-use Rattle.std.proofs.lemmas.List.Sums.{position_or_len_is}
+-- What a sound image value says of its section headers, its contents and its sections' names.
+use Rattle.std.proofs.Common.{◌≡◌, ◌≢◌, ◌<◌, ◌≤◌, ℕ, Bor, List, [], length, map, get_or, refl, sym, ap, ◌∙◌, arith, inl, inr}
+use Rattle.std.specs.Prelude.{◌==◌, ◌+◌, ◌^◌, if◌then◌else◌}
+use Rattle.std.proofs.lemmas.Bool.{cases_eq, ne_eqb}
+use Rattle.std.proofs.lemmas.List.{get_or-map, length-map}
+use Rattle.std.proofs.lemmas.Option.{slice_get-get_or}
 use Rattle.elf_field.specs.declared.shdr.Shdr.{Shdr}
-use Rattle.elf_rules.specs.Tables.{content_extent, name_table}
+use Rattle.elf_rules.specs.Tables.{content_extent, name_table, shdr_offset}
 use Rattle.elf_image.specs.Image.{ImageValue, IsSound, no_section, section_of, value_names}
-use Rattle.elf_image.proofs.Standing.{clean_of, counted_of}
-
-not_true : (b : Bool) → (b ≡ true → ⊥) → b ≡ false
-not_true true never = absurd (never refl)
-not_true false never = refl
+use Rattle.elf_image.proofs.Standing.{clean_of, content_within, counted_of, table_there}
 
 -- there is a content for each section header
 pub contents_count : (v : ImageValue) → IsSound v → length v.contents ≡ length v.sections
@@ -55,13 +49,13 @@ content_held v xs i sound same within =
     let long = length-map xs (λ (x : Bor (List ℕ)). x.now) in
     omega arith
 
-pub content_at : (xs : List (Bor (List ℕ))) (i : ℕ) (x : Bor (List ℕ)) → i < length xs → x ≡ get_or xs i x → x.now ≡ get_or (map (λ x. x.now) xs) i []
-content_at xs i x within is = ap (λ (y : Bor (List ℕ)). y.now) is ∙ sym (get_or-map (λ (y : Bor (List ℕ)). y.now) xs i x [] within)
+pub held_at : (xs : List (Bor (List ℕ))) (i : ℕ) (x : Bor (List ℕ)) → i < length xs → x ≡ get_or xs i x → x.now ≡ get_or (map (λ x. x.now) xs) i []
+held_at xs i x within is = ap (λ (y : Bor (List ℕ)). y.now) is ∙ sym (get_or-map (λ (y : Bor (List ℕ)). y.now) xs i x [] within)
 
 pub content_size : (v : ImageValue) (xs : List (Bor (List ℕ))) (i : ℕ) (x : Bor (List ℕ)) → IsSound v → v.contents ≡ map (λ x. x.now) xs → i < length v.sections →
     x ≡ get_or xs i x → length x.now ≡ (content_extent (section_of v.sections i)).len
 content_size v xs i x sound same within is =
-    let here = content_at xs i x (content_held v xs i sound same within) is in
+    let here = held_at xs i x (content_held v xs i sound same within) is in
     ap (λ (c : List ℕ). length c) here ∙ ap (λ (cs : List (List ℕ)). length (get_or cs i [])) (sym same) ∙ content_len v i sound within
 
 pub names_index : (v : ImageValue) (xs : List (Bor (List ℕ))) (k : ℕ) → IsSound v → v.contents ≡ map (λ x. x.now) xs →
@@ -70,32 +64,27 @@ names_index v xs k sound same is some =
     let there = names_there v sound (λ none. some (is ∙ none)) in
     content_held v xs k sound same (omega arith)
 
-pub names_at : (v : ImageValue) (xs : List (Bor (List ℕ))) (k : ℕ) (x : Bor (List ℕ)) → IsSound v → v.contents ≡ map (λ x. x.now) xs →
+pub names_held : (v : ImageValue) (xs : List (Bor (List ℕ))) (k : ℕ) (x : Bor (List ℕ)) → IsSound v → v.contents ≡ map (λ x. x.now) xs →
     k ≡ name_table v.header (section_of v.sections 0) → k ≢ 0 → x ≡ get_or xs k x → x.now ≡ value_names v.header v.sections v.contents
-names_at v xs k x sound same is some here =
+names_held v xs k x sound same is some here =
     let Names : ℕ → List ℕ = λ j. if j == 0 then [] else get_or v.contents j [] in
-    let at = content_at xs k x (names_index v xs k sound same is some) here in
+    let at = held_at xs k x (names_index v xs k sound same is some) here in
     let found : Names k ≡ get_or v.contents k [] = rw (ne_eqb k 0 some) refl in
     at ∙ ap (λ (cs : List (List ℕ)). get_or cs k []) (sym same) ∙ sym found ∙ ap Names is
 
--- ---- strings
+-- ---- where they lie in the file
 
--- the first zero ends a string
-pub before_zero : (xs : List ℕ) (k : ℕ) → k < length xs → ((j : ℕ) → 0 ≤ j → j < k → ((slice_index xs j == 0) ≡ true → ⊥)) → (slice_index xs k == 0) ≡ true →
-    take k xs ≡ before_first (λ byte. byte == 0) xs
-before_zero xs k within before here =
-    ap (λ (n : ℕ). take n xs) (sym (position_or_len_is (λ byte. byte == 0) xs k 0 (omega arith) (λ j below. not_true (slice_index xs j == 0) (before j (omega arith) below)) (λ _. here)))
+pub len_short : (v : ImageValue) → IsSound v → v.len ≤ 2 ^ 30
+len_short v sound = (clean_of v (counted_of v sound)).short
 
--- and the end does, where there is none
-pub no_zero : (xs : List ℕ) → ((j : ℕ) → 0 ≤ j → j < length xs → ((slice_index xs j == 0) ≡ true → ⊥)) → xs ≡ before_first (λ byte. byte == 0) xs
-no_zero xs before =
-    sym (take_all (length xs) xs (omega arith)) ∙
-    ap (λ (n : ℕ). take n xs) (sym (position_or_len_is (λ byte. byte == 0) xs (length xs) 0 (omega arith) (λ j below. not_true (slice_index xs j == 0) (before j (omega arith) below)) (λ lt. absurd (omega arith))))
+pub header_inside : (v : ImageValue) (i : ℕ) → IsSound v → i < length v.sections → shdr_offset v.header i + 64 ≤ v.len
+header_inside v i sound lt =
+    let counted = counted_of v sound in
+    let count = counted.section_count in
+    let within = (clean_of v counted).section_table (table_there v counted (omega arith)) in
+    omega arith
 
--- what is left from an offset, or nothing past the end
-pub rest_from : (xs : List ℕ) (x : ℕ) → take (length xs - min x (length xs)) (drop (min x (length xs)) xs) ≡ drop x xs
-rest_from xs x =
-    take_rest xs (min x (length xs)) ∙ elim (cases_lt x (length xs)) [
-      | inl below ↦ ap (λ (n : ℕ). drop n xs) (omega arith)
-      | inr past ↦ drop_of_length-le xs (omega arith) ∙ sym (drop_of_length-le xs (omega arith))
-    ]
+pub content_inside : (v : ImageValue) (i : ℕ) → IsSound v → i < length v.sections → 0 < (content_extent (section_of v.sections i)).len →
+    (section_of v.sections i).sh_offset + (content_extent (section_of v.sections i)).len ≤ v.len
+content_inside v i sound lt some =
+    content_within v (counted_of v sound) i (section_of v.sections i) (slice_get-get_or v.sections i no_section lt) some

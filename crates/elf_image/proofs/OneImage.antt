@@ -6,7 +6,7 @@ use Rattle.elf_field.specs.declared.shdr.Shdr.{Shdr}
 use Rattle.elf_field.specs.declared.phdr.Phdr.{Phdr}
 use Rattle.elf_extent.specs.declared.extent.Piece.{Piece}
 use Rattle.elf_extent.specs.Account.{Accounts}
-use Rattle.elf_extent.proofs.AccountLaws.{one_list}
+use Rattle.elf_extent.proofs.Public.{one_account}
 use Rattle.elf_rules.specs.Tables.{bytes_in, content_extent, section_count, sections, segment_count, segments}
 use Rattle.elf_image.specs.declared.part.Owner.{Owner}
 use Rattle.elf_image.specs.declared.part.Owner.TheVariants.{Header, ProgramTable, SectionTable, Content, Gap}
@@ -16,7 +16,7 @@ use Rattle.elf_image.proofs.Standing.{disjoint_of}
 use Rattle.elf_image.proofs.Theorem.{counted_by_bytes}
 
 -- the owner of an index in the list of extents
-abbrev owner_from : Option ℕ → Owner
+abbrev pub owner_from : Option ℕ → Owner
 owner_from None = Gap
 owner_from (Some zero) = Header
 owner_from (Some (suc zero)) = SectionTable
@@ -81,6 +81,6 @@ one_image v w b one two =
     let of_header = subst (λ (h : Ehdr). Accounts (value_extents h w.sections w.segments) v.len 0 (map piece_of w.parts)) (sym headers) of_len in
     let of_sections = subst (λ (ss : List Shdr). Accounts (value_extents v.header ss w.segments) v.len 0 (map piece_of w.parts)) (sym section_headers) of_header in
     let accounts = subst (λ (gs : List Phdr). Accounts (value_extents v.header v.sections gs) v.len 0 (map piece_of w.parts)) (sym program_headers) of_sections in
-    let pieces = one_list _ v.len 0 (map piece_of v.parts) (map piece_of w.parts) (disjoint_of v (counted_by_bytes v b one)) first.accounts accounts in
+    let pieces = one_account _ v.len (map piece_of v.parts) (map piece_of w.parts) (disjoint_of v (counted_by_bytes v b one)) first.accounts accounts in
     let parts = same_parts b v.parts w.parts pieces first.gaps second.gaps in
     same_value _ _ _ _ _ _ _ _ _ _ _ _ lens headers section_headers program_headers contents parts

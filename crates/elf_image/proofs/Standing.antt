@@ -11,8 +11,8 @@ use Rattle.elf_rules.specs.Tables.{content_extent, section_count, segment_count}
 use Rattle.elf_rules.specs.OverlapRule.{extents}
 use Rattle.elf_rules.specs.Rows.{FirstIn}
 use Rattle.elf_rules.specs.SoundTables.{HasSoundTables}
-use Rattle.elf_rules.proofs.Clean.{clean_records, content_some, extents_disjoint, sound_tables}
-use Rattle.elf_image.specs.Image.{ImageValue, IsSound, value_rows, no_section, section_of, segment_of, value_extents, value_names}
+use Rattle.elf_rules.proofs.Public.{clean_records, content_some, extents_disjoint, sound_tables}
+use Rattle.elf_image.specs.Image.{AreWithinBytes, ImageValue, IsSound, value_rows, no_section, section_of, segment_of, value_extents, value_names}
 
 -- ---- lists by index
 
@@ -132,3 +132,15 @@ within_of v counted i e here some = by_index i here where
       let from = mapped_at content_extent v.sections k e at in
       let P : Extent → Type 0 = λ x. 0 < x.len → x.start + x.len ≤ v.len in
       subst P from.2 (content_within v counted k from.0 from.1) some
+
+-- so do its records
+pub records_within : (v : ImageValue) (b : List ℕ) → IsCounted v → v.len ≡ length b → AreWithinBytes b v.header v.sections v.segments
+records_within v b counted len =
+    let clean = clean_of v counted in
+    let sections_count = counted.section_count in
+    let segments_count = counted.segment_count in
+    record {
+      header = (let long = clean.header in omega arith);
+      section_headers = λ i lt. (let within = clean.section_table (table_there v counted (omega arith)) in omega arith);
+      program_headers = λ j lt. (let within = clean.program_table (omega arith) in omega arith);
+    }

@@ -24,9 +24,9 @@ use Rattle.elf_image.specs.declared.part.Owner.{Owner}
 use Rattle.elf_image.specs.declared.part.Owner.TheVariants.{Header, ProgramTable, SectionTable, Content, Gap}
 use Rattle.elf_image.specs.Image.{ImageValue, IsSound, PlacedPart, Stands, gap_in, gap_len, if_gap, joined, no_section, owned_bytes, part_bytes, section_of}
 use Rattle.elf_image.proofs.Holds.{holds_content, holds_header, holds_sections, holds_segments, in_joined, length-joined}
-use Rattle.elf_rules.proofs.Clean.{sections_none, sections_read_at}
-use Rattle.elf_image.proofs.Standing.{clean_of, counted_of, table_there}
-use Rattle.elf_image.proofs.Tables.{IsBytes-table, entries_read, record_read}
+use Rattle.elf_rules.proofs.Public.{sections_none, sections_read_at}
+use Rattle.elf_image.proofs.Standing.{clean_of, counted_of, records_within, table_there}
+use Rattle.elf_field.specs.RecordTableLaws.{IsBytes-table, entries_read, record_read}
 
 -- ---- the joined parts are bytes
 
@@ -67,7 +67,7 @@ header_read b h fits stand =
     rw same (sym (record_read ehdr_laws o b 0 h fits stand))
 
 -- the section headers, as many as there are
-sections_read : (b : List ℕ) (h : Ehdr) (ss : List Shdr) → (0 < length ss → h.e_shoff ≢ 0) → AllByRecursion IsShdr ss → take (64 * length ss) (drop h.e_shoff b) ≡ flat_map (shdr_bytes (order_of h.e_ident)) ss →
+pub sections_read : (b : List ℕ) (h : Ehdr) (ss : List Shdr) → (0 < length ss → h.e_shoff ≢ 0) → AllByRecursion IsShdr ss → take (64 * length ss) (drop h.e_shoff b) ≡ flat_map (shdr_bytes (order_of h.e_ident)) ss →
     map (sections b h) (range_with_len 0 (length ss)) ≡ ss
 sections_read b h [] table fit stand = refl
 sections_read b h (s ∷ ss) table fit stand =
@@ -76,7 +76,7 @@ sections_read b h (s ∷ ss) table fit stand =
     ap (λ (f : ℕ → Shdr). map f (range_with_len 0 n)) (sections_read_at b h there)
     ∙ entries_read shdr_laws (order_of h.e_ident) b h.e_shoff 0 (s ∷ ss) fit (ap (λ (x : ℕ). take (64 * n) (drop x b)) (add-zero h.e_shoff) ∙ stand)
 
-segments_read : (b : List ℕ) (h : Ehdr) (gs : List Phdr) → AllByRecursion IsPhdr gs → take (56 * length gs) (drop h.e_phoff b) ≡ flat_map (phdr_bytes (order_of h.e_ident)) gs →
+pub segments_read : (b : List ℕ) (h : Ehdr) (gs : List Phdr) → AllByRecursion IsPhdr gs → take (56 * length gs) (drop h.e_phoff b) ≡ flat_map (phdr_bytes (order_of h.e_ident)) gs →
     map (segments b h) (range_with_len 0 (length gs)) ≡ gs
 unfolding segments
 segments_read b h gs fit stand =
@@ -122,7 +122,7 @@ stands_segments v sound =
     sym read ∙ ap (λ (n : ℕ). map (segments (joined v) v.header) (range_with_len 0 n)) count
 
 -- contents that stand at their extents are those read there
-contents_read : (b : List ℕ) (cs : List (List ℕ)) (ss : List Shdr) → map length cs ≡ map (λ s. (content_extent s).len) ss →
+pub contents_read : (b : List ℕ) (cs : List (List ℕ)) (ss : List Shdr) → map length cs ≡ map (λ s. (content_extent s).len) ss →
     ((i : ℕ) (e : Extent) → slice_get (map content_extent ss) i ≡ Some e → take e.len (drop e.start b) ≡ get_or cs i []) →
     cs ≡ map (λ s. bytes_in b (content_extent s)) ss
 contents_read b [] [] lengths stand = refl
@@ -162,6 +162,7 @@ joined_stands v sound = record {
     section_headers = stands_sections v sound;
     program_headers = stands_segments v sound;
   };
+  within = records_within v (joined v) (counted_of v sound) (sym (length-joined v sound));
   contents = stands_contents v sound;
   accounts = sound.accounts;
   gaps = gaps_read v (joined v) v.parts (in_joined v sound) sound.gaps;

@@ -18,24 +18,20 @@ use Rattle.elf_field.specs.ShdrLaws.{shdr_laws}
 use Rattle.elf_field.specs.PhdrLaws.{phdr_laws}
 use Rattle.elf_extent.specs.declared.extent.Extent.{Extent}
 use Rattle.elf_extent.specs.Account.{Accounts, IsOwned}
-use Rattle.elf_extent.proofs.AccountLaws.{accounts_le}
+use Rattle.elf_extent.proofs.Public.{accounts_le}
 use Rattle.elf_rules.specs.Rows.{FirstIn}
 use Rattle.elf_rules.specs.ImageRules.{image_rows, rows}
 use Rattle.elf_rules.specs.Tables.{bytes_in, content_extent, header, name_table, names, names_at, order_of, section_count, sections, segment_count, segments}
 use Rattle.elf_image.specs.declared.part.Owner.{Owner}
 use Rattle.elf_image.specs.declared.part.Owner.TheVariants.{Header, ProgramTable, SectionTable, Content, Gap}
 use Rattle.elf_image.specs.Image.{AreTables, ImageValue, IsImage, IsSound, PlacedPart, Stands, gap_in, gap_len, if_gap, index_of, joined, no_section, no_segment, owned_bytes, part_bytes, piece_of, section_of, segment_of, value_extents, value_names, value_rows}
-use Rattle.elf_rules.proofs.Clean.{clean_records, sections_none, sections_read_at, sound_tables, table_some}
+use Rattle.elf_rules.proofs.Public.{clean_records, sections_none, sections_read_at, sound_tables, table_some}
 use Rattle.elf_image.proofs.Holds as holds
-use Rattle.elf_image.proofs.Joins.{HaveLengths, flat_parts_are}
-use Rattle.elf_rules.proofs.Same.{Agree, same_clean}
+use Rattle.elf_image.proofs.Joins.{flat_parts_are}
+use Rattle.elf_rules.proofs.Public.{Agree, same_clean}
 use Rattle.elf_image.proofs.Standing.{IsCounted, clean_of, content_within, counted_of, table_there}
 use Rattle.elf_image.proofs.Stands.{content_is, entry_at, first_of_none, joined_stands}
-use Rattle.elf_image.proofs.Tables.{entries_bytes, entries_fit, record_bytes}
-
--- the parts' bytes have the parts' lengths
-pub lengths_of : (v : ImageValue) → IsSound v → HaveLengths (part_bytes v) v.parts
-lengths_of v sound = holds.lengths_of v sound
+use Rattle.elf_field.specs.RecordTableLaws.{entries_bytes, entries_fit, record_bytes}
 
 -- ---- what stands and its byte list break the same rules
 
@@ -52,8 +48,8 @@ reads_of v b stands = record {
   contents = stands.contents;
 }
 
--- what both sides have in common, said of a value that is read of b
-pub record IsShared (v : ImageValue) (b : List ℕ) : Type 0 where
+-- the tables of the value are those that b has by its own counts
+pub record HasTablesOf (v : ImageValue) (b : List ℕ) : Type 0 where
   pub first : sections b v.header 0 ≡ section_of v.sections 0
   pub count : length v.sections ≡ section_count v.header (sections b v.header 0)
   pub segment_count : length v.segments ≡ segment_count v.header (sections b v.header 0)
@@ -75,10 +71,10 @@ first_from v b stands some =
           entry_at (sections b v.header) v.sections no_section n (sym stands.tables.section_headers) 0 (omega arith))
     ]
 
-shared_of : (v : ImageValue) (b : List ℕ) → Reads v b → (v.header.e_shoff ≢ 0 → 0 < length v.sections) →
+pub has_tables_of : (v : ImageValue) (b : List ℕ) → Reads v b → (v.header.e_shoff ≢ 0 → 0 < length v.sections) →
     (v.header.e_shoff ≡ 0 → v.header.e_shstrndx ≡ 0) →
-    (v.header.e_shoff ≢ 0 → name_table v.header (section_of v.sections 0) < length v.sections) → IsShared v b
-shared_of v b stands some unnamed named = record {
+    (v.header.e_shoff ≢ 0 → name_table v.header (section_of v.sections 0) < length v.sections) → HasTablesOf v b
+has_tables_of v b stands some unnamed named = record {
   first = first_from v b stands some;
   count = ap length stands.tables.section_headers ∙ length-map-range_with_len (sections b v.header) 0 _;
   segment_count = ap length stands.tables.program_headers ∙ length-map-range_with_len (segments b v.header) 0 _;
@@ -86,7 +82,7 @@ shared_of v b stands some unnamed named = record {
   named = named;
 }
 
-agree_from : (v : ImageValue) (b : List ℕ) → Reads v b → IsShared v b →
+agree_from : (v : ImageValue) (b : List ℕ) → Reads v b → HasTablesOf v b →
     Agree v.header (sections b v.header) (section_of v.sections) (segments b v.header) (segment_of v.segments)
 agree_from v b stands shared = record {
   first = shared.first;
@@ -94,7 +90,7 @@ agree_from v b stands shared = record {
   segments = entry_at (segments b v.header) v.segments no_segment _ (sym stands.tables.program_headers);
 }
 
-agree_back : (v : ImageValue) (b : List ℕ) → Reads v b → IsShared v b →
+agree_back : (v : ImageValue) (b : List ℕ) → Reads v b → HasTablesOf v b →
     Agree v.header (section_of v.sections) (sections b v.header) (segment_of v.segments) (segments b v.header)
 agree_back v b stands shared =
     let there = agree_from v b stands shared in
@@ -107,7 +103,7 @@ agree_back v b stands shared =
     }
 
 -- the name table's content is the bytes there
-names_same : (v : ImageValue) (b : List ℕ) → Reads v b → IsShared v b → names b v.header ≡ value_names v.header v.sections v.contents
+names_same : (v : ImageValue) (b : List ℕ) → Reads v b → HasTablesOf v b → names b v.header ≡ value_names v.header v.sections v.contents
 unfolding names names_at
 names_same v b stands shared =
     let table = ap (name_table v.header) shared.first in
@@ -132,7 +128,7 @@ names_same v b stands shared =
         ap (λ (s : Shdr). bytes_in b (content_extent s)) entry ∙ sym (content_is b v.sections k lt) ∙ ap (λ (cs : List (List ℕ)). get_or cs k []) (sym stands.contents)
 
 -- a clean value's byte list breaks no rule
-clean_bytes : (v : ImageValue) (b : List ℕ) → Reads v b → IsShared v b → FirstIn (value_rows v) None → FirstIn (rows b) None
+pub clean_bytes : (v : ImageValue) (b : List ℕ) → Reads v b → HasTablesOf v b → FirstIn (value_rows v) None → FirstIn (rows b) None
 unfolding rows
 clean_bytes v b stands shared clean =
     let P : Ehdr → Type 0 = λ h. FirstIn (image_rows (length b) h (sections b h) (segments b h) (names b h)) None in
@@ -150,8 +146,8 @@ rows_at_value v b stands clean =
     subst (λ (n : ℕ). FirstIn (image_rows n v.header (sections b v.header) (segments b v.header) (names b v.header)) None) (sym stands.len) (subst P (sym stands.tables.header) clean)
 
 -- what is shared, from a clean byte list
-shared_by_reads : (v : ImageValue) (b : List ℕ) → Reads v b → FirstIn (rows b) None → IsShared v b
-shared_by_reads v b stands clean =
+has_tables_by_reads : (v : ImageValue) (b : List ℕ) → Reads v b → FirstIn (rows b) None → HasTablesOf v b
+has_tables_by_reads v b stands clean =
     let facts = sound_tables v.len v.header (sections b v.header) (segments b v.header) (names b v.header)
     (clean_records v.len v.header (sections b v.header) (segments b v.header) (names b v.header) (rows_at_value v b stands clean)) in
     let n = section_count v.header (sections b v.header 0) in
@@ -159,26 +155,26 @@ shared_by_reads v b stands clean =
     let some : v.header.e_shoff ≢ 0 → 0 < length v.sections = λ there. let lt = facts.some there in omega arith in
     let first = first_from v b stands some in
     let table = ap (name_table v.header) first in
-    shared_of v b stands some facts.no_names (λ there. let lt = facts.name_table there in omega arith)
+    has_tables_of v b stands some facts.no_names (λ there. let lt = facts.name_table there in omega arith)
 
 -- the value that stands as a clean byte list is clean
 clean_value : (v : ImageValue) (b : List ℕ) → Reads v b → FirstIn (rows b) None → FirstIn (value_rows v) None
 clean_value v b stands clean =
-    let shared = shared_by_reads v b stands clean in
+    let shared = has_tables_by_reads v b stands clean in
     let moved = same_clean v.len v.header _ _ _ _ _ (agree_from v b stands shared) (rows_at_value v b stands clean) in
     subst (λ (ns : List ℕ). FirstIn (image_rows v.len v.header (section_of v.sections) (segment_of v.segments) ns) None) (names_same v b stands shared) moved
 
 pub counted_by_reads : (v : ImageValue) (b : List ℕ) → Reads v b → FirstIn (rows b) None → IsCounted v
 counted_by_reads v b stands clean =
-    let shared = shared_by_reads v b stands clean in
+    let shared = has_tables_by_reads v b stands clean in
     record {
       section_count = shared.count ∙ ap (section_count v.header) shared.first;
       segment_count = shared.segment_count ∙ ap (segment_count v.header) shared.first;
       clean = clean_value v b stands clean;
     }
 
-pub shared_by_bytes : (v : ImageValue) (b : List ℕ) → IsImage v b → IsShared v b
-shared_by_bytes v b image = shared_by_reads v b (reads_of v b image.stands) image.clean
+pub has_tables_by_bytes : (v : ImageValue) (b : List ℕ) → IsImage v b → HasTablesOf v b
+has_tables_by_bytes v b image = has_tables_by_reads v b (reads_of v b image.stands) image.clean
 
 pub counted_by_bytes : (v : ImageValue) (b : List ℕ) → IsImage v b → IsCounted v
 counted_by_bytes v b image = counted_by_reads v b (reads_of v b image.stands) image.clean
@@ -189,7 +185,7 @@ stands_is_image v b sound stands =
     let facts = clean_of v (counted_of v sound) in
     let count = sound.section_count in
     let reads = reads_of v b stands in
-    let shared = shared_of v b reads (λ there. let lt = facts.some there in omega arith) facts.no_names
+    let shared = has_tables_of v b reads (λ there. let lt = facts.some there in omega arith) facts.no_names
     (λ there. let lt = facts.name_table there in omega arith) in
     record { stands = stands; clean = clean_bytes v b reads shared sound.clean }
 
@@ -249,7 +245,7 @@ owned_at v b image SectionTable gap start len some owned gaps =
     let there = table_there v counted positive in
     let within = facts.section_table there in
     let count = counted.section_count in
-    let same = (shared_by_bytes v b image).count in
+    let same = (has_tables_by_bytes v b image).count in
     ap (flat_map (shdr_bytes (order_of v.header.e_ident))) (stands.tables.section_headers ∙ ap (λ (n : ℕ). map (sections b v.header) (range_with_len 0 n)) (sym same))
     ∙ section_bytes b v.header (length v.sections) there stands.bytes (omega arith) ∙ ap₂ (λ (m n : ℕ). take m (drop n b)) l e
 owned_at v b image ProgramTable gap start len some owned gaps =
@@ -262,7 +258,7 @@ owned_at v b image ProgramTable gap start len some owned gaps =
     let count = counted.segment_count in
     let positive : 0 < segment_count v.header (section_of v.sections 0) = omega arith in
     let within = facts.program_table positive in
-    let same = (shared_by_bytes v b image).segment_count in
+    let same = (has_tables_by_bytes v b image).segment_count in
     ap (flat_map (phdr_bytes (order_of v.header.e_ident))) (stands.tables.program_headers ∙ ap (λ (n : ℕ). map (segments b v.header) (range_with_len 0 n)) (sym same))
     ∙ segment_bytes b v.header (length v.segments) stands.bytes (omega arith) ∙ ap₂ (λ (m n : ℕ). take m (drop n b)) l e
 owned_at v b image (Content i) gap start len some owned gaps =
@@ -354,3 +350,13 @@ image_is_sound v b image =
       gaps = gaps_sound b (value_extents v.header v.sections v.segments) v.len 0 v.parts stands.bytes whole stands.accounts stands.gaps;
       clean = counted.clean;
     }
+
+-- ---- the laws
+
+-- an image stands as one list of bytes, and as no other
+pub one_list : (v : ImageValue) (b c : List ℕ) → IsImage v b → Stands v c → b ≡ c
+one_list v b c one two = only_joined v b one ∙ sym (only_joined v c (stands_is_image v c (image_is_sound v b one) two))
+
+-- a sound value stands as a list of bytes that breaks no rule
+pub sound_stands : (v : ImageValue) → IsSound v → (b : List ℕ) × IsImage v b
+sound_stands v sound = (joined v, joined_is_image v sound)

@@ -17,10 +17,9 @@ use Rattle.elf_extent.specs.Account.{Accounts}
 use Rattle.elf_image.specs.declared.part.Part.{Part}
 use Rattle.elf_image.specs.Image.{ImageValue, IsSound, PlacedPart, joined, part_bytes, piece_of}
 use Rattle.elf_image.specs.Outline.{OutlineValue, image_of, placed}
-use Rattle.elf_image.proofs.Holds.{length-joined}
 use Rattle.elf_image.proofs.Joins.{HaveLengths}
 use Rattle.elf_image.proofs.Standing.{clean_of, counted_of}
-use Rattle.elf_image.proofs.Theorem.{lengths_of}
+use Rattle.elf_image.proofs.Holds.{length-joined, lengths_of}
 
 -- a piece failed behind bytes that are out
 pub went_err : (a b c : Option (List ℕ)) (m n : ℕ) (xs ys zs : List ℕ) → length xs ≡ m → Appends a b xs →

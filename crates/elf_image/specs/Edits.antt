@@ -4,8 +4,8 @@ use Rattle.std.specs.Prelude.{◌≡◌, ◌≢◌, ℕ, ◌<◌, List, length, 
 use Rattle.elf_field.specs.declared.shdr.Shdr.{Shdr}
 use Rattle.elf_rules.specs.Tables.{name_table}
 use Rattle.elf_image.specs.Image.{ImageValue, PlacedPart, gap_len, section_of}
-use Rattle.elf_image.specs.declared.edits.ReplaceFault.{ReplaceFault}
-use Rattle.elf_image.specs.declared.edits.ReplaceFault.TheVariants.{NoSection, WrongLength, NameTable}
+use Rattle.elf_image.specs.declared.fault.ReplaceFault.{ReplaceFault}
+use Rattle.elf_image.specs.declared.fault.ReplaceFault.TheVariants.{NoSection, WrongLength, NameTable}
 
 -- with another e_entry
 abbrev pub with_entry : ImageValue → ℕ → ImageValue

@@ -1,6 +1,6 @@
 -- An image: a file as a value, and the byte list that it stands as.
 -- (gABI chapter 4, ELF Header, Sections; chapter 5, Program Header.)
-use Rattle.std.specs.Prelude.{◌≡◌, ℕ, suc, ◌*◌, ◌==◌, if◌then◌else◌, List, [], ◌∷◌, length, map, get_or, take, drop, Option, None, Some}
+use Rattle.std.specs.Prelude.{◌≡◌, ◌<◌, ◌≤◌, ℕ, suc, ◌+◌, ◌*◌, ◌==◌, if◌then◌else◌, List, [], ◌∷◌, length, map, get_or, take, drop, Option, None, Some}
 use Rattle.std.specs.List.{AllByRecursion, flat_map, range_with_len}
 use Rattle.elf_field.specs.declared.ehdr.Ehdr.{Ehdr}
 use Rattle.elf_field.specs.declared.shdr.Shdr.{Shdr}
@@ -13,7 +13,7 @@ use Rattle.elf_extent.specs.declared.extent.Extent.{Extent}
 use Rattle.elf_extent.specs.declared.extent.Piece.{Piece}
 use Rattle.elf_extent.specs.Account.{Accounts}
 use Rattle.elf_rules.specs.Rows.{Ruled, FirstIn}
-use Rattle.elf_rules.specs.Tables.{bytes_in, content_extent, header, name_table, order_of, section_count, sections, segment_count, segments}
+use Rattle.elf_rules.specs.Tables.{bytes_in, content_extent, header, name_table, order_of, phdr_offset, section_count, sections, segment_count, segments, shdr_offset}
 pub use Rattle.elf_rules.specs.Tables.{no_section, no_segment, section_of, segment_of}
 use Rattle.elf_rules.specs.ImageRules.{image_rows, rows}
 use Rattle.elf_image.specs.declared.part.Owner.{Owner}
@@ -89,11 +89,18 @@ pub record AreTables (b : List ℕ) (h : Ehdr) (ss : List Shdr) (gs : List Phdr)
   pub section_headers : ss ≡ map (sections b h) (range_with_len 0 (section_count h (sections b h 0)))
   pub program_headers : gs ≡ map (segments b h) (range_with_len 0 (segment_count h (sections b h 0)))
 
+-- the header, each section header and each program header lie within the byte list
+pub record AreWithinBytes (b : List ℕ) (h : Ehdr) (ss : List Shdr) (gs : List Phdr) : Type 0 where
+  pub header : 64 ≤ length b
+  pub section_headers : (i : ℕ) → i < length ss → shdr_offset h i + 64 ≤ length b
+  pub program_headers : (j : ℕ) → j < length gs → phdr_offset h j + 56 ≤ length b
+
 -- the value stands as the byte list b
 pub record Stands (v : ImageValue) (b : List ℕ) : Type 0 where
   pub bytes : IsBytes b
   pub len : v.len ≡ length b
   pub tables : AreTables b v.header v.sections v.segments
+  pub within : AreWithinBytes b v.header v.sections v.segments
   -- each content is the bytes at its offset
   pub contents : v.contents ≡ map (λ s. bytes_in b (content_extent s)) v.sections
   -- the parts are the extents, and the longest runs of offsets that lie in none

@@ -1,17 +1,16 @@
-//! A file as a value: its records, contents and parts, read and edited in place.
-ghost use Rattle.std.specs.Prelude.{◌≡◌, ◌<◌, ◌≤◌, ℕ, [], List, MatchResult, OnErr, OnOk, get_or, length, map};
-ghost use Rattle.elf_rules.specs.Tables.{content_extent, name_table, order_of};
-ghost use Rattle.elf_image.specs.Edits.{IsReplaceFault, IsReplaceable, IsSection, with_content, with_entry, with_flags, with_zero_gaps};
+//! A file as a value: its records, contents and parts.
+ghost use Rattle.std.specs.Prelude.{◌≡◌, ◌<◌, ◌≤◌, ◌+◌, ◌^◌, ℕ, [], List, get_or, length, map};
+ghost use Rattle.elf_rules.specs.Tables.{content_extent, name_table, order_of, shdr_offset};
 ghost use Rattle.elf_image.specs.Image.{IsImage, IsSound, section_of, segment_of, value_names};
 ghost use Rattle.elf_image.specs.Outline.{image_of};
-ghost use Rattle.elf_image.specs.Strings.{section_name, string};
+ghost use Rattle.elf_image.specs.Parts.{AreParts};
+ghost use Rattle.elf_image.specs.Strings.{section_name};
 
-use crate::edits::{NoSection, ReplaceFault};
 use crate::outline::Outline;
 use crate::part::Part;
-use elf_field::abi::{SHT_NOBITS, SHT_NULL};
+use crate::strings::string_at;
+use elf_field::abi::SHT_NULL;
 use elf_field::{Ehdr, Order, Phdr, Shdr};
-use memchr::memchr;
 use std::marker::Model;
 
 /// An ELF-64 file that breaks no rule, as a value: what [`parse`](crate::parse) makes of the file's
@@ -61,6 +60,14 @@ impl<'a> Image<'a> {
         let _ = &self.outline;
     }
 
+    /// The length of the file, in bytes; no edit changes it.
+    pub fn len(&self) -> u64
+        ensures value { result ≡ self.now.len }
+        ensures short { result ≤ 2 ^ 30 }
+    {
+        self.outline.len()
+    }
+
     /// The byte order, as identification byte 5 says it (gABI chapter 4, Data Encoding).
     pub fn order(&self) -> Order
         ensures { result ≡ order_of self.now.header.e_ident }
@@ -101,9 +108,24 @@ impl<'a> Image<'a> {
     /// stands in the file.
     pub fn section(&self, i: usize) -> Shdr
         requires { i < length self.now.sections }
-        ensures { result ≡ section_of self.now.sections i }
+        ensures value { result ≡ section_of self.now.sections i }
+        ensures inside { shdr_offset self.now.header i + 64 ≤ self.now.len }
+        ensures short { self.now.len ≤ 2 ^ 30 }
     {
         self.outline.section(i)
+    }
+
+    /// The offset in the file of section header `i`, which is below
+    /// [`section_count`](Image::section_count).
+    pub fn header_offset(&self, i: usize) -> u64
+        requires { i < length self.now.sections }
+        ensures value { result ≡ shdr_offset self.now.header i }
+        ensures inside { result + 64 ≤ self.now.len }
+        ensures short { self.now.len ≤ 2 ^ 30 }
+    {
+        // That header lies in the file, so that the sum is a number of 64 bits.
+        let _ = self.section(i);
+        self.header().e_shoff + 64 * i as u64
     }
 
     /// Program header `j`, which is below [`segment_count`](Image::segment_count).
@@ -144,82 +166,33 @@ impl<'a> Image<'a> {
         requires { i < length self.now.sections }
         ensures bytes { result.now ≡ get_or self.now.contents i [] }
         ensures size { length result.now ≡ (content_extent (section_of self.now.sections i)).len }
+        ensures inside { 0 < length result.now →
+            (section_of self.now.sections i).sh_offset + length result.now ≤ self.now.len }
+        ensures short { self.now.len ≤ 2 ^ 30 }
     {
         self.contents[i]
     }
 
-    /// What each byte of the file belongs to: the parts in ascending order, each byte in just one.
+    /// The offset in the file of the content of section `i`: `sh_offset`, at which the section has
+    /// bytes only where its content is not empty.
+    pub fn content_offset(&self, i: usize) -> u64
+        requires { i < length self.now.sections }
+        ensures value { result ≡ (section_of self.now.sections i).sh_offset }
+        ensures inside { 0 < (content_extent (section_of self.now.sections i)).len →
+            result + (content_extent (section_of self.now.sections i)).len ≤ self.now.len }
+        ensures short { self.now.len ≤ 2 ^ 30 }
+    {
+        // That content lies in the file.
+        let _ = self.content(i);
+        self.section(i).sh_offset
+    }
+
+    /// What each byte of the file belongs to: the parts in ascending order, none of them empty, each
+    /// byte in just one.
     pub fn parts(&self) -> &[Part]
-        ensures { result.now ≡ map (λ p. p.part) self.now.parts }
+        ensures value { result.now ≡ map (λ p. p.part) self.now.parts }
+        ensures parts { AreParts self.now result.now }
     {
         self.outline.parts()
-    }
-
-    /// Sets `e_entry`.
-    pub fn set_entry(&mut self, entry: u64)
-        ensures { self.new ≡ with_entry self.old entry }
-    {
-        self.outline.set_entry(entry);
-    }
-
-    /// Sets `sh_flags` of section `i`. Answers `NoSection`, and changes nothing, where `i` is 0 or not
-    /// below [`section_count`](Image::section_count).
-    pub fn set_flags(&mut self, i: usize, flags: u64) -> Result<(), NoSection>
-        ensures ok { OnOk result (IsSection self.old i × (self.new ≡ with_flags self.old i flags)) }
-        ensures err { OnErr result ((¬ IsSection self.old i) × (self.new ≡ self.old)) }
-    {
-        self.outline.set_flags(i, flags)
-    }
-
-    /// Replaces the content of section `i` by as many other bytes. A refusal changes nothing:
-    /// [`ReplaceFault`] says when each comes.
-    pub fn replace(&mut self, i: usize, content: &'a [u8]) -> Result<(), ReplaceFault>
-        ensures ok { OnOk result (IsReplaceable self.old i content.now ×
-            (self.new ≡ with_content self.old i content.now)) }
-        ensures err { MatchResult result (λ _. Unit {0}) (λ fault.
-            IsReplaceFault self.old i content.now fault × (self.new ≡ self.old)) }
-    {
-        self.check_replaceable(i, content)?;
-        self.contents[i] = content;
-        Ok(())
-    }
-
-    // Why the content of section `i` can't be replaced by this one.
-    fn check_replaceable(&self, i: usize, content: &[u8]) -> Result<(), ReplaceFault>
-        ensures { MatchResult result (λ _. IsReplaceable self.now i content.now)
-            (IsReplaceFault self.now i content.now) }
-    {
-        if i == 0 || i >= self.section_count() {
-            return Err(ReplaceFault::NoSection);
-        }
-        let section = self.section(i);
-        if section.sh_type == SHT_NULL || section.sh_type == SHT_NOBITS {
-            return Err(ReplaceFault::NoSection);
-        }
-        if content.len() as u64 != section.sh_size {
-            return Err(ReplaceFault::WrongLength);
-        }
-        if i == self.name_table() as usize {
-            return Err(ReplaceFault::NameTable);
-        }
-        Ok(())
-    }
-
-    /// Sets every byte of every gap to 0.
-    pub fn zero_gaps(&mut self)
-        ensures { self.new ≡ with_zero_gaps self.old }
-    {
-        self.outline.zero_gaps();
-    }
-}
-
-// The bytes of a string table from an offset to the first zero.
-fn string_at(table: &[u8], offset: usize) -> &[u8]
-    ensures { result.now ≡ string table.now offset }
-{
-    let rest = &table[offset.min(table.len())..];
-    match memchr(0, rest) {
-        Some(end) => &rest[..end],
-        None => rest,
     }
 }

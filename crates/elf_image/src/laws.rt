@@ -1,14 +1,21 @@
 //! Laws of images, each as the contract of a function that does nothing.
-ghost use Rattle.std.specs.Prelude.{◌≡◌, ◌<◌, ℕ, List, length};
+ghost use Rattle.std.specs.Prelude.{◌≡◌, ◌<◌, ℕ, List, None, length};
+ghost use Rattle.elf_field.specs.Bytes.{IsBytes};
 ghost use Rattle.elf_field.specs.Ehdr.{IsEhdrAt};
 ghost use Rattle.elf_field.specs.Phdr.{IsPhdrAt};
 ghost use Rattle.elf_field.specs.Shdr.{IsShdrAt};
+ghost use Rattle.elf_rules.specs.ImageRules.{IsFault};
 ghost use Rattle.elf_rules.specs.Tables.{order_of, phdr_offset, shdr_offset};
 ghost use Rattle.elf_image.specs.Image.{ImageValue, IsImage, IsSound, Stands, section_of, segment_of};
 
 /// An image stands as one list of bytes, and as no other, be it with a fault or without.
 pub fn one_list()
     ensures { (v : ImageValue) (b c : List ℕ) → IsImage v b → Stands v c → b ≡ c }
+{}
+
+/// Each list of bytes that breaks no rule is an image; by [`one_image`] it is just one.
+pub fn some_image()
+    ensures { (b : List ℕ) → IsBytes b → IsFault b None → (v : ImageValue) × IsImage v b }
 {}
 
 /// A list of bytes that breaks no rule is one image: no other value stands as it.

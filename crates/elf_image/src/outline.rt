@@ -5,7 +5,7 @@ ghost use Rattle.elf_image.specs.Edits.{flagged};
 ghost use Rattle.elf_image.specs.Image.{section_of, segment_of};
 ghost use Rattle.elf_image.specs.Outline.{outline_value};
 
-use crate::edits::NoSection;
+use crate::fault::NoSection;
 use crate::part::Part;
 use elf_field::abi::SHN_XINDEX;
 use elf_field::{Ehdr, Order, Phdr, Shdr};
@@ -52,6 +52,13 @@ impl Outline {
             parts,
             zeroed: false,
         }
+    }
+
+    /// The length of the file, in bytes.
+    pub fn len(&self) -> u64
+        ensures { result ≡ self.now.len }
+    {
+        self.len
     }
 
     /// The byte order of the file.

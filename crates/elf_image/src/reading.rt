@@ -19,6 +19,12 @@ const FIRST_ROOM: usize = 1 << 16;
 /// the cache when the bytes come.
 const MOST_ROOM: usize = 1 << 18;
 
+/// From so many bytes on, capacity is asked for well ahead.
+const LARGE: usize = 1 << 22;
+
+/// That many times what is filled.
+const AHEAD: usize = 64;
+
 /// Reads until a read gives 0 bytes or `buf`, which is empty at the call, holds 2^30 + 1 bytes.
 ///
 /// After a fault too `buf` holds exactly the bytes that the reader gave, in order. Any error of the
@@ -79,8 +85,25 @@ fn make_room(buf: &mut Vec<u8>, filled: usize) -> Result<(), AllocError>
     if filled < buf.len() {
         return Ok(());
     }
+    reserve_ahead(buf, filled);
     let room = filled.max(FIRST_ROOM).min(MOST_ROOM);
     buf.resize((filled + room).min(MOST_BYTES), 0)
+}
+
+// Capacity for many times the first `filled` bytes, where these are many and fill what there is: a
+// large file is then seldom moved, and lies in large pages where the system has them. Where so much
+// is refused the vector stays as it is, and grows as it would have.
+fn reserve_ahead(buf: &mut Vec<u8>, filled: usize)
+    requires { filled < 2 ^ 30 + 1 }
+    ensures items { buf.new.items ≡ buf.old.items }
+    ensures len { vec_len buf.new ≡ vec_len buf.old }
+{
+    if filled < LARGE || filled < buf.capacity() {
+        return;
+    }
+    let capacity = (AHEAD * filled).min(MOST_BYTES);
+    // A refusal is no fault: less may serve.
+    let _ = buf.reserve_exact(capacity.saturating_sub(buf.len()));
 }
 
 // One read into `buf` after its first `filled` bytes, which stay.

@@ -1,6 +1,5 @@
 //! An image onto a writer.
-ghost use Rattle.std.specs.Prelude.{◌≡◌, ◌*◌, ◌+◌, ◌^◌, ◌<◌, ◌≤◌, ℕ, List, length, map, replicate};
-ghost use Rattle.std.specs.List.{flat_map};
+ghost use Rattle.std.specs.Prelude.{◌≡◌, ◌<◌, ℕ, List, length, map};
 ghost use Rattle.elf_image.specs.Image.{IsImage, IsSound, joined, part_bytes};
 ghost use Rattle.elf_image.specs.Outline.{image_of, placed};
 ghost use Rattle.elf_image.specs.Output.{Went};
@@ -8,13 +7,9 @@ ghost use Rattle.elf_image.specs.Output.{Went};
 use crate::fault::WriteFault;
 use crate::image::Image;
 use crate::outline::Outline;
-use crate::output::write_whole;
+use crate::output::{write_records, write_whole, write_zeros};
 use crate::part::{Owner, Part};
-use elf_field::{Order, Record};
 use std::io::Write;
-
-/// The size in bytes of the arrays that tables and zeros go out through.
-const BLOCK: usize = 4096;
 
 /// Writes the bytes that stand for the image: exactly these, or exactly their first `written` and a
 /// fault.
@@ -65,64 +60,11 @@ fn write_part<W: Write>(
 {
     let start = part.start as usize;
     match part.owner {
-        Owner::Header => write_table(outline.order(), &[outline.header()], writer),
-        Owner::SectionTable => write_table(outline.order(), outline.sections(), writer),
-        Owner::ProgramTable => write_table(outline.order(), outline.segments(), writer),
+        Owner::Header => write_records(writer, outline.order(), &[outline.header()]),
+        Owner::SectionTable => write_records(writer, outline.order(), outline.sections()),
+        Owner::ProgramTable => write_records(writer, outline.order(), outline.segments()),
         Owner::Content(i) => write_whole(writer, contents[i]),
-        Owner::Gap if outline.is_zeroed() => write_zeros(part.len, writer),
+        Owner::Gap if outline.is_zeroed() => write_zeros(writer, part.len),
         Owner::Gap => write_whole(writer, &file[start..start + part.len as usize]),
     }
-}
-
-// Records one after the other, as many at a time as a block holds.
-fn write_table<T: Record, W: Write>(
-    order: Order,
-    records: &[T],
-    writer: &mut W,
-) -> Result<(), WriteFault>
-    requires some { 0 < T.SIZE }
-    requires small { T.SIZE ≤ BLOCK }
-    requires fits { T.SIZE * length records.now < 2 ^ 64 }
-    ensures { Went (W.contents writer.old) (W.contents writer.new) (flat_map (T.bytes order) records.now) result }
-{
-    let mut block = [0; BLOCK];
-    let mut next = 0;
-    while next < records.len() {
-        let count = (records.len() - next).min(BLOCK / T::SIZE);
-        let bytes = &mut block[..T::SIZE * count];
-        put_records(order, &records[next..next + count], bytes);
-        match write_whole(writer, bytes) {
-            Ok(()) => {}
-            Err(fault) => return Err(fault.after((T::SIZE * next) as u64)),
-        }
-        next += count;
-    }
-    Ok(())
-}
-
-// Records one after the other, in a slice of just their size.
-fn put_records<T: Record>(order: Order, records: &[T], bytes: &mut [u8])
-    requires { length bytes.old ≡ T.SIZE * length records.now }
-    ensures { bytes.new ≡ flat_map (T.bytes order) records.now }
-{
-    for i in 0..records.len() {
-        let start = T::SIZE * i;
-        records[i].put(order, &mut bytes[start..start + T::SIZE]);
-    }
-}
-
-fn write_zeros<W: Write>(count: u64, writer: &mut W) -> Result<(), WriteFault>
-    ensures { Went (W.contents writer.old) (W.contents writer.new) (replicate count 0) result }
-{
-    let zeros = [0; BLOCK];
-    let mut written = 0;
-    while written < count {
-        let size = (count - written).min(BLOCK as u64);
-        match write_whole(writer, &zeros[..size as usize]) {
-            Ok(()) => {}
-            Err(fault) => return Err(fault.after(written)),
-        }
-        written += size;
-    }
-    Ok(())
 }

@@ -7,6 +7,12 @@ mod failing_calls;
 mod file_names;
 mod known_files;
 #[cfg(test)]
+mod image_faults;
+#[cfg(test)]
+mod image_files;
+#[cfg(test)]
+mod images;
+#[cfg(test)]
 mod many_sections;
 #[cfg(test)]
 mod many_segments;

@@ -1,6 +1,8 @@
 //! `roundtrip FILE`: reads an ELF-64 file, makes its image, and writes the image to standard output:
 //! the bytes of the file again.
 #![tactic(auto)]
+ghost use Rattle.std.specs.Prelude.{◌≡◌};
+ghost use Rattle.std.specs.Io.KnownBytes.{Appends};
 
 use elf_image::{parse, read_to_end, write};
 use std::alloc::Global;
@@ -26,7 +28,10 @@ fn main(rt: HostRuntime) -> io::Result<ExitCode> {
 
 /// Writes the image of these bytes. Answers the exit status: 0 where it is out, 1 where the bytes
 /// are no image, 3 where memory or the writer failed.
-fn write_back<W: Write>(alloc: Global, bytes: &[u8], out: &mut W) -> u8 {
+fn write_back<W: Write>(alloc: Global, bytes: &[u8], out: &mut W) -> u8
+    // What is out is what was read.
+    ensures { result ≡ 0 → Appends (W.contents out.old) (W.contents out.new) bytes.now }
+{
     match parse(alloc, bytes) {
         Ok(image) => match write(&image, out) {
             Ok(()) => 0,

@@ -2,7 +2,7 @@ use Rattle.std.proofs.Common.{length, sym, subst}
 use Rattle.std.specs.List.Sorted.{IsNonDecreasingBy}
 use Rattle.elf_extent.specs.Account.{Accounts}
 use Rattle.elf_extent.specs.Members.{AreMembers}
-use Rattle.elf_extent.proofs.AccountLemmas.{start_of, walk_pushed, walk_ends}
+use Rattle.elf_extent.proofs.AccountLemmas.{member_start, walk_pushed, walk_ends}
 use Rattle.elf_extent.proofs.accounting.account.Goals as goal
 
 pub loop-member-preserved : goal.loop-member-preserved
@@ -12,8 +12,8 @@ loop-member-preserved c =
     let given : AreMembers es (length es) ms =
     subst (AreMembers es (length es)) (sym c.deref-member-items.ensures.value)
     c.in_ok-members.ensures.members in
-    let up : IsNonDecreasingBy start_of ms =
-    subst (IsNonDecreasingBy start_of) (sym c.deref-member-items.ensures.value)
+    let up : IsNonDecreasingBy member_start ms =
+    subst (IsNonDecreasingBy member_start) (sym c.deref-member-items.ensures.value)
     c.in_ok-members.ensures.ascending in
     walk_pushed es c.args.total ms c.loop-member.member-index c.loop-member.at
     c.loop-member.pieces.items _ _ _ c.requires.disjoint c.requires.within given up

@@ -1,5 +1,5 @@
-use Rattle.elf_extent.proofs.PlaceLaws.{not_before}
+use Rattle.elf_extent.proofs.Public.{above_earlier}
 use Rattle.elf_extent.proofs.laws.above_earlier.Goals as goal
 
 pub returns : goal.returns
-returns c = not_before
+returns c = above_earlier

@@ -1,5 +1,5 @@
-use Rattle.elf_extent.proofs.PlaceLaws.{same_length}
+use Rattle.elf_extent.proofs.Public.{fits_length}
 use Rattle.elf_extent.proofs.laws.fits_length.Goals as goal
 
 pub returns : goal.returns
-returns c = same_length
+returns c = fits_length

@@ -1,5 +1,5 @@
-use Rattle.elf_extent.proofs.AccountLaws.{only_piece}
+use Rattle.elf_extent.proofs.Public.{in_piece}
 use Rattle.elf_extent.proofs.laws.in_piece.Goals as goal
 
 pub returns : goal.returns
-returns c = only_piece
+returns c = in_piece

@@ -1,4 +1,4 @@
-use Rattle.elf_image.proofs.Fields.{header_fields, section_fields, segment_fields}
+use Rattle.elf_image.proofs.Public.{header_fields, section_fields, segment_fields}
 use Rattle.elf_image.proofs.laws.fields.Goals as goal
 
 pub returns : goal.returns

@@ -1,5 +1,5 @@
-use Rattle.elf_image.proofs.OneImage as images
+use Rattle.elf_image.proofs.Public.{one_image}
 use Rattle.elf_image.proofs.laws.one_image.Goals as goal
 
 pub returns : goal.returns
-returns c = images.one_image
+returns c = one_image

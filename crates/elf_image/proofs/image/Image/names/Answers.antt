@@ -1,5 +1,5 @@
 use Rattle.std.proofs.Common.{arith, refl}
-use Rattle.elf_image.proofs.Named.{names_at, names_index}
+use Rattle.elf_image.proofs.Named.{names_held, names_index}
 use Rattle.elf_image.proofs.image.Image.names.Goals as goal
 
 pub index-requires : goal.index-requires
@@ -11,4 +11,4 @@ index-requires c =
 pub returns : goal.returns
 returns c =
     let table = rw (← c.self.view_is) at c.name_table-index.ensures in
-    rw (← c.self.view_is) (names_at _ c.self.inside.contents.items c.name_table-index.result c.index.result.now c.self.invariant refl table (omega arith) c.index.ensures)
+    rw (← c.self.view_is) (names_held _ c.self.inside.contents.items c.name_table-index.result c.index.result.now c.self.invariant refl table (omega arith) c.index.ensures)

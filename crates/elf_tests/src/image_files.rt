@@ -1,0 +1,239 @@
+//! Worked files of images, in either byte order.
+use elf_field::Order;
+
+/// A field: its offset in the file, its width in bytes and its value.
+pub type Field = (usize, usize, u64);
+
+/// The header of a file without tables, but for byte 5.
+const HEADER: [Field; 10] = [
+    (0, 1, 0x7f),
+    (1, 1, 0x45),
+    (2, 1, 0x4c),
+    (3, 1, 0x46),
+    (4, 1, 2),
+    (6, 1, 1),
+    (16, 2, 1),
+    (18, 2, 62),
+    (20, 4, 1),
+    (52, 2, 64),
+];
+
+/// The header's places and the section headers of an object without sections of its own.
+const EMPTY_OBJECT: [Field; 22] = [
+    (40, 8, 120),
+    (58, 2, 64),
+    (60, 2, 4),
+    (62, 2, 3),
+    (184, 4, 1),
+    (188, 4, 2),
+    (208, 8, 64),
+    (216, 8, 24),
+    (224, 4, 2),
+    (228, 4, 1),
+    (232, 8, 8),
+    (240, 8, 24),
+    (248, 4, 9),
+    (252, 4, 3),
+    (272, 8, 88),
+    (280, 8, 1),
+    (296, 8, 1),
+    (312, 4, 17),
+    (316, 4, 3),
+    (336, 8, 89),
+    (344, 8, 27),
+    (360, 8, 1),
+];
+
+/// Those of an object of one section `.text`, and its byte.
+const ONE_SECTION: [Field; 29] = [
+    (40, 8, 136),
+    (58, 2, 64),
+    (60, 2, 5),
+    (62, 2, 4),
+    (64, 1, 0xc3),
+    (200, 4, 1),
+    (204, 4, 1),
+    (208, 8, 6),
+    (224, 8, 64),
+    (232, 8, 1),
+    (248, 8, 16),
+    (264, 4, 7),
+    (268, 4, 2),
+    (288, 8, 72),
+    (296, 8, 24),
+    (304, 4, 3),
+    (308, 4, 1),
+    (312, 8, 8),
+    (320, 8, 24),
+    (328, 4, 15),
+    (332, 4, 3),
+    (352, 8, 96),
+    (360, 8, 1),
+    (376, 8, 1),
+    (392, 4, 23),
+    (396, 4, 3),
+    (416, 8, 97),
+    (424, 8, 33),
+    (440, 8, 1),
+];
+
+/// Those of a file with a section of size 0 and one without bytes in the file, both far past its end.
+const EMPTY_CONTENTS: [Field; 10] = [
+    (40, 8, 64),
+    (58, 2, 64),
+    (60, 2, 3),
+    (132, 4, 1),
+    (152, 8, 1 << 63),
+    (176, 8, 1),
+    (196, 4, 8),
+    (216, 8, 1 << 63),
+    (224, 8, 1 << 60),
+    (240, 8, 1),
+];
+
+/// Those of a file of one loadable segment, and its program header.
+const ONE_SEGMENT: [Field; 11] = [
+    (16, 2, 2),
+    (32, 8, 64),
+    (54, 2, 56),
+    (56, 2, 1),
+    (64, 4, 1),
+    (68, 4, 5),
+    (80, 8, 0x1000),
+    (88, 8, 0x1000),
+    (96, 8, 120),
+    (104, 8, 120),
+    (112, 8, 0x1000),
+];
+
+/// Those of a file of two loadable segments and two sections, with a gap between the sections.
+const TWO_OF_EACH: [Field; 33] = [
+    (16, 2, 2),
+    (32, 8, 64),
+    (40, 8, 192),
+    (54, 2, 56),
+    (56, 2, 2),
+    (58, 2, 64),
+    (60, 2, 3),
+    (64, 4, 1),
+    (68, 4, 5),
+    (80, 8, 0x1000),
+    (88, 8, 0x1000),
+    (96, 8, 180),
+    (104, 8, 180),
+    (112, 8, 0x1000),
+    (120, 4, 1),
+    (124, 4, 6),
+    (128, 8, 184),
+    (136, 8, 0x20b8),
+    (144, 8, 0x20b8),
+    (152, 8, 8),
+    (160, 8, 16),
+    (168, 8, 0x1000),
+    (260, 4, 1),
+    (264, 8, 6),
+    (272, 8, 0x10b0),
+    (280, 8, 176),
+    (288, 8, 4),
+    (304, 8, 4),
+    (324, 4, 1),
+    (328, 8, 3),
+    (336, 8, 0x20b8),
+    (344, 8, 184),
+    (352, 8, 8),
+];
+
+/// Those of a file of one section, whose content and the gap before it are longer than a block.
+const LONG_PARTS: [Field; 7] = [
+    (40, 8, 64),
+    (58, 2, 64),
+    (60, 2, 2),
+    (132, 4, 1),
+    (152, 8, 9192),
+    (160, 8, 9000),
+    (176, 8, 8),
+];
+
+/// Writes fields into a file.
+pub fn set(file: &mut [u8], order: Order, fields: &[Field]) {
+    for (offset, width, value) in fields {
+        let (offset, width) = (*offset, *width);
+        if width <= 8 && offset <= file.len() && width <= file.len() - offset {
+            let place = &mut file[offset..offset + width];
+            match order {
+                Order::Little => place.copy_from_slice(&value.to_le_bytes()[..width]),
+                Order::Big => place.copy_from_slice(&value.to_be_bytes()[8 - width..]),
+            }
+        }
+    }
+}
+
+fn set_header(file: &mut [u8], order: Order, fields: &[Field]) {
+    set(file, order, &HEADER);
+    let data = match order {
+        Order::Little => 1,
+        Order::Big => 2,
+    };
+    set(file, order, &[(5, 1, data)]);
+    set(file, order, fields);
+}
+
+/// An object without sections and symbols of its own: a symbol table, its strings, and the names.
+pub fn empty_object() -> [u8; 376] {
+    let mut file = [0; 376];
+    set_header(&mut file, Order::Little, &EMPTY_OBJECT);
+    file[89..116].copy_from_slice(b"\0.symtab\0.strtab\0.shstrtab\0");
+    file
+}
+
+/// That object with its gap filled.
+pub fn filled_gap() -> [u8; 376] {
+    let mut file = empty_object();
+    file[116] = 1;
+    file[117] = 2;
+    file[118] = 3;
+    file[119] = 4;
+    file
+}
+
+/// An object of one section `.text`, which holds one byte.
+pub fn one_section(order: Order) -> [u8; 456] {
+    let mut file = [0; 456];
+    set_header(&mut file, order, &ONE_SECTION);
+    file[97..130].copy_from_slice(b"\0.text\0.symtab\0.strtab\0.shstrtab\0");
+    file
+}
+
+/// A section of size 0, and one without bytes in the file, both with an offset far past its end.
+pub fn empty_contents() -> [u8; 256] {
+    let mut file = [0; 256];
+    set_header(&mut file, Order::Little, &EMPTY_CONTENTS);
+    file
+}
+
+/// A file of one loadable segment, which is the whole file.
+pub fn one_segment() -> [u8; 120] {
+    let mut file = [0; 120];
+    set_header(&mut file, Order::Little, &ONE_SEGMENT);
+    file
+}
+
+/// A file of two loadable segments and two sections without names: the header, the program header
+/// table, the first content, a gap of four bytes that are not zero, the second content, and the
+/// section header table.
+pub fn two_of_each(order: Order) -> [u8; 384] {
+    let mut file = [0; 384];
+    set_header(&mut file, order, &TWO_OF_EACH);
+    file[176..192].copy_from_slice(b"textgap.datadata");
+    file
+}
+
+/// The header, two section headers, 9000 bytes in no section, and a content of 9000 bytes.
+pub fn long_parts() -> [u8; 18192] {
+    let mut file = [0; 18192];
+    set_header(&mut file, Order::Little, &LONG_PARTS);
+    for byte in &mut file[192..] {
+        *byte = 7;
+    }
+    file
+}
