@@ -1,5 +1,5 @@
 -- What the program's exit status says of a file whose bytes are known.
-use Rattle.std.proofs.Common.{◌≡◌, ◌∙◌, ℕ, ◌+◌, ◌^◌, ◌≤◌, ◌⊎◌, inl, inr, true, List, [], ◌++◌, Option, Some, None, Result, Ok, Err, length, ap, sym, subst, arith, length-append}
+use Rattle.std.proofs.Common.{◌≡◌, ◌∙◌, ℕ, ◌^◌, ◌≤◌, inl, inr, true, List, ◌++◌, Option, Some, None, Result, Ok, Err, length, ap, sym, arith, length-append}
 use Rattle.std.proofs.lemmas.List.{append-nil}
 use Rattle.std.specs.Io.KnownBytes.{Consumes}
 use Rattle.elf_rules.specs.ImageRules.{IsFault}
@@ -8,12 +8,10 @@ use Rattle.elf_engine.specs.Engine.{IsAnswered, IsReadWhole, Report}
 use Rattle.elf_engine.specs.Show.{ShowSays}
 use Rattle.elf_engine.specs.declared.fault.Refusal.TheVariants.{File, Link, TooLong}
 use Rattle.elf_engine.specs.declared.fault.ToolFault.{ToolFault}
-use Rattle.elf_engine.specs.declared.fault.ToolFault.TheVariants as fault
 use Rattle.elf_engine.specs.declared.fault.Verdict.{Verdict}
 use Rattle.elf_engine.specs.declared.fault.Verdict.TheVariants.{Done, Refused}
-use Rattle.elf_tool.specs.Program.{EndsRequest, EndsRun, code_of, ending_of}
+use Rattle.elf_tool.specs.Program.{EndsRun, code_of, ending_of}
 use Rattle.elf_tool.specs.declared.program.Status.{Status}
-use Rattle.elf_tool.specs.declared.words.Request.{Request}
 use Rattle.elf_tool.specs.declared.words.Request.TheVariants.{Check, Show}
 use Rattle.elf_tool.specs.declared.words.WordsFault.TheVariants as words_fault
 
@@ -54,7 +52,7 @@ check_says b (Refused (Link rule file index entry)) text says = absurd says
 check_says b (Refused TooLong) text says = absurd says
 
 show_says : (b : List ℕ) (verdict : Verdict) (text : List ℕ) → ShowSays b verdict text → Says verdict b
-show_says b Done text (v, image, is) = image.clean
+show_says b Done text (tables, are, is) = are.image.clean
 show_says b (Refused (File file rule at)) text says = ((rule, at), says.0)
 show_says b (Refused (Link rule file index entry)) text says = absurd says
 show_says b (Refused TooLong) text says = absurd says

@@ -198,12 +198,13 @@ fn shows_each_section(rt: HostRuntime) -> Result<(), Fail> {
     assert!(rt; matches!(answer, Ok(Verdict::Done)));
     assert!(rt; out.longest < 66_000);
     let said = out.text;
-    // The header's line, six parts, and the sections.
+    // The header's line, six parts, the sections, and a symbol.
     let lines = said.iter().filter(|byte| **byte == b'\n').count();
-    assert_eq!(rt; lines, 1 + 6 + 65_279);
+    assert_eq!(rt; lines, 1 + 6 + 65_279 + 1);
     let front = b"file little 1 62 0x0 0x0\npart 0x0 0x40 header\npart 0x40 0x18 content 65276\n";
     assert!(rt; said.starts_with(front));
-    let end = b"\nsection 65278 3 0x0 0x0 0x59 0x1b 0 0 0x1 0x0 .shstrtab\n";
+    let end =
+        b"\nsection 65278 3 0x0 0x0 0x59 0x1b 0 0 0x1 0x0 .shstrtab\nsymbol 65276 0 0 0 0 undef 0x0 0x0 -\n";
     assert!(rt; said.ends_with(end));
     Ok(())
 }
