@@ -147,6 +147,21 @@ module _ {X : Type 0} (f : X → List ℕ) (xs : List X) (i : ℕ) (d : X) (with
         (cut_longer a c o (flat_map f (take (i + 1) xs)) (flat_map f (drop (i + 1) xs)) fault
         (cut_flushed a b c o q (flat_map f (take (i + 1) xs)) fault (pushed_line q pushed same) stop))
 
+  -- the lines of one more element are sent by themselves
+  pub lines_buffered : (a b c : Option (List ℕ)) (o p r : Output) → Buffers a b o p (flat_map f (take i xs)) → Buffers b c p r (f (get_or xs i d))
+      → Buffers a c o r (flat_map f (take (i + 1) xs))
+  lines_buffered a b c o p r sent next =
+      subst (Buffers a c o r) (sym one_more) (buffers_both a b c o p r (flat_map f (take i xs)) (f (get_or xs i d)) sent next)
+
+  -- or no more of them goes out than of all lines
+  pub lines_cut : (a b c : Option (List ℕ)) (o p : Output) (fault : ToolFault) → Buffers a b o p (flat_map f (take i xs)) → IsCutShort b c p (f (get_or xs i d)) fault
+      → IsCutShort a c o (flat_map f xs) fault
+  lines_cut a b c o p fault sent stop =
+      subst (λ (s : List ℕ). IsCutShort a c o s fault) (sym all_lines)
+      (cut_longer a c o (flat_map f (take (i + 1) xs)) (flat_map f (drop (i + 1) xs)) fault
+      (subst (λ (s : List ℕ). IsCutShort a c o s fault) (sym one_more)
+      (cut_later a b c o p (flat_map f (take i xs)) (f (get_or xs i d)) fault sent stop)))
+
   -- the line of one more element is refused memory
   pub line_refused : (a b : Option (List ℕ)) (o p : Output) → Buffers a b o p (flat_map f (take i xs)) → IsCutShort a b o (flat_map f xs) OutOfMemory
   line_refused a b o p sent =

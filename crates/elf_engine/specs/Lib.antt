@@ -6,3 +6,4 @@ pub mod Line
 pub mod Output
 pub mod Show
 pub mod ShowLines
+pub mod TableLines

@@ -4,9 +4,12 @@ use Rattle.std.specs.List.{flat_map, range_with_len}
 use Rattle.elf_rules.specs.ImageRules.{IsFault}
 use Rattle.elf_image.specs.Image.{ImageValue, IsImage, section_of, segment_of}
 use Rattle.elf_image.specs.Strings.{section_name}
+use Rattle.elf_table.specs.Sections.{sections_of}
+use Rattle.elf_table.specs.TableVerdicts.{AreVerdicts, TablesValue}
 use Rattle.elf_engine.specs.Engine.{IsAnswered}
 use Rattle.elf_engine.specs.Line.{refused_line}
 use Rattle.elf_engine.specs.ShowLines.{file_line, part_line, section_line, segment_line}
+use Rattle.elf_engine.specs.TableLines.{all_table_lines}
 use Rattle.elf_engine.specs.declared.fault.Refusal.TheVariants.{File, Link, TooLong}
 use Rattle.elf_engine.specs.declared.fault.ToolFault.{ToolFault}
 use Rattle.elf_engine.specs.declared.fault.Verdict.{Verdict}
@@ -29,14 +32,21 @@ section_lines v = flat_map (section_text v) (range_with_len 0 (length v.sections
 unfoldable pub segment_lines : ImageValue → List ℕ
 segment_lines v = flat_map (segment_text v) (range_with_len 0 (length v.segments))
 
--- the whole text on an image that stands as b
-unfoldable pub show_text : List ℕ → ImageValue → List ℕ
-show_text b v = file_line v.header ++ (part_lines b v ++ (section_lines v ++ segment_lines v))
+-- the whole text on an image that stands as b, with the verdicts on its tables
+unfoldable pub show_text : List ℕ → TablesValue → List ℕ
+show_text b tables =
+    let v = tables.image in
+    file_line v.header ++ (part_lines b v ++ (section_lines v ++ (segment_lines v ++ all_table_lines tables)))
 
--- the file is an image, and the text is of it; or the line is `refused` with the first broken rule and its lowest
--- offset, which the verdict carries
+-- the image stands as b, and the verdicts are those on its tables
+pub record AreTablesOf (b : List ℕ) (tables : TablesValue) : Type 0 where
+  pub image : IsImage tables.image b
+  pub verdicts : AreVerdicts (sections_of tables.image) (length tables.image.sections) tables.verdicts
+
+-- the file is an image, and the text is of it and its tables; or the line is `refused` with the first broken rule and its
+-- lowest offset, which the verdict carries
 abbrev pub ShowSays : List ℕ → Verdict → List ℕ → Type 0
-ShowSays b Done text = (v : ImageValue) × IsImage v b × (text ≡ show_text b v)
+ShowSays b Done text = (tables : TablesValue) × AreTablesOf b tables × (text ≡ show_text b tables)
 ShowSays b (Refused (File file rule at)) text = IsFault b (Some (rule, at)) × (file ≡ 0) × (text ≡ refused_line rule at)
 ShowSays b (Refused (Link rule file index entry)) text = ⊥
 ShowSays b (Refused TooLong) text = ⊥

@@ -4,3 +4,4 @@ pub(crate) mod check;
 mod input;
 mod output;
 pub(crate) mod show;
+mod show_tables;

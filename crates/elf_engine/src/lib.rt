@@ -6,6 +6,7 @@ mod engine;
 mod fault;
 mod line;
 mod show_lines;
+mod table_lines;
 
 pub use engine::check::check;
 pub use engine::show::show;

@@ -1,4 +1,14 @@
-//! The records of an ELF-64 file (gABI chapters 4 and 5), read and written in both byte orders.
+//! The records of an ELF-64 file (gABI chapters 4 and 5), read and written in both byte orders, and
+//! the gABI's numbers by their names ([`abi`]).
+//!
+//! ```
+//! // A dynamic entry that says that a library is needed, its name at 7, most significant byte first.
+//! let entry = Dyn { d_tag: abi::DT_NEEDED, d_un: 7 };
+//! let mut bytes = [0; 16];
+//! entry.put(Order::Big, &mut bytes);
+//! assert_eq!(bytes, [0, 0, 0, 0, 0, 0, 0, 1, 0, 0, 0, 0, 0, 0, 0, 7]);
+//! assert_eq!(Dyn::get(Order::Big, &bytes), entry);
+//! ```
 #![tactic(auto)]
 
 pub mod abi;

@@ -54,6 +54,19 @@ fn through_bound<T: Record>(order: Order, bytes: &[u8], copy: &mut [u8]) -> T
     record
 }
 
+// The example of the crate's root.
+#[test]
+fn writes_and_reads_an_entry(rt: HostRuntime) {
+    let entry = Dyn {
+        d_tag: abi::DT_NEEDED,
+        d_un: 7,
+    };
+    let mut bytes = [0; 16];
+    entry.put(Order::Big, &mut bytes);
+    assert_eq!(rt; bytes, [0, 0, 0, 0, 0, 0, 0, 1, 0, 0, 0, 0, 0, 0, 0, 7]);
+    assert_eq!(rt; Dyn::get(Order::Big, &bytes), entry);
+}
+
 #[test]
 fn headers_in_both_orders(rt: HostRuntime) {
     for (order, bytes) in [(Order::Little, LITTLE_HEADER), (Order::Big, BIG_HEADER)] {

@@ -12,7 +12,7 @@ use Rattle.elf_field.specs.Phdr.{IsPhdrAt}
 use Rattle.elf_field.specs.PhdrLaws.{phdr_fields_at}
 use Rattle.elf_rules.specs.Tables.{header, order_of, phdr_offset, sections, segments, shdr_offset}
 use Rattle.elf_image.specs.Image.{ImageValue, IsImage, no_section, no_segment, section_of, segment_of}
-use Rattle.elf_rules.proofs.Clean.{sections_read_at}
+use Rattle.elf_rules.proofs.Public.{sections_read_at}
 use Rattle.elf_image.proofs.Standing.{clean_of, table_there}
 use Rattle.elf_image.proofs.Stands.{entry_at}
 use Rattle.elf_image.proofs.Theorem.{counted_by_bytes, has_tables_by_bytes}

@@ -13,13 +13,13 @@ use Rattle.elf_extent.specs.Extent.{AreDisjoint, AreWithin, Doubly}
 use Rattle.elf_extent.specs.Least.{IsLowest}
 use Rattle.elf_extent.specs.declared.extent.Extent.{Extent}
 use Rattle.elf_rules.specs.OverlapRule.{contents, extents, shared_fault}
-use Rattle.elf_rules.proofs.ImageRules.{fault_of_extents}
+use Rattle.elf_rules.proofs.Public.{fault_of_extents}
 use Rattle.elf_rules.specs.ImageRules.{IsFault, KeepsRecordRules, extents_of_file}
 use Rattle.elf_rules.specs.Tables.{bytes_in, content_extent, header, section_count, sections, segment_count, segments}
 use Rattle.elf_image.specs.declared.part.Part.{Part}
 use Rattle.elf_image.specs.Image.{AreTables, ImageValue, IsImage, PlacedPart, gap_in, part_piece, piece_of, value_extents}
 use Rattle.elf_image.specs.Outline.{image_of, outline_value, placed}
-use Rattle.elf_rules.proofs.Clean.{sections_there, sound_file}
+use Rattle.elf_rules.proofs.Public.{sections_there, sound_file}
 use Rattle.elf_image.proofs.Standing.{disjoint_of, records_within, within_of}
 use Rattle.elf_image.proofs.Theorem.{Reads, counted_by_reads}
 

@@ -11,7 +11,7 @@ use Rattle.elf_rules.specs.Tables.{content_extent, section_count, segment_count}
 use Rattle.elf_rules.specs.OverlapRule.{extents}
 use Rattle.elf_rules.specs.Rows.{FirstIn}
 use Rattle.elf_rules.specs.SoundTables.{HasSoundTables}
-use Rattle.elf_rules.proofs.Clean.{clean_records, content_some, extents_disjoint, sound_tables}
+use Rattle.elf_rules.proofs.Public.{clean_records, content_some, extents_disjoint, sound_tables}
 use Rattle.elf_image.specs.Image.{AreWithinBytes, ImageValue, IsSound, value_rows, no_section, section_of, segment_of, value_extents, value_names}
 
 -- ---- lists by index

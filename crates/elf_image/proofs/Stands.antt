@@ -24,7 +24,7 @@ use Rattle.elf_image.specs.declared.part.Owner.{Owner}
 use Rattle.elf_image.specs.declared.part.Owner.TheVariants.{Header, ProgramTable, SectionTable, Content, Gap}
 use Rattle.elf_image.specs.Image.{ImageValue, IsSound, PlacedPart, Stands, gap_in, gap_len, if_gap, joined, no_section, owned_bytes, part_bytes, section_of}
 use Rattle.elf_image.proofs.Holds.{holds_content, holds_header, holds_sections, holds_segments, in_joined, length-joined}
-use Rattle.elf_rules.proofs.Clean.{sections_none, sections_read_at}
+use Rattle.elf_rules.proofs.Public.{sections_none, sections_read_at}
 use Rattle.elf_image.proofs.Standing.{clean_of, counted_of, records_within, table_there}
 use Rattle.elf_field.specs.RecordTableLaws.{IsBytes-table, entries_read, record_read}
 

@@ -25,10 +25,10 @@ use Rattle.elf_rules.specs.Tables.{bytes_in, content_extent, header, name_table,
 use Rattle.elf_image.specs.declared.part.Owner.{Owner}
 use Rattle.elf_image.specs.declared.part.Owner.TheVariants.{Header, ProgramTable, SectionTable, Content, Gap}
 use Rattle.elf_image.specs.Image.{AreTables, ImageValue, IsImage, IsSound, PlacedPart, Stands, gap_in, gap_len, if_gap, index_of, joined, no_section, no_segment, owned_bytes, part_bytes, piece_of, section_of, segment_of, value_extents, value_names, value_rows}
-use Rattle.elf_rules.proofs.Clean.{clean_records, sections_none, sections_read_at, sound_tables, table_some}
+use Rattle.elf_rules.proofs.Public.{clean_records, sections_none, sections_read_at, sound_tables, table_some}
 use Rattle.elf_image.proofs.Holds as holds
 use Rattle.elf_image.proofs.Joins.{flat_parts_are}
-use Rattle.elf_rules.proofs.Same.{Agree, same_clean}
+use Rattle.elf_rules.proofs.Public.{Agree, same_clean}
 use Rattle.elf_image.proofs.Standing.{IsCounted, clean_of, content_within, counted_of, table_there}
 use Rattle.elf_image.proofs.Stands.{content_is, entry_at, first_of_none, joined_stands}
 use Rattle.elf_field.specs.RecordTableLaws.{entries_bytes, entries_fit, record_bytes}

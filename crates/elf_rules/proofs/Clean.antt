@@ -1,6 +1,6 @@
 -- What holds of a file, or of an image by itself, that keeps rules 1 to 32, and of one that breaks no rule.
-use Rattle.std.proofs.Common.{◌≡◌, ◌≢◌, ℕ, zero, suc, ◌+◌, ◌-◌, ◌*◌, ◌^◌, ◌<◌, ◌≤◌, ◌⊎◌, inl, inr, None, Some, List, length, refl, sym, ◌∙◌, ap, subst, arith}
-use Rattle.std.proofs.lemmas.Bool.{cases_eq, cases_lt, ne_eqb}
+use Rattle.std.proofs.Common.{◌≡◌, ◌≢◌, ℕ, zero, suc, ◌+◌, ◌-◌, ◌*◌, ◌<◌, ◌≤◌, ◌⊎◌, inl, inr, None, Some, List, length, refl, sym, ◌∙◌, ap, subst, arith}
+use Rattle.std.proofs.lemmas.Bool.{cases_eq, ne_eqb}
 use Rattle.std.proofs.lemmas.Option.{slice_get_within}
 use Rattle.elf_field.specs.declared.ehdr.Ehdr.{Ehdr}
 use Rattle.elf_field.specs.declared.shdr.Shdr.{Shdr}
@@ -9,34 +9,19 @@ use Rattle.elf_field.specs.Shdr.{shdr_at}
 use Rattle.elf_extent.specs.declared.extent.Extent.{Extent}
 use Rattle.elf_extent.specs.Extent.{AreDisjoint, AreWithin}
 use Rattle.elf_rules.specs.Rows.{FirstIn}
-use Rattle.elf_rules.specs.HeaderRules.{header_rows, ident_rows, length_rows}
-use Rattle.elf_rules.specs.SectionTableRules.{section_table_rows}
-use Rattle.elf_rules.specs.ProgramTableRules.{program_table_rows}
-use Rattle.elf_rules.specs.SectionRules.{section_rows}
-use Rattle.elf_rules.specs.SegmentRules.{segment_rows}
-use Rattle.elf_rules.specs.NameRules.{name_rows}
 use Rattle.elf_rules.specs.OverlapRule.{extents}
-use Rattle.elf_rules.specs.ImageRules.{IsFault, KeepsRecordRules, entry_rows, image_rows, record_rows, rows, table_rows}
+use Rattle.elf_rules.specs.ImageRules.{IsFault, KeepsRecordRules, image_rows, record_rows, rows}
 use Rattle.elf_rules.specs.SoundTables.{HasSoundTables}
-use Rattle.elf_rules.specs.Tables.{content_extent, header, name_table, names, no_section, order_of, phdr_offset, section_count, sections, segment_count, segments, shdr_offset}
-use Rattle.elf_rules.proofs.Extents.{content_at, length-extents}
-use Rattle.elf_rules.proofs.Rows.{FirstIn-front, unbroken}
+use Rattle.elf_rules.specs.Tables.{content_extent, header, name_table, names, no_section, order_of, section_count, sections, segment_count, segments, shdr_offset}
+use Rattle.elf_rules.proofs.Extents.{content_extent_at, length-extents}
+use Rattle.elf_rules.proofs.KeepsRules.{records_kept, rules_kept}
+use Rattle.elf_rules.proofs.Rows.{FirstIn-front}
 
 -- where no rule is broken, none of rules 1 to 32 is
 pub clean_records : (len : ℕ) (h : Ehdr) (s : ℕ → Shdr) (g : ℕ → Phdr) (names : List ℕ) →
     FirstIn (image_rows len h s g names) None → FirstIn (record_rows len h s g names) None
 unfolding image_rows
 clean_records len h s g names clean = FirstIn-front (record_rows len h s g names) _ clean
-
--- what is not above is at most, and what isn't different is equal
-at_most : (m n : ℕ) → (n < m → ⊥) → m ≤ n
-at_most m n never = elim (cases_lt n m) [ inl lt ↦ absurd (never lt) | inr le ↦ le ]
-
-above : (m n : ℕ) → (n ≤ m → ⊥) → m < n
-above m n never = elim (cases_lt m n) [ inl lt ↦ lt | inr le ↦ absurd (never le) ]
-
-equal : (m n : ℕ) → (m ≢ n → ⊥) → m ≡ n
-equal m n never = elim (cases_eq m n) [ inl same ↦ same | inr other ↦ absurd (never other) ]
 
 -- a section table has entries, where its count is one that stands in the right place
 count_some : (h : Ehdr) (first : Shdr) → h.e_shoff ≢ 0 → (h.e_shnum ≡ 0 → 0xff00 ≤ first.sh_size) → 0 < section_count h first
@@ -56,35 +41,27 @@ names_below h first n plain extended =
 
 pub sound_tables : (len : ℕ) (h : Ehdr) (s : ℕ → Shdr) (g : ℕ → Phdr) (names : List ℕ) →
     FirstIn (record_rows len h s g names) None → HasSoundTables len h s
-unfolding record_rows table_rows entry_rows length_rows ident_rows header_rows section_table_rows program_table_rows section_rows segment_rows name_rows
-sound_tables len h s g names kept = let never = unbroken (record_rows len h s g names) kept in record {
-  header = at_most 64 len (λ lt. never 1 _ (lt, refl));
-  short = at_most len (2 ^ 30) (λ lt. never 0 _ (lt, refl));
-  no_names = λ none. equal h.e_shstrndx 0 (λ other. never 8 _ (none, inr (other, refl)));
-  few_segments = λ none full. never 17 _ (inr (inr (full, none)), refl);
-  null = λ there. equal (s 0).sh_type 0 (λ other. never 12 _ (inr (inl ((there, other), refl))));
-  some = λ there. count_some h (s 0) there (λ none. at_most 0xff00 _ (λ lt. never 13 _ ((there, inr (none, lt)), refl)));
-  section_table = λ there. at_most _ len (λ lt. never 14 _ ((there, lt), refl));
-  name_table = λ there. names_below h (s 0) _
-      (λ other. above _ _ (λ le. never 15 _ ((there, (other, inr le)), refl)))
-      (λ escape. above _ _ (λ le. never 16 _ ((there, inl (escape, inr le)), refl)));
-  program_table = λ some. at_most _ len (λ lt. never 20 _ ((some, lt), refl));
-  content = λ i above below not_null not_nobits some. at_most _ len
-      (λ lt. never 23 _ (i, above, below, (not_null, (not_nobits, some, lt)), refl));
-}
+sound_tables len h s g names clean =
+    let kept = records_kept len h s g names clean in
+    record {
+      header = kept.file_length.not_too_short;
+      short = kept.file_length.not_too_long;
+      no_names = λ none. (kept.header.no_sections none).1;
+      few_segments = λ none escape. kept.program_table.table_and_count.2 escape none;
+      null = λ there. (kept.section_table.null there).sh_type;
+      some = λ there. count_some h (s 0) there (kept.section_table.extended_section_count there).1;
+      section_table = kept.section_table.section_table;
+      name_table = λ there. names_below h (s 0) _ (λ plain. (kept.section_table.name_table_index there plain).1)
+          (λ escape. ((kept.section_table.extended_name_table_index there).0 escape).1);
+      program_table = kept.program_table.program_table;
+      content = kept.sections.content;
+    }
 
 -- no byte belongs to two of the extents
 pub extents_disjoint : (len : ℕ) (h : Ehdr) (s : ℕ → Shdr) (g : ℕ → Phdr) (names : List ℕ) →
     FirstIn (image_rows len h s g names) None →
     AreDisjoint (extents h (section_count h (s 0)) (segment_count h (s 0)) s)
-unfolding image_rows record_rows length_rows ident_rows header_rows table_rows section_table_rows program_table_rows entry_rows section_rows segment_rows name_rows
-extents_disjoint len h s g names clean = λ i j x one other. let never = unbroken (image_rows len h s g names) clean in elim (cases_lt i j) [
-  | inl below ↦ absurd (never 32 x (i, j, below, one, other))
-  | inr above ↦ elim (cases_lt j i) [
-    | inl below ↦ absurd (never 32 x (j, i, below, other, one))
-    | inr same ↦ omega arith
-  ]
-]
+extents_disjoint len h s g names clean = (rules_kept len h s g names clean).disjoint
 
 -- a content that is not empty is that of a section of a type that has one
 pub content_some : (entry : Shdr) → 0 < (content_extent entry).len →
@@ -144,7 +121,7 @@ extents_within len h s sound (suc (suc (suc k))) e read =
     let below = slice_get_within (extents h n m s) (suc (suc (suc k))) e read in
     let lt : k < n = omega arith in
     let place : suc (suc (suc k)) - 3 ≡ k = omega arith in
-    let at = content_at h n m s (suc (suc (suc k))) (omega arith) (omega arith) in
+    let at = content_extent_at h n m s (suc (suc (suc k))) (omega arith) (omega arith) in
     inside_of len (content_extent (s k)) e
     (ap (λ (j : ℕ). Some (content_extent (s j))) (sym place) ∙ sym at ∙ read)
     (λ some. content_inside len h s sound k lt some)
@@ -167,11 +144,7 @@ pub sound_file : (b : List ℕ) (h : Ehdr) → h ≡ header b → KeepsRecordRul
 sound_file b h same kept = subst (λ (k : Ehdr). HasSoundTables (length b) k (sections b k)) (sym same)
     (sound_tables (length b) (header b) (sections b (header b)) (segments b (header b)) (names b (header b)) kept)
 
--- section header 0 lies in the file where there is a section table
-pub first_there : (b : List ℕ) (h : Ehdr) → HasSoundTables (length b) h (sections b h) → h.e_shoff ≢ 0 → shdr_offset h 0 + 64 ≤ length b
-first_there b h sound there = let table = sound.section_table there in let some = sound.some there in omega arith
-
--- all section headers do
+-- all section headers lie in the file
 pub sections_there : (b : List ℕ) (h : Ehdr) → HasSoundTables (length b) h (sections b h) →
     shdr_offset h (section_count h (sections b h 0)) ≤ length b
 sections_there b h sound = elim (cases_eq h.e_shoff 0) [
@@ -193,25 +166,3 @@ sections_read_at b h there =
 pub sections_none : (b : List ℕ) (h : Ehdr) → h.e_shoff ≡ 0 → sections b h ≡ (λ (i : ℕ). no_section)
 unfolding sections
 sections_none b h none = rw none refl
-
--- ---- with counts by any equal name, as code reads them
-
-pub sections_inside : (b : List ℕ) (h : Ehdr) (first : Shdr) (n : ℕ) → HasSoundTables (length b) h (sections b h) →
-    first ≡ sections b h 0 → n ≡ section_count h first → shdr_offset h n ≤ length b
-sections_inside b h first n sound read count =
-    subst (λ (k : ℕ). shdr_offset h k ≤ length b) (sym (count ∙ ap (section_count h) read)) (sections_there b h sound)
-
-pub segments_inside : (b : List ℕ) (h : Ehdr) (first : Shdr) (m : ℕ) → HasSoundTables (length b) h (sections b h) →
-    first ≡ sections b h 0 → m ≡ segment_count h first → 0 < m → phdr_offset h m ≤ length b
-segments_inside b h first m sound read count =
-    subst (λ (k : ℕ). 0 < k → phdr_offset h k ≤ length b) (sym (count ∙ ap (segment_count h) read)) sound.program_table
-
--- so that the program table's size is a number of 64 bits
-pub segments_short : (b : List ℕ) (h : Ehdr) (first : Shdr) (m : ℕ) → HasSoundTables (length b) h (sections b h) →
-    first ≡ sections b h 0 → m ≡ segment_count h first → 56 * m < 2 ^ 64
-segments_short b h first m sound read count =
-    let short = sound.short in
-    elim (cases_lt 0 m) [
-      | inl some ↦ (let inside = segments_inside b h first m sound read count some in omega arith)
-      | inr none ↦ omega arith
-    ]

@@ -36,10 +36,10 @@ three_first f =
     omega arith
 
 -- from index 3 on they are the contents
-pub content_at : (h : Ehdr) (n m : ℕ) (s : ℕ → Shdr) (i : ℕ) → 3 ≤ i → i < 3 + n →
+pub content_extent_at : (h : Ehdr) (n m : ℕ) (s : ℕ → Shdr) (i : ℕ) → 3 ≤ i → i < 3 + n →
     slice_get (extents h n m s) i ≡ Some (content_extent (s (i - 3)))
 unfolding extents
-content_at h n m s i from lt =
+content_extent_at h n m s i from lt =
     let k = i - 3 in
     let within : k < n = omega arith in
     let long : length (contents n s) ≡ n = length-map-range_with_len (λ j. content_extent (s j)) 0 n in
@@ -145,7 +145,7 @@ doubly_ascending es limit found ascend lowest = doubly_below es limit found apar
 
 -- the walk over the contents: those below index k ascend, none of them ends behind `last`, and `last` is one of them that is
 -- not empty, or holds no offset at all
-pub record IsWalk (es : List Extent) (from k : ℕ) (last : Extent) : Type 0 where
+pub record HasAscended (es : List Extent) (from k : ℕ) (last : Extent) : Type 0 where
   pub ascending : AreAscending es from k
   pub behind : (i : ℕ) (a : Extent) → from ≤ i → i < k → slice_get es i ≡ Some a → 0 < a.len →
       a.start + a.len ≤ last.start + last.len
@@ -161,7 +161,7 @@ at_read es P i k a e place read at holds =
 
 -- past an empty member
 pub walk_past : (es : List Extent) (from k : ℕ) (last e : Extent) → slice_get es k ≡ Some e → (0 < e.len → ⊥) →
-    IsWalk es from k last → IsWalk es from (k + 1) last
+    HasAscended es from k last → HasAscended es from (k + 1) last
 walk_past es from k last e read empty walk = record {
   ascending = λ i j a b low lt below at_i at_j some_i some_j. elim (cases_lt j k) [
     | inl earlier ↦ walk.ascending i j a b low lt earlier at_i at_j some_i some_j
@@ -176,7 +176,7 @@ walk_past es from k last e read empty walk = record {
 
 -- to a member that begins behind the last
 pub walk_on : (es : List Extent) (from k : ℕ) (last e : Extent) → from ≤ k → slice_get es k ≡ Some e → 0 < e.len →
-    last.start + last.len ≤ e.start → IsWalk es from k last → IsWalk es from (k + 1) e
+    last.start + last.len ≤ e.start → HasAscended es from k last → HasAscended es from (k + 1) e
 walk_on es from k last e under read has later walk = record {
   ascending = λ i j a b low lt below at_i at_j some_i some_j. elim (cases_lt j k) [
     | inl earlier ↦ walk.ascending i j a b low lt earlier at_i at_j some_i some_j

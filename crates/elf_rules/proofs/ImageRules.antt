@@ -1,5 +1,5 @@
 -- The runs of rules, one after the other, are the rules of the file.
-use Rattle.std.proofs.Common.{◌≡◌, ℕ, inl, inr, Option, None, Some, Result, Ok, Err, List, ◌++◌, length, refl, ap, ◌∙◌, subst}
+use Rattle.std.proofs.Common.{◌≡◌, ℕ, inl, inr, Option, None, Some, Result, Ok, Err, List, ◌++◌, length, refl, subst}
 use Rattle.std.specs.Prelude.{IfErr, IfOk, OnOk}
 use Rattle.elf_field.specs.declared.ehdr.Ehdr.{Ehdr}
 use Rattle.elf_field.specs.declared.shdr.Shdr.{Shdr}
@@ -18,7 +18,7 @@ use Rattle.elf_rules.specs.ProgramTableRules.{program_table_rows}
 use Rattle.elf_rules.specs.SectionRules.{section_rows}
 use Rattle.elf_rules.specs.SegmentRules.{segment_rows}
 use Rattle.elf_rules.specs.NameRules.{name_rows}
-use Rattle.elf_rules.specs.OverlapRule.{overlap_rows, shared_fault}
+use Rattle.elf_rules.specs.OverlapRule.{shared_fault}
 use Rattle.elf_rules.specs.ImageRules.{IsFault, KeepsRecordRules, entry_rows, extents_of_file, image_rows, record_rows, rows, table_rows}
 use Rattle.elf_rules.proofs.Rows.{FirstIn-later, FirstIn-rest, FirstIn-sooner}
 

@@ -1,10 +1,9 @@
 -- A file that keeps rules 1 to 32, with its header and its counts by any equal name, as code reads them.
-use Rattle.std.proofs.Common.{◌≡◌, ◌<◌, ◌≤◌, ◌^◌, ◌*◌, ℕ, None, List, [], ◌∷◌, length, ap, subst, sym, ◌∙◌, arith, refl}
+use Rattle.std.proofs.Common.{◌≡◌, ◌<◌, ◌≤◌, ◌^◌, ℕ, List, length, subst, sym, refl}
 use Rattle.elf_field.specs.declared.ehdr.Ehdr.{Ehdr}
 use Rattle.elf_rules.specs.declared.tables.Counts.{Counts}
 use Rattle.elf_rules.specs.ImageRules.{KeepsRecordRules}
-use Rattle.elf_rules.specs.Rows.{FirstIn, Ruled}
-use Rattle.elf_rules.specs.Tables.{counts_in, file_counts, header, phdr_offset, sections, shdr_offset}
+use Rattle.elf_rules.specs.Tables.{file_counts, header, phdr_offset, shdr_offset}
 use Rattle.elf_rules.proofs.Clean.{sections_there, sound_file}
 
 -- all its section headers and program headers lie in it

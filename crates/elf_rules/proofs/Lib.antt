@@ -1,8 +1,13 @@
-pub mod Rows
-pub mod PowerOfTwo
-pub mod LoadOrder
-pub mod Extents
-pub mod Clean
-pub mod ImageRules
-pub mod Kept
-pub mod Same
+-- `Public` is for the proofs of the crates above, the others are for those of this one.
+mod Clean
+mod Extents
+mod ImageRules
+mod Kept
+mod Decided
+mod KeepsRules
+mod LoadOrder
+mod PowerOfTwo
+pub mod Public
+mod RowKinds
+mod Rows
+mod Same

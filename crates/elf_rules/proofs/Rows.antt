@@ -1,5 +1,5 @@
--- Laws of tables of rules: runs of rules join, and there is one fault.
-use Rattle.std.proofs.Common.{◌≡◌, ℕ, zero, suc, inl, inr, Option, None, Some, List, [], ◌∷◌, ◌++◌, Result, Ok, Err, refl, sym, ap, subst, arith}
+-- Laws of lists of rules: runs of rules join, lists of the same rules have the same fault, and there is one fault.
+use Rattle.std.proofs.Common.{◌≡◌, ℕ, inl, inr, Option, None, Some, List, [], ◌∷◌, ◌++◌, Result, Ok, Err, refl, sym, ap, subst, ◌∙◌, arith}
 use Rattle.std.specs.Result.{IsErrAnd}
 use Rattle.elf_extent.specs.Least.{IsLeast}
 use Rattle.elf_rules.specs.declared.broken.Broken.{Broken}
@@ -44,6 +44,39 @@ pub FirstIn-stop : {T : Type 0} (xs ys : List {1} Ruled) (broken : Broken) (resu
 FirstIn-stop xs ys broken result found same =
     FirstIn-handed (xs ++ ys) broken result (FirstIn-sooner xs ys (broken.rule, broken.at) found) same
 
+-- ---- two lists of the same rules
+
+-- their rules are broken at the same offsets, one by one
+abbrev pub AreSame : List {1} Ruled → List {1} Ruled → Type 0
+AreSame [] [] = Unit {0}
+AreSame [] (q ∷ qs) = ⊥
+AreSame (p ∷ ps) [] = ⊥
+AreSame (p ∷ ps) (q ∷ qs) =
+    (p.number ≡ q.number) × ((x : ℕ) → p.row x → q.row x) × ((x : ℕ) → q.row x → p.row x) × AreSame ps qs
+
+pub AreSame-refl : (rules : List {1} Ruled) → AreSame rules rules
+AreSame-refl [] = tt
+AreSame-refl (r ∷ rules) = (refl, (λ x broken. broken), (λ x broken. broken), AreSame-refl rules)
+
+pub AreSame-append : (ps qs xs ys : List {1} Ruled) → AreSame ps qs → AreSame xs ys → AreSame (ps ++ xs) (qs ++ ys)
+AreSame-append [] [] xs ys front rest = rest
+AreSame-append [] (q ∷ qs) xs ys front rest = absurd front
+AreSame-append (p ∷ ps) [] xs ys front rest = absurd front
+AreSame-append (p ∷ ps) (q ∷ qs) xs ys front rest = (front.0, front.1, front.2, AreSame-append ps qs xs ys front.3 rest)
+
+-- so they have the same fault
+pub FirstIn-same : (ps qs : List {1} Ruled) (found : Option (ℕ × ℕ)) → AreSame ps qs → FirstIn ps found → FirstIn qs found
+FirstIn-same [] [] found same first = first
+FirstIn-same [] (q ∷ qs) found same first = absurd same
+FirstIn-same (p ∷ ps) [] found same first = absurd same
+FirstIn-same (p ∷ ps) (q ∷ qs) None same first = ((λ x broken. first.0 x (same.2 x broken)), FirstIn-same ps qs None same.3 first.1)
+FirstIn-same (p ∷ ps) (q ∷ qs) (Some fault) same (inl (number, least)) =
+    inl (number ∙ same.0, record { holds = same.1 fault.1 least.holds; lowest = λ y broken. least.lowest y (same.2 y broken) })
+FirstIn-same (p ∷ ps) (q ∷ qs) (Some fault) same (inr (never, later)) =
+    inr ((λ x broken. never x (same.2 x broken)), FirstIn-same ps qs (Some fault) same.3 later)
+
+-- ---- one fault
+
 -- a fault is a pair of a rule and an offset
 same_fault : (f g : ℕ × ℕ) → f.0 ≡ g.0 → f.1 ≡ g.1 → f ≡ g
 same_fault (r, x) (q, y) rule at = cc
@@ -54,7 +87,7 @@ least_is_one row x y one other =
     let above = other.lowest x one.holds in
     omega arith
 
--- a table has one fault
+-- a list of rules has one fault
 pub one_fault : (rules : List {1} Ruled) (a b : Option (ℕ × ℕ)) → FirstIn rules a → FirstIn rules b → a ≡ b
 one_fault [] None None p q = refl
 one_fault [] None (Some g) p q = absurd q
@@ -70,17 +103,3 @@ one_fault (r ∷ rules) (Some f) (Some g) (inl here) (inl there) =
 one_fault (r ∷ rules) (Some f) (Some g) (inl here) (inr later) = absurd (later.0 f.1 here.1.holds)
 one_fault (r ∷ rules) (Some f) (Some g) (inr later) (inl here) = absurd (later.0 g.1 here.1.holds)
 one_fault (r ∷ rules) (Some f) (Some g) (inr one) (inr other) = one_fault rules (Some f) (Some g) one.1 other.1
-
--- ---- a rule by its place in the list
-
--- the rule at place i of the list is broken at x
-abbrev pub BreaksAt : List {1} Ruled → ℕ → Row
-BreaksAt [] i = λ x. ⊥
-BreaksAt (r ∷ rules) zero = r.row
-BreaksAt (r ∷ rules) (suc i) = BreaksAt rules i
-
--- where none is broken, none is at any place
-pub unbroken : (rules : List {1} Ruled) → FirstIn rules None → (i x : ℕ) → BreaksAt rules i x → ⊥
-unbroken [] clean i x broken = broken
-unbroken (r ∷ rules) clean zero x broken = clean.0 x broken
-unbroken (r ∷ rules) clean (suc i) x broken = unbroken rules clean.1 i x broken

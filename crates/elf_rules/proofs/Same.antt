@@ -1,26 +1,28 @@
 -- Rules look at no more than the header, section header 0, the entries below the counts, and the name table's content:
--- where these agree, a clean file and a clean value are one.
-use Rattle.std.proofs.Common.{◌≡◌, ◌≢◌, ◌<◌, ◌+◌, ◌*◌, ◌⊎◌, ℕ, zero, suc, None, List, ◌∷◌, length, map, refl, sym, ap, ap₂, subst, ◌∙◌, inl, inr, arith}
+-- where these agree, the same rules are broken at the same offsets.
+use Rattle.std.proofs.Common.{◌≡◌, ◌≢◌, ◌<◌, ◌+◌, ◌*◌, ℕ, zero, suc, None, List, ◌∷◌, ◌++◌, length, map, refl, sym, ap, ap₂, subst, inl, inr, arith}
 use Rattle.std.specs.List.{range_with_len}
-use Rattle.std.proofs.lemmas.Bool.{cases_eq, ne_eqb}
+use Rattle.elf_field.specs.Abi.{SHT_STRTAB, SH_TYPE_AT}
 use Rattle.elf_field.specs.declared.ehdr.Ehdr.{Ehdr}
 use Rattle.elf_field.specs.declared.shdr.Shdr.{Shdr}
 use Rattle.elf_field.specs.declared.phdr.Phdr.{Phdr}
 use Rattle.elf_extent.specs.declared.extent.Extent.{Extent}
 use Rattle.elf_extent.specs.Extent.{Doubly}
-use Rattle.elf_rules.specs.Rows.{FirstIn, SomeEntry}
-use Rattle.elf_rules.proofs.Rows.{BreaksAt, unbroken}
-use Rattle.elf_rules.specs.Tables.{content_extent, name_table, phdr_offset, section_count, segment_count, shdr_offset}
+use Rattle.elf_rules.specs.declared.tables.Counts.{Counts}
+use Rattle.elf_rules.specs.Rows.{FirstIn, Ruled, SomeEntry, When}
+use Rattle.elf_rules.proofs.Rows.{AreSame, AreSame-append, AreSame-refl, FirstIn-same}
+use Rattle.elf_rules.specs.Tables.{content_extent, counts_in, name_table, phdr_offset, section_count, segment_count, shdr_offset}
 use Rattle.elf_rules.specs.HeaderRules.{header_rows, ident_rows, length_rows}
 use Rattle.elf_rules.specs.ImageRules.{entry_rows, image_rows, record_rows, table_rows}
-use Rattle.elf_rules.specs.NameRules.{name_rows, unclosed_name_table, wrong_name_table_type}
-use Rattle.elf_rules.specs.OverlapRule.{extents}
-use Rattle.elf_rules.specs.ProgramTableRules.{HasWrongExtendedSegmentCount, program_table_rows}
+use Rattle.elf_rules.specs.NameRules.{name_rows}
+use Rattle.elf_rules.specs.StringTable.{UnclosedAt}
+use Rattle.elf_rules.specs.OverlapRule.{extents, overlap_rows}
+use Rattle.elf_rules.specs.ProgramTableRules.{program_table_rows}
 use Rattle.elf_rules.specs.SectionRules.{IsMisaligned, IsNamePastEnd, IsWronglyAligned, PassesEnd, SomeSection, section_rows}
-use Rattle.elf_rules.specs.SectionTableRules.{HasWrongExtendedNameTableIndex, HasWrongExtendedSectionCount, HasWrongNameTableIndex, InFirst, first_section_header_not_null, section_table_rows}
+use Rattle.elf_rules.specs.SectionTableRules.{section_table_rows}
 use Rattle.elf_rules.specs.SegmentRules.{IsIncongruent, IsLargerInFile, IsLoad, IsSegmentWronglyAligned, SegmentPassesEnd, SomeSegment, load_out_of_order, segment_rows}
 use Rattle.elf_rules.specs.SoundTables.{HasSoundTables}
-use Rattle.elf_rules.proofs.Clean.{clean_records, sound_tables}
+use Rattle.elf_rules.proofs.Clean.{clean_records, name_table_below, sound_tables}
 
 -- the second entries are the first ones, as far as the rules look
 pub record Agree (h : Ehdr) (s t : ℕ → Shdr) (g k : ℕ → Phdr) : Type 0 where
@@ -30,34 +32,26 @@ pub record Agree (h : Ehdr) (s t : ℕ → Shdr) (g k : ℕ → Phdr) : Type 0 w
 
 -- ---- rows
 
-in_first : (h : Ehdr) (a b : Shdr) (P : Shdr → Type 0) (field x : ℕ) → a ≡ b → InFirst h (P b) field x → InFirst h (P a) field x
-in_first h a b P field x first ((there, p), at) = ((there, subst P (sym first) p), at)
+some_entry : {E : Type 0} (s t : ℕ → E) (from end : ℕ) (P : E → Type 0) (place : ℕ → ℕ) → ((i : ℕ) → i < end → s i ≡ t i) →
+    (x : ℕ) → SomeEntry t from end P place x → SomeEntry s from end P place x
+some_entry s t from end P place agree x (i, above, below, p, at) = (i, above, below, subst P (sym (agree i below)) p, at)
 
-some_entry : {E : Type 0} (s t : ℕ → E) (from end last : ℕ) (P : E → Type 0) (place : ℕ → ℕ) (x : ℕ) → end ≡ last →
-    ((i : ℕ) → i < end → s i ≡ t i) → SomeEntry t from last P place x → SomeEntry s from end P place x
-some_entry s t from end last P place x same agree (i, above, below, p, at) =
-    let lt : i < end = omega arith in
-    (i, above, lt, subst P (sym (agree i lt)) p, at)
+some_section : (h : Ehdr) (s t : ℕ → Shdr) (end : ℕ) (P : Shdr → Type 0) (field : ℕ) → ((i : ℕ) → i < end → s i ≡ t i) →
+    (x : ℕ) → SomeSection h end t P field x → SomeSection h end s P field x
+some_section h s t end P field agree = some_entry s t 1 end (λ q. (q.sh_type ≢ 0) × P q) (λ i. shdr_offset h i + field) agree
 
-some_section : (h : Ehdr) (s t : ℕ → Shdr) (end last : ℕ) (P : Shdr → Type 0) (field x : ℕ) → end ≡ last →
-    ((i : ℕ) → i < end → s i ≡ t i) → SomeSection h last t P field x → SomeSection h end s P field x
-some_section h s t end last P field x same agree w =
-    some_entry s t 1 end last (λ q. (q.sh_type ≢ 0) × P q) (λ i. shdr_offset h i + field) x same agree w
+some_segment : (h : Ehdr) (g k : ℕ → Phdr) (end : ℕ) (P : Phdr → Type 0) (field : ℕ) → ((j : ℕ) → j < end → g j ≡ k j) →
+    (x : ℕ) → SomeSegment h end k P field x → SomeSegment h end g P field x
+some_segment h g k end P field agree = some_entry g k 0 end P (λ j. phdr_offset h j + field) agree
 
-some_segment : (h : Ehdr) (g k : ℕ → Phdr) (end last : ℕ) (P : Phdr → Type 0) (field x : ℕ) → end ≡ last →
-    ((j : ℕ) → j < end → g j ≡ k j) → SomeSegment h last k P field x → SomeSegment h end g P field x
-some_segment h g k end last P field x same agree w =
-    some_entry g k 0 end last P (λ j. phdr_offset h j + field) x same agree w
-
-loads : (h : Ehdr) (g k : ℕ → Phdr) (m l x : ℕ) → m ≡ l → ((j : ℕ) → j < m → g j ≡ k j) → load_out_of_order h l k x → load_out_of_order h m g x
-loads h g k m l x same agree (i, j, below, load, before, falls, at) =
-    let lt : j < m = omega arith in
+loads : (h : Ehdr) (g k : ℕ → Phdr) (m : ℕ) → ((j : ℕ) → j < m → g j ≡ k j) → (x : ℕ) → load_out_of_order h m k x → load_out_of_order h m g x
+loads h g k m agree x (i, j, below, load, before, falls, at) =
     let under = before.below in
     let gi : g i ≡ k i = agree i (omega arith) in
-    let gj : g j ≡ k j = agree j lt in (
+    let gj : g j ≡ k j = agree j below in (
       i,
       j,
-      lt,
+      below,
       subst IsLoad (sym gj) load,
       record {
         below = under;
@@ -72,160 +66,125 @@ map_agree : {B : Type 0} (f g : ℕ → B) (a n : ℕ) → ((i : ℕ) → i < a 
 map_agree f g a zero agree = refl
 map_agree f g a (suc n) agree = ap₂ (λ (x : _) (xs : List _). x ∷ xs) (agree a (omega arith)) (map_agree f g (a + 1) n (λ i lt. agree i (omega arith)))
 
-same_extents : (h : Ehdr) (s t : ℕ → Shdr) (n m p q : ℕ) → n ≡ p → m ≡ q → ((i : ℕ) → i < n → s i ≡ t i) → extents h n m s ≡ extents h p q t
+same_extents : (h : Ehdr) (n m : ℕ) (s t : ℕ → Shdr) → ((i : ℕ) → i < n → s i ≡ t i) → extents h n m s ≡ extents h n m t
 unfolding extents
-same_extents h s t n m p q sections segments agree =
+same_extents h n m s t agree =
     let contents : map (λ i. content_extent (s i)) (range_with_len 0 n) ≡ map (λ i. content_extent (t i)) (range_with_len 0 n) =
     map_agree (λ i. content_extent (s i)) (λ i. content_extent (t i)) 0 n (λ i lt. ap content_extent (agree i (omega arith))) in
     ap (λ (cs : List Extent). record { start = 0; len = 64 } ∷ record { start = h.e_shoff; len = 64 * n } ∷ record { start = h.e_phoff; len = 56 * m } ∷ cs) contents
-    ∙ ap₂ (λ (k l : ℕ). extents h k l t) sections segments
 
--- rule 13
-null_fields : (h : Ehdr) (a b : Shdr) (x : ℕ) → a ≡ b → first_section_header_not_null h b x → first_section_header_not_null h a x
-null_fields h a b x first w = subst (λ (q : Shdr). first_section_header_not_null h q x) (sym first) w
+-- ---- the rows, run by run
 
-pub same_clean : (len : ℕ) (h : Ehdr) (s t : ℕ → Shdr) (g k : ℕ → Phdr) (names : List ℕ) → Agree h s t g k →
-    FirstIn (image_rows len h s g names) None → FirstIn (image_rows len h t k names) None
-unfolding image_rows record_rows table_rows entry_rows length_rows ident_rows header_rows section_table_rows program_table_rows section_rows segment_rows name_rows
-same_clean len h s t g k names agree clean = ((
-  (λ x w. never 0 x w),
-  (
-    (λ x w. never 1 x w),
-    (
-      (λ x w. never 2 x w),
+same_section_rows : (len : ℕ) (h : Ehdr) (n : ℕ) (s t : ℕ → Shdr) → ((i : ℕ) → i < n → s i ≡ t i) → AreSame (section_rows len h n s) (section_rows len h n t)
+unfolding section_rows
+same_section_rows len h n s t agree =
+    let back : (i : ℕ) → i < n → t i ≡ s i = λ i lt. sym (agree i lt) in (
+      refl,
+      some_section h t s n IsWronglyAligned _ back,
+      some_section h s t n IsWronglyAligned _ agree,
       (
-        (λ x w. never 3 x w),
+        refl,
+        some_section h t s n IsMisaligned _ back,
+        some_section h s t n IsMisaligned _ agree,
+        (refl, some_section h t s n (PassesEnd len) _ back, some_section h s t n (PassesEnd len) _ agree, tt),
+      ),
+    )
+
+same_segment_rows : (len : ℕ) (h : Ehdr) (m : ℕ) (g k : ℕ → Phdr) → ((j : ℕ) → j < m → g j ≡ k j) → AreSame (segment_rows len h m g) (segment_rows len h m k)
+unfolding segment_rows
+same_segment_rows len h m g k agree =
+    let back : (j : ℕ) → j < m → k j ≡ g j = λ j lt. sym (agree j lt) in (
+      refl,
+      some_segment h k g m (SegmentPassesEnd len) _ back,
+      some_segment h g k m (SegmentPassesEnd len) _ agree,
+      (
+        refl,
+        some_segment h k g m IsLargerInFile _ back,
+        some_segment h g k m IsLargerInFile _ agree,
         (
-          (λ x w. never 4 x w),
+          refl,
+          some_segment h k g m IsSegmentWronglyAligned _ back,
+          some_segment h g k m IsSegmentWronglyAligned _ agree,
           (
-            (λ x w. never 5 x w),
-            (
-              (λ x w. never 6 x w),
-              (
-                (λ x w. never 7 x w),
-                (
-                  (λ x w. never 8 x w),
-                  (
-                    (λ x w. never 9 x w),
-                    (
-                      (λ x w. never 10 x w),
-                      (
-                        (λ x w. never 11 x w),
-                        (
-                          (λ x w. never 12 x (null_fields h (s 0) (t 0) x agree.first w)),
-                          (
-                            (λ x w. never 13 x (in_first h (s 0) (t 0) (HasWrongExtendedSectionCount h) _ x agree.first w)),
-                            (
-                              (λ x w. never 14 x ((w.0.0, subst (λ c. len < shdr_offset h c) (sym count) w.0.1), w.1)),
-                              (
-                                (λ x w. never 15 x ((w.0.0, subst (HasWrongNameTableIndex h) (sym count) w.0.1), w.1)),
-                                (
-                                  (λ x w. never 16 x (in_first h (s 0) (t 0) (λ q. HasWrongExtendedNameTableIndex h q (section_count h q)) _ x agree.first w)),
-                                  (
-                                    (λ x w. never 17 x w),
-                                    (
-                                      (λ x w. never 18 x w),
-                                      (
-                                        (λ x w. never 19 x (in_first h (s 0) (t 0) (HasWrongExtendedSegmentCount h) _ x agree.first w)),
-                                        (
-                                          (λ x w. never 20 x (subst (λ c. (0 < c) × (len < phdr_offset h c)) (sym segments) w.0, w.1)),
-                                          (
-                                            (λ x w. never 21 x (some_section h s t n nt IsWronglyAligned _ x count agree.sections w)),
-                                            (
-                                              (λ x w. never 22 x (some_section h s t n nt IsMisaligned _ x count agree.sections w)),
-                                              (
-                                                (λ x w. never 23 x (some_section h s t n nt (PassesEnd len) _ x count agree.sections w)),
-                                                (
-                                                  (λ x w. never 24 x (some_segment h g k m mt (SegmentPassesEnd len) _ x segments agree.segments w)),
-                                                  (
-                                                    (λ x w. never 25 x (some_segment h g k m mt IsLargerInFile _ x segments agree.segments w)),
-                                                    (
-                                                      (λ x w. never 26 x (some_segment h g k m mt IsSegmentWronglyAligned _ x segments agree.segments w)),
-                                                      (
-                                                        (λ x w. never 27 x (some_segment h g k m mt IsIncongruent _ x segments agree.segments w)),
-                                                        (
-                                                          (λ x w. never 28 x (loads h g k m mt x segments agree.segments w)),
-                                                          (
-                                                            (λ x w. named x w),
-                                                            (
-                                                              (λ x w. closed x w),
-                                                              (
-                                                                (λ x w. never 31 x (some_section h s t n nt (IsNamePastEnd (length names)) _ x count agree.sections w)),
-                                                                ((λ x w. never 32 x (subst (λ es. Doubly es x) (sym (same_extents h s t n m nt mt count segments agree.sections)) w)), tt),
-                                                              ),
-                                                            ),
-                                                          ),
-                                                        ),
-                                                      ),
-                                                    ),
-                                                  ),
-                                                ),
-                                              ),
-                                            ),
-                                          ),
-                                        ),
-                                      ),
-                                    ),
-                                  ),
-                                ),
-                              ),
-                            ),
-                          ),
-                        ),
-                      ),
-                    ),
-                  ),
-                ),
-              ),
-            ),
+            refl,
+            some_segment h k g m IsIncongruent _ back,
+            some_segment h g k m IsIncongruent _ agree,
+            (refl, loads h k g m back, loads h g k m agree, tt),
           ),
         ),
       ),
-    ),
-  ),
-))
+    )
+
+same_name_rows : (h : Ehdr) (n k : ℕ) (s t : ℕ → Shdr) (names : List ℕ) → ((i : ℕ) → i < n → s i ≡ t i) → s k ≡ t k →
+    AreSame (name_rows h n k s names) (name_rows h n k t names)
+unfolding name_rows
+same_name_rows h n k s t names agree table =
+    let back : (i : ℕ) → i < n → t i ≡ s i = λ i lt. sym (agree i lt) in
+    let P : Shdr → ℕ → Type 0 = λ q x. When ((k ≢ 0) × (q.sh_type ≢ SHT_STRTAB)) (shdr_offset h k + SH_TYPE_AT) x in
+    let Q : Shdr → ℕ → Type 0 = λ q x. UnclosedAt names q.sh_offset x in (
+      refl,
+      (λ x. subst (λ (q : Shdr). P q x) table),
+      (λ x. subst (λ (q : Shdr). P q x) (sym table)),
+      (
+        refl,
+        (λ x. subst (λ (q : Shdr). Q q x) table),
+        (λ x. subst (λ (q : Shdr). Q q x) (sym table)),
+        (refl, some_section h t s n (IsNamePastEnd (length names)) _ back, some_section h s t n (IsNamePastEnd (length names)) _ agree, tt),
+      ),
+    )
+
+-- rules 22 to 32 of entries that are the same below the counts and at the name table, as read of bytes and of tables in memory
+pub same_entries : (len : ℕ) (h : Ehdr) (c : Counts) (s t : ℕ → Shdr) (g k : ℕ → Phdr) (names : List ℕ) →
+    ((i : ℕ) → i < c.sections → s i ≡ t i) → ((j : ℕ) → j < c.segments → g j ≡ k j) → s c.name_table ≡ t c.name_table →
+    AreSame (entry_rows len h c s g names) (entry_rows len h c t k names)
+unfolding entry_rows
+same_entries len h c s t g k names sections segments table =
+    AreSame-append _ _ _ _ (same_section_rows len h c.sections s t sections)
+    (AreSame-append _ _ _ _ (same_segment_rows len h c.segments g k segments)
+    (same_name_rows h c.sections c.name_table s t names sections table))
+
+same_overlap : (h : Ehdr) (n m : ℕ) (s t : ℕ → Shdr) → ((i : ℕ) → i < n → s i ≡ t i) → AreSame (overlap_rows h n m s) (overlap_rows h n m t)
+same_overlap h n m s t agree =
+    let same = same_extents h n m s t agree in
+    (refl, (λ x. subst (λ (es : List Extent). Doubly es x) same), (λ x. subst (λ (es : List Extent). Doubly es x) (sym same)), tt)
+
+-- all rules, of a section header 0 by any equal name
+rows_from : ℕ → Ehdr → (ℕ → Shdr) → (ℕ → Phdr) → List ℕ → Shdr → List {1} Ruled
+rows_from len h t k names first =
+    (length_rows len ++ (ident_rows h.e_ident ++ (header_rows len h ++
+    (section_table_rows len h first ++ (program_table_rows len h first ++ entry_rows len h (counts_in h first) t k names)))))
+    ++ overlap_rows h (section_count h first) (segment_count h first) t
+
+same_from : (len : ℕ) (h : Ehdr) (s t : ℕ → Shdr) (g k : ℕ → Phdr) (names : List ℕ) → Agree h s t g k →
+    s (name_table h (s 0)) ≡ t (name_table h (s 0)) → AreSame (image_rows len h s g names) (rows_from len h t k names (s 0))
+unfolding image_rows record_rows table_rows rows_from
+same_from len h s t g k names agree table =
+    AreSame-append _ _ _ _
+    (AreSame-append _ _ _ _ (AreSame-refl (length_rows len))
+    (AreSame-append _ _ _ _ (AreSame-refl (ident_rows h.e_ident))
+    (AreSame-append _ _ _ _ (AreSame-refl (header_rows len h))
+    (AreSame-append _ _ _ _ (AreSame-refl (section_table_rows len h (s 0)))
+    (AreSame-append _ _ _ _ (AreSame-refl (program_table_rows len h (s 0)))
+    (same_entries len h (counts_in h (s 0)) s t g k names agree.sections agree.segments table))))))
+    (same_overlap h _ _ s t agree.sections)
+
+-- all rules, where the name table's header is the same too
+pub same_rows : (len : ℕ) (h : Ehdr) (s t : ℕ → Shdr) (g k : ℕ → Phdr) (names : List ℕ) → Agree h s t g k →
+    s (name_table h (s 0)) ≡ t (name_table h (s 0)) → AreSame (image_rows len h s g names) (image_rows len h t k names)
+unfolding image_rows record_rows table_rows rows_from
+same_rows len h s t g k names agree table =
+    subst (λ (first : Shdr). AreSame (image_rows len h s g names) (rows_from len h t k names first)) agree.first
+    (same_from len h s t g k names agree table)
+
+-- and so where one breaks no rule, the other doesn't
+pub same_clean : (len : ℕ) (h : Ehdr) (s t : ℕ → Shdr) (g k : ℕ → Phdr) (names : List ℕ) → Agree h s t g k →
+    FirstIn (image_rows len h s g names) None → FirstIn (image_rows len h t k names) None
+same_clean len h s t g k names agree clean =
+    let facts = sound_tables len h s g names (clean_records len h s g names clean) in
+    FirstIn-same (image_rows len h s g names) _ None (same_rows len h s t g k names agree (at_table facts)) clean
   where
-    never : (i x : ℕ) → BreaksAt (image_rows len h s g names) i x → ⊥
-    never = unbroken (image_rows len h s g names) clean
-
-    facts : HasSoundTables len h s
-    facts = sound_tables len h s g names (clean_records len h s g names clean)
-
-    n : ℕ
-    n = section_count h (s 0)
-
-    nt : ℕ
-    nt = section_count h (t 0)
-
-    m : ℕ
-    m = segment_count h (s 0)
-
-    mt : ℕ
-    mt = segment_count h (t 0)
-
-    count : section_count h (s 0) ≡ section_count h (t 0)
-    count = ap (section_count h) agree.first
-
-    segments : segment_count h (s 0) ≡ segment_count h (t 0)
-    segments = ap (segment_count h) agree.first
-
-    table : name_table h (s 0) ≡ name_table h (t 0)
-    table = ap (name_table h) agree.first
-
-    there : name_table h (s 0) ≢ 0 → name_table h (s 0) < section_count h (s 0)
-    there other = elim (cases_eq h.e_shoff 0) [
-      | inl none ↦ absurd (other (let unnamed = facts.no_names none in rw unnamed refl))
-      | inr table_there ↦ facts.name_table table_there
-    ]
-
-    named : (x : ℕ) → wrong_name_table_type h (name_table h (t 0)) t x → ⊥
-    named x w =
-        let other : name_table h (s 0) ≢ 0 = λ e. w.0.0 (sym table ∙ e) in
-        let entry : s (name_table h (s 0)) ≡ t (name_table h (t 0)) = agree.sections _ (there other) ∙ ap t table in
-        never 29 _ ((other, subst (λ (q : Shdr). q.sh_type ≢ 3) (sym entry) w.0.1), refl)
-
-    closed : (x : ℕ) → unclosed_name_table (name_table h (t 0)) t names x → ⊥
-    closed x w = elim w [
-      | inl p ↦ never 30 _ (inl (p.0, refl))
-      | inr w ↦ elim w [ inl p ↦ never 30 _ (inr (inl (p.0, refl))) | inr none ↦ none ]
+    at_table : HasSoundTables len h s → s (name_table h (s 0)) ≡ t (name_table h (s 0))
+    at_table facts = elim (name_table_below len h s facts) [
+      | inl none ↦ rw none agree.first
+      | inr below ↦ agree.sections _ below
     ]

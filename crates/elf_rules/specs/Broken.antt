@@ -1,4 +1,4 @@
--- A broken rule as a fault of a table of rules.
+-- A broken rule as what is found in a list of rules.
 use Rattle.std.specs.Prelude.{ℕ, Option, None, Some, Result, Ok, Err}
 use Rattle.elf_rules.specs.declared.broken.Broken.{Broken}
 

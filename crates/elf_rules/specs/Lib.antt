@@ -6,8 +6,10 @@ pub mod SectionTableRules
 pub mod ProgramTableRules
 pub mod SectionRules
 pub mod SegmentRules
+pub mod StringTable
 pub mod NameRules
 pub mod OverlapRule
+pub mod KeepsRules
 pub mod SoundTables
 pub mod ImageRules
 pub mod Kept

@@ -1,25 +1,18 @@
 -- Rules 30 to 32: the section name string table, and the sections' names in it. It is the table of
 -- index k, 0 for none, and names is its content, empty without one.
 -- (gABI chapter 4, ELF Header: e_shstrndx; String Table; Sections: sh_name.)
-use Rattle.std.specs.Prelude.{◌≢◌, ℕ, ◌+◌, ◌-◌, ◌<◌, List, [], ◌∷◌, length, slice_index}
+use Rattle.std.specs.Prelude.{◌≢◌, ℕ, ◌+◌, List, [], ◌∷◌, length}
 use Rattle.elf_field.specs.Abi.{SHT_STRTAB, SH_NAME_AT, SH_TYPE_AT}
 use Rattle.elf_field.specs.declared.ehdr.Ehdr.{Ehdr}
 use Rattle.elf_field.specs.declared.shdr.Shdr.{Shdr}
-use Rattle.elf_rules.specs.Rows.{Row, Ruled, rule, When, Either}
+use Rattle.elf_rules.specs.Rows.{Row, Ruled, rule, When}
 use Rattle.elf_rules.specs.SectionRules.{SomeSection, IsNamePastEnd}
+pub use Rattle.elf_rules.specs.StringTable.{UnclosedAt}
 use Rattle.elf_rules.specs.Tables.{shdr_offset}
 
 -- rule 30: the name table isn't a string table (STRTAB)
 abbrev pub wrong_name_table_type : Ehdr → ℕ → (ℕ → Shdr) → Row
 wrong_name_table_type h k s = When ((k ≢ 0) × ((s k).sh_type ≢ SHT_STRTAB)) (shdr_offset h k + SH_TYPE_AT)
-
--- the first or the last byte of a string table at `start` isn't 0
-abbrev pub UnclosedAt : List ℕ → ℕ → Row
-UnclosedAt table start =
-    let last = length table - 1 in
-    Either (
-    When ((0 < length table) × (slice_index table 0 ≢ 0)) start ∷
-    When ((0 < length table) × (slice_index table last ≢ 0)) (start + last) ∷ [])
 
 -- rule 31: the name table's first or last byte isn't 0
 abbrev pub unclosed_name_table : ℕ → (ℕ → Shdr) → List ℕ → Row

@@ -1,9 +1,9 @@
--- Tables of rules: which offsets break a rule, and the first rule broken with its lowest offset.
--- These words know no rule of any file: each table of rules is a list of numbered rows, and is judged in its order.
+-- Lists of rules: which offsets break a rule, and the first rule broken with its lowest offset.
+-- These words know no rule of any file: a rule is a number and a row, and a list of rules is judged in its order.
 use Rattle.std.specs.Prelude.{◌≡◌, ℕ, ◌<◌, ◌≤◌, ◌⊎◌, Option, None, Some, List, [], ◌∷◌}
 use Rattle.elf_extent.specs.Least.{Never, IsLeast}
 
--- a row of a table of rules: at which offsets its rule is broken
+-- the row of a rule: at which offsets it is broken
 abbrev pub Row : Type 1
 Row = ℕ → Type 0
 

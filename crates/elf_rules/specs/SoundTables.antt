@@ -1,6 +1,6 @@
--- What rules 1 to 32 say positively of the header, the tables and the contents of a file.
+-- What follows from rules 1 to 32 for reading: the header, the two tables and each content lie in the file.
 -- (gABI chapter 4, ELF Header and Sections; chapter 5, Program Header.)
-use Rattle.std.specs.Prelude.{◌≡◌, ◌≢◌, ◌<◌, ◌≤◌, ◌+◌, ◌^◌, ℕ}
+use Rattle.std.specs.Prelude.{◌≡◌, ◌≢◌, ◌<◌, ◌≤◌, ◌+◌, ℕ}
 use Rattle.elf_field.specs.Abi.{EHDR_SIZE, PN_XNUM, SHT_NOBITS, SHT_NULL}
 use Rattle.elf_field.specs.declared.ehdr.Ehdr.{Ehdr}
 use Rattle.elf_field.specs.declared.shdr.Shdr.{Shdr}

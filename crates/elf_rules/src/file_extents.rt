@@ -22,7 +22,7 @@ impl<'a> FileExtents<'a> {
     ghost use Rattle.elf_rules.specs.FileExtents.{file_extents};
 
     /// How many extents stand before the contents.
-    const TABLES: u64 = 3;
+    const BEFORE_CONTENTS: u64 = 3;
 
     /// The extents of a judged file.
     pub fn new(records: &JudgedRecords<'a>) -> FileExtents<'a>
@@ -35,7 +35,7 @@ impl<'a> FileExtents<'a> {
     fn len(&self) -> u64
         ensures { result ≡ length (file_extents self.now) }
     {
-        FileExtents::TABLES + self.records.section_count()
+        FileExtents::BEFORE_CONTENTS + self.records.section_count()
     }
 
     /// The extent of this index.
@@ -56,7 +56,7 @@ impl<'a> FileExtents<'a> {
                 start: self.records.header().e_phoff,
                 len: PHDR_SIZE * self.records.segment_count(),
             },
-            _ => extent_of_content(&self.records.section(index - FileExtents::TABLES)),
+            _ => extent_of_content(&self.records.section(index - FileExtents::BEFORE_CONTENTS)),
         }
     }
 
@@ -105,9 +105,9 @@ impl<'a> FileExtents<'a> {
         ensures lowest { IfOk result (IsLowest (Doubly (file_extents self.now))) }
         ensures otherwise { let es = file_extents self.now in OnErr result (¬ AreAscending es 3 (length es)) }
     {
-        let mut lowest = self.lowest_double(FileExtents::TABLES);
+        let mut lowest = self.lowest_double(FileExtents::BEFORE_CONTENTS);
         let mut last = Extent { start: 0, len: 0 };
-        for index in FileExtents::TABLES..self.len() {
+        for index in FileExtents::BEFORE_CONTENTS..self.len() {
             let extent = self.at(index);
             if extent.len > 0 {
                 if begins_before_end(&extent, &last) {

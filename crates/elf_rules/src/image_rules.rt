@@ -1,8 +1,9 @@
 //! The first rule that a file breaks.
-ghost use Rattle.std.specs.Prelude.{◌≡◌, ◌≢◌, ◌+◌, ◌<◌, ◌≤◌, ◌^◌, Some, IfErr, IfOk, OnOk, length};
+ghost use Rattle.std.specs.Prelude.{◌≡◌, ◌+◌, ◌<◌, ◌≤◌, ◌^◌, ℕ, List, Some, IfErr, IfOk, OnOk, length};
 ghost use Rattle.elf_rules.specs.Broken.{fault_of};
 ghost use Rattle.elf_rules.specs.ImageRules.{IsFault, KeepsRecordRules, entry_rows, table_rows};
 ghost use Rattle.elf_rules.specs.JudgedRecords.{file_of};
+ghost use Rattle.elf_rules.specs.StringTable.{AreEnds};
 ghost use Rattle.elf_rules.specs.Rows.{FirstIn};
 ghost use Rattle.elf_rules.specs.Tables.{counts_in, names, names_at, phdr_offset, sections, segments, shdr_offset};
 
@@ -11,10 +12,12 @@ use crate::header_rules::{judge_header, judge_ident, judge_length};
 use crate::judged_records::JudgedRecords;
 use crate::name_rules::{judge_names, names_of};
 use crate::program_table_rules::judge_program_table;
+use crate::records::{FileRecords, Records};
 use crate::rules::SHARED_BYTE;
 use crate::section_rules::judge_sections;
 use crate::section_table_rules::judge_section_table;
 use crate::segment_rules::judge_segments;
+use crate::string_table::{TableEnds, ends_of};
 use crate::tables::{Counts, counts_of, header_of, section_at};
 use elf_extent::OutOfMemory;
 use elf_field::Ehdr;
@@ -88,23 +91,31 @@ fn judge_tables(bytes: &[u8], header: &Ehdr) -> Result<Counts, Broken>
     judge_section_table(header, &first, len)?;
     judge_program_table(header, &first, len)?;
     let counts = counts_of(header, &first);
-    judge_entries(bytes, header, counts)?;
+    let ends = ends_of(names_of(bytes, header, counts.name_table));
+    judge_entries(&FileRecords { bytes, header }, header, counts, ends, len)?;
     Ok(counts)
 }
 
-/// Rules 22 to 32, of a file with these counts.
-fn judge_entries(bytes: &[u8], header: &Ehdr, counts: Counts) -> Result<(), Broken>
-    requires sections { shdr_offset header.now counts.sections ≤ length bytes.now }
-    requires segments { 0 < counts.segments → phdr_offset header.now counts.segments ≤ length bytes.now }
-    requires table { header.now.e_shoff ≢ 0 → shdr_offset header.now counts.name_table + SHDR_SIZE ≤ length bytes.now }
-    requires place { shdr_offset header.now counts.name_table + SHDR_SIZE < 2 ^ 64 }
-    ensures { let b = bytes.now in
-        let h = header.now in
-        FirstIn (entry_rows (length b) h counts (sections b h) (segments b h) (names_at b h counts.name_table))
+/// Rules 22 to 32, of a file of `len` bytes with these counts and this section name string table.
+pub fn judge_entries<T: Records>(
+    records: &T,
+    header: &Ehdr,
+    counts: Counts,
+    ends: TableEnds,
+    len: u64,
+) -> Result<(), Broken>
+    requires sections { (i : ℕ) → i < counts.sections → T.HasSection records.now i }
+    requires section_table { shdr_offset header.now counts.sections < 2 ^ 64 }
+    requires segments { (j : ℕ) → j < counts.segments → T.HasSegment records.now j }
+    requires program_table { 0 < counts.segments → phdr_offset header.now counts.segments < 2 ^ 64 }
+    requires name_table { T.HasSection records.now counts.name_table }
+    requires name_table_place { shdr_offset header.now counts.name_table + SHDR_SIZE < 2 ^ 64 }
+    requires names { 0 < ends.len → (T.sections records.now counts.name_table).sh_offset + ends.len < 2 ^ 64 }
+    ensures { (names : List ℕ) → AreEnds ends names →
+        FirstIn (entry_rows len header.now counts (T.sections records.now) (T.segments records.now) names)
         (fault_of result) }
 {
-    judge_sections(bytes, header, counts.sections)?;
-    judge_segments(bytes, header, counts.segments)?;
-    let names = names_of(bytes, header, counts.name_table);
-    judge_names(bytes, header, counts.sections, counts.name_table, names)
+    judge_sections(records, header, counts.sections, len)?;
+    judge_segments(records, header, counts.segments, len)?;
+    judge_names(records, header, counts.sections, counts.name_table, ends)
 }

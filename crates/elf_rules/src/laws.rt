@@ -3,9 +3,10 @@ ghost use Rattle.std.specs.Prelude.{◌≡◌, ◌<◌, ◌⊎◌, ℕ, List, Op
 ghost use Rattle.elf_field.specs.declared.ehdr.Ehdr.{Ehdr};
 ghost use Rattle.elf_field.specs.declared.phdr.Phdr.{Phdr};
 ghost use Rattle.elf_field.specs.declared.shdr.Shdr.{Shdr};
-ghost use Rattle.elf_rules.specs.ImageRules.{IsFault, KeepsRecordRules, extents_of_file, image_rows};
+ghost use Rattle.elf_rules.specs.ImageRules.{IsFault, KeepsRecordRules, extents_of_file, image_rows, record_rows};
 ghost use Rattle.elf_extent.specs.Extent.{AreDisjoint, AreWithin, Doubly};
 ghost use Rattle.elf_extent.specs.Least.{IsLowest};
+ghost use Rattle.elf_rules.specs.KeepsRules.{KeepsEachRecordRule, KeepsRules};
 ghost use Rattle.elf_rules.specs.OverlapRule.{extents, shared_fault};
 ghost use Rattle.elf_rules.specs.Rows.{FirstIn};
 ghost use Rattle.elf_rules.specs.Tables.{name_table, section_count, segment_count};
@@ -16,6 +17,19 @@ pub fn one_fault()
     ensures file { (b : List ℕ) (x y : Option (ℕ × ℕ)) → IsFault b x → IsFault b y → x ≡ y }
     ensures tables { (len : ℕ) (h : Ehdr) (s : ℕ → Shdr) (g : ℕ → Phdr) (names : List ℕ) (x y : Option (ℕ × ℕ)) →
         FirstIn (image_rows len h s g names) x → FirstIn (image_rows len h s g names) y → x ≡ y }
+{}
+
+/// No rule is broken exactly where each rule is kept, said as the standard says it, one fact for each: in
+/// all rules, and in those that look at one record at a time or at the names, 1 to 32.
+pub fn kept_rules()
+    ensures kept { (len : ℕ) (h : Ehdr) (s : ℕ → Shdr) (g : ℕ → Phdr) (names : List ℕ) →
+        FirstIn (image_rows len h s g names) None → KeepsRules len h s g names }
+    ensures unbroken { (len : ℕ) (h : Ehdr) (s : ℕ → Shdr) (g : ℕ → Phdr) (names : List ℕ) →
+        KeepsRules len h s g names → FirstIn (image_rows len h s g names) None }
+    ensures records_kept { (len : ℕ) (h : Ehdr) (s : ℕ → Shdr) (g : ℕ → Phdr) (names : List ℕ) →
+        FirstIn (record_rows len h s g names) None → KeepsEachRecordRule len h s g names }
+    ensures records_unbroken { (len : ℕ) (h : Ehdr) (s : ℕ → Shdr) (g : ℕ → Phdr) (names : List ℕ) →
+        KeepsEachRecordRule len h s g names → FirstIn (record_rows len h s g names) None }
 {}
 
 /// Where no rule is broken, each extent that is not empty lies in the file, no two share a byte, and

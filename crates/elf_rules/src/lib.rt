@@ -8,35 +8,41 @@
 //! assert_eq!(verdict(&[0x7f, 0x45]), Some((rules::TOO_SHORT, 2)));
 //! ```
 //!
-//! [`rules`] names the numbers. Each rule is one row of a table of definitions, over the file's length,
-//! its header and its entries by index, and so an image that is no file yet is judged by the same rows.
-//! [`tables`] and [`content`] read what the rules speak of, and the tests of single entries, as
-//! [`section_rules::SectionRule::is_broken_by`], serve a caller that reads a file in pieces.
+//! [`rules`] names the numbers and says what breaks each rule. A rule is one row of a list of definitions,
+//! over the file's length, its header and its entries by index: so an image that is no file yet is
+//! judged by the same rows, and the same judges read a file's bytes and tables in memory ([`Records`]).
+//! [`judge_records`] answers a file that keeps rules 1 to 32 with its header and counts.
 #![tactic(auto)]
 
-pub mod alignment;
+mod alignment;
 mod broken;
 pub mod content;
 mod file_extents;
-pub mod header_rules;
+mod header_rules;
 mod image_rules;
 mod judged_records;
 mod laws;
-pub mod name_rules;
+mod name_rules;
 mod overlap_rule;
-pub mod program_table_rules;
+mod program_table_rules;
+mod records;
 pub mod rules;
-pub mod section_rules;
-pub mod section_table_rules;
-pub mod segment_rules;
-pub mod sums;
+mod section_rules;
+mod section_table_rules;
+mod segment_rules;
+mod string_table;
+mod sums;
 pub mod tables;
 
 pub use broken::Broken;
-pub use header_rules::MAX_LEN;
-pub use image_rules::{judge, judge_by_sorting, judge_records, verdict};
+pub use header_rules::{MAX_LEN, judge_header, judge_ident, judge_length};
+pub use image_rules::{judge, judge_by_sorting, judge_entries, judge_records, verdict};
 pub use judged_records::JudgedRecords;
-pub use laws::{extents_of_image, fault_of_extents, one_fault};
+pub use laws::{extents_of_image, fault_of_extents, kept_rules, one_fault};
+pub use program_table_rules::judge_program_table;
+pub use records::{FileRecords, Records, TableRecords};
+pub use section_table_rules::judge_section_table;
+pub use string_table::{TableEnds, ends_of, unclosed_at};
 
 #[cfg(test)]
 mod tests;

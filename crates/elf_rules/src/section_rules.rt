@@ -1,29 +1,29 @@
 //! Rules on each section by itself: 22 to 24, and 32 on its name (gABI chapter 4, Sections).
-ghost use Rattle.std.specs.Prelude.{◌≡◌, ◌≤◌, ◌<◌, ◌↔◌, IsTrue, length};
+ghost use Rattle.std.specs.Prelude.{◌≡◌, ◌<◌, ◌^◌, ◌↔◌, ℕ, IsTrue};
 ghost use Rattle.elf_extent.specs.Least.{IsLowest};
 ghost use Rattle.elf_rules.specs.Broken.{fault_of};
 ghost use Rattle.elf_rules.specs.Rows.{FirstIn};
 ghost use Rattle.elf_rules.specs.SectionRules.{BreaksSection, IsMisaligned, PassesEnd, SomeSection, section_field, section_rows};
-ghost use Rattle.elf_rules.specs.Tables.{sections, shdr_offset};
+ghost use Rattle.elf_rules.specs.Tables.{shdr_offset};
 
 use crate::alignment::is_wrong_alignment;
 use crate::broken::Broken;
+use crate::records::Records;
 use crate::rules::*;
 use crate::sums::ends_behind;
-use crate::tables::section_at;
 use elf_field::abi::*;
 use elf_field::{Ehdr, Shdr};
 
 /// A rule on one section header, whatever the others are; it is not tested at type NULL.
 #[derive(Clone, Copy, Debug, PartialEq, Eq)]
 pub enum SectionRule {
-    /// Rule 22: the alignment is 0 or a power of two.
+    /// Rule 22, [`WRONG_SECTION_ALIGNMENT`].
     Alignment,
-    /// Rule 23: the address is a multiple of the alignment.
+    /// Rule 23, [`MISALIGNED_SECTION`].
     Address,
-    /// Rule 24: the content ends in a file of so many bytes.
+    /// Rule 24, [`CONTENT_PAST_END`], in a file of so many bytes.
     Content(u64),
-    /// Rule 32: the name begins in a section name string table of so many bytes, or is 0.
+    /// Rule 32, [`NAME_PAST_END`], with a section name string table of so many bytes.
     Name(u64),
 }
 
@@ -71,13 +71,19 @@ fn passes_end(entry: &Shdr, len: u64) -> bool
 }
 
 /// The lowest offset in the file at which one of `count` sections breaks the rule.
-pub fn lowest_section(bytes: &[u8], header: &Ehdr, count: u64, rule: SectionRule) -> Option<u64>
-    requires { shdr_offset header.now count ≤ length bytes.now }
-    ensures { let s = sections bytes.now header.now in
+pub fn lowest_section<T: Records>(
+    records: &T,
+    header: &Ehdr,
+    count: u64,
+    rule: SectionRule,
+) -> Option<u64>
+    requires there { (i : ℕ) → i < count → T.HasSection records.now i }
+    requires fits { shdr_offset header.now count < 2 ^ 64 }
+    ensures { let s = T.sections records.now in
         IsLowest (SomeSection header.now count s (BreaksSection rule) (section_field rule)) result }
 {
     for i in 1..count {
-        let entry = section_at(bytes, header, i);
+        let entry = records.section(i);
         if entry.sh_type != SHT_NULL && rule.is_broken_by(&entry) {
             return Some(header.e_shoff + SHDR_SIZE * i + rule.field());
         }
@@ -85,21 +91,25 @@ pub fn lowest_section(bytes: &[u8], header: &Ehdr, count: u64, rule: SectionRule
     None
 }
 
-/// Rules 22 to 24, of `count` sections.
+/// Rules 22 to 24, of `count` sections of a file of `len` bytes.
 #[tactic(auto, unfolding(crate::specs::SectionRules::section_rows))]
-pub fn judge_sections(bytes: &[u8], header: &Ehdr, count: u64) -> Result<(), Broken>
-    requires { shdr_offset header.now count ≤ length bytes.now }
-    ensures { let s = sections bytes.now header.now in
-        FirstIn (section_rows (length bytes.now) header.now count s) (fault_of result) }
+pub fn judge_sections<T: Records>(
+    records: &T,
+    header: &Ehdr,
+    count: u64,
+    len: u64,
+) -> Result<(), Broken>
+    requires there { (i : ℕ) → i < count → T.HasSection records.now i }
+    requires fits { shdr_offset header.now count < 2 ^ 64 }
+    ensures { FirstIn (section_rows len header.now count (T.sections records.now)) (fault_of result) }
 {
-    let len = bytes.len() as u64;
-    if let Some(at) = lowest_section(bytes, header, count, SectionRule::Alignment) {
+    if let Some(at) = lowest_section(records, header, count, SectionRule::Alignment) {
         return Err(Broken::new(WRONG_SECTION_ALIGNMENT, at));
     }
-    if let Some(at) = lowest_section(bytes, header, count, SectionRule::Address) {
+    if let Some(at) = lowest_section(records, header, count, SectionRule::Address) {
         return Err(Broken::new(MISALIGNED_SECTION, at));
     }
-    if let Some(at) = lowest_section(bytes, header, count, SectionRule::Content(len)) {
+    if let Some(at) = lowest_section(records, header, count, SectionRule::Content(len)) {
         return Err(Broken::new(CONTENT_PAST_END, at));
     }
     Ok(())

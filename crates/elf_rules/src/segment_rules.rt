@@ -1,29 +1,29 @@
 //! Rules 25 to 29, on the segments (gABI chapter 5, Program Header).
-ghost use Rattle.std.specs.Prelude.{◌≡◌, ◌≤◌, ◌≢◌, ◌<◌, ◌%◌, ◌↔◌, IsTrue, length};
+ghost use Rattle.std.specs.Prelude.{◌≡◌, ◌≢◌, ◌<◌, ◌%◌, ◌^◌, ◌↔◌, ℕ, IsTrue};
 ghost use Rattle.elf_extent.specs.Least.{IsLowest};
 ghost use Rattle.elf_rules.specs.Broken.{fault_of};
 ghost use Rattle.elf_rules.specs.Rows.{FirstIn};
 ghost use Rattle.elf_rules.specs.SegmentRules.{BreaksSegment, SomeSegment, load_out_of_order, segment_field, segment_rows};
-ghost use Rattle.elf_rules.specs.Tables.{phdr_offset, segments};
+ghost use Rattle.elf_rules.specs.Tables.{phdr_offset};
 
 use crate::alignment::is_wrong_alignment;
 use crate::broken::Broken;
+use crate::records::Records;
 use crate::rules::*;
 use crate::sums::ends_behind;
-use crate::tables::segment_at;
 use elf_field::abi::*;
 use elf_field::{Ehdr, Phdr};
 
 /// A rule on one segment, whatever the others are.
 #[derive(Clone, Copy, Debug, PartialEq, Eq)]
 pub enum SegmentRule {
-    /// Rule 25: its bytes end in a file of so many bytes; not tested at type NULL.
+    /// Rule 25, [`SEGMENT_PAST_END`], in a file of so many bytes; not tested at type NULL.
     End(u64),
-    /// Rule 26: a loadable segment has no more bytes in the file than in memory.
+    /// Rule 26, [`FILE_SIZE_ABOVE_MEMORY_SIZE`].
     Size,
-    /// Rule 27: a loadable segment's alignment is 0 or a power of two.
+    /// Rule 27, [`WRONG_SEGMENT_ALIGNMENT`].
     Alignment,
-    /// Rule 28: a loadable segment's address and offset are congruent modulo its alignment.
+    /// Rule 28, [`INCONGRUENT_SEGMENT`].
     Congruence,
 }
 
@@ -67,13 +67,19 @@ fn is_incongruent(segment: &Phdr) -> bool
 }
 
 /// The lowest offset in the file at which one of `count` segments breaks the rule.
-pub fn lowest_segment(bytes: &[u8], header: &Ehdr, count: u64, rule: SegmentRule) -> Option<u64>
-    requires { 0 < count → phdr_offset header.now count ≤ length bytes.now }
-    ensures { let g = segments bytes.now header.now in
+pub fn lowest_segment<T: Records>(
+    records: &T,
+    header: &Ehdr,
+    count: u64,
+    rule: SegmentRule,
+) -> Option<u64>
+    requires there { (j : ℕ) → j < count → T.HasSegment records.now j }
+    requires fits { 0 < count → phdr_offset header.now count < 2 ^ 64 }
+    ensures { let g = T.segments records.now in
         IsLowest (SomeSegment header.now count g (BreaksSegment rule) (segment_field rule)) result }
 {
     for i in 0..count {
-        if rule.is_broken_by(&segment_at(bytes, header, i)) {
+        if rule.is_broken_by(&records.segment(i)) {
             return Some(header.e_phoff + PHDR_SIZE * i + rule.field());
         }
     }
@@ -82,14 +88,15 @@ pub fn lowest_segment(bytes: &[u8], header: &Ehdr, count: u64, rule: SegmentRule
 
 /// The lowest offset in the file of an address, of one of `count` segments, that is below that of
 /// the loadable segment before it.
-fn lowest_out_of_order(bytes: &[u8], header: &Ehdr, count: u64) -> Option<u64>
-    requires { 0 < count → phdr_offset header.now count ≤ length bytes.now }
-    ensures { IsLowest (load_out_of_order header.now count (segments bytes.now header.now)) result }
+fn lowest_out_of_order<T: Records>(records: &T, header: &Ehdr, count: u64) -> Option<u64>
+    requires there { (j : ℕ) → j < count → T.HasSegment records.now j }
+    requires fits { 0 < count → phdr_offset header.now count < 2 ^ 64 }
+    ensures { IsLowest (load_out_of_order header.now count (T.segments records.now)) result }
 {
     // The address of the loadable segment before, 0 while there is none.
     let mut floor = 0;
     for i in 0..count {
-        let segment = segment_at(bytes, header, i);
+        let segment = records.segment(i);
         if segment.p_type == PT_LOAD {
             if segment.p_vaddr < floor {
                 return Some(header.e_phoff + PHDR_SIZE * i + P_VADDR_AT);
@@ -100,27 +107,31 @@ fn lowest_out_of_order(bytes: &[u8], header: &Ehdr, count: u64) -> Option<u64>
     None
 }
 
-/// Rules 25 to 29, of `count` segments.
+/// Rules 25 to 29, of `count` segments of a file of `len` bytes.
 #[tactic(auto, unfolding(crate::specs::SegmentRules::segment_rows))]
-pub fn judge_segments(bytes: &[u8], header: &Ehdr, count: u64) -> Result<(), Broken>
-    requires { 0 < count → phdr_offset header.now count ≤ length bytes.now }
-    ensures { let g = segments bytes.now header.now in
-        FirstIn (segment_rows (length bytes.now) header.now count g) (fault_of result) }
+pub fn judge_segments<T: Records>(
+    records: &T,
+    header: &Ehdr,
+    count: u64,
+    len: u64,
+) -> Result<(), Broken>
+    requires there { (j : ℕ) → j < count → T.HasSegment records.now j }
+    requires fits { 0 < count → phdr_offset header.now count < 2 ^ 64 }
+    ensures { FirstIn (segment_rows len header.now count (T.segments records.now)) (fault_of result) }
 {
-    let len = bytes.len() as u64;
-    if let Some(at) = lowest_segment(bytes, header, count, SegmentRule::End(len)) {
+    if let Some(at) = lowest_segment(records, header, count, SegmentRule::End(len)) {
         return Err(Broken::new(SEGMENT_PAST_END, at));
     }
-    if let Some(at) = lowest_segment(bytes, header, count, SegmentRule::Size) {
+    if let Some(at) = lowest_segment(records, header, count, SegmentRule::Size) {
         return Err(Broken::new(FILE_SIZE_ABOVE_MEMORY_SIZE, at));
     }
-    if let Some(at) = lowest_segment(bytes, header, count, SegmentRule::Alignment) {
+    if let Some(at) = lowest_segment(records, header, count, SegmentRule::Alignment) {
         return Err(Broken::new(WRONG_SEGMENT_ALIGNMENT, at));
     }
-    if let Some(at) = lowest_segment(bytes, header, count, SegmentRule::Congruence) {
+    if let Some(at) = lowest_segment(records, header, count, SegmentRule::Congruence) {
         return Err(Broken::new(INCONGRUENT_SEGMENT, at));
     }
-    if let Some(at) = lowest_out_of_order(bytes, header, count) {
+    if let Some(at) = lowest_out_of_order(records, header, count) {
         return Err(Broken::new(LOAD_OUT_OF_ORDER, at));
     }
     Ok(())

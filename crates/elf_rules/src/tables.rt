@@ -28,8 +28,8 @@ pub fn header_of(bytes: &[u8]) -> Ehdr
     get_at(order_in(&bytes[..EI_NIDENT]), bytes, 0)
 }
 
-/// What stands for section header 0 where there is no section table.
-const NO_SECTION: Shdr = Shdr {
+/// What stands for a section header that isn't there.
+pub(crate) const NO_SECTION: Shdr = Shdr {
     sh_name: 0,
     sh_type: 0,
     sh_flags: 0,
@@ -42,10 +42,22 @@ const NO_SECTION: Shdr = Shdr {
     sh_entsize: 0,
 };
 
+/// What stands for a program header that isn't there.
+pub(crate) const NO_SEGMENT: Phdr = Phdr {
+    p_type: 0,
+    p_flags: 0,
+    p_offset: 0,
+    p_vaddr: 0,
+    p_paddr: 0,
+    p_filesz: 0,
+    p_memsz: 0,
+    p_align: 0,
+};
+
 /// Section header `index` of a file with this header, where it lies in the file; all zeros without a
 /// section table.
 #[tactic(auto, unfolding(crate::specs::Tables::sections))]
-pub fn section_at(bytes: &[u8], header: &Ehdr, index: u64) -> Shdr
+pub(crate) fn section_at(bytes: &[u8], header: &Ehdr, index: u64) -> Shdr
     requires { header.now.e_shoff ≢ 0 → shdr_offset header.now index + SHDR_SIZE ≤ length bytes.now }
     ensures { result ≡ sections bytes.now header.now index }
 {
@@ -60,7 +72,7 @@ pub fn section_at(bytes: &[u8], header: &Ehdr, index: u64) -> Shdr
 
 /// Program header `index` of a file with this header, where it lies in the file.
 #[tactic(auto, unfolding(crate::specs::Tables::segments))]
-pub fn segment_at(bytes: &[u8], header: &Ehdr, index: u64) -> Phdr
+pub(crate) fn segment_at(bytes: &[u8], header: &Ehdr, index: u64) -> Phdr
     requires { phdr_offset header.now index + PHDR_SIZE ≤ length bytes.now }
     ensures { result ≡ segments bytes.now header.now index }
 {
@@ -91,7 +103,7 @@ pub fn counts_of(header: &Ehdr, first: &Shdr) -> Counts
 
 /// How many section headers there are: none without a section table; where `e_shnum` is 0, as many
 /// as section header 0 says in `sh_size`.
-pub fn section_count_of(header: &Ehdr, first: &Shdr) -> u64
+pub(crate) fn section_count_of(header: &Ehdr, first: &Shdr) -> u64
     ensures { result ≡ section_count header.now first.now }
 {
     if header.e_shoff == 0 {
@@ -105,7 +117,7 @@ pub fn section_count_of(header: &Ehdr, first: &Shdr) -> u64
 
 /// How many program headers there are; where `e_phnum` is `PN_XNUM`, as many as section header 0
 /// says in `sh_info`.
-pub fn segment_count_of(header: &Ehdr, first: &Shdr) -> u64
+pub(crate) fn segment_count_of(header: &Ehdr, first: &Shdr) -> u64
     ensures { result ≡ segment_count header.now first.now }
 {
     if header.e_phnum == PN_XNUM {
@@ -117,7 +129,7 @@ pub fn segment_count_of(header: &Ehdr, first: &Shdr) -> u64
 
 /// The index of the section name string table, 0 for none; where `e_shstrndx` is `SHN_XINDEX`, the
 /// one that section header 0 says in `sh_link`.
-pub fn name_table_of(header: &Ehdr, first: &Shdr) -> u64
+pub(crate) fn name_table_of(header: &Ehdr, first: &Shdr) -> u64
     ensures value { result ≡ name_table header.now first.now }
     ensures small { result < 2 ^ 32 }
 {

@@ -1,6 +1,10 @@
 //! Tests that cross crates.
 #![tactic(auto)]
 
+#[cfg(test)]
+mod failing_calls;
+#[cfg(test)]
+mod file_names;
 mod known_files;
 #[cfg(test)]
 mod image_faults;
@@ -11,6 +15,10 @@ mod images;
 #[cfg(test)]
 mod many_sections;
 #[cfg(test)]
+mod many_segments;
+#[cfg(test)]
 mod program;
+#[cfg(test)]
+mod two_of_each;
 
 pub use known_files::{KnownBytes, KnownFile, status_of_check};

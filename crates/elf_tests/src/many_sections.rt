@@ -8,6 +8,7 @@ use elf_tool::{Verdict, check, show};
 use std::alloc::{AllocError, Global};
 use std::io;
 use std::io::Write;
+use std::process::Abort;
 use std::test::Fail;
 
 /// The offset of the section header table: behind the symbol table's one entry, the empty string
@@ -98,31 +99,70 @@ fn object(alloc: Global, count: u32) -> Result<Vec<u8>, AllocError>
     Ok(file)
 }
 
-#[test]
-fn counts_in_section_header_0(rt: HostRuntime) -> Result<(), Fail> {
-    let rows = [
-        (65_275, 4_177_976, 65_278, "ok 4177976 65279 0\n"),
-        (65_276, 4_178_040, 65_279, "ok 4178040 65280 0\n"),
-        (65_277, 4_178_104, 65_280, "ok 4178104 65281 0\n"),
-    ];
-    for (count, len, names, line) in rows {
-        let file = object(rt.alloc(), count)?;
-        assert_eq!(rt; file.len(), len);
-        assert_eq!(rt; verdict(&file), None);
+/// The object of `count` sections is accepted with this line, has its name table at this index, and
+/// is written back.
+fn assert_object(
+    rt: &impl Abort,
+    alloc: Global,
+    count: u32,
+    len: usize,
+    names: u32,
+    line: &str,
+) -> Result<(), Fail>
+    requires { count < 100000 }
+{
+    let file = object(alloc, count)?;
+    assert_eq!(rt; file.len(), len);
+    assert_eq!(rt; verdict(&file), None);
 
-        let mut said = Vec::new(rt.alloc());
-        let answer = check(rt.alloc(), &mut file.as_slice(), &mut said);
-        assert!(rt; matches!(answer, Ok(Verdict::Done)));
-        assert_eq!(rt; said.as_slice(), line.as_bytes());
+    let mut said = Vec::new(alloc);
+    let answer = check(alloc, &mut file.as_slice(), &mut said);
+    assert!(rt; matches!(answer, Ok(Verdict::Done)));
+    assert_eq!(rt; said.as_slice(), line.as_bytes());
 
-        let image = parse(rt.alloc(), &file).ok().ok_or("an image")?;
-        assert_eq!(rt; image.section_count() as u64, u64::from(count) + 4);
-        assert_eq!(rt; image.name_table(), names);
-        let mut written = Vec::new(rt.alloc());
-        assert!(rt; write(&image, &mut written).is_ok());
-        assert!(rt; written.as_slice() == file.as_slice());
-    }
+    let image = parse(alloc, &file).ok().ok_or("an image")?;
+    assert_eq!(rt; image.section_count() as u64, u64::from(count) + 4);
+    assert_eq!(rt; image.name_table(), names);
+    let mut written = Vec::new(alloc);
+    assert!(rt; write(&image, &mut written).is_ok());
+    assert!(rt; written.as_slice() == file.as_slice());
     Ok(())
+}
+
+#[test]
+fn counts_in_the_header(rt: HostRuntime) -> Result<(), Fail> {
+    assert_object(
+        &rt,
+        rt.alloc(),
+        65_275,
+        4_177_976,
+        65_278,
+        "ok 4177976 65279 0\n",
+    )
+}
+
+#[test]
+fn count_in_section_header_0(rt: HostRuntime) -> Result<(), Fail> {
+    assert_object(
+        &rt,
+        rt.alloc(),
+        65_276,
+        4_178_040,
+        65_279,
+        "ok 4178040 65280 0\n",
+    )
+}
+
+#[test]
+fn count_and_name_table_in_section_header_0(rt: HostRuntime) -> Result<(), Fail> {
+    assert_object(
+        &rt,
+        rt.alloc(),
+        65_277,
+        4_178_104,
+        65_280,
+        "ok 4178104 65281 0\n",
+    )
 }
 
 /// A writer that knows the longest piece that it was offered.

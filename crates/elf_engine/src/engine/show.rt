@@ -1,4 +1,4 @@
-//! `show`: the header, the parts, the sections and the segments of a file.
+//! `show`: the header, the parts, the sections, the segments and the tables of a file.
 ghost use Rattle.std.specs.Prelude.{◌≡◌, List, length, map};
 ghost use Rattle.std.specs.List.{flat_map};
 ghost use Rattle.elf_engine.specs.Engine.{IsWritten};
@@ -9,15 +9,18 @@ ghost use Rattle.elf_engine.specs.ShowLines.{part_line};
 
 use super::input::read_input;
 use super::output::Output;
+use super::show_tables::show_tables;
 use crate::fault::{Refusal, ToolFault, Verdict};
 use crate::line::refused_line;
 use crate::show_lines::{push_file_line, push_part_line, push_section_line, push_segment_line};
 use elf_image::{Fault, Image, Part, parse, write_whole};
+use elf_table::Tables;
 use std::alloc::Global;
 use std::io::{Read, Write};
 
-/// Reads a whole file and writes a line on its header, and one on each of its parts, its sections and
-/// its segments, in this order; or the line `refused R A` with the first rule that it breaks and the
+/// Reads a whole file and writes a line on its header, and one on each of its parts, its sections, its
+/// segments and the entries of its tables, in this order, with a line `refused I R A` in place of those of a
+/// table in section I that is refused; or the line `refused R A` with the first rule that it breaks and the
 /// lowest offset where it breaks it.
 ///
 /// The verdict is what the text says. The text goes out in large pieces as it is made. Nothing is out
@@ -36,7 +39,9 @@ pub fn show<R: Read, W: Write>(
     let bytes = buf.as_slice();
     match parse(alloc, bytes) {
         Ok(image) => {
-            show_image(alloc, bytes, &image, writer)?;
+            // Judged before the first line goes out.
+            let tables = Tables::new(alloc, &image)?;
+            show_image(alloc, bytes, &image, &tables, writer)?;
             Ok(Verdict::Done)
         }
         Err(Fault::Rule { rule, at }) => {
@@ -67,15 +72,18 @@ fn show_image<W: Write>(
     alloc: Global,
     bytes: &[u8],
     image: &Image<'_>,
+    tables: &Tables<'_, '_>,
     writer: &mut W,
 ) -> Result<(), ToolFault>
-    ensures { IsWritten (show_text bytes.now image.now) (W.contents writer.old) (W.contents writer.new) result }
+    requires { tables.now.image ≡ image.now }
+    ensures { IsWritten (show_text bytes.now (record { image = image.now; verdicts = tables.now.verdicts })) (W.contents writer.old) (W.contents writer.new) result }
 {
     let mut output = Output::new(alloc);
     push_file_line(&mut output.pending, &image.header())?;
     show_parts(alloc, bytes, image.parts(), &mut output, writer)?;
     show_sections(alloc, image, &mut output, writer)?;
     show_segments(alloc, image, &mut output, writer)?;
+    show_tables(alloc, image, tables, &mut output, writer)?;
     output.flush(writer)
 }
 

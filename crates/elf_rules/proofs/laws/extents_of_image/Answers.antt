@@ -1,4 +1,4 @@
-use Rattle.elf_rules.proofs.Clean.{clean_records, extents_disjoint, extents_within, name_table_below, sound_tables}
+use Rattle.elf_rules.proofs.Public.{clean_records, extents_disjoint, extents_within, name_table_below, sound_tables}
 use Rattle.elf_rules.proofs.laws.extents_of_image.Goals as goal
 
 pub returns : goal.returns

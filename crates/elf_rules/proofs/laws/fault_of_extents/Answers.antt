@@ -1,4 +1,4 @@
-use Rattle.elf_rules.proofs.ImageRules as rules
+use Rattle.elf_rules.proofs.Public as rules
 use Rattle.elf_rules.proofs.laws.fault_of_extents.Goals as goal
 
 pub returns : goal.returns

@@ -1,5 +1,5 @@
 use Rattle.elf_rules.specs.ImageRules.{image_rows, rows}
-use Rattle.elf_rules.proofs.Rows.{one_fault}
+use Rattle.elf_rules.proofs.Public.{one_fault}
 use Rattle.elf_rules.proofs.laws.one_fault.Goals as goal
 
 pub returns : goal.returns

@@ -7,7 +7,7 @@ use Rattle.elf_rules.specs.FileExtents.{file_extents}
 use Rattle.elf_rules.specs.OverlapRule.{extents}
 use Rattle.elf_rules.specs.JudgedRecords.{file_of}
 use Rattle.elf_rules.specs.Tables.{content_extent, file_counts, header, sections}
-use Rattle.elf_rules.proofs.Extents.{length-extents, content_at}
+use Rattle.elf_rules.proofs.Extents.{length-extents, content_extent_at}
 use Rattle.elf_rules.proofs.file_extents.FileExtents.at.Goals as goal
 
 pub returns-in-0 : goal.returns-in-0
@@ -50,7 +50,7 @@ returns-in_default c =
     let s = sections b (header b) in
     let n = file_counts b in
     let long = length-extents (header b) n.sections n.segments s in
-    let content = content_at (header b) n.sections n.segments s c.args.index (omega arith) (omega arith) in
+    let content = content_extent_at (header b) n.sections n.segments s c.args.index (omega arith) (omega arith) in
     let read : content_extent (s (c.args.index - 3)) ≡ c.extent_of_content.result =
     ap (λ (entry : Shdr). content_extent entry) (sym c.section.ensures) ∙ sym c.extent_of_content.ensures in
     content ∙ ap Some read

@@ -4,7 +4,7 @@ use Rattle.elf_extent.specs.declared.extent.Extent.{Extent}
 use Rattle.elf_extent.specs.Least.{IsLowest}
 use Rattle.elf_rules.specs.FileExtents.{file_extents}
 use Rattle.elf_rules.specs.OverlapRule.{AreAscending, DoublyBelow}
-use Rattle.elf_rules.proofs.Extents.{IsWalk, doubly_ascending, doubly_on, doubly_past, three_first, walk_on, walk_past}
+use Rattle.elf_rules.proofs.Extents.{HasAscended, doubly_ascending, doubly_on, doubly_past, three_first, walk_on, walk_past}
 use Rattle.elf_rules.proofs.file_extents.FileExtents.lowest_of_ascending.Goals as goal
 use Rattle.elf_rules.proofs.file_extents.FileExtents.lowest_of_ascending.Goals.{then-extent-gt0+else-begins_before_end, else-extent-gt0}
 
@@ -16,7 +16,7 @@ loop-index-preserved c =
     let es = file_extents c.args.self.now in
     let j = c.loop-index.index in
     let before = c.loop-index.invariant in
-    let Walk : Extent → Type 0 = λ last. IsWalk es 3 (j + 1) last in
+    let Walk : Extent → Type 0 = λ last. HasAscended es 3 (j + 1) last in
     let Found : Option ℕ → Type 0 = λ lowest. IsLowest (DoublyBelow es 3 (j + 1)) lowest in
     elim c.if-extent-gt0.branch [
       | then-extent-gt0+else-begins_before_end w ↦ (

@@ -1,4 +1,4 @@
-use Rattle.std.proofs.Common.{◌≤◌, ℕ, length, subst}
+use Rattle.std.proofs.Common.{◌≤◌, length, subst}
 use Rattle.elf_field.specs.declared.ehdr.Ehdr.{Ehdr}
 use Rattle.elf_rules.specs.Tables.{shdr_offset}
 use Rattle.elf_rules.proofs.Kept.{kept_sections, kept_short}

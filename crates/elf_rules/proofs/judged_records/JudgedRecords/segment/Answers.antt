@@ -1,4 +1,4 @@
-use Rattle.std.proofs.Common.{◌<◌, ℕ, ap, arith, subst, sym}
+use Rattle.std.proofs.Common.{◌<◌, arith, subst, sym}
 use Rattle.elf_rules.specs.declared.tables.Counts.{Counts}
 use Rattle.elf_rules.proofs.Kept.{kept_segments}
 use Rattle.elf_rules.proofs.judged_records.JudgedRecords.segment.Goals as goal

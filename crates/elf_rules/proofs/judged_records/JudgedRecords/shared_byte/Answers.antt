@@ -1,4 +1,4 @@
-use Rattle.std.proofs.Common.{List, Option, subst}
+use Rattle.std.proofs.Common.{List, subst}
 use Rattle.elf_extent.specs.declared.extent.Extent.{Extent}
 use Rattle.elf_extent.specs.Extent.{Doubly}
 use Rattle.elf_extent.specs.Least.{IsLowest}

@@ -1,0 +1,57 @@
+-- The lines of the tables that a file holds, word by word. (gABI chapter 4, Symbol Table.)
+use Rattle.std.specs.Prelude.{ℕ, Bool, true, false, Option, None, Some, List, [], ◌∷◌, codes, get_or, length}
+use Rattle.std.specs.Fmt.{decimal}
+use Rattle.std.specs.List.{flat_map, range_with_len}
+use Rattle.elf_table.specs.declared.symbol.Place.{Place}
+use Rattle.elf_table.specs.declared.symbol.Place.TheVariants.{Undefined, Absolute, Common, Reserved, Section}
+use Rattle.elf_table.specs.Sections.{Sections, section, sections_of}
+use Rattle.elf_table.specs.Symbols.{SymbolValue, symbols_of}
+use Rattle.elf_table.specs.SymbolView.{no_symbol}
+use Rattle.elf_table.specs.TableRules.{holds_symbols}
+use Rattle.elf_table.specs.TableVerdicts.{TablesValue}
+use Rattle.elf_engine.specs.Line.{hexadecimal, line, name_text}
+
+-- where a symbol is defined
+abbrev pub place_text : Place → List ℕ
+place_text Undefined = codes "undef"
+place_text Absolute = codes "abs"
+place_text Common = codes "common"
+place_text (Reserved index) = codes "reserved"
+place_text (Section index) = decimal index
+
+-- `symbol I S BINDING TYPE OTHER PLACE VALUE SIZE NAME`: symbol S of the table in section I
+unfoldable pub symbol_line : ℕ → ℕ → SymbolValue → List ℕ
+symbol_line i j s = line (
+    codes "symbol" ∷ decimal i ∷ decimal j ∷ decimal s.binding ∷ decimal s.symbol_type ∷ decimal s.other ∷ place_text s.place
+    ∷ hexadecimal s.value ∷ hexadecimal s.size ∷ name_text s.name ∷ [])
+
+-- `refused I RULE AT`, in place of the lines of a table that is refused
+unfoldable pub table_refused_line : ℕ → ℕ → ℕ → List ℕ
+table_refused_line i rule at = line (codes "refused" ∷ decimal i ∷ decimal rule ∷ decimal at ∷ [])
+
+-- the line of each symbol of the table in section i, in order
+abbrev pub symbol_text : ℕ → List SymbolValue → ℕ → List ℕ
+symbol_text i symbols j = symbol_line i j (get_or symbols j no_symbol)
+
+unfoldable pub symbol_lines : ℕ → List SymbolValue → List ℕ
+symbol_lines i symbols = flat_map (symbol_text i symbols) (range_with_len 0 (length symbols))
+
+-- the lines of the table in section i, where it breaks no rule, and none where the section holds no table
+abbrev pub lines_where : Bool → List ℕ → List ℕ
+lines_where true lines = lines
+lines_where false lines = []
+
+abbrev pub entry_lines : Sections → ℕ → List ℕ
+entry_lines f i = lines_where (holds_symbols (section f i).sh_type) (symbol_lines i (symbols_of f i))
+
+-- and with this verdict
+abbrev pub table_lines : Sections → ℕ → Option (ℕ × ℕ) → List ℕ
+table_lines f i None = entry_lines f i
+table_lines f i (Some fault) = table_refused_line i fault.0 fault.1
+
+abbrev pub table_text : TablesValue → ℕ → List ℕ
+table_text tables i = table_lines (sections_of tables.image) i (get_or tables.verdicts i None)
+
+-- the lines of all tables, by the indexes of their sections
+unfoldable pub all_table_lines : TablesValue → List ℕ
+all_table_lines tables = flat_map (table_text tables) (range_with_len 0 (length tables.image.sections))

@@ -1,0 +1,61 @@
+//! The lines of tables: each function appends one to the text that is to go out.
+ghost use Rattle.std.specs.Prelude.{◌≡◌, ◌∷◌, ◌++◌, OnOk};
+ghost use Rattle.elf_engine.specs.Line.{blank};
+ghost use Rattle.elf_engine.specs.TableLines.{place_text, symbol_line, table_refused_line};
+ghost use Rattle.elf_table.specs.SymbolView.{symbol_value};
+
+use crate::line::{begin_line, end_line, push_decimal, push_hexadecimal, push_name, push_word};
+use elf_rules::Broken;
+use elf_table::{Place, Symbol};
+use std::alloc::{AllocError, Global};
+
+/// `symbol I S BINDING TYPE OTHER PLACE VALUE SIZE NAME`, of symbol `j` of the table in section `i`.
+pub(crate) fn push_symbol_line(
+    alloc: Global,
+    text: &mut Vec<u8>,
+    i: usize,
+    j: usize,
+    symbol: &Symbol<'_>,
+) -> Result<(), AllocError>
+    ensures { OnOk result (text.new.items ≡ text.old.items ++ symbol_line i j (symbol_value symbol.now)) }
+{
+    begin_line(text, b"symbol")?;
+    push_decimal(text, i as u64)?;
+    push_decimal(text, j as u64)?;
+    push_decimal(text, symbol.binding as u64)?;
+    push_decimal(text, symbol.symbol_type as u64)?;
+    push_decimal(text, symbol.other as u64)?;
+    push_place(text, symbol.place)?;
+    push_hexadecimal(text, symbol.value)?;
+    push_hexadecimal(text, symbol.size)?;
+    push_name(alloc, text, symbol.name)?;
+    end_line(text)
+}
+
+// Where a symbol is defined.
+fn push_place(text: &mut Vec<u8>, place: Place) -> Result<(), AllocError>
+    ensures { OnOk result (text.new.items ≡ text.old.items ++ blank ∷ place_text place) }
+{
+    match place {
+        Place::Undefined => push_word(text, b"undef"),
+        Place::Absolute => push_word(text, b"abs"),
+        Place::Common => push_word(text, b"common"),
+        Place::Reserved(_) => push_word(text, b"reserved"),
+        Place::Section(index) => push_decimal(text, index as u64),
+    }
+}
+
+/// `refused I RULE AT`, of the table in section `i`.
+pub(crate) fn push_table_refused_line(
+    text: &mut Vec<u8>,
+    i: usize,
+    broken: Broken,
+) -> Result<(), AllocError>
+    ensures { OnOk result (text.new.items ≡ text.old.items ++ table_refused_line i broken.rule broken.at) }
+{
+    begin_line(text, b"refused")?;
+    push_decimal(text, i as u64)?;
+    push_decimal(text, broken.rule as u64)?;
+    push_decimal(text, broken.at)?;
+    end_line(text)
+}

@@ -1,0 +1,6 @@
+-- Lemmas of this crate.
+pub mod Lowest
+pub mod IndexTables
+pub mod SymbolLists
+pub mod AllIndexTables
+pub mod TableRuleLemmas

@@ -1,0 +1,33 @@
+//! What holds of the rules of tables themselves, and of tables and the bytes of a file.
+ghost use Rattle.std.specs.Prelude.{◌≡◌, ◌+◌, ◌*◌, ◌≤◌, ℕ, List, Option};
+ghost use Rattle.elf_extent.specs.declared.extent.Extent.{Extent};
+ghost use Rattle.elf_field.specs.declared.order.Order.{Order};
+ghost use Rattle.elf_field.specs.Sym.{sym_at};
+ghost use Rattle.elf_field.specs.Word.{word_at};
+ghost use Rattle.elf_image.specs.Image.{ImageValue, IsImage};
+ghost use Rattle.elf_rules.specs.Rows.{FirstIn};
+ghost use Rattle.elf_rules.specs.Tables.{bytes_in};
+ghost use Rattle.elf_table.specs.Sections.{Sections, sections_in, sections_of};
+ghost use Rattle.elf_table.specs.StringRules.{string_table_rules};
+ghost use Rattle.elf_table.specs.SymbolRules.{entry, symbol_table_rules, word};
+ghost use Rattle.elf_table.specs.TableRules.{table_rules};
+
+/// The rules of a table look at the header, the section headers and the contents of an image; these are the ones that the
+/// bytes have for which the image stands, edited or as read.
+pub fn sections_of_bytes()
+    ensures { (v : ImageValue) (b : List ℕ) → IsImage v b → sections_of v ≡ sections_in b }
+{}
+
+/// A table has one fault or none.
+pub fn one_table_fault()
+    ensures strings { (f : Sections) (i : ℕ) (x y : Option (ℕ × ℕ)) → FirstIn (string_table_rules f i) x → FirstIn (string_table_rules f i) y → x ≡ y }
+    ensures symbols { (f : Sections) (i : ℕ) (x y : Option (ℕ × ℕ)) → FirstIn (symbol_table_rules f i) x → FirstIn (symbol_table_rules f i) y → x ≡ y }
+    ensures table { (f : Sections) (i : ℕ) (x y : Option (ℕ × ℕ)) → FirstIn (table_rules f i) x → FirstIn (table_rules f i) y → x ≡ y }
+{}
+
+/// Entry j of a content is the record at the content's offset in the file and j times its size: of symbols, and of the words of
+/// index tables.
+pub fn entries_in_file()
+    ensures symbols { (o : Order) (b : List ℕ) (e : Extent) (j : ℕ) → 24 * j + 24 ≤ e.len → entry o (bytes_in b e) j ≡ sym_at o b (e.start + 24 * j) }
+    ensures words { (o : Order) (b : List ℕ) (e : Extent) (j : ℕ) → 4 * j + 4 ≤ e.len → word o (bytes_in b e) j ≡ word_at o b (e.start + 4 * j) }
+{}

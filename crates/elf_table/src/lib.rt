@@ -1,0 +1,22 @@
+//! The tables that an ELF-64 image holds, each as a list of its entries (gABI chapter 4, String Table, Symbol Table,
+//! Relocation; chapter 5): from an [`Image`](elf_image::Image) and the index of a section.
+#![tactic(auto)]
+
+mod index_tables;
+mod laws;
+mod own_rules;
+pub mod rules;
+mod strings;
+mod symbol;
+mod symbol_parts;
+mod symbol_rules;
+mod symbols;
+mod table_kind;
+mod tables;
+
+pub use laws::{entries_in_file, one_table_fault, sections_of_bytes};
+pub use strings::Strings;
+pub use symbol::{Place, Symbol};
+pub use symbols::{SymbolIter, Symbols};
+pub use table_kind::is_symbol_type;
+pub use tables::Tables;

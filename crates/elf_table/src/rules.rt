@@ -1,0 +1,29 @@
+//! The number of each rule of tables. A table's own rules, 40 to 44, come first, then those of the table that it links to,
+//! and then the rest: docs/RULES.md has the order of each table.
+
+/// The section is not of a type that holds such a table.
+pub const WRONG_TABLE_TYPE: u16 = 40;
+/// A string table that is not empty begins or ends with a byte that isn't 0.
+pub const UNCLOSED_STRING_TABLE: u16 = 41;
+/// The entries do not have their size.
+pub const WRONG_ENTRY_SIZE: u16 = 42;
+/// The last entry is cut short.
+pub const PARTIAL_ENTRY: u16 = 43;
+/// The section that the table links to is not there, or of another type.
+pub const WRONG_LINK: u16 = 44;
+/// A symbol table has no symbol 0, or a byte of it isn't 0.
+pub const SYMBOL_0_NOT_NULL: u16 = 45;
+/// The index of the first symbol that is not local is 0 or above the number of symbols.
+pub const WRONG_LOCAL_COUNT: u16 = 46;
+/// A symbol below that index is not local, or one from it on is.
+pub const MISPLACED_BINDING: u16 = 47;
+/// A symbol's name begins behind the string table.
+pub const SYMBOL_NAME_PAST_END: u16 = 48;
+/// A symbol table has a second index table.
+pub const SECOND_INDEX_TABLE: u16 = 49;
+/// An index table has not one word for each symbol.
+pub const WRONG_INDEX_TABLE_SIZE: u16 = 50;
+/// A symbol's section stands in an index table that is not there, or there is no such section.
+pub const WRONG_SYMBOL_SECTION: u16 = 51;
+/// A word of an index table isn't 0 though the symbol needs none, or it is none of a section that needs one.
+pub const WRONG_INDEX_WORD: u16 = 52;

@@ -1,0 +1,247 @@
+//! Readers and writers of which one call alone fails or gives nothing: the answer is exact, and no
+//! call comes after it.
+ghost use Rattle.std.specs.Prelude.{◌≡◌, IfOk};
+
+use elf_tool::{ToolFault, Verdict, check, show};
+use std::io;
+use std::io::{ErrorKind, Read, Write};
+
+/// A header alone, of 64 bytes, in little order: the row of the header that is accepted.
+const HEADER: [u8; 64] = [
+    0x7f, 0x45, 0x4c, 0x46, 2, 1, 1, 0, 0, 0, 0, 0, 0, 0, 0, 0, 1, 0, 0x3e, 0, 1, 0, 0, 0, 0, 0, 0,
+    0, 0, 0, 0, 0, 0, 0, 0, 0, 0, 0, 0, 0, 0, 0, 0, 0, 0, 0, 0, 0, 0, 0, 0, 0, 0x40, 0, 0, 0, 0, 0,
+    0, 0, 0, 0, 0, 0,
+];
+
+/// What `show` prints of it.
+const HEADER_TEXT: &[u8; 49] = b"file little 1 62 0x0 0x0\npart 0x0 0x40 header\n\0\0\0";
+
+/// How many bytes a call gives or takes.
+const PIECE: usize = 8;
+
+/// What the one call does: it fails so, or gives or takes nothing.
+type Failure = Option<ErrorKind>;
+
+/// Gives its bytes a piece a call, but at one call.
+#[derive(Drop)]
+struct Source<'a> {
+    bytes: &'a [u8],
+    fails_at: usize,
+    failure: Failure,
+    calls: usize,
+    empty_calls: usize,
+}
+
+impl<'a> Source<'a> {
+    fn new(bytes: &'a [u8], fails_at: usize, failure: Failure) -> Source<'a> {
+        Source {
+            bytes,
+            fails_at,
+            failure,
+            calls: 0,
+            empty_calls: 0,
+        }
+    }
+}
+
+impl Read for Source<'_> {
+    fn read(&mut self, buf: &mut [u8]) -> io::Result<usize> {
+        let call = self.calls;
+        self.calls = call.saturating_add(1);
+        if buf.is_empty() {
+            self.empty_calls = self.empty_calls.saturating_add(1);
+        }
+        if call == self.fails_at {
+            return answer(self.failure);
+        }
+        let count = self.bytes.len().min(buf.len()).min(PIECE);
+        self.bytes.read(&mut buf[..count])
+    }
+}
+
+fn answer(failure: Failure) -> io::Result<usize>
+    ensures { IfOk result (λ count. count ≡ 0) }
+{
+    match failure {
+        Some(kind) => Err(kind.into()),
+        None => Ok(0),
+    }
+}
+
+/// Takes a piece a call, but at one call.
+#[derive(Drop)]
+struct Sink {
+    bytes: [u8; 64],
+    len: usize,
+    fails_at: usize,
+    failure: Failure,
+    calls: usize,
+    empty_calls: usize,
+    flushes: usize,
+    longest: usize,
+}
+
+impl Sink {
+    fn new(fails_at: usize, failure: Failure) -> Sink {
+        Sink {
+            bytes: [0; 64],
+            len: 0,
+            fails_at,
+            failure,
+            calls: 0,
+            empty_calls: 0,
+            flushes: 0,
+            longest: 0,
+        }
+    }
+
+    fn text(&self) -> &[u8] {
+        &self.bytes[..self.len.min(64)]
+    }
+}
+
+impl Write for Sink {
+    fn write(&mut self, buf: &[u8]) -> io::Result<usize> {
+        let call = self.calls;
+        self.calls = call.saturating_add(1);
+        self.longest = self.longest.max(buf.len());
+        if buf.is_empty() {
+            self.empty_calls = self.empty_calls.saturating_add(1);
+        }
+        if call == self.fails_at {
+            return answer(self.failure);
+        }
+        let start = self.len.min(64);
+        let count = buf.len().min(PIECE).min(64 - start);
+        self.bytes[start..start + count].copy_from_slice(&buf[..count]);
+        self.len = start + count;
+        Ok(count)
+    }
+
+    fn flush(&mut self) -> io::Result<()> {
+        self.flushes = self.flushes.saturating_add(1);
+        Ok(())
+    }
+}
+
+const FAILURES: [ErrorKind; 3] = [
+    ErrorKind::Interrupted,
+    ErrorKind::WouldBlock,
+    ErrorKind::Other,
+];
+
+// Eight calls give the header's bytes, and a ninth asks for the end, once.
+#[test]
+fn a_read_that_fails_once_is_not_tried_again(rt: HostRuntime) {
+    for k in 0..27 {
+        let call = k / 3;
+        let mut reader = Source::new(&HEADER, call, Some(FAILURES[k % 3]));
+        let mut writer = Sink::new(100, None);
+        let answer = check(rt.alloc(), &mut reader, &mut writer);
+        let at = (call * PIECE) as u64;
+        assert_eq!(rt; answer, Err(ToolFault::Read { at }), "call {k}");
+        assert_eq!(rt;
+            (reader.calls, reader.empty_calls),
+            (call + 1, 0),
+            "call {k}"
+        );
+        assert_eq!(rt; (writer.calls, writer.flushes), (0, 0), "call {k}");
+    }
+}
+
+#[test]
+fn a_read_of_no_bytes_is_the_end(rt: HostRuntime) {
+    let lines = [
+        "refused 2 0\n",
+        "refused 2 8\n",
+        "refused 2 16\n",
+        "refused 2 24\n",
+        "refused 2 32\n",
+        "refused 2 40\n",
+        "refused 2 48\n",
+        "refused 2 56\n",
+        "ok 64 0 0\n",
+    ];
+    for (call, line) in lines.iter().enumerate() {
+        let mut reader = Source::new(&HEADER, call, None);
+        let mut writer = Sink::new(100, None);
+        let answer = check(rt.alloc(), &mut reader, &mut writer);
+        assert_eq!(rt;
+            matches!(answer, Ok(Verdict::Done)),
+            call == 8,
+            "call {call}"
+        );
+        assert_eq!(rt; writer.text(), line.as_bytes(), "call {call}");
+        assert_eq!(rt;
+            (reader.calls, reader.empty_calls),
+            (call.saturating_add(1), 0),
+            "call {call}"
+        );
+    }
+}
+
+// The line of ten bytes goes out in two calls, after one offer of it whole.
+#[test]
+fn a_write_of_the_line_that_fails_once_is_not_tried_again(rt: HostRuntime) {
+    for k in 0..8 {
+        let call = k / 4;
+        let failure = if k % 4 == 3 {
+            None
+        } else {
+            Some(FAILURES[k % 4 % 3])
+        };
+        let mut reader = Source::new(&HEADER, 100, None);
+        let mut writer = Sink::new(call, failure);
+        let answer = check(rt.alloc(), &mut reader, &mut writer);
+        let out = call * PIECE;
+        let written = out as u64;
+        assert_eq!(rt; answer, Err(ToolFault::Write { written }), "case {k}");
+        assert_eq!(rt; writer.text(), &b"ok 64 0 0\n"[..out], "case {k}");
+        assert_eq!(rt;
+            (writer.calls, writer.empty_calls, writer.flushes),
+            (call + 1, 0, 0),
+            "case {k}"
+        );
+        assert_eq!(rt; writer.longest, 10, "case {k}");
+    }
+}
+
+// The text of 46 bytes goes out in six calls, after one offer of it whole.
+#[test]
+fn a_write_of_the_lines_that_fails_once_is_not_tried_again(rt: HostRuntime) {
+    for k in 0..24 {
+        let call = k / 4;
+        let failure = if k % 4 == 3 {
+            None
+        } else {
+            Some(FAILURES[k % 4 % 3])
+        };
+        let mut reader = Source::new(&HEADER, 100, None);
+        let mut writer = Sink::new(call, failure);
+        let answer = show(rt.alloc(), &mut reader, &mut writer);
+        let out = call * PIECE;
+        let written = out as u64;
+        assert_eq!(rt; answer, Err(ToolFault::Write { written }), "case {k}");
+        assert_eq!(rt; writer.text(), &HEADER_TEXT[..out], "case {k}");
+        assert_eq!(rt;
+            (writer.calls, writer.empty_calls, writer.flushes),
+            (call + 1, 0, 0),
+            "case {k}"
+        );
+        assert_eq!(rt; writer.longest, 46, "case {k}");
+    }
+}
+
+#[test]
+fn a_text_that_goes_out_is_not_flushed(rt: HostRuntime) {
+    let mut reader = Source::new(&HEADER, 100, None);
+    let mut writer = Sink::new(100, None);
+    let answer = show(rt.alloc(), &mut reader, &mut writer);
+    assert!(rt; matches!(answer, Ok(Verdict::Done)));
+    assert_eq!(rt; writer.text(), &HEADER_TEXT[..46]);
+    assert_eq!(rt; (reader.calls, reader.empty_calls), (9, 0));
+    assert_eq!(rt;
+        (writer.calls, writer.empty_calls, writer.flushes),
+        (6, 0, 0)
+    );
+}
