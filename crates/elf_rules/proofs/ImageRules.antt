@@ -23,25 +23,25 @@ use Rattle.elf_rules.specs.ImageRules.{IsFault, KeepsRecordRules, entry_rows, ex
 use Rattle.elf_rules.proofs.Rows.{FirstIn-later, FirstIn-rest, FirstIn-sooner}
 
 -- rules 13 to 32 of a file with this header
-abbrev tables_of : List ℕ → Ehdr → List {1} Ruled
-tables_of b h = table_rows (length b) h (sections b h) (segments b h) (names b h)
+abbrev table_rules_of : List ℕ → Ehdr → List {1} Ruled
+table_rules_of b h = table_rows (length b) h (sections b h) (segments b h) (names b h)
 
 -- rules 1 to 32 of a file
-abbrev records_of : List ℕ → List {1} Ruled
-records_of b = let h = header b in record_rows (length b) h (sections b h) (segments b h) (names b h)
+abbrev record_rules_of : List ℕ → List {1} Ruled
+record_rules_of b = let h = header b in record_rows (length b) h (sections b h) (segments b h) (names b h)
 
 -- what the run of rules 1 to 32 found is the file's fault
-pub fault_of_records : (b : List ℕ) (fault : ℕ × ℕ) → FirstIn (records_of b) (Some fault) → IsFault b (Some fault)
+pub fault_of_records : (b : List ℕ) (fault : ℕ × ℕ) → FirstIn (record_rules_of b) (Some fault) → IsFault b (Some fault)
 unfolding rows image_rows
-fault_of_records b fault run = FirstIn-sooner (records_of b) _ fault run
+fault_of_records b fault run = FirstIn-sooner (record_rules_of b) _ fault run
 
 -- where none of them is broken, the fault is the lowest byte in two extents, by rule 33
 pub fault_of_extents : (b : List ℕ) (found : Option ℕ) → KeepsRecordRules b →
     IsLowest (Doubly (extents_of_file b)) found →
     IsFault b (shared_fault found)
 unfolding rows image_rows
-fault_of_extents b None kept never = FirstIn-later (records_of b) _ None kept (never, tt)
-fault_of_extents b (Some x) kept least = FirstIn-later (records_of b) _ (Some (33, x)) kept (inl (refl, least))
+fault_of_extents b None kept never = FirstIn-later (record_rules_of b) _ None kept (never, tt)
+fault_of_extents b (Some x) kept least = FirstIn-later (record_rules_of b) _ (Some (33, x)) kept (inl (refl, least))
 
 -- the same of a search that memory may be refused to
 pub fault_of_search : {E : Type 0} (b : List ℕ) (es : List Extent) (result : Result (Option ℕ) E) → KeepsRecordRules b →
@@ -54,69 +54,69 @@ fault_of_search b es (Err error) kept same lowest = tt
 pub overlap_alone : (b : List ℕ) (rule at : ℕ) → KeepsRecordRules b → IsFault b (Some (rule, at)) → rule ≡ 33
 unfolding rows image_rows
 overlap_alone b rule at kept fault =
-    elim (FirstIn-rest (records_of b) _ (Some (rule, at)) kept fault) [ inl here ↦ here.0 | inr later ↦ absurd later.1 ]
+    elim (FirstIn-rest (record_rules_of b) _ (Some (rule, at)) kept fault) [ inl here ↦ here.0 | inr later ↦ absurd later.1 ]
 
 -- what a judge of rules 1 to 32 answers, by what its run found
-pub judged_broken : {T : Type 0} (b : List ℕ) (result : Result T Broken) → FirstIn (records_of b) (fault_of result) →
+pub judged_broken : {T : Type 0} (b : List ℕ) (result : Result T Broken) → FirstIn (record_rules_of b) (fault_of result) →
     IfErr result (λ broken. IsFault b (Some (broken.rule, broken.at)))
 judged_broken b (Ok u) run = tt
 judged_broken b (Err e) run = fault_of_records b (e.rule, e.at) run
 
-pub judged_kept : {T : Type 0} (b : List ℕ) (result : Result T Broken) → FirstIn (records_of b) (fault_of result) →
+pub judged_kept : {T : Type 0} (b : List ℕ) (result : Result T Broken) → FirstIn (record_rules_of b) (fault_of result) →
     OnOk result (KeepsRecordRules b)
 judged_kept b (Ok u) run = run
 judged_kept b (Err e) run = tt
 
 pub from_length : (b : List ℕ) (h : Ehdr) (found : Option (ℕ × ℕ)) → h ≡ header b →
-    FirstIn (length_rows (length b) ++ (ident_rows h.e_ident ++ (header_rows (length b) h ++ tables_of b h))) found →
-    FirstIn (records_of b) found
+    FirstIn (length_rows (length b) ++ (ident_rows h.e_ident ++ (header_rows (length b) h ++ table_rules_of b h))) found →
+    FirstIn (record_rules_of b) found
 unfolding record_rows
 from_length b h found e run =
     subst (λ (k : Ehdr). FirstIn (record_rows (length b) k (sections b k) (segments b k) (names b k)) found) e run
 
 pub from_ident : (b : List ℕ) (h : Ehdr) (found : Option (ℕ × ℕ)) → h ≡ header b →
     FirstIn (length_rows (length b)) None →
-    FirstIn (ident_rows h.e_ident ++ (header_rows (length b) h ++ tables_of b h)) found →
-    FirstIn (records_of b) found
+    FirstIn (ident_rows h.e_ident ++ (header_rows (length b) h ++ table_rules_of b h)) found →
+    FirstIn (record_rules_of b) found
 unfolding length_rows
 from_ident b h found e lengths run =
     from_length b h found e (FirstIn-later (length_rows (length b)) _ found lengths run)
 
 pub from_header : (b : List ℕ) (h : Ehdr) (found : Option (ℕ × ℕ)) → h ≡ header b →
     FirstIn (length_rows (length b)) None → FirstIn (ident_rows h.e_ident) None →
-    FirstIn (header_rows (length b) h ++ tables_of b h) found →
-    FirstIn (records_of b) found
+    FirstIn (header_rows (length b) h ++ table_rules_of b h) found →
+    FirstIn (record_rules_of b) found
 unfolding ident_rows
 from_header b h found e lengths ident run =
     from_ident b h found e lengths (FirstIn-later (ident_rows h.e_ident) _ found ident run)
 
 pub from_tables : (b : List ℕ) (h : Ehdr) (found : Option (ℕ × ℕ)) → h ≡ header b →
     FirstIn (length_rows (length b)) None → FirstIn (ident_rows h.e_ident) None →
-    FirstIn (header_rows (length b) h) None → FirstIn (tables_of b h) found →
-    FirstIn (records_of b) found
+    FirstIn (header_rows (length b) h) None → FirstIn (table_rules_of b h) found →
+    FirstIn (record_rules_of b) found
 unfolding header_rows
 from_tables b h found e lengths ident headers run =
     from_header b h found e lengths ident
     (FirstIn-later (header_rows (length b) h) _ found headers run)
 
 -- rules 22 to 32 of a file with this header and section header 0
-abbrev entries_of : List ℕ → Ehdr → Shdr → List {1} Ruled
-entries_of b h first = entry_rows (length b) h (counts_in h first) (sections b h) (segments b h) (names b h)
+abbrev entry_rules_of : List ℕ → Ehdr → Shdr → List {1} Ruled
+entry_rules_of b h first = entry_rows (length b) h (counts_in h first) (sections b h) (segments b h) (names b h)
 
 pub from_section_table : (b : List ℕ) (h : Ehdr) (first : Shdr) (found : Option (ℕ × ℕ)) →
     first ≡ sections b h 0 →
-    FirstIn (section_table_rows (length b) h first ++ (program_table_rows (length b) h first ++ entries_of b h first)) found →
-    FirstIn (tables_of b h) found
+    FirstIn (section_table_rows (length b) h first ++ (program_table_rows (length b) h first ++ entry_rules_of b h first)) found →
+    FirstIn (table_rules_of b h) found
 unfolding table_rows
 from_section_table b h first found e run =
     subst
-    (λ (f : Shdr). FirstIn (section_table_rows (length b) h f ++ (program_table_rows (length b) h f ++ entries_of b h f)) found)
+    (λ (f : Shdr). FirstIn (section_table_rows (length b) h f ++ (program_table_rows (length b) h f ++ entry_rules_of b h f)) found)
     e run
 
 pub from_program_table : (b : List ℕ) (h : Ehdr) (first : Shdr) (found : Option (ℕ × ℕ)) →
     first ≡ sections b h 0 → FirstIn (section_table_rows (length b) h first) None →
-    FirstIn (program_table_rows (length b) h first ++ entries_of b h first) found →
-    FirstIn (tables_of b h) found
+    FirstIn (program_table_rows (length b) h first ++ entry_rules_of b h first) found →
+    FirstIn (table_rules_of b h) found
 unfolding section_table_rows
 from_program_table b h first found e table run =
     from_section_table b h first found e
@@ -127,7 +127,7 @@ pub from_entries : (b : List ℕ) (h : Ehdr) (first : Shdr) (c : Counts) (found 
     FirstIn (section_table_rows (length b) h first) None →
     FirstIn (program_table_rows (length b) h first) None →
     FirstIn (entry_rows (length b) h c (sections b h) (segments b h) (names_at b h c.name_table)) found →
-    FirstIn (tables_of b h) found
+    FirstIn (table_rules_of b h) found
 unfolding program_table_rows names
 from_entries b h first c found e counts_e table programs run =
     let counted = subst

@@ -1,14 +1,12 @@
 -- No rule is broken exactly where each rule's fact holds, run by run.
 use Rattle.std.proofs.Common.{◌≡◌, ◌≢◌, ℕ, ◌+◌, ◌-◌, ◌<◌, ◌≤◌, inl, inr, None, List, length, refl, arith}
 use Rattle.std.specs.Prelude.{slice_index}
-use Rattle.std.proofs.lemmas.Bool.{cases_lt}
 use Rattle.elf_field.specs.Abi.{EHDR_SIZE, SHT_NULL}
 use Rattle.elf_field.specs.declared.ehdr.Ehdr.{Ehdr}
 use Rattle.elf_field.specs.declared.shdr.Shdr.{Shdr}
 use Rattle.elf_field.specs.declared.phdr.Phdr.{Phdr}
-use Rattle.elf_extent.specs.declared.extent.Extent.{Extent}
-use Rattle.elf_extent.specs.Extent.{AreDisjoint, Doubly}
 use Rattle.elf_extent.specs.Least.{Never}
+use Rattle.elf_extent.proofs.Public.{disjoint_from_never, never_from_disjoint}
 use Rattle.elf_rules.specs.Rows.{FirstIn}
 use Rattle.elf_rules.specs.HeaderRules.{MAX_LEN, count_without_section_table, header_rows, ident_rows, length_rows}
 use Rattle.elf_rules.specs.ImageRules.{entry_rows, image_rows, record_rows, table_rows}
@@ -353,20 +351,6 @@ records_unbroken len h s g names kept =
     (FirstIn-later (segment_rows len h (segment_count h (s 0)) g) _ None (segments_unbroken len h _ g kept.segments)
     (names_unbroken h _ _ s names kept.section_names)))))))
 
--- ---- rule 33
-
-disjoint_kept : (es : List Extent) → Never (Doubly es) → AreDisjoint es
-disjoint_kept es never i j x one other = elim (cases_lt i j) [
-  | inl below ↦ absurd (never x (i, j, below, one, other))
-  | inr above ↦ elim (cases_lt j i) [
-    | inl below ↦ absurd (never x (j, i, below, other, one))
-    | inr same ↦ omega arith
-  ]
-]
-
-disjoint_unbroken : (es : List Extent) → AreDisjoint es → Never (Doubly es)
-disjoint_unbroken es disjoint x (i, j, below, one, other) = let same = disjoint i j x one other in absurd (omega arith)
-
 -- ---- all rules
 
 pub rules_kept : (len : ℕ) (h : Ehdr) (s : ℕ → Shdr) (g : ℕ → Phdr) (names : List ℕ) →
@@ -374,11 +358,11 @@ pub rules_kept : (len : ℕ) (h : Ehdr) (s : ℕ → Shdr) (g : ℕ → Phdr) (n
 unfolding image_rows
 rules_kept len h s g names clean = record {
   records = records_kept len h s g names (FirstIn-front (record_rows len h s g names) _ clean);
-  disjoint = disjoint_kept _ (FirstIn-behind (record_rows len h s g names) _ clean).0;
+  disjoint = disjoint_from_never _ (FirstIn-behind (record_rows len h s g names) _ clean).0;
 }
 
 pub rules_unbroken : (len : ℕ) (h : Ehdr) (s : ℕ → Shdr) (g : ℕ → Phdr) (names : List ℕ) →
     KeepsRules len h s g names → FirstIn (image_rows len h s g names) None
 unfolding image_rows
 rules_unbroken len h s g names kept =
-    FirstIn-later (record_rows len h s g names) _ None (records_unbroken len h s g names kept.records) (disjoint_unbroken _ kept.disjoint, tt)
+    FirstIn-later (record_rows len h s g names) _ None (records_unbroken len h s g names kept.records) (never_from_disjoint _ kept.disjoint, tt)

@@ -1,5 +1,5 @@
 -- A file that keeps rules 1 to 32, with its header and its counts by any equal name, as code reads them.
-use Rattle.std.proofs.Common.{◌≡◌, ◌<◌, ◌≤◌, ◌^◌, ℕ, List, length, subst, sym, refl}
+use Rattle.std.proofs.Common.{◌≡◌, ◌<◌, ◌≤◌, ℕ, List, length, subst, sym, refl}
 use Rattle.elf_field.specs.declared.ehdr.Ehdr.{Ehdr}
 use Rattle.elf_rules.specs.declared.tables.Counts.{Counts}
 use Rattle.elf_rules.specs.HeaderRules.{MAX_LEN}

@@ -129,6 +129,7 @@ fn accepts_images(rt: HostRuntime) {
 #[test]
 fn refuses_lengths(rt: HostRuntime) {
     assert_eq!(rt; verdict(&[]), Some((2, 0)));
+    // The example of the crate's root.
     assert_eq!(rt; verdict(&[0x7f, 0x45]), Some((TOO_SHORT, 2)));
     let mut short = [0; 63];
     set_header(&mut short, Order::Little);
