@@ -411,8 +411,18 @@ fn zeros_are_offered_in_blocks(rt: HostRuntime) -> Result<(), Fail> {
     image.zero_gaps();
     let mut writer = taking_all(rt.alloc());
     assert_eq!(rt; write(&image, &mut writer), Ok(()));
-    assert_eq!(rt; writer.offers.as_slice(), [64, 128, 4096, 4096, 808, 9000].as_slice());
-    assert!(rt; writer.bytes.iter().skip(192).take(9000).all(|byte| *byte == 0));
+    assert_eq!(rt;
+        writer.offers.as_slice(),
+        [64, 128, 4096, 4096, 808, 9000].as_slice()
+    );
+    assert!(rt;
+        writer
+            .bytes
+            .iter()
+            .skip(192)
+            .take(9000)
+            .all(|byte| *byte == 0)
+    );
     Ok(())
 }
 

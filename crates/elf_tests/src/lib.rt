@@ -5,13 +5,13 @@
 mod failing_calls;
 #[cfg(test)]
 mod file_names;
-mod known_files;
 #[cfg(test)]
 mod image_faults;
 #[cfg(test)]
 mod image_files;
 #[cfg(test)]
 mod images;
+mod known_files;
 #[cfg(test)]
 mod many_sections;
 #[cfg(test)]
