@@ -1,6 +1,7 @@
 //! `roundtrip FILE`: reads an ELF-64 file, makes its image, and writes the image to standard output:
 //! the bytes of the file again.
 #![tactic(auto)]
+
 ghost use Rattle.std.specs.Prelude.{◌≡◌};
 ghost use Rattle.std.specs.Io.KnownBytes.{Appends};
 
