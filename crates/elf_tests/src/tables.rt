@@ -206,7 +206,10 @@ fn string_behind(alloc: Global, file: &[u8]) -> Result<Option<&[u8]>, Fault> {
 fn names_outlive_the_image(rt: HostRuntime) -> Result<(), Fail> {
     let file = symbols(Order::Little);
     assert_eq!(rt; name_of_symbol_2(rt.alloc(), &file), Ok(b"b".as_slice()));
-    assert_eq!(rt; string_behind(rt.alloc(), &file), Ok(Some(b"ab".as_slice())));
+    assert_eq!(rt;
+        string_behind(rt.alloc(), &file),
+        Ok(Some(b"ab".as_slice()))
+    );
     Ok(())
 }
 
@@ -223,7 +226,10 @@ fn tells_the_first_rule_that_a_symbol_table_breaks(rt: HostRuntime) -> Result<()
     for (fields, rule, at) in &BROKEN {
         let mut file = symbols(Order::Little);
         set(&mut file, Order::Little, fields);
-        let fault = Fault::Rule { rule: *rule, at: *at };
+        let fault = Fault::Rule {
+            rule: *rule,
+            at: *at,
+        };
         assert_eq!(rt; verdict_of(rt.alloc(), &file), Err(fault));
     }
     Ok(())
@@ -234,7 +240,10 @@ fn tells_it_in_big_order_too(rt: HostRuntime) -> Result<(), Fail> {
     for (fields, rule, at) in &BROKEN {
         let mut file = symbols(Order::Big);
         set(&mut file, Order::Big, fields);
-        let fault = Fault::Rule { rule: *rule, at: *at };
+        let fault = Fault::Rule {
+            rule: *rule,
+            at: *at,
+        };
         assert_eq!(rt; verdict_of(rt.alloc(), &file), Err(fault));
     }
     Ok(())
