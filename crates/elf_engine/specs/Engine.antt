@@ -1,6 +1,7 @@
 -- What an engine does between its reader and its writer, in the words that all engines share.
-use Rattle.std.specs.Prelude.{◌≡◌, ◌⊎◌, ℕ, ◌+◌, ◌^◌, ◌<◌, ◌≤◌, List, length, take, Option, Result, Ok, Err, IfOk, MatchResult}
+use Rattle.std.specs.Prelude.{◌≡◌, ◌⊎◌, ℕ, ◌+◌, ◌<◌, ◌≤◌, List, length, take, Option, Result, Ok, Err, IfOk, MatchResult}
 use Rattle.std.specs.Io.KnownBytes.{Appends, Consumes, IsAtEnd, Keeps}
+use Rattle.elf_rules.specs.HeaderRules.{MAX_LEN}
 use Rattle.elf_engine.specs.declared.fault.ToolFault.{ToolFault}
 use Rattle.elf_engine.specs.declared.fault.ToolFault.TheVariants.{Read, Write, OutOfMemory}
 use Rattle.elf_engine.specs.declared.fault.Verdict.{Verdict}
@@ -13,7 +14,7 @@ IsInputFault OutOfMemory count = Unit {0}
 
 -- the bytes that a reader gave are all of its file, or all that the limit lets through
 abbrev pub IsReadWhole : Option (List ℕ) → List ℕ → Type 0
-IsReadWhole rest bytes = IsAtEnd rest ⊎ (length bytes ≡ 2 ^ 30 + 1)
+IsReadWhole rest bytes = IsAtEnd rest ⊎ (length bytes ≡ MAX_LEN + 1)
 
 -- a writer that held `old` holds `new`, with a beginning of a text behind it: after a failed write just its first
 -- `written` bytes
@@ -50,5 +51,5 @@ IsGivenUp bytes old new (Err OutOfMemory) = Keeps old new
 pub record IsAnswered (report : Report) (input rest old new : Option (List ℕ)) (result : Result Verdict ToolFault) : Type 0 where
   pub bytes : List ℕ
   pub taken : Consumes input rest bytes
-  pub limit : length bytes ≤ 2 ^ 30 + 1
+  pub limit : length bytes ≤ MAX_LEN + 1
   pub answered : IsGivenUp bytes old new result ⊎ (IsReadWhole rest bytes × IsReported (report bytes) old new result)

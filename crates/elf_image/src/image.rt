@@ -1,5 +1,6 @@
 //! A file as a value: its records, contents and parts.
-ghost use Rattle.std.specs.Prelude.{◌≡◌, ◌<◌, ◌≤◌, ◌+◌, ◌^◌, ℕ, [], List, get_or, length, map};
+ghost use Rattle.std.specs.Prelude.{◌≡◌, ◌<◌, ◌≤◌, ◌+◌, ℕ, [], List, get_or, length, map};
+ghost use Rattle.elf_rules.specs.HeaderRules.{MAX_LEN};
 ghost use Rattle.elf_rules.specs.Tables.{content_extent, name_table, order_of, shdr_offset};
 ghost use Rattle.elf_image.specs.Image.{IsImage, IsSound, section_of, segment_of, value_names};
 ghost use Rattle.elf_image.specs.Outline.{image_of};
@@ -63,7 +64,7 @@ impl<'a> Image<'a> {
     /// The length of the file, in bytes; no edit changes it.
     pub fn len(&self) -> u64
         ensures value { result ≡ self.now.len }
-        ensures short { result ≤ 2 ^ 30 }
+        ensures short { result ≤ MAX_LEN }
     {
         self.outline.len()
     }
@@ -110,7 +111,7 @@ impl<'a> Image<'a> {
         requires { i < length self.now.sections }
         ensures value { result ≡ section_of self.now.sections i }
         ensures inside { shdr_offset self.now.header i + 64 ≤ self.now.len }
-        ensures short { self.now.len ≤ 2 ^ 30 }
+        ensures short { self.now.len ≤ MAX_LEN }
     {
         self.outline.section(i)
     }
@@ -121,7 +122,7 @@ impl<'a> Image<'a> {
         requires { i < length self.now.sections }
         ensures value { result ≡ shdr_offset self.now.header i }
         ensures inside { result + 64 ≤ self.now.len }
-        ensures short { self.now.len ≤ 2 ^ 30 }
+        ensures short { self.now.len ≤ MAX_LEN }
     {
         // That header lies in the file, so that the sum is a number of 64 bits.
         let _ = self.section(i);
@@ -168,7 +169,7 @@ impl<'a> Image<'a> {
         ensures size { length result.now ≡ (content_extent (section_of self.now.sections i)).len }
         ensures inside { 0 < length result.now →
             (section_of self.now.sections i).sh_offset + length result.now ≤ self.now.len }
-        ensures short { self.now.len ≤ 2 ^ 30 }
+        ensures short { self.now.len ≤ MAX_LEN }
     {
         self.contents[i]
     }
@@ -180,7 +181,7 @@ impl<'a> Image<'a> {
         ensures value { result ≡ (section_of self.now.sections i).sh_offset }
         ensures inside { 0 < (content_extent (section_of self.now.sections i)).len →
             result + (content_extent (section_of self.now.sections i)).len ≤ self.now.len }
-        ensures short { self.now.len ≤ 2 ^ 30 }
+        ensures short { self.now.len ≤ MAX_LEN }
     {
         // That content lies in the file.
         let _ = self.content(i);

@@ -5,7 +5,7 @@
 //! taken.
 ghost use Rattle.std.specs.Prelude.{◌≡◌, ◌+◌, ◌*◌, ◌^◌, ◌<◌, ◌≤◌, ◌++◌, length, replicate};
 ghost use Rattle.std.specs.List.{flat_map};
-ghost use Rattle.elf_image.specs.Output.{Went};
+ghost use Rattle.elf_image.specs.Output.{Writes};
 
 use crate::fault::WriteFault;
 use elf_field::{Order, Record};
@@ -18,7 +18,7 @@ pub const BLOCK: usize = 4096;
 /// Writes all of `bytes`, or exactly the first `written` of them, fewer than all, and a fault. Each
 /// write is offered all that is not out.
 pub fn write_whole<W: Write>(writer: &mut W, bytes: &[u8]) -> Result<(), WriteFault>
-    ensures { Went (W.contents writer.old) (W.contents writer.new) bytes.now result }
+    ensures { Writes (W.contents writer.old) (W.contents writer.new) bytes.now result }
 {
     let mut written = 0;
     while written < bytes.len() {
@@ -36,7 +36,7 @@ pub fn write_whole<W: Write>(writer: &mut W, bytes: &[u8]) -> Result<(), WriteFa
 
 /// Writes so many zeros, or exactly the first `written` of them, fewer than all, and a fault.
 pub fn write_zeros<W: Write>(writer: &mut W, count: u64) -> Result<(), WriteFault>
-    ensures { Went (W.contents writer.old) (W.contents writer.new) (replicate count 0) result }
+    ensures { Writes (W.contents writer.old) (W.contents writer.new) (replicate count 0) result }
 {
     let zeros = [0; BLOCK];
     let mut written = 0;
@@ -55,7 +55,7 @@ pub fn write_zeros<W: Write>(writer: &mut W, count: u64) -> Result<(), WriteFaul
 /// than all, and a fault. So a part is written that stands behind padding.
 pub fn write_padded<W: Write>(writer: &mut W, padding: u64, bytes: &[u8]) -> Result<(), WriteFault>
     requires { padding + length bytes.now < 2 ^ 64 }
-    ensures { Went (W.contents writer.old) (W.contents writer.new) (replicate padding 0 ++ bytes.now) result }
+    ensures { Writes (W.contents writer.old) (W.contents writer.new) (replicate padding 0 ++ bytes.now) result }
 {
     match write_zeros(writer, padding) {
         Ok(()) => {}
@@ -77,7 +77,7 @@ pub fn write_records<T: Record, W: Write>(
     requires some { 0 < T.SIZE }
     requires small { T.SIZE ≤ BLOCK }
     requires fits { T.SIZE * length records.now < 2 ^ 64 }
-    ensures { Went (W.contents writer.old) (W.contents writer.new) (flat_map (T.bytes order) records.now) result }
+    ensures { Writes (W.contents writer.old) (W.contents writer.new) (flat_map (T.bytes order) records.now) result }
 {
     let mut block = [0; BLOCK];
     let mut next = 0;

@@ -1,6 +1,7 @@
 //! All bytes of a reader, however its reads are cut.
-ghost use Rattle.std.specs.Prelude.{◌≡◌, ◌+◌, ◌^◌, ◌<◌, ◌≤◌, ◌⊎◌, [], length, take, drop, vec_len, IfErr, IfOk, IfSome, OnErr, OnOk};
+ghost use Rattle.std.specs.Prelude.{◌≡◌, ◌+◌, ◌<◌, ◌≤◌, ◌⊎◌, [], length, take, drop, vec_len, IfErr, IfOk, IfSome, OnErr, OnOk};
 ghost use Rattle.std.specs.Io.KnownBytes.{Consumes, IsAtEnd, Keeps};
+ghost use Rattle.elf_rules.specs.HeaderRules.{MAX_LEN};
 ghost use Rattle.elf_image.specs.Reading.{IsReadFault};
 
 use crate::fault::Fault;
@@ -10,7 +11,7 @@ use std::io::Read;
 
 /// No more bytes than these are read: one above the longest file that is accepted, so that a
 /// longer one is known as such.
-const MOST_BYTES: usize = (1 << 30) + 1;
+const MOST_BYTES: usize = elf_rules::MAX_LEN as usize + 1;
 
 /// The room that the first read is given, in bytes.
 const FIRST_ROOM: usize = 1 << 16;
@@ -33,13 +34,13 @@ const AHEAD: usize = 64;
 pub fn read_to_end<R: Read>(reader: &mut R, buf: &mut Vec<u8>) -> Result<(), Fault>
     requires { buf.old.items ≡ [] }
     ensures taken { Consumes (R.remaining reader.old) (R.remaining reader.new) buf.new.items }
-    ensures limit { vec_len buf.new ≤ 2 ^ 30 + 1 }
-    ensures ok { OnOk result (IsAtEnd (R.remaining reader.new) ⊎ (vec_len buf.new ≡ 2 ^ 30 + 1)) }
+    ensures limit { vec_len buf.new ≤ MAX_LEN + 1 }
+    ensures ok { OnOk result (IsAtEnd (R.remaining reader.new) ⊎ (vec_len buf.new ≡ MAX_LEN + 1)) }
     ensures fault { IfErr result (λ e. IsReadFault e (vec_len buf.new)) }
 
     // A reader that tells its bytes gives them all, up to the limit.
     ensures whole { OnOk result (IfSome (R.remaining reader.old)
-        (λ bytes. buf.new.items ≡ take (2 ^ 30 + 1) bytes)) }
+        (λ bytes. buf.new.items ≡ take (MAX_LEN + 1) bytes)) }
 {
     let (filled, result) = fill(reader, buf);
     buf.truncate(filled);
@@ -51,8 +52,8 @@ fn fill<R: Read>(reader: &mut R, buf: &mut Vec<u8>) -> (usize, Result<(), Fault>
     requires { buf.old.items ≡ [] }
     ensures within { result.0 ≤ vec_len buf.new }
     ensures taken { Consumes (R.remaining reader.old) (R.remaining reader.new) (take result.0 buf.new.items) }
-    ensures limit { result.0 ≤ 2 ^ 30 + 1 }
-    ensures ok { OnOk result.1 (IsAtEnd (R.remaining reader.new) ⊎ (result.0 ≡ 2 ^ 30 + 1)) }
+    ensures limit { result.0 ≤ MAX_LEN + 1 }
+    ensures ok { OnOk result.1 (IsAtEnd (R.remaining reader.new) ⊎ (result.0 ≡ MAX_LEN + 1)) }
     ensures fault { IfErr result.1 (λ e. IsReadFault e result.0) }
 {
     let mut filled = 0;
@@ -75,10 +76,10 @@ fn fill<R: Read>(reader: &mut R, buf: &mut Vec<u8>) -> (usize, Result<(), Fault>
 // filled: memory behind it is never touched.
 fn make_room(buf: &mut Vec<u8>, filled: usize) -> Result<(), AllocError>
     requires within { filled ≤ vec_len buf.old }
-    requires below { filled < 2 ^ 30 + 1 }
-    requires limit { vec_len buf.old ≤ 2 ^ 30 + 1 }
+    requires below { filled < MAX_LEN + 1 }
+    requires limit { vec_len buf.old ≤ MAX_LEN + 1 }
     ensures room { OnOk result (filled < vec_len buf.new) }
-    ensures limit { vec_len buf.new ≤ 2 ^ 30 + 1 }
+    ensures limit { vec_len buf.new ≤ MAX_LEN + 1 }
     ensures within { filled ≤ vec_len buf.new }
     ensures front { take filled buf.new.items ≡ take filled buf.old.items }
 {
@@ -94,7 +95,7 @@ fn make_room(buf: &mut Vec<u8>, filled: usize) -> Result<(), AllocError>
 // large file is then seldom moved, and lies in large pages where the system has them. Where so much
 // is refused the vector stays as it is, and grows as it would have.
 fn reserve_ahead(buf: &mut Vec<u8>, filled: usize)
-    requires { filled < 2 ^ 30 + 1 }
+    requires { filled < MAX_LEN + 1 }
     ensures items { buf.new.items ≡ buf.old.items }
     ensures len { vec_len buf.new ≡ vec_len buf.old }
 {

@@ -2,7 +2,7 @@
 ghost use Rattle.std.specs.Prelude.{◌≡◌, ◌<◌, ℕ, List, length, map};
 ghost use Rattle.elf_image.specs.Image.{IsImage, IsSound, joined, part_bytes};
 ghost use Rattle.elf_image.specs.Outline.{image_of, placed};
-ghost use Rattle.elf_image.specs.Output.{Went};
+ghost use Rattle.elf_image.specs.Output.{Writes};
 
 use crate::fault::WriteFault;
 use crate::image::Image;
@@ -19,7 +19,7 @@ use std::io::Write;
 /// taken.
 pub fn write<W: Write>(image: &Image<'_>, writer: &mut W) -> Result<(), WriteFault>
     ensures { (b : List ℕ) × IsImage image.now b ×
-        Went (W.contents writer.old) (W.contents writer.new) b result }
+        Writes (W.contents writer.old) (W.contents writer.new) b result }
 {
     write_parts(&image.outline, &image.contents, image.file, writer)
 }
@@ -31,7 +31,7 @@ fn write_parts<W: Write>(
     writer: &mut W,
 ) -> Result<(), WriteFault>
     requires { IsSound (image_of outline.now (map (λ content. content.now) contents.now) file.now) }
-    ensures { Went (W.contents writer.old) (W.contents writer.new)
+    ensures { Writes (W.contents writer.old) (W.contents writer.new)
         (joined (image_of outline.now (map (λ content. content.now) contents.now) file.now)) result }
 {
     for part in outline.parts() {
@@ -55,7 +55,7 @@ fn write_part<W: Write>(
     requires whole { let v = image_of outline.now (map (λ content. content.now) contents.now) file.now in
         length (part_bytes v (placed outline.now.zeroed file.now part)) ≡ part.len }
     ensures { let v = image_of outline.now (map (λ content. content.now) contents.now) file.now in
-        Went (W.contents writer.old) (W.contents writer.new)
+        Writes (W.contents writer.old) (W.contents writer.new)
         (part_bytes v (placed outline.now.zeroed file.now part)) result }
 {
     let start = part.start as usize;

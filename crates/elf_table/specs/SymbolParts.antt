@@ -1,7 +1,8 @@
 -- What the rules of a symbol table look at, beside its own section header: its content, the string table that it links to, and
 -- its index table.
-use Rattle.std.specs.Prelude.{ℕ, ◌+◌, ◌^◌, ◌<◌, ◌≤◌, List, Option, None, Some, length}
+use Rattle.std.specs.Prelude.{ℕ, ◌+◌, ◌<◌, ◌≤◌, List, Option, None, Some, length}
 use Rattle.elf_field.specs.declared.order.Order.{Order}
+use Rattle.elf_rules.specs.HeaderRules.{MAX_LEN}
 use Rattle.elf_table.specs.declared.symbol_parts.SymbolParts as declared
 use Rattle.elf_table.specs.IndexTable.{index_table, index_words}
 use Rattle.elf_table.specs.Sections.{Sections, content, count, header_at, order, section}
@@ -61,9 +62,9 @@ parts_value p = record {
   sections = p.sections;
 }
 
--- each lies in a file of at most 2^30 bytes
+-- each lies in a file of at most MAX_LEN bytes
 pub record AreInside (p : SymbolPartsValue) : Type 0 where
-  pub header : p.header + 64 ≤ 2 ^ 30
-  pub table : 0 < length p.table → p.start + length p.table ≤ 2 ^ 30
-  pub names : 0 < length p.names → p.names_start + length p.names ≤ 2 ^ 30
-  pub words : 0 < length p.words → p.words_start + length p.words ≤ 2 ^ 30
+  pub header : p.header + 64 ≤ MAX_LEN
+  pub table : 0 < length p.table → p.start + length p.table ≤ MAX_LEN
+  pub names : 0 < length p.names → p.names_start + length p.names ≤ MAX_LEN
+  pub words : 0 < length p.words → p.words_start + length p.words ≤ MAX_LEN

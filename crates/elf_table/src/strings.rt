@@ -1,5 +1,6 @@
 //! String tables (gABI chapter 4, String Table).
-ghost use Rattle.std.specs.Prelude.{◌≡◌, ◌≢◌, ◌<◌, ◌≤◌, ◌⊎◌, ◌+◌, ◌^◌, MatchOption, length};
+ghost use Rattle.std.specs.Prelude.{◌≡◌, ◌≢◌, ◌<◌, ◌≤◌, ◌⊎◌, ◌+◌, MatchOption, length};
+ghost use Rattle.elf_rules.specs.HeaderRules.{MAX_LEN};
 ghost use Rattle.elf_rules.specs.Broken.{fault_of};
 ghost use Rattle.elf_rules.specs.Rows.{FirstIn};
 ghost use Rattle.elf_image.specs.Strings.{string};
@@ -77,7 +78,7 @@ fn judge_string_table(image: &Image<'_>, i: usize) -> Result<(), Broken>
 /// Rule 41 of a string table at this offset in the file, which another table links to.
 #[tactic(auto, unfolding(crate::specs::StringRules::linked_string_rules))]
 pub(crate) fn judge_linked_strings(table: &[u8], start: u64) -> Result<(), Broken>
-    requires { 0 < length table.now → start + length table.now ≤ 2 ^ 30 }
+    requires { 0 < length table.now → start + length table.now ≤ MAX_LEN }
     ensures { FirstIn (linked_string_rules table.now start) (fault_of result) }
 {
     match unclosed_at(table, start) {

@@ -42,7 +42,7 @@ pub struct Symbol<'a> {
 
 /// The place that this `st_shndx` tells, of symbol `j` of a table with this content of its index table.
 pub(crate) fn place_at(order: Order, words: &[u8], index: u16, j: usize) -> Place
-    requires { index ≡ 0xffff → 4 * j + 4 ≤ length words.now }
+    requires { index ≡ SHN_XINDEX → WORD_SIZE * j + WORD_SIZE ≤ length words.now }
     ensures { result ≡ place_of index (word_of order words.now j) }
 {
     match index {

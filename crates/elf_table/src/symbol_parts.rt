@@ -1,5 +1,6 @@
 //! What the rules of a symbol table look at, beside its own section header (gABI chapter 4, Symbol Table).
-ghost use Rattle.std.specs.Prelude.{◌≡◌, ℕ, Some, ◌^◌, ◌*◌, ◌/◌, ◌+◌, ◌<◌, ◌≤◌, length};
+ghost use Rattle.std.specs.Prelude.{◌≡◌, ℕ, Some, ◌*◌, ◌/◌, ◌+◌, ◌<◌, ◌≤◌, length};
+ghost use Rattle.elf_rules.specs.HeaderRules.{MAX_LEN};
 ghost use Rattle.elf_table.specs.IndexTable.{AreIndexTables, index_table, index_words};
 ghost use Rattle.elf_table.specs.Sections.{section, sections_of};
 ghost use Rattle.elf_table.specs.SymbolParts.{AreInside, index_words_start, parts_value, symbol_parts};
@@ -68,11 +69,11 @@ impl<'a> SymbolParts<'a> {
 // The content of an index table, and its offset.
 fn index_words_in<'a>(image: &Image<'a>, table: Option<usize>) -> (&'a [u8], u64)
     requires there { (j : ℕ) → table ≡ Some j → j < length image.now.sections }
-    requires typed { (j : ℕ) → table ≡ Some j → (section (sections_of image.now) j).sh_type ≡ 18 }
+    requires typed { (j : ℕ) → table ≡ Some j → (section (sections_of image.now) j).sh_type ≡ SHT_SYMTAB_SHNDX }
     ensures words { result.0.now ≡ index_words (sections_of image.now) table }
     ensures start { result.1 ≡ index_words_start (sections_of image.now) table }
     ensures sized { (j : ℕ) → table ≡ Some j → length result.0.now ≡ (section (sections_of image.now) j).sh_size }
-    ensures inside { 0 < length result.0.now → result.1 + length result.0.now ≤ 2 ^ 30 }
+    ensures inside { 0 < length result.0.now → result.1 + length result.0.now ≤ MAX_LEN }
 {
     match table {
         Some(j) => (image.content(j), image.section(j).sh_offset),
@@ -92,7 +93,7 @@ pub(crate) fn entry(order: Order, table: &[u8], j: usize) -> Sym
 /// Word `j` of an index table's content.
 #[tactic(auto, unfolding(crate::specs::SymbolRules::word))]
 pub(crate) fn word(order: Order, words: &[u8], j: usize) -> u32
-    requires { 4 * j + 4 ≤ length words.now }
+    requires { WORD_SIZE * j + WORD_SIZE ≤ length words.now }
     ensures { result ≡ word_of order words.now j }
 {
     get_at(order, words, WORD_SIZE as usize * j)

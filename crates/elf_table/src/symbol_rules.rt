@@ -1,6 +1,7 @@
 //! Rules 45 to 52: the symbols of a symbol table, and its index table (gABI chapter 4, Symbol Table; Sections: sh_info,
 //! SHT_SYMTAB_SHNDX).
-ghost use Rattle.std.specs.Prelude.{◌≡◌, ◌↔◌, ◌<◌, ◌≤◌, ◌≢◌, ◌+◌, ◌*◌, ◌^◌, ℕ, Some, IsTrue, MatchOption, OnOk, length};
+ghost use Rattle.std.specs.Prelude.{◌≡◌, ◌↔◌, ◌<◌, ◌≤◌, ◌≢◌, ◌+◌, ◌*◌, ℕ, Some, IsTrue, MatchOption, OnOk, length};
+ghost use Rattle.elf_rules.specs.HeaderRules.{MAX_LEN};
 ghost use Rattle.elf_extent.specs.Least.{IsLowest};
 ghost use Rattle.elf_rules.specs.Broken.{fault_of};
 ghost use Rattle.elf_rules.specs.Rows.{AtEntry, FirstIn};
@@ -54,7 +55,7 @@ impl SymbolRule {
     /// The offset in the symbol of the field that the rule answers.
     fn field(self) -> u64
         ensures value { result ≡ symbol_field self }
-        ensures inside { result < 24 }
+        ensures inside { result < SYM_SIZE }
     {
         match self {
             SymbolRule::Binding => ST_INFO_AT,
@@ -68,7 +69,7 @@ impl SymbolRule {
 fn lowest_symbol(parts: &SymbolParts<'_>, rule: SymbolRule) -> Option<u64>
     requires { AreInside (parts_value parts.now) }
     ensures { let p = parts_value parts.now in
-        IsLowest (AtEntry (entry_count p.table) (λ j. BreaksSymbol rule p (entry_of p.order p.table j) j) (λ j. p.start + 24 * j + symbol_field rule)) result }
+        IsLowest (AtEntry (entry_count p.table) (λ j. BreaksSymbol rule p (entry_of p.order p.table j) j) (λ j. p.start + SYM_SIZE * j + symbol_field rule)) result }
 {
     for j in 0..parts.len() {
         let symbol = entry(parts.order, parts.table, j);
@@ -125,9 +126,9 @@ fn judge_index_table(
     symbols: usize,
 ) -> Result<(), Broken>
     requires tables { AreIndexTables (sections_of image.now) i (length image.now.sections) tables }
-    requires few { symbols ≤ 2 ^ 30 }
+    requires few { symbols ≤ MAX_LEN }
     ensures fault { FirstIn (index_table_rules (sections_of image.now) i tables.first symbols) (fault_of result) }
-    ensures sized { OnOk result ((j : ℕ) → tables.first ≡ Some j → length (content (sections_of image.now) j) ≡ 4 * symbols) }
+    ensures sized { OnOk result ((j : ℕ) → tables.first ≡ Some j → length (content (sections_of image.now) j) ≡ WORD_SIZE * symbols) }
 {
     if let Some(j) = tables.second {
         return Err(Broken::new(SECOND_INDEX_TABLE, image.header_offset(j) + SH_LINK_AT));
@@ -150,7 +151,7 @@ fn judge_index_table(
 /// The lowest offset in the file of a wrong word of the index table, which has one for each symbol.
 fn lowest_wrong_word(parts: &SymbolParts<'_>) -> Option<u64>
     requires inside { AreInside (parts_value parts.now) }
-    requires sized { (j : ℕ) → parts.now.index_table ≡ Some j → length parts.now.words.now ≡ 4 * entry_count parts.now.table.now }
+    requires sized { (j : ℕ) → parts.now.index_table ≡ Some j → length parts.now.words.now ≡ WORD_SIZE * entry_count parts.now.table.now }
     ensures { IsLowest (wrong_index_word (parts_value parts.now)) result }
 {
     if parts.index_table.is_none() {
@@ -180,7 +181,7 @@ fn is_wrong_word(symbol: &Sym, index: u32, sections: usize) -> bool
 #[tactic(auto, unfolding(crate::specs::SymbolRules::place_rules))]
 fn judge_places(parts: &SymbolParts<'_>) -> Result<(), Broken>
     requires inside { AreInside (parts_value parts.now) }
-    requires sized { (j : ℕ) → parts.now.index_table ≡ Some j → length parts.now.words.now ≡ 4 * entry_count parts.now.table.now }
+    requires sized { (j : ℕ) → parts.now.index_table ≡ Some j → length parts.now.words.now ≡ WORD_SIZE * entry_count parts.now.table.now }
     ensures { FirstIn (place_rules (parts_value parts.now)) (fault_of result) }
 {
     if let Some(at) = lowest_symbol(parts, SymbolRule::Section) {

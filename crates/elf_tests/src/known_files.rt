@@ -1,6 +1,7 @@
 //! What the program's exit status says of a file whose bytes are known: over an opener that tells
 //! what it holds, and a reader that tells what remains.
-ghost use Rattle.std.specs.Prelude.{◌≡◌, ℕ, ◌^◌, ◌≤◌, length, None, Some, true};
+ghost use Rattle.std.specs.Prelude.{◌≡◌, ℕ, ◌≤◌, length, None, Some, true};
+ghost use Rattle.elf_rules.specs.HeaderRules.{MAX_LEN};
 ghost use Rattle.elf_rules.specs.ImageRules.{IsFault};
 
 use elf_tool::{OpenFault, Opener, run};
@@ -47,7 +48,7 @@ impl<'a> Opener for KnownFile<'a> {
 /// The exit status of `elfmap check` on a file of these bytes: it is done only if no rule is broken,
 /// and refused only if one is.
 pub fn status_of_check(alloc: Global, bytes: &[u8]) -> u8
-    requires { length bytes.now ≤ 2 ^ 30 }
+    requires { length bytes.now ≤ MAX_LEN }
     ensures done { result ≡ 0 → IsFault bytes.now None }
     ensures refused { result ≡ 1 → (fault : ℕ × ℕ) × IsFault bytes.now (Some fault) }
 {
