@@ -1,5 +1,11 @@
 //! The program `elfmap` without its surroundings: its words, the files that it opens, and the whole
 //! of it as one call, [`run`], over the engines.
+//!
+//! ```
+//! // The first word is the program's name; `files` opens names, `out` and `err` take what is written.
+//! let status = run(alloc, &["elfmap", "check", "header.elf"], &mut files, &mut out, &mut err);
+//! assert_eq!(status, Status::Done as u8);
+//! ```
 #![tactic(auto)]
 
 mod command;
