@@ -4,3 +4,4 @@ pub mod IndexTables
 pub mod SymbolLists
 pub mod AllIndexTables
 pub mod TableRuleLemmas
+pub mod RelocationLists

@@ -8,6 +8,9 @@ pub mod IndexTable
 pub mod SymbolParts
 pub mod SymbolRules
 pub mod Symbols
+pub mod Relocations
+pub mod RelocationRules
+pub mod RelocationsLeft
 pub mod TableRules
 pub mod TableVerdicts
 pub mod TablesView

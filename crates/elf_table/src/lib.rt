@@ -16,6 +16,8 @@
 mod index_tables;
 mod laws;
 mod own_rules;
+mod relocation;
+mod relocs;
 pub mod rules;
 mod strings;
 mod symbol;
@@ -26,6 +28,8 @@ mod table_kind;
 mod tables;
 
 pub use laws::{entries_in_file, one_table_fault, sections_of_bytes};
+pub use relocation::Relocation;
+pub use relocs::{RelocIter, Relocs};
 pub use strings::Strings;
 pub use symbol::{Place, Symbol};
 pub use symbols::{SymbolIter, Symbols};

@@ -27,3 +27,7 @@ pub const WRONG_INDEX_TABLE_SIZE: u16 = 50;
 pub const WRONG_SYMBOL_SECTION: u16 = 51;
 /// A word of an index table isn't 0 though the symbol needs none, or it is none of a section that needs one.
 pub const WRONG_INDEX_WORD: u16 = 52;
+/// There is no section that the relocations apply to.
+pub const WRONG_TARGET: u16 = 53;
+/// A relocation's symbol is none of those in the symbol table.
+pub const WRONG_RELOCATION_SYMBOL: u16 = 54;
