@@ -39,14 +39,14 @@ show_text b tables =
     file_line v.header ++ (part_lines b v ++ (section_lines v ++ (segment_lines v ++ all_table_lines tables)))
 
 -- the image stands as b, and the verdicts are those on its tables
-pub record AreTablesOf (b : List ℕ) (tables : TablesValue) : Type 0 where
+pub record AreVerdictsOf (b : List ℕ) (tables : TablesValue) : Type 0 where
   pub image : IsImage tables.image b
   pub verdicts : AreVerdicts (sections_of tables.image) (length tables.image.sections) tables.verdicts
 
 -- the file is an image, and the text is of it and its tables; or the line is `refused` with the first broken rule and its
 -- lowest offset, which the verdict carries
 abbrev pub ShowSays : List ℕ → Verdict → List ℕ → Type 0
-ShowSays b Done text = (tables : TablesValue) × AreTablesOf b tables × (text ≡ show_text b tables)
+ShowSays b Done text = (tables : TablesValue) × AreVerdictsOf b tables × (text ≡ show_text b tables)
 ShowSays b (Refused (File file rule at)) text = IsFault b (Some (rule, at)) × (file ≡ 0) × (text ≡ refused_line rule at)
 ShowSays b (Refused (Link rule file index entry)) text = ⊥
 ShowSays b (Refused TooLong) text = ⊥

@@ -1,6 +1,7 @@
 -- The edits of an image: each changes just its own field, content or gaps.
 -- (gABI chapter 4, ELF Header: e_entry; Sections: sh_flags, contents, and the space that no section covers.)
 use Rattle.std.specs.Prelude.{◌≡◌, ◌≢◌, ℕ, ◌<◌, List, length, map, replicate, set}
+use Rattle.elf_field.specs.Abi.{SHT_NOBITS, SHT_NULL}
 use Rattle.elf_field.specs.declared.shdr.Shdr.{Shdr}
 use Rattle.elf_rules.specs.Tables.{name_table}
 use Rattle.elf_image.specs.Image.{ImageValue, PlacedPart, gap_len, section_of}
@@ -33,10 +34,10 @@ with_zero_gaps v = record v { parts = map zeroed v.parts }
 abbrev pub IsSection : ImageValue → ℕ → Type 0
 IsSection v i = (0 < i) × (i < length v.sections)
 
--- section i has bytes of its own in the file, be they none: it is neither NULL (0) nor NOBITS (8)
+-- section i has bytes of its own in the file, be they none: it is neither NULL nor NOBITS
 abbrev pub HasContent : ImageValue → ℕ → Type 0
 HasContent v i =
-    IsSection v i × ((section_of v.sections i).sh_type ≢ 0) × ((section_of v.sections i).sh_type ≢ 8)
+    IsSection v i × ((section_of v.sections i).sh_type ≢ SHT_NULL) × ((section_of v.sections i).sh_type ≢ SHT_NOBITS)
 
 abbrev pub IsNameTable : ImageValue → ℕ → Type 0
 IsNameTable v i = i ≡ name_table v.header (section_of v.sections 0)

@@ -5,6 +5,7 @@ use Rattle.std.specs.List.{AllByRecursion, flat_map, range_with_len}
 use Rattle.elf_field.specs.declared.ehdr.Ehdr.{Ehdr}
 use Rattle.elf_field.specs.declared.shdr.Shdr.{Shdr}
 use Rattle.elf_field.specs.declared.phdr.Phdr.{Phdr}
+use Rattle.elf_field.specs.Abi.{EHDR_SIZE, PHDR_SIZE, SHDR_SIZE}
 use Rattle.elf_field.specs.Bytes.{IsBytes}
 use Rattle.elf_field.specs.Ehdr.{IsEhdr, ehdr_bytes}
 use Rattle.elf_field.specs.Shdr.{IsShdr, shdr_bytes}
@@ -39,9 +40,9 @@ pub record ImageValue : Type 0 where
 -- the extents of the header, the section table, the program table, and from index 3 on of each section's content
 abbrev pub value_extents : Ehdr → List Shdr → List Phdr → List Extent
 value_extents h ss gs =
-    record { start = 0; len = 64 } ∷
-    record { start = h.e_shoff; len = 64 * length ss } ∷
-    record { start = h.e_phoff; len = 56 * length gs } ∷
+    record { start = 0; len = EHDR_SIZE } ∷
+    record { start = h.e_shoff; len = SHDR_SIZE * length ss } ∷
+    record { start = h.e_phoff; len = PHDR_SIZE * length gs } ∷
     map content_extent ss
 
 -- the content of the section name string table; none without one
@@ -91,9 +92,9 @@ pub record AreTables (b : List ℕ) (h : Ehdr) (ss : List Shdr) (gs : List Phdr)
 
 -- the header, each section header and each program header lie within the byte list
 pub record AreWithinBytes (b : List ℕ) (h : Ehdr) (ss : List Shdr) (gs : List Phdr) : Type 0 where
-  pub header : 64 ≤ length b
-  pub section_headers : (i : ℕ) → i < length ss → shdr_offset h i + 64 ≤ length b
-  pub program_headers : (j : ℕ) → j < length gs → phdr_offset h j + 56 ≤ length b
+  pub header : EHDR_SIZE ≤ length b
+  pub section_headers : (i : ℕ) → i < length ss → shdr_offset h i + SHDR_SIZE ≤ length b
+  pub program_headers : (j : ℕ) → j < length gs → phdr_offset h j + PHDR_SIZE ≤ length b
 
 -- the value stands as the byte list b
 pub record Stands (v : ImageValue) (b : List ℕ) : Type 0 where

@@ -1,5 +1,6 @@
 -- What the parts of an image are: each byte lies in just one of them.
 use Rattle.std.specs.Prelude.{◌≡◌, ◌<◌, ◌≤◌, ℕ, ◌+◌, ◌*◌, List, Some, length, slice_get}
+use Rattle.elf_field.specs.Abi.{EHDR_SIZE, PHDR_SIZE, SHDR_SIZE}
 use Rattle.elf_extent.specs.Account.{IsGap}
 use Rattle.elf_rules.specs.Tables.{content_extent}
 use Rattle.elf_image.specs.declared.part.Owner.{Owner}
@@ -17,9 +18,9 @@ pub record IsOnlyPartAt (ps : List Part) (x k : ℕ) (p : Part) : Type 0 where
 
 -- where an owner's part starts, and how long it is; a gap holds no byte of an owner, and is as long as it can be
 abbrev pub IsPlaceOf : ImageValue → Owner → ℕ → ℕ → Type 0
-IsPlaceOf v Header start len = (start ≡ 0) × (len ≡ 64)
-IsPlaceOf v SectionTable start len = (start ≡ v.header.e_shoff) × (len ≡ 64 * length v.sections)
-IsPlaceOf v ProgramTable start len = (start ≡ v.header.e_phoff) × (len ≡ 56 * length v.segments)
+IsPlaceOf v Header start len = (start ≡ 0) × (len ≡ EHDR_SIZE)
+IsPlaceOf v SectionTable start len = (start ≡ v.header.e_shoff) × (len ≡ SHDR_SIZE * length v.sections)
+IsPlaceOf v ProgramTable start len = (start ≡ v.header.e_phoff) × (len ≡ PHDR_SIZE * length v.segments)
 IsPlaceOf v (Content i) start len =
     (i < length v.sections) × (start ≡ (section_of v.sections i).sh_offset) ×
     (len ≡ (content_extent (section_of v.sections i)).len)

@@ -10,7 +10,7 @@ ghost use Rattle.elf_image.specs.Strings.{section_name};
 use crate::outline::Outline;
 use crate::part::Part;
 use crate::strings::string_at;
-use elf_field::abi::SHT_NULL;
+use elf_field::abi::{SHDR_SIZE, SHT_NULL};
 use elf_field::{Ehdr, Order, Phdr, Shdr};
 use std::marker::Model;
 
@@ -110,7 +110,7 @@ impl<'a> Image<'a> {
     pub fn section(&self, i: usize) -> Shdr
         requires { i < length self.now.sections }
         ensures value { result ≡ section_of self.now.sections i }
-        ensures inside { shdr_offset self.now.header i + 64 ≤ self.now.len }
+        ensures inside { shdr_offset self.now.header i + SHDR_SIZE ≤ self.now.len }
         ensures short { self.now.len ≤ MAX_LEN }
     {
         self.outline.section(i)
@@ -121,12 +121,12 @@ impl<'a> Image<'a> {
     pub fn header_offset(&self, i: usize) -> u64
         requires { i < length self.now.sections }
         ensures value { result ≡ shdr_offset self.now.header i }
-        ensures inside { result + 64 ≤ self.now.len }
+        ensures inside { result + SHDR_SIZE ≤ self.now.len }
         ensures short { self.now.len ≤ MAX_LEN }
     {
         // That header lies in the file, so that the sum is a number of 64 bits.
         let _ = self.section(i);
-        self.header().e_shoff + 64 * i as u64
+        self.header().e_shoff + SHDR_SIZE * i as u64
     }
 
     /// Program header `j`, which is below [`segment_count`](Image::segment_count).

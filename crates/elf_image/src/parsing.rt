@@ -14,6 +14,7 @@ use crate::image::Image;
 use crate::outline::Outline;
 use crate::part::{Owner, Part};
 use elf_extent::{Extent, OutOfMemory, Piece, account};
+use elf_field::abi::{EHDR_SIZE, PHDR_SIZE, SHDR_SIZE};
 use elf_field::{Ehdr, Phdr, Shdr};
 use elf_rules::content::{content_of, extent_of_content};
 use elf_rules::rules::SHARED_BYTE;
@@ -147,19 +148,22 @@ fn extents_of(
     entries: &[Shdr],
     segments: &[Phdr],
 ) -> Result<Vec<Extent>, AllocError>
-    requires sections { 64 * length entries.now < 2 ^ 64 }
-    requires segments { 56 * length segments.now < 2 ^ 64 }
+    requires sections { SHDR_SIZE * length entries.now < 2 ^ 64 }
+    requires segments { PHDR_SIZE * length segments.now < 2 ^ 64 }
     ensures { IfOk result (λ v. v.items ≡ value_extents header.now entries.now segments.now) }
 {
     let mut extents = Vec::new(alloc);
-    extents.push(Extent { start: 0, len: 64 })?;
+    extents.push(Extent {
+        start: 0,
+        len: EHDR_SIZE,
+    })?;
     extents.push(Extent {
         start: header.e_shoff,
-        len: 64 * entries.len() as u64,
+        len: SHDR_SIZE * entries.len() as u64,
     })?;
     extents.push(Extent {
         start: header.e_phoff,
-        len: 56 * segments.len() as u64,
+        len: PHDR_SIZE * segments.len() as u64,
     })?;
     for entry in entries {
         extents.push(extent_of_content(entry))?;

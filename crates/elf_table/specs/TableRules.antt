@@ -1,4 +1,4 @@
--- The rules of the table that a section holds, by the section's type.
+-- The rules of the table that a section holds, by the section's type: of symbol tables.
 use Rattle.std.specs.Prelude.{ℕ, ◌==◌, ◌||◌, Bool, true, false, List, []}
 use Rattle.elf_field.specs.Abi.{SHT_DYNSYM, SHT_SYMTAB}
 use Rattle.elf_rules.specs.Rows.{Ruled}
@@ -14,6 +14,6 @@ abbrev pub rules_where : Bool → List {1} Ruled → List {1} Ruled
 rules_where true rules = rules
 rules_where false rules = []
 
--- none where the section holds no table
+-- none where the section holds no symbol table
 unfoldable pub table_rules : Sections → ℕ → List {1} Ruled
 table_rules f i = rules_where (holds_symbols (section f i).sh_type) (symbol_table_rules f i)

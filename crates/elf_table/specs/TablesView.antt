@@ -9,6 +9,6 @@ abbrev pub tables_view : Inside → TablesValue
 tables_view a = record { image = a.image.now; verdicts = map fault_of a.verdicts.items }
 
 -- the index tables and the verdicts are those of the image
-pub record AreTables (a : Inside) : Type 0 where
+pub record AreVerdictsKept (a : Inside) : Type 0 where
   pub index_tables : AreAllIndexTables (sections_of a.image.now) (length a.image.now.sections) a.index_tables.items
   pub verdicts : AreVerdicts (sections_of a.image.now) (length a.image.now.sections) (map fault_of a.verdicts.items)

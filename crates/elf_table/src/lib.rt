@@ -1,8 +1,8 @@
 //! The tables that an ELF-64 image holds, each as a list of its entries (gABI chapter 4, String Table, Symbol Table,
-//! Relocation; chapter 5): from an [`Image`](elf_image::Image) and the index of a section.
+//! Relocation): from an [`Image`](elf_image::Image) and the index of a section.
 //!
 //! A table is accepted exactly where it breaks none of its rules ([`rules`]); else the first rule that it breaks is answered, at
-//! its lowest offset. [`Tables`] judges every table of an image once. The names of the symbols in section 3 are read so:
+//! its lowest offset. [`Tables`] judges every symbol table of an image once. The names of the symbols in section 3 are read so:
 //!
 //! ```
 //! let image = parse(alloc, &bytes)?;

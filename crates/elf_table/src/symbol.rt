@@ -33,6 +33,7 @@ pub struct Symbol<'a> {
     pub symbol_type: u8,
     /// `st_other`: visibility; kept, never interpreted.
     pub other: u8,
+    /// Where it is defined.
     pub place: Place,
     /// An address, an offset in a section, or the alignment of a common symbol.
     pub value: u64,

@@ -144,6 +144,7 @@ fn judge_index_table(
     if section.sh_entsize != WORD_SIZE {
         return Err(Broken::new(WRONG_INDEX_TABLE_SIZE, at + SH_ENTSIZE_AT));
     }
+    // For what it promises of the content's length.
     let _ = image.content(j);
     Ok(())
 }

@@ -1,4 +1,4 @@
-//! The tables of an image, each judged once (gABI chapter 4, Symbol Table).
+//! The symbol tables of an image, each judged once (gABI chapter 4, Symbol Table).
 ghost use Rattle.std.specs.Prelude.{◌≡◌, ◌↔◌, ◌<◌, None, IfOk, IsTrue, get_or, length, map};
 ghost use Rattle.elf_rules.specs.Broken.{fault_of};
 ghost use Rattle.elf_rules.specs.Rows.{FirstIn};
@@ -19,8 +19,9 @@ use elf_rules::Broken;
 use std::alloc::{AllocError, Global};
 use std::marker::Model;
 
-/// The tables of an image, with the verdict on each: every table is judged once, however many others link to it, and the
-/// index tables are found in one pass over the section headers.
+/// The symbol tables of an image (SYMTAB and DYNSYM), with the verdict on each: every one is judged once, however many other
+/// tables link to it, and the index tables are found in one pass over the section headers. A string table is judged with the
+/// symbol table that links to it, or by [`Strings::new`](crate::Strings::new).
 #[derive(Drop)]
 pub struct Tables<'i, 'a> {
     image: &'i Image<'a>,
@@ -31,17 +32,17 @@ pub struct Tables<'i, 'a> {
 
 impl<'i, 'a> Model for Tables<'i, 'a> {
     ghost use Rattle.elf_table.specs.TableVerdicts.{TablesValue};
-    ghost use Rattle.elf_table.specs.TablesView.{AreTables, tables_view};
+    ghost use Rattle.elf_table.specs.TablesView.{AreVerdictsKept, tables_view};
 
     ghost Value = { TablesValue };
 
     ghost view = { tables_view };
 
-    ghost invariant = { AreTables };
+    ghost invariant = { AreVerdictsKept };
 }
 
 impl<'i, 'a> Tables<'i, 'a> {
-    /// The tables of this image, all of them judged. It takes memory for each section header.
+    /// Those of this image, all of them judged. It takes memory for each section header; the error comes only where it is refused.
     pub fn new(alloc: Global, image: &'i Image<'a>) -> Result<Tables<'i, 'a>, AllocError>
         ensures image { IfOk result (λ tables. tables.image ≡ image.entry.now) }
         ensures verdicts { IfOk result (λ tables. AreVerdicts (sections_of image.entry.now) (length image.entry.now.sections) tables.verdicts) }
@@ -55,8 +56,8 @@ impl<'i, 'a> Tables<'i, 'a> {
         })
     }
 
-    /// The verdict on the table that section `i` holds, where `i` is below the image's count of section headers: the first of its
-    /// rules that is broken, at its lowest offset. `Ok` where none is, and where the section holds no table.
+    /// The verdict on the symbol table that section `i` holds, where `i` is below the image's count of section headers: the first
+    /// of its rules that is broken, at its lowest offset. `Ok` where none is, and where the section holds no symbol table.
     pub fn verdict(&self, i: usize) -> Result<(), Broken>
         requires { i < length self.now.image.sections }
         ensures kept { fault_of result ≡ get_or self.now.verdicts i None }
@@ -65,7 +66,8 @@ impl<'i, 'a> Tables<'i, 'a> {
         self.verdicts[i]
     }
 
-    /// The symbol table that section `i` holds, which breaks no rule.
+    /// The symbol table that section `i` holds, where `i` is below the image's count of section headers, the section is of a type
+    /// that [`is_symbol_type`](crate::is_symbol_type) holds of, and its [`verdict`](Tables::verdict) is `Ok`.
     pub fn symbols(&self, i: usize) -> Symbols<'a>
         requires there { i < length self.now.image.sections }
         requires typed { IsSymbolType (section (sections_of self.now.image) i).sh_type }

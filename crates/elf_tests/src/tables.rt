@@ -2,7 +2,7 @@
 use crate::image_files::{Field, set, set_header};
 use elf_field::Order;
 use elf_image::{Fault, parse};
-use elf_table::{Place, Strings, Symbol, Symbols, Tables};
+use elf_table::{Place, Relocation, Relocs, Strings, Symbol, Symbols, Tables};
 use std::alloc::Global;
 use std::test::Fail;
 
@@ -176,7 +176,73 @@ fn judges_every_table_of_an_image(rt: HostRuntime) -> Result<(), Fail> {
     assert_eq!(rt; tables.verdict(0), Ok(()));
     assert_eq!(rt; tables.verdict(3), Ok(()));
     assert_eq!(rt; Symbols::new(&image, 4).is_err(), true);
-    assert_eq!(rt; Strings::new(&image, 3).is_err(), true);
+    Ok(())
+}
+
+fn strings_verdict(alloc: Global, file: &[u8], i: usize) -> Result<(), Fault> {
+    let image = parse(alloc, file)?;
+    if image.section_count() > i {
+        Strings::new(&image, i)?;
+    }
+    Ok(())
+}
+
+#[test]
+fn tells_the_first_rule_that_a_string_table_breaks(rt: HostRuntime) -> Result<(), Fail> {
+    let mut file = symbols(Order::Big);
+    let of_type = Fault::Rule { rule: 40, at: 352 };
+    assert_eq!(rt; strings_verdict(rt.alloc(), &file, 3), Err(of_type));
+    file[139] = 1;
+    let unclosed = Fault::Rule { rule: 41, at: 139 };
+    assert_eq!(rt; strings_verdict(rt.alloc(), &file, 2), Err(unclosed));
+    Ok(())
+}
+
+#[test]
+fn tells_each_relocation(rt: HostRuntime) -> Result<(), Fail> {
+    let file = call();
+    let image = parse(rt.alloc(), &file)?;
+    let relocs = Relocs::new(&image, 2)?;
+    let relocation = Relocation {
+        offset: 1,
+        symbol: 2,
+        relocation_type: 2,
+        addend: Some(-4),
+    };
+    assert_eq!(rt; relocs.len(), 1);
+    assert_eq!(rt; relocs.entry(0), relocation);
+    assert_eq!(rt; relocs.iter().count(), 1);
+    Ok(())
+}
+
+fn relocs_verdict(alloc: Global, file: &[u8]) -> Result<(), Fault> {
+    let image = parse(alloc, file)?;
+    if image.section_count() > 2 {
+        Relocs::new(&image, 2)?;
+    }
+    Ok(())
+}
+
+#[test]
+fn tells_the_first_rule_that_relocations_break(rt: HostRuntime) -> Result<(), Fail> {
+    let broken = [
+        ((364, 4, 2), 40, 364),
+        ((416, 8, 16), 42, 416),
+        ((400, 4, 4), 44, 400),
+        ((168, 1, 1), 41, 168),
+        ((468, 4, 3), 47, 124),
+        ((404, 4, 6), 53, 404),
+        ((80, 8, 0x3_0000_0002), 54, 80),
+    ];
+    for (field, rule, at) in &broken {
+        let mut file = call();
+        set(&mut file, Order::Little, &[*field]);
+        let fault = Fault::Rule {
+            rule: *rule,
+            at: *at,
+        };
+        assert_eq!(rt; relocs_verdict(rt.alloc(), &file), Err(fault));
+    }
     Ok(())
 }
 
