@@ -55,12 +55,23 @@ const CALL: [Field; 44] = [
     (600, 8, 1),
 ];
 
+/// Puts bytes into a file.
+fn put(file: &mut [u8], at: usize, bytes: &[u8]) {
+    if at <= file.len() && bytes.len() <= file.len() - at {
+        file[at..at + bytes.len()].copy_from_slice(bytes);
+    }
+}
+
 fn call() -> [u8; 616] {
     let mut file = [0; 616];
     set_header(&mut file, Order::Little, &CALL);
-    file[64..70].copy_from_slice(&[0xe8, 0, 0, 0, 0, 0xc3]);
-    file[168..181].copy_from_slice(b"\0main\0callee\0");
-    file[181..225].copy_from_slice(b"\0.text\0.rela.text\0.symtab\0.strtab\0.shstrtab\0");
+    put(&mut file, 64, &[0xe8, 0, 0, 0, 0, 0xc3]);
+    put(&mut file, 168, b"\0main\0callee\0");
+    put(
+        &mut file,
+        181,
+        b"\0.text\0.rela.text\0.symtab\0.strtab\0.shstrtab\0",
+    );
     file
 }
 
