@@ -157,6 +157,7 @@ fn main_symbol() -> Symbol<'static> {
 fn tells_the_strings_of_a_string_table(rt: HostRuntime) -> Result<(), Fail> {
     let file = call();
     let image = parse(rt.alloc(), &file)?;
+    assert!(rt; image.section_count() > 4);
     let strings = Strings::new(&image, 4)?;
     assert_eq!(rt; strings.get(1), Some(b"main".as_slice()));
     assert_eq!(rt; strings.get(6), Some(b"callee".as_slice()));
@@ -170,6 +171,7 @@ fn tells_the_strings_of_a_string_table(rt: HostRuntime) -> Result<(), Fail> {
 fn tells_each_symbol(rt: HostRuntime) -> Result<(), Fail> {
     let file = call();
     let image = parse(rt.alloc(), &file)?;
+    assert!(rt; image.section_count() > 3);
     let symbols = Symbols::new(&image, 3)?;
     assert_eq!(rt; symbols.len(), 3);
     assert_eq!(rt; symbols.entry(1), main_symbol());
@@ -183,6 +185,7 @@ fn tells_each_symbol(rt: HostRuntime) -> Result<(), Fail> {
 fn judges_every_table_of_an_image(rt: HostRuntime) -> Result<(), Fail> {
     let file = call();
     let image = parse(rt.alloc(), &file)?;
+    assert!(rt; image.section_count() > 4);
     let tables = Tables::new(rt.alloc(), &image)?;
     assert_eq!(rt; tables.verdict(0), Ok(()));
     assert_eq!(rt; tables.verdict(3), Ok(()));
@@ -213,6 +216,7 @@ fn tells_the_first_rule_that_a_string_table_breaks(rt: HostRuntime) -> Result<()
 fn tells_each_relocation(rt: HostRuntime) -> Result<(), Fail> {
     let file = call();
     let image = parse(rt.alloc(), &file)?;
+    assert!(rt; image.section_count() > 2);
     let relocs = Relocs::new(&image, 2)?;
     let relocation = Relocation {
         offset: 1,
