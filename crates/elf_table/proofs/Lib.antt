@@ -3,5 +3,5 @@ pub mod Lowest
 pub mod IndexTables
 pub mod SymbolLists
 pub mod AllIndexTables
-pub mod TableRuleLemmas
+pub mod TableKinds
 pub mod RelocationLists

@@ -2,7 +2,7 @@
 //! Relocation): from an [`Image`](elf_image::Image) and the index of a section.
 //!
 //! A table is accepted exactly where it breaks none of its rules ([`rules`]); else the first rule that it breaks is answered, at
-//! its lowest offset. [`Tables`] judges every symbol table of an image once. The names of the symbols in section 3 are read so:
+//! its lowest offset. [`Tables`] judges every table of an image once. The names of the symbols in section 3 are read so:
 //!
 //! ```
 //! let image = parse(alloc, &bytes)?;
@@ -26,6 +26,7 @@ mod symbol_rules;
 mod symbols;
 mod table_kind;
 mod tables;
+mod verdicts;
 
 pub use laws::{entries_in_file, one_table_fault, sections_of_bytes};
 pub use relocation::Relocation;
@@ -33,5 +34,5 @@ pub use relocs::{RelocIter, Relocs};
 pub use strings::Strings;
 pub use symbol::{Place, Symbol};
 pub use symbols::{SymbolIter, Symbols};
-pub use table_kind::is_symbol_type;
+pub use table_kind::TableKind;
 pub use tables::Tables;
