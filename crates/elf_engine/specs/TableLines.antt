@@ -1,13 +1,17 @@
--- The lines of the tables that a file holds, word by word. (gABI chapter 4, Symbol Table.)
-use Rattle.std.specs.Prelude.{ℕ, Bool, true, false, Option, None, Some, List, [], ◌∷◌, codes, get_or, length}
-use Rattle.std.specs.Fmt.{decimal}
+-- The lines of the tables that a file holds, word by word. (gABI chapter 4, Symbol Table, Relocation.)
+use Rattle.std.specs.Prelude.{ℕ, ℤ, Option, None, Some, List, [], ◌∷◌, codes, get_or, length}
+use Rattle.std.specs.Fmt.{decimal, signed_decimal}
 use Rattle.std.specs.List.{flat_map, range_with_len}
 use Rattle.elf_table.specs.declared.symbol.Place.{Place}
 use Rattle.elf_table.specs.declared.symbol.Place.TheVariants.{Undefined, Absolute, Common, Reserved, Section}
+use Rattle.elf_table.specs.declared.relocation.Relocation.{Relocation}
+use Rattle.elf_table.specs.declared.table_kind.TableKind.{TableKind}
+use Rattle.elf_table.specs.declared.table_kind.TableKind.TheVariants.{SymbolTable, RelocationTable, SectionGroup, NoteSection, DynamicArray, HashTable}
+use Rattle.elf_table.specs.Relocations.{no_relocation, relocations_of}
 use Rattle.elf_table.specs.Sections.{Sections, section, sections_of}
 use Rattle.elf_table.specs.Symbols.{SymbolValue, symbols_of}
 use Rattle.elf_table.specs.SymbolView.{no_symbol}
-use Rattle.elf_table.specs.TableRules.{holds_symbols}
+use Rattle.elf_table.specs.TableKind.{kind_of}
 use Rattle.elf_table.specs.TableVerdicts.{TablesValue}
 use Rattle.elf_engine.specs.Line.{hexadecimal, line, name_text}
 
@@ -36,13 +40,36 @@ symbol_text i symbols j = symbol_line i j (get_or symbols j no_symbol)
 unfoldable pub symbol_lines : ℕ → List SymbolValue → List ℕ
 symbol_lines i symbols = flat_map (symbol_text i symbols) (range_with_len 0 (length symbols))
 
--- the lines of the table in section i, where it breaks no rule, and none where the section holds no table
-abbrev pub lines_where : Bool → List ℕ → List ℕ
-lines_where true lines = lines
-lines_where false lines = []
+-- what is added, - where it stands in the bytes that are relocated
+abbrev pub addend_text : Option ℤ → List ℕ
+addend_text None = codes "-"
+addend_text (Some addend) = signed_decimal addend
 
+-- `reloc I R OFFSET SYMBOL TYPE ADDEND`: relocation R of section I
+unfoldable pub relocation_line : ℕ → ℕ → Relocation → List ℕ
+relocation_line i j r = line (
+    codes "reloc" ∷ decimal i ∷ decimal j ∷ hexadecimal r.offset ∷ decimal r.symbol ∷ decimal r.relocation_type ∷ addend_text r.addend ∷ [])
+
+-- the line of each relocation of section i, in order
+abbrev pub relocation_text : ℕ → List Relocation → ℕ → List ℕ
+relocation_text i relocations j = relocation_line i j (get_or relocations j no_relocation)
+
+unfoldable pub relocation_lines : ℕ → List Relocation → List ℕ
+relocation_lines i relocations = flat_map (relocation_text i relocations) (range_with_len 0 (length relocations))
+
+-- the lines of a table of this kind in section i, where it breaks no rule
+abbrev pub kind_lines : Option TableKind → Sections → ℕ → List ℕ
+kind_lines None f i = []
+kind_lines (Some SymbolTable) f i = symbol_lines i (symbols_of f i)
+kind_lines (Some RelocationTable) f i = relocation_lines i (relocations_of f i)
+kind_lines (Some SectionGroup) f i = []
+kind_lines (Some NoteSection) f i = []
+kind_lines (Some DynamicArray) f i = []
+kind_lines (Some HashTable) f i = []
+
+-- none where the section holds no table
 abbrev pub entry_lines : Sections → ℕ → List ℕ
-entry_lines f i = lines_where (holds_symbols (section f i).sh_type) (symbol_lines i (symbols_of f i))
+entry_lines f i = kind_lines (kind_of (section f i).sh_type) f i
 
 -- and with this verdict
 abbrev pub table_lines : Sections → ℕ → Option (ℕ × ℕ) → List ℕ

@@ -1,12 +1,14 @@
 //! The lines of tables: each function appends one to the text that is to go out.
 ghost use Rattle.std.specs.Prelude.{◌≡◌, ◌∷◌, ◌++◌, OnOk};
 ghost use Rattle.elf_engine.specs.Line.{blank};
-ghost use Rattle.elf_engine.specs.TableLines.{place_text, symbol_line, table_refused_line};
+ghost use Rattle.elf_engine.specs.TableLines.{addend_text, place_text, relocation_line, symbol_line, table_refused_line};
 ghost use Rattle.elf_table.specs.SymbolView.{symbol_value};
 
-use crate::line::{begin_line, end_line, push_decimal, push_hexadecimal, push_name, push_word};
+use crate::line::{
+    begin_line, end_line, push_decimal, push_hexadecimal, push_name, push_signed, push_word,
+};
 use elf_rules::Broken;
-use elf_table::{Place, Symbol};
+use elf_table::{Place, Relocation, Symbol};
 use std::alloc::{AllocError, Global};
 
 /// `symbol I S BINDING TYPE OTHER PLACE VALUE SIZE NAME`, of symbol `j` of the table in section `i`.
@@ -42,6 +44,35 @@ fn push_place(text: &mut Vec<u8>, place: Place) -> Result<(), AllocError>
         Place::Common => push_word(text, b"common"),
         Place::Reserved(_) => push_word(text, b"reserved"),
         Place::Section(index) => push_decimal(text, index as u64),
+    }
+}
+
+/// `reloc I R OFFSET SYMBOL TYPE ADDEND`, of relocation `j` of section `i`.
+pub(crate) fn push_relocation_line(
+    text: &mut Vec<u8>,
+    i: usize,
+    j: usize,
+    relocation: Relocation,
+) -> Result<(), AllocError>
+    ensures { OnOk result (text.new.items ≡ text.old.items ++ relocation_line i j relocation) }
+{
+    begin_line(text, b"reloc")?;
+    push_decimal(text, i as u64)?;
+    push_decimal(text, j as u64)?;
+    push_hexadecimal(text, relocation.offset)?;
+    push_decimal(text, relocation.symbol as u64)?;
+    push_decimal(text, relocation.relocation_type as u64)?;
+    push_addend(text, relocation.addend)?;
+    end_line(text)
+}
+
+// What is added.
+fn push_addend(text: &mut Vec<u8>, addend: Option<i64>) -> Result<(), AllocError>
+    ensures { OnOk result (text.new.items ≡ text.old.items ++ blank ∷ addend_text addend) }
+{
+    match addend {
+        Some(addend) => push_signed(text, addend),
+        None => push_word(text, b"-"),
     }
 }
 

@@ -1,14 +1,14 @@
 //! The lines of `show` on the tables that a file holds.
 ghost use Rattle.std.specs.Prelude.{◌≡◌, ◌<◌, length};
 ghost use Rattle.elf_engine.specs.Output.{IsBuffered};
-ghost use Rattle.elf_engine.specs.TableLines.{all_table_lines, symbol_lines, table_refused_line, table_text};
+ghost use Rattle.elf_engine.specs.TableLines.{all_table_lines, relocation_lines, symbol_lines, table_refused_line, table_text};
 
 use super::output::Output;
 use crate::fault::ToolFault;
-use crate::table_lines::{push_symbol_line, push_table_refused_line};
+use crate::table_lines::{push_relocation_line, push_symbol_line, push_table_refused_line};
 use elf_image::Image;
 use elf_rules::Broken;
-use elf_table::{Symbols, Tables, is_symbol_type};
+use elf_table::{Relocs, Symbols, TableKind, Tables};
 use std::alloc::Global;
 use std::io::Write;
 
@@ -47,10 +47,13 @@ fn show_table<W: Write>(
     if let Err(broken) = tables.verdict(i) {
         return show_refused(i, broken, output, writer);
     }
-    if is_symbol_type(image.section(i).sh_type) {
-        return show_symbols(alloc, i, &tables.symbols(i), output, writer);
+    match TableKind::of(image.section(i).sh_type) {
+        Some(TableKind::SymbolTable) => {
+            show_symbols(alloc, i, &tables.symbols(i), output, writer)
+        }
+        Some(TableKind::RelocationTable) => show_relocations(i, &tables.relocs(i), output, writer),
+        _ => Ok(()),
     }
-    Ok(())
 }
 
 // The line of the table in section `i`, which is refused.
@@ -80,6 +83,23 @@ fn show_symbols<W: Write>(
 {
     for j in 0..symbols.len() {
         push_symbol_line(alloc, &mut output.pending, i, j, &symbols.entry(j))?;
+        output.flush_piece(writer)?;
+    }
+    Ok(())
+}
+
+// The lines of the relocation section `i`.
+fn show_relocations<W: Write>(
+    i: usize,
+    relocs: &Relocs<'_>,
+    output: &mut Output,
+    writer: &mut W,
+) -> Result<(), ToolFault>
+    ensures { IsBuffered (W.contents writer.old) (W.contents writer.new) output.old output.new
+        (relocation_lines i relocs.now) result }
+{
+    for j in 0..relocs.len() {
+        push_relocation_line(&mut output.pending, i, j, relocs.entry(j))?;
         output.flush_piece(writer)?;
     }
     Ok(())
