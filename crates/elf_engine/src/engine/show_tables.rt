@@ -1,15 +1,16 @@
 //! The lines of `show` on the tables that a file holds.
 ghost use Rattle.std.specs.Prelude.{◌≡◌, ◌<◌, length};
 ghost use Rattle.elf_engine.specs.Output.{IsBuffered};
-ghost use Rattle.elf_engine.specs.TableLines.{all_table_lines, relocation_lines, symbol_lines, table_refused_line, table_text};
+ghost use Rattle.elf_engine.specs.TableLines.{all_table_lines, table_refused_line, table_text};
 
+use super::lines::{Lines, show_lines};
 use super::output::Output;
 use crate::fault::ToolFault;
 use crate::table_lines::{push_relocation_line, push_symbol_line, push_table_refused_line};
 use elf_image::Image;
 use elf_rules::Broken;
 use elf_table::{Relocs, Symbols, TableKind, Tables};
-use std::alloc::Global;
+use std::alloc::{AllocError, Global};
 use std::io::Write;
 
 /// The lines of all tables of the image.
@@ -31,6 +32,7 @@ pub(super) fn show_tables<W: Write>(
 }
 
 // The lines of the table in section `i`.
+#[tactic(auto, unfolding(crate::specs::TableLines::symbol_lines, crate::specs::TableLines::relocation_lines))]
 fn show_table<W: Write>(
     alloc: Global,
     image: &Image<'_>,
@@ -49,9 +51,19 @@ fn show_table<W: Write>(
     }
     match TableKind::of(image.section(i).sh_type) {
         Some(TableKind::SymbolTable) => {
-            show_symbols(alloc, i, &tables.symbols(i), output, writer)
+            let lines = SymbolLines {
+                section: i,
+                symbols: &tables.symbols(i),
+            };
+            show_lines(alloc, &lines, output, writer)
         }
-        Some(TableKind::RelocationTable) => show_relocations(i, &tables.relocs(i), output, writer),
+        Some(TableKind::RelocationTable) => {
+            let lines = RelocationLines {
+                section: i,
+                relocs: &tables.relocs(i),
+            };
+            show_lines(alloc, &lines, output, writer)
+        }
         _ => Ok(()),
     }
 }
@@ -70,37 +82,50 @@ fn show_refused<W: Write>(
     output.flush_piece(writer)
 }
 
-// The lines of the symbol table in section `i`.
-fn show_symbols<W: Write>(
-    alloc: Global,
-    i: usize,
-    symbols: &Symbols<'_>,
-    output: &mut Output,
-    writer: &mut W,
-) -> Result<(), ToolFault>
-    ensures { IsBuffered (W.contents writer.old) (W.contents writer.new) output.old output.new
-        (symbol_lines i symbols.now) result }
-{
-    for j in 0..symbols.len() {
-        push_symbol_line(alloc, &mut output.pending, i, j, &symbols.entry(j))?;
-        output.flush_piece(writer)?;
-    }
-    Ok(())
+// The lines of the symbol table in a section.
+#[derive(Drop)]
+struct SymbolLines<'s, 'a> {
+    section: usize,
+    symbols: &'s Symbols<'a>,
 }
 
-// The lines of the relocation section `i`.
-fn show_relocations<W: Write>(
-    i: usize,
-    relocs: &Relocs<'_>,
-    output: &mut Output,
-    writer: &mut W,
-) -> Result<(), ToolFault>
-    ensures { IsBuffered (W.contents writer.old) (W.contents writer.new) output.old output.new
-        (relocation_lines i relocs.now) result }
-{
-    for j in 0..relocs.len() {
-        push_relocation_line(&mut output.pending, i, j, relocs.entry(j))?;
-        output.flush_piece(writer)?;
+impl<'s, 'a> Lines for SymbolLines<'s, 'a> {
+    ghost use Rattle.std.specs.Prelude.{length};
+    ghost use Rattle.elf_engine.specs.TableLines.{symbol_text};
+
+    ghost count = { λ lines. length lines.symbols.now };
+
+    ghost line = { λ lines. symbol_text lines.section lines.symbols.now };
+
+    fn count(&self) -> usize {
+        self.symbols.len()
     }
-    Ok(())
+
+    fn push(&self, alloc: Global, text: &mut Vec<u8>, j: usize) -> Result<(), AllocError> {
+        push_symbol_line(alloc, text, self.section, j, &self.symbols.entry(j))
+    }
+}
+
+// The lines of a relocation section.
+#[derive(Drop)]
+struct RelocationLines<'s, 'a> {
+    section: usize,
+    relocs: &'s Relocs<'a>,
+}
+
+impl<'s, 'a> Lines for RelocationLines<'s, 'a> {
+    ghost use Rattle.std.specs.Prelude.{length};
+    ghost use Rattle.elf_engine.specs.TableLines.{relocation_text};
+
+    ghost count = { λ lines. length lines.relocs.now };
+
+    ghost line = { λ lines. relocation_text lines.section lines.relocs.now };
+
+    fn count(&self) -> usize {
+        self.relocs.len()
+    }
+
+    fn push(&self, _alloc: Global, text: &mut Vec<u8>, j: usize) -> Result<(), AllocError> {
+        push_relocation_line(text, self.section, j, self.relocs.entry(j))
+    }
 }
