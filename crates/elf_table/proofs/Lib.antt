@@ -5,3 +5,4 @@ pub mod SymbolLists
 pub mod AllIndexTables
 pub mod TableRuleLemmas
 pub mod RelocationLists
+pub mod DynamicLists

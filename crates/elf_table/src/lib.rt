@@ -13,8 +13,10 @@
 //! ```
 #![tactic(auto)]
 
+mod dynamic;
 mod index_tables;
 mod laws;
+mod name_hash;
 mod own_rules;
 mod relocation;
 mod relocs;
@@ -27,7 +29,9 @@ mod symbols;
 mod table_kind;
 mod tables;
 
+pub use dynamic::{Dynamic, DynamicIter};
 pub use laws::{entries_in_file, one_table_fault, sections_of_bytes};
+pub use name_hash::elf_hash;
 pub use relocation::Relocation;
 pub use relocs::{RelocIter, Relocs};
 pub use strings::Strings;
