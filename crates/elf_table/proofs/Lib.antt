@@ -5,3 +5,4 @@ pub mod SymbolLists
 pub mod AllIndexTables
 pub mod TableKinds
 pub mod RelocationLists
+pub mod DynamicLists

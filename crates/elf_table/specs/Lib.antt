@@ -11,6 +11,10 @@ pub mod Symbols
 pub mod Relocations
 pub mod RelocationRules
 pub mod RelocationsLeft
+pub mod DynamicArray
+pub mod DynamicRules
+pub mod DynamicLeft
+pub mod ElfHash
 pub mod TableRules
 pub mod TableVerdicts
 pub mod TablesView

@@ -13,8 +13,10 @@
 //! ```
 #![tactic(auto)]
 
+mod dynamic;
 mod index_tables;
 mod laws;
+mod name_hash;
 mod own_rules;
 mod relocation;
 mod relocs;
@@ -28,7 +30,9 @@ mod table_kind;
 mod tables;
 mod verdicts;
 
+pub use dynamic::{Dynamic, DynamicIter};
 pub use laws::{entries_in_file, one_table_fault, sections_of_bytes};
+pub use name_hash::elf_hash;
 pub use relocation::Relocation;
 pub use relocs::{RelocIter, Relocs};
 pub use strings::Strings;
