@@ -1,14 +1,20 @@
--- The lines of the tables that a file holds, word by word. (gABI chapter 4, Symbol Table, Relocation.)
-use Rattle.std.specs.Prelude.{ℕ, ℤ, Option, None, Some, List, [], ◌∷◌, codes, get_or, length}
+-- The lines of the tables that a file holds, word by word. (gABI chapter 4, Symbol Table, Relocation, Section Groups; chapter 5, Dynamic Section.)
+use Rattle.std.specs.Prelude.{ℕ, ℤ, Option, None, Some, List, [], ◌∷◌, codes, get_or, if◌then◌else◌, length, map}
 use Rattle.std.specs.Fmt.{decimal, signed_decimal}
 use Rattle.std.specs.List.{flat_map, range_with_len}
+use Rattle.elf_field.specs.declared.dynamic.Dyn.{Dyn}
+use Rattle.elf_image.specs.Strings.{string}
 use Rattle.elf_table.specs.declared.symbol.Place.{Place}
 use Rattle.elf_table.specs.declared.symbol.Place.TheVariants.{Undefined, Absolute, Common, Reserved, Section}
 use Rattle.elf_table.specs.declared.relocation.Relocation.{Relocation}
 use Rattle.elf_table.specs.declared.table_kind.TableKind.{TableKind}
 use Rattle.elf_table.specs.declared.table_kind.TableKind.TheVariants.{SymbolTable, RelocationTable, SectionGroup, NoteSection, DynamicArray, HashTable}
+use Rattle.elf_table.specs.DynamicArray.{dynamic_array_of, is_string_tag, no_dynamic_entry}
+use Rattle.elf_table.specs.DynamicStrings.{dynamic_strings}
+use Rattle.elf_table.specs.Groups.{GroupValue, group_of}
 use Rattle.elf_table.specs.Relocations.{no_relocation, relocations_of}
 use Rattle.elf_table.specs.Sections.{Sections, section, sections_of}
+use Rattle.elf_table.specs.Signature.{signature_name}
 use Rattle.elf_table.specs.Symbols.{SymbolValue, symbols_of}
 use Rattle.elf_table.specs.SymbolView.{no_symbol}
 use Rattle.elf_table.specs.TableKind.{kind_of}
@@ -57,14 +63,33 @@ relocation_text i relocations j = relocation_line i j (get_or relocations j no_r
 unfoldable pub relocation_lines : ℕ → List Relocation → List ℕ
 relocation_lines i relocations = flat_map (relocation_text i relocations) (range_with_len 0 (length relocations))
 
+-- `group I FLAGS NAME MEMBER..`: the group in section I, by its signature's name
+unfoldable pub group_line : ℕ → List ℕ → GroupValue → List ℕ
+group_line i name g = line (codes "group" ∷ decimal i ∷ decimal g.flags ∷ name_text name ∷ map decimal g.members)
+
+-- the string of an entry that has one, in this string table
+abbrev pub string_words : List ℕ → Dyn → List (List ℕ)
+string_words strings e = if is_string_tag e.d_tag then name_text (string strings e.d_un) ∷ [] else []
+
+-- `dynamic I TAG VALUE`, and the string of an entry that has one: an entry of the dynamic section I
+unfoldable pub dynamic_line : ℕ → List ℕ → Dyn → List ℕ
+dynamic_line i strings e = line (codes "dynamic" ∷ decimal i ∷ signed_decimal e.d_tag ∷ hexadecimal e.d_un ∷ string_words strings e)
+
+-- the line of each entry of the dynamic section i, in order
+abbrev pub dynamic_text : ℕ → List ℕ → List Dyn → ℕ → List ℕ
+dynamic_text i strings entries j = dynamic_line i strings (get_or entries j no_dynamic_entry)
+
+unfoldable pub dynamic_lines : ℕ → List ℕ → List Dyn → List ℕ
+dynamic_lines i strings entries = flat_map (dynamic_text i strings entries) (range_with_len 0 (length entries))
+
 -- the lines of a table of this kind in section i, where it breaks no rule
 abbrev pub kind_lines : Option TableKind → Sections → ℕ → List ℕ
 kind_lines None f i = []
 kind_lines (Some SymbolTable) f i = symbol_lines i (symbols_of f i)
 kind_lines (Some RelocationTable) f i = relocation_lines i (relocations_of f i)
-kind_lines (Some SectionGroup) f i = []
+kind_lines (Some SectionGroup) f i = group_line i (signature_name f i) (group_of f i)
 kind_lines (Some NoteSection) f i = []
-kind_lines (Some DynamicArray) f i = []
+kind_lines (Some DynamicArray) f i = dynamic_lines i (dynamic_strings f i) (dynamic_array_of f i)
 kind_lines (Some HashTable) f i = []
 
 -- none where the section holds no table

@@ -1,14 +1,17 @@
 //! The lines of tables: each function appends one to the text that is to go out.
-ghost use Rattle.std.specs.Prelude.{◌≡◌, ◌∷◌, ◌++◌, OnOk};
-ghost use Rattle.elf_engine.specs.Line.{blank};
-ghost use Rattle.elf_engine.specs.TableLines.{addend_text, place_text, relocation_line, symbol_line, table_refused_line};
+ghost use Rattle.std.specs.Prelude.{◌≡◌, ◌∷◌, ◌++◌, OnOk, map};
+ghost use Rattle.std.specs.Fmt.{decimal};
+ghost use Rattle.elf_engine.specs.Line.{blank, further_words};
+ghost use Rattle.elf_engine.specs.TableLines.{addend_text, dynamic_line, group_line, place_text, relocation_line, string_words, symbol_line, table_refused_line};
 ghost use Rattle.elf_table.specs.SymbolView.{symbol_value};
 
 use crate::line::{
     begin_line, end_line, push_decimal, push_hexadecimal, push_name, push_signed, push_word,
 };
+use elf_field::Dyn;
+use elf_image::strings::string_at;
 use elf_rules::Broken;
-use elf_table::{Place, Relocation, Symbol};
+use elf_table::{Group, Place, Relocation, Symbol, is_string_tag};
 use std::alloc::{AllocError, Global};
 
 /// `symbol I S BINDING TYPE OTHER PLACE VALUE SIZE NAME`, of symbol `j` of the table in section `i`.
@@ -74,6 +77,67 @@ fn push_addend(text: &mut Vec<u8>, addend: Option<i64>) -> Result<(), AllocError
         Some(addend) => push_signed(text, addend),
         None => push_word(text, b"-"),
     }
+}
+
+/// `group I FLAGS NAME MEMBER..`, of the group in section `i`, by its signature's name.
+pub(crate) fn push_group_line(
+    alloc: Global,
+    text: &mut Vec<u8>,
+    i: usize,
+    name: &[u8],
+    group: &Group<'_>,
+) -> Result<(), AllocError>
+    ensures { OnOk result (text.new.items ≡ text.old.items ++ group_line i name.now group.now) }
+{
+    begin_line(text, b"group")?;
+    push_decimal(text, i as u64)?;
+    push_decimal(text, group.flags() as u64)?;
+    push_name(alloc, text, name)?;
+    push_members(text, group)?;
+    end_line(text)
+}
+
+// The members of a group.
+fn push_members(text: &mut Vec<u8>, group: &Group<'_>) -> Result<(), AllocError>
+    ensures { OnOk result (text.new.items ≡ text.old.items ++ further_words (map decimal group.now.members)) }
+{
+    for member in group.iter() {
+        push_decimal(text, member as u64)?;
+    }
+    Ok(())
+}
+
+/// `dynamic I TAG VALUE`, and the string of an entry that has one in this string table, of an entry of the dynamic section `i`.
+pub(crate) fn push_dynamic_line(
+    alloc: Global,
+    text: &mut Vec<u8>,
+    i: usize,
+    strings: &[u8],
+    entry: Dyn,
+) -> Result<(), AllocError>
+    ensures { OnOk result (text.new.items ≡ text.old.items ++ dynamic_line i strings.now entry) }
+{
+    begin_line(text, b"dynamic")?;
+    push_decimal(text, i as u64)?;
+    push_signed(text, entry.d_tag)?;
+    push_hexadecimal(text, entry.d_un)?;
+    push_string(alloc, text, strings, entry)?;
+    end_line(text)
+}
+
+// The string of an entry that has one.
+fn push_string(
+    alloc: Global,
+    text: &mut Vec<u8>,
+    strings: &[u8],
+    entry: Dyn,
+) -> Result<(), AllocError>
+    ensures { OnOk result (text.new.items ≡ text.old.items ++ further_words (string_words strings.now entry)) }
+{
+    if is_string_tag(entry.d_tag) {
+        return push_name(alloc, text, string_at(strings, entry.d_un as usize));
+    }
+    Ok(())
 }
 
 /// `refused I RULE AT`, of the table in section `i`.

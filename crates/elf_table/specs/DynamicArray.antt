@@ -1,8 +1,8 @@
 -- The dynamic array: the entries of a dynamic section before the first DT_NULL. (gABI chapter 5, Dynamic Section.)
-use Rattle.std.specs.Prelude.{◌≡◌, ℕ, ◌*◌, ◌/◌, Bool, List, length, map, pos}
+use Rattle.std.specs.Prelude.{◌≡◌, ℕ, ℤ, ◌*◌, ◌/◌, ◌||◌, Bool, List, length, map, pos}
 use Rattle.std.specs.List.{before_first, range_with_len}
 use Rattle.std.specs.Ordering.{int_eq}
-use Rattle.elf_field.specs.Abi.{DT_NULL, DYN_SIZE}
+use Rattle.elf_field.specs.Abi.{DT_NEEDED, DT_NULL, DT_RPATH, DT_RUNPATH, DT_SONAME, DYN_SIZE}
 use Rattle.elf_field.specs.declared.dynamic.Dyn.{Dyn}
 use Rattle.elf_field.specs.declared.order.Order.{Order}
 use Rattle.elf_field.specs.Dyn.{dyn_at}
@@ -21,6 +21,10 @@ IsNull e = e.d_tag ≡ DT_NULL
 
 abbrev pub is_null : Dyn → Bool
 is_null e = int_eq e.d_tag DT_NULL
+
+-- the value of an entry with such a tag is the offset of a string
+abbrev pub is_string_tag : ℤ → Bool
+is_string_tag tag = int_eq tag DT_NEEDED || (int_eq tag DT_SONAME || (int_eq tag DT_RPATH || int_eq tag DT_RUNPATH))
 
 -- the first so many entries
 unfoldable pub dynamic_entries : Order → List ℕ → ℕ → List Dyn

@@ -1,10 +1,10 @@
 -- Rules 63 and 64: the end and the strings of a dynamic array. (gABI chapter 5, Dynamic Section.)
-use Rattle.std.specs.Prelude.{◌≡◌, ℕ, ℤ, ◌+◌, ◌*◌, ◌<◌, ◌≤◌, ◌⊎◌, List, [], ◌∷◌, ◌++◌, length}
-use Rattle.elf_field.specs.Abi.{DT_NEEDED, DT_RPATH, DT_RUNPATH, DT_SONAME, DYN_SIZE, D_UN_AT, SH_SIZE_AT}
+use Rattle.std.specs.Prelude.{◌≡◌, ℕ, ◌+◌, ◌*◌, ◌<◌, ◌≤◌, true, List, [], ◌∷◌, ◌++◌, length}
+use Rattle.elf_field.specs.Abi.{DYN_SIZE, D_UN_AT, SH_SIZE_AT}
 use Rattle.elf_field.specs.declared.dynamic.Dyn.{Dyn}
 use Rattle.elf_rules.specs.Rows.{AtEntry, Row, Ruled, When, rule}
 use Rattle.elf_table.specs.declared.table_kind.TableKind.TheVariants.{DynamicArray}
-use Rattle.elf_table.specs.DynamicArray.{IsNull, dynamic_entry, dynamic_entry_count}
+use Rattle.elf_table.specs.DynamicArray.{IsNull, dynamic_entry, dynamic_entry_count, is_string_tag}
 use Rattle.elf_table.specs.OwnRules.{own_rules}
 use Rattle.elf_table.specs.Sections.{Sections, content, header_at, order, section}
 use Rattle.elf_table.specs.StringRules.{linked_string_rules}
@@ -18,13 +18,9 @@ abbrev pub no_null_entry : Sections → ℕ → Row
 no_null_entry f i =
     When ((j : ℕ) → j < dynamic_entry_count (content f i) → ¬ IsNull (entry_of f i j)) (header_at f i + SH_SIZE_AT)
 
--- the value of an entry with such a tag is the offset of a string
-abbrev pub IsStringTag : ℤ → Type 0
-IsStringTag tag = (tag ≡ DT_NEEDED) ⊎ (tag ≡ DT_SONAME) ⊎ (tag ≡ DT_RPATH) ⊎ (tag ≡ DT_RUNPATH)
-
 -- rule 64: a string of an entry before the end begins behind the string table, even an empty one
 abbrev pub IsStringPastEnd : ℕ → Dyn → Type 0
-IsStringPastEnd size e = IsStringTag e.d_tag × (size ≤ e.d_un)
+IsStringPastEnd size e = (is_string_tag e.d_tag ≡ true) × (size ≤ e.d_un)
 
 abbrev pub dynamic_string_past_end : Sections → ℕ → Row
 dynamic_string_past_end f i =

@@ -15,9 +15,16 @@ pub mod DynamicArray
 pub mod DynamicRules
 pub mod DynamicLeft
 pub mod ElfHash
+pub mod Groups
+pub mod GroupRules
+pub mod MembersLeft
+pub mod Signature
+pub mod DynamicStrings
 pub mod TableRules
 pub mod TableVerdicts
+pub mod Verdict
 pub mod TablesView
 pub mod SymbolView
 pub mod SymbolsLeft
 pub mod Judged
+pub mod JudgedBehind

@@ -3,6 +3,8 @@ use Rattle.std.specs.Prelude.{ℕ, Option, None, Some, List, []}
 use Rattle.elf_rules.specs.Rows.{Ruled}
 use Rattle.elf_table.specs.declared.table_kind.TableKind.{TableKind}
 use Rattle.elf_table.specs.declared.table_kind.TableKind.TheVariants.{SymbolTable, RelocationTable, SectionGroup, NoteSection, DynamicArray, HashTable}
+use Rattle.elf_table.specs.DynamicRules.{dynamic_section_rules}
+use Rattle.elf_table.specs.GroupRules.{group_section_rules}
 use Rattle.elf_table.specs.RelocationRules.{relocation_section_rules}
 use Rattle.elf_table.specs.Sections.{Sections, section}
 use Rattle.elf_table.specs.SymbolRules.{symbol_table_rules}
@@ -13,9 +15,9 @@ abbrev pub rules_of : Option TableKind → Sections → ℕ → List {1} Ruled
 rules_of None f i = []
 rules_of (Some SymbolTable) f i = symbol_table_rules f i
 rules_of (Some RelocationTable) f i = relocation_section_rules f i
-rules_of (Some SectionGroup) f i = []
+rules_of (Some SectionGroup) f i = group_section_rules f i
 rules_of (Some NoteSection) f i = []
-rules_of (Some DynamicArray) f i = []
+rules_of (Some DynamicArray) f i = dynamic_section_rules f i
 rules_of (Some HashTable) f i = []
 
 -- none where the section holds no table

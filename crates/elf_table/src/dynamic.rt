@@ -1,12 +1,12 @@
 //! Dynamic sections (gABI chapter 5, Dynamic Section).
-ghost use Rattle.std.specs.Prelude.{◌≡◌, ◌↔◌, ◌<◌, ◌≤◌, ◌+◌, ◌*◌, ℕ, None, IsTrue, length, get_or};
+ghost use Rattle.std.specs.Prelude.{◌≡◌, ◌<◌, ◌≤◌, ◌+◌, ◌*◌, ℕ, None, length, get_or};
 ghost use Rattle.elf_extent.specs.Least.{IsLowest};
 ghost use Rattle.elf_rules.specs.Broken.{fault_of};
 ghost use Rattle.elf_rules.specs.HeaderRules.{MAX_LEN};
 ghost use Rattle.elf_rules.specs.Rows.{AtEntry, FirstIn};
-ghost use Rattle.elf_table.specs.DynamicArray.{IsNull, dynamic_array_of, dynamic_entry as dynamic_entry_of, dynamic_entry_count as dynamic_entry_count_of, no_dynamic_entry};
+ghost use Rattle.elf_table.specs.DynamicArray.{IsNull, dynamic_array_of, dynamic_entry as dynamic_entry_of, dynamic_entry_count as dynamic_entry_count_of, is_string_tag as is_string_tag_of, no_dynamic_entry};
 ghost use Rattle.elf_table.specs.DynamicLeft.{dynamic_left};
-ghost use Rattle.elf_table.specs.DynamicRules.{IsStringPastEnd, IsStringTag, dynamic_rules, dynamic_section_rules};
+ghost use Rattle.elf_table.specs.DynamicRules.{IsStringPastEnd, dynamic_rules, dynamic_section_rules};
 ghost use Rattle.elf_table.specs.Judged.{IsJudged};
 ghost use Rattle.elf_table.specs.Sections.{section, sections_of};
 
@@ -207,9 +207,9 @@ fn lowest_string_past_end(
     None
 }
 
-// Whether the value of an entry with this tag is the offset of a string.
-fn is_string_tag(tag: i64) -> bool
-    ensures { IsTrue result ↔ IsStringTag tag }
+/// Whether the value of an entry with this tag is the offset of a string: NEEDED, SONAME, RPATH and RUNPATH.
+pub fn is_string_tag(tag: i64) -> bool
+    ensures { result ≡ is_string_tag_of tag }
 {
     tag == DT_NEEDED || tag == DT_SONAME || tag == DT_RPATH || tag == DT_RUNPATH
 }

@@ -14,6 +14,8 @@
 #![tactic(auto)]
 
 mod dynamic;
+mod group;
+mod group_rules;
 mod index_tables;
 mod laws;
 mod name_hash;
@@ -30,7 +32,8 @@ mod table_kind;
 mod tables;
 mod verdicts;
 
-pub use dynamic::{Dynamic, DynamicIter};
+pub use dynamic::{Dynamic, DynamicIter, is_string_tag};
+pub use group::{Group, GroupIter};
 pub use laws::{entries_in_file, one_table_fault, sections_of_bytes};
 pub use name_hash::elf_hash;
 pub use relocation::Relocation;

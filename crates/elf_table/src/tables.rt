@@ -2,14 +2,20 @@
 ghost use Rattle.std.specs.Prelude.{◌≡◌, ◌<◌, None, Some, IfOk, get_or, length};
 ghost use Rattle.elf_rules.specs.Broken.{fault_of};
 ghost use Rattle.elf_rules.specs.Rows.{FirstIn};
+ghost use Rattle.elf_table.specs.DynamicArray.{dynamic_array_of};
+ghost use Rattle.elf_table.specs.DynamicStrings.{dynamic_strings};
+ghost use Rattle.elf_table.specs.Groups.{group_of};
 ghost use Rattle.elf_table.specs.Relocations.{relocations_of};
 ghost use Rattle.elf_table.specs.Sections.{section, sections_of};
+ghost use Rattle.elf_table.specs.Signature.{signature_name};
 ghost use Rattle.elf_table.specs.Symbols.{symbols_of};
 ghost use Rattle.elf_table.specs.TableKind.{kind_of};
 ghost use Rattle.elf_table.specs.declared.table_kind.TableKind.TheVariants as kind;
 ghost use Rattle.elf_table.specs.TableRules.{table_rules};
 ghost use Rattle.elf_table.specs.TableVerdicts.{AreAllIndexTables, AreVerdicts};
 
+use crate::dynamic::Dynamic;
+use crate::group::Group;
 use crate::index_tables::IndexTables;
 use crate::relocs::Relocs;
 use crate::symbols::Symbols;
@@ -86,6 +92,48 @@ impl<'i, 'a> Tables<'i, 'a> {
         ensures { result ≡ relocations_of (sections_of self.now.image) i }
     {
         Relocs::of_section(self.image, i)
+    }
+
+    /// The group in section `i`, under the same conditions.
+    pub fn group(&self, i: usize) -> Group<'a>
+        requires there { i < length self.now.image.sections }
+        requires typed { kind_of (section (sections_of self.now.image) i).sh_type ≡ Some kind.SectionGroup }
+        requires sound { get_or self.now.verdicts i None ≡ None }
+        ensures { result ≡ group_of (sections_of self.now.image) i }
+    {
+        Group::of_sound(self.image, i)
+    }
+
+    /// The name of the group in section `i`, under the same conditions: its signature's, in the symbol table that it links to.
+    pub fn signature_name(&self, i: usize) -> &'a [u8]
+        requires there { i < length self.now.image.sections }
+        requires typed { kind_of (section (sections_of self.now.image) i).sh_type ≡ Some kind.SectionGroup }
+        requires sound { get_or self.now.verdicts i None ≡ None }
+        ensures { result.now ≡ signature_name (sections_of self.now.image) i }
+    {
+        let section = self.image.section(i);
+        let symbols = self.symbols(section.sh_link as usize);
+        symbols.entry(section.sh_info as usize).name
+    }
+
+    /// The dynamic array in section `i`, under the same conditions.
+    pub fn dynamic(&self, i: usize) -> Dynamic<'a>
+        requires there { i < length self.now.image.sections }
+        requires typed { kind_of (section (sections_of self.now.image) i).sh_type ≡ Some kind.DynamicArray }
+        requires sound { get_or self.now.verdicts i None ≡ None }
+        ensures { result ≡ dynamic_array_of (sections_of self.now.image) i }
+    {
+        Dynamic::of_sound(self.image, i)
+    }
+
+    /// The string table of the dynamic array in section `i`, under the same conditions: the one that it links to.
+    pub fn dynamic_strings(&self, i: usize) -> &'a [u8]
+        requires there { i < length self.now.image.sections }
+        requires typed { kind_of (section (sections_of self.now.image) i).sh_type ≡ Some kind.DynamicArray }
+        requires sound { get_or self.now.verdicts i None ≡ None }
+        ensures { result.now ≡ dynamic_strings (sections_of self.now.image) i }
+    {
+        self.image.content(self.image.section(i).sh_link as usize)
     }
 }
 

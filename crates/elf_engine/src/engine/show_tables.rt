@@ -1,15 +1,23 @@
 //! The lines of `show` on the tables that a file holds.
-ghost use Rattle.std.specs.Prelude.{◌≡◌, ◌<◌, length};
+ghost use Rattle.std.specs.Prelude.{◌≡◌, ◌<◌, None, Some, get_or, length};
 ghost use Rattle.elf_engine.specs.Output.{IsBuffered};
-ghost use Rattle.elf_engine.specs.TableLines.{all_table_lines, table_refused_line, table_text};
+ghost use Rattle.elf_engine.specs.TableLines.{all_table_lines, group_line, table_refused_line, table_text};
+ghost use Rattle.elf_table.specs.declared.table_kind.TableKind.TheVariants as kind;
+ghost use Rattle.elf_table.specs.Groups.{group_of};
+ghost use Rattle.elf_table.specs.Sections.{section, sections_of};
+ghost use Rattle.elf_table.specs.Signature.{signature_name};
+ghost use Rattle.elf_table.specs.TableKind.{kind_of};
 
 use super::lines::{Lines, show_lines};
 use super::output::Output;
 use crate::fault::ToolFault;
-use crate::table_lines::{push_relocation_line, push_symbol_line, push_table_refused_line};
+use crate::table_lines::{
+    push_dynamic_line, push_group_line, push_relocation_line, push_symbol_line,
+    push_table_refused_line,
+};
 use elf_image::Image;
 use elf_rules::Broken;
-use elf_table::{Relocs, Symbols, TableKind, Tables};
+use elf_table::{Dynamic, Relocs, Symbols, TableKind, Tables};
 use std::alloc::{AllocError, Global};
 use std::io::Write;
 
@@ -32,7 +40,7 @@ pub(super) fn show_tables<W: Write>(
 }
 
 // The lines of the table in section `i`.
-#[tactic(auto, unfolding(crate::specs::TableLines::symbol_lines, crate::specs::TableLines::relocation_lines))]
+#[tactic(auto, unfolding(crate::specs::TableLines::symbol_lines, crate::specs::TableLines::relocation_lines, crate::specs::TableLines::dynamic_lines))]
 fn show_table<W: Write>(
     alloc: Global,
     image: &Image<'_>,
@@ -64,8 +72,37 @@ fn show_table<W: Write>(
             };
             show_lines(alloc, &lines, output, writer)
         }
+        Some(TableKind::SectionGroup) => show_group(alloc, tables, i, output, writer),
+        Some(TableKind::DynamicArray) => {
+            let lines = DynamicLines {
+                section: i,
+                strings: tables.dynamic_strings(i),
+                dynamic: &tables.dynamic(i),
+            };
+            show_lines(alloc, &lines, output, writer)
+        }
         _ => Ok(()),
     }
+}
+
+// The line of the group in section `i`.
+fn show_group<W: Write>(
+    alloc: Global,
+    tables: &Tables<'_, '_>,
+    i: usize,
+    output: &mut Output,
+    writer: &mut W,
+) -> Result<(), ToolFault>
+    requires there { i < length tables.now.image.sections }
+    requires typed { kind_of (section (sections_of tables.now.image) i).sh_type ≡ Some kind.SectionGroup }
+    requires sound { get_or tables.now.verdicts i None ≡ None }
+    ensures { let f = sections_of tables.now.image in
+        IsBuffered (W.contents writer.old) (W.contents writer.new) output.old output.new
+        (group_line i (signature_name f i) (group_of f i)) result }
+{
+    let name = tables.signature_name(i);
+    push_group_line(alloc, &mut output.pending, i, name, &tables.group(i))?;
+    output.flush_piece(writer)
 }
 
 // The line of the table in section `i`, which is refused.
@@ -127,5 +164,36 @@ impl<'s, 'a> Lines for RelocationLines<'s, 'a> {
 
     fn push(&self, _alloc: Global, text: &mut Vec<u8>, j: usize) -> Result<(), AllocError> {
         push_relocation_line(text, self.section, j, self.relocs.entry(j))
+    }
+}
+
+// The lines of a dynamic section.
+#[derive(Drop)]
+struct DynamicLines<'s, 'a> {
+    section: usize,
+    strings: &'a [u8],
+    dynamic: &'s Dynamic<'a>,
+}
+
+impl<'s, 'a> Lines for DynamicLines<'s, 'a> {
+    ghost use Rattle.std.specs.Prelude.{length};
+    ghost use Rattle.elf_engine.specs.TableLines.{dynamic_text};
+
+    ghost count = { λ lines. length lines.dynamic.now };
+
+    ghost line = { λ lines. dynamic_text lines.section lines.strings.now lines.dynamic.now };
+
+    fn count(&self) -> usize {
+        self.dynamic.len()
+    }
+
+    fn push(&self, alloc: Global, text: &mut Vec<u8>, j: usize) -> Result<(), AllocError> {
+        push_dynamic_line(
+            alloc,
+            text,
+            self.section,
+            self.strings,
+            self.dynamic.entry(j),
+        )
     }
 }
