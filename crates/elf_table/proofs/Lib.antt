@@ -8,3 +8,5 @@ pub mod RelocationLists
 pub mod GroupLists
 pub mod GroupMembers
 pub mod JudgedBehindLemmas
+pub mod NotePlaces
+pub mod NoteFaults

@@ -14,10 +14,14 @@ pub mod RelocationsLeft
 pub mod Groups
 pub mod GroupRules
 pub mod MembersLeft
+pub mod Notes
+pub mod NoteRules
+pub mod NoteCut
 pub mod TableRules
 pub mod TableVerdicts
 pub mod TablesView
 pub mod SymbolView
+pub mod NoteView
 pub mod SymbolsLeft
 pub mod Judged
 pub mod JudgedBehind

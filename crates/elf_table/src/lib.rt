@@ -17,6 +17,9 @@ mod group;
 mod group_rules;
 mod index_tables;
 mod laws;
+mod note;
+mod note_rules;
+mod notes;
 mod own_rules;
 mod relocation;
 mod relocs;
@@ -31,6 +34,8 @@ mod tables;
 
 pub use group::{Group, GroupIter};
 pub use laws::{entries_in_file, one_table_fault, sections_of_bytes};
+pub use note::Note;
+pub use notes::{NoteIter, Notes};
 pub use relocation::Relocation;
 pub use relocs::{RelocIter, Relocs};
 pub use strings::Strings;
