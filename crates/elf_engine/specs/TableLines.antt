@@ -1,7 +1,9 @@
--- The lines of the tables that a file holds, word by word. (gABI chapter 4, Symbol Table, Relocation, Section Groups; chapter 5, Dynamic Section.)
+-- The lines of the tables that a file holds, word by word. (gABI chapter 4, Symbol Table, Relocation, Section Groups; chapter 5, Note Section,
+-- Dynamic Section.)
 use Rattle.std.specs.Prelude.{ℕ, ℤ, Option, None, Some, List, [], ◌∷◌, codes, get_or, if◌then◌else◌, length, map}
 use Rattle.std.specs.Fmt.{decimal, signed_decimal}
 use Rattle.std.specs.List.{flat_map, range_with_len}
+use Rattle.hex.specs.Hex.{encode_lower}
 use Rattle.elf_field.specs.declared.dynamic.Dyn.{Dyn}
 use Rattle.elf_image.specs.Strings.{string}
 use Rattle.elf_table.specs.declared.symbol.Place.{Place}
@@ -12,6 +14,7 @@ use Rattle.elf_table.specs.declared.table_kind.TableKind.TheVariants.{SymbolTabl
 use Rattle.elf_table.specs.DynamicArray.{dynamic_array_of, is_string_tag, no_dynamic_entry}
 use Rattle.elf_table.specs.DynamicStrings.{dynamic_strings}
 use Rattle.elf_table.specs.Groups.{GroupValue, group_of}
+use Rattle.elf_table.specs.Notes.{NoteValue, notes_of}
 use Rattle.elf_table.specs.Relocations.{no_relocation, relocations_of}
 use Rattle.elf_table.specs.Sections.{Sections, section, sections_of}
 use Rattle.elf_table.specs.Signature.{signature_name}
@@ -67,6 +70,19 @@ relocation_lines i relocations = flat_map (relocation_text i relocations) (range
 unfoldable pub group_line : ℕ → List ℕ → GroupValue → List ℕ
 group_line i name g = line (codes "group" ∷ decimal i ∷ decimal g.flags ∷ name_text name ∷ map decimal g.members)
 
+-- bytes, - for none
+abbrev pub bytes_text : List ℕ → List ℕ
+bytes_text [] = codes "-"
+bytes_text (b ∷ bs) = encode_lower (b ∷ bs)
+
+-- `note I TYPE NAME DESC`: a note of section I
+unfoldable pub note_line : ℕ → NoteValue → List ℕ
+note_line i n = line (codes "note" ∷ decimal i ∷ decimal n.note_type ∷ name_text n.name ∷ bytes_text n.desc ∷ [])
+
+-- the line of each note, in order
+unfoldable pub note_lines : ℕ → List NoteValue → List ℕ
+note_lines i notes = flat_map (note_line i) notes
+
 -- the string of an entry that has one, in this string table
 abbrev pub string_words : List ℕ → Dyn → List (List ℕ)
 string_words strings e = if is_string_tag e.d_tag then name_text (string strings e.d_un) ∷ [] else []
@@ -88,7 +104,7 @@ kind_lines None f i = []
 kind_lines (Some SymbolTable) f i = symbol_lines i (symbols_of f i)
 kind_lines (Some RelocationTable) f i = relocation_lines i (relocations_of f i)
 kind_lines (Some SectionGroup) f i = group_line i (signature_name f i) (group_of f i)
-kind_lines (Some NoteSection) f i = []
+kind_lines (Some NoteSection) f i = note_lines i (notes_of f i)
 kind_lines (Some DynamicArray) f i = dynamic_lines i (dynamic_strings f i) (dynamic_array_of f i)
 kind_lines (Some HashTable) f i = []
 

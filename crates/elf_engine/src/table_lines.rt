@@ -2,16 +2,18 @@
 ghost use Rattle.std.specs.Prelude.{◌≡◌, ◌∷◌, ◌++◌, OnOk, map};
 ghost use Rattle.std.specs.Fmt.{decimal};
 ghost use Rattle.elf_engine.specs.Line.{blank, further_words};
-ghost use Rattle.elf_engine.specs.TableLines.{addend_text, dynamic_line, group_line, place_text, relocation_line, string_words, symbol_line, table_refused_line};
+ghost use Rattle.elf_engine.specs.TableLines.{addend_text, bytes_text, dynamic_line, group_line, note_line, place_text, relocation_line, string_words, symbol_line, table_refused_line};
+ghost use Rattle.elf_table.specs.NoteView.{note_value};
 ghost use Rattle.elf_table.specs.SymbolView.{symbol_value};
 
 use crate::line::{
-    begin_line, end_line, push_decimal, push_hexadecimal, push_name, push_signed, push_word,
+    begin_line, end_line, push_bytes, push_decimal, push_hexadecimal, push_name, push_signed,
+    push_word,
 };
 use elf_field::Dyn;
 use elf_image::strings::string_at;
 use elf_rules::Broken;
-use elf_table::{Group, Place, Relocation, Symbol, is_string_tag};
+use elf_table::{Group, Note, Place, Relocation, Symbol, is_string_tag};
 use std::alloc::{AllocError, Global};
 
 /// `symbol I S BINDING TYPE OTHER PLACE VALUE SIZE NAME`, of symbol `j` of the table in section `i`.
@@ -105,6 +107,33 @@ fn push_members(text: &mut Vec<u8>, group: &Group<'_>) -> Result<(), AllocError>
         push_decimal(text, member as u64)?;
     }
     Ok(())
+}
+
+/// `note I TYPE NAME DESC`, of a note of section `i`.
+pub(crate) fn push_note_line(
+    alloc: Global,
+    text: &mut Vec<u8>,
+    i: usize,
+    note: &Note<'_>,
+) -> Result<(), AllocError>
+    ensures { OnOk result (text.new.items ≡ text.old.items ++ note_line i (note_value note.now)) }
+{
+    begin_line(text, b"note")?;
+    push_decimal(text, i as u64)?;
+    push_decimal(text, note.note_type as u64)?;
+    push_name(alloc, text, note.name)?;
+    push_descriptor(alloc, text, note.desc)?;
+    end_line(text)
+}
+
+// The bytes of a descriptor.
+fn push_descriptor(alloc: Global, text: &mut Vec<u8>, desc: &[u8]) -> Result<(), AllocError>
+    ensures { OnOk result (text.new.items ≡ text.old.items ++ blank ∷ bytes_text desc.now) }
+{
+    if desc.is_empty() {
+        return push_word(text, b"-");
+    }
+    push_bytes(alloc, text, desc)
 }
 
 /// `dynamic I TAG VALUE`, and the string of an entry that has one in this string table, of an entry of the dynamic section `i`.

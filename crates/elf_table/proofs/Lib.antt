@@ -10,3 +10,5 @@ pub mod DynamicLists
 pub mod GroupLists
 pub mod GroupMembers
 pub mod JudgedBehindLemmas
+pub mod NotePlaces
+pub mod NoteFaults

@@ -20,11 +20,15 @@ pub mod GroupRules
 pub mod MembersLeft
 pub mod Signature
 pub mod DynamicStrings
+pub mod Notes
+pub mod NoteRules
+pub mod NoteCut
 pub mod TableRules
 pub mod TableVerdicts
 pub mod Verdict
 pub mod TablesView
 pub mod SymbolView
+pub mod NoteView
 pub mod SymbolsLeft
 pub mod Judged
 pub mod JudgedBehind

@@ -5,6 +5,7 @@ ghost use Rattle.elf_rules.specs.Rows.{FirstIn};
 ghost use Rattle.elf_table.specs.DynamicArray.{dynamic_array_of};
 ghost use Rattle.elf_table.specs.DynamicStrings.{dynamic_strings};
 ghost use Rattle.elf_table.specs.Groups.{group_of};
+ghost use Rattle.elf_table.specs.Notes.{notes_of};
 ghost use Rattle.elf_table.specs.Relocations.{relocations_of};
 ghost use Rattle.elf_table.specs.Sections.{section, sections_of};
 ghost use Rattle.elf_table.specs.Signature.{signature_name};
@@ -17,6 +18,7 @@ ghost use Rattle.elf_table.specs.TableVerdicts.{AreAllIndexTables, AreVerdicts};
 use crate::dynamic::Dynamic;
 use crate::group::Group;
 use crate::index_tables::IndexTables;
+use crate::notes::Notes;
 use crate::relocs::Relocs;
 use crate::symbols::Symbols;
 use crate::verdicts::all_verdicts;
@@ -114,6 +116,16 @@ impl<'i, 'a> Tables<'i, 'a> {
         let section = self.image.section(i);
         let symbols = self.symbols(section.sh_link as usize);
         symbols.entry(section.sh_info as usize).name
+    }
+
+    /// The notes of section `i`, under the same conditions.
+    pub fn notes(&self, i: usize) -> Notes<'a>
+        requires there { i < length self.now.image.sections }
+        requires typed { kind_of (section (sections_of self.now.image) i).sh_type ≡ Some kind.NoteSection }
+        requires sound { get_or self.now.verdicts i None ≡ None }
+        ensures { result ≡ notes_of (sections_of self.now.image) i }
+    {
+        Notes::of_sound(self.image, i)
     }
 
     /// The dynamic array in section `i`, under the same conditions.

@@ -17,6 +17,7 @@ ghost use Rattle.elf_table.specs.Verdict.{IsUnread, IsVerdictOf};
 use crate::dynamic::judge_dynamic_section;
 use crate::group_rules::judge_group;
 use crate::index_tables::IndexTables;
+use crate::note_rules::judge_note_section;
 use crate::own_rules::judge_own_rules;
 use crate::relocs::judge_relocations;
 use crate::symbol_rules::judge_symbol_table;
@@ -89,6 +90,7 @@ fn table_verdict(
         Some(TableKind::SymbolTable) => Ok(symbols[i]),
         Some(TableKind::RelocationTable) => Ok(relocation_verdict(image, i, symbols)),
         Some(TableKind::SectionGroup) => verdict_of(group_verdict(alloc, image, i, symbols)),
+        Some(TableKind::NoteSection) => Ok(judge_note_section(image, i)),
         Some(TableKind::DynamicArray) => Ok(judge_dynamic_section(image, i)),
         _ => Ok(Ok(())),
     }

@@ -1,7 +1,7 @@
 //! The lines of `show` on the tables that a file holds.
 ghost use Rattle.std.specs.Prelude.{◌≡◌, ◌<◌, None, Some, get_or, length};
 ghost use Rattle.elf_engine.specs.Output.{IsBuffered};
-ghost use Rattle.elf_engine.specs.TableLines.{all_table_lines, group_line, table_refused_line, table_text};
+ghost use Rattle.elf_engine.specs.TableLines.{all_table_lines, group_line, note_lines, table_refused_line, table_text};
 ghost use Rattle.elf_table.specs.declared.table_kind.TableKind.TheVariants as kind;
 ghost use Rattle.elf_table.specs.Groups.{group_of};
 ghost use Rattle.elf_table.specs.Sections.{section, sections_of};
@@ -12,12 +12,12 @@ use super::lines::{Lines, show_lines};
 use super::output::Output;
 use crate::fault::ToolFault;
 use crate::table_lines::{
-    push_dynamic_line, push_group_line, push_relocation_line, push_symbol_line,
+    push_dynamic_line, push_group_line, push_note_line, push_relocation_line, push_symbol_line,
     push_table_refused_line,
 };
 use elf_image::Image;
 use elf_rules::Broken;
-use elf_table::{Dynamic, Relocs, Symbols, TableKind, Tables};
+use elf_table::{Dynamic, Notes, Relocs, Symbols, TableKind, Tables};
 use std::alloc::{AllocError, Global};
 use std::io::Write;
 
@@ -73,6 +73,7 @@ fn show_table<W: Write>(
             show_lines(alloc, &lines, output, writer)
         }
         Some(TableKind::SectionGroup) => show_group(alloc, tables, i, output, writer),
+        Some(TableKind::NoteSection) => show_notes(alloc, i, &tables.notes(i), output, writer),
         Some(TableKind::DynamicArray) => {
             let lines = DynamicLines {
                 section: i,
@@ -117,6 +118,24 @@ fn show_refused<W: Write>(
 {
     push_table_refused_line(&mut output.pending, i, broken)?;
     output.flush_piece(writer)
+}
+
+// The lines of the note section `i`.
+fn show_notes<W: Write>(
+    alloc: Global,
+    i: usize,
+    notes: &Notes<'_>,
+    output: &mut Output,
+    writer: &mut W,
+) -> Result<(), ToolFault>
+    ensures { IsBuffered (W.contents writer.old) (W.contents writer.new) output.old output.new
+        (note_lines i notes.now) result }
+{
+    for note in notes.iter() {
+        push_note_line(alloc, &mut output.pending, i, &note)?;
+        output.flush_piece(writer)?;
+    }
+    Ok(())
 }
 
 // The lines of the symbol table in a section.
