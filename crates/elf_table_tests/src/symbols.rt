@@ -1,8 +1,8 @@
 //! String tables and symbol tables: of an object of a call, and of a file that has every part of a symbol table.
-use crate::image_files::{Field, set, set_header};
 use elf_field::Order;
 use elf_image::{Fault, parse};
 use elf_table::{Place, Relocation, Relocs, Strings, Symbol, Symbols, Tables};
+use elf_test_files::{Field, set, set_header};
 use std::alloc::Global;
 use std::test::Fail;
 
