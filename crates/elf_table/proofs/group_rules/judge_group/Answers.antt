@@ -15,12 +15,12 @@ pub returns-in-Some : goal.returns-in-Some
 unfolding group_rules group_member_rules
 returns-in-Some c =
     let f = sections_of c.args.image.now in
-    let least = wrong_member_row f c.args.i c.in-Some.j (rw c.in-Some.is at c.in_ok-wrong.ensures) in
+    let least = wrong_member_row f c.args.i c.in-Some.j (rw c.in-Some.is at c.in_ok-wrong.ensures.found) in
     rw (c.from.ensures, c.new.ensures, c.member_offset.ensures) (FirstIn-later _ _ _ c.in_ok-judge_group_front.ensures (inl (refl, least)))
 
 pub returns-in-None : goal.returns-in-None
 unfolding group_rules group_member_rules
 returns-in-None c =
     let f = sections_of c.args.image.now in
-    let never = no_wrong_member f c.args.i (rw c.in-None.is at c.in_ok-wrong.ensures) in
+    let never = no_wrong_member f c.args.i (rw c.in-None.is at c.in_ok-wrong.ensures.found) in
     (FirstIn-later _ _ _ c.in_ok-judge_group_front.ensures (never, tt), tt)
