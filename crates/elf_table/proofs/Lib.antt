@@ -6,3 +6,7 @@ pub mod AllIndexTables
 pub mod TableRuleLemmas
 pub mod RelocationLists
 pub mod DynamicLists
+pub mod WordListLemmas
+pub mod ChainLemmas
+pub mod HashSound
+pub mod ChainDepthLemmas

@@ -15,6 +15,12 @@ pub mod DynamicArray
 pub mod DynamicRules
 pub mod DynamicLeft
 pub mod ElfHash
+pub mod Chains
+pub mod HashTable
+pub mod ChainDepths
+pub mod WordLists
+pub mod HashParts
+pub mod HashRules
 pub mod TableRules
 pub mod TableVerdicts
 pub mod TablesView

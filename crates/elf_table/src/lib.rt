@@ -14,6 +14,10 @@
 #![tactic(auto)]
 
 mod dynamic;
+mod hash_chains;
+mod hash_parts;
+mod hash_word_rules;
+mod hash_words;
 mod index_tables;
 mod laws;
 mod name_hash;
