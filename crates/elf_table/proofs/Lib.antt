@@ -10,3 +10,6 @@ pub mod WordListLemmas
 pub mod ChainLemmas
 pub mod HashSound
 pub mod ChainDepthLemmas
+pub mod JudgedLemmas
+pub mod ChainsDecided
+pub mod ProbeLemmas

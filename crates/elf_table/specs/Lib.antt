@@ -21,6 +21,9 @@ pub mod ChainDepths
 pub mod WordLists
 pub mod HashParts
 pub mod HashRules
+pub mod Probe
+pub mod HashView
+pub mod HashLeft
 pub mod TableRules
 pub mod TableVerdicts
 pub mod TablesView

@@ -1,8 +1,9 @@
 //! The words of a hash table, and the names that it is for (gABI chapter 5, Hash Table).
-ghost use Rattle.std.specs.Prelude.{◌≡◌, ◌<◌, ◌≤◌, ◌+◌, [], length, get_or};
-ghost use Rattle.elf_table.specs.HashTable.{bucket as bucket_word, chain as chain_word, nbucket as nbucket_of, nchain as nchain_of};
+ghost use Rattle.std.specs.Prelude.{◌≡◌, ◌≢◌, ◌<◌, ◌≤◌, ◌+◌, [], length, get_or};
+ghost use Rattle.elf_table.specs.HashTable.{bucket as bucket_word, bucket_of as bucket_of_name, chain as chain_word, nbucket as nbucket_of, nchain as nchain_of};
 ghost use Rattle.elf_table.specs.WordLists.{names_in, words_in};
 
+use crate::name_hash::elf_hash;
 use crate::symbol_parts::{entry, word};
 use elf_field::Order;
 use elf_field::abi::*;
@@ -71,6 +72,15 @@ impl<'a> HashWords<'a> {
         ensures { result ≡ bucket_word self.now b }
     {
         self.get(2 + b as usize)
+    }
+
+    /// The word of the bucket for symbols of this name, in a table of some buckets.
+    pub(crate) fn bucket_of(&self, name: &[u8]) -> u32
+        requires some { nbucket_of self.now ≢ 0 }
+        requires long { 2 + nbucket_of self.now ≤ length self.now }
+        ensures { result ≡ bucket_of_name self.now name.now }
+    {
+        self.bucket(elf_hash(name) % self.nbucket())
     }
 
     /// The chain word of symbol `s`.

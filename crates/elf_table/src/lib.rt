@@ -14,8 +14,10 @@
 #![tactic(auto)]
 
 mod dynamic;
+mod hash;
 mod hash_chains;
 mod hash_parts;
+mod hash_rules;
 mod hash_word_rules;
 mod hash_words;
 mod index_tables;
@@ -34,6 +36,7 @@ mod table_kind;
 mod tables;
 
 pub use dynamic::{Dynamic, DynamicIter};
+pub use hash::{Hash, HashIter};
 pub use laws::{entries_in_file, one_table_fault, sections_of_bytes};
 pub use name_hash::elf_hash;
 pub use relocation::Relocation;
