@@ -1,5 +1,5 @@
 -- The lines of the tables that a file holds, word by word. (gABI chapter 4, Symbol Table, Relocation, Section Groups; chapter 5, Note Section,
--- Dynamic Section.)
+-- Dynamic Section, Hash Table.)
 use Rattle.std.specs.Prelude.{ℕ, ℤ, Option, None, Some, List, [], ◌∷◌, codes, get_or, if◌then◌else◌, length, map}
 use Rattle.std.specs.Fmt.{decimal, signed_decimal}
 use Rattle.std.specs.List.{flat_map, range_with_len}
@@ -14,6 +14,8 @@ use Rattle.elf_table.specs.declared.table_kind.TableKind.TheVariants.{SymbolTabl
 use Rattle.elf_table.specs.DynamicArray.{dynamic_array_of, is_string_tag, no_dynamic_entry}
 use Rattle.elf_table.specs.DynamicStrings.{dynamic_strings}
 use Rattle.elf_table.specs.Groups.{GroupValue, group_of}
+use Rattle.elf_table.specs.HashTable.{nbucket, nchain}
+use Rattle.elf_table.specs.HashView.{hash_of_section}
 use Rattle.elf_table.specs.Notes.{NoteValue, notes_of}
 use Rattle.elf_table.specs.Relocations.{no_relocation, relocations_of}
 use Rattle.elf_table.specs.Sections.{Sections, section, sections_of}
@@ -98,6 +100,10 @@ dynamic_text i strings entries j = dynamic_line i strings (get_or entries j no_d
 unfoldable pub dynamic_lines : ℕ → List ℕ → List Dyn → List ℕ
 dynamic_lines i strings entries = flat_map (dynamic_text i strings entries) (range_with_len 0 (length entries))
 
+-- `hash I NBUCKET NCHAIN`: the hash table in section I, of these words
+unfoldable pub hash_line : ℕ → List ℕ → List ℕ
+hash_line i words = line (codes "hash" ∷ decimal i ∷ decimal (nbucket words) ∷ decimal (nchain words) ∷ [])
+
 -- the lines of a table of this kind in section i, where it breaks no rule
 abbrev pub kind_lines : Option TableKind → Sections → ℕ → List ℕ
 kind_lines None f i = []
@@ -106,7 +112,7 @@ kind_lines (Some RelocationTable) f i = relocation_lines i (relocations_of f i)
 kind_lines (Some SectionGroup) f i = group_line i (signature_name f i) (group_of f i)
 kind_lines (Some NoteSection) f i = note_lines i (notes_of f i)
 kind_lines (Some DynamicArray) f i = dynamic_lines i (dynamic_strings f i) (dynamic_array_of f i)
-kind_lines (Some HashTable) f i = []
+kind_lines (Some HashTable) f i = hash_line i (hash_of_section f i).words
 
 -- none where the section holds no table
 abbrev pub entry_lines : Sections → ℕ → List ℕ

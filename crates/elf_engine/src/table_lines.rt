@@ -2,7 +2,7 @@
 ghost use Rattle.std.specs.Prelude.{◌≡◌, ◌∷◌, ◌++◌, OnOk, map};
 ghost use Rattle.std.specs.Fmt.{decimal};
 ghost use Rattle.elf_engine.specs.Line.{blank, further_words};
-ghost use Rattle.elf_engine.specs.TableLines.{addend_text, bytes_text, dynamic_line, group_line, note_line, place_text, relocation_line, string_words, symbol_line, table_refused_line};
+ghost use Rattle.elf_engine.specs.TableLines.{addend_text, bytes_text, dynamic_line, group_line, hash_line, note_line, place_text, relocation_line, string_words, symbol_line, table_refused_line};
 ghost use Rattle.elf_table.specs.NoteView.{note_value};
 ghost use Rattle.elf_table.specs.SymbolView.{symbol_value};
 
@@ -13,7 +13,7 @@ use crate::line::{
 use elf_field::Dyn;
 use elf_image::strings::string_at;
 use elf_rules::Broken;
-use elf_table::{Group, Note, Place, Relocation, Symbol, is_string_tag};
+use elf_table::{Group, Hash, Note, Place, Relocation, Symbol, is_string_tag};
 use std::alloc::{AllocError, Global};
 
 /// `symbol I S BINDING TYPE OTHER PLACE VALUE SIZE NAME`, of symbol `j` of the table in section `i`.
@@ -167,6 +167,21 @@ fn push_string(
         return push_name(alloc, text, string_at(strings, entry.d_un as usize));
     }
     Ok(())
+}
+
+/// `hash I NBUCKET NCHAIN`, of the hash table in section `i`.
+pub(crate) fn push_hash_line(
+    text: &mut Vec<u8>,
+    i: usize,
+    hash: &Hash<'_>,
+) -> Result<(), AllocError>
+    ensures { OnOk result (text.new.items ≡ text.old.items ++ hash_line i hash.now.words) }
+{
+    begin_line(text, b"hash")?;
+    push_decimal(text, i as u64)?;
+    push_decimal(text, hash.nbucket() as u64)?;
+    push_decimal(text, hash.nchain() as u64)?;
+    end_line(text)
 }
 
 /// `refused I RULE AT`, of the table in section `i`.

@@ -9,6 +9,12 @@ pub mod RelocationLists
 pub mod DynamicLists
 pub mod GroupLists
 pub mod GroupMembers
-pub mod JudgedBehindLemmas
 pub mod NotePlaces
 pub mod NoteFaults
+pub mod WordListLemmas
+pub mod ChainLemmas
+pub mod HashSound
+pub mod ChainDepthLemmas
+pub mod JudgedLemmas
+pub mod ChainsDecided
+pub mod ProbeLemmas

@@ -23,6 +23,15 @@ pub mod DynamicStrings
 pub mod Notes
 pub mod NoteRules
 pub mod NoteCut
+pub mod Chains
+pub mod HashTable
+pub mod ChainDepths
+pub mod WordLists
+pub mod HashParts
+pub mod HashRules
+pub mod Probe
+pub mod HashView
+pub mod HashLeft
 pub mod TableRules
 pub mod TableVerdicts
 pub mod Verdict
@@ -31,4 +40,3 @@ pub mod SymbolView
 pub mod NoteView
 pub mod SymbolsLeft
 pub mod Judged
-pub mod JudgedBehind

@@ -5,6 +5,7 @@ use Rattle.elf_table.specs.declared.table_kind.TableKind.{TableKind}
 use Rattle.elf_table.specs.declared.table_kind.TableKind.TheVariants.{SymbolTable, RelocationTable, SectionGroup, NoteSection, DynamicArray, HashTable}
 use Rattle.elf_table.specs.DynamicRules.{dynamic_section_rules}
 use Rattle.elf_table.specs.GroupRules.{group_section_rules}
+use Rattle.elf_table.specs.HashRules.{hash_table_rules}
 use Rattle.elf_table.specs.NoteRules.{note_section_rules}
 use Rattle.elf_table.specs.RelocationRules.{relocation_section_rules}
 use Rattle.elf_table.specs.Sections.{Sections, section}
@@ -19,7 +20,7 @@ rules_of (Some RelocationTable) f i = relocation_section_rules f i
 rules_of (Some SectionGroup) f i = group_section_rules f i
 rules_of (Some NoteSection) f i = note_section_rules f i
 rules_of (Some DynamicArray) f i = dynamic_section_rules f i
-rules_of (Some HashTable) f i = []
+rules_of (Some HashTable) f i = hash_table_rules f i
 
 -- none where the section holds no table
 unfoldable pub table_rules : Sections → ℕ → List {1} Ruled

@@ -7,7 +7,7 @@ ghost use Rattle.elf_rules.specs.Rows.{FirstIn};
 ghost use Rattle.elf_table.specs.Below.{Below};
 ghost use Rattle.elf_table.specs.GroupRules.{IsUnfit, IsWrongMember, group_front_rules, group_rules, group_section_front, group_section_rules};
 ghost use Rattle.elf_table.specs.Groups.{AreAscending, member as member_of, member_count as member_count_of};
-ghost use Rattle.elf_table.specs.JudgedBehind.{IsJudgedBehind};
+ghost use Rattle.elf_table.specs.Judged.{IsJudgedBehind};
 ghost use Rattle.elf_table.specs.Sections.{content, order, section, sections_of};
 
 use crate::index_tables::index_tables_of;

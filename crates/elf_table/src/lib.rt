@@ -16,6 +16,12 @@
 mod dynamic;
 mod group;
 mod group_rules;
+mod hash;
+mod hash_chains;
+mod hash_parts;
+mod hash_rules;
+mod hash_word_rules;
+mod hash_words;
 mod index_tables;
 mod laws;
 mod name_hash;
@@ -37,6 +43,7 @@ mod verdicts;
 
 pub use dynamic::{Dynamic, DynamicIter, is_string_tag};
 pub use group::{Group, GroupIter};
+pub use hash::{Hash, HashIter};
 pub use laws::{entries_in_file, one_table_fault, sections_of_bytes};
 pub use name_hash::elf_hash;
 pub use note::Note;

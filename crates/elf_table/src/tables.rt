@@ -5,6 +5,7 @@ ghost use Rattle.elf_rules.specs.Rows.{FirstIn};
 ghost use Rattle.elf_table.specs.DynamicArray.{dynamic_array_of};
 ghost use Rattle.elf_table.specs.DynamicStrings.{dynamic_strings};
 ghost use Rattle.elf_table.specs.Groups.{group_of};
+ghost use Rattle.elf_table.specs.HashView.{hash_of_section};
 ghost use Rattle.elf_table.specs.Notes.{notes_of};
 ghost use Rattle.elf_table.specs.Relocations.{relocations_of};
 ghost use Rattle.elf_table.specs.Sections.{section, sections_of};
@@ -17,6 +18,7 @@ ghost use Rattle.elf_table.specs.TableVerdicts.{AreAllIndexTables, AreVerdicts};
 
 use crate::dynamic::Dynamic;
 use crate::group::Group;
+use crate::hash::Hash;
 use crate::index_tables::IndexTables;
 use crate::notes::Notes;
 use crate::relocs::Relocs;
@@ -136,6 +138,16 @@ impl<'i, 'a> Tables<'i, 'a> {
         ensures { result ≡ dynamic_array_of (sections_of self.now.image) i }
     {
         Dynamic::of_sound(self.image, i)
+    }
+
+    /// The hash table in section `i`, under the same conditions.
+    pub fn hash(&self, i: usize) -> Hash<'a>
+        requires there { i < length self.now.image.sections }
+        requires typed { kind_of (section (sections_of self.now.image) i).sh_type ≡ Some kind.HashTable }
+        requires sound { get_or self.now.verdicts i None ≡ None }
+        ensures { result ≡ hash_of_section (sections_of self.now.image) i }
+    {
+        Hash::of_sound(self.image, i)
     }
 
     /// The string table of the dynamic array in section `i`, under the same conditions: the one that it links to.

@@ -4,7 +4,8 @@ ghost use Rattle.elf_rules.specs.Broken.{fault_of};
 ghost use Rattle.elf_rules.specs.Rows.{FirstIn};
 ghost use Rattle.elf_table.specs.IndexTable.{AreIndexTables};
 ghost use Rattle.elf_table.specs.GroupRules.{group_section_front, group_section_rules};
-ghost use Rattle.elf_table.specs.JudgedBehind.{IsJudgedBehind};
+ghost use Rattle.elf_table.specs.HashRules.{hash_table_front, hash_table_rules};
+ghost use Rattle.elf_table.specs.Judged.{IsJudgedBehind};
 ghost use Rattle.elf_table.specs.RelocationRules.{relocation_section_rules};
 ghost use Rattle.elf_table.specs.Sections.{section, sections_of};
 ghost use Rattle.elf_table.specs.SymbolRules.{symbol_table_rules};
@@ -16,6 +17,7 @@ ghost use Rattle.elf_table.specs.Verdict.{IsUnread, IsVerdictOf};
 
 use crate::dynamic::judge_dynamic_section;
 use crate::group_rules::judge_group;
+use crate::hash_rules::judge_hash;
 use crate::index_tables::IndexTables;
 use crate::note_rules::judge_note_section;
 use crate::own_rules::judge_own_rules;
@@ -92,7 +94,8 @@ fn table_verdict(
         Some(TableKind::SectionGroup) => verdict_of(group_verdict(alloc, image, i, symbols)),
         Some(TableKind::NoteSection) => Ok(judge_note_section(image, i)),
         Some(TableKind::DynamicArray) => Ok(judge_dynamic_section(image, i)),
-        _ => Ok(Ok(())),
+        Some(TableKind::HashTable) => verdict_of(hash_verdict(alloc, image, i, symbols)),
+        None => Ok(Ok(())),
     }
 }
 
@@ -128,6 +131,24 @@ fn group_verdict(
     judge_own_rules(image, i, TableKind::SectionGroup)?;
     linked_verdict(symbols, image.section(i).sh_link as usize)?;
     judge_group(alloc, image, i)
+}
+
+// The verdict on the hash table in section `i`, by those on the symbol tables.
+#[tactic(auto, unfolding(crate::specs::HashRules::hash_table_rules))]
+fn hash_verdict(
+    alloc: Global,
+    image: &Image<'_>,
+    i: usize,
+    symbols: &[Result<(), Broken>],
+) -> Result<(), Fault>
+    requires there { i < length image.now.sections }
+    requires symbols { AreSymbolVerdicts (sections_of image.now) (length image.now.sections) (map fault_of symbols.now) }
+    ensures { let f = sections_of image.now in
+        IsJudgedBehind (hash_table_front f i) (hash_table_rules f i) (λ _. Unit {0}) result }
+{
+    judge_own_rules(image, i, TableKind::HashTable)?;
+    linked_verdict(symbols, image.section(i).sh_link as usize)?;
+    judge_hash(alloc, image, i)
 }
 
 // A judgement as a verdict; want of memory apart.

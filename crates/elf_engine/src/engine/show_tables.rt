@@ -1,7 +1,7 @@
 //! The lines of `show` on the tables that a file holds.
 ghost use Rattle.std.specs.Prelude.{◌≡◌, ◌<◌, None, Some, get_or, length};
 ghost use Rattle.elf_engine.specs.Output.{IsBuffered};
-ghost use Rattle.elf_engine.specs.TableLines.{all_table_lines, group_line, note_lines, table_refused_line, table_text};
+ghost use Rattle.elf_engine.specs.TableLines.{all_table_lines, group_line, hash_line, note_lines, table_refused_line, table_text};
 ghost use Rattle.elf_table.specs.declared.table_kind.TableKind.TheVariants as kind;
 ghost use Rattle.elf_table.specs.Groups.{group_of};
 ghost use Rattle.elf_table.specs.Sections.{section, sections_of};
@@ -12,12 +12,12 @@ use super::lines::{Lines, show_lines};
 use super::output::Output;
 use crate::fault::ToolFault;
 use crate::table_lines::{
-    push_dynamic_line, push_group_line, push_note_line, push_relocation_line, push_symbol_line,
-    push_table_refused_line,
+    push_dynamic_line, push_group_line, push_hash_line, push_note_line, push_relocation_line,
+    push_symbol_line, push_table_refused_line,
 };
 use elf_image::Image;
 use elf_rules::Broken;
-use elf_table::{Dynamic, Notes, Relocs, Symbols, TableKind, Tables};
+use elf_table::{Dynamic, Hash, Notes, Relocs, Symbols, TableKind, Tables};
 use std::alloc::{AllocError, Global};
 use std::io::Write;
 
@@ -82,8 +82,23 @@ fn show_table<W: Write>(
             };
             show_lines(alloc, &lines, output, writer)
         }
-        _ => Ok(()),
+        Some(TableKind::HashTable) => show_hash(i, &tables.hash(i), output, writer),
+        None => Ok(()),
     }
+}
+
+// The line of the hash table in section `i`.
+fn show_hash<W: Write>(
+    i: usize,
+    hash: &Hash<'_>,
+    output: &mut Output,
+    writer: &mut W,
+) -> Result<(), ToolFault>
+    ensures { IsBuffered (W.contents writer.old) (W.contents writer.new) output.old output.new
+        (hash_line i hash.now.words) result }
+{
+    push_hash_line(&mut output.pending, i, hash)?;
+    output.flush_piece(writer)
 }
 
 // The line of the group in section `i`.

@@ -3,13 +3,13 @@ use Rattle.elf_rules.proofs.Public.{FirstIn-later, FirstIn-sooner}
 use Rattle.elf_table.specs.GroupRules.{group_member_rules, group_rules}
 use Rattle.elf_table.specs.Sections.{sections_of}
 use Rattle.elf_table.proofs.GroupMembers.{no_wrong_member, wrong_member_row}
-use Rattle.elf_table.proofs.JudgedBehindLemmas.{behind_stop}
+use Rattle.elf_table.proofs.JudgedLemmas.{judged_handed}
 use Rattle.elf_table.proofs.group_rules.judge_group.Goals as goal
 
 pub returns-in_err-judge_group_front : goal.returns-in_err-judge_group_front
 unfolding group_rules
 returns-in_err-judge_group_front c =
-    behind_stop _ _ _ _ _ (FirstIn-sooner _ _ _ c.in_err-judge_group_front.ensures) c.from_residual.ensures.1
+    judged_handed _ _ _ _ _ (FirstIn-sooner _ _ _ c.in_err-judge_group_front.ensures) c.from_residual.ensures.1
 
 pub returns-in-Some : goal.returns-in-Some
 unfolding group_rules group_member_rules

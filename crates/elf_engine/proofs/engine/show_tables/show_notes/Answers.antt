@@ -24,10 +24,12 @@ loop-note-preserved g c =
     let x = note_value c.in-Some.note in
     let split = sym c.in-Some.ensures.steps ∙ left in
     let within = some_left c.args.notes.now n x c.next.new.self split in
-    let is = ap (note_line c.args.i) (first_left c.args.notes.now n x c.next.new.self split) in
-    (n + 1, line_buffered (note_line c.args.i) c.args.notes.now n x within _ _ _ _ (note_line c.args.i x) sent is
-    _ (record { pending = c.push_note_line.new.text; written = c.loop-note.output.written }) _ c.in_ok-push_note_line.ensures refl c.in_ok-flush_piece.ensures.buffered,
-    still_left c.args.notes.now n x c.next.new.self split)
+    let is = ap (note_line c.args.i) (first_left c.args.notes.now n x c.next.new.self split) in (
+      n + 1,
+      line_buffered (note_line c.args.i) c.args.notes.now n x within _ _ _ _ (note_line c.args.i x) sent is
+          _ (record { pending = c.push_note_line.new.text; written = c.loop-note.output.written }) _ c.in_ok-push_note_line.ensures refl c.in_ok-flush_piece.ensures.buffered,
+      still_left c.args.notes.now n x c.next.new.self split,
+    )
 
 pub returns-in_err-flush_piece : goal.returns-in_err-flush_piece
 unfolding note_lines
