@@ -6,6 +6,8 @@ mod dynamic;
 #[cfg(test)]
 mod groups;
 #[cfg(test)]
+mod hashes;
+#[cfg(test)]
 mod notes;
 #[cfg(test)]
 mod symbols;
