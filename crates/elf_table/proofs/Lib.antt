@@ -13,3 +13,5 @@ pub mod ChainDepthLemmas
 pub mod JudgedLemmas
 pub mod ChainsDecided
 pub mod ProbeLemmas
+pub mod ThreadLemmas
+pub mod BuiltLemmas

@@ -15,6 +15,7 @@
 
 mod dynamic;
 mod hash;
+mod hash_building;
 mod hash_chains;
 mod hash_parts;
 mod hash_rules;
@@ -37,6 +38,7 @@ mod tables;
 
 pub use dynamic::{Dynamic, DynamicIter};
 pub use hash::{Hash, HashIter};
+pub use hash_building::{HashFault, build_hash};
 pub use laws::{entries_in_file, one_table_fault, sections_of_bytes};
 pub use name_hash::elf_hash;
 pub use relocation::Relocation;
