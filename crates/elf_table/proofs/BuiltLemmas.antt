@@ -1,10 +1,10 @@
 -- The words of a hash table as its chains are made.
-use Rattle.std.proofs.Common.{◌≡◌, ◌≢◌, ℕ, ◌+◌, ◌%◌, ◌<◌, ◌≤◌, ◌⊎◌, List, length, get_or, set, inl, inr, refl, sym, ap, subst, ◌∙◌, arith, get_or-set_other, get_or-set_same}
+use Rattle.std.proofs.Common.{◌≡◌, ◌≢◌, ℕ, ◌+◌, ◌%◌, ◌<◌, ◌≤◌, List, length, get_or, set, inl, inr, refl, sym, ap, subst, ◌∙◌, arith, get_or-set_other, get_or-set_same}
 use Rattle.std.proofs.Math.Nat.{mod-lt}
 use Rattle.std.proofs.lemmas.List.{length-set}
 use Rattle.elf_table.specs.ElfHash.{hash_of}
 use Rattle.elf_table.specs.HashBuilt.{IsBuilt, MAX_HASH}
-use Rattle.elf_table.specs.HashTable.{Valid, bucket, chain, name_of, nbucket, nchain}
+use Rattle.elf_table.specs.HashTable.{bucket, chain, name_of, nbucket, nchain}
 use Rattle.elf_table.specs.HashThreads.{AreThreaded, IsThreaded, home_of, threaded}
 use Rattle.elf_table.proofs.ThreadLemmas.{ascending_ends, threaded_more, threaded_none, threaded_on}
 

@@ -1,4 +1,4 @@
-use Rattle.std.proofs.Common.{◌≡◌, ◌+◌, ◌≤◌, List, length, map}
+use Rattle.std.proofs.Common.{◌≡◌, ◌≤◌, length, map}
 use Rattle.elf_table.specs.HashTable.{nbucket, nchain}
 use Rattle.elf_table.specs.HashThreads.{IsThreaded}
 use Rattle.elf_table.proofs.hash_building.thread_symbols.Given as goal
