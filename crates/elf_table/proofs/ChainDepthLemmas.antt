@@ -4,7 +4,7 @@ use Rattle.std.proofs.lemmas.Bool.{cases_eq, cases_lt}
 use Rattle.std.proofs.lemmas.List.{length-set}
 use Rattle.elf_table.specs.ChainDepths.{AreDepths, AreJumps, AreSeen, IsIn, IsKnown, Leads}
 use Rattle.elf_table.specs.Chains.{Ends, IsChain, IsOn, IsPath}
-use Rattle.elf_table.proofs.ChainLemmas.{chain_of_on, chain_short, endless, no_circle, on_from_path, one_chain, path_append, path_at}
+use Rattle.elf_table.proofs.ChainLemmas.{chain_of_on, chain_short, endless, no_circle, one_chain, path_append, path_at}
 
 -- 0 has no chain
 pub zero_depth : (next : ℕ → ℕ) (m : ℕ) (depth : List ℕ) → AreDepths next m depth → get_or depth 0 0 ≡ 0

@@ -1,5 +1,5 @@
 -- Whether a chain ends, and whether a symbol is on it, is settled one way or the other: chains are short.
-use Rattle.std.proofs.Common.{◌≡◌, ◌≢◌, ℕ, ◌+◌, ◌<◌, ◌⊎◌, zero, suc, List, [], ◌∷◌, ◌++◌, length, inl, inr, refl, sym, ap, subst, ◌∙◌, arith, length-append}
+use Rattle.std.proofs.Common.{◌≡◌, ℕ, ◌<◌, ◌⊎◌, zero, suc, List, [], ◌∷◌, ◌++◌, length, inl, inr, refl, ap, subst, arith, length-append}
 use Rattle.std.proofs.lemmas.Bool.{cases_eq}
 use Rattle.elf_table.specs.ChainDepths.{IsIn}
 use Rattle.elf_table.specs.Chains.{Ends, IsChain, IsOn, IsPath}

@@ -1,22 +1,16 @@
 -- The entries of a dynamic section, by index, and where the dynamic array ends.
-use Rattle.std.proofs.Common.{◌≡◌, ℕ, ◌<◌, ◌≤◌, true, false, Option, None, Some, List, length, get_or, inl, inr, refl, sym, subst, ◌∙◌, ap, take, arith, zero-add}
-use Rattle.std.specs.List.{position_or_len, range_with_len}
-use Rattle.std.proofs.lemmas.Bool.{cases_eq, cases_lt, false_from_ne_true}
+use Rattle.std.proofs.Common.{◌≡◌, ℕ, ◌<◌, ◌≤◌, true, false, Option, None, Some, List, length, get_or, inl, inr, sym, ◌∙◌, ap, take, arith, zero-add}
+use Rattle.std.specs.List.{position_or_len}
+use Rattle.std.proofs.lemmas.Bool.{cases_lt, false_from_ne_true}
 use Rattle.std.proofs.lemmas.Bool.Decides.{Decides-int_eq}
 use Rattle.std.proofs.lemmas.List.FromFn.{get_or-map-range_with_len, length-map-range_with_len, take-map-range_with_len}
 use Rattle.std.proofs.lemmas.List.Sums.{position_or_len_is}
 use Rattle.elf_extent.specs.Least.{IsLowest}
 use Rattle.elf_field.specs.Abi.{DT_NULL}
-use Rattle.elf_field.specs.declared.dynamic.Dyn.{Dyn}
 use Rattle.elf_field.specs.declared.order.Order.{Order}
-use Rattle.elf_rules.specs.Rows.{AtEntry, FirstIn}
-use Rattle.elf_rules.proofs.Public.{FirstIn-behind}
-use Rattle.elf_table.specs.declared.table_kind.TableKind.TheVariants.{DynamicArray}
+use Rattle.elf_rules.specs.Rows.{AtEntry}
 use Rattle.elf_table.specs.DynamicArray.{IsNull, dynamic_array_of, dynamic_entries, dynamic_entry, dynamic_entry_count, is_null, no_dynamic_entry}
-use Rattle.elf_table.specs.DynamicRules.{dynamic_rules, dynamic_section_rules}
-use Rattle.elf_table.specs.OwnRules.{own_rules}
-use Rattle.elf_table.specs.Sections.{Sections, content, order, section}
-use Rattle.elf_table.specs.StringRules.{linked_string_rules}
+use Rattle.elf_table.specs.Sections.{Sections, content, order}
 
 pub length_dynamic : (o : Order) (table : List ℕ) (n : ℕ) → length (dynamic_entries o table n) ≡ n
 unfolding dynamic_entries

@@ -1,10 +1,9 @@
 -- What the rules of a hash table say of one that breaks none of them.
-use Rattle.std.proofs.Common.{◌≡◌, ◌≢◌, ℕ, ◌+◌, ◌*◌, ◌/◌, ◌%◌, ◌<◌, ◌≤◌, None, List, [], ◌∷◌, ◌++◌, length, get_or, inl, inr, refl, sym, ap, subst, ◌∙◌, arith}
-use Rattle.std.specs.Prelude.{◌==◌, ◌||◌}
+use Rattle.std.proofs.Common.{◌≡◌, ◌≢◌, ℕ, ◌+◌, ◌*◌, ◌%◌, ◌<◌, None, length, get_or, inl, inr, refl, sym, subst, arith}
 use Rattle.std.proofs.Math.Nat.{mod-lt}
 use Rattle.std.proofs.lemmas.Bool.{cases_eq, cases_lt}
 use Rattle.elf_extent.specs.Least.{Never}
-use Rattle.elf_field.specs.Abi.{SHT_HASH, SHT_NOBITS, SHT_NULL, WORD_SIZE}
+use Rattle.elf_field.specs.Abi.{SHT_HASH, WORD_SIZE}
 use Rattle.elf_field.specs.declared.shdr.Shdr.{Shdr}
 use Rattle.elf_rules.specs.Rows.{FirstIn}
 use Rattle.elf_rules.specs.Tables.{content_extent}

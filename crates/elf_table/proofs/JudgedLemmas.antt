@@ -1,5 +1,5 @@
 -- What is answered of a list of rules whose last ones take memory, run by run.
-use Rattle.std.proofs.Common.{◌≡◌, ℕ, None, Some, List, ◌++◌, Result, Ok, Err, refl, sym, subst}
+use Rattle.std.proofs.Common.{◌≡◌, None, Some, List, ◌++◌, Result, Ok, Err, sym, subst}
 use Rattle.std.specs.Result.{IsErrAnd}
 use Rattle.elf_image.specs.declared.fault.Fault.{Fault}
 use Rattle.elf_image.specs.declared.fault.Fault.TheVariants.{Io, OutOfMemory, Rule}

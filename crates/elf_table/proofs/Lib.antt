@@ -18,3 +18,5 @@ pub mod ChainDepthLemmas
 pub mod JudgedLemmas
 pub mod ChainsDecided
 pub mod ProbeLemmas
+pub mod ThreadLemmas
+pub mod BuiltLemmas

@@ -1,9 +1,8 @@
 -- A look-up along a chain.
-use Rattle.std.proofs.Common.{◌≡◌, ◌≢◌, ℕ, ◌+◌, ◌%◌, ◌<◌, ◌⊎◌, Option, None, Some, List, [], ◌∷◌, ◌++◌, length, inl, inr, refl, sym, ap, subst, ◌∙◌, arith, length-append}
-use Rattle.std.specs.List.{AllByRecursion}
+use Rattle.std.proofs.Common.{◌≡◌, ◌≢◌, ℕ, ◌+◌, ◌%◌, ◌<◌, Option, None, Some, List, [], ◌∷◌, ◌++◌, length, refl, ap, subst, arith, length-append}
 use Rattle.std.specs.Option.{IsSome}
 use Rattle.std.proofs.Math.Nat.{mod-lt}
-use Rattle.elf_table.specs.Chains.{Ends, IsChain, IsOn, IsPath}
+use Rattle.elf_table.specs.Chains.{Ends, IsChain, IsPath}
 use Rattle.elf_table.specs.ElfHash.{hash_of}
 use Rattle.elf_table.specs.HashTable.{Valid, bucket_of, chain, name_of, nbucket, nchain}
 use Rattle.elf_table.specs.Probe.{HashValue, IsNamed, IsProbed, NoneNamed}

@@ -1,6 +1,6 @@
 -- What the rules of a hash table look at, beside its own section header: its words, and the names of the symbols of the symbol
 -- table that it links to. (gABI chapter 5, Hash Table.)
-use Rattle.std.specs.Prelude.{◌≡◌, ℕ, ◌+◌, ◌*◌, ◌/◌, ◌<◌, ◌≤◌, length}
+use Rattle.std.specs.Prelude.{◌≡◌, ℕ, ◌+◌, ◌/◌, ◌<◌, ◌≤◌, length}
 use Rattle.elf_field.specs.Abi.{SHDR_SIZE, WORD_SIZE}
 use Rattle.elf_rules.specs.HeaderRules.{MAX_LEN}
 use Rattle.elf_table.specs.declared.hash_parts.HashParts.{HashParts}

@@ -30,6 +30,8 @@ pub mod WordLists
 pub mod HashParts
 pub mod HashRules
 pub mod Probe
+pub mod HashBuilt
+pub mod HashThreads
 pub mod HashView
 pub mod HashLeft
 pub mod TableRules

@@ -1,4 +1,4 @@
-use Rattle.std.proofs.Common.{◌≡◌, ℕ, ◌+◌, ◌*◌, ◌<◌, ◌≤◌, List, Option, None, Some, length, inl, inr, refl, subst, arith}
+use Rattle.std.proofs.Common.{◌≡◌, ℕ, ◌+◌, ◌*◌, ◌<◌, ◌≤◌, List, Option, None, Some, length, inl, inr, refl, arith}
 use Rattle.elf_extent.specs.Least.{IsLowest, Never}
 use Rattle.elf_field.specs.Abi.{D_UN_AT, DYN_SIZE}
 use Rattle.elf_field.specs.declared.order.Order.{Order}

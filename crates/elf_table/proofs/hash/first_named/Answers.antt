@@ -1,7 +1,7 @@
-use Rattle.std.proofs.Common.{◌≡◌, ◌≢◌, ℕ, ◌+◌, ◌-◌, ◌<◌, List, [], ◌∷◌, ◌++◌, length, refl, sym, ap, ◌∙◌, arith, length-append, subst}
+use Rattle.std.proofs.Common.{◌≡◌, ℕ, ◌+◌, ◌<◌, List, [], ◌∷◌, ◌++◌, length, refl, sym, ap, ◌∙◌, arith, length-append}
 use Rattle.std.specs.Cmp.Lexicographic.{bytes_decides}
 use Rattle.std.proofs.lemmas.Bool.{false≢true}
-use Rattle.elf_table.specs.HashTable.{chain, nchain}
+use Rattle.elf_table.specs.HashTable.{chain}
 use Rattle.elf_table.proofs.ChainLemmas.{path_append, path_push}
 use Rattle.elf_table.proofs.ProbeLemmas.{left_at, looked_short, none_more}
 use Rattle.elf_table.proofs.hash.first_named.Goals as goal

@@ -1,4 +1,3 @@
-use Rattle.std.proofs.Common.{refl}
 use Rattle.elf_table.proofs.ChainDepthLemmas.{seen_more, seen_twice}
 use Rattle.elf_table.proofs.ChainLemmas.{path_push}
 use Rattle.elf_table.proofs.hash_chains.climb.Goals as goal

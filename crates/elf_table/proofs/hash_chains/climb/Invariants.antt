@@ -1,4 +1,4 @@
-use Rattle.std.proofs.Common.{ℕ, ◌<◌, Bool, cond}
+use Rattle.std.proofs.Common.{◌<◌, Bool, cond}
 use Rattle.std.specs.List.{sum_by}
 use Rattle.elf_table.specs.ChainDepths.{AreSeen}
 use Rattle.elf_table.specs.Chains.{IsPath}

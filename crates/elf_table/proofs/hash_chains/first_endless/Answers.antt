@@ -1,4 +1,4 @@
-use Rattle.std.proofs.Common.{◌<◌, ◌≤◌, inl, inr, arith}
+use Rattle.std.proofs.Common.{inl, inr, arith}
 use Rattle.std.proofs.lemmas.Bool.{cases_lt}
 use Rattle.elf_table.proofs.ChainDepthLemmas.{known_ends}
 use Rattle.elf_table.proofs.hash_chains.first_endless.Goals as goal

@@ -1,4 +1,4 @@
-use Rattle.std.proofs.Common.{◌≡◌, ◌≢◌, ℕ, ◌<◌, ◌≤◌, get_or, ap, eq-eqb, subst, sym, ◌∙◌, arith}
+use Rattle.std.proofs.Common.{◌≢◌, get_or, ap, eq-eqb, subst, arith}
 use Rattle.std.proofs.lemmas.Bool.{eqb-true, false≢true}
 use Rattle.elf_table.specs.ChainDepths.{Leads}
 use Rattle.elf_table.specs.Chains.{Ends}

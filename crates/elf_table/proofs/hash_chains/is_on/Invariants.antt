@@ -1,4 +1,4 @@
-use Rattle.std.proofs.Common.{ℕ, ◌<◌, get_or}
+use Rattle.std.proofs.Common.{◌<◌, get_or}
 use Rattle.elf_table.specs.ChainDepths.{IsKnown, Leads}
 use Rattle.elf_table.specs.Chains.{IsOn}
 use Rattle.elf_table.specs.HashTable.{chain, nchain}

@@ -1,5 +1,4 @@
-use Rattle.std.proofs.Common.{◌≡◌, ◌≢◌, ℕ, ◌+◌, ◌<◌, [], ◌∷◌, get_or, ap, refl, sym, arith}
-use Rattle.elf_table.specs.HashTable.{chain}
+use Rattle.std.proofs.Common.{◌≢◌, [], ◌∷◌, get_or, ap, refl, arith}
 use Rattle.elf_table.proofs.ChainDepthLemmas.{next_depth, zero_depth}
 use Rattle.elf_table.proofs.hash_chains.leap.Goals as goal
 

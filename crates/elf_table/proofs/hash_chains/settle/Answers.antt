@@ -1,7 +1,7 @@
-use Rattle.std.proofs.Common.{◌≡◌, ◌≢◌, ℕ, ◌+◌, ◌<◌, ◌⊎◌, List, [], ◌∷◌, ◌++◌, length, get_or, set, inl, inr, refl, sym, subst, ap, ◌∙◌, arith, get_or-set_same}
+use Rattle.std.proofs.Common.{◌≡◌, ◌≢◌, ℕ, ◌+◌, ◌<◌, ◌⊎◌, List, [], ◌∷◌, ◌++◌, length, get_or, set, inl, inr, refl, subst, arith, get_or-set_same}
 use Rattle.elf_table.specs.ChainDepths.{IsIn}
 use Rattle.elf_table.specs.Chains.{IsPath}
-use Rattle.elf_table.specs.HashTable.{chain, nchain}
+use Rattle.elf_table.specs.HashTable.{chain}
 use Rattle.elf_table.proofs.ChainLemmas.{end_below, path_last}
 use Rattle.elf_table.proofs.ChainDepthLemmas.{deep_more, depths_more, in_push, jumps_more}
 use Rattle.elf_table.proofs.hash_chains.settle.Goals as goal

@@ -1,5 +1,5 @@
-use Rattle.std.proofs.Common.{◌≡◌, ℕ, ◌+◌, ◌*◌, ◌<◌, ◌≤◌, None, Some, inl, inr, refl, arith}
-use Rattle.elf_extent.specs.Least.{IsLeast, IsLowest, Never}
+use Rattle.std.proofs.Common.{ℕ, inl, inr, refl, arith}
+use Rattle.elf_extent.specs.Least.{IsLeast, Never}
 use Rattle.elf_table.specs.declared.hash_parts.HashParts.{HashParts}
 use Rattle.elf_table.specs.Below.{Below}
 use Rattle.elf_table.specs.Chains.{Ends}

@@ -1,9 +1,5 @@
-use Rattle.std.proofs.Common.{Some, None, subst}
-use Rattle.elf_rules.specs.Broken.{fault_of}
-use Rattle.elf_rules.specs.Rows.{FirstIn}
 use Rattle.elf_rules.proofs.Public.{FirstIn-later}
-use Rattle.elf_table.specs.declared.hash_parts.HashParts.{HashParts}
-use Rattle.elf_table.specs.HashRules.{chain_rules, hash_rules, word_rules}
+use Rattle.elf_table.specs.HashRules.{hash_rules}
 use Rattle.elf_table.proofs.JudgedLemmas.{judged_handed, judged_stop}
 use Rattle.elf_table.proofs.hash_rules.judge_hash.Goals as goal
 

@@ -1,4 +1,4 @@
-use Rattle.std.proofs.Common.{◌≡◌, ℕ, ◌<◌, inl, inr, subst, sym, arith}
+use Rattle.std.proofs.Common.{◌≡◌, inl, inr, subst, arith}
 use Rattle.std.proofs.lemmas.Bool.{cases_lt}
 use Rattle.elf_table.specs.Chains.{IsOn}
 use Rattle.elf_table.specs.HashTable.{bucket_of, chain, name_of}

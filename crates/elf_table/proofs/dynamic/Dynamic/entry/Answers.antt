@@ -1,5 +1,4 @@
-use Rattle.std.proofs.Common.{◌<◌, sym, arith}
-use Rattle.elf_table.specs.DynamicArray.{dynamic_entry_count}
+use Rattle.std.proofs.Common.{sym, arith}
 use Rattle.elf_table.proofs.DynamicLists.{dynamic_get, length_dynamic}
 use Rattle.elf_table.proofs.dynamic.Dynamic.entry.Goals as goal
 

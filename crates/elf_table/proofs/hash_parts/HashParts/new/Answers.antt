@@ -1,10 +1,9 @@
-use Rattle.std.proofs.Common.{◌≡◌, inl, inr, ℕ, ◌+◌, ◌/◌, ◌<◌, ◌≤◌, List, length, refl, sym, ap, ◌∙◌, arith}
+use Rattle.std.proofs.Common.{inl, inr, ℕ, ◌+◌, ◌/◌, ◌<◌, ◌≤◌, List, length, refl, ap, ◌∙◌, arith}
 use Rattle.std.proofs.lemmas.Bool.{cases_lt}
 use Rattle.elf_field.specs.Abi.{WORD_SIZE}
 use Rattle.elf_field.specs.declared.order.Order.{Order}
 use Rattle.elf_table.specs.Sections.{section, sections_of}
-use Rattle.elf_table.specs.SymbolRules.{entry_count}
-use Rattle.elf_table.specs.WordLists.{names_in, words_in}
+use Rattle.elf_table.specs.WordLists.{names_in}
 use Rattle.elf_table.proofs.HashSound.{hash_content, hash_link, hash_type, names_of_section}
 use Rattle.elf_table.proofs.SymbolLists.{sound_link}
 use Rattle.elf_table.proofs.WordListLemmas.{length_names, length_words}
