@@ -1,5 +1,5 @@
 -- What an iterator has left of a list, when so many of its elements are taken.
-use Rattle.std.proofs.Common.{◌≡◌, ◌∙◌, ℕ, ◌+◌, ◌-◌, ◌<◌, ◌≤◌, List, [], ◌∷◌, length, drop, get_or, ap, arith, length-drop}
+use Rattle.std.proofs.Common.{◌≡◌, ◌∙◌, ℕ, ◌+◌, ◌<◌, ◌≤◌, List, [], ◌∷◌, length, drop, get_or, ap, arith, length-drop}
 use Rattle.std.proofs.lemmas.List.{drop_more}
 
 module _ {X : Type 0} (xs : List X) (n : ℕ) where

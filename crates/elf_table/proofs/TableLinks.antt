@@ -1,5 +1,5 @@
 -- The tables that other tables link to, where these break no rule.
-use Rattle.std.proofs.Common.{◌≡◌, ℕ, ◌<◌, ◌≤◌, Option, None, Some, List, length, get_or, inl, inr, refl, sym, subst, arith}
+use Rattle.std.proofs.Common.{◌≡◌, ℕ, ◌<◌, Option, None, Some, List, length, get_or, inl, inr, refl, sym, subst}
 use Rattle.std.proofs.lemmas.Bool.{cases_eq, cases_lt}
 use Rattle.elf_field.specs.Abi.{SHT_SYMTAB}
 use Rattle.elf_rules.specs.Rows.{FirstIn}
@@ -16,7 +16,7 @@ use Rattle.elf_table.specs.TableKind.{kind_of}
 use Rattle.elf_table.specs.TableRules.{rules_of, table_rules}
 use Rattle.elf_table.specs.TableVerdicts.{AreVerdicts}
 use Rattle.elf_table.proofs.SymbolLists.{length_symbols}
-use Rattle.elf_table.proofs.TableKinds.{kind_asked, symbols_kind}
+use Rattle.elf_table.proofs.TableKinds.{symbols_kind}
 
 -- the verdict on a table that breaks no rule is None
 pub none_kept : (f : Sections) (i : ℕ) (kind : Option TableKind) (verdicts : List (Option (ℕ × ℕ))) → AreVerdicts f (count f) verdicts → i < count f →

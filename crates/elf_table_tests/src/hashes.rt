@@ -1,7 +1,7 @@
 //! Hash tables: of three names.
 use elf_field::Order;
 use elf_image::{Fault, parse};
-use elf_table::{Hash, elf_hash};
+use elf_table::{Hash, HashFault, build_hash, elf_hash};
 use elf_test_files::{Field, set, set_header};
 use std::alloc::Global;
 use std::test::Fail;
@@ -122,5 +122,33 @@ fn tells_the_first_rule_that_a_hash_table_breaks(rt: HostRuntime) -> Result<(), 
         };
         assert_eq!(rt; verdict_of(rt.alloc(), &file), Err(fault));
     }
+    Ok(())
+}
+
+#[test]
+fn builds_a_hash_table(rt: HostRuntime) -> Result<(), Fail> {
+    let names: [&[u8]; 4] = [b"", b"printf", b"exit", b"a"];
+    let words = build_hash(rt.alloc(), &names, 2)?;
+    assert_eq!(rt; words.as_slice(), [2, 4, 1, 3, 0, 2, 0, 0].as_slice());
+    let none: [&[u8]; 1] = [b""];
+    assert_eq!(rt;
+        build_hash(rt.alloc(), &none, 1)?.as_slice(),
+        [1, 1, 0, 0].as_slice()
+    );
+    Ok(())
+}
+
+#[test]
+fn builds_none_without_a_bucket_or_of_too_many(rt: HostRuntime) -> Result<(), Fail> {
+    let none: [&[u8]; 1] = [b""];
+    assert_eq!(rt;
+        build_hash(rt.alloc(), &none, 0).err(),
+        Some(HashFault::NoBuckets)
+    );
+    let many = 0x0100_0001;
+    assert_eq!(rt;
+        build_hash(rt.alloc(), &none, many).err(),
+        Some(HashFault::TooMany)
+    );
     Ok(())
 }

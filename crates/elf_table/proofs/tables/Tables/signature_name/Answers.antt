@@ -1,5 +1,5 @@
-use Rattle.std.proofs.Common.{None, Some, ap, ◌∙◌}
-use Rattle.elf_table.specs.declared.table_kind.TableKind.TheVariants.{SectionGroup, SymbolTable}
+use Rattle.std.proofs.Common.{None, Some}
+use Rattle.elf_table.specs.declared.table_kind.TableKind.TheVariants.{SymbolTable}
 use Rattle.elf_table.specs.Sections.{sections_of}
 use Rattle.elf_table.proofs.TableKinds.{kind_asked}
 use Rattle.elf_table.proofs.TableLinks.{group_link, group_signature, group_symbols, group_symbols_sound, none_kept}
