@@ -23,7 +23,6 @@ pub(crate) fn first_endless(
     stack: &mut Vec<u32>,
 ) -> Result<Option<u32>, AllocError>
     requires linked { IsLinked words.now }
-    requires some { 0 < nchain words.now }
     requires depths { AreDepths (chain words.now) (nchain words.now) depth.old }
     requires jumps { AreJumps (chain words.now) (nchain words.now) jump.old }
     requires seen { AreSeen (nchain words.now) depth.old [] seen.old }

@@ -60,7 +60,6 @@ fn judge_chains(alloc: Global, parts: &HashParts<'_>) -> Result<Result<(), Broke
     requires inside { IsInside parts.now }
     requires some_bucket { nbucket parts.now.words ≢ 0 }
     requires one_each { nchain parts.now.words ≡ length parts.now.names }
-    requires some { 0 < nchain parts.now.words }
     requires linked { IsLinked parts.now.words }
     ensures { IfOk result (λ verdict. FirstIn (chain_rules parts.now) (fault_of verdict)) }
 {
