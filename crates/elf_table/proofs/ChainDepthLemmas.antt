@@ -2,7 +2,7 @@
 use Rattle.std.proofs.Common.{◌≡◌, ◌≢◌, ℕ, ◌+◌, ◌<◌, ◌≤◌, ◌⊎◌, Bool, true, false, List, [], ◌∷◌, ◌++◌, length, get_or, set, inl, inr, refl, sym, ap, subst, ◌∙◌, arith, append_assoc, length-append, get_or-set_other, get_or-set_same}
 use Rattle.std.proofs.lemmas.Bool.{cases_eq, cases_lt}
 use Rattle.std.proofs.lemmas.List.{length-set}
-use Rattle.elf_table.specs.ChainDepths.{AreDepths, AreJumps, AreSeen, IsIn, IsKnown, Leads}
+use Rattle.elf_table.specs.ChainDepths.{AreDepths, AreJumps, AreSeen, AreStarts, IsIn, IsKnown, Leads}
 use Rattle.elf_table.specs.Chains.{Ends, IsChain, IsOn, IsPath}
 use Rattle.elf_table.proofs.ChainLemmas.{chain_of_on, chain_short, endless, no_circle, one_chain, path_append, path_at}
 
@@ -153,6 +153,18 @@ jumps_more next m jump a s far are (xs, path) below leads some within = let insi
     | inr other ↦ rw get_or-set_other (are.right t lt)
   ];
 }
+
+-- and it is met from where its path begins
+pub starts_more : (next : ℕ → ℕ) (m : ℕ) (depth starts : List ℕ) (a d start : ℕ) → AreStarts next m depth starts → Leads next start a → a < m → AreStarts next m (set depth a (d + 1)) (set starts a start)
+starts_more next m depth starts a d start are leads within =
+    let inside : a < length starts = (let long = are.long in omega arith) in
+    record {
+      long = length-set starts a start ∙ are.long;
+      right = λ t deep. elim (cases_eq t a) [
+        | inl same ↦ rw same (rw get_or-set_same leads)
+        | inr other ↦ (let old = rw get_or-set_other at deep in rw get_or-set_other (are.right t old))
+      ];
+    }
 
 pub leads_join : (next : ℕ → ℕ) (a b c : ℕ) → Leads next a b → Leads next b c → Leads next a c
 leads_join next a b c (xs, front) (ys, back) = (xs ++ ys, path_append next a b c xs ys front back)

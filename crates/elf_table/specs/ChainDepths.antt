@@ -23,6 +23,11 @@ pub record AreJumps (next : ℕ → ℕ) (m : ℕ) (jump : List ℕ) : Type 0 wh
   pub inside : (s : ℕ) → s < m → get_or jump s 0 < m
   pub right : (s : ℕ) → s < m → Leads next s (get_or jump s 0)
 
+-- each symbol with a depth is on the chain of the word that it was first met from
+pub record AreStarts (next : ℕ → ℕ) (m : ℕ) (depth starts : List ℕ) : Type 0 where
+  pub long : length starts ≡ m
+  pub right : (s : ℕ) → 0 < get_or depth s 0 → Leads next (get_or starts s 0) s
+
 -- s is among these symbols
 abbrev pub IsIn : List ℕ → ℕ → Type 0
 IsIn symbols s = (before after : List ℕ) × (symbols ≡ before ++ s ∷ after)

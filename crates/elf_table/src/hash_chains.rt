@@ -7,7 +7,7 @@ ghost use Rattle.std.specs.Prelude.{◌≡◌, ◌≢◌, ◌↔◌, ◌<◌, �
 ghost use Rattle.elf_extent.specs.Least.{IsLowest};
 ghost use Rattle.elf_rules.specs.HeaderRules.{MAX_LEN};
 ghost use Rattle.elf_table.specs.Below.{Below};
-ghost use Rattle.elf_table.specs.ChainDepths.{AreDepths, AreJumps, AreSeen, IsIn, IsKnown, Leads};
+ghost use Rattle.elf_table.specs.ChainDepths.{AreDepths, AreJumps, AreSeen, AreStarts, IsIn, IsKnown, Leads};
 ghost use Rattle.elf_table.specs.Chains.{Ends, IsOn, IsPath};
 ghost use Rattle.elf_table.specs.HashTable.{IsLinked, bucket, chain, nbucket, nchain};
 
@@ -19,24 +19,26 @@ pub(crate) fn first_endless(
     words: &HashWords<'_>,
     depth: &mut [u32],
     jump: &mut [u32],
+    starts: &mut [u32],
     seen: &mut [bool],
     stack: &mut Vec<u32>,
 ) -> Result<Option<u32>, AllocError>
     requires linked { IsLinked words.now }
-    requires some { 0 < nchain words.now }
     requires depths { AreDepths (chain words.now) (nchain words.now) depth.old }
     requires jumps { AreJumps (chain words.now) (nchain words.now) jump.old }
+    requires starts { AreStarts (chain words.now) (nchain words.now) depth.old starts.old }
     requires seen { AreSeen (nchain words.now) depth.old [] seen.old }
     requires empty { stack.old.items ≡ [] }
     ensures lowest { IfOk result (IsLowest (Below (nbucket words.now) (λ b. ¬ Ends (chain words.now) (bucket words.now b)))) }
     ensures depths { IfOk result (λ found. IfNone found (AreDepths (chain words.now) (nchain words.now) depth.new)) }
     ensures jumps { IfOk result (λ found. IfNone found (AreJumps (chain words.now) (nchain words.now) jump.new)) }
+    ensures starts { IfOk result (λ found. IfNone found (AreStarts (chain words.now) (nchain words.now) depth.new starts.new)) }
     ensures known { IfOk result (λ found. IfNone found ((b : ℕ) → b < nbucket words.now → IsKnown depth.new (bucket words.now b))) }
 {
     for b in 0..words.nbucket() {
         let start = words.bucket(b);
         match climb(words, start, depth, seen, stack)? {
-            Some(top) => settle(words, depth, jump, stack, start, top),
+            Some(top) => settle(words, depth, jump, starts, stack, start, top),
             None => return Ok(Some(b)),
         }
     }
@@ -80,6 +82,7 @@ fn settle(
     words: &HashWords<'_>,
     depth: &mut [u32],
     jump: &mut [u32],
+    starts: &mut [u32],
     stack: &mut Vec<u32>,
     start: u32,
     top: u32,
@@ -88,22 +91,24 @@ fn settle(
     requires start { start < nchain words.now }
     requires depths { AreDepths (chain words.now) (nchain words.now) depth.old }
     requires jumps { AreJumps (chain words.now) (nchain words.now) jump.old }
+    requires starts { AreStarts (chain words.now) (nchain words.now) depth.old starts.old }
     requires path { IsPath (chain words.now) start stack.old.items top }
     requires known { IsKnown depth.old top }
     requires inside { top < nchain words.now }
     ensures depths { AreDepths (chain words.now) (nchain words.now) depth.new }
     ensures jumps { AreJumps (chain words.now) (nchain words.now) jump.new }
+    ensures starts { AreStarts (chain words.now) (nchain words.now) depth.new starts.new }
     ensures kept { (s : ℕ) → 0 < get_or depth.old s 0 → 0 < get_or depth.new s 0 }
     ensures settled { (s : ℕ) → IsIn stack.old.items s → 0 < get_or depth.new s 0 }
     ensures start { IsKnown depth.new start }
     ensures empty { stack.new.items ≡ [] }
 {
-    let _ = start;
     let mut s = top;
     'steps: while let Some(above) = stack.pop() {
         let far = far_of(words, depth, jump, s);
         depth[above as usize] = one_more(words, depth, s);
         jump[above as usize] = far;
+        starts[above as usize] = start;
         s = above;
     }
 }
@@ -140,10 +145,18 @@ fn far_of(words: &HashWords<'_>, depth: &[u32], jump: &[u32], s: u32) -> u32
 }
 
 /// Whether symbol `s` is on the chain of `start`, whose length is known.
-pub(crate) fn is_on(words: &HashWords<'_>, depth: &[u32], jump: &[u32], start: u32, s: u32) -> bool
+pub(crate) fn is_on(
+    words: &HashWords<'_>,
+    depth: &[u32],
+    jump: &[u32],
+    starts: &[u32],
+    start: u32,
+    s: u32,
+) -> bool
     requires linked { IsLinked words.now }
     requires depths { AreDepths (chain words.now) (nchain words.now) depth.now }
     requires jumps { AreJumps (chain words.now) (nchain words.now) jump.now }
+    requires starts { AreStarts (chain words.now) (nchain words.now) depth.now starts.now }
     requires start { start < nchain words.now }
     requires known { IsKnown depth.now start }
     requires inside { s < nchain words.now }
@@ -152,6 +165,10 @@ pub(crate) fn is_on(words: &HashWords<'_>, depth: &[u32], jump: &[u32], start: u
     let deep = depth[s as usize];
     if deep == 0 {
         return false;
+    }
+    // Most symbols were first met from the bucket of their name.
+    if starts[s as usize] == start {
+        return true;
     }
     let mut here = start;
     'steps: while depth[here as usize] > deep {

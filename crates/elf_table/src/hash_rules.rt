@@ -3,7 +3,7 @@ ghost use Rattle.std.specs.Prelude.{◌≡◌, ◌≢◌, ◌<◌, ◌≤◌, �
 ghost use Rattle.elf_extent.specs.Least.{IsLowest};
 ghost use Rattle.elf_rules.specs.Broken.{fault_of};
 ghost use Rattle.elf_rules.specs.Rows.{FirstIn};
-ghost use Rattle.elf_table.specs.ChainDepths.{AreDepths, AreJumps, IsKnown};
+ghost use Rattle.elf_table.specs.ChainDepths.{AreDepths, AreJumps, AreStarts, IsKnown};
 ghost use Rattle.elf_table.specs.HashParts.{IsInside, hash_parts};
 ghost use Rattle.elf_table.specs.HashRules.{chain_rules, hash_rules, hash_table_front, hash_table_rules, symbol_off_chain, word_rules};
 ghost use Rattle.elf_table.specs.HashTable.{IsLinked, bucket, chain, nbucket, nchain};
@@ -60,7 +60,6 @@ fn judge_chains(alloc: Global, parts: &HashParts<'_>) -> Result<Result<(), Broke
     requires inside { IsInside parts.now }
     requires some_bucket { nbucket parts.now.words ≢ 0 }
     requires one_each { nchain parts.now.words ≡ length parts.now.names }
-    requires some { 0 < nchain parts.now.words }
     requires linked { IsLinked parts.now.words }
     ensures { IfOk result (λ verdict. FirstIn (chain_rules parts.now) (fault_of verdict)) }
 {
@@ -69,14 +68,23 @@ fn judge_chains(alloc: Global, parts: &HashParts<'_>) -> Result<Result<(), Broke
     let mut depth = Vec::new(alloc);
     depth.resize(symbols as usize, 0)?;
     let mut jump = numbers(alloc, symbols)?;
+    let mut starts = Vec::new(alloc);
+    starts.resize(symbols as usize, 0)?;
     let mut seen = Vec::new(alloc);
     seen.resize(symbols as usize, false)?;
     let mut stack = Vec::new(alloc);
-    if let Some(b) = first_endless(words, &mut depth, &mut jump, &mut seen, &mut stack)? {
+    if let Some(b) = first_endless(
+        words,
+        &mut depth,
+        &mut jump,
+        &mut starts,
+        &mut seen,
+        &mut stack,
+    )? {
         let at = parts.start + WORD_SIZE * (2 + b as u64);
         return Ok(Err(Broken::new(ENDLESS_CHAIN, at)));
     }
-    match lowest_off_chain(parts, &depth, &jump) {
+    match lowest_off_chain(parts, &depth, &jump, &starts) {
         Some(at) => Ok(Err(Broken::new(SYMBOL_OFF_CHAIN, at))),
         None => Ok(Ok(())),
     }
@@ -95,20 +103,26 @@ fn numbers(alloc: Global, n: u32) -> Result<Vec<u32>, AllocError>
 }
 
 // The lowest offset in the file of the chain word of a symbol from 1 on that is not on the chain of its name's bucket.
-fn lowest_off_chain(parts: &HashParts<'_>, depth: &[u32], jump: &[u32]) -> Option<u64>
+fn lowest_off_chain(
+    parts: &HashParts<'_>,
+    depth: &[u32],
+    jump: &[u32],
+    starts: &[u32],
+) -> Option<u64>
     requires inside { IsInside parts.now }
     requires some_bucket { nbucket parts.now.words ≢ 0 }
     requires one_each { nchain parts.now.words ≡ length parts.now.names }
     requires linked { IsLinked parts.now.words }
     requires depths { AreDepths (chain parts.now.words) (nchain parts.now.words) depth.now }
     requires jumps { AreJumps (chain parts.now.words) (nchain parts.now.words) jump.now }
+    requires starts { AreStarts (chain parts.now.words) (nchain parts.now.words) depth.now starts.now }
     requires known { (b : ℕ) → b < nbucket parts.now.words → IsKnown depth.now (bucket parts.now.words b) }
     ensures { IsLowest (symbol_off_chain parts.now) result }
 {
     let words = &parts.words;
     for s in 1..words.nchain() {
         let start = words.bucket_of(parts.names.get(s));
-        if !is_on(words, depth, jump, start, s) {
+        if !is_on(words, depth, jump, starts, start, s) {
             let before = 2 + words.nbucket() as u64 + s as u64;
             return Some(parts.start + WORD_SIZE * before);
         }

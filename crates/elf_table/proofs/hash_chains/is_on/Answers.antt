@@ -1,4 +1,4 @@
-use Rattle.std.proofs.Common.{◌≢◌, get_or, ap, eq-eqb, subst, arith}
+use Rattle.std.proofs.Common.{◌≢◌, get_or, ap, eq-eqb, subst, arith, ◌<◌, inr, refl}
 use Rattle.std.proofs.lemmas.Bool.{eqb-true, false≢true}
 use Rattle.elf_table.specs.ChainDepths.{Leads}
 use Rattle.elf_table.specs.Chains.{Ends}
@@ -14,6 +14,15 @@ returns-then-deep-eq0 c = (
       let none = c.if-deep-eq0.true in
       absurd (omega arith)),
 )
+
+pub returns-then-starts-s : goal.returns-then-starts-s
+returns-then-starts-s c =
+    let deep = c.if-deep-eq0.false in
+    let above : 0 < get_or c.args.depth.now c.args.s 0 = omega arith in
+    let none = zero_depth _ _ _ c.requires.depths in
+    let some : c.args.s ≢ 0 = λ is. (let depth = ap (λ k. get_or c.args.depth.now k 0) is in omega arith) in
+    let leads = subst (λ k. Leads (chain c.args.words.now) k c.args.s) c.if-starts-s.true (c.requires.starts.right c.args.s above) in
+    ((λ _. on_from_path _ c.args.start c.args.s leads.0 leads.1 some (known_ends _ _ _ c.args.s c.requires.depths (inr above))), λ _. refl)
 
 pub steps-preserved : goal.steps-preserved
 steps-preserved c =

@@ -3,7 +3,7 @@ use Rattle.elf_table.specs.ChainDepths.{IsIn}
 use Rattle.elf_table.specs.Chains.{IsPath}
 use Rattle.elf_table.specs.HashTable.{chain}
 use Rattle.elf_table.proofs.ChainLemmas.{end_below, path_last}
-use Rattle.elf_table.proofs.ChainDepthLemmas.{deep_more, depths_more, in_push, jumps_more}
+use Rattle.elf_table.proofs.ChainDepthLemmas.{deep_more, depths_more, in_push, jumps_more, starts_more}
 use Rattle.elf_table.proofs.hash_chains.settle.Goals as goal
 
 -- what the symbol popped leads to, and what leads to it
@@ -35,6 +35,14 @@ bounds-jump-above c =
     let long = was.jumps.long in
     omega arith
 
+pub bounds-starts-above : goal.bounds-starts-above
+bounds-starts-above c =
+    let was = c.steps.invariant in
+    let last = last_of _ c.args.start c.steps.s c.in-Some.above _ c.pop.new.self.items c.in-Some.ensures.items was.path in
+    let below = end_below (chain c.args.words.now) _ c.args.start c.in-Some.above _ c.requires.linked.chains c.requires.start last.1 in
+    let long = was.starts.long in
+    omega arith
+
 pub steps-preserved : goal.steps-preserved
 steps-preserved c =
     let was = c.steps.invariant in
@@ -45,6 +53,7 @@ steps-preserved c =
     rw c.one_more.ensures (record {
       depths = depths_more _ _ _ c.in-Some.above c.steps.s was.depths was.known last.2 last.0 below;
       jumps = jumps_more _ _ _ c.in-Some.above c.steps.s _ was.jumps c.far_of-far.ensures.leads c.far_of-far.ensures.inside last.2 last.0 below;
+      starts = starts_more _ _ _ _ c.in-Some.above _ c.args.start was.starts (c.pop.new.self.items, last.1) below;
       path = last.1;
       known = inr (noted c.steps.depth c.in-Some.above _ c.in-Some.above inside refl);
       inside = below;

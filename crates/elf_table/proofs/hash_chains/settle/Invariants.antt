@@ -1,5 +1,5 @@
 use Rattle.std.proofs.Common.{ℕ, ◌<◌, ◌⊎◌, get_or, vec_len}
-use Rattle.elf_table.specs.ChainDepths.{AreDepths, AreJumps, IsIn, IsKnown}
+use Rattle.elf_table.specs.ChainDepths.{AreDepths, AreJumps, AreStarts, IsIn, IsKnown}
 use Rattle.elf_table.specs.Chains.{IsPath}
 use Rattle.elf_table.specs.HashTable.{chain, nchain}
 use Rattle.elf_table.proofs.hash_chains.settle.Given as goal
@@ -8,6 +8,7 @@ abbrev pub invariant-steps : goal.invariant-steps
 invariant-steps l = record {
   depths : AreDepths (chain l.words) (nchain l.words) l.depth;
   jumps : AreJumps (chain l.words) (nchain l.words) l.jump;
+  starts : AreStarts (chain l.words) (nchain l.words) l.depth l.starts;
   path : IsPath (chain l.words) l.fn.start l.stack.items l.s;
   known : IsKnown l.depth l.s;
   inside : l.s < nchain l.words;
