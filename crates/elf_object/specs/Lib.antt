@@ -1,0 +1,8 @@
+-- The words of this crate's contracts.
+pub mod Object
+pub mod ObjectView
+pub mod Positions
+pub mod SectionRules
+pub mod GroupRule
+pub mod SymbolRules
+pub mod ObjectRules
