@@ -494,3 +494,25 @@ DT_RPATH = pos 15
 -- a list of folders to search for libraries
 abbrev pub DT_RUNPATH : ℤ
 DT_RUNPATH = pos 29
+
+-- ---- Note: a note (chapter 5, Note Section)
+
+-- size of what stands before a note's name: three words
+abbrev pub NHDR_SIZE : ℕ
+NHDR_SIZE = 12
+
+-- offset of namesz, the name's size
+abbrev pub N_NAMESZ_AT : ℕ
+N_NAMESZ_AT = 0
+
+-- offset of descsz, the descriptor's size
+abbrev pub N_DESCSZ_AT : ℕ
+N_DESCSZ_AT = 4
+
+-- offset of type
+abbrev pub N_TYPE_AT : ℕ
+N_TYPE_AT = 8
+
+-- what a note's name and its descriptor are padded to a multiple of, in bytes
+abbrev pub NOTE_ALIGN : ℕ
+NOTE_ALIGN = 4

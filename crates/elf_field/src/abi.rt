@@ -272,3 +272,16 @@ pub const DT_SONAME: i64 = 14;
 pub const DT_RPATH: i64 = 15;
 /// A list of folders to search for libraries.
 pub const DT_RUNPATH: i64 = 29;
+
+// ---- Note: a note (chapter 5, Note Section)
+
+/// Size of what stands before a note's name: three words.
+pub const NHDR_SIZE: u64 = 12;
+/// Offset of `namesz`, the name's size.
+pub const N_NAMESZ_AT: u64 = 0;
+/// Offset of `descsz`, the descriptor's size.
+pub const N_DESCSZ_AT: u64 = 4;
+/// Offset of `type`.
+pub const N_TYPE_AT: u64 = 8;
+/// What a note's name and its descriptor are padded to a multiple of, in bytes.
+pub const NOTE_ALIGN: u64 = 4;

@@ -5,3 +5,6 @@ pub mod SymbolLists
 pub mod AllIndexTables
 pub mod TableRuleLemmas
 pub mod RelocationLists
+pub mod GroupLists
+pub mod GroupMembers
+pub mod JudgedBehindLemmas

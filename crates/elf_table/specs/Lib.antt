@@ -11,9 +11,13 @@ pub mod Symbols
 pub mod Relocations
 pub mod RelocationRules
 pub mod RelocationsLeft
+pub mod Groups
+pub mod GroupRules
+pub mod MembersLeft
 pub mod TableRules
 pub mod TableVerdicts
 pub mod TablesView
 pub mod SymbolView
 pub mod SymbolsLeft
 pub mod Judged
+pub mod JudgedBehind

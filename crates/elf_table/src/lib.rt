@@ -13,6 +13,8 @@
 //! ```
 #![tactic(auto)]
 
+mod group;
+mod group_rules;
 mod index_tables;
 mod laws;
 mod own_rules;
@@ -27,6 +29,7 @@ mod symbols;
 mod table_kind;
 mod tables;
 
+pub use group::{Group, GroupIter};
 pub use laws::{entries_in_file, one_table_fault, sections_of_bytes};
 pub use relocation::Relocation;
 pub use relocs::{RelocIter, Relocs};

@@ -31,3 +31,19 @@ pub const WRONG_INDEX_WORD: u16 = 52;
 pub const WRONG_TARGET: u16 = 53;
 /// A relocation's symbol is none of those in the symbol table.
 pub const WRONG_RELOCATION_SYMBOL: u16 = 54;
+/// A section group has no word of flags.
+pub const EMPTY_GROUP: u16 = 55;
+/// A group's flags are others than none and `GRP_COMDAT`.
+pub const WRONG_GROUP_FLAGS: u16 = 56;
+/// A group's signature is symbol 0, or none of those in the symbol table.
+pub const WRONG_SIGNATURE: u16 = 57;
+/// A member of a group is not behind it, is not there, is named before in the group, or lacks the flag of members.
+pub const WRONG_MEMBER: u16 = 58;
+/// A note's header is cut short.
+pub const PARTIAL_NOTE: u16 = 59;
+/// A note's padded name passes the end.
+pub const NOTE_NAME_PAST_END: u16 = 60;
+/// A note's padded descriptor passes the end.
+pub const NOTE_DESC_PAST_END: u16 = 61;
+/// The last byte of a note's name isn't 0.
+pub const UNCLOSED_NOTE_NAME: u16 = 62;

@@ -1,0 +1,12 @@
+-- What a call answers that makes a table of a section and takes memory for the last of its rules.
+use Rattle.std.specs.Prelude.{List, None, Some, Result, Ok, Err}
+use Rattle.elf_rules.specs.Rows.{FirstIn, Ruled}
+use Rattle.elf_image.specs.declared.fault.Fault.{Fault}
+use Rattle.elf_image.specs.declared.fault.Fault.TheVariants.{OutOfMemory, Io, Rule}
+
+-- as IsJudged; and memory is refused only where no rule of `front` is broken, which are tested before any is taken
+abbrev pub IsJudgedBehind : {T : Type 0} → List {1} Ruled → List {1} Ruled → (T → Type 0) → Result T Fault → Type 0
+IsJudgedBehind front rules Is (Ok table) = FirstIn rules None × Is table
+IsJudgedBehind front rules Is (Err (Rule rule at)) = FirstIn rules (Some (rule, at))
+IsJudgedBehind front rules Is (Err OutOfMemory) = FirstIn front None
+IsJudgedBehind front rules Is (Err (Io at)) = ⊥
