@@ -18,12 +18,17 @@
 //! ```
 #![tactic(auto)]
 
+mod body_kind;
 mod fault;
+mod front_rules;
 mod group_rule;
+mod left_out;
+mod member_rule;
 mod object;
 mod object_rules;
 mod parts;
 mod positions;
+mod reference_rules;
 mod relocation;
 pub mod rules;
 mod section;
