@@ -3,3 +3,8 @@ pub mod Marks
 pub mod ObjectRuleLemmas
 pub mod FirstSection
 pub mod GroupMembers
+pub mod Verdicts
+pub mod KeptLists
+pub mod SymbolCount
+pub mod BodyRuns
+pub mod SymbolRuns

@@ -178,9 +178,11 @@ reference_rules left f =
 
 -- ---- all of them, in the order in which they are tested
 
+unfoldable pub symbol_rules_in : LeftOut → Sections → Option ℕ → List {1} Ruled
+symbol_rules_in left f table = rules_of_symbols f table ++ place_rules left f table
+
 unfoldable pub rules_behind : LeftOut → Sections → Option ℕ → List {1} Ruled
-rules_behind left f table =
-    rules_of_symbols f table ++ (place_rules left f table ++ (rules_of_bodies f (kept left f) ++ reference_rules left f))
+rules_behind left f table = symbol_rules_in left f table ++ (rules_of_bodies f (kept left f) ++ reference_rules left f)
 
 unfoldable pub file_rules : Sections → List {1} Ruled
 file_rules f = front_rules f ++ rules_behind (left_out f) f (symbol_table f)

@@ -20,6 +20,7 @@
 
 mod body_kind;
 mod fault;
+mod file_rules;
 mod front_rules;
 mod group_rule;
 mod left_out;
