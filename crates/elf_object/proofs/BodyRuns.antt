@@ -5,7 +5,7 @@ use Rattle.std.specs.List.{range_with_len}
 use Rattle.elf_image.specs.declared.fault.Fault.{Fault}
 use Rattle.elf_image.specs.declared.fault.Fault.TheVariants.{OutOfMemory, Io, Rule}
 use Rattle.elf_rules.specs.Rows.{FirstIn}
-use Rattle.elf_rules.proofs.Public.{FirstIn-later, FirstIn-sooner}
+use Rattle.elf_rules.proofs.Public.{FirstIn-behind, FirstIn-front, FirstIn-later, FirstIn-sooner}
 use Rattle.elf_object.specs.FileRules.{rules_of_bodies, rules_of_body}
 use Rattle.elf_object.specs.Kept.{body_kind, is_kept, kept}
 use Rattle.elf_object.specs.declared.left_out.LeftOut.{LeftOut}
@@ -40,3 +40,25 @@ bodies_fault left f i (Rule number at) lt is all found =
     (FirstIn-sooner (rules_of_body (body_kind (section f i).sh_type) f i) (rules_of_bodies f (kept_from left f (i + 1))) (number, at) found))
 bodies_fault left f i OutOfMemory lt is all told = tt
 bodies_fault left f i (Io at) lt is all told = absurd told
+
+-- ---- where no rule is broken
+
+pub bodies_sound : (left : LeftOut) (f : Sections) (i : ℕ) → i < count f → is_kept left f i ≡ true → FirstIn (rules_of_bodies f (kept_from left f i)) None →
+    FirstIn (rules_of_body (body_kind (section f i).sh_type) f i ++ rules_of_bodies f (kept_from left f (i + 1))) None
+bodies_sound left f i lt is clean =
+    subst (λ (is : List ℕ). FirstIn (rules_of_bodies f is) None) (filter_from_kept (is_kept left f) (count f) i lt is) clean
+
+pub body_sound : (left : LeftOut) (f : Sections) (i : ℕ) → i < count f → is_kept left f i ≡ true → FirstIn (rules_of_bodies f (kept_from left f i)) None →
+    FirstIn (rules_of_body (body_kind (section f i).sh_type) f i) None
+body_sound left f i lt is clean =
+    FirstIn-front (rules_of_body (body_kind (section f i).sh_type) f i) (rules_of_bodies f (kept_from left f (i + 1))) (bodies_sound left f i lt is clean)
+
+pub rest_sound : (left : LeftOut) (f : Sections) (i : ℕ) → i < count f → is_kept left f i ≡ true → FirstIn (rules_of_bodies f (kept_from left f i)) None →
+    FirstIn (rules_of_bodies f (kept_from left f (i + 1))) None
+rest_sound left f i lt is clean =
+    FirstIn-behind (rules_of_body (body_kind (section f i).sh_type) f i) (rules_of_bodies f (kept_from left f (i + 1))) (bodies_sound left f i lt is clean)
+
+pub passed_sound : (left : LeftOut) (f : Sections) (i : ℕ) → i < count f → is_kept left f i ≡ false → FirstIn (rules_of_bodies f (kept_from left f i)) None →
+    FirstIn (rules_of_bodies f (kept_from left f (i + 1))) None
+passed_sound left f i lt is clean =
+    subst (λ (is : List ℕ). FirstIn (rules_of_bodies f is) None) (filter_from_other (is_kept left f) (count f) i lt is) clean

@@ -1,10 +1,11 @@
 -- Verdicts of runs of rules joined.
-use Rattle.std.proofs.Common.{◌≡◌, ℕ, List, [], ◌++◌, None, Some, Result, Ok, Err, sym, subst}
+use Rattle.std.proofs.Common.{◌≡◌, ℕ, List, [], ◌++◌, None, Some, Result, Ok, Err, refl, sym, subst, ◌∙◌}
+use Rattle.std.specs.Prelude.{IfErr}
 use Rattle.std.specs.Result.{IsErrAnd}
 use Rattle.elf_image.specs.declared.fault.Fault.{Fault}
 use Rattle.elf_image.specs.declared.fault.Fault.TheVariants.{OutOfMemory, Io, Rule}
 use Rattle.elf_rules.specs.Rows.{FirstIn, Ruled}
-use Rattle.elf_rules.proofs.Public.{FirstIn-later, FirstIn-sooner}
+use Rattle.elf_rules.proofs.Public.{FirstIn-later, FirstIn-sooner, one_fault}
 use Rattle.elf_table.specs.Judged.{IsJudged}
 use Rattle.elf_table.specs.JudgedBehind.{IsJudgedBehind}
 use Rattle.elf_object.specs.FileRules.{file_rules, front_rules, rules_behind}
@@ -63,3 +64,26 @@ pub file_verdict : (f : Sections) (left : LeftOut) (result : Result (Unit {0}) F
 unfolding file_rules
 file_verdict f left result same clean told =
     verdict_behind (front_rules f) _ result clean (subst (λ (l : LeftOut). IsVerdict (rules_behind l f l.symbol_table) result) same told)
+
+-- ---- where no rule is broken, only memory can be wanted
+
+none_or_some : (fault : ℕ × ℕ) → None ≡ Some fault → ⊥
+none_or_some fault same = cc
+
+pub only_memory : {T : Type 0} (front rules : List {1} Ruled) (Is : T → Type 0) (fault : Fault) → FirstIn rules None →
+    IsJudgedBehind front rules Is (Err fault) → fault ≡ OutOfMemory
+only_memory front rules Is (Rule number at) clean found = absurd (none_or_some (number, at) (one_fault rules None (Some (number, at)) clean found))
+only_memory front rules Is OutOfMemory clean told = refl
+only_memory front rules Is (Io at) clean told = absurd told
+
+pub no_fault : {T : Type 0} (rules : List {1} Ruled) (Is : T → Type 0) (fault : Fault) → FirstIn rules None →
+    IsJudged rules Is (Err fault) → fault ≡ OutOfMemory
+no_fault rules Is (Rule number at) clean found = absurd (none_or_some (number, at) (one_fault rules None (Some (number, at)) clean found))
+no_fault rules Is OutOfMemory clean told = refl
+no_fault rules Is (Io at) clean told = absurd told
+
+-- a fault that is handed on
+pub memory_handed : {T : Type 0} (fault : Fault) (result : Result T Fault) → fault ≡ OutOfMemory → IsErrAnd result (λ error. error ≡ fault) →
+    IfErr result (λ error. error ≡ OutOfMemory)
+memory_handed fault (Ok value) memory same = absurd same
+memory_handed fault (Err error) memory same = same ∙ memory

@@ -10,3 +10,4 @@ pub mod Kept
 pub mod Denotes
 pub mod FileRules
 pub mod MemberMarks
+pub mod Reading

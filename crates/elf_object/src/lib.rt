@@ -29,6 +29,8 @@ mod object;
 mod object_rules;
 mod parts;
 mod positions;
+mod read_bodies;
+mod read_positions;
 mod reference_rules;
 mod relocation;
 pub mod rules;
