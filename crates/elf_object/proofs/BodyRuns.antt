@@ -1,5 +1,5 @@
 -- The rules of the tables in the sections that are kept, section by section.
-use Rattle.std.proofs.Common.{◌≡◌, ℕ, ◌+◌, ◌-◌, ◌<◌, ◌++◌, true, false, Option, None, Some, List, [], Err, sym, subst}
+use Rattle.std.proofs.Common.{◌≡◌, ℕ, ◌+◌, ◌-◌, ◌<◌, ◌++◌, true, false, Option, None, Some, List, Err, sym, subst}
 use Rattle.std.specs.Prelude.{filter}
 use Rattle.std.specs.List.{range_with_len}
 use Rattle.elf_image.specs.declared.fault.Fault.{Fault}

@@ -1,5 +1,5 @@
 -- The first section that passes a test.
-use Rattle.std.proofs.Common.{◌≡◌, ℕ, ◌<◌, Bool, true, false, Option, None, Some, get_or, inl, inr, refl, arith}
+use Rattle.std.proofs.Common.{◌≡◌, ℕ, ◌<◌, Bool, true, false, None, Some, inl, inr, refl}
 use Rattle.std.specs.Prelude.{◌&&◌, position}
 use Rattle.std.proofs.lemmas.Bool.{cases_lt}
 use Rattle.elf_field.specs.declared.shdr.Shdr.{Shdr}

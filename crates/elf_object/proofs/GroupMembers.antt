@@ -4,7 +4,7 @@ use Rattle.std.proofs.lemmas.Bool.{cases_lt}
 use Rattle.elf_extent.specs.Least.{IsLowest, lower_of}
 use Rattle.elf_extent.proofs.Public.{IsLowest-lower, IsLowest-same}
 use Rattle.elf_field.specs.Abi.{SHT_GROUP}
-use Rattle.elf_object.specs.FileRules.{IsNamedBefore, NamesFirst, wrong_member_before, wrong_member_of}
+use Rattle.elf_object.specs.FileRules.{IsNamedBefore, wrong_member_before, wrong_member_of}
 use Rattle.elf_object.specs.MemberMarks.{AreMarks}
 use Rattle.elf_object.specs.declared.left_out.LeftOut.{LeftOut}
 use Rattle.elf_table.specs.Sections.{Sections, section}

@@ -1,5 +1,5 @@
 -- The sections that are kept, one after the other.
-use Rattle.std.proofs.Common.{◌≡◌, ℕ, ◌+◌, ◌-◌, ◌<◌, ◌≤◌, ◌++◌, [], Bool, true, false, Option, Some, zero, suc, List, ◌∷◌, get_or, length, map, refl, sym, ap, subst, ◌⊎◌, inl, inr, ◌∙◌, arith, length-append, zero-add}
+use Rattle.std.proofs.Common.{◌≡◌, ℕ, ◌+◌, ◌-◌, ◌<◌, ◌≤◌, ◌++◌, [], Bool, true, false, Some, zero, suc, List, ◌∷◌, get_or, length, map, refl, sym, ap, subst, ◌⊎◌, inl, inr, ◌∙◌, arith, length-append, zero-add}
 use Rattle.std.specs.Prelude.{◌==◌, filter}
 use Rattle.std.specs.List.{range_with_len}
 use Rattle.std.proofs.lemmas.Bool.{eqb-true}

@@ -8,3 +8,4 @@ pub mod KeptLists
 pub mod SymbolCount
 pub mod BodyRuns
 pub mod SymbolRuns
+pub mod FileRuns

@@ -5,7 +5,7 @@ use Rattle.elf_image.specs.declared.fault.Fault.{Fault}
 use Rattle.elf_image.specs.declared.fault.Fault.TheVariants.{Rule}
 use Rattle.elf_rules.specs.Rows.{FirstIn}
 use Rattle.elf_rules.proofs.Public.{FirstIn-later}
-use Rattle.elf_object.specs.FileRules.{place_rules, rules_of_symbols, symbol_outside, symbol_rules_in}
+use Rattle.elf_object.specs.FileRules.{place_rules, symbol_outside, symbol_rules_in}
 use Rattle.elf_object.specs.declared.left_out.LeftOut.{LeftOut}
 use Rattle.elf_table.specs.Judged.{IsJudged}
 use Rattle.elf_table.specs.Sections.{Sections}

@@ -3,7 +3,7 @@
 use Rattle.std.specs.Prelude.{◌≡◌, ◌≢◌, ℕ, ◌+◌, ◌*◌, ◌<◌, ◌⊎◌, true, false, Option, None, Some, List, [], ◌∷◌, ◌++◌, get_or, length}
 use Rattle.elf_field.specs.Abi.{ET_REL, E_ENTRY_AT, E_PHNUM_AT, E_TYPE_AT, SHF_INFO_LINK, SHT_DYNAMIC, SHT_DYNSYM, SHT_GROUP, SHT_HASH, SHT_SHLIB, SHT_SYMTAB, SHT_SYMTAB_SHNDX, SH_INFO_AT, SH_LINK_AT, SH_TYPE_AT, ST_SHNDX_AT, SYM_SIZE, WORD_SIZE}
 use Rattle.elf_field.specs.declared.ehdr.Ehdr.{Ehdr}
-use Rattle.elf_rules.specs.Rows.{AtEntry, Either, FirstIn, OfSome, Row, Ruled, When, rule}
+use Rattle.elf_rules.specs.Rows.{AtEntry, Either, OfSome, Row, Ruled, When, rule}
 use Rattle.elf_table.specs.declared.symbol.Place.{Place}
 use Rattle.elf_table.specs.declared.symbol.Place.TheVariants.{Undefined, Absolute, Common, Reserved, Section}
 use Rattle.elf_table.specs.GroupRules.{group_section_rules}

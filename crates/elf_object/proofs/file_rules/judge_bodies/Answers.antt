@@ -1,9 +1,7 @@
-use Rattle.std.proofs.Common.{◌≡◌, ℕ, List, ap, sym, ◌∙◌, subst, length, arith}
-use Rattle.elf_rules.specs.Rows.{FirstIn}
-use Rattle.elf_rules.proofs.Public.{FirstIn-later}
-use Rattle.elf_object.specs.FileRules.{rules_of_bodies, rules_of_body}
-use Rattle.elf_object.specs.Kept.{body_kind, is_kept, kept}
-use Rattle.elf_table.specs.Sections.{section, sections_of}
+use Rattle.std.proofs.Common.{arith}
+use Rattle.elf_object.specs.FileRules.{rules_of_bodies}
+use Rattle.elf_object.specs.Kept.{kept}
+use Rattle.elf_table.specs.Sections.{sections_of}
 use Rattle.elf_object.proofs.BodyRuns.{bodies_fault, bodies_next, bodies_passed}
 use Rattle.elf_object.proofs.Verdicts.{verdict_handed}
 use Rattle.elf_object.proofs.file_rules.judge_bodies.Goals as goal

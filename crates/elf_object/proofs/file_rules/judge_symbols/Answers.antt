@@ -1,13 +1,11 @@
-use Rattle.std.proofs.Common.{◌≡◌, List, None, Some, Option, ℕ, inl, refl, ap, sym, ◌∙◌, subst}
-use Rattle.elf_rules.specs.Rows.{FirstIn}
+use Rattle.std.proofs.Common.{◌≡◌, List, ap, sym, ◌∙◌}
 use Rattle.elf_object.specs.FileRules.{symbol_rules_in}
-use Rattle.elf_object.specs.Kept.{left_out, symbol_table}
 use Rattle.elf_object.specs.declared.left_out.LeftOut.{LeftOut}
 use Rattle.elf_table.specs.Sections.{sections_of}
 use Rattle.elf_table.specs.Symbols.{SymbolValue, symbols_of}
 use Rattle.elf_object.proofs.KeptLists.{symbol_table_there}
 use Rattle.elf_object.proofs.SymbolRuns.{no_symbols_kept, outside_found, symbols_fault, symbols_kept}
-use Rattle.elf_object.proofs.Verdicts.{IsVerdict, verdict_handed}
+use Rattle.elf_object.proofs.Verdicts.{verdict_handed}
 use Rattle.elf_object.proofs.file_rules.judge_symbols.Goals as goal
 
 pub returns-in_default : goal.returns-in_default

@@ -1,4 +1,4 @@
-use Rattle.std.proofs.Common.{◌<◌, length, arith, rules}
+use Rattle.std.proofs.Common.{◌<◌, length, rules}
 use Rattle.elf_table.specs.Sections.{sections_of}
 use Rattle.elf_object.proofs.SymbolCount.{symbol_within}
 use Rattle.elf_object.proofs.file_rules.lowest_symbol_outside.Goals as goal

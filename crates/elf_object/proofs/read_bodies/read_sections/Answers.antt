@@ -1,4 +1,4 @@
-use Rattle.std.proofs.Common.{◌≡◌, List, ap, ◌∙◌, map, arith}
+use Rattle.std.proofs.Common.{List, ap, ◌∙◌, map, arith}
 use Rattle.elf_object.specs.Denotes.{section_denoted}
 use Rattle.elf_object.specs.Kept.{is_kept}
 use Rattle.elf_object.specs.ObjectView.{section_value}
