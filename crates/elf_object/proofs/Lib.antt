@@ -9,3 +9,5 @@ pub mod SymbolCount
 pub mod BodyRuns
 pub mod SymbolRuns
 pub mod FileRuns
+pub mod KeptIndex
+pub mod DenotedObject
