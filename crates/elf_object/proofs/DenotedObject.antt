@@ -1,5 +1,5 @@
 -- The object that a file denotes, by position: which section of the file stands where.
-use Rattle.std.proofs.Common.{◌≡◌, ℕ, ◌<◌, Bool, List, [], false, true, get_or, length, map, refl, sym, ap, subst, ◌∙◌, arith}
+use Rattle.std.proofs.Common.{◌≡◌, ℕ, ◌<◌, Bool, List, [], false, true, get_or, length, sym, ap, subst, ◌∙◌, arith}
 use Rattle.std.specs.Prelude.{◌==◌, Contains, drop, if◌then◌else◌}
 use Rattle.std.specs.List.{position_or_len}
 use Rattle.std.proofs.lemmas.Bool.{eq-eqb}
@@ -14,7 +14,7 @@ use Rattle.elf_object.specs.Kept.{is_kept, kept, left_out, position_of}
 use Rattle.elf_object.specs.Object.{ObjectValue, SectionValue, no_section, section_at}
 use Rattle.elf_object.specs.SectionRules.{zero_in_section_name}
 use Rattle.elf_table.specs.Sections.{Sections, count, section}
-use Rattle.elf_object.proofs.KeptIndex.{IsListed, StandsAt, listed, stands_at}
+use Rattle.elf_object.proofs.KeptIndex.{listed, stands_at}
 
 -- the section at a position is one of the file that is kept
 pub record IsSectionOf (f : Sections) (o : ObjectValue) (q i : ℕ) : Type 0 where

@@ -1,5 +1,5 @@
 -- Indexes and positions: the list of the sections that are kept, by either.
-use Rattle.std.proofs.Common.{◌≡◌, ℕ, ◌+◌, ◌<◌, ◌≤◌, ◌⊎◌, ◌++◌, zero, suc, Bool, true, false, List, [], ◌∷◌, get_or, length, inl, inr, refl, sym, ap, subst, ◌∙◌, arith, length-append}
+use Rattle.std.proofs.Common.{◌≡◌, ℕ, ◌+◌, ◌<◌, ◌⊎◌, ◌++◌, zero, suc, Bool, true, false, List, [], ◌∷◌, get_or, length, inl, inr, refl, sym, ap, subst, ◌∙◌, arith, length-append}
 use Rattle.std.specs.Prelude.{filter}
 use Rattle.std.specs.List.{range_with_len}
 use Rattle.std.proofs.Math.Seq.{get_or-append_seam}

@@ -11,3 +11,4 @@ pub mod SymbolRuns
 pub mod FileRuns
 pub mod KeptIndex
 pub mod DenotedObject
+pub mod DenotedSymbols
