@@ -10,7 +10,7 @@ use Rattle.elf_extent.specs.declared.members.Member.{Member}
 use Rattle.elf_extent.specs.Account.{IsGap, Accounts, gap_between}
 use Rattle.elf_extent.specs.Extent.{HasAt, IsHeld, AreDisjoint, AreWithin}
 use Rattle.elf_extent.specs.Members.{AreMembers, EndsBefore}
-use Rattle.elf_extent.proofs.Overlaps.{once, place_of}
+use Rattle.elf_extent.proofs.Overlaps.{once, covering_member}
 
 abbrev pub member_start : Member → ℕ
 member_start m = m.extent.start
@@ -99,7 +99,7 @@ pub walk_free : (es : List Extent) (total : ℕ) (ms : List Member) (i at end : 
     (x : ℕ) → at ≤ x → x < at + (end - at) → IsHeld es x → ⊥
 walk_free es total ms i at end ps given walk later x above below (j, held) =
     let m : Member = record { index = 0; extent = record { start = 0; len = 0 } } in
-    let p = place_of es ms j x given held in
+    let p = covering_member es ms j x given held in
     let has = p.1.has m in
     elim (cases_lt p.0 i) [
       | inl earlier ↦ (let ends = walk.passed p.0 m earlier p.1.within in omega arith)

@@ -26,9 +26,9 @@ pub record IsPlaceOf (es : List Extent) (ms : List Member) (i k x : ℕ) : Type 
   pub has : (d : Member) → Has (get_or ms k d).extent x
 
 -- each byte that the list holds is held by a member
-pub place_of : (es : List Extent) (ms : List Member) (i x : ℕ) → AreMembers es (length es) ms →
+pub covering_member : (es : List Extent) (ms : List Member) (i x : ℕ) → AreMembers es (length es) ms →
     HasAt es i x → (k : ℕ) × IsPlaceOf es ms i k x
-place_of es ms i x given (e, here, has) =
+covering_member es ms i x given (e, here, has) =
     let m : Member = record { index = i; extent = e } in
     let found : Contains ms m = given.all i e (position_below es i e here) here (omega arith) in (
       found.0,
@@ -67,8 +67,8 @@ pub record AreBothAt (ms : List Member) (j k x : ℕ) : Type 0 where
 pub both_at : (es : List Extent) (ms : List Member) (x : ℕ) → AreMembers es (length es) ms →
     Doubly es x → (j k : ℕ) × AreBothAt ms j k x
 both_at es ms x given (a, b, lt, at_a, at_b) =
-    let p = place_of es ms a x given at_a in
-    let q = place_of es ms b x given at_b in
+    let p = covering_member es ms a x given at_a in
+    let q = covering_member es ms b x given at_b in
     elim (cases_lt p.0 q.0) [
       | inl first ↦ (
         p.0,

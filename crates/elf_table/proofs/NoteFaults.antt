@@ -158,11 +158,11 @@ wider : (o : Order) (table : List ℕ) (n y : ℕ) → UnclosedBefore o table n 
 wider o table n y here = (here.0, (let lt = here.1 in omega arith), here.2, here.3)
 
 -- what the note at x tells
-abbrev pub Tells : Order → List ℕ → ℕ → Option ℕ → Type 0
-Tells o table x found = MatchOption found (IsUnclosed o table x → ⊥)
+abbrev pub FindsUnclosed : Order → List ℕ → ℕ → Option ℕ → Type 0
+FindsUnclosed o table x found = MatchOption found (IsUnclosed o table x → ⊥)
     (λ last. IsUnclosed o table x × (last ≡ name_last o table x) × (last < length table))
 
-lowest_more : (o : Order) (table : List ℕ) (x : ℕ) (unclosed found : Option ℕ) (are : AreJudged o table x unclosed) → Tells o table x found →
+lowest_more : (o : Order) (table : List ℕ) (x : ℕ) (unclosed found : Option ℕ) (are : AreJudged o table x unclosed) → FindsUnclosed o table x found →
     IsLowest (UnclosedBefore o table (suc are.count)) (option_or unclosed found)
 lowest_more o table x None None are told = λ y here. elim (one_further o table are.count y here) [
   | inl before ↦ are.lowest y before
@@ -188,7 +188,7 @@ lowest_more o table x (Some low) found are told = record {
 }
 
 pub judged_more : (o : Order) (table : List ℕ) (x : ℕ) (unclosed found : Option ℕ) → AreJudged o table x unclosed →
-    note_end o table x ≤ length table → Tells o table x found → AreJudged o table (note_end o table x) (option_or unclosed found)
+    note_end o table x ≤ length table → FindsUnclosed o table x found → AreJudged o table (note_end o table x) (option_or unclosed found)
 judged_more o table x unclosed found are whole told = record {
   count = suc are.count;
   here = place_next o table 0 are.count ∙ ap (note_end o table) are.here;

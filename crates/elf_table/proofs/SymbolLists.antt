@@ -71,15 +71,15 @@ sound_index_table f i j sound within extended = some (index_table f i) refl wher
   some (Some k) is = (k, is)
 
 -- so each symbol's word can be read, in parts that are those of the table
-abbrev pub Reads : Sections → ℕ → SymbolPartsValue → Type 0
-Reads f i p = ((k : ℕ) → index_table f i ≡ Some k → length p.words ≡ (section f k).sh_size) → IsReadable p.order p.table p.words
+abbrev pub ReadsWords : Sections → ℕ → SymbolPartsValue → Type 0
+ReadsWords f i p = ((k : ℕ) → index_table f i ≡ Some k → length p.words ≡ (section f k).sh_size) → IsReadable p.order p.table p.words
 
-reads : (f : Sections) (i : ℕ) → FirstIn (symbol_table_rules f i) None → Reads f i (symbol_parts f i)
-reads f i sound sized j within extended =
+reads_words : (f : Sections) (i : ℕ) → FirstIn (symbol_table_rules f i) None → ReadsWords f i (symbol_parts f i)
+reads_words f i sound sized j within extended =
     let (k, is) = sound_index_table f i j sound within extended in
     let size = sized k is in
     let words = sound_words f i k sound is in
     omega arith
 
-pub readable : (f : Sections) (i : ℕ) (p : SymbolPartsValue) → FirstIn (symbol_table_rules f i) None → p ≡ symbol_parts f i → Reads f i p
-readable f i p sound same = subst (Reads f i) (sym same) (reads f i sound)
+pub readable : (f : Sections) (i : ℕ) (p : SymbolPartsValue) → FirstIn (symbol_table_rules f i) None → p ≡ symbol_parts f i → ReadsWords f i p
+readable f i p sound same = subst (ReadsWords f i) (sym same) (reads_words f i sound)
