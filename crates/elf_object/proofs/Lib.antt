@@ -12,3 +12,6 @@ pub mod FileRuns
 pub mod KeptIndex
 pub mod DenotedObject
 pub mod DenotedSymbols
+pub mod KeptTypes
+pub mod DenotedFields
+pub mod FileMembers
