@@ -15,3 +15,4 @@ pub mod DenotedSymbols
 pub mod KeptTypes
 pub mod DenotedFields
 pub mod FileMembers
+pub mod DenotedReferences
