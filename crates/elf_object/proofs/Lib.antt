@@ -16,3 +16,5 @@ pub mod KeptTypes
 pub mod DenotedFields
 pub mod FileMembers
 pub mod DenotedReferences
+pub mod DenotedGroups
+pub mod ObjectKept
