@@ -1,5 +1,5 @@
 -- The groups of the object that a file denotes: rule 6 of objects is kept.
-use Rattle.std.proofs.Common.{◌≡◌, ◌≢◌, ℕ, ◌<◌, ◌≤◌, ◌⊎◌, Bool, true, false, Option, None, List, get_or, length, map, inl, inr, refl, sym, ap, subst, ◌∙◌, arith}
+use Rattle.std.proofs.Common.{◌≡◌, ℕ, ◌<◌, ◌≤◌, ◌⊎◌, Bool, true, false, None, List, length, inl, inr, sym, ap, subst, ◌∙◌, arith}
 use Rattle.std.specs.Prelude.{◌==◌, ◌||◌, if◌then◌else◌, SomeIndex}
 use Rattle.std.proofs.lemmas.Bool.{cases_lt, eqb-true, false_from_ne_true}
 use Rattle.elf_extent.specs.Least.{Never}
@@ -23,7 +23,7 @@ use Rattle.elf_object.proofs.DenotedObject.{section_at_index, section_at_positio
 use Rattle.elf_object.proofs.DenotedSymbols.{kept_there}
 use Rattle.elf_object.proofs.FileMembers.{IsMember, count_members, member_positions, member_sound, position_of_member}
 use Rattle.elf_object.proofs.KeptIndex.{one_place, places_ascend}
-use Rattle.elf_object.proofs.KeptTypes.{differs, table_sound}
+use Rattle.elf_object.proofs.KeptTypes.{table_sound}
 
 -- where a section of the object names the position of section m as a member, it is a group of the file that names m
 named_in_file : (f : Sections) (h m : ℕ) (kind : BodyKind) → FirstIn (file_rules f) None → h < count f → FirstIn (rules_of_body kind f h) None →

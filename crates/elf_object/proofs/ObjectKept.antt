@@ -1,11 +1,9 @@
 -- The object that a file denotes which breaks none of its rules: it is one.
-use Rattle.std.proofs.Common.{ℕ, None}
+use Rattle.std.proofs.Common.{None}
 use Rattle.elf_image.specs.Image.{ImageValue, IsSound}
 use Rattle.elf_rules.specs.Rows.{FirstIn}
-use Rattle.elf_rules.proofs.Public.{FirstIn-later}
 use Rattle.elf_object.specs.Denotes.{Denotes}
 use Rattle.elf_object.specs.FileRules.{file_rules}
-use Rattle.elf_object.specs.GroupRule.{group_rules}
 use Rattle.elf_object.specs.Object.{ObjectValue}
 use Rattle.elf_object.specs.ObjectRules.{IsObject}
 use Rattle.elf_object.specs.SectionRules.{section_rules}
