@@ -18,3 +18,4 @@ pub mod FileMembers
 pub mod DenotedReferences
 pub mod DenotedGroups
 pub mod ObjectKept
+pub mod JudgedTables
