@@ -1,29 +1,35 @@
 -- The symbols of the object that a file denotes: rules 7 to 9 of objects are kept.
 use Rattle.std.proofs.Common.{◌≡◌, ℕ, ◌+◌, ◌⊎◌, ◌<◌, Bool, Option, None, Some, List, false, true, get_or, length, inl, inr, refl, sym, ap, subst, ◌∙◌, arith}
-use Rattle.std.specs.Prelude.{Contains, drop}
+use Rattle.std.specs.Prelude.{◌/◌, Contains, drop}
 use Rattle.std.proofs.lemmas.Bool.{cases_lt}
 use Rattle.std.proofs.lemmas.List.{get_or-drop, get_or-map, length-drop, length-map}
 use Rattle.elf_extent.specs.Least.{Never}
+use Rattle.elf_field.specs.Abi.{STB_LOCAL}
 use Rattle.elf_rules.specs.Rows.{FirstIn}
+use Rattle.elf_rules.proofs.Public.{FirstIn-behind, FirstIn-front}
 use Rattle.elf_object.specs.Denotes.{Denotes, place_denoted, symbol_denoted, symbols_denoted}
-use Rattle.elf_object.specs.FileRules.{IsOutside, file_rules, place_rules}
+use Rattle.elf_object.specs.FileRules.{IsOutside, file_rules, place_rules, rules_of_symbols}
 use Rattle.elf_object.specs.Kept.{is_kept, left_out, symbol_table}
 use Rattle.elf_object.specs.declared.left_out.LeftOut.{LeftOut}
 use Rattle.elf_object.specs.Positions.{IsPast}
 use Rattle.elf_object.specs.Object.{ObjectValue, SymbolValue, no_symbol, symbol_at}
-use Rattle.elf_object.specs.SymbolRules.{place_position, wrong_place, zero_in_symbol_name}
-use Rattle.elf_table.specs.Sections.{Sections, count}
+use Rattle.elf_object.specs.SymbolRules.{misplaced_local, place_position, wrong_place, zero_in_symbol_name}
+use Rattle.elf_table.specs.Sections.{Sections, content, count, order, section}
 use Rattle.elf_table.specs.declared.symbol.Place as table_place
 use Rattle.elf_table.specs.declared.symbol.Place.TheVariants.{Undefined, Absolute, Common, Reserved, Section}
 use Rattle.elf_table.specs.SymbolParts.{symbol_parts}
-use Rattle.elf_table.specs.SymbolRules.{entry, entry_count}
+use Rattle.elf_table.specs.declared.table_kind.TableKind.TheVariants.{SymbolTable}
+use Rattle.elf_table.specs.OwnRules.{own_rules}
+use Rattle.elf_table.specs.StringRules.{linked_string_rules}
+use Rattle.elf_table.specs.SymbolRules.{binding, entry, entry_count, entry_rules, misplaced_binding, rest_rules, symbol_table_rules}
 use Rattle.elf_table.specs.SymbolView as table_view
 use Rattle.elf_table.specs.Symbols as table_symbols
 use Rattle.elf_table.specs.Symbols.{symbol_in, symbols_of}
 use Rattle.elf_table.proofs.SymbolLists.{length_symbols, symbol_get}
 use Rattle.elf_object.proofs.DenotedObject.{no_zero_in_string, position_there}
-use Rattle.elf_object.proofs.FileRuns.{places_sound}
+use Rattle.elf_object.proofs.FileRuns.{places_sound, symbols_sound}
 use Rattle.elf_object.proofs.KeptLists.{not_kept_past}
+use Rattle.elf_object.proofs.SymbolCount.{length_symbols_of, symbol_info}
 
 -- symbol q of the object is symbol q + 1 of the symbol table in section t
 pub record IsSymbolOf (f : Sections) (o : ObjectValue) (q t : ℕ) : Type 0 where
@@ -104,3 +110,40 @@ places_kept f o clean denotes x (q, within, broken, here) =
     let places = subst (λ (table : Option ℕ). FirstIn (place_rules (left_out f) f table) None) is.table (places_sound f clean) in
     place_kept f o (get_or (symbols_of f t) (q + 1) table_view.no_symbol).place denotes (no_place_outside f t (q + 1) places is.there)
     (subst (λ (s : SymbolValue). IsPast (length o.sections) (place_position s.place)) is.symbol broken)
+
+-- ---- rule 9
+
+-- a symbol of the object has the binding of the entry that it is read from
+local_info : (f : Sections) (o : ObjectValue) (q t : ℕ) → IsSymbolOf f o q t →
+    (symbol_at o q).info / 16 ≡ binding (entry (order f) (content f t) (q + 1))
+unfolding entry
+local_info f o q t is =
+    ap (λ (s : SymbolValue). s.info / 16) is.symbol ∙ ap (λ (x : ℕ). x / 16) (symbol_info f t (q + 1) is.there)
+
+-- rule 47: those below sh_info are local, and no other
+bindings_sound : (f : Sections) (t : ℕ) → FirstIn (symbol_table_rules f t) None → Never (misplaced_binding (symbol_parts f t))
+unfolding symbol_table_rules rest_rules entry_rules
+bindings_sound f t clean =
+    let p = symbol_parts f t in
+    let behind = FirstIn-behind (linked_string_rules p.names p.names_start) _ (FirstIn-behind (own_rules SymbolTable f t) _ clean) in
+    (FirstIn-front (entry_rules p) _ behind).1.1.0
+
+locals_first : (f : Sections) (t i k : ℕ) → Never (misplaced_binding (symbol_parts f t)) → k < i → i < entry_count (content f t) →
+    binding (entry (order f) (content f t) i) ≡ STB_LOCAL → (binding (entry (order f) (content f t) k) ≡ STB_LOCAL → ⊥) → ⊥
+locals_first f t i k never lt within local other = elim (cases_lt i (section f t).sh_info) [
+  | inl below ↦ never _ (k, omega arith, inl (omega arith, other), refl)
+  | inr above ↦ never _ (i, within, inr (above, local), refl)
+]
+
+pub locals_kept : (f : Sections) (o : ObjectValue) → FirstIn (file_rules f) None → Denotes f o → Never (misplaced_local o)
+locals_kept f o clean denotes x (i, within, (local, (k, lt, other)), here) =
+    let (t, is) = symbol_at_position f o i denotes within in
+    let (u, before) = symbol_at_position f o k denotes (omega arith) in
+    let one : Some u ≡ Some t = sym before.table ∙ is.table in
+    let same : u ≡ t = cc in
+    let first = subst (λ (t : ℕ). IsSymbolOf f o k t) same before in
+    let sound = subst (λ (table : Option ℕ). FirstIn (rules_of_symbols f table) None) is.table (symbols_sound f clean) in
+    let there = is.there in
+    let counted = length_symbols_of f t in
+    locals_first f t (i + 1) (k + 1) (bindings_sound f t sound) (omega arith) (omega arith) (sym (local_info f o i t is) ∙ local)
+    (λ bound. other (local_info f o k t first ∙ bound))

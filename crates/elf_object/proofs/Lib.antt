@@ -12,3 +12,10 @@ pub mod FileRuns
 pub mod KeptIndex
 pub mod DenotedObject
 pub mod DenotedSymbols
+pub mod KeptTypes
+pub mod DenotedFields
+pub mod FileMembers
+pub mod DenotedReferences
+pub mod DenotedGroups
+pub mod ObjectKept
+pub mod JudgedTables

@@ -1,33 +1,27 @@
 -- Verdicts of runs of rules joined.
-use Rattle.std.proofs.Common.{◌≡◌, ℕ, List, [], ◌++◌, None, Some, Result, Ok, Err, refl, sym, subst, ◌∙◌}
-use Rattle.std.specs.Prelude.{IfErr}
+use Rattle.std.proofs.Common.{◌≡◌, ℕ, List, [], ◌++◌, Option, None, Some, Result, Ok, Err, sym, subst}
+use Rattle.std.specs.Prelude.{IfErr, IfOk}
 use Rattle.std.specs.Result.{IsErrAnd}
 use Rattle.elf_image.specs.declared.fault.Fault.{Fault}
 use Rattle.elf_image.specs.declared.fault.Fault.TheVariants.{OutOfMemory, Io, Rule}
 use Rattle.elf_rules.specs.Rows.{FirstIn, Ruled}
-use Rattle.elf_rules.proofs.Public.{FirstIn-later, FirstIn-sooner, one_fault}
-use Rattle.elf_table.specs.Judged.{IsJudged}
-use Rattle.elf_table.specs.JudgedBehind.{IsJudgedBehind}
+use Rattle.elf_rules.proofs.Public.{FirstIn-later, FirstIn-sooner}
+use Rattle.elf_table.specs.Judged.{IsJudgedBehind}
 use Rattle.elf_object.specs.FileRules.{file_rules, front_rules, rules_behind}
 use Rattle.elf_object.specs.Kept.{left_out}
 use Rattle.elf_object.specs.declared.left_out.LeftOut.{LeftOut}
 use Rattle.elf_table.specs.Sections.{Sections}
+use Rattle.elf_object.proofs.FileRuns.{front_sound}
 
 -- what a call answers that tests these rules and makes nothing
 abbrev pub IsVerdict : List {1} Ruled → Result (Unit {0}) Fault → Type 0
 IsVerdict rules result = IsJudgedBehind [] rules (λ _. Unit {0}) result
 
--- a fault that is handed on
-pub verdict_handed : (rules : List {1} Ruled) (fault : Fault) (result : Result (Unit {0}) Fault) → IsVerdict rules (Err fault) →
-    IsErrAnd result (λ error. error ≡ fault) → IsVerdict rules result
-verdict_handed rules fault (Ok value) told same = absurd same
-verdict_handed rules fault (Err error) told same = subst (λ (e : Fault). IsVerdict rules (Err e)) (sym same) told
-
--- a run that has found a fault has it with more rules behind it
-pub verdict_sooner : (xs ys : List {1} Ruled) (fault : Fault) → IsVerdict xs (Err fault) → IsVerdict (xs ++ ys) (Err fault)
-verdict_sooner xs ys (Rule number at) found = FirstIn-sooner xs ys (number, at) found
-verdict_sooner xs ys OutOfMemory told = tt
-verdict_sooner xs ys (Io at) told = absurd told
+-- the first rule that is broken, as a verdict
+pub verdict_told : (rules : List {1} Ruled) (number at : ℕ) (result : Result (Unit {0}) Fault) → FirstIn rules (Some (number, at)) →
+    IsErrAnd result (λ error. error ≡ Rule number at) → IsVerdict rules result
+verdict_told rules number at (Ok value) found same = absurd same
+verdict_told rules number at (Err error) found same = subst (λ (e : Fault). IsVerdict rules (Err e)) (sym same) found
 
 -- behind a run without a fault stands the verdict of the rules after it
 pub verdict_later : (xs ys : List {1} Ruled) (result : Result (Unit {0}) Fault) → FirstIn xs None → IsVerdict ys result → IsVerdict (xs ++ ys) result
@@ -36,54 +30,39 @@ verdict_later xs ys (Err (Rule number at)) clean found = FirstIn-later xs ys (So
 verdict_later xs ys (Err OutOfMemory) clean told = tt
 verdict_later xs ys (Err (Io at)) clean told = absurd told
 
--- memory is taken only behind the first run
-pub verdict_behind : (xs ys : List {1} Ruled) (result : Result (Unit {0}) Fault) → FirstIn xs None → IsVerdict ys result →
-    IsJudgedBehind xs (xs ++ ys) (λ _. Unit {0}) result
-verdict_behind xs ys (Ok value) clean (found, unit) = (FirstIn-later xs ys None clean found, tt)
-verdict_behind xs ys (Err (Rule number at)) clean found = FirstIn-later xs ys (Some (number, at)) clean found
-verdict_behind xs ys (Err OutOfMemory) clean told = clean
-verdict_behind xs ys (Err (Io at)) clean told = absurd told
+-- ---- of a file, of which memory is taken only behind the first run
 
 -- the first run's own fault
-pub verdict_front : (xs ys : List {1} Ruled) (number at : ℕ) (result : Result (Unit {0}) Fault) → FirstIn xs (Some (number, at)) →
-    IsErrAnd result (λ error. error ≡ Rule number at) → IsJudgedBehind xs (xs ++ ys) (λ _. Unit {0}) result
-verdict_front xs ys number at (Ok value) found same = absurd same
-verdict_front xs ys number at (Err error) found same =
-    subst (λ (e : Fault). IsJudgedBehind {T = Unit {0}} xs (xs ++ ys) (λ _. Unit {0}) (Err e)) (sym same) (FirstIn-sooner xs ys (number, at) found)
-
--- the fault of a table is a fault of its rules
-pub table_fault : {T : Type 0} (rules : List {1} Ruled) (Is : T → Type 0) (fault : Fault) → IsJudged rules Is (Err fault) → IsVerdict rules (Err fault)
-table_fault rules Is (Rule number at) found = found
-table_fault rules Is OutOfMemory told = tt
-table_fault rules Is (Io at) told = absurd told
-
--- ---- of a file
-
-pub file_verdict : (f : Sections) (left : LeftOut) (result : Result (Unit {0}) Fault) → left ≡ left_out f → FirstIn (front_rules f) None →
-    IsVerdict (rules_behind left f left.symbol_table) result → IsJudgedBehind (front_rules f) (file_rules f) (λ _. Unit {0}) result
+pub front_fault : {T : Type 0} (f : Sections) (Is : T → Type 0) (number at : ℕ) (result : Result T Fault) → FirstIn (front_rules f) (Some (number, at)) →
+    IsErrAnd result (λ error. error ≡ Rule number at) → IsJudgedBehind (front_rules f) (file_rules f) Is result
 unfolding file_rules
-file_verdict f left result same clean told =
-    verdict_behind (front_rules f) _ result clean (subst (λ (l : LeftOut). IsVerdict (rules_behind l f l.symbol_table) result) same told)
+front_fault f Is number at (Ok value) found same = absurd same
+front_fault {T} f Is number at (Err error) found same =
+    subst (λ (e : Fault). IsJudgedBehind {T = T} (front_rules f) (file_rules f) Is (Err e)) (sym same) (FirstIn-sooner (front_rules f) _ (number, at) found)
 
--- ---- where no rule is broken, only memory can be wanted
+-- what the rules behind it find is what all find
+pub found_behind : (f : Sections) (left : LeftOut) (found : Option (ℕ × ℕ)) → left ≡ left_out f → FirstIn (front_rules f) None →
+    FirstIn (rules_behind left f left.symbol_table) found → FirstIn (file_rules f) found
+unfolding file_rules
+found_behind f left found same clean behind =
+    FirstIn-later (front_rules f) _ found clean (subst (λ (l : LeftOut). FirstIn (rules_behind l f l.symbol_table) found) same behind)
 
-none_or_some : (fault : ℕ × ℕ) → None ≡ Some fault → ⊥
-none_or_some fault same = cc
+-- their fault
+pub fault_behind : {T : Type 0} (f : Sections) (left : LeftOut) (Is : T → Type 0) (fault : Fault) (result : Result T Fault) → left ≡ left_out f →
+    FirstIn (front_rules f) None → IsVerdict (rules_behind left f left.symbol_table) (Err fault) → IsErrAnd result (λ error. error ≡ fault) →
+    IsJudgedBehind (front_rules f) (file_rules f) Is result
+fault_behind f left Is fault (Ok value) same clean told handed = absurd handed
+fault_behind {T} f left Is fault (Err error) same clean told handed =
+    subst (λ (e : Fault). IsJudgedBehind {T = T} (front_rules f) (file_rules f) Is (Err e)) (sym handed) (known fault told)
+  where
+    known : (fault : Fault) → IsVerdict (rules_behind left f left.symbol_table) (Err fault) → IsJudgedBehind {T = T} (front_rules f) (file_rules f) Is (Err fault)
+    known (Rule number at) found = found_behind f left (Some (number, at)) same clean found
+    known OutOfMemory found = clean
+    known (Io at) found = absurd found
 
-pub only_memory : {T : Type 0} (front rules : List {1} Ruled) (Is : T → Type 0) (fault : Fault) → FirstIn rules None →
-    IsJudgedBehind front rules Is (Err fault) → fault ≡ OutOfMemory
-only_memory front rules Is (Rule number at) clean found = absurd (none_or_some (number, at) (one_fault rules None (Some (number, at)) clean found))
-only_memory front rules Is OutOfMemory clean told = refl
-only_memory front rules Is (Io at) clean told = absurd told
-
-pub no_fault : {T : Type 0} (rules : List {1} Ruled) (Is : T → Type 0) (fault : Fault) → FirstIn rules None →
-    IsJudged rules Is (Err fault) → fault ≡ OutOfMemory
-no_fault rules Is (Rule number at) clean found = absurd (none_or_some (number, at) (one_fault rules None (Some (number, at)) clean found))
-no_fault rules Is OutOfMemory clean told = refl
-no_fault rules Is (Io at) clean told = absurd told
-
--- a fault that is handed on
-pub memory_handed : {T : Type 0} (fault : Fault) (result : Result T Fault) → fault ≡ OutOfMemory → IsErrAnd result (λ error. error ≡ fault) →
-    IfErr result (λ error. error ≡ OutOfMemory)
-memory_handed fault (Ok value) memory same = absurd same
-memory_handed fault (Err error) memory same = same ∙ memory
+-- where no rule is broken, only memory can be wanted
+pub read_judged : {T : Type 0} (f : Sections) (Is : T → Type 0) (result : Result T Fault) → FirstIn (file_rules f) None → IfOk result Is →
+    IfErr result (λ error. error ≡ OutOfMemory) → IsJudgedBehind (front_rules f) (file_rules f) Is result
+read_judged f Is (Ok value) clean is memory = (clean, is)
+read_judged {T} f Is (Err error) clean is memory =
+    subst (λ (e : Fault). IsJudgedBehind {T = T} (front_rules f) (file_rules f) Is (Err e)) (sym memory) (front_sound f clean)

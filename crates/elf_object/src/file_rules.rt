@@ -1,15 +1,17 @@
-//! The rules of a file that is read as an object, in their order: 70 to 74, those of the symbol table and 75, those of each
+//! The rules of a file that is read as an object behind 70 to 74, in their order: those of the symbol table and 75, those of each
 //! relocation section and group that is kept, and 76 to 79.
 ghost use Rattle.std.specs.Prelude.{◌≡◌, ◌↔◌, ◌<◌, ◌≤◌, ◌+◌, ◌*◌, [], IsTrue, length};
 ghost use Rattle.elf_extent.specs.Least.{IsLowest};
-ghost use Rattle.elf_object.specs.FileRules.{IsOutside, file_rules, front_rules, reference_rules, rules_behind, rules_of_bodies, rules_of_body, symbol_outside, symbol_rules_in};
+ghost use Rattle.elf_object.specs.FileRules.{IsOutside, reference_rules, rules_behind, rules_of_bodies, rules_of_body, symbol_outside, symbol_rules_in};
 ghost use Rattle.elf_object.specs.Kept.{body_kind, kept, left_out};
-ghost use Rattle.elf_table.specs.JudgedBehind.{IsJudgedBehind};
+ghost use Rattle.elf_object.specs.Reading.{AreTablesOf};
+ghost use Rattle.elf_rules.specs.Broken.{fault_of};
+ghost use Rattle.elf_rules.specs.Rows.{FirstIn};
+ghost use Rattle.elf_table.specs.Judged.{IsJudgedBehind};
 ghost use Rattle.elf_table.specs.Sections.{content, section, sections_of};
 ghost use Rattle.elf_table.specs.Symbols.{symbols_of};
 
 use crate::body_kind::BodyKind;
-use crate::front_rules::judge_front;
 use crate::left_out::LeftOut;
 use crate::member_rule::lowest_wrong_member;
 use crate::reference_rules::{ReferenceRule, lowest_reference};
@@ -17,31 +19,37 @@ use crate::rules::*;
 use elf_field::abi::*;
 use elf_image::{Fault, Image};
 use elf_rules::Broken;
-use elf_table::{Group, Place, Relocs, Symbols};
+use elf_table::{Place, Symbols, Tables};
 use std::alloc::Global;
 
-/// All rules of the image as an object, which leaves these sections out.
-pub(crate) fn judge_file(alloc: Global, image: &Image<'_>, left: &LeftOut) -> Result<(), Fault>
-    requires { left.now ≡ left_out (sections_of image.now) }
-    ensures { let f = sections_of image.now in IsJudgedBehind (front_rules f) (file_rules f) (λ _. Unit {0}) result }
+/// All rules of the image as an object but 70 to 74, by the verdicts on its tables.
+pub(crate) fn judge_behind(
+    alloc: Global,
+    image: &Image<'_>,
+    left: &LeftOut,
+    tables: &Tables<'_, '_>,
+) -> Result<(), Fault>
+    requires left { left.now ≡ left_out (sections_of image.now) }
+    requires tables { AreTablesOf image.now tables.now }
+    ensures { IsJudgedBehind [] (rules_behind left.now (sections_of image.now) left.now.symbol_table) (λ _. Unit {0}) result }
 {
-    judge_front(image, left.symbol_table)?;
-    judge_symbols(image, left)?;
-    judge_bodies(alloc, image, left)?;
+    judge_symbols(image, left, tables)?;
+    judge_bodies(image, left, tables)?;
     judge_references(alloc, image, left)
 }
 
 /// The rules of the symbol table, where there is one, and rule 75.
-fn judge_symbols(image: &Image<'_>, left: &LeftOut) -> Result<(), Fault>
-    requires { left.now ≡ left_out (sections_of image.now) }
-    ensures { IsJudgedBehind [] (symbol_rules_in left.now (sections_of image.now) left.now.symbol_table) (λ _. Unit {0}) result }
+fn judge_symbols(image: &Image<'_>, left: &LeftOut, tables: &Tables<'_, '_>) -> Result<(), Broken>
+    requires left { left.now ≡ left_out (sections_of image.now) }
+    requires tables { AreTablesOf image.now tables.now }
+    ensures { FirstIn (symbol_rules_in left.now (sections_of image.now) left.now.symbol_table) (fault_of result) }
 {
     let Some(t) = left.symbol_table else {
         return Ok(());
     };
-    let symbols = Symbols::new(image, t)?;
-    match lowest_symbol_outside(image, left, t, &symbols) {
-        Some(at) => Err(Fault::from(Broken::new(SYMBOL_OUTSIDE, at))),
+    tables.verdict(t)?;
+    match lowest_symbol_outside(image, left, t, &tables.symbols(t)) {
+        Some(at) => Err(Broken::new(SYMBOL_OUTSIDE, at)),
         None => Ok(()),
     }
 }
@@ -89,34 +97,28 @@ fn is_outside(image: &Image<'_>, left: &LeftOut, place: Place) -> bool
 }
 
 /// The rules of each relocation section and each group that is kept, in the order of their indexes.
-fn judge_bodies(alloc: Global, image: &Image<'_>, left: &LeftOut) -> Result<(), Fault>
-    ensures { let f = sections_of image.now in
-        IsJudgedBehind [] (rules_of_bodies f (kept left.now f)) (λ _. Unit {0}) result }
+fn judge_bodies(image: &Image<'_>, left: &LeftOut, tables: &Tables<'_, '_>) -> Result<(), Broken>
+    requires { AreTablesOf image.now tables.now }
+    ensures { let f = sections_of image.now in FirstIn (rules_of_bodies f (kept left.now f)) (fault_of result) }
 {
     for i in 0..image.section_count() {
         if left.is_kept(image, i) {
-            judge_body(alloc, image, i)?;
+            judge_body(image, tables, i)?;
         }
     }
     Ok(())
 }
 
 /// The rules of the relocation section or the group in section `i`; none where it is neither.
-fn judge_body(alloc: Global, image: &Image<'_>, i: usize) -> Result<(), Fault>
-    requires { i < length image.now.sections }
-    ensures { let f = sections_of image.now in
-        IsJudgedBehind [] (rules_of_body (body_kind (section f i).sh_type) f i) (λ _. Unit {0}) result }
+fn judge_body(image: &Image<'_>, tables: &Tables<'_, '_>, i: usize) -> Result<(), Broken>
+    requires there { i < length image.now.sections }
+    requires tables { AreTablesOf image.now tables.now }
+    ensures { let f = sections_of image.now in FirstIn (rules_of_body (body_kind (section f i).sh_type) f i) (fault_of result) }
 {
     match BodyKind::of(image.section(i).sh_type) {
-        BodyKind::Relocs => {
-            let _ = Relocs::new(image, i)?;
-        }
-        BodyKind::Group => {
-            let _ = Group::new(alloc, image, i)?;
-        }
-        BodyKind::Bits | BodyKind::NoBits => {}
+        BodyKind::Relocs | BodyKind::Group => tables.verdict(i),
+        BodyKind::Bits | BodyKind::NoBits => Ok(()),
     }
-    Ok(())
 }
 
 /// Rules 76 to 79.

@@ -1,8 +1,8 @@
 //! A relocatable ELF-64 file as a typed object (gABI chapter 4): its sections with names and bodies, and its symbols, every
 //! reference between them a position in a list.
 //!
-//! An [`Object`] is made from its [`ObjectParts`] and keeps the object rules ([`rules`]) from then on. One without sections or
-//! symbols is made so:
+//! [`object_of`] reads one from an [`Image`](elf_image::Image). Or an [`Object`] is made from its [`ObjectParts`]; it keeps the
+//! object rules ([`rules`]) from then on. One without sections or symbols is made so:
 //!
 //! ```
 //! let parts = ObjectParts {
@@ -46,6 +46,7 @@ pub use fault::ObjectFault;
 pub use laws::{one_object, one_object_fault};
 pub use object::Object;
 pub use parts::ObjectParts;
+pub use reading::object_of;
 pub use relocation::Relocation;
 pub use section::{Body, Info, Section};
 pub use symbol::{Place, Symbol};

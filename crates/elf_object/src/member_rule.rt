@@ -1,32 +1,15 @@
 //! Rule 77: the members of the section groups of a file (gABI chapter 4, Section Groups).
-ghost use Rattle.std.specs.Prelude.{◌≡◌, ◌↔◌, ◌<◌, ◌+◌, ◌*◌, IfOk, IsTrue, length};
+ghost use Rattle.std.specs.Prelude.{◌≡◌, ◌↔◌, ◌<◌, ◌+◌, IfOk, IsTrue, length};
 ghost use Rattle.elf_extent.specs.Least.{IsLowest, lower_of};
 ghost use Rattle.elf_object.specs.FileRules.{IsNamedBefore, IsWrongMember, wrong_group_member, wrong_member_of};
 ghost use Rattle.elf_object.specs.MemberMarks.{AreMarks};
-ghost use Rattle.elf_table.specs.Groups.{member as member_of, member_count as member_count_of};
 ghost use Rattle.elf_table.specs.Sections.{content, order, section, sections_of};
 
 use crate::left_out::LeftOut;
 use elf_field::abi::*;
-use elf_field::{Order, get_at};
 use elf_image::Image;
+use elf_table::{member, member_count};
 use std::alloc::{AllocError, Global};
-
-/// How many members a group of this content has.
-pub(crate) fn member_count(words: &[u8]) -> usize
-    ensures { result ≡ member_count_of words.now }
-{
-    (words.len() / WORD_SIZE as usize).saturating_sub(1)
-}
-
-/// Member `j` of a group of this content: the index of a section.
-#[tactic(auto, unfolding(elf_table::specs::SymbolRules::word))]
-pub(crate) fn member(order: Order, words: &[u8], j: usize) -> u32
-    requires { j < member_count_of words.now }
-    ensures { result ≡ member_of order words.now j }
-{
-    get_at(order, words, WORD_SIZE as usize * (j + 1))
-}
 
 /// The lowest offset of a member that is left out, or a group itself, or a member of a group before. It takes a mark for each
 /// section, and the time of one pass over all members.

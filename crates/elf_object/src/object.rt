@@ -47,6 +47,14 @@ impl<'a> Object<'a> {
         Ok(Object { parts })
     }
 
+    /// The object of these parts, which break no rule.
+    pub(crate) fn of_kept(parts: ObjectParts<'a>) -> Object<'a>
+        requires { IsObject (value_of parts) }
+        ensures { result ≡ value_of parts.entry }
+    {
+        Object { parts }
+    }
+
     /// Promises that none of the object rules is broken. It does nothing.
     pub fn keeps_rules(&self)
         ensures { IsObject self.now }

@@ -1,12 +1,14 @@
 //! The sections of a file as those of an object (gABI chapter 4, Sections, Relocation, Section Groups).
-ghost use Rattle.std.specs.Prelude.{◌≡◌, ◌<◌, None, IfErr, IfOk, length, map};
-ghost use Rattle.elf_image.specs.declared.fault.Fault.TheVariants.{OutOfMemory};
+ghost use Rattle.std.specs.Prelude.{◌≡◌, ◌<◌, None, IfOk, length, map};
+ghost use Rattle.elf_object.specs.declared.body_kind.BodyKind.TheVariants as kind;
 ghost use Rattle.elf_object.specs.Denotes.{body_denoted, info_denoted, link_denoted, plain_info as plain_info_of, relocation_denoted, section_denoted};
 ghost use Rattle.elf_object.specs.FileRules.{rules_of_bodies, rules_of_body};
 ghost use Rattle.elf_object.specs.Kept.{body_kind, kept, position_of};
 ghost use Rattle.elf_object.specs.ObjectView.{body_value, section_value};
-ghost use Rattle.elf_object.specs.Reading.{ArePositions};
+ghost use Rattle.elf_object.specs.Reading.{ArePositions, AreTablesOf};
 ghost use Rattle.elf_rules.specs.Rows.{FirstIn};
+ghost use Rattle.elf_table.specs.Groups.{group_of};
+ghost use Rattle.elf_table.specs.Relocations.{relocations_of};
 ghost use Rattle.elf_table.specs.Sections.{section, sections_of};
 
 use crate::body_kind::BodyKind;
@@ -16,8 +18,8 @@ use crate::relocation::Relocation;
 use crate::section::{Body, Info, Section};
 use elf_field::Shdr;
 use elf_field::abi::*;
-use elf_image::{Fault, Image};
-use elf_table::{Group, Relocs};
+use elf_image::Image;
+use elf_table::{Group, Relocs, Tables};
 use std::alloc::{AllocError, Global};
 
 /// A relocation of a table as one of an object.
@@ -113,35 +115,33 @@ fn read_info(
     }
 }
 
-/// What section `i` holds, whose table breaks no rule. [`Fault::OutOfMemory`] is the only error.
+/// What section `i` holds, whose table breaks no rule.
 fn read_body<'a>(
     alloc: Global,
     image: &Image<'a>,
     left: &LeftOut,
+    tables: &Tables<'_, 'a>,
     positions: &[usize],
     i: usize,
-    kind: BodyKind,
-) -> Result<Body<'a>, Fault>
+) -> Result<Body<'a>, AllocError>
     requires there { i < length image.now.sections }
+    requires tables { AreTablesOf image.now tables.now }
     requires positions { ArePositions left.now (sections_of image.now) positions.now }
-    requires sound { let f = sections_of image.now in FirstIn (rules_of_body kind f i) None }
-    ensures ok { IfOk result (λ body. body_value body ≡ body_denoted left.now (sections_of image.now) i kind) }
-    ensures err { IfErr result (λ fault. fault ≡ OutOfMemory) }
+    requires sound { let f = sections_of image.now in FirstIn (rules_of_body (body_kind (section f i).sh_type) f i) None }
+    ensures { let f = sections_of image.now in
+        IfOk result (λ body. body_value body ≡ body_denoted left.now f i (body_kind (section f i).sh_type)) }
 {
     let section = image.section(i);
-    match kind {
+    match BodyKind::of(section.sh_type) {
         BodyKind::Bits => Ok(Body::Bits(section.sh_type, image.content(i))),
         BodyKind::NoBits => Ok(Body::NoBits(section.sh_size)),
-        BodyKind::Relocs => {
-            let relocs = Relocs::new(image, i)?;
-            Ok(Body::Relocs {
-                rela: section.sh_type == SHT_RELA,
-                target: position_at(image, left, positions, section.sh_info as usize),
-                entries: read_entries(alloc, &relocs)?,
-            })
-        }
+        BodyKind::Relocs => Ok(Body::Relocs {
+            rela: section.sh_type == SHT_RELA,
+            target: position_at(image, left, positions, section.sh_info as usize),
+            entries: read_entries(alloc, &relocs_at(image, tables, i))?,
+        }),
         BodyKind::Group => {
-            let group = Group::new(alloc, image, i)?;
+            let group = group_at(image, tables, i);
             Ok(Body::Group {
                 comdat: group.flags() == GRP_COMDAT,
                 signature: group.signature().saturating_sub(1) as usize,
@@ -151,24 +151,49 @@ fn read_body<'a>(
     }
 }
 
-/// Section `i`, whose table breaks no rule. [`Fault::OutOfMemory`] is the only error.
+/// The relocations of section `i`, whose table breaks no rule.
+fn relocs_at<'a>(image: &Image<'a>, tables: &Tables<'_, 'a>, i: usize) -> Relocs<'a>
+    requires there { i < length image.now.sections }
+    requires tables { AreTablesOf image.now tables.now }
+    requires kind { body_kind (section (sections_of image.now) i).sh_type ≡ kind.Relocs }
+    requires sound { let f = sections_of image.now in FirstIn (rules_of_body (body_kind (section f i).sh_type) f i) None }
+    ensures { result ≡ relocations_of (sections_of image.now) i }
+{
+    let _ = image;
+    tables.relocs(i)
+}
+
+/// The group in section `i`, whose table breaks no rule.
+fn group_at<'a>(image: &Image<'a>, tables: &Tables<'_, 'a>, i: usize) -> Group<'a>
+    requires there { i < length image.now.sections }
+    requires tables { AreTablesOf image.now tables.now }
+    requires kind { body_kind (section (sections_of image.now) i).sh_type ≡ kind.Group }
+    requires sound { let f = sections_of image.now in FirstIn (rules_of_body (body_kind (section f i).sh_type) f i) None }
+    ensures { result ≡ group_of (sections_of image.now) i }
+{
+    let _ = image;
+    tables.group(i)
+}
+
+/// Section `i`, whose table breaks no rule.
 #[tactic(auto, unfolding(crate::specs::Denotes::section_denoted))]
 fn read_section<'a>(
     alloc: Global,
     image: &Image<'a>,
     left: &LeftOut,
+    tables: &Tables<'_, 'a>,
     positions: &[usize],
     i: usize,
-) -> Result<Section<'a>, Fault>
+) -> Result<Section<'a>, AllocError>
     requires there { i < length image.now.sections }
+    requires tables { AreTablesOf image.now tables.now }
     requires positions { ArePositions left.now (sections_of image.now) positions.now }
     requires sound { let f = sections_of image.now in FirstIn (rules_of_body (body_kind (section f i).sh_type) f i) None }
-    ensures ok { IfOk result (λ s. section_value s ≡ section_denoted left.now (sections_of image.now) i) }
-    ensures err { IfErr result (λ fault. fault ≡ OutOfMemory) }
+    ensures { IfOk result (λ s. section_value s ≡ section_denoted left.now (sections_of image.now) i) }
 {
     let section = image.section(i);
     let kind = BodyKind::of(section.sh_type);
-    let body = read_body(alloc, image, left, positions, i, kind)?;
+    let body = read_body(alloc, image, left, tables, positions, i)?;
     Ok(Section {
         name: image.name(i),
         flags: section.sh_flags,
@@ -181,23 +206,24 @@ fn read_section<'a>(
     })
 }
 
-/// The sections that are kept, whose tables break no rule. [`Fault::OutOfMemory`] is the only error.
+/// The sections that are kept, whose tables break no rule.
 pub(crate) fn read_sections<'a>(
     alloc: Global,
     image: &Image<'a>,
     left: &LeftOut,
+    tables: &Tables<'_, 'a>,
     positions: &[usize],
-) -> Result<Vec<Section<'a>>, Fault>
+) -> Result<Vec<Section<'a>>, AllocError>
+    requires tables { AreTablesOf image.now tables.now }
     requires positions { ArePositions left.now (sections_of image.now) positions.now }
     requires sound { let f = sections_of image.now in FirstIn (rules_of_bodies f (kept left.now f)) None }
-    ensures ok { let f = sections_of image.now in
+    ensures { let f = sections_of image.now in
         IfOk result (λ sections. map section_value sections.items ≡ map (section_denoted left.now f) (kept left.now f)) }
-    ensures err { IfErr result (λ fault. fault ≡ OutOfMemory) }
 {
     let mut sections = Vec::new(alloc);
     for i in 0..image.section_count() {
         if left.is_kept(image, i) {
-            let section = read_section(alloc, image, left, positions, i)?;
+            let section = read_section(alloc, image, left, tables, positions, i)?;
             sections.push(section)?;
         }
     }

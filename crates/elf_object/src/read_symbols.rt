@@ -1,11 +1,10 @@
 //! The symbols of a file as those of an object (gABI chapter 4, Symbol Table).
-ghost use Rattle.std.specs.Prelude.{◌≡◌, ◌<◌, None, IfErr, IfOk, get_or, length, map};
-ghost use Rattle.elf_image.specs.declared.fault.Fault.TheVariants.{OutOfMemory};
+ghost use Rattle.std.specs.Prelude.{◌≡◌, ◌<◌, None, IfOk, get_or, length, map};
 ghost use Rattle.elf_object.specs.Denotes.{place_denoted, symbol_denoted, symbols_denoted};
 ghost use Rattle.elf_object.specs.FileRules.{rules_of_symbols};
 ghost use Rattle.elf_object.specs.Kept.{left_out};
 ghost use Rattle.elf_object.specs.ObjectView.{symbol_value};
-ghost use Rattle.elf_object.specs.Reading.{ArePositions};
+ghost use Rattle.elf_object.specs.Reading.{ArePositions, AreTablesOf};
 ghost use Rattle.elf_rules.specs.Rows.{FirstIn};
 ghost use Rattle.elf_table.specs.Sections.{sections_of};
 ghost use Rattle.elf_table.specs.Symbols.{symbols_of};
@@ -16,9 +15,9 @@ use crate::read_positions::position_at;
 use crate::symbol::{Place, Symbol};
 use elf_field::abi::*;
 use elf_field::{Sym, get_at};
-use elf_image::{Fault, Image};
-use elf_table::Symbols;
-use std::alloc::Global;
+use elf_image::Image;
+use elf_table::{Symbols, Tables};
+use std::alloc::{AllocError, Global};
 
 /// Where a symbol is defined; a reserved index that is neither absolute nor common has been refused.
 fn read_place(
@@ -66,24 +65,24 @@ fn read_symbol<'a>(
 }
 
 /// The symbols from symbol 1 on, of a symbol table that breaks no rule; none where there is no symbol table.
-/// [`Fault::OutOfMemory`] is the only error.
 pub(crate) fn read_symbols<'a>(
     alloc: Global,
     image: &Image<'a>,
     left: &LeftOut,
+    tables: &Tables<'_, 'a>,
     positions: &[usize],
-) -> Result<Vec<Symbol<'a>>, Fault>
+) -> Result<Vec<Symbol<'a>>, AllocError>
     requires left { left.now ≡ left_out (sections_of image.now) }
+    requires tables { AreTablesOf image.now tables.now }
     requires positions { ArePositions left.now (sections_of image.now) positions.now }
     requires sound { FirstIn (rules_of_symbols (sections_of image.now) left.now.symbol_table) None }
-    ensures ok { IfOk result (λ symbols. map symbol_value symbols.items ≡ symbols_denoted left.now (sections_of image.now) left.now.symbol_table) }
-    ensures err { IfErr result (λ fault. fault ≡ OutOfMemory) }
+    ensures { IfOk result (λ symbols. map symbol_value symbols.items ≡ symbols_denoted left.now (sections_of image.now) left.now.symbol_table) }
 {
     let mut read = Vec::new(alloc);
     let Some(t) = left.symbol_table else {
         return Ok(read);
     };
-    let symbols = Symbols::new(image, t)?;
+    let symbols = tables.symbols(t);
     for j in 0..symbols.len().saturating_sub(1) {
         read.push(read_symbol(image, left, positions, t, &symbols, j + 1))?;
     }

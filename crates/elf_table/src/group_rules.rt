@@ -168,15 +168,15 @@ fn is_ascending(order: Order, words: &[u8]) -> bool
     true
 }
 
-/// How many members a group of this content has.
-pub(crate) fn member_count(words: &[u8]) -> usize
+/// How many members a group of this content has: a word for each, behind the word of flags.
+pub fn member_count(words: &[u8]) -> usize
     ensures { result ≡ member_count_of words.now }
 {
     (words.len() / WORD_SIZE as usize).saturating_sub(1)
 }
 
-/// Member `j` of a group of this content.
-pub(crate) fn member(order: Order, words: &[u8], j: usize) -> u32
+/// Member `j` of a group of this content, which is below [`member_count`]: the index of a section.
+pub fn member(order: Order, words: &[u8], j: usize) -> u32
     requires { j < member_count_of words.now }
     ensures { result ≡ member_of order words.now j }
 {

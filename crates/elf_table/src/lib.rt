@@ -44,6 +44,7 @@ mod verdicts;
 
 pub use dynamic::{Dynamic, DynamicIter, is_string_tag};
 pub use group::{Group, GroupIter};
+pub use group_rules::{member, member_count};
 pub use hash::{Hash, HashIter};
 pub use hash_building::{HashFault, build_hash};
 pub use laws::{entries_in_file, one_table_fault, sections_of_bytes};

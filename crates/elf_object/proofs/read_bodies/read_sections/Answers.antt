@@ -25,7 +25,7 @@ loop-i-preserved c =
           let pushed = ap (λ (v : _). v.items) w.sections-is ∙ w.in_ok-push.ensures.items in
           record {
             done = ap (λ (xs : List Section). map section_value xs) pushed ∙
-                mapped_next section_value (section_denoted left f) (is_kept left f) i c.loop-i.sections.items w.in_ok-section.section c.loop-i.invariant.done w.in_ok-section.ensures.ok here;
+                mapped_next section_value (section_denoted left f) (is_kept left f) i c.loop-i.sections.items w.in_ok-section.section c.loop-i.invariant.done w.in_ok-section.ensures here;
             sound = rest_sound left f i (omega arith) here c.loop-i.invariant.sound;
           })
       | else-is_kept w ↦ (
