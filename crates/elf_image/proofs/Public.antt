@@ -4,7 +4,7 @@ pub use Rattle.elf_image.proofs.Fields.{header_fields, section_fields, segment_f
 pub use Rattle.elf_image.proofs.FileParts.{written_accepted, written_is_bytes, written_read}
 pub use Rattle.elf_image.proofs.OneImage.{one_image, owner_from}
 pub use Rattle.elf_image.proofs.PartsOfImage.{are_parts}
-pub use Rattle.elf_image.proofs.RelocatableFile.{length-relocatable_bytes, relocatable_accepted, relocatable_is_bytes, relocatable_names, relocatable_read}
+pub use Rattle.elf_image.proofs.RelocatableFile.{length-relocatable_bytes, length-relocatable_file, relocatable_accepted, relocatable_is_bytes, relocatable_names, relocatable_read}
 pub use Rattle.elf_image.proofs.SomeImage.{some_image}
 pub use Rattle.elf_image.proofs.Spread.{in_spread, length-spread, length-unaligned, parts_ascend}
 pub use Rattle.elf_image.proofs.Stands.{contents_read, entry_at, header_read, sections_read, segments_read}

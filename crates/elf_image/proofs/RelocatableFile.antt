@@ -21,7 +21,7 @@ use Rattle.elf_image.specs.declared.part.Owner.{Owner}
 use Rattle.elf_image.specs.declared.part.Owner.TheVariants.{Header, ProgramTable, SectionTable, Content, Gap}
 use Rattle.elf_image.specs.Image.{ImageValue, Stands, value_names}
 use Rattle.elf_image.specs.FileParts.{AreFileParts, HasContents, IsPartOf, IsWritable, WrittenPart, owner_bytes, owner_start, spread, unaligned, written}
-use Rattle.elf_image.specs.RelocatableFile.{IsRelocatableFile, all_headers, behind_header, content_parts, count_in_header, first_header, in_first, index_in_header, offsets, relocatable_bytes, relocatable_file, relocatable_parts, section_table}
+use Rattle.elf_image.specs.RelocatableFile.{IsRelocatableFile, all_headers, behind_header, content_parts, short_count, first_header, long_number, short_index, offsets, relocatable_bytes, relocatable_file, relocatable_parts, section_table}
 use Rattle.elf_image.proofs.FileParts.{written_accepted, written_is_bytes, written_read}
 use Rattle.elf_image.proofs.Spread.{length-spread, length-unaligned, parts_ascend}
 
@@ -113,14 +113,14 @@ content_some_len s null bits = rw (ne_eqb s.sh_type 0 null, ne_eqb s.sh_type 8 b
 
 -- ---- counts and indexes on both sides of the border
 
-low : (number : ℕ) → number < SHN_LORESERVE → (count_in_header number ≡ number) × (index_in_header number ≡ number) × (in_first number ≡ 0)
+low : (number : ℕ) → number < SHN_LORESERVE → (short_count number ≡ number) × (short_index number ≡ number) × (long_number number ≡ 0)
 low number lt = (rw (lt-ltb number SHN_LORESERVE lt) refl, rw (lt-ltb number SHN_LORESERVE lt) refl, rw (lt-ltb number SHN_LORESERVE lt) refl)
 
-high : (number : ℕ) → SHN_LORESERVE ≤ number → (count_in_header number ≡ 0) × (index_in_header number ≡ SHN_XINDEX) × (in_first number ≡ number)
+high : (number : ℕ) → SHN_LORESERVE ≤ number → (short_count number ≡ 0) × (short_index number ≡ SHN_XINDEX) × (long_number number ≡ number)
 high number le = (rw (le-ltb number SHN_LORESERVE le) refl, rw (le-ltb number SHN_LORESERVE le) refl, rw (le-ltb number SHN_LORESERVE le) refl)
 
 -- the count of section headers, read of the header or of section header 0
-counted : (h : Ehdr) (n k : ℕ) → h.e_shoff ≢ 0 → 0 < n → h.e_shnum ≡ count_in_header n → section_count h (first_header n k) ≡ n
+counted : (h : Ehdr) (n k : ℕ) → h.e_shoff ≢ 0 → 0 < n → h.e_shnum ≡ short_count n → section_count h (first_header n k) ≡ n
 counted h n k there some count =
     rw (ne_eqb h.e_shoff 0 there, count) (elim (cases_lt n SHN_LORESERVE) [
       | inl few ↦ (let other : n ≢ 0 = λ none. omega arith in let is = low n few in rw (is.0, ne_eqb n 0 other) refl)
@@ -128,11 +128,30 @@ counted h n k there some count =
     ])
 
 -- and the name table's index
-named : (h : Ehdr) (n k : ℕ) → h.e_shstrndx ≡ index_in_header k → name_table h (first_header n k) ≡ k
+named : (h : Ehdr) (n k : ℕ) → h.e_shstrndx ≡ short_index k → name_table h (first_header n k) ≡ k
 named h n k index = rw index (elim (cases_lt k SHN_LORESERVE) [
   | inl under ↦ (let other : k ≢ SHN_XINDEX = λ same. omega arith in let is = low k under in rw (is.1, ne_eqb k SHN_XINDEX other) refl)
   | inr over ↦ (let is = high k over in rw (is.1, is.2) refl)
 ])
+
+-- ---- the whole length
+
+-- where the section header table ends
+pub length-relocatable_bytes : (h : Ehdr) (ss : List Shdr) (cs : List (List ℕ)) (names : ℕ) → length cs ≡ length ss →
+    Fits (map unaligned (behind_header h ss cs names)) EHDR_SIZE (offsets h ss) →
+    length (relocatable_bytes h ss cs names) ≡ h.e_shoff + SHDR_SIZE * (length ss + 1)
+unfolding relocatable_bytes
+length-relocatable_bytes h ss cs names counts order =
+    let ps = ehdr_bytes (order_of h.e_ident) h ∷ behind_header h ss cs names in
+    let all = length-append cs (section_table h ss names ∷ []) in
+    let long : EHDR_SIZE ≡ 0 + length (ehdr_bytes (order_of h.e_ident) h) = (let e = ehdr_laws.length_is (order_of h.e_ident) h in omega arith) in
+    let whole : Fits (map unaligned ps) 0 (0 ∷ offsets h ss) =
+    (omega arith, omega arith, subst (λ (x : ℕ). Fits (map unaligned (behind_header h ss cs names)) x (offsets h ss)) long order) in
+    let end = length-spread 0 (0 ∷ offsets h ss) ps (suc (length cs)) whole (omega arith) in
+    let place = offset_last ss h.e_shoff (length cs) counts in
+    let last = ap length (bytes_last cs (section_table h ss names)) in
+    let table = length-table shdr_laws (order_of h.e_ident) (all_headers ss names) in
+    omega arith
 
 -- ---- the file
 
@@ -175,10 +194,10 @@ module _ (h : Ehdr) (ss : List Shdr) (cs : List (List ℕ)) (names : ℕ) (file 
       let short = file.short in
       let below = file.names_within in
       elim (cases_lt n SHN_LORESERVE) [
-        | inl few ↦ (let counted = low n few in let named = low names (omega arith) in first_fits_at (in_first n) (in_first names) (omega arith) (omega arith))
+        | inl few ↦ (let counted = low n few in let named = low names (omega arith) in first_fits_at (long_number n) (long_number names) (omega arith) (omega arith))
         | inr many ↦ (let counted = high n many in elim (cases_lt names SHN_LORESERVE) [
-          | inl under ↦ (let named = low names under in first_fits_at (in_first n) (in_first names) (omega arith) (omega arith))
-          | inr over ↦ (let named = high names over in first_fits_at (in_first n) (in_first names) (omega arith) (omega arith))
+          | inl under ↦ (let named = low names under in first_fits_at (long_number n) (long_number names) (omega arith) (omega arith))
+          | inr over ↦ (let named = high names over in first_fits_at (long_number n) (long_number names) (omega arith) (omega arith))
         ])
       ]
     where
@@ -264,21 +283,7 @@ module _ (h : Ehdr) (ss : List Shdr) (cs : List (List ℕ)) (names : ℕ) (file 
   bytes_are = ap (λ (ps : List (List ℕ)). spread 0 places (ehdr_bytes (order_of h.e_ident) h ∷ ps)) (parts_bytes table_part 1 cs)
 
   length_is : length (relocatable_bytes h ss cs names) ≡ h.e_shoff + SHDR_SIZE * n
-  unfolding relocatable_bytes
-  length_is =
-      let ps = ehdr_bytes (order_of h.e_ident) h ∷ behind_header h ss cs names in
-      let all = length-append cs (section_table h ss names ∷ []) in
-      let whole : Fits (map unaligned ps) 0 places = (
-        omega arith,
-        omega arith,
-        (let long : EHDR_SIZE ≡ 0 + length (ehdr_bytes (order_of h.e_ident) h) = (let e = ehdr_laws.length_is (order_of h.e_ident) h in omega arith) in
-            subst (λ (x : ℕ). Fits (map unaligned (behind_header h ss cs names)) x (offsets h ss)) long file.order),
-      ) in
-      let end = length-spread 0 places ps (suc (length cs)) whole (omega arith) in
-      let place = offset_last ss h.e_shoff (length cs) counts in
-      let last = ap length (bytes_last cs (section_table h ss names)) in
-      let table = length-table shdr_laws (order_of h.e_ident) (all_headers ss names) in
-      omega arith
+  length_is = length-relocatable_bytes h ss cs names counts file.order
 
   -- ---- it keeps the rules
 
@@ -297,13 +302,13 @@ module _ (h : Ehdr) (ss : List Shdr) (cs : List (List ℕ)) (names : ℕ) (file 
         extended_name_table_index = λ some. (extended_index, no_extended_index);
       }
     where
-      plain_count : h.e_shnum ≢ 0 → in_first n ≡ 0
+      plain_count : h.e_shnum ≢ 0 → long_number n ≡ 0
       plain_count some = elim (cases_lt n SHN_LORESERVE) [
         | inl few ↦ (low n few).2
         | inr many ↦ absurd (some (file.section_count ∙ (high n many).0))
       ]
 
-      extended_count : h.e_shnum ≡ 0 → SHN_LORESERVE ≤ in_first n
+      extended_count : h.e_shnum ≡ 0 → SHN_LORESERVE ≤ long_number n
       extended_count none = elim (cases_lt n SHN_LORESERVE) [
         | inl few ↦ (let is = (low n few).0 in let count = file.section_count in absurd (omega arith))
         | inr many ↦ (let is = (high n many).2 in omega arith)
@@ -315,13 +320,13 @@ module _ (h : Ehdr) (ss : List Shdr) (cs : List (List ℕ)) (names : ℕ) (file 
         | inr over ↦ absurd (plain (file.name_table ∙ (high names over).1))
       ]
 
-      extended_index : h.e_shstrndx ≡ SHN_XINDEX → (SHN_LORESERVE ≤ in_first names) × (in_first names < section_count h (first_header n names))
+      extended_index : h.e_shstrndx ≡ SHN_XINDEX → (SHN_LORESERVE ≤ long_number names) × (long_number names < section_count h (first_header n names))
       extended_index escape = elim (cases_lt names SHN_LORESERVE) [
         | inl under ↦ (let is = (low names under).1 in let index = file.name_table in absurd (omega arith))
         | inr over ↦ (let is = (high names over).2 in let below = file.names_within in let count = count_is in (omega arith, omega arith))
       ]
 
-      no_extended_index : h.e_shstrndx ≢ SHN_XINDEX → in_first names ≡ 0
+      no_extended_index : h.e_shstrndx ≢ SHN_XINDEX → long_number names ≡ 0
       no_extended_index plain = elim (cases_lt names SHN_LORESERVE) [
         | inl under ↦ (low names under).2
         | inr over ↦ absurd (plain (file.name_table ∙ (high names over).1))
@@ -409,9 +414,9 @@ module _ (h : Ehdr) (ss : List Shdr) (cs : List (List ℕ)) (names : ℕ) (file 
 
 -- ---- the laws
 
-pub length-relocatable_bytes : (h : Ehdr) (ss : List Shdr) (cs : List (List ℕ)) (names : ℕ) → IsRelocatableFile h ss cs names →
+pub length-relocatable_file : (h : Ehdr) (ss : List Shdr) (cs : List (List ℕ)) (names : ℕ) → IsRelocatableFile h ss cs names →
     length (relocatable_bytes h ss cs names) ≡ h.e_shoff + SHDR_SIZE * (length ss + 1)
-length-relocatable_bytes h ss cs names file = length_is h ss cs names file
+length-relocatable_file h ss cs names file = length_is h ss cs names file
 
 pub relocatable_is_bytes : (h : Ehdr) (ss : List Shdr) (cs : List (List ℕ)) (names : ℕ) → IsRelocatableFile h ss cs names → IsBytes (relocatable_bytes h ss cs names)
 relocatable_is_bytes h ss cs names file =

@@ -18,20 +18,20 @@ use Rattle.elf_image.specs.FileParts.{FileContents, WrittenPart, spread, unalign
 -- ---- counts and indexes that the header may not hold
 
 -- e_shnum: 0 for a count that is a reserved index
-abbrev pub count_in_header : ℕ → ℕ
-count_in_header count = if nat_lt count SHN_LORESERVE then count else 0
+abbrev pub short_count : ℕ → ℕ
+short_count count = if nat_lt count SHN_LORESERVE then count else 0
 
 -- e_shstrndx: SHN_XINDEX for a name table whose index is a reserved one
-abbrev pub index_in_header : ℕ → ℕ
-index_in_header index = if nat_lt index SHN_LORESERVE then index else SHN_XINDEX
+abbrev pub short_index : ℕ → ℕ
+short_index index = if nat_lt index SHN_LORESERVE then index else SHN_XINDEX
 
 -- what section header 0 holds of a number: only one that the header doesn't
-abbrev pub in_first : ℕ → ℕ
-in_first number = if nat_lt number SHN_LORESERVE then 0 else number
+abbrev pub long_number : ℕ → ℕ
+long_number number = if nat_lt number SHN_LORESERVE then 0 else number
 
 -- section header 0 of a file with so many section headers and this name table
 abbrev pub first_header : ℕ → ℕ → Shdr
-first_header count names = record no_section { sh_size = in_first count; sh_link = in_first names }
+first_header count names = record no_section { sh_size = long_number count; sh_link = long_number names }
 
 -- ---- the file, of a header, the section headers and contents from 1 on, and the name table's index
 
@@ -86,8 +86,8 @@ pub record IsRelocatableFile (h : Ehdr) (ss : List Shdr) (cs : List (List ℕ)) 
   pub version : h.e_version ≡ EV_CURRENT
   pub header_size : h.e_ehsize ≡ EHDR_SIZE
   pub section_header_size : h.e_shentsize ≡ SHDR_SIZE
-  pub section_count : h.e_shnum ≡ count_in_header (length ss + 1)
-  pub name_table : h.e_shstrndx ≡ index_in_header names
+  pub section_count : h.e_shnum ≡ short_count (length ss + 1)
+  pub name_table : h.e_shstrndx ≡ short_index names
   pub no_program_table : h.e_phoff ≡ 0
   pub no_segments : h.e_phnum ≡ 0
   -- each part begins behind the one before it, and the last one ends in time

@@ -1,5 +1,5 @@
 -- A string table holds its names.
-use Rattle.std.proofs.Common.{◌≡◌, ◌<◌, ◌+◌, ◌-◌, ℕ, zero, suc, Bool, true, false, List, [], ◌∷◌, ◌++◌, length, take, drop, get_or, refl, sym, ap, ap₂, ◌∙◌, append_assoc, arith, length-append}
+use Rattle.std.proofs.Common.{◌≡◌, ◌≢◌, ◌<◌, ◌+◌, ◌-◌, ℕ, zero, suc, Bool, true, false, List, [], ◌∷◌, ◌++◌, length, take, drop, get_or, refl, sym, ap, ap₂, ◌∙◌, append_assoc, arith, length-append}
 use Rattle.std.specs.Prelude.{◌==◌, Some}
 use Rattle.std.specs.List.{AllByRecursion, before_first, filter, flat_map}
 use Rattle.std.proofs.lemmas.Bool.{ne_eqb, true≢false}
@@ -38,8 +38,10 @@ before_zero : (n : List ℕ) (behind : List ℕ) → HasNoZero n → before_firs
 before_zero [] behind all = refl
 before_zero (b ∷ n) behind all =
     let one : (k : ℕ) → 1 + k ≡ suc k = λ k. omega arith in
-    rw (ne_eqb b 0 all.0)
-    (ap (λ (k : ℕ). take k (b ∷ (n ++ (0 ∷ behind)))) (one _) ∙ ap (λ (s : List ℕ). b ∷ s) (before_zero n behind all.1))
+    let other : b ≢ 0 = λ is. all (0, omega arith, is) in
+    let rest : HasNoZero n = λ (k, lt, is). all (suc k, omega arith, is) in
+    rw (ne_eqb b 0 other)
+    (ap (λ (k : ℕ). take k (b ∷ (n ++ (0 ∷ behind)))) (one _) ∙ ap (λ (s : List ℕ). b ∷ s) (before_zero n behind rest))
 
 -- name i stands behind those before it
 pub split_at : (ns : List (List ℕ)) (i : ℕ) → i < length ns → ns ≡ (take i ns ++ (get_or ns i [] ∷ [])) ++ drop (suc i) ns

@@ -1,12 +1,12 @@
 -- What is known of a string table that holds names, however it holds them. (gABI chapter 4, String Table.)
-use Rattle.std.specs.Prelude.{◌≡◌, ◌≢◌, ◌<◌, ℕ, ◌-◌, List, [], get_or, length, slice_index}
+use Rattle.std.specs.Prelude.{◌≡◌, ◌<◌, ℕ, ◌-◌, List, [], Contains, get_or, length, slice_index}
 use Rattle.std.specs.List.{AllByRecursion}
 use Rattle.elf_field.specs.Bytes.{IsBytes}
 use Rattle.elf_image.specs.Strings.{string}
 
 -- a zero would end the name
 abbrev pub HasNoZero : List ℕ → Type 0
-HasNoZero name = AllByRecursion (λ byte. byte ≢ 0) name
+HasNoZero name = ¬ Contains name 0
 
 -- the table begins and ends with a zero, and each name is read where its place says
 pub record HoldsNames (names : List (List ℕ)) (table : List ℕ) (place : List ℕ → ℕ) : Type 0 where

@@ -14,3 +14,6 @@ mod table;
 
 pub use laws::holds_names;
 pub use table::StringTable;
+
+#[cfg(test)]
+mod tests;
