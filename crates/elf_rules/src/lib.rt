@@ -34,6 +34,7 @@ mod string_table;
 mod sums;
 pub mod tables;
 
+pub use alignment::is_wrong_alignment;
 pub use broken::Broken;
 pub use header_rules::{MAX_LEN, judge_header, judge_ident, judge_length};
 pub use image_rules::{judge, judge_by_sorting, judge_entries, judge_records, verdict};

@@ -1,0 +1,106 @@
+-- The symbols of the object that a file denotes: rules 7 to 9 of objects are kept.
+use Rattle.std.proofs.Common.{◌≡◌, ℕ, ◌+◌, ◌⊎◌, ◌<◌, Bool, Option, None, Some, List, false, true, get_or, length, inl, inr, refl, sym, ap, subst, ◌∙◌, arith}
+use Rattle.std.specs.Prelude.{Contains, drop}
+use Rattle.std.proofs.lemmas.Bool.{cases_lt}
+use Rattle.std.proofs.lemmas.List.{get_or-drop, get_or-map, length-drop, length-map}
+use Rattle.elf_extent.specs.Least.{Never}
+use Rattle.elf_rules.specs.Rows.{FirstIn}
+use Rattle.elf_object.specs.Denotes.{Denotes, place_denoted, symbol_denoted, symbols_denoted}
+use Rattle.elf_object.specs.FileRules.{IsOutside, file_rules, place_rules}
+use Rattle.elf_object.specs.Kept.{is_kept, left_out, symbol_table}
+use Rattle.elf_object.specs.declared.left_out.LeftOut.{LeftOut}
+use Rattle.elf_object.specs.Positions.{IsPast}
+use Rattle.elf_object.specs.Object.{ObjectValue, SymbolValue, no_symbol, symbol_at}
+use Rattle.elf_object.specs.SymbolRules.{place_position, wrong_place, zero_in_symbol_name}
+use Rattle.elf_table.specs.Sections.{Sections, count}
+use Rattle.elf_table.specs.declared.symbol.Place as table_place
+use Rattle.elf_table.specs.declared.symbol.Place.TheVariants.{Undefined, Absolute, Common, Reserved, Section}
+use Rattle.elf_table.specs.SymbolParts.{symbol_parts}
+use Rattle.elf_table.specs.SymbolRules.{entry, entry_count}
+use Rattle.elf_table.specs.SymbolView as table_view
+use Rattle.elf_table.specs.Symbols as table_symbols
+use Rattle.elf_table.specs.Symbols.{symbol_in, symbols_of}
+use Rattle.elf_table.proofs.SymbolLists.{length_symbols, symbol_get}
+use Rattle.elf_object.proofs.DenotedObject.{no_zero_in_string, position_there}
+use Rattle.elf_object.proofs.FileRuns.{places_sound}
+use Rattle.elf_object.proofs.KeptLists.{not_kept_past}
+
+-- symbol q of the object is symbol q + 1 of the symbol table in section t
+pub record IsSymbolOf (f : Sections) (o : ObjectValue) (q t : ℕ) : Type 0 where
+  pub table : symbol_table f ≡ Some t
+  pub there : q + 1 < length (symbols_of f t)
+  pub symbol : symbol_at o q ≡ symbol_denoted (left_out f) f (get_or (symbols_of f t) (q + 1) table_view.no_symbol)
+
+symbol_in_table : (f : Sections) (o : ObjectValue) (q : ℕ) (table : Option ℕ) → symbol_table f ≡ table → o.symbols ≡ symbols_denoted (left_out f) f table →
+    q < length o.symbols → (t : ℕ) × IsSymbolOf f o q t
+symbol_in_table f o q None is same lt = absurd (let none = ap (λ (ss : List SymbolValue). length ss) same in omega arith)
+symbol_in_table f o q (Some t) is same lt =
+    let all = symbols_of f t in
+    let D = symbol_denoted (left_out f) f in
+    let long = ap (λ (ss : List SymbolValue). length ss) same ∙ length-map (drop 1 all) D ∙ length-drop 1 all in
+    let within : q < length (drop 1 all) = omega (arith, length-drop 1 all) in
+    let next : 1 + q ≡ q + 1 = omega arith in (
+      t,
+      record {
+        table = is;
+        there = omega arith;
+        symbol =
+            ap (λ (ss : List SymbolValue). get_or ss q no_symbol) same ∙ get_or-map D (drop 1 all) q table_view.no_symbol no_symbol within ∙
+            ap D (get_or-drop 1 all q table_view.no_symbol ∙ ap (λ (k : ℕ). get_or all k table_view.no_symbol) next);
+      },
+    )
+
+pub symbol_at_position : (f : Sections) (o : ObjectValue) (q : ℕ) → Denotes f o → q < length o.symbols → (t : ℕ) × IsSymbolOf f o q t
+symbol_at_position f o q denotes lt = symbol_in_table f o q (symbol_table f) refl denotes.symbols lt
+
+-- the name of a symbol of a table is a string
+table_name : (f : Sections) (t j : ℕ) → j < length (symbols_of f t) → Contains (get_or (symbols_of f t) j table_view.no_symbol).name 0 → ⊥
+unfolding symbols_of symbol_in
+table_name f t j lt has =
+    let p = symbol_parts f t in
+    let within : j < entry_count p.table = omega (arith, length_symbols p.order p.table p.names p.words) in
+    let got = symbol_get p.order p.table p.names p.words j within in
+    no_zero_in_string p.names (entry p.order p.table j).st_name (subst (λ (s : table_symbols.SymbolValue). Contains s.name 0) got has)
+
+-- rule 7
+pub symbol_names_kept : (f : Sections) (o : ObjectValue) → Denotes f o → Never (zero_in_symbol_name o)
+symbol_names_kept f o denotes x (q, within, broken, here) =
+    let (t, is) = symbol_at_position f o q denotes within in
+    table_name f t (q + 1) is.there (subst (λ (s : SymbolValue). Contains s.name 0) is.symbol broken)
+
+-- ---- rule 8
+
+-- a section that is kept is there
+pub kept_there : (left : LeftOut) (f : Sections) (k : ℕ) → is_kept left f k ≡ true → k < count f
+kept_there left f k is = elim (cases_lt k (count f)) [
+  | inl there ↦ there
+  | inr past ↦ absurd (let other : true ≡ false = sym is ∙ not_kept_past left f k past in cc)
+]
+
+cases_bool : (b : Bool) → (b ≡ true) ⊎ (b ≡ false)
+cases_bool true = inl refl
+cases_bool false = inr refl
+
+-- a place that rule 75 lets pass is one of an object
+place_kept : (f : Sections) (o : ObjectValue) (place : table_place.Place) → Denotes f o → (IsOutside (left_out f) f place → ⊥) →
+    IsPast (length o.sections) (place_position (place_denoted (left_out f) f place)) → ⊥
+place_kept f o Undefined denotes inside past = past
+place_kept f o Absolute denotes inside past = past
+place_kept f o Common denotes inside past = past
+place_kept f o (Reserved index) denotes inside past = inside tt
+place_kept f o (Section k) denotes inside past = elim (cases_bool (is_kept (left_out f) f k)) [
+  | inl is ↦ (let below = position_there f o k denotes (kept_there (left_out f) f k is) is in omega arith)
+  | inr other ↦ inside other
+]
+
+no_place_outside : (f : Sections) (t j : ℕ) → FirstIn (place_rules (left_out f) f (Some t)) None → j < length (symbols_of f t) →
+    IsOutside (left_out f) f (get_or (symbols_of f t) j table_view.no_symbol).place → ⊥
+unfolding place_rules
+no_place_outside f t j clean lt outside = clean.0 _ (j, lt, outside, refl)
+
+pub places_kept : (f : Sections) (o : ObjectValue) → FirstIn (file_rules f) None → Denotes f o → Never (wrong_place o)
+places_kept f o clean denotes x (q, within, broken, here) =
+    let (t, is) = symbol_at_position f o q denotes within in
+    let places = subst (λ (table : Option ℕ). FirstIn (place_rules (left_out f) f table) None) is.table (places_sound f clean) in
+    place_kept f o (get_or (symbols_of f t) (q + 1) table_view.no_symbol).place denotes (no_place_outside f t (q + 1) places is.there)
+    (subst (λ (s : SymbolValue). IsPast (length o.sections) (place_position s.place)) is.symbol broken)

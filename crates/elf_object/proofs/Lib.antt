@@ -1,0 +1,14 @@
+-- Lemmas of this crate.
+pub mod Marks
+pub mod ObjectRuleLemmas
+pub mod FirstSection
+pub mod GroupMembers
+pub mod Verdicts
+pub mod KeptLists
+pub mod SymbolCount
+pub mod BodyRuns
+pub mod SymbolRuns
+pub mod FileRuns
+pub mod KeptIndex
+pub mod DenotedObject
+pub mod DenotedSymbols

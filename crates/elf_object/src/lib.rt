@@ -1,0 +1,51 @@
+//! A relocatable ELF-64 file as a typed object (gABI chapter 4): its sections with names and bodies, and its symbols, every
+//! reference between them a position in a list.
+//!
+//! An [`Object`] is made from its [`ObjectParts`] and keeps the object rules ([`rules`]) from then on. One without sections or
+//! symbols is made so:
+//!
+//! ```
+//! let parts = ObjectParts {
+//!     order: Order::Little,
+//!     osabi: 0,
+//!     abi: 0,
+//!     machine: 62,
+//!     flags: 0,
+//!     sections: Vec::new(alloc),
+//!     symbols: Vec::new(alloc),
+//! };
+//! let object = Object::new(alloc, parts)?;
+//! ```
+#![tactic(auto)]
+
+mod body_kind;
+mod fault;
+mod file_rules;
+mod front_rules;
+mod group_rule;
+mod laws;
+mod left_out;
+mod member_rule;
+mod object;
+mod object_rules;
+mod parts;
+mod positions;
+mod read_bodies;
+mod read_positions;
+mod read_symbols;
+mod reading;
+mod reference_rules;
+mod relocation;
+pub mod rules;
+mod section;
+mod section_rules;
+mod symbol;
+mod symbol_rules;
+
+pub use fault::ObjectFault;
+pub use laws::{one_object, one_object_fault};
+pub use object::Object;
+pub use parts::ObjectParts;
+pub use relocation::Relocation;
+pub use section::{Body, Info, Section};
+pub use symbol::{Place, Symbol};

@@ -1,0 +1,53 @@
+//! A section of an object (gABI chapter 4, Sections).
+use crate::relocation::Relocation;
+
+/// What `sh_info` says of a section whose body gives it no meaning.
+#[derive(Clone, Copy, Debug, PartialEq, Eq)]
+pub enum Info {
+    /// A number.
+    Number(u32),
+    /// The position of a section, where the section has the flag `SHF_INFO_LINK`.
+    Section(usize),
+}
+
+/// What a section holds.
+#[derive(Debug, Drop)]
+pub enum Body<'a> {
+    /// A section type and bytes that mean nothing here.
+    Bits(u32, &'a [u8]),
+    /// No bytes in the file, and so many in memory (`SHT_NOBITS`).
+    NoBits(u64),
+    /// Relocations of the section at position `target`: with addends (`SHT_RELA`) or without (`SHT_REL`).
+    Relocs {
+        rela: bool,
+        target: usize,
+        entries: Vec<Relocation>,
+    },
+    /// A section group (`SHT_GROUP`), by the positions of its signature symbol and of its member sections.
+    Group {
+        comdat: bool,
+        signature: usize,
+        members: Vec<usize>,
+    },
+}
+
+/// A section. Its name and bytes borrow from where they were read.
+#[derive(Debug, Drop)]
+pub struct Section<'a> {
+    /// The name, without a closing zero.
+    pub name: &'a [u8],
+    /// `sh_flags`, `SHF_WRITE` and the like.
+    pub flags: u64,
+    /// The address, 0 where it has none yet.
+    pub addr: u64,
+    /// The alignment: 0 for none, or a power of two.
+    pub align: u64,
+    /// The size of the entries of a table, 0 where the section holds none.
+    pub entsize: u64,
+    /// The position of the section that `sh_link` names, where the body gives it no other meaning.
+    pub link: Option<usize>,
+    /// What `sh_info` says, where the body gives it no other meaning.
+    pub info: Info,
+    /// What the section holds.
+    pub body: Body<'a>,
+}
