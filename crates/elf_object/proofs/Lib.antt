@@ -12,3 +12,4 @@ pub mod FileRuns
 pub mod KeptIndex
 pub mod DenotedObject
 pub mod DenotedSymbols
+pub mod CanonicalLayout

@@ -11,3 +11,5 @@ pub mod Denotes
 pub mod FileRules
 pub mod MemberMarks
 pub mod Reading
+pub mod PlainSections
+pub mod Laid

@@ -24,6 +24,7 @@ mod file_rules;
 mod front_rules;
 mod group_rule;
 mod laws;
+mod layout_laws;
 mod left_out;
 mod member_rule;
 mod object;
@@ -44,6 +45,7 @@ mod symbol_rules;
 
 pub use fault::ObjectFault;
 pub use laws::{one_object, one_object_fault};
+pub use layout_laws::one_layout;
 pub use object::Object;
 pub use parts::ObjectParts;
 pub use relocation::Relocation;
