@@ -1,6 +1,6 @@
 -- An object has one canonical layout.
-use Rattle.std.proofs.Common.{◌≡◌, ◌<◌, ◌≤◌, ◌+◌, ◌*◌, ℕ, zero, suc, List, [], ◌∷◌, ◌++◌, length, map, get_or, refl, sym, ap, ap₂, subst, ◌∙◌, arith, length-append}
-use Rattle.elf_field.specs.Abi.{EHDR_SIZE, SHDR_SIZE}
+use Rattle.std.proofs.Common.{◌≡◌, ℕ, List, refl, sym, ap, ◌∙◌}
+use Rattle.elf_field.specs.Abi.{EHDR_SIZE}
 use Rattle.elf_extent.proofs.Public.{least_places, same_least}
 use Rattle.elf_object.specs.Laid.{Laid, layout_bytes, layout_parts}
 use Rattle.elf_object.specs.Object.{ObjectValue}

@@ -13,3 +13,4 @@ pub mod KeptIndex
 pub mod DenotedObject
 pub mod DenotedSymbols
 pub mod CanonicalLayout
+pub mod LaidObjects

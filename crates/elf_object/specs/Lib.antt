@@ -13,3 +13,4 @@ pub mod MemberMarks
 pub mod Reading
 pub mod PlainSections
 pub mod Laid
+pub mod LaidObjects

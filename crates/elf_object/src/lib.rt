@@ -45,7 +45,7 @@ mod symbol_rules;
 
 pub use fault::ObjectFault;
 pub use laws::{one_object, one_object_fault};
-pub use layout_laws::one_layout;
+pub use layout_laws::{laid_objects, one_layout};
 pub use object::Object;
 pub use parts::ObjectParts;
 pub use relocation::Relocation;
