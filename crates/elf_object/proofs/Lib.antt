@@ -14,3 +14,4 @@ pub mod DenotedObject
 pub mod DenotedSymbols
 pub mod CanonicalLayout
 pub mod LaidObjects
+pub mod LayoutParts

@@ -14,3 +14,5 @@ pub mod Reading
 pub mod PlainSections
 pub mod Laid
 pub mod LaidObjects
+pub mod LayoutView
+pub mod NameTables
