@@ -15,3 +15,4 @@ pub mod DenotedSymbols
 pub mod CanonicalLayout
 pub mod LaidObjects
 pub mod LayoutParts
+pub mod NamesOf

@@ -1,10 +1,11 @@
 //! The names of an object's symbols and sections, as string tables (gABI chapter 4, String Table).
 ghost use Rattle.std.specs.Prelude.{◌≡◌, IfOk, map};
 ghost use Rattle.std.specs.List.{list_any};
-ghost use Rattle.elf_object.specs.PlainSections.{has_index_table, is_far, section_names, symbol_names};
+ghost use Rattle.elf_object.specs.PlainSections.{has_index_table, is_far, section_names};
 ghost use Rattle.elf_object.specs.NameTables.{AreNameTables};
 
 use crate::object::Object;
+use crate::section::Section;
 use crate::symbol::{Place, Symbol};
 use elf_field::abi::*;
 use elf_string_table::StringTable;
@@ -22,45 +23,37 @@ impl NameTables {
     pub(crate) fn new(alloc: Global, object: &Object<'_>) -> Result<NameTables, AllocError>
         ensures { IfOk result (AreNameTables object.now) }
     {
-        let strings = StringTable::new(alloc, &symbol_names(alloc, object)?)?;
+        let strings = StringTable::new(alloc, &symbol_names(alloc, object.symbols())?)?;
         let names = StringTable::new(alloc, &section_names(alloc, object)?)?;
         Ok(NameTables { strings, names })
     }
 }
 
 /// The names of the symbols.
-fn symbol_names<'a>(alloc: Global, object: &Object<'a>) -> Result<Vec<&'a [u8]>, AllocError>
-    ensures { IfOk result (λ names. map (λ name. name.now) names.items ≡ symbol_names object.now) }
+fn symbol_names<'a>(alloc: Global, symbols: &[Symbol<'a>]) -> Result<Vec<&'a [u8]>, AllocError>
+    ensures { IfOk result (λ names. names.items ≡ map (λ symbol. symbol.name) symbols.now) }
 {
-    let mut names = Vec::new(alloc);
-    for symbol in object.symbols() {
-        names.push(symbol.name)?;
-    }
-    Ok(names)
+    symbols.iter().map(|symbol| symbol.name).collect(alloc)
+}
+
+/// The names of the object's own sections.
+fn own_names<'a>(alloc: Global, sections: &[Section<'a>]) -> Result<Vec<&'a [u8]>, AllocError>
+    ensures { IfOk result (λ names. names.items ≡ map (λ section. section.name) sections.now) }
+{
+    sections.iter().map(|section| section.name).collect(alloc)
 }
 
 /// The names of the sections from section index 1 on, those of the last four behind the object's own.
 fn section_names<'a>(alloc: Global, object: &Object<'a>) -> Result<Vec<&'a [u8]>, AllocError>
     ensures { IfOk result (λ names. map (λ name. name.now) names.items ≡ section_names object.now) }
 {
-    let mut names = own_names(alloc, object)?;
+    let mut names = own_names(alloc, object.sections())?;
     names.push(b".symtab")?;
     if has_index_table(object) {
         names.push(b".symtab_shndx")?;
     }
     names.push(b".strtab")?;
     names.push(b".shstrtab")?;
-    Ok(names)
-}
-
-/// The names of the object's own sections.
-fn own_names<'a>(alloc: Global, object: &Object<'a>) -> Result<Vec<&'a [u8]>, AllocError>
-    ensures { IfOk result (λ names. map (λ name. name.now) names.items ≡ map (λ s. s.name) object.now.sections) }
-{
-    let mut names = Vec::new(alloc);
-    for section in object.sections() {
-        names.push(section.name)?;
-    }
     Ok(names)
 }
 
