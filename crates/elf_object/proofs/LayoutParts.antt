@@ -1,11 +1,13 @@
 -- The end of parts at their least places, and of the file that they make.
-use Rattle.std.proofs.Common.{◌≡◌, ◌<◌, ◌≤◌, ◌+◌, ◌-◌, ◌^◌, ℕ, zero, suc, List, [], ◌∷◌, ◌++◌, length, map, get_or, refl, sym, ap, ap₂, subst, ◌∙◌, inl, inr, arith, length-append}
+use Rattle.std.proofs.Common.{◌≡◌, ◌<◌, ◌≤◌, ◌+◌, ◌-◌, ◌⊎◌, min, ℕ, zero, suc, List, [], ◌∷◌, length, map, get_or, refl, ap, ap₂, subst, inl, inr, arith}
 use Rattle.std.proofs.lemmas.Bool.{cases_lt}
+use Rattle.std.proofs.Math.Nat.{le-min, min-eq_left}
 use Rattle.elf_field.specs.Abi.{EHDR_SIZE}
-use Rattle.elf_extent.specs.Place.{EndsFit, Fits, IsOverflowAt, Least, end_of}
+use Rattle.elf_extent.specs.Place.{Fits, IsOverflowAt, Least, end_of}
 use Rattle.elf_extent.proofs.Public.{above_earlier, fits_length, same_least}
 use Rattle.elf_rules.specs.HeaderRules.{MAX_LEN}
-use Rattle.elf_object.specs.LayoutView.{AreTooLong, ArePlacedParts}
+use Rattle.elf_object.specs.LayoutParts.{LARGEST, saturated}
+use Rattle.elf_object.specs.LayoutView.{AreTooLong, ArePlacedParts, LayoutValue}
 
 -- no part ends behind the last one
 pub end_last : (ps : List (ℕ × ℕ)) (from : ℕ) (q : List ℕ) (k : ℕ) → Fits ps from q → k < length ps → end_of ps q k ≤ end_of ps q (length ps - 1)
@@ -56,3 +58,47 @@ whole_end ps q x some least here =
     let place : get_or q (length ps - 1) x ≡ get_or q (length ps - 1) 0 = same_element q (length ps - 1) x 0 (omega arith) in
     let size = size_at ps (length ps - 1) in
     omega arith
+
+-- ---- sizes of 64 bits
+
+-- all sizes fit, or one is too large for any file
+pub sizes_fit : (ps : List (ℕ × ℕ)) → (map saturated ps ≡ ps) ⊎ ((k : ℕ) × (k < length ps) × (LARGEST ≤ get_or (map (λ (p : ℕ × ℕ). p.0) ps) k 0))
+sizes_fit [] = inl refl
+sizes_fit (p ∷ ps) = elim (cases_lt p.0 LARGEST) [
+  | inr large ↦ inr (0, omega arith, large)
+  | inl small ↦ elim (sizes_fit ps) [
+    | inl rest ↦ inl (ap₂ (λ (q : ℕ × ℕ) (qs : List (ℕ × ℕ)). q ∷ qs) (same_part p small) rest)
+    | inr (k, lt, large) ↦ inr (suc k, omega arith, large)
+  ]
+]
+  where
+    same_part : (p : ℕ × ℕ) → p.0 < LARGEST → saturated p ≡ p
+    same_part p small = let size : min p.0 LARGEST ≡ p.0 = min-eq_left (omega arith) in ap (λ (n : ℕ). let q : ℕ × ℕ = (n, p.1) in q) size
+
+length-saturated : (ps : List (ℕ × ℕ)) → length (map saturated ps) ≡ length ps
+length-saturated [] = refl
+length-saturated (p ∷ ps) = ap suc (length-saturated ps)
+
+saturated_size : (ps : List (ℕ × ℕ)) (k : ℕ) → LARGEST ≤ get_or (map (λ (p : ℕ × ℕ). p.0) ps) k 0 → LARGEST ≤ get_or (map (λ (p : ℕ × ℕ). p.0) (map saturated ps)) k 0
+saturated_size [] k large = large
+saturated_size (p ∷ ps) zero large = le-min large (omega arith)
+saturated_size (p ∷ ps) (suc k) large = saturated_size ps k large
+
+-- what places of such parts tell of the parts
+pub placed_parts : (ps : List (ℕ × ℕ)) (layout : LayoutValue) → ArePlacedParts (map saturated ps) layout → ArePlacedParts ps layout
+placed_parts ps layout placed = elim (sizes_fit ps) [
+  | inl same ↦ subst (λ (qs : List (ℕ × ℕ)). ArePlacedParts qs layout) same placed
+  | inr (k, lt, large) ↦
+      (let long = length-saturated ps in
+      let size = saturated_size ps k large in
+      let far = too_long_by_size (map saturated ps) k (omega arith) (omega arith) layout.places placed.least in
+      let short = placed.short in
+      let end = placed.file_len in
+      absurd (omega arith))
+]
+
+pub too_long_parts : (ps : List (ℕ × ℕ)) → AreTooLong (map saturated ps) → AreTooLong ps
+too_long_parts ps far = elim (sizes_fit ps) [
+  | inl same ↦ subst AreTooLong same far
+  | inr (k, lt, large) ↦ too_long_by_size ps k lt (omega arith)
+]

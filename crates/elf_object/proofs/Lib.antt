@@ -16,3 +16,5 @@ pub mod CanonicalLayout
 pub mod LaidObjects
 pub mod LayoutParts
 pub mod NamesOf
+pub mod PartSizes
+pub mod AllParts

@@ -14,5 +14,6 @@ pub mod Reading
 pub mod PlainSections
 pub mod Laid
 pub mod LaidObjects
+pub mod LayoutParts
 pub mod LayoutView
 pub mod NameTables

@@ -1,8 +1,11 @@
 //! Where the parts of an object stand in its canonical layout (gABI chapter 4, ELF Header, Sections).
 ghost use Rattle.std.specs.Prelude.{◌≡◌, ◌<◌, ℕ, ◌-◌, ◌∷◌, IfErr, IfOk, length, slice_index};
 ghost use Rattle.elf_extent.specs.Place.{EndsFit, Least};
-ghost use Rattle.elf_object.specs.LayoutView.{ArePartsFault, ArePlacedParts};
+ghost use Rattle.elf_object.specs.LayoutView.{ArePartsFault, ArePlacedParts, IsLayoutFault, IsLayoutOf};
 
+use crate::layout_parts::layout_parts;
+use crate::name_tables::NameTables;
+use crate::object::Object;
 use elf_extent::{PlaceFault, place};
 use elf_field::abi::*;
 use elf_rules::MAX_LEN;
@@ -81,6 +84,19 @@ impl Layout {
     {
         self.places.len()
     }
+}
+
+/// The canonical layout of an object.
+///
+/// [`LayoutFault::TooLong`] comes exactly where it is longer than the longest file, 2^30 bytes, and
+/// [`LayoutFault::OutOfMemory`] only where memory is refused.
+pub fn lay_out(alloc: Global, object: &Object<'_>) -> Result<Layout, LayoutFault>
+    ensures ok { IfOk result (IsLayoutOf object.now) }
+    ensures err { IfErr result (IsLayoutFault object.now) }
+{
+    let tables = NameTables::new(alloc, object)?;
+    let parts = layout_parts(alloc, object, &tables)?;
+    place_parts(alloc, &parts)
 }
 
 // The parts (size, alignment) behind the header, of which there is one at least, at their least places.

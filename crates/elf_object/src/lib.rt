@@ -26,6 +26,7 @@ mod group_rule;
 mod laws;
 mod layout;
 mod layout_laws;
+mod layout_parts;
 mod left_out;
 mod member_rule;
 mod name_tables;
@@ -47,7 +48,7 @@ mod symbol_rules;
 
 pub use fault::ObjectFault;
 pub use laws::{one_object, one_object_fault};
-pub use layout::{Layout, LayoutFault};
+pub use layout::{Layout, LayoutFault, lay_out};
 pub use layout_laws::{laid_objects, one_layout};
 pub use object::Object;
 pub use parts::ObjectParts;

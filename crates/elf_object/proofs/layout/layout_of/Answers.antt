@@ -1,4 +1,4 @@
-use Rattle.std.proofs.Common.{◌≡◌, ◌<◌, ◌≤◌, ◌+◌, ◌-◌, ℕ, List, length, map, get_or, rules, sym, subst, arith}
+use Rattle.std.proofs.Common.{◌≡◌, ◌-◌, length, rules, arith}
 use Rattle.std.specs.Prelude.{vec_len}
 use Rattle.elf_extent.proofs.Public.{fits_length}
 use Rattle.elf_object.proofs.LayoutParts.{too_long_at, whole_end}

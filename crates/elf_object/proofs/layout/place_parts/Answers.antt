@@ -1,4 +1,3 @@
-use Rattle.std.proofs.Common.{◌<◌, arith}
 use Rattle.elf_object.proofs.LayoutParts.{overflow_long}
 use Rattle.elf_object.proofs.layout.place_parts.Goals as goal
 

@@ -1,4 +1,4 @@
-use Rattle.std.proofs.Common.{List, ℕ, refl, sym, ap, ◌∙◌}
+use Rattle.std.proofs.Common.{refl, sym, ap, ◌∙◌}
 use Rattle.elf_object.proofs.NamesOf.{names_with_index_table, names_without_index_table}
 use Rattle.elf_object.proofs.name_tables.section_names.Goals as goal
 use Rattle.elf_object.proofs.name_tables.section_names.Goals.{then-has_index_table+in_ok-push-2, else-has_index_table}
