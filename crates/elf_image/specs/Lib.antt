@@ -9,3 +9,5 @@ pub mod Reading
 pub mod Strings
 pub mod View
 pub mod Parsing
+pub mod FileParts
+pub mod RelocatableFile

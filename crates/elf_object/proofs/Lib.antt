@@ -19,3 +19,9 @@ pub mod DenotedReferences
 pub mod DenotedGroups
 pub mod ObjectKept
 pub mod JudgedTables
+pub mod CanonicalLayout
+pub mod LaidObjects
+pub mod LayoutParts
+pub mod NamesOf
+pub mod PartSizes
+pub mod AllParts

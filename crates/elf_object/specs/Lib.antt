@@ -11,3 +11,9 @@ pub mod Denotes
 pub mod FileRules
 pub mod MemberMarks
 pub mod Reading
+pub mod PlainSections
+pub mod Laid
+pub mod LaidObjects
+pub mod LayoutParts
+pub mod LayoutView
+pub mod NameTables
