@@ -3,3 +3,4 @@ pub mod Calls
 pub mod Digits
 pub mod Output
 pub mod Words
+pub mod Left

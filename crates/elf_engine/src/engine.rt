@@ -2,6 +2,7 @@
 //! more file here.
 pub(crate) mod check;
 mod input;
+mod lines;
 mod output;
 pub(crate) mod show;
 mod show_tables;

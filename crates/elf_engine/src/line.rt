@@ -1,7 +1,7 @@
 //! Lines, word by word, at the end of a text: [`begin_line`] with the first word, a call for each
 //! further one, [`end_line`]. And the lines that all engines share.
 ghost use Rattle.std.specs.Prelude.{◌≡◌, ◌∷◌, ◌++◌, IfOk, OnOk, codes, string_bytes};
-ghost use Rattle.std.specs.Fmt.{decimal};
+ghost use Rattle.std.specs.Fmt.{decimal, signed_decimal};
 ghost use Rattle.std.specs.List.{list_all};
 ghost use Rattle.hex.specs.Hex.{encode_lower};
 ghost use Rattle.elf_engine.specs.Line.{blank, hexadecimal, is_graphic as is_graphic_byte, is_plain as is_plain_name, name_text, ok_line as ok_line_of, refused_line as refused_line_of};
@@ -33,6 +33,16 @@ pub(crate) fn push_decimal(text: &mut Vec<u8>, number: u64) -> Result<(), AllocE
     let mut digits = [0; MOST_DIGITS];
     let start = put_digits(number, 10, &mut digits);
     text.extend_from_slice(b" ")?;
+    text.extend_from_slice(&digits[start..])
+}
+
+/// Appends a signed number in decimal.
+pub(crate) fn push_signed(text: &mut Vec<u8>, number: i64) -> Result<(), AllocError>
+    ensures { OnOk result (text.new.items ≡ text.old.items ++ blank ∷ signed_decimal number) }
+{
+    let mut digits = [0; MOST_DIGITS];
+    let start = put_digits(number.unsigned_abs(), 10, &mut digits);
+    text.extend_from_slice(if number < 0 { b" -" } else { b" " })?;
     text.extend_from_slice(&digits[start..])
 }
 

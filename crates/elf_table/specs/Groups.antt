@@ -1,5 +1,5 @@
 -- Section groups, as values. (gABI chapter 4, Section Groups.)
-use Rattle.std.specs.Prelude.{ℕ, ◌+◌, ◌-◌, ◌/◌, List, length, map}
+use Rattle.std.specs.Prelude.{ℕ, ◌+◌, ◌-◌, ◌/◌, ◌<◌, List, length, map}
 use Rattle.std.specs.List.{range_with_len}
 use Rattle.elf_field.specs.Abi.{WORD_SIZE}
 use Rattle.elf_field.specs.declared.order.Order.{Order}
@@ -22,6 +22,10 @@ member_count words = length words / WORD_SIZE - 1
 
 abbrev pub member : Order → List ℕ → ℕ → ℕ
 member o words j = word o words (j + 1)
+
+-- each member is above those before it
+abbrev pub AreAscending : Order → List ℕ → Type 0
+AreAscending o words = (k j : ℕ) → k < j → j < member_count words → member o words k < member o words j
 
 unfoldable pub members_in : Order → List ℕ → List ℕ
 members_in o words = map (member o words) (range_with_len 0 (member_count words))

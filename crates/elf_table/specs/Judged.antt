@@ -11,3 +11,10 @@ IsJudged rules Is (Ok table) = FirstIn rules None × Is table
 IsJudged rules Is (Err (Rule rule at)) = FirstIn rules (Some (rule, at))
 IsJudged rules Is (Err OutOfMemory) = ⊥
 IsJudged rules Is (Err (Io at)) = ⊥
+
+-- of a call that takes memory: it is refused only where no rule of `front` is broken, which are tested before any is taken
+abbrev pub IsJudgedBehind : {T : Type 0} → List {1} Ruled → List {1} Ruled → (T → Type 0) → Result T Fault → Type 0
+IsJudgedBehind front rules Is (Ok table) = FirstIn rules None × Is table
+IsJudgedBehind front rules Is (Err (Rule rule at)) = FirstIn rules (Some (rule, at))
+IsJudgedBehind front rules Is (Err OutOfMemory) = FirstIn front None
+IsJudgedBehind front rules Is (Err (Io at)) = ⊥

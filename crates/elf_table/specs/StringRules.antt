@@ -16,5 +16,4 @@ linked_string_rules table start = rule 41 (unclosed_string_table table start) �
 
 unfoldable pub string_table_rules : Sections → ℕ → List {1} Ruled
 string_table_rules f i =
-    rule 40 (wrong_table_type (λ type. type ≡ SHT_STRTAB) f i) ∷
-    rule 41 (unclosed_string_table (content f i) (section f i).sh_offset) ∷ []
+    rule 40 (wrong_table_type (λ type. type ≡ SHT_STRTAB) f i) ∷ linked_string_rules (content f i) (section f i).sh_offset

@@ -1,19 +1,27 @@
--- The rules of the table that a section holds, by the section's type: of symbol tables.
-use Rattle.std.specs.Prelude.{ℕ, ◌==◌, ◌||◌, Bool, true, false, List, []}
-use Rattle.elf_field.specs.Abi.{SHT_DYNSYM, SHT_SYMTAB}
+-- The rules of the table that a section holds, by the kind of the table.
+use Rattle.std.specs.Prelude.{ℕ, Option, None, Some, List, []}
 use Rattle.elf_rules.specs.Rows.{Ruled}
+use Rattle.elf_table.specs.declared.table_kind.TableKind.{TableKind}
+use Rattle.elf_table.specs.declared.table_kind.TableKind.TheVariants.{SymbolTable, RelocationTable, SectionGroup, NoteSection, DynamicArray, HashTable}
+use Rattle.elf_table.specs.DynamicRules.{dynamic_section_rules}
+use Rattle.elf_table.specs.GroupRules.{group_section_rules}
+use Rattle.elf_table.specs.HashRules.{hash_table_rules}
+use Rattle.elf_table.specs.NoteRules.{note_section_rules}
+use Rattle.elf_table.specs.RelocationRules.{relocation_section_rules}
 use Rattle.elf_table.specs.Sections.{Sections, section}
 use Rattle.elf_table.specs.SymbolRules.{symbol_table_rules}
+use Rattle.elf_table.specs.TableKind.{kind_of}
 
--- a section of this type holds symbols
-abbrev pub holds_symbols : ℕ → Bool
-holds_symbols type = (type == SHT_SYMTAB) || (type == SHT_DYNSYM)
+-- those of a table of this kind in section i
+abbrev pub rules_of : Option TableKind → Sections → ℕ → List {1} Ruled
+rules_of None f i = []
+rules_of (Some SymbolTable) f i = symbol_table_rules f i
+rules_of (Some RelocationTable) f i = relocation_section_rules f i
+rules_of (Some SectionGroup) f i = group_section_rules f i
+rules_of (Some NoteSection) f i = note_section_rules f i
+rules_of (Some DynamicArray) f i = dynamic_section_rules f i
+rules_of (Some HashTable) f i = hash_table_rules f i
 
--- these rules, where they are asked for
-abbrev pub rules_where : Bool → List {1} Ruled → List {1} Ruled
-rules_where true rules = rules
-rules_where false rules = []
-
--- none where the section holds no symbol table
+-- none where the section holds no table
 unfoldable pub table_rules : Sections → ℕ → List {1} Ruled
-table_rules f i = rules_where (holds_symbols (section f i).sh_type) (symbol_table_rules f i)
+table_rules f i = rules_of (kind_of (section f i).sh_type) f i

@@ -3,7 +3,7 @@ ghost use Rattle.std.specs.Prelude.{◌≡◌, ◌<◌, None, length, slice_inde
 ghost use Rattle.elf_rules.specs.Rows.{FirstIn};
 ghost use Rattle.elf_table.specs.GroupRules.{group_section_front, group_section_rules};
 ghost use Rattle.elf_table.specs.Groups.{group_of};
-ghost use Rattle.elf_table.specs.JudgedBehind.{IsJudgedBehind};
+ghost use Rattle.elf_table.specs.Judged.{IsJudgedBehind};
 ghost use Rattle.elf_table.specs.MembersLeft.{members_left};
 ghost use Rattle.elf_table.specs.Sections.{sections_of};
 

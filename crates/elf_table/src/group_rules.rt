@@ -1,13 +1,13 @@
 //! Rules 55 to 58: the flags, the signature and the members of a section group (gABI chapter 4, Section Groups; Sections:
 //! sh_info, SHF_GROUP).
-ghost use Rattle.std.specs.Prelude.{◌≡◌, ◌↔◌, ◌<◌, ◌+◌, ◌*◌, ◌%◌, ℕ, IfOk, IsTrue, length};
+ghost use Rattle.std.specs.Prelude.{◌≡◌, ◌↔◌, ◌<◌, ◌+◌, ◌*◌, ◌%◌, IfOk, IsTrue, OnErr, length};
 ghost use Rattle.elf_extent.specs.Least.{IsLowest};
 ghost use Rattle.elf_rules.specs.Broken.{fault_of};
 ghost use Rattle.elf_rules.specs.Rows.{FirstIn};
 ghost use Rattle.elf_table.specs.Below.{Below};
 ghost use Rattle.elf_table.specs.GroupRules.{IsUnfit, IsWrongMember, group_front_rules, group_rules, group_section_front, group_section_rules};
-ghost use Rattle.elf_table.specs.Groups.{member as member_of, member_count as member_count_of};
-ghost use Rattle.elf_table.specs.JudgedBehind.{IsJudgedBehind};
+ghost use Rattle.elf_table.specs.Groups.{AreAscending, member as member_of, member_count as member_count_of};
+ghost use Rattle.elf_table.specs.Judged.{IsJudgedBehind};
 ghost use Rattle.elf_table.specs.Sections.{content, order, section, sections_of};
 
 use crate::index_tables::index_tables_of;
@@ -99,8 +99,9 @@ fn lowest_wrong_member(
     i: usize,
 ) -> Result<Option<usize>, AllocError>
     requires { i < length image.now.sections }
-    ensures { let f = sections_of image.now in
+    ensures found { let f = sections_of image.now in
         IfOk result (λ found. IsLowest (Below (member_count_of (content f i)) (IsWrongMember f i)) found) }
+    ensures memory { OnErr result (¬ AreAscending (order (sections_of image.now)) (content (sections_of image.now) i)) }
 {
     let words = image.content(i);
     if is_ascending(image.order(), words) {
@@ -157,7 +158,7 @@ fn is_unfit(image: &Image<'_>, i: usize, member: u32) -> bool
 
 /// Whether each member of a group of this content is above the one before it.
 fn is_ascending(order: Order, words: &[u8]) -> bool
-    ensures { IsTrue result → (k j : ℕ) → k < j → j < member_count_of words.now → member_of order words.now k < member_of order words.now j }
+    ensures { IsTrue result ↔ AreAscending order words.now }
 {
     for j in 1..member_count(words) {
         if member(order, words, j) <= member(order, words, j - 1) {

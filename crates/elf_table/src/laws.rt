@@ -2,11 +2,16 @@
 ghost use Rattle.std.specs.Prelude.{◌≡◌, ◌+◌, ◌*◌, ◌≤◌, ℕ, List, Option};
 ghost use Rattle.elf_extent.specs.declared.extent.Extent.{Extent};
 ghost use Rattle.elf_field.specs.declared.order.Order.{Order};
+ghost use Rattle.elf_field.specs.Abi.{DYN_SIZE, RELA_SIZE, REL_SIZE, SYM_SIZE, WORD_SIZE};
+ghost use Rattle.elf_field.specs.Dyn.{dyn_at};
+ghost use Rattle.elf_field.specs.Rel.{rel_at};
+ghost use Rattle.elf_field.specs.Rela.{rela_at};
 ghost use Rattle.elf_field.specs.Sym.{sym_at};
 ghost use Rattle.elf_field.specs.Word.{word_at};
 ghost use Rattle.elf_image.specs.Image.{ImageValue, IsImage};
 ghost use Rattle.elf_rules.specs.Rows.{FirstIn};
 ghost use Rattle.elf_rules.specs.Tables.{bytes_in};
+ghost use Rattle.elf_table.specs.DynamicArray.{dynamic_entry};
 ghost use Rattle.elf_table.specs.Sections.{Sections, sections_in, sections_of};
 ghost use Rattle.elf_table.specs.StringRules.{string_table_rules};
 ghost use Rattle.elf_table.specs.SymbolRules.{entry, symbol_table_rules, word};
@@ -25,9 +30,12 @@ pub fn one_table_fault()
     ensures table { (f : Sections) (i : ℕ) (x y : Option (ℕ × ℕ)) → FirstIn (table_rules f i) x → FirstIn (table_rules f i) y → x ≡ y }
 {}
 
-/// Entry j of a content is the record at the content's offset in the file and j times its size: of symbols, and of the words of
-/// index tables.
+/// Entry j of a content is the record at the content's offset in the file and j times its size: of symbols, of the words of index
+/// tables, groups and hash tables, of relocations, and of dynamic arrays.
 pub fn entries_in_file()
-    ensures symbols { (o : Order) (b : List ℕ) (e : Extent) (j : ℕ) → 24 * j + 24 ≤ e.len → entry o (bytes_in b e) j ≡ sym_at o b (e.start + 24 * j) }
-    ensures words { (o : Order) (b : List ℕ) (e : Extent) (j : ℕ) → 4 * j + 4 ≤ e.len → word o (bytes_in b e) j ≡ word_at o b (e.start + 4 * j) }
+    ensures symbols { (o : Order) (b : List ℕ) (e : Extent) (j : ℕ) → SYM_SIZE * j + SYM_SIZE ≤ e.len → entry o (bytes_in b e) j ≡ sym_at o b (e.start + SYM_SIZE * j) }
+    ensures words { (o : Order) (b : List ℕ) (e : Extent) (j : ℕ) → WORD_SIZE * j + WORD_SIZE ≤ e.len → word o (bytes_in b e) j ≡ word_at o b (e.start + WORD_SIZE * j) }
+    ensures rela { (o : Order) (b : List ℕ) (e : Extent) (j : ℕ) → RELA_SIZE * j + RELA_SIZE ≤ e.len → rela_at o (bytes_in b e) (RELA_SIZE * j) ≡ rela_at o b (e.start + RELA_SIZE * j) }
+    ensures rel { (o : Order) (b : List ℕ) (e : Extent) (j : ℕ) → REL_SIZE * j + REL_SIZE ≤ e.len → rel_at o (bytes_in b e) (REL_SIZE * j) ≡ rel_at o b (e.start + REL_SIZE * j) }
+    ensures dynamic { (o : Order) (b : List ℕ) (e : Extent) (j : ℕ) → DYN_SIZE * j + DYN_SIZE ≤ e.len → dynamic_entry o (bytes_in b e) j ≡ dyn_at o b (e.start + DYN_SIZE * j) }
 {}

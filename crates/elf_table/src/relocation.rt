@@ -56,13 +56,10 @@ pub(crate) fn relocation_at(order: Order, addends: bool, table: &[u8], j: usize)
 }
 
 /// The offset in the file of relocation `j` of a content at `start`.
-pub(crate) fn relocation_offset(addends: bool, table: &[u8], start: u64, j: usize) -> u64
-    requires there { j < relocation_count_of addends table.now }
-    requires inside { start + length table.now ≤ MAX_LEN }
-    ensures value { result ≡ start + relocation_size addends * j }
-    ensures short { result ≤ MAX_LEN }
+pub(crate) fn relocation_offset(addends: bool, start: u64, j: usize) -> u64
+    requires { start + relocation_size addends * j ≤ MAX_LEN }
+    ensures { result ≡ start + relocation_size addends * j }
 {
-    let _ = table;
     if addends {
         start + RELA_SIZE * j as u64
     } else {

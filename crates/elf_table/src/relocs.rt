@@ -51,11 +51,19 @@ impl<'a> Relocs<'a> {
         ensures { IsJudged (relocation_section_rules (sections_of image.now) i) (λ relocs. relocs ≡ relocations_of (sections_of image.now) i) result }
     {
         judge_relocation_section(image, i)?;
-        Ok(Relocs {
+        Ok(Relocs::of_section(image, i))
+    }
+
+    /// The relocations that section `i` holds.
+    pub(crate) fn of_section(image: &Image<'a>, i: usize) -> Relocs<'a>
+        requires { i < length image.now.sections }
+        ensures { result ≡ relocations_of (sections_of image.now) i }
+    {
+        Relocs {
             order: image.order(),
             addends: image.section(i).sh_type == SHT_RELA,
             table: image.content(i),
-        })
+        }
     }
 
     /// How many relocations there are.
@@ -125,7 +133,7 @@ fn judge_relocation_section(image: &Image<'_>, i: usize) -> Result<(), Broken>
 
 /// Rules 53 and 54 of the relocation section `i`, which links to a section.
 #[tactic(auto, unfolding(crate::specs::RelocationRules::relocation_rules))]
-fn judge_relocations(image: &Image<'_>, i: usize) -> Result<(), Broken>
+pub(crate) fn judge_relocations(image: &Image<'_>, i: usize) -> Result<(), Broken>
     requires there { i < length image.now.sections }
     requires linked { (section (sections_of image.now) i).sh_link < length image.now.sections }
     ensures { FirstIn (relocation_rules (sections_of image.now) i) (fault_of result) }
@@ -159,7 +167,7 @@ fn lowest_wrong_symbol(
 {
     for j in 0..relocation_count(addends, table) {
         if relocation_at(order, addends, table, j).symbol as usize >= symbols {
-            return Some(relocation_offset(addends, table, start, j) + R_INFO_AT);
+            return Some(relocation_offset(addends, start, j) + R_INFO_AT);
         }
     }
     None

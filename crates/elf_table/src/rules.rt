@@ -47,3 +47,17 @@ pub const NOTE_NAME_PAST_END: u16 = 60;
 pub const NOTE_DESC_PAST_END: u16 = 61;
 /// The last byte of a note's name isn't 0.
 pub const UNCLOSED_NOTE_NAME: u16 = 62;
+/// No entry of a dynamic section has the tag `DT_NULL`, which ends the dynamic array.
+pub const NO_NULL_ENTRY: u16 = 63;
+/// A string that the dynamic array names begins behind the string table.
+pub const DYNAMIC_STRING_PAST_END: u16 = 64;
+/// A hash table is not as long as its buckets and chains are.
+pub const WRONG_HASH_SIZE: u16 = 65;
+/// A hash table has no bucket, or not one chain word for each symbol.
+pub const WRONG_HASH_COUNT: u16 = 66;
+/// A bucket or a chain word of a hash table is none of a symbol.
+pub const HASH_WORD_PAST_END: u16 = 67;
+/// The chain of a bucket does not end.
+pub const ENDLESS_CHAIN: u16 = 68;
+/// A symbol is not on the chain of its name's bucket.
+pub const SYMBOL_OFF_CHAIN: u16 = 69;

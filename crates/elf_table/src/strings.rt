@@ -69,10 +69,7 @@ fn judge_string_table(image: &Image<'_>, i: usize) -> Result<(), Broken>
     if section.sh_type != SHT_STRTAB {
         return Err(Broken::new(WRONG_TABLE_TYPE, at + SH_TYPE_AT));
     }
-    match unclosed_at(image.content(i), section.sh_offset) {
-        Some(at) => Err(Broken::new(UNCLOSED_STRING_TABLE, at)),
-        None => Ok(()),
-    }
+    judge_linked_strings(image.content(i), section.sh_offset)
 }
 
 /// Rule 41 of a string table at this offset in the file, which another table links to.

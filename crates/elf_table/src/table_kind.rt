@@ -1,21 +1,44 @@
-//! The kinds of tables whose sections are lists of entries of one size, and what their section headers say
+//! The kinds of tables, and what the section headers of those say whose entries are of one size
 //! (gABI chapter 4, Sections: sh_type, sh_link, sh_entsize).
 ghost use Rattle.std.specs.Prelude.{◌≡◌, ◌↔◌, ◌<◌, ◌⊎◌, IsTrue};
-ghost use Rattle.elf_table.specs.TableKind.{IsLinkOf, IsOf, IsSymbolType, entry_size as entry_size_of};
+ghost use Rattle.elf_table.specs.TableKind.{IsLinkOf, IsOf, IsSymbolType, entry_size as entry_size_of, kind_of};
 
 use elf_field::abi::*;
 
 /// A kind of table.
 #[derive(Clone, Copy, Debug, PartialEq, Eq)]
-pub(crate) enum TableKind {
+pub enum TableKind {
+    /// A symbol table: SYMTAB or DYNSYM.
     SymbolTable,
+    /// A relocation section: REL or RELA.
     RelocationTable,
+    /// A section group: GROUP.
     SectionGroup,
+    /// A note section: NOTE.
+    NoteSection,
+    /// A dynamic array: DYNAMIC.
     DynamicArray,
+    /// A symbol hash table: HASH.
     HashTable,
 }
 
 impl TableKind {
+    /// The kind of table that a section of this type holds; None where it holds none that is a list of entries. String tables
+    /// are no lists.
+    pub fn of(section_type: u32) -> Option<TableKind>
+        ensures { result ≡ kind_of section_type }
+    {
+        match section_type {
+            SHT_SYMTAB | SHT_DYNSYM => Some(TableKind::SymbolTable),
+            SHT_REL | SHT_RELA => Some(TableKind::RelocationTable),
+            SHT_GROUP => Some(TableKind::SectionGroup),
+            SHT_NOTE => Some(TableKind::NoteSection),
+            SHT_DYNAMIC => Some(TableKind::DynamicArray),
+            SHT_HASH => Some(TableKind::HashTable),
+            _ => None,
+        }
+    }
+
     /// Whether a section of this type holds a table of the kind.
     pub(crate) fn is_of(self, section_type: u32) -> bool
         ensures { IsTrue result ↔ IsOf self section_type }
@@ -24,12 +47,13 @@ impl TableKind {
             TableKind::SymbolTable => is_symbol_type(section_type),
             TableKind::RelocationTable => section_type == SHT_REL || section_type == SHT_RELA,
             TableKind::SectionGroup => section_type == SHT_GROUP,
+            TableKind::NoteSection => section_type == SHT_NOTE,
             TableKind::DynamicArray => section_type == SHT_DYNAMIC,
             TableKind::HashTable => section_type == SHT_HASH,
         }
     }
 
-    /// The size in bytes of the entries of such a table, in a section of this type.
+    /// The size in bytes of the entries of such a table, in a section of this type. Notes are of any size: 1 stands for them.
     pub(crate) fn entry_size(self, section_type: u32) -> u64
         ensures value { result ≡ entry_size_of self section_type }
         ensures some { 0 < result }
@@ -40,6 +64,7 @@ impl TableKind {
             TableKind::RelocationTable => REL_SIZE,
             TableKind::DynamicArray => DYN_SIZE,
             TableKind::SectionGroup | TableKind::HashTable => WORD_SIZE,
+            TableKind::NoteSection => 1,
         }
     }
 
@@ -51,12 +76,13 @@ impl TableKind {
             TableKind::SymbolTable | TableKind::DynamicArray => section_type == SHT_STRTAB,
             TableKind::RelocationTable | TableKind::HashTable => is_symbol_type(section_type),
             TableKind::SectionGroup => section_type == SHT_SYMTAB,
+            TableKind::NoteSection => false,
         }
     }
 }
 
-/// Whether a section of this type holds symbols.
-pub fn is_symbol_type(section_type: u32) -> bool
+// Whether a section of this type holds symbols.
+fn is_symbol_type(section_type: u32) -> bool
     ensures { IsTrue result ↔ IsSymbolType section_type }
 {
     section_type == SHT_SYMTAB || section_type == SHT_DYNSYM

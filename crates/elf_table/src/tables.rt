@@ -1,27 +1,38 @@
-//! The symbol tables of an image, each judged once (gABI chapter 4, Symbol Table).
-ghost use Rattle.std.specs.Prelude.{◌≡◌, ◌↔◌, ◌<◌, None, IfOk, IsTrue, get_or, length, map};
+//! The tables of an image, each judged once.
+ghost use Rattle.std.specs.Prelude.{◌≡◌, ◌<◌, None, Some, IfOk, get_or, length};
 ghost use Rattle.elf_rules.specs.Broken.{fault_of};
 ghost use Rattle.elf_rules.specs.Rows.{FirstIn};
-ghost use Rattle.elf_table.specs.IndexTable.{AreIndexTables};
+ghost use Rattle.elf_table.specs.DynamicArray.{dynamic_array_of};
+ghost use Rattle.elf_table.specs.DynamicStrings.{dynamic_strings};
+ghost use Rattle.elf_table.specs.Groups.{group_of};
+ghost use Rattle.elf_table.specs.HashView.{hash_of_section};
+ghost use Rattle.elf_table.specs.Notes.{notes_of};
+ghost use Rattle.elf_table.specs.Relocations.{relocations_of};
 ghost use Rattle.elf_table.specs.Sections.{section, sections_of};
+ghost use Rattle.elf_table.specs.Signature.{signature_name};
 ghost use Rattle.elf_table.specs.Symbols.{symbols_of};
-ghost use Rattle.elf_table.specs.TableKind.{IsSymbolType};
+ghost use Rattle.elf_table.specs.TableKind.{kind_of};
+ghost use Rattle.elf_table.specs.declared.table_kind.TableKind.TheVariants as kind;
 ghost use Rattle.elf_table.specs.TableRules.{table_rules};
 ghost use Rattle.elf_table.specs.TableVerdicts.{AreAllIndexTables, AreVerdicts};
 
+use crate::dynamic::Dynamic;
+use crate::group::Group;
+use crate::hash::Hash;
 use crate::index_tables::IndexTables;
-use crate::symbol_rules::judge_symbol_table;
+use crate::notes::Notes;
+use crate::relocs::Relocs;
 use crate::symbols::Symbols;
-use crate::table_kind::is_symbol_type;
+use crate::verdicts::all_verdicts;
 use elf_field::abi::*;
 use elf_image::Image;
 use elf_rules::Broken;
 use std::alloc::{AllocError, Global};
 use std::marker::Model;
 
-/// The symbol tables of an image (SYMTAB and DYNSYM), with the verdict on each: every one is judged once, however many other
-/// tables link to it, and the index tables are found in one pass over the section headers. A string table is judged with the
-/// symbol table that links to it, or by [`Strings::new`](crate::Strings::new).
+/// The tables of an image, with the verdict on each. Every symbol table is judged once, however many other tables link to it, and
+/// the index tables are found in one pass over the section headers. A string table is judged with the table that links to it, or
+/// by [`Strings::new`](crate::Strings::new).
 #[derive(Drop)]
 pub struct Tables<'i, 'a> {
     image: &'i Image<'a>,
@@ -56,8 +67,8 @@ impl<'i, 'a> Tables<'i, 'a> {
         })
     }
 
-    /// The verdict on the symbol table that section `i` holds, where `i` is below the image's count of section headers: the first
-    /// of its rules that is broken, at its lowest offset. `Ok` where none is, and where the section holds no symbol table.
+    /// The verdict on the table that section `i` holds, where `i` is below the image's count of section headers: the first of its
+    /// rules that is broken, at its lowest offset. `Ok` where none is, and where the section holds no table.
     pub fn verdict(&self, i: usize) -> Result<(), Broken>
         requires { i < length self.now.image.sections }
         ensures kept { fault_of result ≡ get_or self.now.verdicts i None }
@@ -66,15 +77,87 @@ impl<'i, 'a> Tables<'i, 'a> {
         self.verdicts[i]
     }
 
-    /// The symbol table that section `i` holds, where `i` is below the image's count of section headers, the section is of a type
-    /// that [`is_symbol_type`](crate::is_symbol_type) holds of, and its [`verdict`](Tables::verdict) is `Ok`.
+    /// The symbol table that section `i` holds, where `i` is below the image's count of section headers, the section is of the
+    /// [kind](crate::TableKind::of) that holds one, and its [`verdict`](Tables::verdict) is `Ok`.
     pub fn symbols(&self, i: usize) -> Symbols<'a>
         requires there { i < length self.now.image.sections }
-        requires typed { IsSymbolType (section (sections_of self.now.image) i).sh_type }
+        requires typed { kind_of (section (sections_of self.now.image) i).sh_type ≡ Some kind.SymbolTable }
         requires sound { get_or self.now.verdicts i None ≡ None }
         ensures { result ≡ symbols_of (sections_of self.now.image) i }
     {
         Symbols::of_sound(self.image, i, self.index_tables[i])
+    }
+
+    /// The relocation section `i`, under the same conditions.
+    pub fn relocs(&self, i: usize) -> Relocs<'a>
+        requires there { i < length self.now.image.sections }
+        requires typed { kind_of (section (sections_of self.now.image) i).sh_type ≡ Some kind.RelocationTable }
+        requires sound { get_or self.now.verdicts i None ≡ None }
+        ensures { result ≡ relocations_of (sections_of self.now.image) i }
+    {
+        Relocs::of_section(self.image, i)
+    }
+
+    /// The group in section `i`, under the same conditions.
+    pub fn group(&self, i: usize) -> Group<'a>
+        requires there { i < length self.now.image.sections }
+        requires typed { kind_of (section (sections_of self.now.image) i).sh_type ≡ Some kind.SectionGroup }
+        requires sound { get_or self.now.verdicts i None ≡ None }
+        ensures { result ≡ group_of (sections_of self.now.image) i }
+    {
+        Group::of_sound(self.image, i)
+    }
+
+    /// The name of the group in section `i`, under the same conditions: its signature's, in the symbol table that it links to.
+    pub fn signature_name(&self, i: usize) -> &'a [u8]
+        requires there { i < length self.now.image.sections }
+        requires typed { kind_of (section (sections_of self.now.image) i).sh_type ≡ Some kind.SectionGroup }
+        requires sound { get_or self.now.verdicts i None ≡ None }
+        ensures { result.now ≡ signature_name (sections_of self.now.image) i }
+    {
+        let section = self.image.section(i);
+        let symbols = self.symbols(section.sh_link as usize);
+        symbols.entry(section.sh_info as usize).name
+    }
+
+    /// The notes of section `i`, under the same conditions.
+    pub fn notes(&self, i: usize) -> Notes<'a>
+        requires there { i < length self.now.image.sections }
+        requires typed { kind_of (section (sections_of self.now.image) i).sh_type ≡ Some kind.NoteSection }
+        requires sound { get_or self.now.verdicts i None ≡ None }
+        ensures { result ≡ notes_of (sections_of self.now.image) i }
+    {
+        Notes::of_sound(self.image, i)
+    }
+
+    /// The dynamic array in section `i`, under the same conditions.
+    pub fn dynamic(&self, i: usize) -> Dynamic<'a>
+        requires there { i < length self.now.image.sections }
+        requires typed { kind_of (section (sections_of self.now.image) i).sh_type ≡ Some kind.DynamicArray }
+        requires sound { get_or self.now.verdicts i None ≡ None }
+        ensures { result ≡ dynamic_array_of (sections_of self.now.image) i }
+    {
+        Dynamic::of_sound(self.image, i)
+    }
+
+    /// The hash table in section `i`, under the same conditions.
+    pub fn hash(&self, i: usize) -> Hash<'a>
+        requires there { i < length self.now.image.sections }
+        requires typed { kind_of (section (sections_of self.now.image) i).sh_type ≡ Some kind.HashTable }
+        requires sound { get_or self.now.verdicts i None ≡ None }
+        ensures { result ≡ hash_of_section (sections_of self.now.image) i }
+    {
+        Hash::of_sound(self.image, i)
+    }
+
+    /// The string table of the dynamic array in section `i`, under the same conditions: the one that it links to.
+    pub fn dynamic_strings(&self, i: usize) -> &'a [u8]
+        requires there { i < length self.now.image.sections }
+        requires typed { kind_of (section (sections_of self.now.image) i).sh_type ≡ Some kind.DynamicArray }
+        requires sound { get_or self.now.verdicts i None ≡ None }
+        ensures { result.now ≡ dynamic_strings (sections_of self.now.image) i }
+    {
+        self.image.content(self.image.section(i).sh_link as usize)
     }
 }
 
@@ -92,35 +175,4 @@ fn all_index_tables(alloc: Global, image: &Image<'_>) -> Result<Vec<IndexTables>
         }
     }
     Ok(all)
-}
-
-// The verdict on the table in each section.
-fn all_verdicts(
-    alloc: Global,
-    image: &Image<'_>,
-    index_tables: &[IndexTables],
-) -> Result<Vec<Result<(), Broken>>, AllocError>
-    requires { AreAllIndexTables (sections_of image.now) (length image.now.sections) index_tables.now }
-    ensures { IfOk result (λ verdicts.
-        AreVerdicts (sections_of image.now) (length image.now.sections) (map fault_of verdicts.items)) }
-{
-    let mut verdicts = Vec::with_capacity(alloc, image.section_count())?;
-    for (i, tables) in index_tables.iter().enumerate() {
-        verdicts.push(judge_table(image, i, *tables))?;
-    }
-    Ok(verdicts)
-}
-
-// The rules of the table in section `i`, which has these index tables.
-#[tactic(auto, unfolding(crate::specs::TableRules::table_rules))]
-fn judge_table(image: &Image<'_>, i: usize, tables: IndexTables) -> Result<(), Broken>
-    requires there { i < length image.now.sections }
-    requires tables { AreIndexTables (sections_of image.now) i (length image.now.sections) tables }
-    ensures { FirstIn (table_rules (sections_of image.now) i) (fault_of result) }
-{
-    if is_symbol_type(image.section(i).sh_type) {
-        judge_symbol_table(image, i, tables)
-    } else {
-        Ok(())
-    }
 }

@@ -1,22 +1,6 @@
 //! Worked files of images, in either byte order.
 use elf_field::Order;
-
-/// A field: its offset in the file, its width in bytes and its value.
-pub type Field = (usize, usize, u64);
-
-/// The header of a file without tables, but for byte 5.
-const HEADER: [Field; 10] = [
-    (0, 1, 0x7f),
-    (1, 1, 0x45),
-    (2, 1, 0x4c),
-    (3, 1, 0x46),
-    (4, 1, 2),
-    (6, 1, 1),
-    (16, 2, 1),
-    (18, 2, 62),
-    (20, 4, 1),
-    (52, 2, 64),
-];
+use elf_test_files::{Field, set_header};
 
 /// The header's places and the section headers of an object without sections of its own.
 const EMPTY_OBJECT: [Field; 22] = [
@@ -153,31 +137,6 @@ const LONG_PARTS: [Field; 7] = [
     (160, 8, 9000),
     (176, 8, 8),
 ];
-
-/// Writes fields into a file.
-pub fn set(file: &mut [u8], order: Order, fields: &[Field]) {
-    for (offset, width, value) in fields {
-        let (offset, width) = (*offset, *width);
-        if width <= 8 && offset <= file.len() && width <= file.len() - offset {
-            let place = &mut file[offset..offset + width];
-            match order {
-                Order::Little => place.copy_from_slice(&value.to_le_bytes()[..width]),
-                Order::Big => place.copy_from_slice(&value.to_be_bytes()[8 - width..]),
-            }
-        }
-    }
-}
-
-/// Writes the header's bytes that all files here share, and then fields.
-pub fn set_header(file: &mut [u8], order: Order, fields: &[Field]) {
-    set(file, order, &HEADER);
-    let data = match order {
-        Order::Little => 1,
-        Order::Big => 2,
-    };
-    set(file, order, &[(5, 1, data)]);
-    set(file, order, fields);
-}
 
 /// An object without sections and symbols of its own: a symbol table, its strings, and the names.
 pub fn empty_object() -> [u8; 376] {

@@ -19,8 +19,6 @@ mod many_segments;
 #[cfg(test)]
 mod program;
 #[cfg(test)]
-mod tables;
-#[cfg(test)]
 mod two_of_each;
 
 pub use known_files::{KnownBytes, KnownFile, status_of_check};

@@ -256,7 +256,7 @@ Usage: elfmap <COMMAND>
 
 Commands:
   check  Tells whether FILE is an ELF-64 file, or the first rule that it breaks and where
-  show   Shows the header, the parts, the sections and the segments of FILE
+  show   Shows the header, the parts, the sections, the segments and the tables of FILE
 
 Options:
   -h, --help  Print help

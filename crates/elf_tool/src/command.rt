@@ -40,6 +40,6 @@ fn show_command<'a>(alloc: Global) -> Result<Command<'a>, AllocError>
         .help("The file to show")
         .required(true);
     Command::new(alloc, "show")
-        .about("Shows the header, the parts, the sections and the segments of FILE")
+        .about("Shows the header, the parts, the sections, the segments and the tables of FILE")
         .arg(file)
 }

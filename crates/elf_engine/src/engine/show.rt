@@ -8,6 +8,7 @@ ghost use Rattle.elf_engine.specs.Show.{IsShown, section_lines, segment_lines, s
 ghost use Rattle.elf_engine.specs.ShowLines.{part_line};
 
 use super::input::read_input;
+use super::lines::{Lines, show_lines};
 use super::output::Output;
 use super::show_tables::show_tables;
 use crate::fault::{Refusal, ToolFault, Verdict};
@@ -15,7 +16,7 @@ use crate::line::refused_line;
 use crate::show_lines::{push_file_line, push_part_line, push_section_line, push_segment_line};
 use elf_image::{Fault, Image, Part, parse, write_whole};
 use elf_table::Tables;
-use std::alloc::Global;
+use std::alloc::{AllocError, Global};
 use std::io::{Read, Write};
 
 /// Reads a whole file and writes a line on its header, and one on each of its parts, its sections, its
@@ -104,6 +105,53 @@ fn show_parts<W: Write>(
     Ok(())
 }
 
+// The lines of the sections.
+#[derive(Drop)]
+struct SectionLines<'i, 'a> {
+    image: &'i Image<'a>,
+}
+
+impl<'i, 'a> Lines for SectionLines<'i, 'a> {
+    ghost use Rattle.std.specs.Prelude.{length};
+    ghost use Rattle.elf_engine.specs.Show.{section_text};
+
+    ghost count = { λ lines. length lines.image.now.sections };
+
+    ghost line = { λ lines. section_text lines.image.now };
+
+    fn count(&self) -> usize {
+        self.image.section_count()
+    }
+
+    fn push(&self, alloc: Global, text: &mut Vec<u8>, i: usize) -> Result<(), AllocError> {
+        push_section_line(alloc, text, i, &self.image.section(i), self.image.name(i))
+    }
+}
+
+// The lines of the segments.
+#[derive(Drop)]
+struct SegmentLines<'i, 'a> {
+    image: &'i Image<'a>,
+}
+
+impl<'i, 'a> Lines for SegmentLines<'i, 'a> {
+    ghost use Rattle.std.specs.Prelude.{length};
+    ghost use Rattle.elf_engine.specs.Show.{segment_text};
+
+    ghost count = { λ lines. length lines.image.now.segments };
+
+    ghost line = { λ lines. segment_text lines.image.now };
+
+    fn count(&self) -> usize {
+        self.image.segment_count()
+    }
+
+    fn push(&self, _alloc: Global, text: &mut Vec<u8>, j: usize) -> Result<(), AllocError> {
+        push_segment_line(text, j, &self.image.segment(j))
+    }
+}
+
+#[tactic(auto, unfolding(crate::specs::Show::section_lines))]
 fn show_sections<W: Write>(
     alloc: Global,
     image: &Image<'_>,
@@ -113,14 +161,10 @@ fn show_sections<W: Write>(
     ensures { IsBuffered (W.contents writer.old) (W.contents writer.new) output.old output.new
         (section_lines image.now) result }
 {
-    for i in 0..image.section_count() {
-        let section = image.section(i);
-        push_section_line(alloc, &mut output.pending, i, &section, image.name(i))?;
-        output.flush_piece(writer)?;
-    }
-    Ok(())
+    show_lines(alloc, &SectionLines { image }, output, writer)
 }
 
+#[tactic(auto, unfolding(crate::specs::Show::segment_lines))]
 fn show_segments<W: Write>(
     alloc: Global,
     image: &Image<'_>,
@@ -130,9 +174,5 @@ fn show_segments<W: Write>(
     ensures { IsBuffered (W.contents writer.old) (W.contents writer.new) output.old output.new
         (segment_lines image.now) result }
 {
-    for j in 0..image.segment_count() {
-        push_segment_line(&mut output.pending, j, &image.segment(j))?;
-        output.flush_piece(writer)?;
-    }
-    Ok(())
+    show_lines(alloc, &SegmentLines { image }, output, writer)
 }

@@ -1,0 +1,26 @@
+-- Which rules a section's type asks for.
+use Rattle.std.proofs.Common.{◌≡◌, ◌<◌, ℕ, List, Option, None, Some, get_or, inl, inr, refl, subst}
+use Rattle.elf_rules.specs.Rows.{FirstIn}
+use Rattle.elf_table.specs.declared.table_kind.TableKind.{TableKind}
+use Rattle.elf_table.specs.declared.table_kind.TableKind.TheVariants.{SymbolTable}
+use Rattle.elf_table.specs.Sections.{Sections, count, section}
+use Rattle.elf_table.specs.TableKind.{IsSymbolType, kind_of}
+use Rattle.elf_table.specs.SymbolRules.{symbol_table_rules}
+use Rattle.elf_table.specs.TableRules.{rules_of, table_rules}
+use Rattle.elf_table.specs.TableVerdicts.{AreSymbolVerdicts}
+
+-- a section that holds symbols holds a symbol table
+pub symbols_kind : (type : ℕ) → IsSymbolType type → kind_of type ≡ Some SymbolTable
+symbols_kind type (inl symtab) = rw symtab refl
+symbols_kind type (inr dynsym) = rw dynsym refl
+
+-- a section of this kind has the rules of the kind
+pub kind_asked : (f : Sections) (i : ℕ) (kind : Option TableKind) (found : Option (ℕ × ℕ)) → kind_of (section f i).sh_type ≡ kind → FirstIn (table_rules f i) found →
+    FirstIn (rules_of kind f i) found
+unfolding table_rules
+kind_asked f i kind found is run = subst (λ (k : Option TableKind). FirstIn (rules_of k f i) found) is run
+
+-- the verdict kept of a symbol table that a table links to
+pub kept_verdict : (f : Sections) (link : ℕ) (verdicts : List (Option (ℕ × ℕ))) (found : Option (ℕ × ℕ)) → AreSymbolVerdicts f (count f) verdicts → link < count f → IsSymbolType (section f link).sh_type →
+    found ≡ get_or verdicts link None → FirstIn (symbol_table_rules f link) found
+kept_verdict f link verdicts found kept there typed is = rw is (kept.right link there (symbols_kind _ typed))

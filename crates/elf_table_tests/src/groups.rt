@@ -1,0 +1,118 @@
+//! Section groups: a file of one group.
+use elf_field::Order;
+use elf_image::{Fault, parse};
+use elf_table::{Group, Tables};
+use elf_test_files::{Field, set, set_header};
+use std::alloc::Global;
+use std::test::Fail;
+
+/// A group of one section, at 64 with room for a further member; that section at 76; two symbols at 80 and their names at 128; and
+/// the section headers at 136.
+const GROUP: [Field; 34] = [
+    (40, 8, 136),
+    (58, 2, 64),
+    (60, 2, 5),
+    (64, 4, 1),
+    (68, 4, 2),
+    (72, 4, 2),
+    (76, 1, 0xc3),
+    (104, 4, 1),
+    (108, 1, 0x10),
+    (110, 2, 2),
+    (129, 1, 0x66),
+    (204, 4, 17),
+    (224, 8, 64),
+    (232, 8, 8),
+    (240, 4, 3),
+    (244, 4, 1),
+    (248, 8, 4),
+    (256, 8, 4),
+    (268, 4, 1),
+    (272, 8, 0x206),
+    (288, 8, 76),
+    (296, 8, 1),
+    (312, 8, 1),
+    (332, 4, 2),
+    (352, 8, 80),
+    (360, 8, 48),
+    (368, 4, 4),
+    (372, 4, 1),
+    (376, 8, 8),
+    (384, 8, 24),
+    (396, 4, 3),
+    (416, 8, 128),
+    (424, 8, 3),
+    (440, 8, 1),
+];
+
+fn group() -> [u8; 456] {
+    let mut file = [0; 456];
+    set_header(&mut file, Order::Little, &GROUP);
+    file
+}
+
+fn verdict_of(alloc: Global, file: &[u8]) -> Result<(), Fault> {
+    let image = parse(alloc, file)?;
+    if image.section_count() > 1 {
+        Group::new(alloc, &image, 1)?;
+    }
+    Ok(())
+}
+
+#[test]
+fn tells_a_group_and_its_members(rt: HostRuntime) -> Result<(), Fail> {
+    let file = group();
+    let image = parse(rt.alloc(), &file)?;
+    assert!(rt; image.section_count() > 1);
+    let group = Group::new(rt.alloc(), &image, 1)?;
+    assert_eq!(rt; group.flags(), 1);
+    assert_eq!(rt; group.signature(), 1);
+    assert_eq!(rt; group.len(), 1);
+    assert_eq!(rt; group.entry(0), 2);
+    assert_eq!(rt; group.iter().count(), 1);
+    Ok(())
+}
+
+#[test]
+fn judges_a_group_with_the_other_tables(rt: HostRuntime) -> Result<(), Fail> {
+    let mut file = group();
+    file[424] = 2;
+    let image = parse(rt.alloc(), &file)?;
+    assert!(rt; image.section_count() > 1);
+    let tables = Tables::new(rt.alloc(), &image)?;
+    assert_eq!(rt; tables.verdict(1).is_err(), true);
+    assert_eq!(rt;
+        verdict_of(rt.alloc(), &file),
+        Err(Fault::Rule { rule: 41, at: 129 })
+    );
+    Ok(())
+}
+
+#[test]
+fn tells_the_first_rule_that_a_group_breaks(rt: HostRuntime) -> Result<(), Fail> {
+    let broken = [
+        ((204, 4, 1), 40, 204),
+        ((256, 8, 8), 42, 256),
+        ((232, 8, 6), 43, 232),
+        ((332, 4, 11), 44, 240),
+        ((384, 8, 16), 42, 384),
+        ((232, 8, 0), 55, 232),
+        ((64, 4, 2), 56, 64),
+        ((244, 4, 0), 57, 244),
+        ((244, 4, 2), 57, 244),
+        ((68, 4, 1), 58, 68),
+        ((68, 4, 5), 58, 68),
+        ((272, 8, 6), 58, 68),
+        ((232, 8, 12), 58, 72),
+    ];
+    for (field, rule, at) in &broken {
+        let mut file = group();
+        set(&mut file, Order::Little, &[*field]);
+        let fault = Fault::Rule {
+            rule: *rule,
+            at: *at,
+        };
+        assert_eq!(rt; verdict_of(rt.alloc(), &file), Err(fault));
+    }
+    Ok(())
+}

@@ -1,0 +1,13 @@
+//! Tests of the tables that a file holds.
+#![tactic(auto)]
+
+#[cfg(test)]
+mod dynamic;
+#[cfg(test)]
+mod groups;
+#[cfg(test)]
+mod hashes;
+#[cfg(test)]
+mod notes;
+#[cfg(test)]
+mod symbols;

@@ -1,0 +1,76 @@
+//! Note sections: a file of one note.
+use elf_field::Order;
+use elf_image::{Fault, parse};
+use elf_table::{Note, Notes};
+use elf_test_files::{Field, set, set_header};
+use std::alloc::Global;
+use std::test::Fail;
+
+/// A note section of one note, whose 20 bytes stand at 64, and the section headers at 88.
+const NOTE: [Field; 12] = [
+    (40, 8, 88),
+    (58, 2, 64),
+    (60, 2, 2),
+    (64, 4, 4),
+    (68, 4, 3),
+    (72, 4, 1),
+    (76, 4, 0x554e47),
+    (80, 4, 0xccbbaa),
+    (156, 4, 7),
+    (176, 8, 64),
+    (184, 8, 20),
+    (200, 8, 4),
+];
+
+fn note() -> [u8; 216] {
+    let mut file = [0; 216];
+    set_header(&mut file, Order::Little, &NOTE);
+    file
+}
+
+fn verdict_of(alloc: Global, file: &[u8]) -> Result<(), Fault> {
+    let image = parse(alloc, file)?;
+    if image.section_count() > 1 {
+        Notes::new(&image, 1)?;
+    }
+    Ok(())
+}
+
+#[test]
+fn tells_each_note(rt: HostRuntime) -> Result<(), Fail> {
+    let file = note();
+    let image = parse(rt.alloc(), &file)?;
+    assert!(rt; image.section_count() > 1);
+    let notes = Notes::new(&image, 1)?;
+    let first = Note {
+        note_type: 1,
+        name: b"GNU",
+        desc: b"\xaa\xbb\xcc",
+    };
+    let mut iter = notes.iter();
+    assert_eq!(rt; iter.next(), Some(first));
+    assert_eq!(rt; iter.next(), None);
+    Ok(())
+}
+
+#[test]
+fn tells_the_first_rule_that_notes_break(rt: HostRuntime) -> Result<(), Fail> {
+    let broken = [
+        ((156, 4, 1), 40, 156),
+        ((184, 8, 19), 61, 68),
+        ((184, 8, 11), 59, 64),
+        ((64, 4, 5), 61, 68),
+        ((64, 4, 0xffff_ffff), 60, 64),
+        ((64, 4, 3), 62, 78),
+    ];
+    for (field, rule, at) in &broken {
+        let mut file = note();
+        set(&mut file, Order::Little, &[*field]);
+        let fault = Fault::Rule {
+            rule: *rule,
+            at: *at,
+        };
+        assert_eq!(rt; verdict_of(rt.alloc(), &file), Err(fault));
+    }
+    Ok(())
+}
