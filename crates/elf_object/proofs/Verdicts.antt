@@ -7,7 +7,7 @@ use Rattle.elf_image.specs.declared.fault.Fault.TheVariants.{OutOfMemory, Io, Ru
 use Rattle.elf_rules.specs.Rows.{FirstIn, Ruled}
 use Rattle.elf_rules.proofs.Public.{FirstIn-later, FirstIn-sooner, one_fault}
 use Rattle.elf_table.specs.Judged.{IsJudged}
-use Rattle.elf_table.specs.JudgedBehind.{IsJudgedBehind}
+use Rattle.elf_table.specs.Judged.{IsJudgedBehind}
 use Rattle.elf_object.specs.FileRules.{file_rules, front_rules, rules_behind}
 use Rattle.elf_object.specs.Kept.{left_out}
 use Rattle.elf_object.specs.declared.left_out.LeftOut.{LeftOut}

@@ -3,7 +3,7 @@ ghost use Rattle.std.specs.Prelude.{◌≡◌};
 ghost use Rattle.elf_object.specs.Denotes.{Denotes};
 ghost use Rattle.elf_object.specs.FileRules.{file_rules, front_rules};
 ghost use Rattle.elf_object.specs.ObjectView.{value_of};
-ghost use Rattle.elf_table.specs.JudgedBehind.{IsJudgedBehind};
+ghost use Rattle.elf_table.specs.Judged.{IsJudgedBehind};
 ghost use Rattle.elf_table.specs.Sections.{sections_of};
 
 use crate::file_rules::judge_file;
