@@ -1,0 +1,4 @@
+-- Lemmas of this crate.
+pub mod ObjectFacts
+pub mod Seen
+pub mod Marked

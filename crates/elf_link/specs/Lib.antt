@@ -1,0 +1,9 @@
+-- The words of this crate's contracts.
+pub mod Files
+pub mod Rows
+pub mod Discarded
+pub mod Marking
+pub mod Live
+pub mod Symbols
+pub mod SiteTests
+pub mod FileRules
