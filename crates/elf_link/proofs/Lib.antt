@@ -2,3 +2,6 @@
 pub mod ObjectFacts
 pub mod Seen
 pub mod Marked
+pub mod Most
+pub mod Bound
+pub mod Earlier

@@ -7,3 +7,5 @@ pub mod Live
 pub mod Symbols
 pub mod SiteTests
 pub mod FileRules
+pub mod Binds
+pub mod NameRules

@@ -2,10 +2,13 @@
 //! what each name is bound to, and where everything stands.
 #![tactic(auto)]
 
+mod binding;
+mod choice;
 mod discarded;
 mod fault;
 mod file_rules;
 mod files;
+mod name_rules;
 mod options;
 pub mod rules;
 mod section_tests;

@@ -14,7 +14,7 @@ use elf_object::{Object, Place, Symbol};
 use elf_rules::is_wrong_alignment;
 
 /// A symbol's binding, `STB_GLOBAL` and the like.
-fn binding(symbol: &Symbol<'_>) -> u8
+pub(crate) fn binding(symbol: &Symbol<'_>) -> u8
     ensures { result ≡ binding_of (symbol_value symbol.now) }
 {
     symbol.info / 16
