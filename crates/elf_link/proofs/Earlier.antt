@@ -31,3 +31,21 @@ first_earlier row p e h f i first there before = elim (cases_lt p.file f) [
 pub first_of : (row : Row) (p : Site) → IsFirstAt row p → p.entry ≡ 0 → IsFirstAt row (record { file = p.file; index = p.index; entry = 0 })
 first_of row p first none =
     subst (λ n. IsFirstAt row (record { file = p.file; index = p.index; entry = n })) none first
+
+-- two first sites are of one file and position
+pub first_same : (row : Row) (p q : Site) → IsFirstAt row p → IsFirstAt row q → (p.file ≡ q.file) × (p.index ≡ q.index)
+first_same row p q first other = elim (cases_lt p.file q.file) [
+  | inl file ↦ absurd (other.first p first.stands (inl file))
+  | inr not_before ↦ elim (cases_lt q.file p.file) [
+    | inl file ↦ absurd (first.first q other.stands (inl file))
+    | inr not_after ↦ (
+        let same : p.file ≡ q.file = omega arith in
+        elim (cases_lt p.index q.index) [
+          | inl index ↦ absurd (other.first p first.stands (inr (same, inl index)))
+          | inr index ↦ elim (cases_lt q.index p.index) [
+            | inl after ↦ absurd (first.first q other.stands (inr (sym same, inl after)))
+            | inr never ↦ (same, omega arith)
+          ]
+        ])
+  ]
+]

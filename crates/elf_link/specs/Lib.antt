@@ -9,3 +9,4 @@ pub mod SiteTests
 pub mod FileRules
 pub mod Binds
 pub mod NameRules
+pub mod Listing

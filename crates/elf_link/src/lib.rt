@@ -8,6 +8,7 @@ mod discarded;
 mod fault;
 mod file_rules;
 mod files;
+mod listing;
 mod name_rules;
 mod options;
 pub mod rules;
