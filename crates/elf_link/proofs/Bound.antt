@@ -1,5 +1,5 @@
 -- A name that is bound is not unbound.
-use Rattle.std.proofs.Common.{◌≡◌, ℕ, List, inl, inr}
+use Rattle.std.proofs.Common.{ℕ, List, inl, inr}
 use Rattle.elf_object.specs.Object.{ObjectValue}
 use Rattle.elf_link.specs.declared.choice.Choice.{Choice}
 use Rattle.elf_link.specs.declared.choice.Choice.TheVariants.{Strong, Common, Weak, Zero}

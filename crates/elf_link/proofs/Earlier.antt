@@ -1,9 +1,9 @@
 -- The first site of a row and the sites before one of its own.
-use Rattle.std.proofs.Common.{◌≡◌, ℕ, ◌<◌, List, length, inl, inr, refl, sym, ◌∙◌, ap, subst, arith}
+use Rattle.std.proofs.Common.{◌≡◌, ℕ, inl, inr, sym, subst, arith}
 use Rattle.std.proofs.lemmas.Bool.{cases_lt}
 use Rattle.elf_link.specs.declared.site.Site.{Site}
 use Rattle.elf_link.specs.Files.{IsEarlier}
-use Rattle.elf_link.specs.Rows.{Before, IsFirstAt, Row}
+use Rattle.elf_link.specs.Rows.{IsFirstAt, Row}
 
 -- a site is as early as any of its row's, where it is the first
 pub first_earlier : (row : Row) (p : Site) (e h f i : ℕ) → IsFirstAt row p → row (record { file = e; index = h; entry = 0 }) →

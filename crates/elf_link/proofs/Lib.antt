@@ -3,6 +3,7 @@ pub mod ObjectFacts
 pub mod Seen
 pub mod Marked
 pub mod Listings
+pub mod Starts
 pub mod Most
 pub mod Bound
 pub mod Earlier

@@ -1,12 +1,11 @@
 -- The largest that commons count, symbol by symbol and file by file.
-use Rattle.std.proofs.Common.{◌≡◌, ℕ, ◌+◌, ◌<◌, ◌≤◌, ◌⊎◌, List, length, inl, inr, refl, sym, ◌∙◌, ap, subst, arith}
+use Rattle.std.proofs.Common.{◌≡◌, ℕ, ◌+◌, ◌<◌, ◌≤◌, ◌⊎◌, List, length, inl, inr, refl, sym, ◌∙◌, subst, arith}
 use Rattle.std.proofs.lemmas.Bool.{cases_lt}
 use Rattle.elf_object.specs.Object.{ObjectValue}
 use Rattle.elf_link.specs.declared.choice.Measure.{Measure}
 use Rattle.elf_link.specs.declared.site.Site.{Site}
 use Rattle.elf_link.specs.Binds.{IsLarger, IsLargest, IsMost, IsMostIn, commons, measured}
 use Rattle.elf_link.specs.Files.{object_at}
-use Rattle.elf_link.specs.Rows.{IsFirstAt}
 use Rattle.elf_link.specs.Symbols.{IsCommon}
 
 pub most_next : (fs : List ObjectValue) (name : List ℕ) (measure : Measure) (f i least most n : ℕ) → IsMostIn fs name measure f i least most →

@@ -10,3 +10,5 @@ pub mod FileRules
 pub mod Binds
 pub mod NameRules
 pub mod Listing
+pub mod Addresses
+pub mod AddressFault

@@ -5,7 +5,7 @@ use Rattle.elf_link.specs.declared.listing.Listed.{Listed}
 use Rattle.elf_link.specs.declared.listing.Listed.TheVariants.{LiveSections, ChosenCommons, FirstEntries}
 use Rattle.elf_link.specs.declared.site.Site.{Site}
 use Rattle.elf_link.specs.Binds.{commons, entries, strong}
-use Rattle.elf_link.specs.Files.{IsEarlier, object_at, symbol_in}
+use Rattle.elf_link.specs.Files.{IsEarlier, symbol_in}
 use Rattle.elf_link.specs.Live.{Live}
 use Rattle.elf_link.specs.Rows.{AtEach, Before, IsFirstAt, Nowhere, Row, section_count, symbol_count}
 use Rattle.elf_link.specs.Symbols.{IsCommon, IsEntry}

@@ -2,6 +2,7 @@
 //! what each name is bound to, and where everything stands.
 #![tactic(auto)]
 
+mod addresses;
 mod binding;
 mod choice;
 mod discarded;

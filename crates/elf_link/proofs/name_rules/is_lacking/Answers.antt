@@ -1,4 +1,4 @@
-use Rattle.std.proofs.Common.{◌≡◌, ap, sym, subst}
+use Rattle.std.proofs.Common.{ap, sym, subst}
 use Rattle.elf_object.specs.Object.{SymbolValue}
 use Rattle.elf_object.specs.declared.symbol.Place.{Place}
 use Rattle.elf_link.specs.Files.{object_at}
