@@ -9,6 +9,7 @@ pub mod SiteTests
 pub mod FileRules
 pub mod Binds
 pub mod NameRules
+pub mod LinkRules
 pub mod Listing
 pub mod Addresses
 pub mod AddressFault

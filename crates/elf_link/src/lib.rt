@@ -9,6 +9,7 @@ mod discarded;
 mod fault;
 mod file_rules;
 mod files;
+mod judge;
 mod listing;
 mod name_rules;
 mod options;
