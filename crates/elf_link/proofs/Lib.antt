@@ -1,0 +1,9 @@
+-- Lemmas of this crate.
+pub mod ObjectFacts
+pub mod Seen
+pub mod Marked
+pub mod Listings
+pub mod Starts
+pub mod Most
+pub mod Bound
+pub mod Earlier

@@ -1,0 +1,23 @@
+//! What a name is bound to, before anything has an address.
+
+/// The binding of a name.
+#[derive(Clone, Copy, Debug, PartialEq, Eq)]
+pub(crate) enum Choice {
+    /// A global definition.
+    Strong { file: usize, symbol: usize },
+    /// A common of the largest size and the largest alignment.
+    Common { size: u64, align: u64 },
+    /// The first weak definition.
+    Weak { file: usize, symbol: usize },
+    /// Zero: only weak entries, and no definition.
+    Zero,
+}
+
+/// What is counted of a common.
+#[derive(Clone, Copy, Debug, PartialEq, Eq)]
+pub(crate) enum Measure {
+    /// Its size in bytes.
+    Size,
+    /// Its alignment, which is its value.
+    Align,
+}

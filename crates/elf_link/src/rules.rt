@@ -1,0 +1,25 @@
+//! The number of each rule of the link: 1 to 11 of the map, 12 to 16 of the relocation. docs/RULES.md has the order in which
+//! they are tested.
+
+/// The page is no power of two, or the base is no multiple of it.
+pub const BAD_OPTIONS: u16 = 1;
+/// The order, machine or flags of a file are not those of file 0.
+pub const MISMATCH: u16 = 2;
+/// A live section has the flag `SHF_TLS`.
+pub const TLS: u16 = 3;
+/// A live section has the flag `SHF_LINK_ORDER`.
+pub const LINK_ORDER: u16 = 4;
+/// A COMDAT group has an empty signature.
+pub const EMPTY_SIGNATURE: u16 = 5;
+/// A symbol's binding is above `STB_WEAK`, its type is `STT_TLS`, or it is not local and has no name.
+pub const BAD_SYMBOL: u16 = 6;
+/// A common symbol is not global, or its value, the alignment, is no power of two.
+pub const BAD_COMMON: u16 = 7;
+/// A global definition stands behind another of its name.
+pub const TWO_DEFINITIONS: u16 = 8;
+/// A global symbol counts as undefined, and its name has no binding.
+pub const UNDEFINED: u16 = 9;
+/// The entry symbol is not bound, zero, in a section that is not live, or past the last address.
+pub const NO_ENTRY: u16 = 10;
+/// A section or common starts or ends past the last address.
+pub const ADDRESS_OVERFLOW: u16 = 11;

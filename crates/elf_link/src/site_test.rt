@@ -1,0 +1,109 @@
+//! The first section or symbol that passes a test, over all files.
+ghost use Rattle.std.specs.Prelude.{◌≡◌, ◌↔◌, ◌<◌, IsTrue, MatchOption, length, map};
+ghost use Rattle.elf_link.specs.Discarded.{AreMarks};
+ghost use Rattle.elf_link.specs.Files.{object_at};
+ghost use Rattle.elf_link.specs.Rows.{IsFirstAt, Nowhere};
+ghost use Rattle.elf_link.specs.SiteTests.{HasNoneIn, IsFirstIn, Passes, counted, row_of};
+
+use crate::files::{section_count, symbol_count};
+use crate::section_tests::{has_empty_signature, is_live_with};
+use crate::site::{Site, site_in};
+use crate::symbol_tests::{
+    is_bad_common, is_bad_symbol, is_common_entry, is_definition, is_entry, is_not_weak,
+};
+use elf_field::abi::*;
+use elf_object::Object;
+
+/// A test of one section or one symbol: a rule of the link, or what an entry of a name is.
+#[derive(Clone, Copy, Debug, PartialEq, Eq)]
+pub(crate) enum SiteTest<'n> {
+    /// Rule 3: a live section with the flag `SHF_TLS`.
+    Tls,
+    /// Rule 4: a live section with the flag `SHF_LINK_ORDER`.
+    LinkOrder,
+    /// Rule 5: a COMDAT group with an empty signature.
+    EmptySignature,
+    /// Rule 6: a symbol that can't be linked.
+    BadSymbol,
+    /// Rule 7: a common that is not global, or of a wrong alignment.
+    BadCommon,
+    /// A global definition of this name.
+    Strong(&'n [u8]),
+    /// A weak definition of this name.
+    Weak(&'n [u8]),
+    /// A common of this name.
+    Common(&'n [u8]),
+    /// An entry of this name.
+    Entry(&'n [u8]),
+    /// An entry of this name that is not weak.
+    NotWeak(&'n [u8]),
+}
+
+impl<'n> SiteTest<'n> {
+    /// How many sections or symbols of a file are tested.
+    fn count(&self, object: &Object<'_>) -> usize
+        ensures { result ≡ counted self.now object.now }
+    {
+        match self {
+            SiteTest::Tls | SiteTest::LinkOrder | SiteTest::EmptySignature => section_count(object),
+            _ => symbol_count(object),
+        }
+    }
+
+    /// Whether the section or symbol at `index` of a file passes the test.
+    fn passes(&self, objects: &[Object<'_>], marks: &[Vec<bool>], file: usize, index: usize) -> bool
+        requires file { file < length objects.now }
+        requires index { index < counted self.now (object_at objects.now file) }
+        requires marks { AreMarks objects.now (map (λ row. row.items) marks.now) }
+        ensures { IsTrue result ↔ Passes objects.now self.now file index }
+    {
+        match self {
+            SiteTest::Tls => is_live_with(SHF_TLS, objects, marks, file, index),
+            SiteTest::LinkOrder => is_live_with(SHF_LINK_ORDER, objects, marks, file, index),
+            SiteTest::EmptySignature => has_empty_signature(objects, file, index),
+            SiteTest::BadSymbol => is_bad_symbol(objects, file, index),
+            SiteTest::BadCommon => is_bad_common(objects, file, index),
+            SiteTest::Strong(name) => is_definition(STB_GLOBAL, name, objects, marks, file, index),
+            SiteTest::Weak(name) => is_definition(STB_WEAK, name, objects, marks, file, index),
+            SiteTest::Common(name) => is_common_entry(name, objects, file, index),
+            SiteTest::Entry(name) => is_entry(name, objects, file, index),
+            SiteTest::NotWeak(name) => is_not_weak(name, objects, file, index),
+        }
+    }
+}
+
+/// The first position in a file that passes the test.
+fn first_in_file(
+    test: &SiteTest<'_>,
+    objects: &[Object<'_>],
+    marks: &[Vec<bool>],
+    file: usize,
+) -> Option<usize>
+    requires file { file < length objects.now }
+    requires marks { AreMarks objects.now (map (λ row. row.items) marks.now) }
+    ensures { MatchOption result (HasNoneIn objects.now test.now file) (IsFirstIn objects.now test.now file) }
+{
+    for index in 0..test.count(&objects[file]) {
+        if test.passes(objects, marks, file, index) {
+            return Some(index);
+        }
+    }
+    None
+}
+
+/// The first site that passes the test, by file and position.
+pub(crate) fn first_site(
+    test: &SiteTest<'_>,
+    objects: &[Object<'_>],
+    marks: &[Vec<bool>],
+) -> Option<Site>
+    requires marks { AreMarks objects.now (map (λ row. row.items) marks.now) }
+    ensures { MatchOption result (Nowhere (row_of objects.now test.now)) (IsFirstAt (row_of objects.now test.now)) }
+{
+    for file in 0..objects.len() {
+        if let Some(index) = first_in_file(test, objects, marks, file) {
+            return Some(site_in(file, index));
+        }
+    }
+    None
+}
