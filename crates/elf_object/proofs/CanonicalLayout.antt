@@ -1,8 +1,11 @@
 -- An object has one canonical layout.
-use Rattle.std.proofs.Common.{◌≡◌, ◌<◌, ◌+◌, ◌-◌, ◌*◌, ℕ, suc, List, [], ◌∷◌, ◌++◌, length, map, get_or, refl, sym, ap, subst, ◌∙◌, arith}
+use Rattle.std.proofs.Common.{◌≡◌, ◌<◌, ◌+◌, ◌-◌, ◌*◌, ℕ, suc, List, [], ◌∷◌, ◌++◌, length, map, get_or, refl, sym, ap, subst, ◌∙◌, arith, ◌⊎◌, zero, inl, inr}
 use Rattle.std.specs.Prelude.{Result, Ok, Err, IfErr, IfOk}
 use Rattle.std.proofs.lemmas.List.{length-map}
-use Rattle.elf_field.specs.Abi.{EHDR_SIZE, SHDR_SIZE}
+use Rattle.elf_field.specs.Abi.{EHDR_SIZE, ELFDATA2LSB, ELFDATA2MSB, MAGIC, SHDR_SIZE}
+use Rattle.elf_field.specs.declared.ehdr.Ehdr.{Ehdr}
+use Rattle.elf_field.specs.declared.order.Order.{Order}
+use Rattle.elf_field.specs.declared.order.Order.TheVariants.{Little, Big}
 use Rattle.elf_field.specs.declared.shdr.Shdr.{Shdr}
 use Rattle.elf_field.specs.RecordTableLaws.{length-table}
 use Rattle.elf_field.specs.ShdrLaws.{shdr_laws}
@@ -11,11 +14,12 @@ use Rattle.elf_extent.proofs.Public.{fits_length, least_places, same_least}
 use Rattle.elf_image.specs.FileParts.{unaligned}
 use Rattle.elf_image.specs.RelocatableFile.{all_headers, behind_header, offsets, section_table}
 use Rattle.elf_image.proofs.Public.{length-relocatable_bytes}
+use Rattle.elf_rules.specs.KeepsRules.{KeepsIdentRules}
 use Rattle.elf_rules.specs.Tables.{order_of}
 use Rattle.elf_string_table.specs.StringTable.{name_place}
 use Rattle.elf_object.specs.declared.layout.LayoutFault.{LayoutFault}
 use Rattle.elf_object.specs.declared.layout.LayoutFault.TheVariants.{TooLong, OutOfMemory}
-use Rattle.elf_object.specs.Laid.{Laid, content_part, file_header, layout_bytes, layout_parts, section_headers}
+use Rattle.elf_object.specs.Laid.{Laid, content_part, encoding, file_header, identification, layout_bytes, layout_parts, section_headers}
 use Rattle.elf_object.specs.LayoutParts.{saturated}
 use Rattle.elf_object.specs.LayoutView.{ArePartsFault, ArePlacedParts, AreTooLong, IsLayoutFault, IsLayoutOf, LayoutValue}
 use Rattle.elf_object.specs.Object.{ObjectValue}
@@ -70,30 +74,76 @@ pub length-layout_parts : (sections : List PlainSection) → length (layout_part
 unfolding layout_parts
 length-layout_parts sections = let long = length-parts sections (SHDR_SIZE * (length sections + 1)) in omega arith
 
+-- the header, section headers and contents of the file with these places
+abbrev pub header_at : ObjectValue → List ℕ → Ehdr
+header_at o places = let sections = plain_sections o in file_header o (length sections + 1) (get_or places (length sections) 0)
+
+abbrev pub headers_at : ObjectValue → List ℕ → List Shdr
+headers_at o places = section_headers (name_place (section_names o)) (plain_sections o) places
+
+abbrev pub contents_of : ObjectValue → List (List ℕ)
+contents_of o = map (λ s. s.content) (plain_sections o)
+
+pub length-headers_at : (o : ObjectValue) (places : List ℕ) → Fits (layout_parts (plain_sections o)) EHDR_SIZE places → length (headers_at o places) ≡ length (plain_sections o)
+unfolding layout_parts
+length-headers_at o places fits =
+    let sections = plain_sections o in
+    let parts_long = length-parts sections (SHDR_SIZE * (length sections + 1)) in
+    let many = fits_length (layout_parts sections) EHDR_SIZE places fits in
+    length-section_headers (name_place (section_names o)) sections places (omega arith)
+
+-- each part stands behind the one before it, as a relocatable file wants it
+pub layout_order : (o : ObjectValue) (places : List ℕ) → Fits (layout_parts (plain_sections o)) EHDR_SIZE places →
+    Fits (map unaligned (behind_header (header_at o places) (headers_at o places) (contents_of o) (names_at o))) EHDR_SIZE (offsets (header_at o places) (headers_at o places))
+unfolding layout_parts
+layout_order o places fits =
+    let sections = plain_sections o in
+    let count = length sections + 1 in
+    let h = header_at o places in
+    let ss = headers_at o places in
+    let parts_long = length-parts sections (SHDR_SIZE * count) in
+    let places_long : length places ≡ suc (length sections) = (let many = fits_length (layout_parts sections) EHDR_SIZE places fits in omega arith) in
+    let headers_long = length-section_headers (name_place (section_names o)) sections places places_long in
+    let table_long : length (section_table h ss (names_at o)) ≡ SHDR_SIZE * count =
+    (let all = length-table shdr_laws (order_of h.e_ident) (all_headers ss (names_at o)) in omega arith) in
+    let loose = unaligned_parts sections (SHDR_SIZE * count) (section_table h ss (names_at o)) EHDR_SIZE places table_long fits in
+    subst (Fits (map unaligned (behind_header h ss (contents_of o) (names_at o))) EHDR_SIZE) (sym (offsets_are (name_place (section_names o)) sections places places_long)) loose
+
 pub length-layout_bytes : (o : ObjectValue) (places : List ℕ) → Fits (layout_parts (plain_sections o)) EHDR_SIZE places →
     length (layout_bytes o places) ≡ end_of (layout_parts (plain_sections o)) places (length (layout_parts (plain_sections o)) - 1)
 unfolding layout_bytes layout_parts
 length-layout_bytes o places fits =
     let sections = plain_sections o in
     let count = length sections + 1 in
-    let name_at = name_place (section_names o) in
-    let h = file_header o count (get_or places (length sections) 0) in
-    let ss = section_headers name_at sections places in
-    let cs = map (λ (s : PlainSection). s.content) sections in
     let parts_long = length-parts sections (SHDR_SIZE * count) in
-    let places_long : length places ≡ suc (length sections) = (let many = fits_length (layout_parts sections) EHDR_SIZE places fits in omega arith) in
-    let headers_long = length-section_headers name_at sections places places_long in
+    let headers_long = length-headers_at o places fits in
     let contents_long = length-map sections (λ (s : PlainSection). s.content) in
-    let table_long : length (section_table h ss (names_at o)) ≡ SHDR_SIZE * count =
-    (let all = length-table shdr_laws (order_of h.e_ident) (all_headers ss (names_at o)) in omega arith) in
-    let loose = unaligned_parts sections (SHDR_SIZE * count) (section_table h ss (names_at o)) EHDR_SIZE places table_long fits in
-    let order : Fits (map unaligned (behind_header h ss cs (names_at o))) EHDR_SIZE (offsets h ss) =
-    subst (Fits (map unaligned (behind_header h ss cs (names_at o))) EHDR_SIZE) (sym (offsets_are name_at sections places places_long)) loose in
-    let whole = length-relocatable_bytes h ss cs (names_at o) (omega arith) order in
+    let whole = length-relocatable_bytes (header_at o places) (headers_at o places) (contents_of o) (names_at o) (omega arith) (layout_order o places fits) in
     let last : length (map content_part sections ++ ((SHDR_SIZE * count, 8) ∷ [])) - 1 ≡ length sections = omega arith in
     let size = last_size sections (SHDR_SIZE * count) in
     let end = ap (end_of (map content_part sections ++ ((SHDR_SIZE * count, 8) ∷ [])) places) last in
     omega arith
+
+-- ---- the identification of the file
+
+identification_magic : (o : ObjectValue) (i : ℕ) → i < length MAGIC → get_or (identification o) i 0 ≡ get_or MAGIC i 0
+identification_magic o zero lt = refl
+identification_magic o (suc zero) lt = refl
+identification_magic o (suc (suc zero)) lt = refl
+identification_magic o (suc (suc (suc zero))) lt = refl
+identification_magic o (suc (suc (suc (suc i)))) lt = absurd (omega arith)
+
+known_encoding : (order : Order) → (encoding order ≡ ELFDATA2LSB) ⊎ (encoding order ≡ ELFDATA2MSB)
+known_encoding Little = inl refl
+known_encoding Big = inr refl
+
+pub identification_kept : (o : ObjectValue) → KeepsIdentRules (identification o)
+identification_kept o = record {
+  magic = identification_magic o;
+  class = refl;
+  encoding = known_encoding o.order;
+  ident_version = refl;
+}
 
 -- ---- what placed parts tell of the object
 

@@ -16,6 +16,14 @@
 //! };
 //! let object = Object::new(alloc, parts)?;
 //! ```
+//!
+//! [`lay_out`] answers where each part of an object stands in its canonical layout, the one list of bytes that it is written
+//! as: that of the object above is 376 bytes long.
+//!
+//! ```
+//! let layout = lay_out(alloc, &object)?;
+//! assert_eq!(layout.length(), 376);
+//! ```
 #![tactic(auto)]
 
 mod body_kind;
@@ -56,3 +64,6 @@ pub use reading::object_of;
 pub use relocation::Relocation;
 pub use section::{Body, Info, Section};
 pub use symbol::{Place, Symbol};
+
+#[cfg(test)]
+mod layout_tests;
