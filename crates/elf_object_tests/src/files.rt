@@ -252,6 +252,21 @@ fn tells_a_member_that_is_a_group_or_one_of_two_groups(rt: HostRuntime) -> Resul
 }
 
 #[test]
+fn refuses_a_program_header(rt: HostRuntime) -> Result<(), Fail> {
+    let mut file = [0; 120];
+    set_header(
+        &mut file,
+        Order::Little,
+        &[(32, 8, 64), (54, 2, 56), (56, 2, 1)],
+    );
+    assert_eq!(rt;
+        verdict_of(rt.alloc(), &file),
+        Err(Fault::Rule { rule: 71, at: 56 })
+    );
+    Ok(())
+}
+
+#[test]
 fn reads_the_header_alone_as_the_empty_object(rt: HostRuntime) -> Result<(), Fail> {
     let mut file = [0; 64];
     set_header(&mut file, Order::Little, &[]);
