@@ -41,7 +41,7 @@ pub fn object_of<'a>(alloc: Global, image: &Image<'a>) -> Result<Object<'a>, Fau
 }
 
 /// The parts of the object that the image denotes.
-pub(crate) fn parts_of<'a>(alloc: Global, image: &Image<'a>) -> Result<ObjectParts<'a>, Fault>
+fn parts_of<'a>(alloc: Global, image: &Image<'a>) -> Result<ObjectParts<'a>, Fault>
     ensures { let f = sections_of image.now in
         IsJudgedBehind (front_rules f) (file_rules f) (λ parts. Denotes f (value_of parts)) result }
 {
