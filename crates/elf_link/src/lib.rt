@@ -13,6 +13,7 @@ mod judge;
 mod listing;
 mod name_rules;
 mod options;
+mod outputs;
 pub mod rules;
 mod section_tests;
 mod site;
