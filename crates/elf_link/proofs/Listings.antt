@@ -25,7 +25,7 @@ longer : (ps : List Site) (q : Site) → length (ps ++ q ∷ []) ≡ length ps +
 longer ps q = simp length-append
 
 -- one more site, behind all others
-lists_more : (row next : Row) (ps : List Site) (q : Site) → ((p : Site) → row p → next p) → next q → ((p : Site) → next p → row p ⊎ (p ≡ q)) →
+pub lists_more : (row next : Row) (ps : List Site) (q : Site) → ((p : Site) → row p → next p) → next q → ((p : Site) → next p → row p ⊎ (p ≡ q)) →
     ((p : Site) → row p → Before p q) → Lists row ps → Lists next (ps ++ q ∷ [])
 lists_more row next ps q into here split before is = record {
   each = λ k lt. (
@@ -55,7 +55,7 @@ lists_more row next ps q into here split before is = record {
       ]);
 }
 
-lists_same : (row next : Row) (ps : List Site) → ((p : Site) → row p → next p) → ((p : Site) → next p → row p) → Lists row ps → Lists next ps
+pub lists_same : (row next : Row) (ps : List Site) → ((p : Site) → row p → next p) → ((p : Site) → next p → row p) → Lists row ps → Lists next ps
 lists_same row next ps into back is = record {
   each = λ k lt. into (site_at ps k) (is.each k lt);
   all = λ p holds. is.all p (back p holds);

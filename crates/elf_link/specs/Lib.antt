@@ -12,5 +12,6 @@ pub mod NameRules
 pub mod LinkRules
 pub mod Listing
 pub mod Outputs
+pub mod OutputPicks
 pub mod Addresses
 pub mod AddressFault

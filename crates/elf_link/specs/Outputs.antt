@@ -1,6 +1,6 @@
 -- Output sections: live sections of one name, the same flags but GROUP, and bits or none, in order of first appearance.
 -- (gABI chapter 4, Sections: sh_flags; the placement is this project's profile.)
-use Rattle.std.specs.Prelude.{◌≡◌, ℕ, ◌+◌, ◌-◌, ◌^◌, ◌<◌, Bool, true, false, List, [], ◌∷◌, ◌++◌, bit_and, fold, flat_map, map, length, max}
+use Rattle.std.specs.Prelude.{◌≡◌, ℕ, ◌-◌, ◌^◌, ◌<◌, Bool, true, false, List, [], ◌∷◌, bit_and, fold, length, max}
 use Rattle.elf_field.specs.Abi.{SHF_GROUP}
 use Rattle.elf_object.specs.Object.{BodyValue, bits, no_bits, relocs, group, ObjectValue, SectionValue}
 use Rattle.elf_link.specs.declared.site.Site.{Site}

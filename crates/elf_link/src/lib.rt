@@ -14,6 +14,7 @@ mod listing;
 mod name_rules;
 mod options;
 mod outputs;
+mod parts;
 pub mod rules;
 mod section_tests;
 mod site;
