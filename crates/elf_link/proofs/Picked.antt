@@ -31,13 +31,6 @@ position_before row ps j k is j_in k_in before = elim (cases_lt j k) [
   ]
 ]
 
-pub picked_none : (ps : List Site) (P : Site → Type 0) → Picks ps 0 P []
-picked_none ps P = record {
-  each = λ k lt. absurd (omega arith);
-  all = λ p (holds, earlier). (let (j, lt, at) = earlier in absurd (omega arith));
-  order = λ j k lt within. absurd (omega arith);
-}
-
 pub picked_more : (row : Row) (ps : List Site) (k : ℕ) (P : Site → Type 0) (out : List Site) → Lists row ps → k < length ps →
     P (site_at ps k) → Picks ps k P out → Picks ps (k + 1) P (out ++ site_at ps k ∷ [])
 picked_more row ps k P out is lt here picks =
