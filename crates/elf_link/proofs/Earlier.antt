@@ -1,5 +1,5 @@
 -- The first site of a row and the sites before one of its own.
-use Rattle.std.proofs.Common.{◌≡◌, ℕ, inl, inr, sym, subst, arith}
+use Rattle.std.proofs.Common.{◌≡◌, ℕ, inl, inr, sym, arith}
 use Rattle.std.proofs.lemmas.Bool.{cases_lt}
 use Rattle.elf_link.specs.declared.site.Site.{Site}
 use Rattle.elf_link.specs.Files.{IsEarlier}
@@ -26,11 +26,6 @@ first_earlier row p e h f i first there before = elim (cases_lt p.file f) [
     ]
   ]
 ]
-
--- a first site is that of its file and position
-pub first_of : (row : Row) (p : Site) → IsFirstAt row p → p.entry ≡ 0 → IsFirstAt row (record { file = p.file; index = p.index; entry = 0 })
-first_of row p first none =
-    subst (λ n. IsFirstAt row (record { file = p.file; index = p.index; entry = n })) none first
 
 -- two first sites are of one file and position
 pub first_same : (row : Row) (p q : Site) → IsFirstAt row p → IsFirstAt row q → (p.file ≡ q.file) × (p.index ≡ q.index)

@@ -4,6 +4,7 @@ pub mod Seen
 pub mod Marked
 pub mod Listings
 pub mod Starts
+pub mod Picked
 pub mod Most
 pub mod Bound
 pub mod Earlier

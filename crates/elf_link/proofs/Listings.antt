@@ -25,7 +25,7 @@ longer : (ps : List Site) (q : Site) → length (ps ++ q ∷ []) ≡ length ps +
 longer ps q = simp length-append
 
 -- one more site, behind all others
-lists_more : (row next : Row) (ps : List Site) (q : Site) → ((p : Site) → row p → next p) → next q → ((p : Site) → next p → row p ⊎ (p ≡ q)) →
+pub lists_more : (row next : Row) (ps : List Site) (q : Site) → ((p : Site) → row p → next p) → next q → ((p : Site) → next p → row p ⊎ (p ≡ q)) →
     ((p : Site) → row p → Before p q) → Lists row ps → Lists next (ps ++ q ∷ [])
 lists_more row next ps q into here split before is = record {
   each = λ k lt. (
@@ -55,7 +55,7 @@ lists_more row next ps q into here split before is = record {
       ]);
 }
 
-lists_same : (row next : Row) (ps : List Site) → ((p : Site) → row p → next p) → ((p : Site) → next p → row p) → Lists row ps → Lists next ps
+pub lists_same : (row next : Row) (ps : List Site) → ((p : Site) → row p → next p) → ((p : Site) → next p → row p) → Lists row ps → Lists next ps
 lists_same row next ps into back is = record {
   each = λ k lt. into (site_at ps k) (is.each k lt);
   all = λ p holds. is.all p (back p holds);
@@ -88,35 +88,3 @@ listed_past count fs P f i ps other is =
       | inl earlier ↦ (row, earlier)
       | inr same ↦ absurd (other (subst (λ n. P f n) same.1 (subst (λ n. P n p.index) same.0 row.2)))
     ]) is
-
--- behind the last one of a file stands the next file
-pub listed_file : (count : ObjectValue → ℕ) (fs : List ObjectValue) (P : ℕ → ℕ → Type 0) (f : ℕ) (ps : List Site) →
-    Lists (UpTo (AtEach count fs P) f (count (object_at fs f))) ps → Lists (UpTo (AtEach count fs P) (f + 1) 0) ps
-listed_file count fs P f ps is =
-    lists_same (UpTo (AtEach count fs P) f (count (object_at fs f))) (UpTo (AtEach count fs P) (f + 1) 0) ps
-    (λ p (row, before). elim before [ inl file ↦ (row, inl (omega arith)) | inr same ↦ (let eq = same.0 in (row, inl (omega arith))) ])
-    (λ p (row, before). elim before [
-      | inl file ↦ elim (cases_lt p.file f) [
-        | inl earlier ↦ (row, inl earlier)
-        | inr above ↦ (
-            let same : p.file ≡ f = omega arith in
-            (row, inr (same, subst (λ n. p.index < count (object_at fs n)) same row.1)))
-      ]
-      | inr same ↦ absurd (let lt = same.1 in omega arith)
-    ]) is
-
--- behind the last file all is listed
-pub listed_done : (count : ObjectValue → ℕ) (fs : List ObjectValue) (P : ℕ → ℕ → Type 0) (ps : List Site) →
-    Lists (UpTo (AtEach count fs P) (length fs) 0) ps → Lists (AtEach count fs P) ps
-listed_done count fs P ps is =
-    lists_same (UpTo (AtEach count fs P) (length fs) 0) (AtEach count fs P) ps (λ p (row, before). row) (λ p row. (row, inl row.0)) is
-
-pub listed_none : (row : Row) → Lists (UpTo row 0 0) []
-listed_none row = record {
-  each = λ k lt. absurd (omega arith);
-  all = λ p (holds, before). absurd (nothing p before);
-  order = λ j k lt within. absurd (omega arith);
-} where
-  nothing : (p : Site) → IsEarlier p.file p.index 0 0 → ⊥
-  nothing p (inl file) = omega arith
-  nothing p (inr (file, index)) = omega arith

@@ -5,9 +5,7 @@ use Rattle.std.proofs.lemmas.List.{get_or_push, length-set}
 use Rattle.std.proofs.Math.ListN.{get_or-append}
 use Rattle.elf_object.specs.GroupRule.{NamesMember}
 use Rattle.elf_object.specs.Object.{ObjectValue}
-use Rattle.elf_object.specs.Positions.{members_of}
-use Rattle.elf_link.specs.Discarded.{AreMarks, IsComdat, IsMember, IsSeen, signature}
-use Rattle.elf_link.specs.Files.{object_at, section_in}
+use Rattle.elf_link.specs.Files.{object_at}
 use Rattle.elf_link.specs.Marking.{AreMarked, AreMarksBefore, AreRows, IsDiscardedBefore}
 
 -- ---- the members of one group
@@ -48,48 +46,6 @@ marked_next before members n row are there = record {
 pub discarded_more : (fs : List ObjectValue) (f n s : ℕ) → IsDiscardedBefore fs f n s → IsDiscardedBefore fs f (n + 1) s
 discarded_more fs f n s (g, lt, comdat, member, seen) = (g, omega arith, comdat, member, seen)
 
--- behind a section that discards nothing the same are marked
-pub marks_past : (fs : List ObjectValue) (f n : ℕ) (row : List Bool) → (IsComdat fs f n → IsSeen fs f n (signature fs f n) → ⊥) →
-    AreMarksBefore fs f n row → AreMarksBefore fs f (n + 1) row
-marks_past fs f n row other are = record {
-  long = are.long;
-  right = λ s within. (
-    (λ is. discarded_more fs f n s ((are.right s within).0 is)),
-    (λ (g, lt, comdat, member, seen). elim (cases_lt g n) [
-      | inl below ↦ (are.right s within).1 (g, below, comdat, member, seen)
-      | inr above ↦ (
-          let same : g ≡ n = omega arith in
-          absurd (other (subst (λ m. IsComdat fs f m) same comdat) (subst (λ m. IsSeen fs f m (signature fs f m)) same seen)))
-    ]),
-  );
-}
-
--- behind a group that an earlier one has the signature of, its members are marked too
-pub marks_more : (fs : List ObjectValue) (f n : ℕ) (row next : List Bool) → IsComdat fs f n → IsSeen fs f n (signature fs f n) →
-    AreMarked row (members_of (section_in fs f n).body) (length (members_of (section_in fs f n).body)) next →
-    AreMarksBefore fs f n row → AreMarksBefore fs f (n + 1) next
-marks_more fs f n row next comdat seen marked are = record {
-  long = marked.long ∙ are.long;
-  right = λ s within. (let inside : s < length row = subst (λ m. s < m) marked.long within in (
-    (λ is. elim ((marked.right s inside).0 is) [
-      | inl had ↦ discarded_more fs f n s ((are.right s inside).0 had)
-      | inr member ↦ (n, omega arith, comdat, member, seen)
-    ]),
-    (λ (g, lt, other, member, known). (marked.right s inside).1 (elim (cases_lt g n) [
-      | inl below ↦ inl ((are.right s inside).1 (g, below, other, member, known))
-      | inr above ↦ (let same : g ≡ n = omega arith in inr (subst (λ m. IsMember fs f m s) same member))
-    ])),
-  ));
-}
-
--- before the first section nothing is marked
-pub marks_none : (fs : List ObjectValue) (f : ℕ) (row : List Bool) → length row ≡ length (object_at fs f).sections →
-    ((s : ℕ) → get_or row s false ≡ false) → AreMarksBefore fs f 0 row
-marks_none fs f row long clean = record {
-  long = long;
-  right = λ s within. ((λ is. (let never = clean s in absurd (cc))), (λ (g, lt, comdat, member, seen). absurd (omega arith)));
-}
-
 -- ---- all files
 
 pub rows_more : (fs : List ObjectValue) (n : ℕ) (rows : List (List Bool)) (row : List Bool) →
@@ -106,14 +62,4 @@ rows_more fs n rows row are rest = record {
         subst (λ r. AreMarksBefore fs f (length (object_at fs f).sections) r) (sym last)
         (subst (λ m. AreMarksBefore fs m (length (object_at fs m).sections) row) (sym same) are))
   ];
-}
-
-pub rows_done : (fs : List ObjectValue) (rows : List (List Bool)) → AreRows fs (length fs) rows → AreMarks fs rows
-rows_done fs rows are = record {
-  files = are.count;
-  long = λ f lt. (are.each f lt).long;
-  right = λ f s file within. (let inside : s < length (get_or rows f []) = rw (are.each f file).long within in (
-    (λ is. (let (g, lt, comdat, member, seen) = ((are.each f file).right s inside).0 is in (g, comdat, member, seen))),
-    (λ (g, comdat, member, seen). ((are.each f file).right s inside).1 (g, comdat.1, comdat, member, seen)),
-  ));
 }

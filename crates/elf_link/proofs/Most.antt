@@ -4,7 +4,7 @@ use Rattle.std.proofs.lemmas.Bool.{cases_lt}
 use Rattle.elf_object.specs.Object.{ObjectValue}
 use Rattle.elf_link.specs.declared.choice.Measure.{Measure}
 use Rattle.elf_link.specs.declared.site.Site.{Site}
-use Rattle.elf_link.specs.Binds.{IsLarger, IsLargest, IsMost, IsMostIn, commons, measured}
+use Rattle.elf_link.specs.Binds.{IsLarger, IsMostIn, commons, measured}
 use Rattle.elf_link.specs.Files.{object_at}
 use Rattle.elf_link.specs.Symbols.{IsCommon}
 
@@ -48,19 +48,5 @@ most_file fs name measure f most n within is next = record {
       | inr (p, common, at) ↦ inr (p, common, at ∙ sym kept)
     ]
     | inr (k, lt, common, at) ↦ inr (record { file = f; index = k; entry = 0 }, (within, lt, common, refl), at)
-  ];
-}
-
-pub most_done : (fs : List ObjectValue) (name : List ℕ) (measure : Measure) (n : ℕ) → IsMostBefore fs name measure (length fs) n → IsMost fs name measure n
-most_done fs name measure n is = record { above = λ p (file, index, common, entry). is.above p file (file, index, common, entry); attained = is.attained }
-
--- where there is a common, the largest is that of one
-pub largest_common : (fs : List ObjectValue) (name : List ℕ) (measure : Measure) (n : ℕ) (p : Site) → commons fs name p → IsMost fs name measure n →
-    IsLargest (commons fs name) (measured fs measure) n
-largest_common fs name measure n p common is = record {
-  above = is.above;
-  attained = elim is.attained [
-    | inl none ↦ (p, common, (let a = is.above p common in omega arith))
-    | inr found ↦ found
   ];
 }

@@ -7,9 +7,6 @@ use Rattle.elf_extent.proofs.Public.{above_earlier, least_cons, least_places}
 use Rattle.elf_link.specs.declared.addresses.Target.TheVariants.{Lost, Fixed}
 use Rattle.elf_link.specs.Addresses.{HasNoValue, HasValue, IsCursor, StartsAt, StartsPast}
 
-pub cursor_none : (parts : List (ℕ × ℕ)) (from : ℕ) → IsCursor parts from 0 from
-cursor_none parts from = ([], refl, λ rest least. least)
-
 -- from a part at its least place on, all parts have their least places
 placed_here : (parts : List (ℕ × ℕ)) (from i cursor x : ℕ) (p : ℕ × ℕ) (done rest : List ℕ) → i < length parts → p ≡ get_or parts i p →
     IsLeastPlace cursor p.1 x → Least (drop (i + 1) parts) (x + p.0) rest →

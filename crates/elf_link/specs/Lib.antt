@@ -11,5 +11,7 @@ pub mod Binds
 pub mod NameRules
 pub mod LinkRules
 pub mod Listing
+pub mod Outputs
+pub mod OutputPicks
 pub mod Addresses
 pub mod AddressFault

@@ -5,7 +5,7 @@ use Rattle.elf_link.specs.declared.listing.Listed.{Listed}
 use Rattle.elf_link.specs.declared.listing.Listed.TheVariants.{LiveSections, ChosenCommons, FirstEntries}
 use Rattle.elf_link.specs.declared.site.Site.{Site}
 use Rattle.elf_link.specs.Binds.{commons, entries, strong}
-use Rattle.elf_link.specs.Files.{IsEarlier, symbol_in}
+use Rattle.elf_link.specs.Files.{IsEarlier, object_at, symbol_in}
 use Rattle.elf_link.specs.Live.{Live}
 use Rattle.elf_link.specs.Rows.{AtEach, Before, IsFirstAt, Nowhere, Row, section_count, symbol_count}
 use Rattle.elf_link.specs.Symbols.{IsCommon, IsEntry}
@@ -48,3 +48,8 @@ listed_row fs what = AtEach (listed_count what) fs (IsListed fs what)
 -- the sites of a row before position i of file f
 abbrev pub UpTo : Row → ℕ → ℕ → Row
 UpTo row f i = λ p. row p × IsEarlier p.file p.index f i
+
+-- each site of the list is a section of its file
+abbrev pub AreIn : List ObjectValue → List Site → Type 0
+AreIn fs ps = (k : ℕ) → k < length ps →
+    ((site_at ps k).file < length fs) × ((site_at ps k).index < length (object_at fs (site_at ps k).file).sections)

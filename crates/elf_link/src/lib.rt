@@ -13,6 +13,8 @@ mod judge;
 mod listing;
 mod name_rules;
 mod options;
+mod outputs;
+mod parts;
 pub mod rules;
 mod section_tests;
 mod site;
