@@ -1,5 +1,4 @@
-//! The number of each rule of the link: 1 to 11 of the map, 12 to 16 of the relocation. docs/RULES.md has the order in which
-//! they are tested.
+//! The number of each rule of the link, 1 to 11, in the order in which they are tested.
 
 /// The page is no power of two, or the base is no multiple of it.
 pub const BAD_OPTIONS: u16 = 1;

@@ -1,5 +1,5 @@
-//! The tables that an ELF-64 image holds, each as a list of its entries (gABI chapter 4, String Table, Symbol Table,
-//! Relocation): from an [`Image`](elf_image::Image) and the index of a section.
+//! The tables that an ELF-64 image holds: from an [`Image`](elf_image::Image) and the index of a section, strings, symbols,
+//! relocations and section groups (gABI chapter 4), notes, dynamic arrays and hash tables (chapter 5).
 //!
 //! A table is accepted exactly where it breaks none of its rules ([`rules`]); else the first rule that it breaks is answered, at
 //! its lowest offset. [`Tables`] judges every table of an image once. The names of the symbols in section 3 are read so:
