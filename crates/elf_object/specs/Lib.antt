@@ -14,6 +14,8 @@ pub mod Reading
 pub mod PlainSections
 pub mod Laid
 pub mod LaidObjects
+pub mod Widths
+pub mod WrittenObject
 pub mod LayoutParts
 pub mod LayoutView
 pub mod NameTables
