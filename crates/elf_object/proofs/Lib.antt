@@ -25,3 +25,4 @@ pub mod LayoutParts
 pub mod NamesOf
 pub mod PartSizes
 pub mod AllParts
+pub mod WrittenSections
