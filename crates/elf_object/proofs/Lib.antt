@@ -26,3 +26,4 @@ pub mod NamesOf
 pub mod PartSizes
 pub mod AllParts
 pub mod WrittenSections
+pub mod WrittenKept
