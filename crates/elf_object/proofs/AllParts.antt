@@ -17,7 +17,7 @@ use Rattle.elf_object.proofs.PartSizes.{fits_largest}
 
 -- ---- the sections behind the object's own
 
-pub last_sections : ObjectValue → Bool → List PlainSection
+unfoldable pub last_sections : ObjectValue → Bool → List PlainSection
 last_sections o true = symbol_table o ∷ index_table o ∷ strings (codes ".strtab") (symbol_names o) ∷ strings (codes ".shstrtab") (section_names o) ∷ []
 last_sections o false = symbol_table o ∷ strings (codes ".strtab") (symbol_names o) ∷ strings (codes ".shstrtab") (section_names o) ∷ []
 

@@ -25,3 +25,6 @@ pub mod LayoutParts
 pub mod NamesOf
 pub mod PartSizes
 pub mod AllParts
+pub mod WrittenSections
+pub mod WrittenLengths
+pub mod SoundObject
