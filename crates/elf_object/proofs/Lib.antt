@@ -27,3 +27,5 @@ pub mod PartSizes
 pub mod AllParts
 pub mod WrittenSections
 pub mod WrittenKept
+pub mod WrittenLengths
+pub mod SoundObject

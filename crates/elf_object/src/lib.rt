@@ -53,6 +53,7 @@ mod section;
 mod section_rules;
 mod symbol;
 mod symbol_rules;
+mod written_laws;
 
 pub use fault::ObjectFault;
 pub use laws::{one_object, one_object_fault};
@@ -64,6 +65,7 @@ pub use reading::object_of;
 pub use relocation::Relocation;
 pub use section::{Body, Info, Section};
 pub use symbol::{Place, Symbol};
+pub use written_laws::written_object;
 
 #[cfg(test)]
 mod layout_tests;

@@ -1,0 +1,65 @@
+-- What the nine rules give, one by one, of an object that breaks none: no section or symbol at a position breaks a rule.
+use Rattle.std.proofs.Common.{◌≡◌, ◌<◌, ℕ, List, [], ◌∷◌, ◌++◌, length, refl}
+use Rattle.std.specs.Prelude.{None}
+use Rattle.elf_rules.specs.Rows.{FirstIn}
+use Rattle.elf_rules.proofs.Public.{FirstIn-behind, FirstIn-front}
+use Rattle.elf_object.specs.GroupRule.{HasWrongMember, group_rules}
+use Rattle.elf_object.specs.Object.{ObjectValue, section_at, symbol_at}
+use Rattle.elf_object.specs.ObjectRules.{IsObject, object_rules}
+use Rattle.elf_object.specs.Positions.{HasZero, IsPast}
+use Rattle.elf_object.specs.SectionRules.{HasWrongField, HasWrongPosition, IsMisaligned, IsWrongBits, section_rules}
+use Rattle.elf_object.specs.SymbolRules.{IsMisplacedLocal, place_position, symbol_rules}
+
+module _ (o : ObjectValue) (sound : IsObject o) where
+  sections_kept : FirstIn (section_rules o) None
+  unfolding object_rules
+  sections_kept = FirstIn-front (section_rules o) _ sound
+
+  groups_and_symbols : FirstIn (group_rules o ++ symbol_rules o) None
+  unfolding object_rules
+  groups_and_symbols = FirstIn-behind (section_rules o) _ sound
+
+  groups_kept : FirstIn (group_rules o) None
+  groups_kept = FirstIn-front (group_rules o) _ groups_and_symbols
+
+  symbols_kept : FirstIn (symbol_rules o) None
+  symbols_kept = FirstIn-behind (group_rules o) _ groups_and_symbols
+
+  -- rules 1 to 5
+  pub no_zero_in_section_name : (p : ℕ) → p < length o.sections → HasZero (section_at o p).name → ⊥
+  unfolding section_rules
+  no_zero_in_section_name p lt broken = sections_kept.0 p (p, lt, broken, refl)
+
+  pub no_wrong_bits : (p : ℕ) → p < length o.sections → IsWrongBits (section_at o p).body → ⊥
+  unfolding section_rules
+  no_wrong_bits p lt broken = sections_kept.1.0 p (p, lt, broken, refl)
+
+  pub no_wrong_alignment : (p : ℕ) → p < length o.sections → IsMisaligned (section_at o p) → ⊥
+  unfolding section_rules
+  no_wrong_alignment p lt broken = sections_kept.1.1.0 p (p, lt, broken, refl)
+
+  pub no_wrong_position : (p : ℕ) → p < length o.sections → HasWrongPosition o (section_at o p) → ⊥
+  unfolding section_rules
+  no_wrong_position p lt broken = sections_kept.1.1.1.0 p (p, lt, broken, refl)
+
+  pub no_wrong_field : (p : ℕ) → p < length o.sections → HasWrongField (section_at o p) (section_at o p).body → ⊥
+  unfolding section_rules
+  no_wrong_field p lt broken = sections_kept.1.1.1.1.0 p (p, lt, broken, refl)
+
+  -- rule 6
+  pub no_wrong_member : (p : ℕ) → p < length o.sections → HasWrongMember o p → ⊥
+  unfolding group_rules
+  no_wrong_member p lt broken = groups_kept.0 p (p, lt, broken, refl)
+
+  -- rules 7 to 9
+  pub no_zero_in_symbol_name : (k : ℕ) → k < length o.symbols → HasZero (symbol_at o k).name → ⊥
+  unfolding symbol_rules
+  no_zero_in_symbol_name k lt broken = symbols_kept.0 k (k, lt, broken, refl)
+
+  pub no_wrong_place : (k : ℕ) → k < length o.symbols → IsPast (length o.sections) (place_position (symbol_at o k).place) → ⊥
+  unfolding symbol_rules
+  no_wrong_place k lt broken = symbols_kept.1.0 k (k, lt, broken, refl)
+
+  pub no_misplaced_local : (k : ℕ) → k < length o.symbols → IsMisplacedLocal o k → ⊥
+  unfolding symbol_rules
+  no_misplaced_local k lt broken = symbols_kept.1.1.0 k (k, lt, broken, refl)
