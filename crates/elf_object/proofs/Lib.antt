@@ -28,3 +28,5 @@ pub mod AllParts
 pub mod WrittenSections
 pub mod WrittenLengths
 pub mod SoundObject
+pub mod Elements
+pub mod WrittenEntries
