@@ -29,3 +29,5 @@ pub mod WrittenSections
 pub mod WrittenKept
 pub mod WrittenLengths
 pub mod SoundObject
+pub mod Elements
+pub mod WrittenEntries
