@@ -32,3 +32,4 @@ pub mod SoundObject
 pub mod Elements
 pub mod WrittenEntries
 pub mod WrittenFile
+pub mod WrittenSymbols
