@@ -31,3 +31,4 @@ pub mod WrittenLengths
 pub mod SoundObject
 pub mod Elements
 pub mod WrittenEntries
+pub mod WrittenParts

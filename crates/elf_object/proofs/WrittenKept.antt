@@ -28,7 +28,7 @@ use Rattle.elf_object.proofs.WrittenSections.{last_count, length-plain, no_plain
 
 -- ---- the section headers of the object's own sections, and of those behind them
 
-last_some : (far : Bool) → 2 < last_count far
+pub last_some : (far : Bool) → 2 < last_count far
 last_some true = omega arith
 last_some false = omega arith
 
