@@ -32,3 +32,5 @@ pub mod SoundObject
 pub mod Elements
 pub mod WrittenEntries
 pub mod WrittenParts
+pub mod WrittenReferences
+pub mod WrittenBodies
