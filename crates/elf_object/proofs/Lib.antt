@@ -33,3 +33,7 @@ pub mod Elements
 pub mod WrittenEntries
 pub mod WrittenFile
 pub mod WrittenSymbols
+pub mod WrittenParts
+pub mod WrittenReferences
+pub mod WrittenBodies
+pub mod WrittenSymbolRules

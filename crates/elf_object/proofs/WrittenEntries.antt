@@ -110,11 +110,14 @@ module _ (o : ObjectValue) (widths : ObjectFits o) (strings_short : length (stri
   pub symbol_entry_read : (k : ℕ) → k < length o.symbols → entry o.order (symbol_table o).content (suc k) ≡ symbol_entry o (symbol_at o k)
   symbol_entry_read k lt = entry_read (suc k) (omega arith) ∙ get_or-map (symbol_entry o) o.symbols k no_symbol null_symbol lt
 
-pub symbol_entry_count : (o : ObjectValue) → entry_count (symbol_table o).content ≡ length o.symbols + 1
-symbol_entry_count o =
+pub length-symbol_table : (o : ObjectValue) → length (symbol_table o).content ≡ 24 * (length o.symbols + 1)
+length-symbol_table o =
     let long = length-table sym_laws o.order (null_symbol ∷ map (symbol_entry o) o.symbols) in
     let many = length-map o.symbols (symbol_entry o) in
     omega arith
+
+pub symbol_entry_count : (o : ObjectValue) → entry_count (symbol_table o).content ≡ length o.symbols + 1
+symbol_entry_count o = let long = length-symbol_table o in omega arith
 
 -- ---- its index table
 

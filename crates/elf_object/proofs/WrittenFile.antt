@@ -1,16 +1,13 @@
 -- The file that an object is written as, section by section: which section stands at which index.
 use Rattle.std.proofs.Common.{◌≡◌, ◌<◌, ◌+◌, ◌-◌, ℕ, zero, suc, Bool, true, false, List, get_or, length, refl, ap, subst, ◌∙◌, arith, inl, inr}
-use Rattle.std.specs.Prelude.{codes, if◌then◌else◌, ◌==◌}
+use Rattle.std.specs.Prelude.{codes, if◌then◌else◌}
 use Rattle.std.proofs.lemmas.Bool.{cases_lt}
-use Rattle.elf_field.specs.declared.order.Order.{Order}
-use Rattle.elf_field.specs.declared.order.Order.TheVariants.{Little, Big}
 use Rattle.elf_field.specs.declared.shdr.Shdr.{Shdr}
-use Rattle.elf_rules.specs.Tables.{order_of}
 use Rattle.elf_string_table.specs.StringTable.{name_place}
-use Rattle.elf_table.specs.Sections.{Sections, content, count, order, section}
-use Rattle.elf_object.specs.Laid.{encoding, section_header, section_size}
+use Rattle.elf_table.specs.Sections.{Sections, content, count, section}
+use Rattle.elf_object.specs.Laid.{section_header, section_size}
 use Rattle.elf_object.specs.Object.{ObjectValue, section_at}
-use Rattle.elf_object.specs.PlainSections.{PlainSection, has_index_table, index_table, own_section, plain_sections, section_names, strings, strings_at, symbol_names, symbol_table, symbol_table_at}
+use Rattle.elf_object.specs.PlainSections.{PlainSection, has_index_table, index_table, own_section, section_names, strings, strings_at, symbol_names, symbol_table, symbol_table_at}
 use Rattle.elf_object.specs.WrittenObject.{IsWritten, written_sections}
 use Rattle.elf_object.proofs.AllParts.{last_sections}
 use Rattle.elf_object.proofs.WrittenKept.{count_of_written, written_last, written_own}
@@ -124,13 +121,3 @@ by_section o places written P first own last (suc p) lt = elim (cases_lt p (leng
       let at : symbol_table_at o + (p - length o.sections) ≡ suc p = omega arith in
       subst P at (last (p - length o.sections) (omega arith)))
 ]
-
--- ---- the header's order
-
-order_read : (byte_order : Order) → (if encoding byte_order == 2 then Big else Little) ≡ byte_order
-order_read Little = refl
-order_read Big = refl
-
-pub written_order : (o : ObjectValue) (places : List ℕ) → order (written_sections o places) ≡ o.order
-unfolding written_sections order_of
-written_order o places = order_read o.order

@@ -28,7 +28,7 @@ use Rattle.elf_object.proofs.WrittenSections.{last_count, length-plain, no_plain
 
 -- ---- the section headers of the object's own sections, and of those behind them
 
-last_some : (far : Bool) → 2 < last_count far
+pub last_some : (far : Bool) → 2 < last_count far
 last_some true = omega arith
 last_some false = omega arith
 
@@ -69,10 +69,10 @@ pub record IsNoBody (type : ℕ) : Type 0 where
 null_no_body : IsNoBody SHT_NULL
 null_no_body = record { no_bits_type = (0, omega arith, refl); not_no_bits = λ is. omega arith; not_rela = λ is. omega arith; not_rel = λ is. omega arith; not_group = λ is. omega arith }
 
-symbols_no_body : IsNoBody SHT_SYMTAB
+pub symbols_no_body : IsNoBody SHT_SYMTAB
 symbols_no_body = record { no_bits_type = (1, omega arith, refl); not_no_bits = λ is. omega arith; not_rela = λ is. omega arith; not_rel = λ is. omega arith; not_group = λ is. omega arith }
 
-indexes_no_body : IsNoBody SHT_SYMTAB_SHNDX
+pub indexes_no_body : IsNoBody SHT_SYMTAB_SHNDX
 indexes_no_body = record { no_bits_type = (10, omega arith, refl); not_no_bits = λ is. omega arith; not_rela = λ is. omega arith; not_rel = λ is. omega arith; not_group = λ is. omega arith }
 
 other_body : (type : ℕ) (b : BodyValue) → IsNoBody type → (IsWrongBits b → ⊥) → body_type b ≢ type
@@ -82,7 +82,7 @@ other_body type (relocs true target entries) free right = free.not_rela
 other_body type (relocs false target entries) free right = free.not_rel
 other_body type (group comdat signature members) free right = free.not_group
 
-own_type : (o : ObjectValue) (places : List ℕ) (type : ℕ) → IsWritten o places → IsNoBody type → (p : ℕ) → p < length o.sections →
+pub own_type : (o : ObjectValue) (places : List ℕ) (type : ℕ) → IsWritten o places → IsNoBody type → (p : ℕ) → p < length o.sections →
     (section (written_sections o places) (suc p)).sh_type ≢ type
 own_type o places type written free p lt = λ same.
     let is = ap (λ (s : Shdr). s.sh_type) (written_own o places written p lt) in

@@ -1,6 +1,6 @@
 -- The symbol table of an object as it is written breaks none of the rules on its entries. (gABI chapter 4, Symbol Table; Sections: sh_info,
 -- SHT_SYMTAB_SHNDX.)
-use Rattle.std.proofs.Common.{◌≡◌, ◌≢◌, ◌<◌, ◌≤◌, ◌+◌, ◌^◌, ◌⊎◌, ◌++◌, ℕ, zero, suc, Bool, true, false, Option, None, Some, List, [], ◌∷◌, length, map, get_or, replicate, inl, inr, refl, sym, ap, ap₂, subst, ◌∙◌, arith}
+use Rattle.std.proofs.Common.{◌≡◌, ◌≢◌, ◌<◌, ◌≤◌, ◌+◌, ◌^◌, ◌⊎◌, ℕ, zero, suc, Bool, true, false, Option, None, Some, List, [], ◌∷◌, length, map, get_or, replicate, inl, inr, refl, sym, ap, ap₂, subst, ◌∙◌, arith}
 use Rattle.std.specs.Prelude.{◌*◌, ◌-◌, filter, slice_index}
 use Rattle.std.specs.List.{flat_map}
 use Rattle.std.proofs.lemmas.Bool.{cases_Bool, cases_lt, eq-eqb, eqb-true, le-leb, le-ltb, lt-ltb, true≢false}
@@ -15,11 +15,11 @@ use Rattle.elf_field.specs.Bytes.{bytes_of}
 use Rattle.elf_field.specs.Sym.{sym_bytes}
 use Rattle.elf_image.specs.RelocatableFile.{long_number, short_index}
 use Rattle.elf_rules.specs.Rows.{AtEntry, FirstIn, OfSome}
-use Rattle.elf_string_table.specs.StringTable.{name_place, string_table}
+use Rattle.elf_string_table.specs.StringTable.{string_table}
 use Rattle.elf_string_table.proofs.Public.{holds_names}
 use Rattle.elf_table.specs.StringRules.{linked_string_rules, unclosed_string_table}
 use Rattle.elf_table.specs.SymbolParts.{SymbolPartsValue}
-use Rattle.elf_table.specs.SymbolRules.{IsMisplaced, IsSymbolNamePastEnd, IsWrongSection, IsWrongWord, binding, entry, entry_count, entry_rules, misplaced_binding, place_rules, symbol_0_not_null, symbol_name_past_end, word, wrong_index_word, wrong_local_count, wrong_symbol_section}
+use Rattle.elf_table.specs.SymbolRules.{IsMisplaced, IsSymbolNamePastEnd, IsWrongSection, IsWrongWord, entry, entry_count, entry_rules, misplaced_binding, place_rules, symbol_0_not_null, symbol_name_past_end, word, wrong_local_count, wrong_symbol_section}
 use Rattle.elf_object.specs.declared.symbol.Place.{Place}
 use Rattle.elf_object.specs.declared.symbol.Place.TheVariants.{Undef, Abs, Common, In}
 use Rattle.elf_object.specs.Object.{ObjectValue, SymbolValue, no_symbol, symbol_at}
@@ -170,7 +170,7 @@ module _ (o : ObjectValue) (places : List ℕ) (written : IsWritten o places) (p
       subst (P (suc k)) (sym (symbol_is k below)) (others k below)
 
   -- rule 41
-  strings_closed : (start : ℕ) → FirstIn (linked_string_rules p.names start) None
+  pub strings_closed : (start : ℕ) → FirstIn (linked_string_rules p.names start) None
   unfolding linked_string_rules
   strings_closed start = (closed p.names are.names_are, tt) where
     closed : (names : List ℕ) → names ≡ string_table (symbol_names o) → Never (unclosed_string_table names start)

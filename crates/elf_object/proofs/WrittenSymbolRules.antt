@@ -1,0 +1,173 @@
+-- The symbol table of the file that an object is written as breaks none of its rules, 40 to 52.
+use Rattle.std.proofs.Common.{◌≡◌, ◌<◌, ◌+◌, ℕ, zero, suc, Bool, true, false, Option, None, Some, List, length, get_or, inl, inr, refl, sym, ap, subst, ◌∙◌, arith}
+use Rattle.std.specs.Prelude.{◌%◌, if◌then◌else◌}
+use Rattle.std.proofs.lemmas.Bool.{true≢false}
+use Rattle.elf_extent.specs.Least.{Never}
+use Rattle.elf_field.specs.Abi.{SHT_STRTAB, SHT_SYMTAB, SHT_SYMTAB_SHNDX}
+use Rattle.elf_field.specs.declared.shdr.Shdr.{Shdr}
+use Rattle.elf_rules.specs.Rows.{FirstIn, OfSome}
+use Rattle.elf_rules.proofs.Public.{FirstIn-later}
+use Rattle.elf_table.specs.declared.table_kind.TableKind.TheVariants.{SymbolTable}
+use Rattle.elf_table.specs.IndexTable.{index_table as index_table_in, index_words}
+use Rattle.elf_table.specs.OwnRules.{own_rules}
+use Rattle.elf_table.specs.Sections.{content, count, section}
+use Rattle.elf_table.specs.StringRules.{linked_string_rules}
+use Rattle.elf_table.specs.SymbolParts.{symbol_parts}
+use Rattle.elf_table.specs.SymbolRules.{entry_count, entry_rules, index_table_rules, rest_rules, second_index_table, symbol_table_rules, wrong_index_table_size}
+use Rattle.elf_object.specs.Object.{ObjectValue}
+use Rattle.elf_object.specs.PlainSections.{has_index_table, index_table, symbol_table_at}
+use Rattle.elf_object.specs.WrittenObject.{IsWritten, written_sections}
+use Rattle.elf_object.proofs.AllParts.{last_sections}
+use Rattle.elf_object.proofs.WrittenEntries.{length-index_table, length-symbol_table, symbol_entry_count}
+use Rattle.elf_object.proofs.WrittenFile.{IsSectionAt, by_section, indexes_at, last_at, symbol_strings_at, symbols_at}
+use Rattle.elf_object.proofs.WrittenKept.{indexes_no_body, own_type, symbols_no_body, written_index_table}
+use Rattle.elf_object.proofs.WrittenParts.{written_order}
+use Rattle.elf_object.proofs.WrittenSections.{last_count, no_plain, written_first}
+use Rattle.elf_object.proofs.WrittenSymbols.{AreSymbolParts, entries_kept, places_kept, strings_closed}
+
+-- ---- which sections are of the types of symbols
+
+-- what the section's type says of its index
+pub record TellsIndex (o : ObjectValue) (i type : ℕ) : Type 0 where
+  pub symbols : type ≡ SHT_SYMTAB → i ≡ symbol_table_at o
+  pub indexes : type ≡ SHT_SYMTAB_SHNDX → (has_index_table o ≡ true) × (i ≡ symbol_table_at o + 1)
+
+strings_tell : (o : ObjectValue) (i type : ℕ) → type ≡ SHT_STRTAB → TellsIndex o i type
+strings_tell o i type is = record { symbols = λ same. absurd (omega arith); indexes = λ same. absurd (omega arith) }
+
+last_tells : (o : ObjectValue) (far : Bool) (k : ℕ) → has_index_table o ≡ far → k < last_count far →
+    TellsIndex o (symbol_table_at o + k) (get_or (last_sections o far) k no_plain).type
+unfolding last_sections
+last_tells o true zero is lt = record { symbols = λ same. omega arith; indexes = λ same. absurd (omega arith) }
+last_tells o true (suc zero) is lt = record { symbols = λ same. absurd (omega arith); indexes = λ same. (is, refl) }
+last_tells o true (suc (suc zero)) is lt = strings_tell o _ _ refl
+last_tells o true (suc (suc (suc zero))) is lt = strings_tell o _ _ refl
+last_tells o true (suc (suc (suc (suc k)))) is lt = absurd (omega arith)
+last_tells o false zero is lt = record { symbols = λ same. omega arith; indexes = λ same. absurd (omega arith) }
+last_tells o false (suc zero) is lt = strings_tell o _ _ refl
+last_tells o false (suc (suc zero)) is lt = strings_tell o _ _ refl
+last_tells o false (suc (suc (suc k))) is lt = absurd (omega arith)
+
+pub type_tells : (o : ObjectValue) (places : List ℕ) → IsWritten o places → (i : ℕ) → i < count (written_sections o places) →
+    TellsIndex o i (section (written_sections o places) i).sh_type
+type_tells o places written =
+    let f = written_sections o places in
+    let far = has_index_table o in
+    by_section o places written (λ i. TellsIndex o i (section f i).sh_type) first own
+    (λ k lt. subst (TellsIndex o (symbol_table_at o + k)) (sym (last_at o places written far refl k lt).sh_type) (last_tells o far k refl lt)) where
+      first : TellsIndex o 0 (section (written_sections o places) 0).sh_type
+      first =
+          let null = ap (λ (s : Shdr). s.sh_type) (written_first o places written) in
+          record { symbols = λ same. absurd (omega arith); indexes = λ same. absurd (omega arith) }
+
+      own : (p : ℕ) → p < length o.sections → TellsIndex o (suc p) (section (written_sections o places) (suc p)).sh_type
+      own p lt = record {
+        symbols = λ same. absurd (own_type o places SHT_SYMTAB written symbols_no_body p lt same);
+        indexes = λ same. absurd (own_type o places SHT_SYMTAB_SHNDX written indexes_no_body p lt same);
+      }
+
+-- ---- the parts of the symbol table
+
+which_index : (far : Bool) (t j : ℕ) → (if far then Some (t + 1) else None) ≡ Some j → (far ≡ true) × (t + 1 ≡ j)
+which_index true t j is = (refl, (let same : t + 1 ≡ j = cc in same))
+which_index false t j is = cc
+
+-- the index table is the section behind the symbol table
+index_at : (o : ObjectValue) (places : List ℕ) → IsWritten o places → (j : ℕ) → index_table_in (written_sections o places) (symbol_table_at o) ≡ Some j →
+    IsSectionAt (written_sections o places) j (index_table o)
+index_at o places written j is =
+    let which = which_index (has_index_table o) (symbol_table_at o) j (sym (written_index_table o places written) ∙ is) in
+    subst (λ (k : ℕ). IsSectionAt (written_sections o places) k (index_table o)) which.1 (indexes_at o places written which.0)
+
+some_index : (far : Bool) (t : ℕ) → far ≡ true → (if far then Some (t + 1) else None) ≡ None → ⊥
+some_index true t is none = cc
+some_index false t is none = true≢false (sym is)
+
+pub written_parts : (o : ObjectValue) (places : List ℕ) → IsWritten o places → AreSymbolParts o (symbol_parts (written_sections o places) (symbol_table_at o))
+written_parts o places written =
+    let f = written_sections o places in
+    let t = symbol_table_at o in
+    let table = symbols_at o places written in
+    let there = table.there in
+    record {
+      order_is = written_order o places;
+      info_is = table.sh_info;
+      table_is = table.bytes;
+      names_are = ap (content f) table.sh_link ∙ (symbol_strings_at o places written).bytes;
+      sections_there = omega arith;
+      index_there = λ is none. some_index (has_index_table o) t is (sym (written_index_table o places written) ∙ none);
+      words_are = λ j is. ap (index_words f) is ∙ (index_at o places written j is).bytes;
+    }
+
+-- ---- the rules
+
+module _ (o : ObjectValue) (places : List ℕ) (written : IsWritten o places) where
+  -- the content is whole entries
+  whole_entries : (section (written_sections o places) (symbol_table_at o)).sh_size % 24 ≡ 0
+  whole_entries =
+      let size = (symbols_at o places written).sh_size in
+      let long = length-symbol_table o in
+      omega arith
+
+  -- rules 40 and 42 to 44
+  own_kept : FirstIn (own_rules SymbolTable (written_sections o places) (symbol_table_at o)) None
+  unfolding own_rules
+  own_kept =
+      let f = written_sections o places in
+      let table = symbols_at o places written in
+      let names = symbol_strings_at o places written in
+      (
+        (λ x (wrong, here). wrong (inl table.sh_type)),
+        (
+          (λ x (wrong, here). wrong table.sh_entsize),
+          (
+            (λ x (wrong, here). wrong whole_entries),
+            (
+              (λ x (wrong, here). elim wrong [
+                | inl past ↦ (let there = names.there in let link = table.sh_link in omega arith)
+                | inr other ↦ other (ap (λ (i : ℕ). (section f i).sh_type) table.sh_link ∙ names.sh_type)
+              ]),
+              tt,
+            ),
+          ),
+        ),
+      )
+
+  -- rule 49
+  one_index_table : Never (second_index_table (written_sections o places) (symbol_table_at o))
+  one_index_table x (j, lt, (is, (k, below, other)), here) =
+      let last = ((type_tells o places written j lt).indexes is.0).1 in
+      let first = ((type_tells o places written k (omega arith)).indexes other.0).1 in
+      omega arith
+
+  -- rule 50
+  index_table_sized : (found : Option ℕ) → index_table_in (written_sections o places) (symbol_table_at o) ≡ found →
+      Never (OfSome found (wrong_index_table_size (written_sections o places) (entry_count (symbol_parts (written_sections o places) (symbol_table_at o)).table)))
+  index_table_sized None is x broken = broken
+  index_table_sized (Some j) is x (inl (wrong, here)) =
+      let at = index_at o places written j is in
+      let size = at.sh_size in
+      let long = length-index_table o in
+      let many = ap (λ (table : List ℕ). entry_count table) (symbols_at o places written).bytes ∙ symbol_entry_count o in
+      wrong (omega arith)
+  index_table_sized (Some j) is x (inr (inl (wrong, here))) = wrong (index_at o places written j is).sh_entsize
+  index_table_sized (Some j) is x (inr (inr broken)) = broken
+
+  index_table_kept : FirstIn (index_table_rules (written_sections o places) (symbol_table_at o) (index_table_in (written_sections o places) (symbol_table_at o))
+      (entry_count (symbol_parts (written_sections o places) (symbol_table_at o)).table)) None
+  unfolding index_table_rules
+  index_table_kept = (one_index_table, (index_table_sized _ refl, tt))
+
+  rest_kept : FirstIn (rest_rules (written_sections o places) (symbol_table_at o) (symbol_parts (written_sections o places) (symbol_table_at o))) None
+  unfolding rest_rules
+  rest_kept =
+      let f = written_sections o places in
+      let p = symbol_parts f (symbol_table_at o) in
+      let are = written_parts o places written in
+      FirstIn-later (linked_string_rules p.names p.names_start) _ None (strings_closed o places written p are p.names_start)
+      (FirstIn-later (entry_rules p) _ None (entries_kept o places written p are)
+      (FirstIn-later (index_table_rules f (symbol_table_at o) p.index_table (entry_count p.table)) _ None index_table_kept (places_kept o places written p are)))
+
+  pub symbol_rules_kept : FirstIn (symbol_table_rules (written_sections o places) (symbol_table_at o)) None
+  unfolding symbol_table_rules
+  symbol_rules_kept = FirstIn-later (own_rules SymbolTable (written_sections o places) (symbol_table_at o)) _ None own_kept rest_kept
