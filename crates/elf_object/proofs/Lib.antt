@@ -37,3 +37,5 @@ pub mod WrittenParts
 pub mod WrittenReferences
 pub mod WrittenBodies
 pub mod WrittenSymbolRules
+pub mod WrittenRelocationRules
+pub mod WrittenGroupRules
