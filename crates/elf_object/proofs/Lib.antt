@@ -34,3 +34,6 @@ pub mod WrittenEntries
 pub mod WrittenParts
 pub mod WrittenReferences
 pub mod WrittenBodies
+pub mod WrittenOwn
+pub mod WrittenSymbols
+pub mod WrittenDenotes

@@ -68,15 +68,15 @@ relocations_back count rela named entries are zeros =
     ∙ read_list (λ (j : ℕ). relocation_denoted (relocation_in rela named bytes j)) 0 (relocation_count rela bytes) entries no_relocation
     (relocation_count_is rela named entries) (each count rela named entries are zeros)
   where
-  each : (count : ℕ) (rela : Bool) (named : Order) (entries : List Relocation) → AreRelocations count entries →
-      (rela ≡ false → Any (λ entry. entry.addend ≢ pos 0) entries → ⊥) → (i : ℕ) → i < length entries →
-      relocation_denoted (relocation_in rela named (relocation_bytes named rela entries) (0 + i)) ≡ get_or entries i no_relocation
-  each count rela named entries are zeros i lt =
-      let at : 0 + i ≡ i = omega arith in
-      ap (λ (j : ℕ). relocation_denoted (relocation_in rela named (relocation_bytes named rela entries) j)) at
-      ∙ ap relocation_denoted (relocation_read count rela named entries are i lt)
-      ∙ relocation_back rela (get_or entries i no_relocation)
-      (λ rel other. none_of_any (λ (entry : Relocation). entry.addend ≢ pos 0) entries no_relocation (zeros rel) i lt other)
+    each : (count : ℕ) (rela : Bool) (named : Order) (entries : List Relocation) → AreRelocations count entries →
+        (rela ≡ false → Any (λ entry. entry.addend ≢ pos 0) entries → ⊥) → (i : ℕ) → i < length entries →
+        relocation_denoted (relocation_in rela named (relocation_bytes named rela entries) (0 + i)) ≡ get_or entries i no_relocation
+    each count rela named entries are zeros i lt =
+        let at : 0 + i ≡ i = omega arith in
+        ap (λ (j : ℕ). relocation_denoted (relocation_in rela named (relocation_bytes named rela entries) j)) at
+        ∙ ap relocation_denoted (relocation_read count rela named entries are i lt)
+        ∙ relocation_back rela (get_or entries i no_relocation)
+        (λ rel other. none_of_any (λ (entry : Relocation). entry.addend ≢ pos 0) entries no_relocation (zeros rel) i lt other)
 
 -- ---- groups
 
@@ -106,10 +106,12 @@ not_among type bytes k other right lt at = λ same. right (k, lt, at ∙ sym sam
 pub kind_back : (b : BodyValue) → (IsWrongBits b → ⊥) → body_kind (body_type b) ≡ kind_of b
 unfolding kind_of
 kind_back (bits type bytes) right =
-    rw (ne_eqb type SHT_NOBITS (not_among type bytes 5 SHT_NOBITS right (omega arith) refl),
-    ne_eqb type SHT_RELA (not_among type bytes 2 SHT_RELA right (omega arith) refl),
-    ne_eqb type SHT_REL (not_among type bytes 6 SHT_REL right (omega arith) refl),
-    ne_eqb type SHT_GROUP (not_among type bytes 9 SHT_GROUP right (omega arith) refl)) refl
+    rw (
+      ne_eqb type SHT_NOBITS (not_among type bytes 5 SHT_NOBITS right (omega arith) refl),
+      ne_eqb type SHT_RELA (not_among type bytes 2 SHT_RELA right (omega arith) refl),
+      ne_eqb type SHT_REL (not_among type bytes 6 SHT_REL right (omega arith) refl),
+      ne_eqb type SHT_GROUP (not_among type bytes 9 SHT_GROUP right (omega arith) refl),
+    ) refl
 kind_back (no_bits size) right = refl
 kind_back (relocs true target entries) right = refl
 kind_back (relocs false target entries) right = refl

@@ -30,9 +30,9 @@ pub written_order : (o : ObjectValue) (places : List ℕ) → order (written_sec
 unfolding written_sections order_of
 written_order o places = by_order o.order
   where
-  by_order : (named : Order) → (if encoding named == ELFDATA2MSB then Big else Little) ≡ named
-  by_order Little = refl
-  by_order Big = refl
+    by_order : (named : Order) → (if encoding named == ELFDATA2MSB then Big else Little) ≡ named
+    by_order Little = refl
+    by_order Big = refl
 
 pub written_osabi : (o : ObjectValue) (places : List ℕ) → slice_index (written_sections o places).header.e_ident EI_OSABI ≡ o.osabi
 unfolding written_sections
@@ -71,11 +71,12 @@ pub symbols_content : (o : ObjectValue) (places : List ℕ) → content (written
 unfolding last_sections
 symbols_content o places = ap (content (written_sections o places)) at ∙ by_far (has_index_table o) refl
   where
-  at : symbol_table_at o ≡ symbol_table_at o + 0
-  at = omega arith
-  by_far : (far : Bool) → has_index_table o ≡ far → content (written_sections o places) (symbol_table_at o + 0) ≡ (symbol_table o).content
-  by_far true is = last_content o places true is 0 (omega arith)
-  by_far false is = last_content o places false is 0 (omega arith)
+    at : symbol_table_at o ≡ symbol_table_at o + 0
+    at = omega arith
+
+    by_far : (far : Bool) → has_index_table o ≡ far → content (written_sections o places) (symbol_table_at o + 0) ≡ (symbol_table o).content
+    by_far true is = last_content o places true is 0 (omega arith)
+    by_far false is = last_content o places false is 0 (omega arith)
 
 pub indexes_content : (o : ObjectValue) (places : List ℕ) → has_index_table o ≡ true → content (written_sections o places) (symbol_table_at o + 1) ≡ (index_table o).content
 unfolding last_sections
