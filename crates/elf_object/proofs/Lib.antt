@@ -26,14 +26,16 @@ pub mod NamesOf
 pub mod PartSizes
 pub mod AllParts
 pub mod WrittenSections
+pub mod KeptFront
 pub mod WrittenKept
 pub mod WrittenLengths
 pub mod SoundObject
 pub mod Elements
 pub mod WrittenEntries
 pub mod WrittenParts
+pub mod ReadLists
 pub mod WrittenReferences
 pub mod WrittenBodies
 pub mod WrittenOwn
-pub mod WrittenSymbols
+pub mod WrittenSymbolValues
 pub mod WrittenDenotes

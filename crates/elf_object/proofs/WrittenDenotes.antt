@@ -5,7 +5,7 @@ use Rattle.elf_object.specs.Object.{ObjectValue}
 use Rattle.elf_object.specs.WrittenObject.{IsWritten, written_sections}
 use Rattle.elf_object.proofs.WrittenOwn.{sections_back}
 use Rattle.elf_object.proofs.WrittenParts.{written_abi, written_flags, written_machine, written_order, written_osabi}
-use Rattle.elf_object.proofs.WrittenSymbols.{symbols_back}
+use Rattle.elf_object.proofs.WrittenSymbolValues.{symbols_back}
 
 pub written_denotes : (o : ObjectValue) (places : List ℕ) → IsWritten o places → Denotes (written_sections o places) o
 written_denotes o places written = record {

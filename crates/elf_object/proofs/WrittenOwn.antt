@@ -1,19 +1,18 @@
 -- An own section of an object that is written is read back as itself.
-use Rattle.std.proofs.Common.{◌≡◌, ◌<◌, ◌≤◌, ◌+◌, ℕ, suc, List, Option, length, map, inl, inr, refl, sym, ap, ◌∙◌, arith}
+use Rattle.std.proofs.Common.{◌≡◌, ◌<◌, ◌+◌, ℕ, suc, List, Option, length, map, inl, inr, refl, ap, ◌∙◌, arith}
 use Rattle.elf_field.specs.declared.shdr.Shdr.{Shdr}
-use Rattle.std.specs.List.{range_with_len}
 use Rattle.elf_table.specs.Sections.{section}
-use Rattle.elf_object.specs.declared.body_kind.BodyKind.{BodyKind}
 use Rattle.elf_object.specs.declared.section.Info.{Info}
-use Rattle.elf_object.specs.Denotes.{name_of, section_denoted}
+use Rattle.elf_object.specs.Denotes.{section_denoted}
 use Rattle.elf_object.specs.Kept.{body_kind, kept, left_out}
 use Rattle.elf_object.specs.Object.{BodyValue, ObjectValue, SectionValue, no_section, section_at}
 use Rattle.elf_object.specs.Widths.{SectionFits}
 use Rattle.elf_object.specs.WrittenObject.{IsWritten, written_sections}
 use Rattle.elf_object.proofs.DenotedFields.{denoted_with, section_with}
 use Rattle.elf_object.proofs.Elements.{each_of_all}
+use Rattle.elf_object.proofs.ReadLists.{read_list}
 use Rattle.elf_object.proofs.SoundObject.{no_wrong_bits, no_wrong_field, no_wrong_position}
-use Rattle.elf_object.proofs.WrittenBodies.{HoldsBody, IsBody, body_back, kind_back, read_list}
+use Rattle.elf_object.proofs.WrittenBodies.{HoldsBody, IsBody, body_back, kind_back}
 use Rattle.elf_object.proofs.WrittenKept.{written_kept, written_own, written_position}
 use Rattle.elf_object.proofs.WrittenLengths.{own_short, symbols_short}
 use Rattle.elf_object.proofs.WrittenParts.{own_content, written_name, written_order}

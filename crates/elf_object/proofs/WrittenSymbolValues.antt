@@ -1,6 +1,6 @@
 -- The symbols of an object that is written are read back as themselves.
-use Rattle.std.proofs.Common.{◌≡◌, ◌<◌, ◌≤◌, ◌+◌, ◌*◌, ℕ, zero, suc, Bool, true, false, Option, None, Some, List, [], ◌∷◌, length, map, get_or, inl, inr, refl, sym, ap, ap₂, subst, ◌∙◌, arith}
-use Rattle.std.specs.Prelude.{◌/◌, ◌%◌, ◌==◌, nat_lt, if◌then◌else◌, drop}
+use Rattle.std.proofs.Common.{◌≡◌, ◌<◌, ◌≤◌, ◌+◌, ◌*◌, ℕ, suc, Bool, true, None, Some, List, [], length, map, get_or, inl, inr, refl, ap, ap₂, subst, ◌∙◌, arith}
+use Rattle.std.specs.Prelude.{◌/◌, ◌%◌, if◌then◌else◌, drop}
 use Rattle.std.specs.List.{range_with_len}
 use Rattle.std.proofs.lemmas.Bool.{cases_lt, le-leb, le-ltb, lt-ltb, ne_eqb}
 use Rattle.std.proofs.lemmas.List.{get_or-map, length-map}
@@ -12,11 +12,9 @@ use Rattle.elf_image.specs.RelocatableFile.{long_number, short_index}
 use Rattle.elf_image.specs.Strings.{string}
 use Rattle.elf_string_table.specs.Names.{HasNoZero}
 use Rattle.elf_string_table.specs.StringTable.{name_place, string_table}
-use Rattle.elf_string_table.proofs.Public.{holds_names}
 use Rattle.elf_table.specs.IndexTable.{index_table, index_words}
-use Rattle.elf_table.specs.Sections.{Sections, content, order, section}
-use Rattle.elf_table.specs.SymbolParts.{symbol_parts}
-use Rattle.elf_table.specs.SymbolRules.{binding, entry, entry_count, word}
+use Rattle.elf_table.specs.Sections.{Sections, content, section}
+use Rattle.elf_table.specs.SymbolRules.{binding, entry_count, word}
 use Rattle.elf_table.specs.Symbols as table
 use Rattle.elf_table.specs.Symbols.{place_of, symbol_in, symbols_in, symbols_of}
 use Rattle.elf_object.specs.declared.left_out.LeftOut.{LeftOut}
@@ -32,13 +30,13 @@ use Rattle.elf_object.specs.PlainSections.{has_index_table, index_word, is_far, 
 use Rattle.elf_object.specs.Positions.{IsPast}
 use Rattle.elf_object.specs.SymbolRules.{place_position}
 use Rattle.elf_object.specs.WrittenObject.{IsWritten, written_sections}
+use Rattle.elf_object.proofs.ReadLists.{map_twice, read_list}
 use Rattle.elf_object.proofs.SoundObject.{no_wrong_place, no_zero_in_symbol_name}
-use Rattle.elf_object.proofs.SymbolCount.{same_symbol}
-use Rattle.elf_object.proofs.WrittenBodies.{map_twice, read_list}
+use Rattle.elf_object.proofs.SymbolCount.{halves, same_symbol}
 use Rattle.elf_object.proofs.WrittenEntries.{symbol_entry_count, symbol_entry_read, symbol_word}
 use Rattle.elf_object.proofs.WrittenKept.{written_index_table, written_position, written_strings, written_symbol_table}
 use Rattle.elf_object.proofs.WrittenLengths.{own_short, strings_short}
-use Rattle.elf_object.proofs.WrittenParts.{indexes_content, strings_content, symbols_content, written_order}
+use Rattle.elf_object.proofs.WrittenParts.{indexes_content, name_read, strings_content, symbols_content, written_order}
 use Rattle.elf_object.proofs.WrittenReferences.{HasPositions, position_back}
 
 -- ---- where a symbol is defined
@@ -69,22 +67,14 @@ place_back o left f Common word positions there extended = refl
 place_back o left f (In p) word positions there extended =
     in_section o left f p word positions there (λ above. extended (le-leb SHN_LORESERVE (p + 1) above))
 
--- ---- names
+-- ---- each symbol
 
 name_back : (o : ObjectValue) (k : ℕ) → k < length o.symbols → HasNoZero (symbol_at o k).name →
     string (string_table (symbol_names o)) (name_place (symbol_names o) (symbol_at o k).name) ≡ (symbol_at o k).name
 name_back o k lt named =
-    let names = symbol_names o in
     let many = length-map o.symbols (λ (s : SymbolValue). s.name) in
-    let same : get_or names k [] ≡ (symbol_at o k).name = get_or-map (λ (s : SymbolValue). s.name) o.symbols k no_symbol [] lt in
-    let read = (holds_names names).read k (omega arith) in
-    subst (λ (name : List ℕ). HasNoZero name → string (string_table names) (name_place names name) ≡ name) same read named
-
--- binding and type are the halves of st_info
-halves : (x : ℕ) → 16 * (x / 16) + x % 16 ≡ x
-halves x = omega arith
-
--- ---- each symbol
+    let same = get_or-map (λ (s : SymbolValue). s.name) o.symbols k no_symbol [] lt in
+    name_read (symbol_names o) k (symbol_at o k).name (omega arith) same named
 
 -- what is read of an entry
 abbrev symbol_of : List ℕ → ℕ → Sym → table.SymbolValue
@@ -132,10 +122,10 @@ module _ (o : ObjectValue) (places : List ℕ) (written : IsWritten o places) wh
 
   -- ---- all symbols
 
-  symbol_back : (k : ℕ) → k < length o.symbols →
+  symbol_at_back : (k : ℕ) → k < length o.symbols →
       (let f = written_sections o places in symbol_denoted (left_out f) f (symbol_in o.order (plain.symbol_table o).content (string_table (symbol_names o)) words (suc k)) ≡ symbol_at o k)
   unfolding symbol_in
-  symbol_back k lt =
+  symbol_at_back k lt =
       let f = written_sections o places in
       let strings = strings_short o places written in
       ap (λ (e : Sym). symbol_denoted (left_out f) f (symbol_of (string_table (symbol_names o)) (word o.order words (suc k)) e))
@@ -163,4 +153,4 @@ module _ (o : ObjectValue) (places : List ℕ) (written : IsWritten o places) wh
       ∙ ap (λ (n : ℕ). map (symbol_denoted (left_out f) f) (drop 1 (map (symbol_in o.order entries names words) (range_with_len 0 n)))) many
       ∙ map_twice (symbol_denoted (left_out f) f) (symbol_in o.order entries names words) (range_with_len 1 (length o.symbols))
       ∙ read_list (λ (j : ℕ). symbol_denoted (left_out f) f (symbol_in o.order entries names words j)) 1 (length o.symbols) o.symbols no_symbol refl
-      (λ k lt. (let next : 1 + k ≡ suc k = omega arith in ap (λ (j : ℕ). symbol_denoted (left_out f) f (symbol_in o.order entries names words j)) next ∙ symbol_back k lt))
+      (λ k lt. (let next : 1 + k ≡ suc k = omega arith in ap (λ (j : ℕ). symbol_denoted (left_out f) f (symbol_in o.order entries names words j)) next ∙ symbol_at_back k lt))
