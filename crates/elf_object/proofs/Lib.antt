@@ -28,3 +28,6 @@ pub mod AllParts
 pub mod WrittenSections
 pub mod WrittenLengths
 pub mod SoundObject
+pub mod WrittenFields
+pub mod WrittenAccepted
+pub mod WrittenObjects

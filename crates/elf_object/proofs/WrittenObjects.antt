@@ -1,0 +1,55 @@
+-- What an object is written as: accepted, and read as that object.
+use Rattle.std.proofs.Common.{◌≡◌, ◌≤◌, ℕ, List, length, sym, ap, subst, ◌∙◌, refl}
+use Rattle.std.specs.Prelude.{None}
+use Rattle.elf_field.specs.Bytes.{IsBytes}
+use Rattle.elf_field.specs.declared.ehdr.Ehdr.{Ehdr}
+use Rattle.elf_field.specs.declared.shdr.Shdr.{Shdr}
+use Rattle.elf_image.specs.Image.{ImageValue, Stands}
+use Rattle.elf_image.proofs.Public.{relocatable_accepted, relocatable_is_bytes, relocatable_read}
+use Rattle.elf_rules.specs.HeaderRules.{MAX_LEN}
+use Rattle.elf_rules.specs.ImageRules.{IsFault}
+use Rattle.elf_table.specs.Sections.{Sections, sections_of}
+use Rattle.elf_object.specs.Laid.{layout_bytes}
+use Rattle.elf_object.specs.Object.{ObjectValue}
+use Rattle.elf_object.specs.PlainSections.{names_at}
+use Rattle.elf_object.specs.WrittenObject.{IsWritten, IsWrittenAs, written_sections}
+use Rattle.elf_object.proofs.CanonicalLayout.{contents_of, header_at, headers_at}
+use Rattle.elf_object.proofs.WrittenAccepted.{written_file}
+
+sections_same : {h k : Ehdr} {ss ts : List Shdr} {cs ds : List (List ℕ)} → h ≡ k → ss ≡ ts → cs ≡ ds →
+    let f : Sections = record { header = h; headers = ss; contents = cs } in
+    let g : Sections = record { header = k; headers = ts; contents = ds } in f ≡ g
+sections_same header headers contents = cc
+
+pub by_places : (o : ObjectValue) (b : List ℕ) (written : IsWrittenAs o b) → IsWritten o written.laid.places
+by_places o b written = record {
+  object = written.object;
+  widths = written.widths;
+  least = written.laid.least;
+  short = subst (λ (c : List ℕ). length c ≤ MAX_LEN) written.laid.bytes written.short;
+}
+
+pub written_is_bytes : (o : ObjectValue) (b : List ℕ) → IsWrittenAs o b → IsBytes b
+unfolding layout_bytes
+written_is_bytes o b written =
+    let places = written.laid.places in
+    subst IsBytes (sym written.laid.bytes)
+    (relocatable_is_bytes (header_at o places) (headers_at o places) (contents_of o) (names_at o) (written_file o places (by_places o b written)))
+
+pub written_accepted : (o : ObjectValue) (b : List ℕ) → IsWrittenAs o b → IsFault b None
+unfolding layout_bytes
+written_accepted o b written =
+    let places = written.laid.places in
+    subst (λ (c : List ℕ). IsFault c None) (sym written.laid.bytes)
+    (relocatable_accepted (header_at o places) (headers_at o places) (contents_of o) (names_at o) (written_file o places (by_places o b written)))
+
+pub written_read : (o : ObjectValue) (b : List ℕ) (written : IsWrittenAs o b) (v : ImageValue) → Stands v b → sections_of v ≡ written_sections o written.laid.places
+unfolding layout_bytes written_sections
+written_read o b written v stands =
+    let places = written.laid.places in
+    let read = relocatable_read (header_at o places) (headers_at o places) (contents_of o) (names_at o) (written_file o places (by_places o b written)) v
+      (subst (Stands v) written.laid.bytes stands) in
+    let header = read.header in
+    let headers = read.sections in
+    let contents = read.contents in
+    sections_same header headers contents
