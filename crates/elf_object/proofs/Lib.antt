@@ -31,3 +31,4 @@ pub mod SoundObject
 pub mod WrittenFields
 pub mod WrittenAccepted
 pub mod WrittenObjects
+pub mod DenotedWidths

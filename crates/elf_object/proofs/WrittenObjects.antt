@@ -4,16 +4,21 @@ use Rattle.std.specs.Prelude.{None}
 use Rattle.elf_field.specs.Bytes.{IsBytes}
 use Rattle.elf_field.specs.declared.ehdr.Ehdr.{Ehdr}
 use Rattle.elf_field.specs.declared.shdr.Shdr.{Shdr}
-use Rattle.elf_image.specs.Image.{ImageValue, Stands}
-use Rattle.elf_image.proofs.Public.{relocatable_accepted, relocatable_is_bytes, relocatable_read}
+use Rattle.elf_image.specs.Image.{ImageValue, IsImage, Stands}
+use Rattle.elf_image.proofs.Public.{image_is_sound, relocatable_accepted, relocatable_is_bytes, relocatable_read}
 use Rattle.elf_rules.specs.HeaderRules.{MAX_LEN}
 use Rattle.elf_rules.specs.ImageRules.{IsFault}
+use Rattle.elf_rules.specs.Rows.{FirstIn}
 use Rattle.elf_table.specs.Sections.{Sections, sections_of}
-use Rattle.elf_object.specs.Laid.{layout_bytes}
+use Rattle.elf_object.specs.Denotes.{Denotes}
+use Rattle.elf_object.specs.FileRules.{file_rules}
+use Rattle.elf_object.specs.Laid.{Laid, layout_bytes}
 use Rattle.elf_object.specs.Object.{ObjectValue}
 use Rattle.elf_object.specs.PlainSections.{names_at}
 use Rattle.elf_object.specs.WrittenObject.{IsWritten, IsWrittenAs, written_sections}
 use Rattle.elf_object.proofs.CanonicalLayout.{contents_of, header_at, headers_at}
+use Rattle.elf_object.proofs.DenotedWidths.{denoted_fits}
+use Rattle.elf_object.proofs.ObjectKept.{object_kept}
 use Rattle.elf_object.proofs.WrittenAccepted.{written_file}
 
 sections_same : {h k : Ehdr} {ss ts : List Shdr} {cs ds : List (List ℕ)} → h ≡ k → ss ≡ ts → cs ≡ ds →
@@ -53,3 +58,16 @@ written_read o b written v stands =
     let headers = read.sections in
     let contents = read.contents in
     sections_same header headers contents
+
+-- ---- the object that a file denotes
+
+pub denoted_object : (v : ImageValue) (b : List ℕ) (o : ObjectValue) (c : List ℕ) → IsImage v b → FirstIn (file_rules (sections_of v)) None →
+    Denotes (sections_of v) o → Laid o c → length c ≤ MAX_LEN → IsWrittenAs o c
+denoted_object v b o c image clean denotes laid short =
+    let sound = image_is_sound v b image in
+    record {
+      object = object_kept v o sound clean denotes;
+      widths = denoted_fits v sound o denotes;
+      laid = laid;
+      short = short;
+    }

@@ -1,10 +1,15 @@
 //! What an object is written as is accepted, and read as that object.
-ghost use Rattle.std.specs.Prelude.{◌≡◌, ℕ, List, None};
+ghost use Rattle.std.specs.Prelude.{◌≡◌, ◌≤◌, ℕ, List, None, length};
 ghost use Rattle.elf_field.specs.Bytes.{IsBytes};
-ghost use Rattle.elf_image.specs.Image.{ImageValue, Stands};
+ghost use Rattle.elf_image.specs.Image.{ImageValue, IsImage, Stands};
+ghost use Rattle.elf_object.specs.Denotes.{Denotes};
+ghost use Rattle.elf_object.specs.FileRules.{file_rules};
+ghost use Rattle.elf_object.specs.Laid.{Laid};
 ghost use Rattle.elf_object.specs.Object.{ObjectValue};
 ghost use Rattle.elf_object.specs.WrittenObject.{IsWrittenAs, written_sections};
+ghost use Rattle.elf_rules.specs.HeaderRules.{MAX_LEN};
 ghost use Rattle.elf_rules.specs.ImageRules.{IsFault};
+ghost use Rattle.elf_rules.specs.Rows.{FirstIn};
 ghost use Rattle.elf_table.specs.Sections.{sections_of};
 
 /// What an object is written as breaks no rule of images, and what stands as it has the sections of the object's canonical layout.
@@ -13,4 +18,11 @@ pub fn written_object()
     ensures accepted { (o : ObjectValue) (b : List ℕ) → IsWrittenAs o b → IsFault b None }
     ensures read { (o : ObjectValue) (b : List ℕ) (written : IsWrittenAs o b) (v : ImageValue) → Stands v b →
         sections_of v ≡ written_sections o written.laid.places }
+{}
+
+/// The object that a file denotes has nothing that doesn't fit a file: its canonical layout, where it is not too long, is what it
+/// is written as.
+pub fn denoted_object()
+    ensures { (v : ImageValue) (b : List ℕ) (o : ObjectValue) (c : List ℕ) → IsImage v b → FirstIn (file_rules (sections_of v)) None →
+        Denotes (sections_of v) o → Laid o c → length c ≤ MAX_LEN → IsWrittenAs o c }
 {}
