@@ -47,13 +47,13 @@ bits_part o s type content x is right long lt =
     let size : x ≡ min (length content) LARGEST = long ∙ sym (fits_largest (length content) (omega arith)) in
     rw (is, ne_eqb type SHT_NOBITS other) (ap (λ (n : ℕ). let p : ℕ × ℕ = (n, s.align) in p) size)
 
-length-relas : (order : Order) (entries : List Relocation) → length (relocation_bytes order true entries) ≡ 24 * length entries
+pub length-relas : (order : Order) (entries : List Relocation) → length (relocation_bytes order true entries) ≡ 24 * length entries
 length-relas order entries = let all = length-table rela_laws order (map rela_entry entries) in let same = length-map entries rela_entry in omega arith
 
-length-rels : (order : Order) (entries : List Relocation) → length (relocation_bytes order false entries) ≡ 16 * length entries
+pub length-rels : (order : Order) (entries : List Relocation) → length (relocation_bytes order false entries) ≡ 16 * length entries
 length-rels order entries = let all = length-table rel_laws order (map rel_entry entries) in let same = length-map entries rel_entry in omega arith
 
-length-relocations : (order : Order) (rela : Bool) (entries : List Relocation) → length (relocation_bytes order rela entries) ≡ relocation_size rela * length entries
+pub length-relocations : (order : Order) (rela : Bool) (entries : List Relocation) → length (relocation_bytes order rela entries) ≡ relocation_size rela * length entries
 length-relocations order true entries = length-relas order entries
 length-relocations order false entries = length-rels order entries
 
