@@ -18,6 +18,7 @@ pub mod FileMembers
 pub mod DenotedReferences
 pub mod DenotedGroups
 pub mod ObjectKept
+pub mod OneObject
 pub mod JudgedTables
 pub mod CanonicalLayout
 pub mod LaidObjects

@@ -26,8 +26,9 @@ use Rattle.elf_object.specs.Widths.{ObjectFits}
 use Rattle.elf_object.specs.WrittenObject.{IsWritten, written_sections}
 use Rattle.elf_object.proofs.AllParts.{last_sections}
 use Rattle.elf_object.proofs.CanonicalLayout.{contents_of, header_at, headers_at, identification_kept, layout_order, length-headers_at}
+use Rattle.elf_object.proofs.Elements.{all_of_each}
 use Rattle.elf_object.proofs.SoundObject.{no_wrong_alignment}
-use Rattle.elf_object.proofs.WrittenFields.{EachKind, IsBytes-all, PlainFits, all_of, each_plain, plain_fits, section_names_are}
+use Rattle.elf_object.proofs.WrittenFields.{EachKind, IsBytes-all, PlainFits, each_plain, plain_fits, section_names_are}
 use Rattle.elf_object.proofs.WrittenLengths.{content_short, names_short, own_short, sections_short, table_short}
 use Rattle.elf_object.proofs.WrittenSections.{length-plain, no_plain, plain_at, plain_last, written_count, written_section}
 
@@ -128,13 +129,13 @@ module _ (o : ObjectValue) (places : List ℕ) (written : IsWritten o places) wh
   many = length-headers_at o places written.least.fits
 
   headers_fit : AllByRecursion IsShdr (headers_at o places)
-  headers_fit = all_of IsShdr (headers_at o places) no_section (λ p lt.
+  headers_fit = all_of_each IsShdr (headers_at o places) no_section (λ p lt.
       let all = many in
       let here : p < length (plain_sections o) = omega arith in
       subst IsShdr (sym (header_is p here)) (section_fits p here))
 
   contents_are_bytes : AllByRecursion IsBytes (contents_of o)
-  contents_are_bytes = map_all (plain_sections o) (all_of (λ (s : PlainSection). IsBytes s.content) (plain_sections o) no_plain (λ p lt. (fits_at p lt).bytes))
+  contents_are_bytes = map_all (plain_sections o) (all_of_each (λ (s : PlainSection). IsBytes s.content) (plain_sections o) no_plain (λ p lt. (fits_at p lt).bytes))
     where
     map_all : (sections : List PlainSection) → AllByRecursion (λ (s : PlainSection). IsBytes s.content) sections → AllByRecursion IsBytes (map (λ (s : PlainSection). s.content) sections)
     map_all [] all = tt

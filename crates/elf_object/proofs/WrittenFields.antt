@@ -26,21 +26,13 @@ use Rattle.elf_object.specs.Positions.{IsPast, info_position}
 use Rattle.elf_object.specs.SectionRules.{HasWrongReference, IsWrongBits}
 use Rattle.elf_object.specs.WrittenObject.{IsWritten}
 use Rattle.elf_rules.proofs.Public.{above}
+use Rattle.elf_object.proofs.Elements.{all_of_each, each_of_all}
 use Rattle.elf_object.proofs.SoundObject.{no_wrong_bits, no_wrong_position}
 use Rattle.elf_object.proofs.WrittenLengths.{own_short, symbols_short}
 use Rattle.elf_object.proofs.AllParts.{last_sections}
 use Rattle.elf_object.proofs.WrittenSections.{length-plain, no_plain, plain_at, plain_last, plain_own}
 
 -- ---- what holds of each kind of section holds of all
-
-pub all_at : {A : Type 0} (P : A → Type 0) (xs : List A) (i : ℕ) (d : A) → AllByRecursion P xs → i < length xs → P (get_or xs i d)
-all_at P [] i d all lt = absurd (omega arith)
-all_at P (x ∷ xs) zero d all lt = all.0
-all_at P (x ∷ xs) (suc i) d all lt = all_at P xs i d all.1 (omega arith)
-
-pub all_of : {A : Type 0} (P : A → Type 0) (xs : List A) (d : A) → ((i : ℕ) → i < length xs → P (get_or xs i d)) → AllByRecursion P xs
-all_of P [] d each = tt
-all_of P (x ∷ xs) d each = (each zero (omega arith), all_of P xs d (λ i lt. each (suc i) (omega arith)))
 
 pub record EachKind (o : ObjectValue) (P : PlainSection → Type 0) : Type 0 where
   pub own : (p : ℕ) → p < length o.sections → P (own_section o (section_at o p))
@@ -111,7 +103,7 @@ section_names_are o = sym (map-append (λ (s : PlainSection). s.name) (sections_
 
 names_are_bytes : (o : ObjectValue) (places : List ℕ) → IsWritten o places → EachKind o (λ s. IsBytes s.name)
 names_are_bytes o places written = record {
-  own = λ p lt. (all_at SectionFits o.sections p no_section written.widths.sections lt).name;
+  own = λ p lt. (each_of_all SectionFits o.sections no_section written.widths.sections p lt).name;
   symbols = IsBytes-symtab;
   indexes = λ far. IsBytes-symtab_shndx;
   symbol_strings = IsBytes-strtab;
@@ -121,7 +113,7 @@ names_are_bytes o places written = record {
 IsBytes-section_names : (o : ObjectValue) (places : List ℕ) → IsWritten o places → IsBytes (string_table (section_names o))
 IsBytes-section_names o places written =
     let each = each_plain o (λ s. IsBytes s.name) (names_are_bytes o places written) in
-    let names = all_of (λ (s : PlainSection). IsBytes s.name) (plain_sections o) no_plain each in
+    let names = all_of_each (λ (s : PlainSection). IsBytes s.name) (plain_sections o) no_plain each in
     (holds_names (section_names o)).bytes (subst (AllByRecursion IsBytes) (sym (section_names_are o)) (map_all (plain_sections o) names))
   where
   map_all : (sections : List PlainSection) → AllByRecursion (λ (s : PlainSection). IsBytes s.name) sections → AllByRecursion IsBytes (map (λ (s : PlainSection). s.name) sections)
@@ -276,7 +268,7 @@ plain_fits o places written =
     record {
       own = λ p lt.
         let s = section_at o p in
-        let fits = all_at SectionFits o.sections p no_section written.widths.sections lt in
+        let fits = each_of_all SectionFits o.sections no_section written.widths.sections p lt in
         let position = no_wrong_position o written.object p lt in
         own_fits o s s.body few (omega arith) fits (record {
           fits = fits.body;

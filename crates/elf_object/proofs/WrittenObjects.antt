@@ -5,7 +5,7 @@ use Rattle.elf_field.specs.Bytes.{IsBytes}
 use Rattle.elf_field.specs.declared.ehdr.Ehdr.{Ehdr}
 use Rattle.elf_field.specs.declared.shdr.Shdr.{Shdr}
 use Rattle.elf_image.specs.Image.{ImageValue, IsImage, Stands}
-use Rattle.elf_image.proofs.Public.{image_is_sound, relocatable_accepted, relocatable_is_bytes, relocatable_read}
+use Rattle.elf_image.proofs.Public.{image_is_sound, relocatable_accepted, relocatable_is_bytes, relocatable_read, some_image}
 use Rattle.elf_rules.specs.HeaderRules.{MAX_LEN}
 use Rattle.elf_rules.specs.ImageRules.{IsFault}
 use Rattle.elf_rules.specs.Rows.{FirstIn}
@@ -19,7 +19,9 @@ use Rattle.elf_object.specs.WrittenObject.{IsWritten, IsWrittenAs, written_secti
 use Rattle.elf_object.proofs.CanonicalLayout.{contents_of, header_at, headers_at}
 use Rattle.elf_object.proofs.DenotedWidths.{denoted_fits}
 use Rattle.elf_object.proofs.ObjectKept.{object_kept}
+use Rattle.elf_object.proofs.OneObject.{one_object}
 use Rattle.elf_object.proofs.WrittenAccepted.{written_file}
+use Rattle.elf_object.proofs.WrittenDenotes.{written_denotes}
 
 sections_same : {h k : Ehdr} {ss ts : List Shdr} {cs ds : List (List ℕ)} → h ≡ k → ss ≡ ts → cs ≡ ds →
     let f : Sections = record { header = h; headers = ss; contents = cs } in
@@ -58,6 +60,18 @@ written_read o b written v stands =
     let headers = read.sections in
     let contents = read.contents in
     sections_same header headers contents
+
+-- ---- what it denotes
+
+pub written_denotes_object : (o : ObjectValue) (b : List ℕ) → IsWrittenAs o b → (v : ImageValue) → Stands v b → Denotes (sections_of v) o
+written_denotes_object o b written v stands =
+    subst (λ (f : Sections). Denotes f o) (sym (written_read o b written v stands)) (written_denotes o written.laid.places (by_places o b written))
+
+-- two objects that are written as the same bytes are one
+pub one_written : (o p : ObjectValue) (b : List ℕ) → IsWrittenAs o b → IsWrittenAs p b → o ≡ p
+one_written o p b one other =
+    let (v, image) = some_image b (written_is_bytes o b one) (written_accepted o b one) in
+    one_object (sections_of v) o p (written_denotes_object o b one v image.stands) (written_denotes_object p b other v image.stands)
 
 -- ---- the object that a file denotes
 
