@@ -18,6 +18,7 @@ pub mod FileMembers
 pub mod DenotedReferences
 pub mod DenotedGroups
 pub mod ObjectKept
+pub mod OneObject
 pub mod JudgedTables
 pub mod CanonicalLayout
 pub mod LaidObjects
@@ -30,6 +31,10 @@ pub mod KeptFront
 pub mod WrittenKept
 pub mod WrittenLengths
 pub mod SoundObject
+pub mod WrittenFields
+pub mod WrittenAccepted
+pub mod WrittenObjects
+pub mod DenotedWidths
 pub mod Elements
 pub mod WrittenEntries
 pub mod WrittenParts
