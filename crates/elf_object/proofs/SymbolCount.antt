@@ -20,7 +20,7 @@ pub symbol_within : (f : Sections) (t j : ℕ) → j < length (symbols_of f t) �
 symbol_within f t j lt = omega (arith, length_symbols_of f t)
 
 -- binding and type are the halves of st_info
-halves : (x : ℕ) → 16 * (x / 16) + x % 16 ≡ x
+pub halves : (x : ℕ) → 16 * (x / 16) + x % 16 ≡ x
 halves x = omega arith
 
 pub symbol_info : (f : Sections) (t j : ℕ) → j < length (symbols_of f t) →

@@ -1,46 +1,26 @@
 -- The bodies of an object that is written: each is read back as what it was made of.
-use Rattle.std.proofs.Common.{◌≡◌, ◌≢◌, ◌<◌, ◌≤◌, ◌+◌, ◌-◌, ◌*◌, ◌⊎◌, ◌^◌, ℕ, zero, suc, Bool, true, false, Option, None, Some, List, [], ◌∷◌, length, map, get_or, inl, inr, refl, sym, ap, ap₂, subst, ◌∙◌, arith}
-use Rattle.std.specs.Prelude.{◌==◌, if◌then◌else◌, Any, Contains, ℤ, pos, unwrap_or}
+use Rattle.std.proofs.Common.{◌≡◌, ◌≢◌, ◌<◌, ◌≤◌, ◌+◌, ◌-◌, ◌^◌, ℕ, zero, suc, Bool, true, false, Option, None, Some, List, [], ◌∷◌, length, map, get_or, inl, inr, refl, sym, ap, ap₂, ◌∙◌, arith}
+use Rattle.std.specs.Prelude.{◌==◌, if◌then◌else◌, Any, ℤ, pos, unwrap_or}
 use Rattle.std.specs.List.{range_with_len}
 use Rattle.std.proofs.Math.IntN.{negsuc, pos-ne-negsuc}
 use Rattle.std.proofs.lemmas.Bool.{ne_eqb}
 use Rattle.elf_field.specs.Abi.{GRP_COMDAT, SHT_GROUP, SHT_NOBITS, SHT_REL, SHT_RELA}
 use Rattle.elf_field.specs.declared.order.Order.{Order}
-use Rattle.elf_field.specs.declared.shdr.Shdr.{Shdr}
-use Rattle.elf_table.specs.declared.relocation.Relocation as table
-use Rattle.elf_table.specs.Groups.{GroupValue, group_flags, group_in, group_of, member, member_count, members_in}
+use Rattle.elf_table.specs.Groups.{GroupValue, group_in, group_of, member, member_count, members_in}
 use Rattle.elf_table.specs.Relocations.{has_addends, relocation_count, relocation_in, relocations_in, relocations_of}
 use Rattle.elf_table.specs.Sections.{Sections, content, order, section}
-use Rattle.elf_object.specs.declared.body_kind.BodyKind.{BodyKind}
-use Rattle.elf_object.specs.declared.body_kind.BodyKind.TheVariants.{Bits, NoBits, Relocs, Group}
 use Rattle.elf_object.specs.declared.left_out.LeftOut.{LeftOut}
 use Rattle.elf_object.specs.declared.relocation.Relocation.{Relocation}
 use Rattle.elf_object.specs.Denotes.{body_denoted, relocation_denoted}
 use Rattle.elf_object.specs.Kept.{body_kind, position_of}
 use Rattle.elf_object.specs.Object.{BodyValue, bits, no_bits, relocs, group, ObjectValue, SectionValue, no_relocation}
-use Rattle.elf_object.specs.PlainSections.{body_bytes, body_info, body_space, body_type, group_words, relocation_bytes, relocation_type}
+use Rattle.elf_object.specs.PlainSections.{body_bytes, body_info, body_space, body_type, relocation_bytes, relocation_type}
 use Rattle.elf_object.specs.SectionRules.{HasWrongField, HasWrongReference, IsWrongBits, types_without_bits}
 use Rattle.elf_object.specs.Widths.{BodyFits}
 use Rattle.elf_object.proofs.Elements.{none_of_any}
+use Rattle.elf_object.proofs.ReadLists.{map_twice, read_list}
 use Rattle.elf_object.proofs.WrittenEntries.{AreRelocations, flags_word, group_flags_read, member_below, member_count_is, member_read, relocation_count_is, relocation_read, table_relocation}
 use Rattle.elf_object.proofs.WrittenReferences.{HasPositions, kind_of, position_back, symbol_back}
-
--- ---- a list is what is read of each of its elements
-
-pub read_list : {A : Type 0} (read : ℕ → A) (a n : ℕ) (xs : List A) (d : A) → n ≡ length xs → ((i : ℕ) → i < length xs → read (a + i) ≡ get_or xs i d) →
-    map read (range_with_len a n) ≡ xs
-read_list read a zero [] d long each = refl
-read_list read a (suc n) [] d long each = absurd (omega arith)
-read_list read a zero (x ∷ xs) d long each = absurd (omega arith)
-read_list read a (suc n) (x ∷ xs) d long each =
-    let here : a + 0 ≡ a = omega arith in
-    let next : (i : ℕ) → a + 1 + i ≡ a + suc i = λ i. omega arith in
-    ap₂ (λ (y : _) (ys : List _). y ∷ ys) (sym (ap read here) ∙ each 0 (omega arith))
-    (read_list read (a + 1) n xs d (omega arith) (λ i lt. ap read (next i) ∙ each (suc i) (omega arith)))
-
-pub map_twice : {A B : Type 0} (view : A → B) (read : ℕ → A) (is : List ℕ) → map view (map read is) ≡ map (λ i. view (read i)) is
-map_twice view read [] = refl
-map_twice view read (i ∷ is) = ap (λ (ys : List _). view (read i) ∷ ys) (map_twice view read is)
 
 -- ---- relocations
 
@@ -68,15 +48,15 @@ relocations_back count rela named entries are zeros =
     ∙ read_list (λ (j : ℕ). relocation_denoted (relocation_in rela named bytes j)) 0 (relocation_count rela bytes) entries no_relocation
     (relocation_count_is rela named entries) (each count rela named entries are zeros)
   where
-  each : (count : ℕ) (rela : Bool) (named : Order) (entries : List Relocation) → AreRelocations count entries →
-      (rela ≡ false → Any (λ entry. entry.addend ≢ pos 0) entries → ⊥) → (i : ℕ) → i < length entries →
-      relocation_denoted (relocation_in rela named (relocation_bytes named rela entries) (0 + i)) ≡ get_or entries i no_relocation
-  each count rela named entries are zeros i lt =
-      let at : 0 + i ≡ i = omega arith in
-      ap (λ (j : ℕ). relocation_denoted (relocation_in rela named (relocation_bytes named rela entries) j)) at
-      ∙ ap relocation_denoted (relocation_read count rela named entries are i lt)
-      ∙ relocation_back rela (get_or entries i no_relocation)
-      (λ rel other. none_of_any (λ (entry : Relocation). entry.addend ≢ pos 0) entries no_relocation (zeros rel) i lt other)
+    each : (count : ℕ) (rela : Bool) (named : Order) (entries : List Relocation) → AreRelocations count entries →
+        (rela ≡ false → Any (λ entry. entry.addend ≢ pos 0) entries → ⊥) → (i : ℕ) → i < length entries →
+        relocation_denoted (relocation_in rela named (relocation_bytes named rela entries) (0 + i)) ≡ get_or entries i no_relocation
+    each count rela named entries are zeros i lt =
+        let at : 0 + i ≡ i = omega arith in
+        ap (λ (j : ℕ). relocation_denoted (relocation_in rela named (relocation_bytes named rela entries) j)) at
+        ∙ ap relocation_denoted (relocation_read count rela named entries are i lt)
+        ∙ relocation_back rela (get_or entries i no_relocation)
+        (λ rel other. none_of_any (λ (entry : Relocation). entry.addend ≢ pos 0) entries no_relocation (zeros rel) i lt other)
 
 -- ---- groups
 
@@ -104,12 +84,13 @@ not_among : (type : ℕ) (bytes : List ℕ) (k other : ℕ) → (IsWrongBits (bi
 not_among type bytes k other right lt at = λ same. right (k, lt, at ∙ sym same)
 
 pub kind_back : (b : BodyValue) → (IsWrongBits b → ⊥) → body_kind (body_type b) ≡ kind_of b
-unfolding kind_of
 kind_back (bits type bytes) right =
-    rw (ne_eqb type SHT_NOBITS (not_among type bytes 5 SHT_NOBITS right (omega arith) refl),
-    ne_eqb type SHT_RELA (not_among type bytes 2 SHT_RELA right (omega arith) refl),
-    ne_eqb type SHT_REL (not_among type bytes 6 SHT_REL right (omega arith) refl),
-    ne_eqb type SHT_GROUP (not_among type bytes 9 SHT_GROUP right (omega arith) refl)) refl
+    rw (
+      ne_eqb type SHT_NOBITS (not_among type bytes 5 SHT_NOBITS right (omega arith) refl),
+      ne_eqb type SHT_RELA (not_among type bytes 2 SHT_RELA right (omega arith) refl),
+      ne_eqb type SHT_REL (not_among type bytes 6 SHT_REL right (omega arith) refl),
+      ne_eqb type SHT_GROUP (not_among type bytes 9 SHT_GROUP right (omega arith) refl),
+    ) refl
 kind_back (no_bits size) right = refl
 kind_back (relocs true target entries) right = refl
 kind_back (relocs false target entries) right = refl
@@ -150,7 +131,6 @@ group_of_body o f i s comdat signature members holds =
 
 pub body_back : (o : ObjectValue) (left : LeftOut) (f : Sections) (i : ℕ) (s : SectionValue) (b : BodyValue) → HasPositions o left f → HoldsBody o f i s b → IsBody o s b →
     body_denoted left f i (kind_of b) ≡ b
-unfolding kind_of
 body_back o left f i s (bits type bytes) positions holds is = ap₂ bits holds.type holds.content
 body_back o left f i s (no_bits size) positions holds is = ap no_bits holds.size
 body_back o left f i s (relocs rela target entries) positions holds is =

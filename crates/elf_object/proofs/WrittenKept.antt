@@ -1,27 +1,27 @@
 -- What an object keeps of the file that it is written as: its own sections, each at its position.
-use Rattle.std.proofs.Common.{◌≡◌, ◌≢◌, ◌<◌, ◌≤◌, ◌+◌, ◌-◌, ◌⊎◌, ◌||◌, ℕ, zero, suc, Bool, true, false, Option, None, Some, List, [], ◌∷◌, length, map, get_or, inl, inr, refl, sym, ap, ap₂, subst, ◌∙◌, arith}
-use Rattle.std.specs.Prelude.{◌==◌, ◌&&◌, not, nat_lt, if◌then◌else◌, Contains, filter}
+use Rattle.std.proofs.Common.{◌≡◌, ◌≢◌, ◌<◌, ◌≤◌, ◌+◌, ◌-◌, ◌⊎◌, ◌||◌, ℕ, zero, suc, Bool, true, false, Option, None, Some, List, [], ◌∷◌, length, get_or, inl, inr, refl, sym, ap, ap₂, subst, ◌∙◌, arith}
+use Rattle.std.specs.Prelude.{◌==◌, ◌&&◌, not, if◌then◌else◌, Contains, filter}
 use Rattle.std.specs.List.{range_with_len}
 use Rattle.std.specs.Cmp.Derive.{both_true}
 use Rattle.std.proofs.lemmas.Bool.{cases_lt, eq-eqb, eqb-true, le-ltb, lt-ltb, ne_eqb, true≢false}
 use Rattle.std.proofs.lemmas.List.FromFn.{length-range_with_len}
 use Rattle.elf_field.specs.Abi.{SHN_LORESERVE, SHN_XINDEX, SHT_GROUP, SHT_NOBITS, SHT_NULL, SHT_REL, SHT_RELA, SHT_STRTAB, SHT_SYMTAB, SHT_SYMTAB_SHNDX}
 use Rattle.elf_field.specs.declared.shdr.Shdr.{Shdr}
-use Rattle.elf_image.specs.RelocatableFile.{first_header, long_number, short_index}
+use Rattle.elf_image.specs.RelocatableFile.{long_number, short_index}
 use Rattle.elf_rules.specs.Tables.{name_table}
 use Rattle.elf_string_table.specs.StringTable.{name_place}
 use Rattle.elf_table.specs.IndexTable.{IsIndexTable, index_table}
-use Rattle.elf_table.specs.Sections.{Sections, count, section}
+use Rattle.elf_table.specs.Sections.{count, section}
 use Rattle.elf_object.specs.declared.left_out.LeftOut.{LeftOut}
 use Rattle.elf_object.specs.Kept.{is_at, is_kept, kept, left_out, position_of, symbol_indexes, symbol_strings, symbol_table}
 use Rattle.elf_object.specs.Laid.{section_header}
 use Rattle.elf_object.specs.Object.{BodyValue, bits, no_bits, relocs, group, ObjectValue, section_at}
-use Rattle.elf_object.specs.ObjectRules.{IsObject}
-use Rattle.elf_object.specs.PlainSections.{PlainSection, body_type, has_index_table, names_at, own_section, plain_sections, section_names, strings_at, symbol_table_at}
+use Rattle.elf_object.specs.PlainSections.{PlainSection, body_type, has_index_table, names_at, own_section, section_names, strings_at, symbol_table_at}
 use Rattle.elf_object.specs.SectionRules.{IsWrongBits, types_without_bits}
 use Rattle.elf_object.specs.WrittenObject.{IsWritten, written_sections}
 use Rattle.elf_object.proofs.AllParts.{last_sections}
 use Rattle.elf_object.proofs.FirstSection.{and_true, first_found, first_missing}
+use Rattle.elf_object.proofs.KeptFront.{filter_own, none_left_out, one_left_out}
 use Rattle.elf_object.proofs.KeptLists.{not_kept_past}
 use Rattle.elf_object.proofs.PartSizes.{sound_bits}
 use Rattle.elf_object.proofs.WrittenSections.{last_count, length-plain, no_plain, plain_last, plain_own, written_count, written_first, written_section}
@@ -76,17 +76,17 @@ pub indexes_no_body : IsNoBody SHT_SYMTAB_SHNDX
 indexes_no_body = record { no_bits_type = (10, omega arith, refl); not_no_bits = λ is. omega arith; not_rela = λ is. omega arith; not_rel = λ is. omega arith; not_group = λ is. omega arith }
 
 other_body : (type : ℕ) (b : BodyValue) → IsNoBody type → (IsWrongBits b → ⊥) → body_type b ≢ type
-other_body type (bits own content) free right = λ same. right (subst (Contains types_without_bits) (sym same) free.no_bits_type)
-other_body type (no_bits size) free right = free.not_no_bits
-other_body type (relocs true target entries) free right = free.not_rela
-other_body type (relocs false target entries) free right = free.not_rel
-other_body type (group comdat signature members) free right = free.not_group
+other_body type (bits own content) bodyless right = λ same. right (subst (Contains types_without_bits) (sym same) bodyless.no_bits_type)
+other_body type (no_bits size) bodyless right = bodyless.not_no_bits
+other_body type (relocs true target entries) bodyless right = bodyless.not_rela
+other_body type (relocs false target entries) bodyless right = bodyless.not_rel
+other_body type (group comdat signature members) bodyless right = bodyless.not_group
 
 pub own_type : (o : ObjectValue) (places : List ℕ) (type : ℕ) → IsWritten o places → IsNoBody type → (p : ℕ) → p < length o.sections →
     (section (written_sections o places) (suc p)).sh_type ≢ type
-own_type o places type written free p lt = λ same.
+own_type o places type written bodyless p lt = λ same.
     let is = ap (λ (s : Shdr). s.sh_type) (written_own o places written p lt) in
-    other_body type (section_at o p).body free (sound_bits o written.object p lt) (sym is ∙ same)
+    other_body type (section_at o p).body bodyless (sound_bits o written.object p lt) (sym is ∙ same)
 
 -- every own section has a type
 pub own_typed : (o : ObjectValue) (places : List ℕ) → IsWritten o places → (p : ℕ) → p < length o.sections →
@@ -96,8 +96,8 @@ own_typed o places written p lt = own_type o places SHT_NULL written null_no_bod
 -- no section before the symbol table has this type
 before_symbols : (o : ObjectValue) (places : List ℕ) (type : ℕ) → IsWritten o places → IsNoBody type → SHT_NULL ≢ type → (k : ℕ) → k < symbol_table_at o →
     (section (written_sections o places) k).sh_type ≢ type
-before_symbols o places type written free typed zero lt = λ same. typed (sym (ap (λ (s : Shdr). s.sh_type) (written_first o places written)) ∙ same)
-before_symbols o places type written free typed (suc p) lt = own_type o places type written free p (omega arith)
+before_symbols o places type written bodyless typed zero lt = λ same. typed (sym (ap (λ (s : Shdr). s.sh_type) (written_first o places written)) ∙ same)
+before_symbols o places type written bodyless typed (suc p) lt = own_type o places type written bodyless p (omega arith)
 
 type_at : (o : ObjectValue) (places : List ℕ) → IsWritten o places → (far : Bool) → has_index_table o ≡ far → (k : ℕ) → k < last_count far →
     (section (written_sections o places) (symbol_table_at o + k)).sh_type ≡ (get_or (last_sections o far) k no_plain).type
@@ -246,22 +246,6 @@ written_left_out o places written =
 
 -- ---- what is kept
 
-none_left_out : (a b c d e g : Bool) → a ≡ false → b ≡ false → c ≡ false → d ≡ false → e ≡ false → g ≡ false → not (a || (b || (c || (d || (e || g))))) ≡ true
-none_left_out a b c d e g is_a is_b is_c is_d is_e is_g = rw (is_a, is_b, is_c, is_d, is_e, is_g) refl
-
-one_left_out : (a b c d e g : Bool) → (a ≡ true) ⊎ ((c ≡ true) ⊎ ((d ≡ true) ⊎ ((e ≡ true) ⊎ (g ≡ true)))) → not (a || (b || (c || (d || (e || g))))) ≡ false
-one_left_out true b c d e g is = refl
-one_left_out false true c d e g is = refl
-one_left_out false false true d e g is = refl
-one_left_out false false false true e g is = refl
-one_left_out false false false false true g is = refl
-one_left_out false false false false false true is = refl
-one_left_out false false false false false false (inl is) = cc
-one_left_out false false false false false false (inr (inl is)) = cc
-one_left_out false false false false false false (inr (inr (inl is))) = cc
-one_left_out false false false false false false (inr (inr (inr (inl is)))) = cc
-one_left_out false false false false false false (inr (inr (inr (inr is)))) = cc
-
 no_index_table_at : (far : Bool) (t i : ℕ) → i < t → is_at (if far then Some t else None) i ≡ false
 no_index_table_at true t i below = ne_eqb t i (λ same. omega arith)
 no_index_table_at false t i below = refl
@@ -318,9 +302,9 @@ behind_left_out o places written i above = elim (cases_lt i (count (written_sect
 ]
 
 -- the own sections are kept, and no other
-pub kept_written : (o : ObjectValue) (places : List ℕ) → IsWritten o places → (p : ℕ) → p < length o.sections →
+pub own_is_kept : (o : ObjectValue) (places : List ℕ) → IsWritten o places → (p : ℕ) → p < length o.sections →
     (let f = written_sections o places in is_kept (left_out f) f (suc p) ≡ true)
-kept_written o places written p lt =
+own_is_kept o places written p lt =
     ap (λ (left : LeftOut). is_kept left (written_sections o places) (suc p)) (written_left_out o places written) ∙ own_kept o places written p lt
 
 pub first_not_kept : (o : ObjectValue) (places : List ℕ) → IsWritten o places → (let f = written_sections o places in is_kept (left_out f) f 0 ≡ false)
@@ -343,28 +327,6 @@ own_of_kept o places written (suc p) is = elim (cases_lt p (length o.sections)) 
 
 -- ---- positions
 
-filter_none : (test : ℕ → Bool) (a n : ℕ) → ((i : ℕ) → a ≤ i → i < a + n → test i ≡ false) → filter test (range_with_len a n) ≡ []
-filter_none test a zero none = refl
-filter_none test a (suc n) none = rw (none a (omega arith) (omega arith)) (filter_none test (a + 1) n (λ i above below. none i (omega arith) (omega arith)))
-
-filter_front : (test : ℕ → Bool) (a n m : ℕ) → ((i : ℕ) → a ≤ i → i < a + n → test i ≡ true) → ((i : ℕ) → a + n ≤ i → i < a + n + m → test i ≡ false) →
-    filter test (range_with_len a (n + m)) ≡ range_with_len a n
-filter_front test a zero m passes fails =
-    let same : zero + m ≡ m = omega arith in
-    ap (λ (k : ℕ). filter test (range_with_len a k)) same ∙ filter_none test a m (λ i above below. fails i (omega arith) (omega arith))
-filter_front test a (suc n) m passes fails =
-    let same : suc n + m ≡ suc (n + m) = omega arith in
-    let rest = filter_front test (a + 1) n m (λ i above below. passes i (omega arith) (omega arith)) (λ i above below. fails i (omega arith) (omega arith)) in
-    ap (λ (k : ℕ). filter test (range_with_len a k)) same ∙ rw (passes a (omega arith) (omega arith)) (ap (λ (is : List ℕ). a ∷ is) rest)
-
-each_own : (test : ℕ → Bool) (n : ℕ) → ((p : ℕ) → p < n → test (suc p) ≡ true) → (i : ℕ) → 1 ≤ i → i < 1 + n → test i ≡ true
-each_own test n own zero above below = absurd (omega arith)
-each_own test n own (suc p) above below = own p (omega arith)
-
-filter_own : (test : ℕ → Bool) (n m : ℕ) → test 0 ≡ false → ((p : ℕ) → p < n → test (suc p) ≡ true) → ((i : ℕ) → n < i → i < 1 + n + m → test i ≡ false) →
-    filter test (range_with_len 0 (suc (n + m))) ≡ range_with_len 1 n
-filter_own test n m first own behind = rw first (filter_front test 1 n m (each_own test n own) (λ i above below. behind i (omega arith) below))
-
 -- the sections that are kept have the indexes 1 to the number of own sections
 pub written_kept : (o : ObjectValue) (places : List ℕ) → IsWritten o places → (let f = written_sections o places in kept (left_out f) f ≡ range_with_len 1 (length o.sections))
 written_kept o places written =
@@ -374,7 +336,7 @@ written_kept o places written =
     let all = count_of_written o places written (has_index_table o) refl in
     let same : count f ≡ suc (n + last_count (has_index_table o)) = omega arith in
     ap (λ (k : ℕ). filter test (range_with_len 0 k)) same
-    ∙ filter_own test n (last_count (has_index_table o)) (first_not_kept o places written) (kept_written o places written) (λ i above below. behind_not_kept o places written i above)
+    ∙ filter_own test n (last_count (has_index_table o)) (first_not_kept o places written) (own_is_kept o places written) (λ i above below. behind_not_kept o places written i above)
 
 -- section p + 1 is at position p
 pub written_position : (o : ObjectValue) (places : List ℕ) → IsWritten o places → (p : ℕ) → p ≤ length o.sections →
@@ -383,5 +345,5 @@ written_position o places written p le =
     let f = written_sections o places in
     let test = is_kept (left_out f) f in
     let same : suc (p + 0) ≡ suc p = omega arith in
-    let own = filter_own test p 0 (first_not_kept o places written) (λ q lt. kept_written o places written q (omega arith)) (λ i above below. absurd (omega arith)) in
+    let own = filter_own test p 0 (first_not_kept o places written) (λ q lt. own_is_kept o places written q (omega arith)) (λ i above below. absurd (omega arith)) in
     sym (ap (position_of (left_out f) f) same) ∙ ap (λ (is : List ℕ). length is) own ∙ length-range_with_len 1 p

@@ -77,9 +77,9 @@ own_short o places written =
     let some = length-plain o (has_index_table o) refl in
     by_count (has_index_table o) some all
   where
-  by_count : (far : Bool) → length (plain_sections o) ≡ length o.sections + (if far then 4 else 3) → 64 * (length (plain_sections o) + 1) ≤ 2 ^ 30 → length o.sections + 3 < 2 ^ 24
-  by_count true some all = omega arith
-  by_count false some all = omega arith
+    by_count : (far : Bool) → length (plain_sections o) ≡ length o.sections + (if far then 4 else 3) → 64 * (length (plain_sections o) + 1) ≤ 2 ^ 30 → length o.sections + 3 < 2 ^ 24
+    by_count true some all = omega arith
+    by_count false some all = omega arith
 
 -- one of the sections behind the object's own
 last_short : (o : ObjectValue) (places : List ℕ) → IsWritten o places → (far : Bool) → has_index_table o ≡ far → (k : ℕ) → k < (if far then 4 else 3) →
@@ -94,27 +94,28 @@ pub symbols_short : (o : ObjectValue) (places : List ℕ) → IsWritten o places
 unfolding last_sections
 symbols_short o places written = by_far (has_index_table o) refl
   where
-  table_long : length (symbol_table o).content ≡ 24 * (length o.symbols + 1)
-  table_long =
-      let all = length-table sym_laws o.order (null_symbol ∷ map (symbol_entry o) o.symbols) in
-      let same = length-map o.symbols (symbol_entry o) in
-      omega arith
-  by_far : (far : Bool) → has_index_table o ≡ far → 24 * (length o.symbols + 1) ≤ 2 ^ 30
-  by_far true is = let short = last_short o places written true is 0 (omega arith) in let long = table_long in omega arith
-  by_far false is = let short = last_short o places written false is 0 (omega arith) in let long = table_long in omega arith
+    table_long : length (symbol_table o).content ≡ 24 * (length o.symbols + 1)
+    table_long =
+        let all = length-table sym_laws o.order (null_symbol ∷ map (symbol_entry o) o.symbols) in
+        let same = length-map o.symbols (symbol_entry o) in
+        omega arith
+
+    by_far : (far : Bool) → has_index_table o ≡ far → 24 * (length o.symbols + 1) ≤ 2 ^ 30
+    by_far true is = let short = last_short o places written true is 0 (omega arith) in let long = table_long in omega arith
+    by_far false is = let short = last_short o places written false is 0 (omega arith) in let long = table_long in omega arith
 
 pub strings_short : (o : ObjectValue) (places : List ℕ) → IsWritten o places → length (string_table (symbol_names o)) ≤ 2 ^ 30
 unfolding last_sections
 strings_short o places written = by_far (has_index_table o) refl
   where
-  by_far : (far : Bool) → has_index_table o ≡ far → length (string_table (symbol_names o)) ≤ 2 ^ 30
-  by_far true is = last_short o places written true is 2 (omega arith)
-  by_far false is = last_short o places written false is 1 (omega arith)
+    by_far : (far : Bool) → has_index_table o ≡ far → length (string_table (symbol_names o)) ≤ 2 ^ 30
+    by_far true is = last_short o places written true is 2 (omega arith)
+    by_far false is = last_short o places written false is 1 (omega arith)
 
 pub names_short : (o : ObjectValue) (places : List ℕ) → IsWritten o places → length (string_table (section_names o)) ≤ 2 ^ 30
 unfolding last_sections
 names_short o places written = by_far (has_index_table o) refl
   where
-  by_far : (far : Bool) → has_index_table o ≡ far → length (string_table (section_names o)) ≤ 2 ^ 30
-  by_far true is = last_short o places written true is 3 (omega arith)
-  by_far false is = last_short o places written false is 2 (omega arith)
+    by_far : (far : Bool) → has_index_table o ≡ far → length (string_table (section_names o)) ≤ 2 ^ 30
+    by_far true is = last_short o places written true is 3 (omega arith)
+    by_far false is = last_short o places written false is 2 (omega arith)

@@ -1,5 +1,5 @@
 -- What the file that an object is written as holds: its byte order, its header's fields, the content of each section, and the names.
-use Rattle.std.proofs.Common.{◌≡◌, ◌≢◌, ◌<◌, ◌≤◌, ◌+◌, ℕ, suc, Bool, true, false, List, [], ◌∷◌, ◌++◌, length, map, get_or, refl, sym, ap, ap₂, subst, ◌∙◌, arith}
+use Rattle.std.proofs.Common.{◌≡◌, ◌<◌, ◌+◌, ℕ, suc, Bool, true, false, List, [], ◌∷◌, length, map, get_or, refl, sym, ap, ap₂, subst, ◌∙◌, arith}
 use Rattle.std.specs.Prelude.{◌==◌, if◌then◌else◌, codes, slice_index}
 use Rattle.std.proofs.lemmas.Bool.{ne_eqb}
 use Rattle.std.proofs.lemmas.List.{get_or-map, length-map, map-append}
@@ -30,9 +30,9 @@ pub written_order : (o : ObjectValue) (places : List ℕ) → order (written_sec
 unfolding written_sections order_of
 written_order o places = by_order o.order
   where
-  by_order : (named : Order) → (if encoding named == ELFDATA2MSB then Big else Little) ≡ named
-  by_order Little = refl
-  by_order Big = refl
+    by_order : (named : Order) → (if encoding named == ELFDATA2MSB then Big else Little) ≡ named
+    by_order Little = refl
+    by_order Big = refl
 
 pub written_osabi : (o : ObjectValue) (places : List ℕ) → slice_index (written_sections o places).header.e_ident EI_OSABI ≡ o.osabi
 unfolding written_sections
@@ -71,11 +71,12 @@ pub symbols_content : (o : ObjectValue) (places : List ℕ) → content (written
 unfolding last_sections
 symbols_content o places = ap (content (written_sections o places)) at ∙ by_far (has_index_table o) refl
   where
-  at : symbol_table_at o ≡ symbol_table_at o + 0
-  at = omega arith
-  by_far : (far : Bool) → has_index_table o ≡ far → content (written_sections o places) (symbol_table_at o + 0) ≡ (symbol_table o).content
-  by_far true is = last_content o places true is 0 (omega arith)
-  by_far false is = last_content o places false is 0 (omega arith)
+    at : symbol_table_at o ≡ symbol_table_at o + 0
+    at = omega arith
+
+    by_far : (far : Bool) → has_index_table o ≡ far → content (written_sections o places) (symbol_table_at o + 0) ≡ (symbol_table o).content
+    by_far true is = last_content o places true is 0 (omega arith)
+    by_far false is = last_content o places false is 0 (omega arith)
 
 pub indexes_content : (o : ObjectValue) (places : List ℕ) → has_index_table o ≡ true → content (written_sections o places) (symbol_table_at o + 1) ≡ (index_table o).content
 unfolding last_sections
@@ -103,7 +104,13 @@ names_content_at o places false is =
 pub names_content : (o : ObjectValue) (places : List ℕ) → content (written_sections o places) (names_at o) ≡ string_table (section_names o)
 names_content o places = names_content_at o places (has_index_table o) refl
 
--- ---- the sections' names
+-- ---- names
+
+-- a name of a string table's list is read where its place says
+pub name_read : (names : List (List ℕ)) (i : ℕ) (name : List ℕ) → i < length names → get_or names i [] ≡ name → HasNoZero name →
+    string (string_table names) (name_place names name) ≡ name
+name_read names i name lt is named =
+    subst (λ (n : List ℕ). HasNoZero n → string (string_table names) (name_place names n) ≡ n) is ((holds_names names).read i lt) named
 
 -- the section name string table holds the names of all sections
 pub section_names_are : (o : ObjectValue) → section_names o ≡ map (λ (s : PlainSection). s.name) (plain_sections o)
@@ -121,16 +128,14 @@ written_names o places written =
     ap (λ (k : ℕ). if k == 0 then [] else content f k) (written_name_table o places written)
     ∙ rw (ne_eqb (names_at o) 0 (λ same. omega arith)) (names_content o places)
 
-own_name : (o : ObjectValue) → (p : ℕ) → p < length o.sections → (HasNoZero (section_at o p).name) →
+own_name : (o : ObjectValue) (p : ℕ) → p < length o.sections → HasNoZero (section_at o p).name →
     string (string_table (section_names o)) (name_place (section_names o) (section_at o p).name) ≡ (section_at o p).name
 own_name o p lt named =
-    let names = section_names o in
     let many = length-plain o (has_index_table o) refl in
     let more = last_some (has_index_table o) in
     let all = ap length (section_names_are o) ∙ length-map (plain_sections o) (λ (s : PlainSection). s.name) in
-    let same : get_or names p [] ≡ (section_at o p).name = section_name_at o p (omega arith) ∙ ap (λ (s : PlainSection). s.name) (plain_own o p lt) in
-    let read = (holds_names names).read p (omega arith) in
-    subst (λ (name : List ℕ). HasNoZero name → string (string_table names) (name_place names name) ≡ name) same read named
+    let same = section_name_at o p (omega arith) ∙ ap (λ (s : PlainSection). s.name) (plain_own o p lt) in
+    name_read (section_names o) p (section_at o p).name (omega arith) same named
 
 pub written_name : (o : ObjectValue) (places : List ℕ) → IsWritten o places → (p : ℕ) → p < length o.sections → name_of (written_sections o places) (suc p) ≡ (section_at o p).name
 written_name o places written p lt =

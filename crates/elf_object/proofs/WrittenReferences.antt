@@ -1,10 +1,10 @@
 -- The references from section to section of an object that is written: each index is read back as the position that it stands for.
-use Rattle.std.proofs.Common.{◌≡◌, ◌≢◌, ◌<◌, ◌≤◌, ◌+◌, ◌-◌, ◌⊎◌, ℕ, zero, suc, Bool, true, false, Option, None, Some, length, inl, inr, refl, sym, ap, ap₂, ◌∙◌, arith}
-use Rattle.std.specs.Prelude.{◌==◌, if◌then◌else◌, bit_and}
+use Rattle.std.proofs.Common.{◌≡◌, ◌≢◌, ◌<◌, ◌≤◌, ◌+◌, ◌-◌, ℕ, zero, suc, Option, None, Some, length, inl, inr, refl, ap, ◌∙◌, arith}
+use Rattle.std.specs.Prelude.{bit_and}
 use Rattle.std.proofs.lemmas.Bool.{cases_eq, cases_lt, ne_eqb}
 use Rattle.elf_field.specs.Abi.{SHF_INFO_LINK}
 use Rattle.elf_field.specs.declared.shdr.Shdr.{Shdr}
-use Rattle.elf_table.specs.Sections.{Sections, section}
+use Rattle.elf_table.specs.Sections.{Sections}
 use Rattle.elf_object.specs.declared.body_kind.BodyKind.{BodyKind}
 use Rattle.elf_object.specs.declared.body_kind.BodyKind.TheVariants.{Bits, NoBits, Relocs, Group}
 use Rattle.elf_object.specs.declared.left_out.LeftOut.{LeftOut}
@@ -15,7 +15,7 @@ use Rattle.elf_object.specs.Kept.{position_of}
 use Rattle.elf_object.specs.Object.{BodyValue, bits, no_bits, relocs, group, ObjectValue, SectionValue}
 use Rattle.elf_object.specs.PlainSections.{body_info, body_link, index_of, own_info}
 use Rattle.elf_object.specs.Positions.{IsPast, info_position}
-use Rattle.elf_object.specs.SectionRules.{HasWrongField, HasWrongPosition, IsAgainstFlag}
+use Rattle.elf_object.specs.SectionRules.{HasWrongField, IsAgainstFlag}
 
 -- section p + 1 of the file is at position p
 abbrev pub HasPositions : ObjectValue → LeftOut → Sections → Type 0
@@ -51,7 +51,8 @@ no_info (info.Number zero) is = refl
 no_info (info.Number (suc n)) is = absurd (is (λ same. (let zero_is : suc n ≡ 0 = cc in omega arith)))
 no_info (info.Section p) is = absurd (is (λ same. cc))
 
-unfoldable pub kind_of : BodyValue → BodyKind
+-- what a section with this body is of
+abbrev pub kind_of : BodyValue → BodyKind
 kind_of (bits type content) = Bits
 kind_of (no_bits size) = NoBits
 kind_of (relocs rela target entries) = Relocs
@@ -59,7 +60,6 @@ kind_of (group comdat signature members) = Group
 
 pub link_back : (o : ObjectValue) (left : LeftOut) (f : Sections) (s : SectionValue) (h : Shdr) (b : BodyValue) → HasPositions o left f →
     (IsPast (length o.sections) s.link → ⊥) → (HasWrongField s b → ⊥) → h.sh_link ≡ body_link o s b → link_denoted left f h (kind_of b) ≡ s.link
-unfolding kind_of
 link_back o left f s h (bits type content) positions there right is = ap (section_reference left f) is ∙ reference_back o left f s.link positions there
 link_back o left f s h (no_bits size) positions there right is = ap (section_reference left f) is ∙ reference_back o left f s.link positions there
 link_back o left f s h (relocs rela target entries) positions there right is = no_link s.link (λ other. right (inl (inl other)))
@@ -79,7 +79,6 @@ plain_info_back o left f h flags (info.Section p) positions there right is_flags
 pub info_back : (o : ObjectValue) (left : LeftOut) (f : Sections) (s : SectionValue) (h : Shdr) (b : BodyValue) → HasPositions o left f →
     (IsPast (length o.sections) (info_position s.info) → ⊥) → (HasWrongField s b → ⊥) → h.sh_flags ≡ s.flags → h.sh_info ≡ body_info s b →
     info_denoted left f h (kind_of b) ≡ s.info
-unfolding kind_of
 info_back o left f s h (bits type content) positions there right flags is = plain_info_back o left f h s.flags s.info positions there right flags is
 info_back o left f s h (no_bits size) positions there right flags is = plain_info_back o left f h s.flags s.info positions there right flags is
 info_back o left f s h (relocs rela target entries) positions there right flags is = no_info s.info (λ other. right (inl (inr other)))

@@ -1,17 +1,15 @@
 -- The sections of a written object, by their indexes.
-use Rattle.std.proofs.Common.{◌≡◌, ◌<◌, ◌≤◌, ◌+◌, ◌*◌, ℕ, zero, suc, Bool, true, false, List, [], ◌∷◌, ◌++◌, length, map, get_or, refl, sym, ap, ◌∙◌, arith, length-append}
-use Rattle.std.specs.Prelude.{if◌then◌else◌, codes}
+use Rattle.std.proofs.Common.{◌≡◌, ◌<◌, ◌+◌, ℕ, zero, suc, Bool, true, false, List, [], ◌∷◌, ◌++◌, length, map, get_or, refl, sym, ap, ◌∙◌, arith, length-append}
+use Rattle.std.specs.Prelude.{if◌then◌else◌}
 use Rattle.std.proofs.lemmas.List.{get_or-append-add, get_or-map, get_or_append_left, length-map}
-use Rattle.elf_field.specs.Abi.{SHDR_SIZE}
-use Rattle.elf_field.specs.declared.shdr.Shdr.{Shdr}
 use Rattle.elf_extent.proofs.Public.{fits_length}
 use Rattle.elf_image.specs.RelocatableFile.{first_header}
 use Rattle.elf_rules.specs.Tables.{section_of}
 use Rattle.elf_string_table.specs.StringTable.{name_place}
 use Rattle.elf_table.specs.Sections.{content, count, section}
 use Rattle.elf_object.specs.Laid.{layout_parts, section_header, section_headers}
-use Rattle.elf_object.specs.Object.{ObjectValue, SectionValue, no_section, section_at}
-use Rattle.elf_object.specs.PlainSections.{PlainSection, has_index_table, index_table, names_at, own_section, plain_sections, section_names, strings, strings_at, symbol_names, symbol_table, symbol_table_at}
+use Rattle.elf_object.specs.Object.{ObjectValue, no_section, section_at}
+use Rattle.elf_object.specs.PlainSections.{PlainSection, has_index_table, names_at, own_section, plain_sections, section_names}
 use Rattle.elf_object.specs.WrittenObject.{IsWritten, written_sections}
 use Rattle.elf_object.proofs.AllParts.{last_sections, plain_sections_are}
 use Rattle.elf_object.proofs.CanonicalLayout.{length-headers_at, length-layout_parts}

@@ -6,7 +6,7 @@ use Rattle.elf_image.specs.RelocatableFile.{all_headers}
 use Rattle.elf_rules.specs.HeaderRules.{MAX_LEN}
 use Rattle.elf_string_table.specs.StringTable.{name_place}
 use Rattle.elf_table.specs.Sections.{Sections}
-use Rattle.elf_object.specs.Laid.{file_header, layout_bytes, layout_parts, section_headers}
+use Rattle.elf_object.specs.Laid.{Laid, file_header, layout_bytes, layout_parts, section_headers}
 use Rattle.elf_object.specs.Object.{ObjectValue}
 use Rattle.elf_object.specs.ObjectRules.{IsObject}
 use Rattle.elf_object.specs.PlainSections.{names_at, plain_sections, section_names}
@@ -23,7 +23,14 @@ written_sections o places =
       contents = [] ∷ map (λ s. s.content) sections;
     }
 
--- an object of the code, with its parts at their least places in a file that is not too long
+-- an object of the code, and the bytes that it is written as: its canonical layout, which is not too long for a file
+pub record IsWrittenAs (o : ObjectValue) (b : List ℕ) : Type 0 where
+  pub object : IsObject o
+  pub widths : ObjectFits o
+  pub laid : Laid o b
+  pub short : length b ≤ MAX_LEN
+
+-- the same by the places of its parts
 pub record IsWritten (o : ObjectValue) (places : List ℕ) : Type 0 where
   pub object : IsObject o
   pub widths : ObjectFits o

@@ -65,7 +65,7 @@ pub use reading::object_of;
 pub use relocation::Relocation;
 pub use section::{Body, Info, Section};
 pub use symbol::{Place, Symbol};
-pub use written_laws::written_object;
+pub use written_laws::{denoted_object, written_object};
 
 #[cfg(test)]
 mod layout_tests;
