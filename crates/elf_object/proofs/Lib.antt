@@ -43,6 +43,7 @@ pub mod WrittenParts
 pub mod ReadLists
 pub mod WrittenReferences
 pub mod WrittenBodies
+pub mod WrittenTypes
 pub mod WrittenSymbolRules
 pub mod WrittenRelocationRules
 pub mod WrittenGroupRules

@@ -19,52 +19,11 @@ use Rattle.elf_object.specs.PlainSections.{has_index_table, index_table, symbol_
 use Rattle.elf_object.specs.WrittenObject.{IsWritten, written_sections}
 use Rattle.elf_object.proofs.AllParts.{last_sections}
 use Rattle.elf_object.proofs.WrittenEntries.{length-index_table, length-symbol_table, symbol_entry_count}
-use Rattle.elf_object.proofs.WrittenFile.{IsSectionAt, by_section, indexes_at, last_at, symbol_strings_at, symbols_at}
-use Rattle.elf_object.proofs.WrittenKept.{indexes_no_body, own_type, symbols_no_body, written_index_table}
+use Rattle.elf_object.proofs.WrittenFile.{IsSectionAt, indexes_at, symbol_strings_at, symbols_at}
+use Rattle.elf_object.proofs.WrittenKept.{written_index_table}
 use Rattle.elf_object.proofs.WrittenParts.{written_order}
-use Rattle.elf_object.proofs.WrittenSections.{last_count, no_plain, written_first}
 use Rattle.elf_object.proofs.WrittenSymbols.{AreSymbolParts, entries_kept, places_kept, strings_closed}
-
--- ---- which sections are of the types of symbols
-
--- what the section's type says of its index
-pub record TellsIndex (o : ObjectValue) (i type : ℕ) : Type 0 where
-  pub symbols : type ≡ SHT_SYMTAB → i ≡ symbol_table_at o
-  pub indexes : type ≡ SHT_SYMTAB_SHNDX → (has_index_table o ≡ true) × (i ≡ symbol_table_at o + 1)
-
-strings_tell : (o : ObjectValue) (i type : ℕ) → type ≡ SHT_STRTAB → TellsIndex o i type
-strings_tell o i type is = record { symbols = λ same. absurd (omega arith); indexes = λ same. absurd (omega arith) }
-
-last_tells : (o : ObjectValue) (far : Bool) (k : ℕ) → has_index_table o ≡ far → k < last_count far →
-    TellsIndex o (symbol_table_at o + k) (get_or (last_sections o far) k no_plain).type
-unfolding last_sections
-last_tells o true zero is lt = record { symbols = λ same. omega arith; indexes = λ same. absurd (omega arith) }
-last_tells o true (suc zero) is lt = record { symbols = λ same. absurd (omega arith); indexes = λ same. (is, refl) }
-last_tells o true (suc (suc zero)) is lt = strings_tell o _ _ refl
-last_tells o true (suc (suc (suc zero))) is lt = strings_tell o _ _ refl
-last_tells o true (suc (suc (suc (suc k)))) is lt = absurd (omega arith)
-last_tells o false zero is lt = record { symbols = λ same. omega arith; indexes = λ same. absurd (omega arith) }
-last_tells o false (suc zero) is lt = strings_tell o _ _ refl
-last_tells o false (suc (suc zero)) is lt = strings_tell o _ _ refl
-last_tells o false (suc (suc (suc k))) is lt = absurd (omega arith)
-
-pub type_tells : (o : ObjectValue) (places : List ℕ) → IsWritten o places → (i : ℕ) → i < count (written_sections o places) →
-    TellsIndex o i (section (written_sections o places) i).sh_type
-type_tells o places written =
-    let f = written_sections o places in
-    let far = has_index_table o in
-    by_section o places written (λ i. TellsIndex o i (section f i).sh_type) first own
-    (λ k lt. subst (TellsIndex o (symbol_table_at o + k)) (sym (last_at o places written far refl k lt).sh_type) (last_tells o far k refl lt)) where
-      first : TellsIndex o 0 (section (written_sections o places) 0).sh_type
-      first =
-          let null = ap (λ (s : Shdr). s.sh_type) (written_first o places written) in
-          record { symbols = λ same. absurd (omega arith); indexes = λ same. absurd (omega arith) }
-
-      own : (p : ℕ) → p < length o.sections → TellsIndex o (suc p) (section (written_sections o places) (suc p)).sh_type
-      own p lt = record {
-        symbols = λ same. absurd (own_type o places SHT_SYMTAB written symbols_no_body p lt same);
-        indexes = λ same. absurd (own_type o places SHT_SYMTAB_SHNDX written indexes_no_body p lt same);
-      }
+use Rattle.elf_object.proofs.WrittenTypes.{type_tells}
 
 -- ---- the parts of the symbol table
 

@@ -161,7 +161,7 @@ module _ (o : ObjectValue) (places : List ℕ) (written : IsWritten o places) (p
   symbol_is k lt = ap₂ (λ (b : Order) (table : List ℕ). entry b table (suc k)) are.order_is are.table_is ∙ symbol_entry_read o written.widths strings_below k lt
 
   -- what holds of the null symbol and of each symbol's entry holds of each entry
-  by_entry : (P : ℕ → Sym → Type 0) → P 0 null_symbol → ((k : ℕ) → k < length o.symbols → P (suc k) (symbol_entry o (symbol_at o k))) →
+  pub by_entry : (P : ℕ → Sym → Type 0) → P 0 null_symbol → ((k : ℕ) → k < length o.symbols → P (suc k) (symbol_entry o (symbol_at o k))) →
       (j : ℕ) → j < entry_count p.table → P j (entry p.order p.table j)
   by_entry P first others zero lt = subst (P 0) (sym first_is) first
   by_entry P first others (suc k) lt =
@@ -234,24 +234,31 @@ module _ (o : ObjectValue) (places : List ℕ) (written : IsWritten o places) (p
         (λ far none. are.index_there (list_any_at (λ (s : SymbolValue). is_far s.place) o.symbols k no_symbol lt far) none)
 
   -- rule 52
+  word_in : (t j : ℕ) → p.index_table ≡ Some t → word p.order p.words j ≡ word o.order (index_table o).content j
+  word_in t j is = ap₂ (λ (b : Order) (words : List ℕ). word b words j) are.order_is (are.words_are t is)
+
   words_right : (table : Option ℕ) → p.index_table ≡ table → Never (OfSome table (λ _. AtEntry (entry_count p.table)
       (λ j. IsWrongWord p.sections (entry p.order p.table j) (word p.order p.words j)) (λ j. p.words_start + WORD_SIZE * j)))
   words_right None is x broken = broken
   words_right (Some t) is x (j, below, broken, here) =
       by_entry (λ j symbol. IsWrongWord p.sections symbol (word p.order p.words j) → ⊥) null_right symbol_right j below broken where
-    word_at : (j : ℕ) → word p.order p.words j ≡ word o.order (index_table o).content j
-    word_at j = ap₂ (λ (b : Order) (words : List ℕ). word b words j) are.order_is (are.words_are t is)
-
     null_right : IsWrongWord p.sections null_symbol (word p.order p.words 0) → ⊥
     null_right wrong =
         word_right (length o.sections) p.sections are.sections_there Undef (λ past. past)
-        (subst (λ (w : ℕ). IsWrongWord p.sections null_symbol w) (word_at 0 ∙ null_word o written.object sections_below) wrong)
+        (subst (λ (w : ℕ). IsWrongWord p.sections null_symbol w) (word_in t 0 is ∙ null_word o written.object sections_below) wrong)
 
     symbol_right : (k : ℕ) → k < length o.symbols → IsWrongWord p.sections (symbol_entry o (symbol_at o k)) (word p.order p.words (suc k)) → ⊥
     symbol_right k lt wrong =
         word_right (length o.sections) p.sections are.sections_there (symbol_at o k).place (no_wrong_place o written.object k lt)
-        (subst (λ (w : ℕ). IsWrongWord p.sections (symbol_entry o (symbol_at o k)) w) (word_at (suc k) ∙ symbol_word o written.object sections_below k lt) wrong)
+        (subst (λ (w : ℕ). IsWrongWord p.sections (symbol_entry o (symbol_at o k)) w) (word_in t (suc k) is ∙ symbol_word o written.object sections_below k lt) wrong)
 
   pub places_kept : FirstIn (place_rules p) None
   unfolding place_rules
   places_kept = (sections_right, (words_right p.index_table refl, tt))
+
+  -- the word of a symbol whose index its st_shndx can't hold
+  pub far_word : (k : ℕ) → k < length o.symbols → is_far (symbol_at o k).place ≡ true → word p.order p.words (suc k) ≡ index_word (symbol_at o k).place
+  far_word k lt far = found p.index_table refl where
+    found : (table : Option ℕ) → p.index_table ≡ table → word p.order p.words (suc k) ≡ index_word (symbol_at o k).place
+    found None is = absurd (are.index_there (list_any_at (λ (s : SymbolValue). is_far s.place) o.symbols k no_symbol lt far) is)
+    found (Some t) is = word_in t (suc k) is ∙ symbol_word o written.object sections_below k lt
