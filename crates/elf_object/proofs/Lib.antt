@@ -50,3 +50,5 @@ pub mod WrittenGroupRules
 pub mod WrittenOwn
 pub mod WrittenSymbolValues
 pub mod WrittenDenotes
+pub mod WrittenReferenceRules
+pub mod WrittenRules
