@@ -1,5 +1,5 @@
 -- The bodies of an object that is written: each is read back as what it was made of.
-use Rattle.std.proofs.Common.{◌≡◌, ◌≢◌, ◌<◌, ◌≤◌, ◌+◌, ◌-◌, ◌^◌, ℕ, zero, suc, Bool, true, false, Option, None, Some, List, [], ◌∷◌, length, map, get_or, inl, inr, refl, sym, ap, ap₂, ◌∙◌, arith}
+use Rattle.std.proofs.Common.{◌≡◌, ◌≢◌, ◌<◌, ◌≤◌, ◌+◌, ◌-◌, ◌^◌, ℕ, zero, suc, Bool, true, false, Option, None, Some, List, length, map, get_or, inl, inr, refl, sym, ap, ap₂, ◌∙◌, arith}
 use Rattle.std.specs.Prelude.{◌==◌, if◌then◌else◌, Any, ℤ, pos, unwrap_or}
 use Rattle.std.specs.List.{range_with_len}
 use Rattle.std.proofs.Math.IntN.{negsuc, pos-ne-negsuc}

@@ -1,8 +1,8 @@
 -- What the file that an object is written as holds: its byte order, its header's fields, the content of each section, and the names.
-use Rattle.std.proofs.Common.{◌≡◌, ◌<◌, ◌+◌, ℕ, suc, Bool, true, false, List, [], ◌∷◌, length, map, get_or, refl, sym, ap, ap₂, subst, ◌∙◌, arith}
-use Rattle.std.specs.Prelude.{◌==◌, if◌then◌else◌, codes, slice_index}
+use Rattle.std.proofs.Common.{◌≡◌, ◌<◌, ◌+◌, ℕ, suc, Bool, true, false, List, [], length, get_or, refl, ap, ap₂, subst, ◌∙◌, arith}
+use Rattle.std.specs.Prelude.{◌==◌, if◌then◌else◌, slice_index}
 use Rattle.std.proofs.lemmas.Bool.{ne_eqb}
-use Rattle.std.proofs.lemmas.List.{get_or-map, length-map, map-append}
+use Rattle.std.proofs.lemmas.List.{get_or-map, length-map}
 use Rattle.elf_field.specs.Abi.{EI_ABIVERSION, EI_OSABI, ELFDATA2MSB, SHT_NULL}
 use Rattle.elf_field.specs.declared.order.Order.{Order}
 use Rattle.elf_field.specs.declared.order.Order.TheVariants.{Little, Big}
@@ -17,10 +17,11 @@ use Rattle.elf_table.specs.Sections.{content, order, section}
 use Rattle.elf_object.specs.Denotes.{name_of}
 use Rattle.elf_object.specs.Laid.{encoding}
 use Rattle.elf_object.specs.Object.{ObjectValue, section_at}
-use Rattle.elf_object.specs.PlainSections.{PlainSection, body_bytes, has_index_table, index_table, names_at, plain_sections, section_names, sections_before_names, strings, strings_at, symbol_names, symbol_table, symbol_table_at}
+use Rattle.elf_object.specs.PlainSections.{PlainSection, body_bytes, has_index_table, index_table, names_at, plain_sections, section_names, strings_at, symbol_names, symbol_table, symbol_table_at}
 use Rattle.elf_object.specs.WrittenObject.{IsWritten, written_sections}
 use Rattle.elf_object.proofs.AllParts.{last_sections}
 use Rattle.elf_object.proofs.SoundObject.{no_zero_in_section_name}
+use Rattle.elf_object.proofs.WrittenFields.{section_names_are}
 use Rattle.elf_object.proofs.WrittenKept.{last_some, own_typed, written_name_table, written_own}
 use Rattle.elf_object.proofs.WrittenSections.{last_count, length-plain, no_plain, plain_at, plain_last, plain_own, written_content}
 
@@ -113,10 +114,6 @@ name_read names i name lt is named =
     subst (λ (n : List ℕ). HasNoZero n → string (string_table names) (name_place names n) ≡ n) is ((holds_names names).read i lt) named
 
 -- the section name string table holds the names of all sections
-pub section_names_are : (o : ObjectValue) → section_names o ≡ map (λ (s : PlainSection). s.name) (plain_sections o)
-unfolding plain_sections section_names
-section_names_are o = sym (map-append (λ (s : PlainSection). s.name) (sections_before_names o) (strings (codes ".shstrtab") (section_names o) ∷ []))
-
 pub section_name_at : (o : ObjectValue) (p : ℕ) → p < length (plain_sections o) → get_or (section_names o) p [] ≡ (plain_at o p).name
 section_name_at o p lt =
     ap (λ (names : List (List ℕ)). get_or names p []) (section_names_are o) ∙ get_or-map (λ (s : PlainSection). s.name) (plain_sections o) p no_plain [] lt

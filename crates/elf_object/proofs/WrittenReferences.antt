@@ -51,7 +51,7 @@ no_info (info.Number zero) is = refl
 no_info (info.Number (suc n)) is = absurd (is (λ same. (let zero_is : suc n ≡ 0 = cc in omega arith)))
 no_info (info.Section p) is = absurd (is (λ same. cc))
 
--- what a section with this body is of
+-- what the section with this body is read as
 abbrev pub kind_of : BodyValue → BodyKind
 kind_of (bits type content) = Bits
 kind_of (no_bits size) = NoBits

@@ -1,6 +1,6 @@
 -- The symbols of an object that is written are read back as themselves.
-use Rattle.std.proofs.Common.{◌≡◌, ◌<◌, ◌≤◌, ◌+◌, ◌*◌, ℕ, suc, Bool, true, None, Some, List, [], length, map, get_or, inl, inr, refl, ap, ap₂, subst, ◌∙◌, arith}
-use Rattle.std.specs.Prelude.{◌/◌, ◌%◌, if◌then◌else◌, drop}
+use Rattle.std.proofs.Common.{◌≡◌, ◌<◌, ◌≤◌, ◌+◌, ℕ, suc, Bool, true, None, Some, List, [], length, map, inl, inr, refl, ap, ap₂, ◌∙◌, arith}
+use Rattle.std.specs.Prelude.{◌%◌, if◌then◌else◌, drop}
 use Rattle.std.specs.List.{range_with_len}
 use Rattle.std.proofs.lemmas.Bool.{cases_lt, le-leb, le-ltb, lt-ltb, ne_eqb}
 use Rattle.std.proofs.lemmas.List.{get_or-map, length-map}
