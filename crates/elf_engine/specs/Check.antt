@@ -1,13 +1,11 @@
 -- What `check` says of a file.
-use Rattle.std.specs.Prelude.{◌≡◌, ℕ, List, length, None, Option, Some, Result, Err}
-use Rattle.std.specs.Io.KnownBytes.{Keeps}
+use Rattle.std.specs.Prelude.{◌≡◌, ℕ, List, length, None, Option, Some, Result}
 use Rattle.elf_rules.specs.ImageRules.{IsFault}
 use Rattle.elf_rules.specs.Tables.{header, sections, section_count, segment_count}
-use Rattle.elf_engine.specs.Engine.{IsAnswered}
+use Rattle.elf_engine.specs.Engine.{IsAnsweredWithMemory}
 use Rattle.elf_engine.specs.Line.{ok_line, refused_line}
 use Rattle.elf_engine.specs.declared.fault.Refusal.TheVariants.{File, Link, TooLong}
 use Rattle.elf_engine.specs.declared.fault.ToolFault.{ToolFault}
-use Rattle.elf_engine.specs.declared.fault.ToolFault.TheVariants.{OutOfMemory}
 use Rattle.elf_engine.specs.declared.fault.Verdict.{Verdict}
 use Rattle.elf_engine.specs.declared.fault.Verdict.TheVariants.{Done, Refused}
 
@@ -32,7 +30,6 @@ abbrev pub verdict_of : Option (ℕ × ℕ) → Verdict
 verdict_of None = Done
 verdict_of (Some (rule, at)) = Refused (File 0 rule at)
 
--- a call of `check`: for want of memory nothing is written
-pub record IsChecked (input rest old new : Option (List ℕ)) (result : Result Verdict ToolFault) : Type 0 where
-  pub answered : IsAnswered CheckSays input rest old new result
-  pub memory : result ≡ Err OutOfMemory → Keeps old new
+-- a call of `check`
+abbrev pub IsChecked : Option (List ℕ) → Option (List ℕ) → Option (List ℕ) → Option (List ℕ) → Result Verdict ToolFault → Type 0
+IsChecked = IsAnsweredWithMemory CheckSays

@@ -53,3 +53,8 @@ pub record IsAnswered (report : Report) (input rest old new : Option (List ℕ))
   pub taken : Consumes input rest bytes
   pub limit : length bytes ≤ MAX_LEN + 1
   pub answered : IsGivenUp bytes old new result ⊎ (IsReadWhole rest bytes × IsReported (report bytes) old new result)
+
+-- a call of an engine that takes all its memory before it writes: for want of memory nothing is written
+pub record IsAnsweredWithMemory (report : Report) (input rest old new : Option (List ℕ)) (result : Result Verdict ToolFault) : Type 0 where
+  pub answered : IsAnswered report input rest old new result
+  pub memory : result ≡ Err OutOfMemory → Keeps old new

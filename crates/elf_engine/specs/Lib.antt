@@ -4,6 +4,7 @@ pub mod Engine
 pub mod Fault
 pub mod Line
 pub mod Output
+pub mod Rewrite
 pub mod Show
 pub mod ShowLines
 pub mod TableLines

@@ -4,5 +4,6 @@ pub(crate) mod check;
 mod input;
 mod lines;
 mod output;
+pub(crate) mod rewrite;
 pub(crate) mod show;
 mod show_tables;

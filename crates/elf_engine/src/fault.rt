@@ -37,6 +37,25 @@ pub enum Refusal {
     TooLong,
 }
 
+impl fmt::Display for Refusal {
+    ghost use Rattle.elf_engine.specs.Fault.{refusal_text};
+
+    ghost output = { λ refusal. Some (refusal_text refusal) };
+
+    fn fmt<W: fmt::Write>(&self, f: &mut fmt::Formatter<W>) -> fmt::Result {
+        match self {
+            Refusal::File { rule, at, .. } => write!(f, "refused {rule} {at}"),
+            Refusal::Link {
+                rule,
+                file,
+                index,
+                entry,
+            } => write!(f, "refused {rule} {file} {index} {entry}"),
+            Refusal::TooLong => write!(f, "too long"),
+        }
+    }
+}
+
 /// What can stop an engine.
 #[derive(Clone, Copy, Debug, PartialEq, Eq)]
 pub enum ToolFault {

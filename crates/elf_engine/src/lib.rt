@@ -16,5 +16,6 @@ mod show_lines;
 mod table_lines;
 
 pub use engine::check::check;
+pub use engine::rewrite::rewrite;
 pub use engine::show::show;
 pub use fault::{Refusal, ToolFault, Verdict};

@@ -22,6 +22,7 @@ use Rattle.elf_object.proofs.ObjectKept.{object_kept}
 use Rattle.elf_object.proofs.OneObject.{one_object}
 use Rattle.elf_object.proofs.WrittenAccepted.{written_file}
 use Rattle.elf_object.proofs.WrittenDenotes.{written_denotes}
+use Rattle.elf_object.proofs.WrittenRules.{written_keeps_rules}
 
 sections_same : {h k : Ehdr} {ss ts : List Shdr} {cs ds : List (List ℕ)} → h ≡ k → ss ≡ ts → cs ≡ ds →
     let f : Sections = record { header = h; headers = ss; contents = cs } in
@@ -66,6 +67,10 @@ written_read o b written v stands =
 pub written_denotes_object : (o : ObjectValue) (b : List ℕ) → IsWrittenAs o b → (v : ImageValue) → Stands v b → Denotes (sections_of v) o
 written_denotes_object o b written v stands =
     subst (λ (f : Sections). Denotes f o) (sym (written_read o b written v stands)) (written_denotes o written.laid.places (by_places o b written))
+
+pub written_keeps_object_rules : (o : ObjectValue) (b : List ℕ) → IsWrittenAs o b → (v : ImageValue) → Stands v b → FirstIn (file_rules (sections_of v)) None
+written_keeps_object_rules o b written v stands =
+    subst (λ (f : Sections). FirstIn (file_rules f) None) (sym (written_read o b written v stands)) (written_keeps_rules o written.laid.places (by_places o b written))
 
 -- two objects that are written as the same bytes are one
 pub one_written : (o p : ObjectValue) (b : List ℕ) → IsWrittenAs o b → IsWrittenAs p b → o ≡ p

@@ -12,13 +12,14 @@ ghost use Rattle.elf_rules.specs.ImageRules.{IsFault};
 ghost use Rattle.elf_rules.specs.Rows.{FirstIn};
 ghost use Rattle.elf_table.specs.Sections.{sections_of};
 
-/// What an object is written as breaks no rule of images, and what stands as it has the sections of the object's canonical layout
-/// and denotes the object. No other object is written so.
+/// What an object is written as breaks no rule of images; what stands as it has the sections of the object's canonical layout,
+/// breaks no rule of objects, and denotes the object. No other object is written so.
 pub fn written_object()
     ensures bytes { (o : ObjectValue) (b : List ℕ) → IsWrittenAs o b → IsBytes b }
     ensures accepted { (o : ObjectValue) (b : List ℕ) → IsWrittenAs o b → IsFault b None }
     ensures read { (o : ObjectValue) (b : List ℕ) (written : IsWrittenAs o b) (v : ImageValue) → Stands v b →
         sections_of v ≡ written_sections o written.laid.places }
+    ensures kept { (o : ObjectValue) (b : List ℕ) → IsWrittenAs o b → (v : ImageValue) → Stands v b → FirstIn (file_rules (sections_of v)) None }
     ensures denotes { (o : ObjectValue) (b : List ℕ) → IsWrittenAs o b → (v : ImageValue) → Stands v b → Denotes (sections_of v) o }
     ensures one { (o p : ObjectValue) (b : List ℕ) → IsWrittenAs o b → IsWrittenAs p b → o ≡ p }
 {}

@@ -1,4 +1,4 @@
-//! Files for tests, given by their fields, in either byte order.
+//! Files for tests, given by their fields, in either byte order; and readers and writers that fail.
 //!
 //! ```
 //! let mut file = [0; 64];
@@ -6,6 +6,14 @@
 //! assert_eq!(&file[..6], b"\x7fELF\x02\x02");
 //! ```
 #![tactic(auto)]
+
+mod fakes;
+mod image_files;
+
+pub use fakes::{Failure, PIECE, Sink, Source};
+pub use image_files::{
+    empty_contents, empty_object, filled_gap, long_parts, one_section, one_segment, two_of_each,
+};
 
 use elf_field::Order;
 

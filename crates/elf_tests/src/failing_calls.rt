@@ -1,10 +1,8 @@
 //! Readers and writers of which one call alone fails or gives nothing: the answer is exact, and no
 //! call comes after it.
-ghost use Rattle.std.specs.Prelude.{◌≡◌, IfOk};
-
+use elf_test_files::{PIECE, Sink, Source};
 use elf_tool::{ToolFault, Verdict, check, show};
-use std::io;
-use std::io::{ErrorKind, Read, Write};
+use std::io::ErrorKind;
 
 /// A header alone, of 64 bytes, in little order: the row of the header that is accepted.
 const HEADER: [u8; 64] = [
@@ -16,114 +14,7 @@ const HEADER: [u8; 64] = [
 /// What `show` prints of it.
 const HEADER_TEXT: &[u8; 49] = b"file little 1 62 0x0 0x0\npart 0x0 0x40 header\n\0\0\0";
 
-/// How many bytes a call gives or takes.
-const PIECE: usize = 8;
-
-/// What the one call does: it fails so, or gives or takes nothing.
-type Failure = Option<ErrorKind>;
-
-/// Gives its bytes a piece a call, but at one call.
-#[derive(Drop)]
-struct Source<'a> {
-    bytes: &'a [u8],
-    fails_at: usize,
-    failure: Failure,
-    calls: usize,
-    empty_calls: usize,
-}
-
-impl<'a> Source<'a> {
-    fn new(bytes: &'a [u8], fails_at: usize, failure: Failure) -> Source<'a> {
-        Source {
-            bytes,
-            fails_at,
-            failure,
-            calls: 0,
-            empty_calls: 0,
-        }
-    }
-}
-
-impl Read for Source<'_> {
-    fn read(&mut self, buf: &mut [u8]) -> io::Result<usize> {
-        let call = self.calls;
-        self.calls = call.saturating_add(1);
-        if buf.is_empty() {
-            self.empty_calls = self.empty_calls.saturating_add(1);
-        }
-        if call == self.fails_at {
-            return answer(self.failure);
-        }
-        let count = self.bytes.len().min(buf.len()).min(PIECE);
-        self.bytes.read(&mut buf[..count])
-    }
-}
-
-fn answer(failure: Failure) -> io::Result<usize>
-    ensures { IfOk result (λ count. count ≡ 0) }
-{
-    match failure {
-        Some(kind) => Err(kind.into()),
-        None => Ok(0),
-    }
-}
-
-/// Takes a piece a call, but at one call.
-#[derive(Drop)]
-struct Sink {
-    bytes: [u8; 64],
-    len: usize,
-    fails_at: usize,
-    failure: Failure,
-    calls: usize,
-    empty_calls: usize,
-    flushes: usize,
-    longest: usize,
-}
-
-impl Sink {
-    fn new(fails_at: usize, failure: Failure) -> Sink {
-        Sink {
-            bytes: [0; 64],
-            len: 0,
-            fails_at,
-            failure,
-            calls: 0,
-            empty_calls: 0,
-            flushes: 0,
-            longest: 0,
-        }
-    }
-
-    fn text(&self) -> &[u8] {
-        &self.bytes[..self.len.min(64)]
-    }
-}
-
-impl Write for Sink {
-    fn write(&mut self, buf: &[u8]) -> io::Result<usize> {
-        let call = self.calls;
-        self.calls = call.saturating_add(1);
-        self.longest = self.longest.max(buf.len());
-        if buf.is_empty() {
-            self.empty_calls = self.empty_calls.saturating_add(1);
-        }
-        if call == self.fails_at {
-            return answer(self.failure);
-        }
-        let start = self.len.min(64);
-        let count = buf.len().min(PIECE).min(64 - start);
-        self.bytes[start..start + count].copy_from_slice(&buf[..count]);
-        self.len = start + count;
-        Ok(count)
-    }
-
-    fn flush(&mut self) -> io::Result<()> {
-        self.flushes = self.flushes.saturating_add(1);
-        Ok(())
-    }
-}
-
+/// How a call fails.
 const FAILURES: [ErrorKind; 3] = [
     ErrorKind::Interrupted,
     ErrorKind::WouldBlock,

@@ -1,6 +1,6 @@
 //! Images of the worked files: read, edited and written.
 use crate::image_faults::{Pieces, Shelf};
-use crate::image_files::{
+use elf_test_files::{
     empty_contents, empty_object, filled_gap, one_section, one_segment, two_of_each,
 };
 use elf_field::Order;

@@ -8,8 +8,6 @@ mod file_names;
 #[cfg(test)]
 mod image_faults;
 #[cfg(test)]
-mod image_files;
-#[cfg(test)]
 mod images;
 mod known_files;
 #[cfg(test)]

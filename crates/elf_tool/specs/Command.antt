@@ -15,6 +15,10 @@ check = record (new_shape (codes "check")) { rules = file ∷ [] }
 unfoldable pub show : Shape
 show = record (new_shape (codes "show")) { rules = file ∷ [] }
 
+-- `rewrite FILE`
+unfoldable pub rewrite : Shape
+rewrite = record (new_shape (codes "rewrite")) { rules = file ∷ [] }
+
 -- `elfmap COMMAND ..`; it has no subcommand `help`
 unfoldable pub elfmap : App
 elfmap = record {
@@ -23,7 +27,7 @@ elfmap = record {
     disable_help_subcommand = true;
     is_leaf = false;
   };
-  subs = check ∷ show ∷ [];
+  subs = check ∷ show ∷ rewrite ∷ [];
 }
 
 -- the name of one of the commands

@@ -3,6 +3,7 @@ use Rattle.std.specs.Prelude.{◌≡◌, ◌⊎◌, ℕ, Bool, List, Option, Som
 use Rattle.std.specs.Io.KnownBytes.{Keeps}
 use Rattle.clap.specs.Walk.{Text}
 use Rattle.elf_engine.specs.Check.{IsChecked}
+use Rattle.elf_engine.specs.Rewrite.{IsRewritten}
 use Rattle.elf_engine.specs.Show.{IsShown}
 use Rattle.elf_tool.specs.Opener.{IsOpenFault}
 use Rattle.elf_tool.specs.Words.{IsAskedBy, IsRefusedBy}
@@ -13,7 +14,7 @@ use Rattle.elf_tool.specs.declared.opener.OpenFault.{OpenFault}
 use Rattle.elf_tool.specs.declared.program.Status.{Status}
 use Rattle.elf_tool.specs.declared.program.Status.TheVariants.{Done, Refused, Usage, Failed}
 use Rattle.elf_tool.specs.declared.words.Request.{Request}
-use Rattle.elf_tool.specs.declared.words.Request.TheVariants.{Check, Show}
+use Rattle.elf_tool.specs.declared.words.Request.TheVariants.{Check, Show, Rewrite}
 use Rattle.elf_tool.specs.declared.words.WordsFault.{WordsFault}
 use Rattle.elf_tool.specs.declared.words.WordsFault.TheVariants.{Words, OutOfMemory}
 
@@ -46,6 +47,7 @@ EndsFile call known opens old new status =
 abbrev pub EndsRequest : (Text → Option (List ℕ)) → (Text → Bool) → Option (List ℕ) → Option (List ℕ) → Request → Status → Type 0
 EndsRequest holds opens old new (Check file) status = EndsFile IsChecked (holds file.now) (opens file.now) old new status
 EndsRequest holds opens old new (Show file) status = EndsFile IsShown (holds file.now) (opens file.now) old new status
+EndsRequest holds opens old new (Rewrite file) status = EndsFile IsRewritten (holds file.now) (opens file.now) old new status
 
 -- words that ask for nothing: nothing is out
 abbrev pub EndsWords : Option (List ℕ) → Option (List ℕ) → WordsFault → Status → Type 0

@@ -9,7 +9,7 @@ use Rattle.clap.specs.declared.error.Error.{Error}
 use Rattle.clap.specs.declared.error.kind.ErrorKind.TheVariants as kind
 use Rattle.elf_tool.specs.Command.{elfmap}
 use Rattle.elf_tool.specs.declared.words.Request.{Request}
-use Rattle.elf_tool.specs.declared.words.Request.TheVariants.{Check, Show}
+use Rattle.elf_tool.specs.declared.words.Request.TheVariants.{Check, Show, Rewrite}
 use Rattle.elf_tool.specs.declared.words.WordsFault.{WordsFault}
 use Rattle.elf_tool.specs.declared.words.WordsFault.TheVariants.{Words, OutOfMemory}
 
@@ -21,6 +21,7 @@ text_of id rows = unwrap_or (first_of id rows) []
 abbrev pub Asks : Text → List Row → Request → Type 0
 Asks name rows (Check file) = (name ≡ codes "check") × (file.now ≡ text_of (codes "FILE") rows)
 Asks name rows (Show file) = (name ≡ codes "show") × (file.now ≡ text_of (codes "FILE") rows)
+Asks name rows (Rewrite file) = (name ≡ codes "rewrite") × (file.now ≡ text_of (codes "FILE") rows)
 
 -- clap's definition takes the words, and gives a command and matches of which this holds
 pub record Gives (words : List Text) (P : Text → List Row → Type 0) : Type 0 where

@@ -3,7 +3,7 @@
 ghost use Rattle.std.specs.Prelude.{◌≡◌, false, IfOk};
 ghost use Rattle.clap.specs.Words.{app_of, shape_of};
 ghost use Rattle.clap.specs.declared.builder.command.Command.TheViews.{out-Command as fields_of};
-ghost use Rattle.elf_tool.specs.Command.{check, elfmap as elfmap_app, show};
+ghost use Rattle.elf_tool.specs.Command.{check, elfmap as elfmap_app, rewrite, show};
 
 use clap::{Arg, Command};
 use std::alloc::{AllocError, Global};
@@ -13,11 +13,12 @@ pub(crate) fn elfmap<'a>(alloc: Global) -> Result<Command<'a>, AllocError>
     ensures { IfOk result (λ command. app_of command ≡ elfmap_app) }
 {
     Command::new(alloc, "elfmap")
-        .about("Checks and shows ELF-64 object files")
+        .about("Checks, shows and rewrites ELF-64 object files")
         .subcommand_required(true)
         .disable_help_subcommand(true)
         .subcommand(check_command(alloc)?)?
-        .subcommand(show_command(alloc)?)
+        .subcommand(show_command(alloc)?)?
+        .subcommand(rewrite_command(alloc)?)
 }
 
 fn check_command<'a>(alloc: Global) -> Result<Command<'a>, AllocError>
@@ -41,5 +42,17 @@ fn show_command<'a>(alloc: Global) -> Result<Command<'a>, AllocError>
         .required(true);
     Command::new(alloc, "show")
         .about("Shows the header, the parts, the sections, the segments and the tables of FILE")
+        .arg(file)
+}
+
+fn rewrite_command<'a>(alloc: Global) -> Result<Command<'a>, AllocError>
+    ensures shape { IfOk result (λ command. shape_of command ≡ rewrite) }
+    ensures local { IfOk result (λ command. (fields_of command).has_globals ≡ false) }
+{
+    let file = Arg::new(alloc, "FILE")
+        .help("The relocatable file to rewrite")
+        .required(true);
+    Command::new(alloc, "rewrite")
+        .about("Writes the object of FILE in canonical layout on standard output")
         .arg(file)
 }

@@ -14,7 +14,7 @@ mod opener;
 mod program;
 mod words;
 
-pub use elf_engine::{Refusal, ToolFault, Verdict, check, show};
+pub use elf_engine::{Refusal, ToolFault, Verdict, check, rewrite, show};
 pub use machine::run_on_machine;
 pub use opener::{MachineFiles, OpenFault, Opener};
 pub use program::{Status, refuse_words, run};

@@ -3,13 +3,14 @@ ghost use Rattle.std.specs.Prelude.{◌≡◌, ◌≢◌, map};
 ghost use Rattle.std.specs.IoError.{error_kind};
 ghost use Rattle.std.specs.declared.io.ErrorKind.TheVariants.{InvalidData};
 ghost use Rattle.elf_engine.specs.Check.{IsChecked};
+ghost use Rattle.elf_engine.specs.Rewrite.{IsRewritten};
 ghost use Rattle.elf_engine.specs.Show.{IsShown};
 ghost use Rattle.elf_tool.specs.Program.{EndsFile, EndsRun, code_of, ending_of};
 ghost use Rattle.elf_tool.specs.declared.program.Status.{Status as Ending};
 
 use crate::opener::{OpenFault, Opener};
 use crate::words::{Request, WordsFault, read_words};
-use elf_engine::{ToolFault, Verdict, check, show};
+use elf_engine::{ToolFault, Verdict, check, rewrite, show};
 use std::alloc::Global;
 use std::convert::AsStr;
 use std::fmt::Display;
@@ -60,6 +61,7 @@ fn ending<S: AsStr, O: Opener, W: Write, E: Write>(
     match read_words(alloc, words) {
         Ok(Request::Check { file }) => check_file(alloc, file, files, out, err),
         Ok(Request::Show { file }) => show_file(alloc, file, files, out, err),
+        Ok(Request::Rewrite { file }) => rewrite_file(alloc, file, files, out, err),
         Err(WordsFault::Words(error)) => {
             // This text ends with a line feed of its own.
             let _ = write!(err, "{error}");
@@ -119,6 +121,22 @@ fn show_file<O: Opener, W: Write, E: Write>(
     }
 }
 
+fn rewrite_file<O: Opener, W: Write, E: Write>(
+    alloc: Global,
+    file: &str,
+    files: &mut O,
+    out: &mut W,
+    err: &mut E,
+) -> Status
+    ensures { EndsFile IsRewritten (O.holds files.old file.now) (O.opens files.old file.now)
+        (W.contents out.old) (W.contents out.new) result }
+{
+    match files.reader(file) {
+        Ok(mut input) => told_status(rewrite(alloc, &mut input, out), err),
+        Err(fault) => unopened(fault, file, err),
+    }
+}
+
 // How the program ends where the file of this name gave no reader.
 fn unopened<E: Write>(fault: OpenFault, file: &str, err: &mut E) -> Status
     ensures { result ≡ Status.Failed }
@@ -140,6 +158,16 @@ fn status_of<E: Write>(answer: Result<Verdict, ToolFault>, err: &mut E) -> Statu
         Ok(Verdict::Refused(_)) => Status::Refused,
         Err(fault) => fail(&fault, err),
     }
+}
+
+// The same of an engine that writes no line on what it refuses: the line goes to standard error.
+fn told_status<E: Write>(answer: Result<Verdict, ToolFault>, err: &mut E) -> Status
+    ensures { result ≡ ending_of answer }
+{
+    if let Ok(Verdict::Refused(refusal)) = &answer {
+        let _ = writeln!(err, "{refusal}");
+    }
+    status_of(answer, err)
 }
 
 fn fail<F: Display, E: Write>(fault: &F, err: &mut E) -> Status

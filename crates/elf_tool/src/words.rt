@@ -17,6 +17,8 @@ pub enum Request<'a> {
     Check { file: &'a str },
     /// Show what is in the file of this name.
     Show { file: &'a str },
+    /// Write the object of the file of this name in canonical layout.
+    Rewrite { file: &'a str },
 }
 
 /// Why the words ask for nothing that the program does.
@@ -89,6 +91,9 @@ fn request_of<'a>(name: &str, matches: &ArgMatches<'a>) -> Request<'a>
             file: file_in(matches),
         },
         "show" => Request::Show {
+            file: file_in(matches),
+        },
+        "rewrite" => Request::Rewrite {
             file: file_in(matches),
         },
         _ => unreachable!(),

@@ -6,18 +6,18 @@ use Rattle.clap.specs.Simple.{App, app_of, is_simple, subcommand_of}
 use Rattle.clap.specs.Values.{kind_of}
 use Rattle.clap.specs.Walk.{Text}
 use Rattle.clap.specs.declared.error.Error.{Error}
-use Rattle.elf_tool.specs.Command.{check, elfmap, show}
+use Rattle.elf_tool.specs.Command.{check, elfmap, rewrite, show}
 use Rattle.elf_tool.specs.Words.{IsRefusedBy, Tells}
 use Rattle.elf_tool.specs.declared.words.WordsFault.{WordsFault}
 use Rattle.elf_tool.specs.declared.words.WordsFault.TheVariants.{Words, OutOfMemory}
 use Rattle.elf_tool.proofs.words.matches_of.Goals as goal
 
 simple_and_free : is_simple_and_free elfmap ≡ true
-unfolding check show elfmap
+unfolding check show rewrite elfmap
 simple_and_free = refl
 
 simple : is_simple elfmap ≡ true
-unfolding check show elfmap
+unfolding check show rewrite elfmap
 simple = refl
 
 pub returns-clause-taken : goal.returns-clause-taken

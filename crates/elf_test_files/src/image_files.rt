@@ -1,6 +1,6 @@
 //! Worked files of images, in either byte order.
+use crate::{Field, set_header};
 use elf_field::Order;
-use elf_test_files::{Field, set_header};
 
 /// The header's places and the section headers of an object without sections of its own.
 const EMPTY_OBJECT: [Field; 22] = [
