@@ -250,13 +250,14 @@ fn refuses_other_words(rt: HostRuntime) {
 }
 
 /// What `--help` prints, on standard error.
-const HELP: &str = "Checks and shows ELF-64 object files
+const HELP: &str = "Checks, shows and rewrites ELF-64 object files
 
 Usage: elfmap <COMMAND>
 
 Commands:
-  check  Tells whether FILE is an ELF-64 file, or the first rule that it breaks and where
-  show   Shows the header, the parts, the sections, the segments and the tables of FILE
+  check    Tells whether FILE is an ELF-64 file, or the first rule that it breaks and where
+  show     Shows the header, the parts, the sections, the segments and the tables of FILE
+  rewrite  Writes the object of FILE in canonical layout on standard output
 
 Options:
   -h, --help  Print help
