@@ -141,10 +141,10 @@ module _ (o : ObjectValue) (places : List ℕ) (written : IsWritten o places) (p
       (λ x ((some, other), here). flags_right comdat _ flags_are some other),
       (
         (λ x (wrong, here). (
-          let info = group_signature in
-          let counted = symbols_counted in
-          let lt = signature_below o comdat signature members references_right in
-          elim wrong [ inl none ↦ absurd (omega arith) | inr past ↦ absurd (omega arith) ])),
+            let info = group_signature in
+            let counted = symbols_counted in
+            let lt = signature_below o comdat signature members references_right in
+            elim wrong [ inl none ↦ absurd (omega arith) | inr past ↦ absurd (omega arith) ])),
         tt,
       ),
     ),
