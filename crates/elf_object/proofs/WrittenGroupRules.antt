@@ -51,7 +51,7 @@ module _ (o : ObjectValue) (places : List ℕ) (written : IsWritten o places) (p
   at : IsSectionAt (written_sections o places) (suc p) (own_section o (section_at o p))
   at = own_at o places written p below
 
-  pub group_type : (section (written_sections o places) (suc p)).sh_type ≡ SHT_GROUP
+  group_type : (section (written_sections o places) (suc p)).sh_type ≡ SHT_GROUP
   group_type = at.sh_type ∙ ap body_type is
 
   group_link : (section (written_sections o places) (suc p)).sh_link ≡ symbol_table_at o

@@ -92,7 +92,7 @@ module _ (o : ObjectValue) (places : List ℕ) (written : IsWritten o places) (p
   type_is : (section (written_sections o places) (suc p)).sh_type ≡ relocation_type rela
   type_is = at.sh_type ∙ ap body_type is
 
-  pub relocation_link : (section (written_sections o places) (suc p)).sh_link ≡ symbol_table_at o
+  relocation_link : (section (written_sections o places) (suc p)).sh_link ≡ symbol_table_at o
   relocation_link = at.sh_link ∙ ap (body_link o (section_at o p)) is
 
   pub relocation_target : (section (written_sections o places) (suc p)).sh_info ≡ target + 1
