@@ -10,8 +10,9 @@ use Rattle.elf_object.specs.Object.{ObjectValue, section_at}
 use Rattle.elf_object.specs.PlainSections.{PlainSection, has_index_table, index_table, own_section, section_names, strings, strings_at, symbol_names, symbol_table, symbol_table_at}
 use Rattle.elf_object.specs.WrittenObject.{IsWritten, written_sections}
 use Rattle.elf_object.proofs.AllParts.{last_sections}
-use Rattle.elf_object.proofs.WrittenKept.{count_of_written, written_last, written_own}
-use Rattle.elf_object.proofs.WrittenSections.{last_count, length-plain, no_plain, plain_last, plain_own, written_content}
+use Rattle.elf_object.proofs.WrittenKept.{count_of_written, last_some, written_last, written_own}
+use Rattle.elf_object.proofs.WrittenParts.{own_content}
+use Rattle.elf_object.proofs.WrittenSections.{last_count, length-plain, no_plain, plain_last, written_content}
 
 -- section i of the file is this one
 pub record IsSectionAt (f : Sections) (i : ℕ) (s : PlainSection) : Type 0 where
@@ -39,18 +40,14 @@ at_header f i s name_at place there header bytes = record {
 
 -- ---- the object's own sections
 
-some_last : (far : Bool) → 2 < last_count far
-some_last true = omega arith
-some_last false = omega arith
-
 pub own_at : (o : ObjectValue) (places : List ℕ) → IsWritten o places → (p : ℕ) → p < length o.sections →
     IsSectionAt (written_sections o places) (suc p) (own_section o (section_at o p))
 own_at o places written p lt =
     let all = count_of_written o places written (has_index_table o) refl in
     let many = length-plain o (has_index_table o) refl in
-    let more = some_last (has_index_table o) in
+    let more = last_some (has_index_table o) in
     at_header (written_sections o places) (suc p) (own_section o (section_at o p)) (name_place (section_names o)) (get_or places p 0) (omega arith)
-    (written_own o places written p lt) (written_content o places p (omega arith) ∙ ap (λ (s : PlainSection). s.content) (plain_own o p lt))
+    (written_own o places written p lt) (own_content o places p lt)
 
 -- ---- those behind them
 
@@ -78,7 +75,7 @@ first_of_last o false = refl
 
 pub symbols_at : (o : ObjectValue) (places : List ℕ) → IsWritten o places → IsSectionAt (written_sections o places) (symbol_table_at o) (symbol_table o)
 symbols_at o places written =
-    let more = some_last (has_index_table o) in
+    let more = last_some (has_index_table o) in
     last_here o places (symbol_table o) (symbol_table_at o) written (has_index_table o) refl 0 (omega arith) (first_of_last o (has_index_table o)) (omega arith)
 
 abbrev strings_place : Bool → ℕ

@@ -51,7 +51,7 @@ module _ (o : ObjectValue) (places : List ℕ) (written : IsWritten o places) (p
   at : IsSectionAt (written_sections o places) (suc p) (own_section o (section_at o p))
   at = own_at o places written p below
 
-  pub group_type : (section (written_sections o places) (suc p)).sh_type ≡ SHT_GROUP
+  group_type : (section (written_sections o places) (suc p)).sh_type ≡ SHT_GROUP
   group_type = at.sh_type ∙ ap body_type is
 
   group_link : (section (written_sections o places) (suc p)).sh_link ≡ symbol_table_at o
@@ -141,10 +141,10 @@ module _ (o : ObjectValue) (places : List ℕ) (written : IsWritten o places) (p
       (λ x ((some, other), here). flags_right comdat _ flags_are some other),
       (
         (λ x (wrong, here). (
-          let info = group_signature in
-          let counted = symbols_counted in
-          let lt = signature_below o comdat signature members references_right in
-          elim wrong [ inl none ↦ absurd (omega arith) | inr past ↦ absurd (omega arith) ])),
+            let info = group_signature in
+            let counted = symbols_counted in
+            let lt = signature_below o comdat signature members references_right in
+            elim wrong [ inl none ↦ absurd (omega arith) | inr past ↦ absurd (omega arith) ])),
         tt,
       ),
     ),

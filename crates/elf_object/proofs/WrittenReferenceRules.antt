@@ -1,21 +1,18 @@
 -- The references of the file that an object is written as break none of rules 75 to 79.
-use Rattle.std.proofs.Common.{◌≡◌, ◌≢◌, ◌<◌, ◌≤◌, ◌+◌, ◌⊎◌, ℕ, zero, suc, Bool, true, false, Option, None, Some, List, length, get_or, inl, inr, refl, sym, ap, ap₂, subst, ◌∙◌, arith}
-use Rattle.std.specs.Prelude.{bit_and}
+use Rattle.std.proofs.Common.{◌≡◌, ◌≢◌, ◌<◌, ◌≤◌, ◌+◌, ◌⊎◌, ℕ, zero, suc, Bool, true, false, Option, None, Some, List, length, get_or, inl, inr, refl, sym, ap, subst, ◌∙◌, arith}
 use Rattle.std.proofs.lemmas.Bool.{cases_Bool, cases_lt, le-leb, le-ltb, lt-ltb, ne_eqb, true≢false}
 use Rattle.elf_extent.specs.Least.{Never}
-use Rattle.elf_field.specs.Abi.{SHF_INFO_LINK, SHN_ABS, SHN_COMMON, SHN_LORESERVE, SHN_UNDEF, SHN_XINDEX, SHT_GROUP, SHT_NULL}
+use Rattle.elf_field.specs.Abi.{SHF_INFO_LINK, SHN_ABS, SHN_COMMON, SHN_LORESERVE, SHN_UNDEF, SHN_XINDEX, SHT_GROUP}
 use Rattle.elf_field.specs.declared.shdr.Shdr.{Shdr}
-use Rattle.elf_field.specs.declared.sym.Sym.{Sym}
 use Rattle.elf_image.specs.RelocatableFile.{long_number, short_index}
 use Rattle.elf_rules.specs.Rows.{FirstIn}
 use Rattle.elf_table.specs.declared.symbol.Place.TheVariants as table_place
 use Rattle.elf_table.specs.Groups.{member, member_count}
 use Rattle.elf_table.specs.Sections.{Sections, content, count, order, section}
 use Rattle.elf_table.specs.SymbolParts.{symbol_parts}
-use Rattle.elf_table.specs.SymbolRules.{entry, entry_count, word}
+use Rattle.elf_table.specs.SymbolRules.{entry_count, word}
 use Rattle.elf_table.specs.Symbols as table_symbols
 use Rattle.elf_table.specs.Symbols.{place_of, symbol_in, symbols_of}
-use Rattle.elf_table.specs.SymbolView.{no_symbol}
 use Rattle.elf_table.proofs.SymbolLists.{length_symbols, symbol_get}
 use Rattle.elf_object.specs.declared.body_kind.BodyKind.{BodyKind}
 use Rattle.elf_object.specs.declared.body_kind.BodyKind.TheVariants.{Bits, NoBits, Relocs, Group}
@@ -25,10 +22,10 @@ use Rattle.elf_object.specs.declared.section.Info.{Info}
 use Rattle.elf_object.specs.declared.section.Info.TheVariants.{Number, Section}
 use Rattle.elf_object.specs.declared.symbol.Place.{Place}
 use Rattle.elf_object.specs.declared.symbol.Place.TheVariants.{Undef, Abs, Common, In}
-use Rattle.elf_object.specs.FileRules.{HasWrongInfo, HasWrongLink, HasWrongTarget, IsKeptBits, IsOutside, IsPlain, IsWrongMember, reference_rules, symbol_outside, wrong_group_member, wrong_kept_info, wrong_kept_link, wrong_relocation_target}
+use Rattle.elf_object.specs.FileRules.{HasWrongInfo, HasWrongLink, IsKeptBits, IsOutside, IsPlain, IsWrongMember, reference_rules, symbol_outside, wrong_group_member, wrong_kept_info, wrong_kept_link, wrong_relocation_target}
 use Rattle.elf_object.specs.GroupRule.{NamesMember}
 use Rattle.elf_object.specs.Kept.{body_kind, is_kept, left_out}
-use Rattle.elf_object.specs.Object.{BodyValue, bits, no_bits, relocs, group, ObjectValue, SectionValue, section_at, symbol_at}
+use Rattle.elf_object.specs.Object.{BodyValue, bits, no_bits, relocs, group, ObjectValue, section_at, symbol_at}
 use Rattle.elf_object.specs.PlainSections.{body_info, body_link, body_type, has_index_table, index_of, index_word, is_far, own_info, shndx, symbol_table_at}
 use Rattle.elf_object.specs.Positions.{HasFlag, IsPast, info_position, is_bits, is_group, members_of}
 use Rattle.elf_object.specs.SectionRules.{HasWrongField, IsAgainstFlag, HasWrongReference, IsWrongBits}
@@ -37,9 +34,9 @@ use Rattle.elf_object.specs.WrittenObject.{IsWritten, written_sections}
 use Rattle.elf_object.proofs.AllParts.{last_sections}
 use Rattle.elf_object.proofs.SoundObject.{no_wrong_bits, no_wrong_field, no_wrong_place, no_wrong_position}
 use Rattle.elf_object.proofs.WrittenBodies.{kind_back}
-use Rattle.elf_object.proofs.WrittenFile.{by_section, last_at, own_at, symbols_at}
-use Rattle.elf_object.proofs.WrittenGroupRules.{group_count, group_member, group_member_below, group_type, members_right}
-use Rattle.elf_object.proofs.WrittenKept.{first_not_kept, own_is_kept, own_of_kept}
+use Rattle.elf_object.proofs.WrittenFile.{by_section, last_at, own_at}
+use Rattle.elf_object.proofs.WrittenGroupRules.{group_count, group_member, group_member_below, members_right}
+use Rattle.elf_object.proofs.WrittenKept.{own_is_kept, own_of_kept}
 use Rattle.elf_object.proofs.WrittenReferences.{kind_of}
 use Rattle.elf_object.proofs.WrittenRelocationRules.{relocation_target}
 use Rattle.elf_object.proofs.WrittenSections.{last_count, no_plain, written_first}
@@ -94,7 +91,6 @@ symbols_inside o places written x (j, lt, outside, here) =
     j within (subst (λ (s : table_symbols.SymbolValue). IsOutside (left_out f) f s.place) got outside)
 
 -- ---- bodies by their kinds
-
 
 pub own_kind : (o : ObjectValue) (places : List ℕ) → IsWritten o places → (p : ℕ) → p < length o.sections →
     body_kind (section (written_sections o places) (suc p)).sh_type ≡ kind_of (section_at o p).body
@@ -199,13 +195,13 @@ module _ (o : ObjectValue) (places : List ℕ) (written : IsWritten o places) wh
       let own = (own_at o places written p below).there in
       let (r, there, at, flag, name, others, has) = group_at h (omega arith) typed in
       let moved : (k < member_count (content f (suc r))) × (member (order f) (content f (suc r)) k ≡ suc q) =
-          subst (λ (i : ℕ). (k < member_count (content f i)) × (member (order f) (content f i) k ≡ suc q)) at (within, named) in
+      subst (λ (i : ℕ). (k < member_count (content f i)) × (member (order f) (content f i) k ≡ suc q)) at (within, named) in
       let many = group_count o places written r there flag name others has in
       let inside : k < length others = (let lt_k = moved.0 in omega arith) in
       let member_is = group_member o places written r there flag name others has k inside in
       let same : get_or others k 0 ≡ q = (let both = moved.1 in omega arith) in
       let earlier : NamesMember (members_of (section_at o r).body) (length (members_of (section_at o r).body)) q =
-          subst (λ (b : BodyValue). NamesMember (members_of b) (length (members_of b)) q) (sym has) (k, inside, same) in
+      subst (λ (b : BodyValue). NamesMember (members_of b) (length (members_of b)) q) (sym has) (k, inside, same) in
       members_right o places written p below comdat signature members is j lt (inr (inl (inr (r, omega arith, earlier))))
 
   groups_kept : Never (wrong_group_member (left_out (written_sections o places)) (written_sections o places))
@@ -213,7 +209,7 @@ module _ (o : ObjectValue) (places : List ℕ) (written : IsWritten o places) wh
       let f = written_sections o places in
       let (p, below, at, comdat, signature, members, is) = group_at i lt typed in
       let moved : (j < member_count (content f (suc p))) × IsWrongMember (left_out f) f (suc p) (member (order f) (content f (suc p)) j) =
-          subst (λ (k : ℕ). (j < member_count (content f k)) × IsWrongMember (left_out f) f k (member (order f) (content f k) j)) at (within, wrong) in
+      subst (λ (k : ℕ). (j < member_count (content f k)) × IsWrongMember (left_out f) f k (member (order f) (content f k) j)) at (within, wrong) in
       let many = group_count o places written p below comdat signature members is in
       let inside : j < length members = (let lt_j = moved.0 in omega arith) in
       member_kept p below comdat signature members is j inside

@@ -92,7 +92,7 @@ module _ (o : ObjectValue) (places : List ℕ) (written : IsWritten o places) (p
   type_is : (section (written_sections o places) (suc p)).sh_type ≡ relocation_type rela
   type_is = at.sh_type ∙ ap body_type is
 
-  pub relocation_link : (section (written_sections o places) (suc p)).sh_link ≡ symbol_table_at o
+  relocation_link : (section (written_sections o places) (suc p)).sh_link ≡ symbol_table_at o
   relocation_link = at.sh_link ∙ ap (body_link o (section_at o p)) is
 
   pub relocation_target : (section (written_sections o places) (suc p)).sh_info ≡ target + 1
@@ -154,22 +154,22 @@ module _ (o : ObjectValue) (places : List ℕ) (written : IsWritten o places) (p
   unfolding relocation_rules
   targets_and_symbols = (
     (λ x (past, here). (
-      let there = (symbols_at o places written).there in
-      let info = relocation_target in
-      let lt = target_below o rela target entries references_right in
-      omega arith)),
+        let there = (symbols_at o places written).there in
+        let info = relocation_target in
+        let lt = target_below o rela target entries references_right in
+        omega arith)),
     (
       (λ x (j, lt, past, here). (
-        let f = written_sections o places in
-        let addends = addends_of_type rela _ type_is in
-        let counted = symbols_counted in
-        let many =
-            ap (λ (a : Bool). relocation_count a (content f (suc p))) addends ∙ ap (λ (bytes : List ℕ). relocation_count rela bytes) bytes_are in
-        let named =
-            ap (λ (a : Bool). (relocation_in a (order f) (content f (suc p)) j).symbol) addends
-            ∙ ap₂ (λ (b : Order) (bytes : List ℕ). (relocation_in rela b bytes j).symbol) (written_order o places) bytes_are in
-        let there = symbol_there (length o.symbols) rela o.order entries are j (omega arith) in
-        omega arith)),
+          let f = written_sections o places in
+          let addends = addends_of_type rela _ type_is in
+          let counted = symbols_counted in
+          let many =
+          ap (λ (a : Bool). relocation_count a (content f (suc p))) addends ∙ ap (λ (bytes : List ℕ). relocation_count rela bytes) bytes_are in
+          let named =
+          ap (λ (a : Bool). (relocation_in a (order f) (content f (suc p)) j).symbol) addends
+          ∙ ap₂ (λ (b : Order) (bytes : List ℕ). (relocation_in rela b bytes j).symbol) (written_order o places) bytes_are in
+          let there = symbol_there (length o.symbols) rela o.order entries are j (omega arith) in
+          omega arith)),
       tt,
     ),
   )

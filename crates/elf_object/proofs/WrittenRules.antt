@@ -1,5 +1,5 @@
 -- The file that an object is written as breaks none of its rules: neither its tables' own, nor 70 to 79.
-use Rattle.std.proofs.Common.{◌≡◌, ◌≢◌, ◌<◌, ◌≤◌, ◌+◌, ℕ, zero, suc, None, Some, List, length, inl, inr, refl, sym, ap, subst, ◌∙◌, arith}
+use Rattle.std.proofs.Common.{◌≡◌, ◌<◌, ◌≤◌, ◌+◌, ℕ, zero, suc, None, Some, List, length, inl, inr, refl, sym, ap, subst, ◌∙◌, arith}
 use Rattle.std.specs.List.{range_with_len}
 use Rattle.elf_extent.specs.Least.{Never}
 use Rattle.elf_rules.specs.Rows.{FirstIn}
@@ -91,7 +91,7 @@ module _ (o : ObjectValue) (places : List ℕ) (written : IsWritten o places) wh
       let f = written_sections o places in
       let left = left_out f in
       let symbols =
-          symbols_kept left f (symbol_table f) (symbol_table_at o) (written_symbol_table o places written) (symbol_rules_kept o places written) (symbols_inside o places written) in
+      symbols_kept left f (symbol_table f) (symbol_table_at o) (written_symbol_table o places written) (symbol_rules_kept o places written) (symbols_inside o places written) in
       FirstIn-later (symbol_rules_in left f (symbol_table f)) _ None symbols
       (FirstIn-later (rules_of_bodies f (kept left f)) (reference_rules left f) None bodies_kept (references_kept o places written))
 

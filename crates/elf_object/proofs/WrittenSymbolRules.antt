@@ -1,23 +1,20 @@
 -- The symbol table of the file that an object is written as breaks none of its rules, 40 to 52.
-use Rattle.std.proofs.Common.{◌≡◌, ◌<◌, ◌+◌, ℕ, zero, suc, Bool, true, false, Option, None, Some, List, length, get_or, inl, inr, refl, sym, ap, subst, ◌∙◌, arith}
+use Rattle.std.proofs.Common.{◌≡◌, ◌+◌, ℕ, Bool, true, false, Option, None, Some, List, inl, inr, refl, sym, ap, subst, ◌∙◌, arith}
 use Rattle.std.specs.Prelude.{◌%◌, if◌then◌else◌}
 use Rattle.std.proofs.lemmas.Bool.{true≢false}
 use Rattle.elf_extent.specs.Least.{Never}
-use Rattle.elf_field.specs.Abi.{SHT_STRTAB, SHT_SYMTAB, SHT_SYMTAB_SHNDX}
-use Rattle.elf_field.specs.declared.shdr.Shdr.{Shdr}
 use Rattle.elf_rules.specs.Rows.{FirstIn, OfSome}
 use Rattle.elf_rules.proofs.Public.{FirstIn-later}
 use Rattle.elf_table.specs.declared.table_kind.TableKind.TheVariants.{SymbolTable}
 use Rattle.elf_table.specs.IndexTable.{index_table as index_table_in, index_words}
 use Rattle.elf_table.specs.OwnRules.{own_rules}
-use Rattle.elf_table.specs.Sections.{content, count, section}
+use Rattle.elf_table.specs.Sections.{content, section}
 use Rattle.elf_table.specs.StringRules.{linked_string_rules}
 use Rattle.elf_table.specs.SymbolParts.{symbol_parts}
 use Rattle.elf_table.specs.SymbolRules.{entry_count, entry_rules, index_table_rules, rest_rules, second_index_table, symbol_table_rules, wrong_index_table_size}
 use Rattle.elf_object.specs.Object.{ObjectValue}
 use Rattle.elf_object.specs.PlainSections.{has_index_table, index_table, symbol_table_at}
 use Rattle.elf_object.specs.WrittenObject.{IsWritten, written_sections}
-use Rattle.elf_object.proofs.AllParts.{last_sections}
 use Rattle.elf_object.proofs.WrittenEntries.{length-index_table, length-symbol_table, symbol_entry_count}
 use Rattle.elf_object.proofs.WrittenFile.{IsSectionAt, indexes_at, symbol_strings_at, symbols_at}
 use Rattle.elf_object.proofs.WrittenKept.{written_index_table}
@@ -74,8 +71,7 @@ module _ (o : ObjectValue) (places : List ℕ) (written : IsWritten o places) wh
   own_kept =
       let f = written_sections o places in
       let table = symbols_at o places written in
-      let names = symbol_strings_at o places written in
-      (
+      let names = symbol_strings_at o places written in (
         (λ x (wrong, here). wrong (inl table.sh_type)),
         (
           (λ x (wrong, here). wrong table.sh_entsize),

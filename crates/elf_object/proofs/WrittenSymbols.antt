@@ -225,13 +225,13 @@ module _ (o : ObjectValue) (places : List ℕ) (written : IsWritten o places) (p
   sections_right : Never (wrong_symbol_section p)
   sections_right x (j, below, broken, here) =
       by_entry (λ j symbol. IsWrongSection p.index_table p.sections symbol → ⊥) null_right symbol_right j below broken where
-    null_right : IsWrongSection p.index_table p.sections null_symbol → ⊥
-    null_right = section_right (length o.sections) p.sections are.sections_there p.index_table Undef (λ past. past) (λ far. absurd (true≢false (sym far)))
+        null_right : IsWrongSection p.index_table p.sections null_symbol → ⊥
+        null_right = section_right (length o.sections) p.sections are.sections_there p.index_table Undef (λ past. past) (λ far. absurd (true≢false (sym far)))
 
-    symbol_right : (k : ℕ) → k < length o.symbols → IsWrongSection p.index_table p.sections (symbol_entry o (symbol_at o k)) → ⊥
-    symbol_right k lt =
-        section_right (length o.sections) p.sections are.sections_there p.index_table (symbol_at o k).place (no_wrong_place o written.object k lt)
-        (λ far none. are.index_there (list_any_at (λ (s : SymbolValue). is_far s.place) o.symbols k no_symbol lt far) none)
+        symbol_right : (k : ℕ) → k < length o.symbols → IsWrongSection p.index_table p.sections (symbol_entry o (symbol_at o k)) → ⊥
+        symbol_right k lt =
+            section_right (length o.sections) p.sections are.sections_there p.index_table (symbol_at o k).place (no_wrong_place o written.object k lt)
+            (λ far none. are.index_there (list_any_at (λ (s : SymbolValue). is_far s.place) o.symbols k no_symbol lt far) none)
 
   -- rule 52
   word_in : (t j : ℕ) → p.index_table ≡ Some t → word p.order p.words j ≡ word o.order (index_table o).content j
@@ -242,15 +242,15 @@ module _ (o : ObjectValue) (places : List ℕ) (written : IsWritten o places) (p
   words_right None is x broken = broken
   words_right (Some t) is x (j, below, broken, here) =
       by_entry (λ j symbol. IsWrongWord p.sections symbol (word p.order p.words j) → ⊥) null_right symbol_right j below broken where
-    null_right : IsWrongWord p.sections null_symbol (word p.order p.words 0) → ⊥
-    null_right wrong =
-        word_right (length o.sections) p.sections are.sections_there Undef (λ past. past)
-        (subst (λ (w : ℕ). IsWrongWord p.sections null_symbol w) (word_in t 0 is ∙ null_word o written.object sections_below) wrong)
+        null_right : IsWrongWord p.sections null_symbol (word p.order p.words 0) → ⊥
+        null_right wrong =
+            word_right (length o.sections) p.sections are.sections_there Undef (λ past. past)
+            (subst (λ (w : ℕ). IsWrongWord p.sections null_symbol w) (word_in t 0 is ∙ null_word o written.object sections_below) wrong)
 
-    symbol_right : (k : ℕ) → k < length o.symbols → IsWrongWord p.sections (symbol_entry o (symbol_at o k)) (word p.order p.words (suc k)) → ⊥
-    symbol_right k lt wrong =
-        word_right (length o.sections) p.sections are.sections_there (symbol_at o k).place (no_wrong_place o written.object k lt)
-        (subst (λ (w : ℕ). IsWrongWord p.sections (symbol_entry o (symbol_at o k)) w) (word_in t (suc k) is ∙ symbol_word o written.object sections_below k lt) wrong)
+        symbol_right : (k : ℕ) → k < length o.symbols → IsWrongWord p.sections (symbol_entry o (symbol_at o k)) (word p.order p.words (suc k)) → ⊥
+        symbol_right k lt wrong =
+            word_right (length o.sections) p.sections are.sections_there (symbol_at o k).place (no_wrong_place o written.object k lt)
+            (subst (λ (w : ℕ). IsWrongWord p.sections (symbol_entry o (symbol_at o k)) w) (word_in t (suc k) is ∙ symbol_word o written.object sections_below k lt) wrong)
 
   pub places_kept : FirstIn (place_rules p) None
   unfolding place_rules
