@@ -1,12 +1,11 @@
 -- The object that a file denotes fits a file: its numbers stood in fields, and its names and bits were bytes.
-use Rattle.std.proofs.Common.{◌≡◌, ◌<◌, ◌+◌, ◌*◌, ◌/◌, ◌%◌, ◌^◌, ℕ, zero, suc, Bool, true, false, Option, None, Some, List, [], ◌∷◌, get_or, length, map, refl, sym, subst, arith, pos}
-use Rattle.std.specs.Prelude.{◌==◌, if◌then◌else◌, FitsSigned, bit_and, drop, unwrap_or}
+use Rattle.std.proofs.Common.{◌<◌, ◌+◌, ◌*◌, ◌/◌, ◌%◌, ◌^◌, ℕ, zero, suc, Bool, true, false, Option, None, Some, List, [], ◌∷◌, get_or, map, sym, subst, arith, pos}
+use Rattle.std.specs.Prelude.{◌==◌, if◌then◌else◌, FitsSigned, bit_and, drop}
 use Rattle.std.specs.Int.{w64}
-use Rattle.std.specs.List.{AllByRecursion, range_with_len}
-use Rattle.elf_field.specs.Abi.{SHF_INFO_LINK, SHT_NULL, SYM_SIZE}
+use Rattle.std.specs.List.{AllByRecursion}
+use Rattle.elf_field.specs.Abi.{SHF_INFO_LINK, SHT_NULL}
 use Rattle.elf_field.specs.Bytes.{IsBytes}
 use Rattle.elf_field.specs.BytesLaws.{IsBytes-drop, IsBytes-nil, IsBytes-take}
-use Rattle.elf_field.specs.Ehdr.{IsEhdr}
 use Rattle.elf_field.specs.Rel.{rel_at}
 use Rattle.elf_field.specs.RelLaws.{rel_laws}
 use Rattle.elf_field.specs.Rela.{rela_at}
@@ -14,25 +13,23 @@ use Rattle.elf_field.specs.RelaLaws.{rela_laws}
 use Rattle.elf_field.specs.Shdr.{IsShdr}
 use Rattle.elf_field.specs.SymLaws.{sym_laws}
 use Rattle.elf_field.specs.declared.order.Order.{Order}
-use Rattle.elf_field.specs.declared.shdr.Shdr.{Shdr}
 use Rattle.elf_image.specs.Image.{ImageValue, IsSound, value_names}
 use Rattle.elf_image.specs.Strings.{string}
 use Rattle.elf_rules.specs.Tables.{name_table, no_section}
 use Rattle.elf_table.specs.declared.relocation.Relocation as table_relocation
 use Rattle.elf_table.specs.Relocations.{has_addends, relocation_in, relocations_in, relocations_of}
-use Rattle.elf_table.specs.Sections.{Sections, content, order, section, sections_of}
+use Rattle.elf_table.specs.Sections.{content, order, section, sections_of}
 use Rattle.elf_table.specs.SymbolParts.{symbol_parts}
-use Rattle.elf_table.specs.SymbolRules.{binding, entry}
+use Rattle.elf_table.specs.SymbolRules.{entry}
 use Rattle.elf_table.specs.Symbols as table_symbols
 use Rattle.elf_table.specs.Symbols.{symbol_in, symbols_in, symbols_of}
 use Rattle.elf_object.specs.declared.body_kind.BodyKind.{BodyKind}
 use Rattle.elf_object.specs.declared.body_kind.BodyKind.TheVariants.{Bits, NoBits, Relocs, Group}
 use Rattle.elf_object.specs.declared.left_out.LeftOut.{LeftOut}
-use Rattle.elf_object.specs.declared.section.Info.{Info}
 use Rattle.elf_object.specs.declared.section.Info.TheVariants as info
 use Rattle.elf_object.specs.Denotes.{Denotes, body_denoted, info_denoted, name_of, plain_info, relocation_denoted, section_denoted, symbol_denoted, symbols_denoted}
 use Rattle.elf_object.specs.Kept.{body_kind, kept, left_out, position_of, symbol_table}
-use Rattle.elf_object.specs.Object.{ObjectValue, SectionValue, SymbolValue}
+use Rattle.elf_object.specs.Object.{ObjectValue}
 use Rattle.elf_object.specs.Widths.{BodyFits, InfoFits, ObjectFits, RelocationFits, SectionFits, SymbolFits}
 use Rattle.elf_object.proofs.DenotedFields.{denoted_with}
 
@@ -56,8 +53,16 @@ all_dropped P (x ∷ xs) all = all.1
 
 no_section_fits : IsShdr no_section
 no_section_fits = record {
-  sh_name = omega arith; sh_type = omega arith; sh_flags = omega arith; sh_addr = omega arith; sh_offset = omega arith; sh_size = omega arith;
-  sh_link = omega arith; sh_info = omega arith; sh_addralign = omega arith; sh_entsize = omega arith;
+  sh_name = omega arith;
+  sh_type = omega arith;
+  sh_flags = omega arith;
+  sh_addr = omega arith;
+  sh_offset = omega arith;
+  sh_size = omega arith;
+  sh_link = omega arith;
+  sh_info = omega arith;
+  sh_addralign = omega arith;
+  sh_entsize = omega arith;
 }
 
 -- a string of bytes
@@ -114,25 +119,25 @@ module _ (v : ImageValue) (sound : IsSound v) where
   names_of : IsBytes (value_names v.header v.sections v.contents)
   names_of = by_index (name_table v.header (section (sections_of v) 0)) ((name_table v.header (section (sections_of v) 0)) == 0)
     where
-    by_index : (k : ℕ) (none : Bool) → IsBytes (if none then [] else get_or v.contents k [])
-    by_index k true = IsBytes-nil
-    by_index k false = content_of k
+      by_index : (k : ℕ) (none : Bool) → IsBytes (if none then [] else get_or v.contents k [])
+      by_index k true = IsBytes-nil
+      by_index k false = content_of k
 
   -- ---- sections
 
   name_fits : (i : ℕ) → IsBytes (name_of (sections_of v) i)
   name_fits i = by_type ((section (sections_of v) i).sh_type == SHT_NULL)
     where
-    by_type : (null : Bool) → IsBytes (if null then [] else string (value_names v.header v.sections v.contents) (section (sections_of v) i).sh_name)
-    by_type true = IsBytes-nil
-    by_type false = IsBytes-string (value_names v.header v.sections v.contents) (section (sections_of v) i).sh_name names_of
+      by_type : (null : Bool) → IsBytes (if null then [] else string (value_names v.header v.sections v.contents) (section (sections_of v) i).sh_name)
+      by_type true = IsBytes-nil
+      by_type false = IsBytes-string (value_names v.header v.sections v.contents) (section (sections_of v) i).sh_name names_of
 
   plain_info_fits : (left : LeftOut) (i : ℕ) → InfoFits (plain_info left (sections_of v) (section (sections_of v) i))
   plain_info_fits left i = by_flag (bit_and (section (sections_of v) i).sh_flags SHF_INFO_LINK == 0)
     where
-    by_flag : (number : Bool) → InfoFits (if number then info.Number (section (sections_of v) i).sh_info else info.Section (position_of left (sections_of v) (section (sections_of v) i).sh_info))
-    by_flag true = (header_of i).sh_info
-    by_flag false = tt
+      by_flag : (number : Bool) → InfoFits (if number then info.Number (section (sections_of v) i).sh_info else info.Section (position_of left (sections_of v) (section (sections_of v) i).sh_info))
+      by_flag true = (header_of i).sh_info
+      by_flag false = tt
 
   info_fits : (left : LeftOut) (i : ℕ) (kind : BodyKind) → InfoFits (info_denoted left (sections_of v) (section (sections_of v) i) kind)
   info_fits left i Bits = plain_info_fits left i

@@ -1,5 +1,5 @@
 -- What the nine rules give, one by one, of an object that breaks none: no section or symbol at a position breaks a rule.
-use Rattle.std.proofs.Common.{◌≡◌, ◌<◌, ℕ, List, [], ◌∷◌, ◌++◌, length, refl}
+use Rattle.std.proofs.Common.{◌<◌, ℕ, ◌++◌, length, refl}
 use Rattle.std.specs.Prelude.{None}
 use Rattle.elf_rules.specs.Rows.{FirstIn}
 use Rattle.elf_rules.proofs.Public.{FirstIn-behind, FirstIn-front}

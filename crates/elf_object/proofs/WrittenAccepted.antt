@@ -1,48 +1,46 @@
 -- The canonical layout of an object breaks no rule of a file.
-use Rattle.std.proofs.Common.{◌≡◌, ◌≢◌, ◌<◌, ◌≤◌, ◌+◌, ◌-◌, ◌*◌, ◌^◌, ◌%◌, ◌||◌, ℕ, zero, suc, Bool, true, false, List, [], ◌∷◌, length, map, get_or, refl, sym, ap, subst, ◌∙◌, arith, ◌⊎◌, inl, inr}
-use Rattle.std.specs.Prelude.{◌==◌, if◌then◌else◌, codes, slice_index, None}
+use Rattle.std.proofs.Common.{◌≡◌, ◌≢◌, ◌<◌, ◌≤◌, ◌+◌, ◌-◌, ◌^◌, ◌%◌, ℕ, zero, suc, Bool, true, false, List, [], ◌∷◌, length, map, get_or, refl, sym, ap, subst, ◌∙◌, arith, inl, inr}
+use Rattle.std.specs.Prelude.{◌==◌, if◌then◌else◌, codes, slice_index}
 use Rattle.std.specs.List.{AllByRecursion}
 use Rattle.std.proofs.lemmas.List.{ext_get_or, get_or-map, length-map}
 use Rattle.std.proofs.lemmas.Bool.{cases_lt, le-ltb, lt-ltb}
-use Rattle.elf_field.specs.Abi.{SHT_NOBITS, SHT_NULL}
+use Rattle.elf_field.specs.Abi.{SHT_NOBITS}
 use Rattle.elf_field.specs.Bytes.{IsBytes}
 use Rattle.elf_field.specs.Ehdr.{IsEhdr}
 use Rattle.elf_field.specs.Shdr.{IsShdr}
-use Rattle.elf_field.specs.declared.ehdr.Ehdr.{Ehdr}
 use Rattle.elf_field.specs.declared.order.Order.{Order}
 use Rattle.elf_field.specs.declared.order.Order.TheVariants.{Little, Big}
 use Rattle.elf_field.specs.declared.shdr.Shdr.{Shdr}
 use Rattle.elf_image.specs.RelocatableFile.{IsRelocatableFile, all_headers, short_count, short_index}
-use Rattle.elf_rules.specs.KeepsRules.{EachSection, IsAlignment, KeepsNameRules}
+use Rattle.elf_rules.specs.KeepsRules.{IsAlignment, KeepsNameRules}
 use Rattle.elf_rules.specs.Tables.{content_extent, no_section, section_of}
 use Rattle.elf_rules.proofs.Public.{alignment, equal}
 use Rattle.elf_string_table.specs.StringTable.{name_place, string_table}
 use Rattle.elf_string_table.proofs.Public.{holds_names}
-use Rattle.elf_table.specs.Sections.{count, section}
 use Rattle.elf_object.specs.Laid.{encoding, identification, section_header}
 use Rattle.elf_object.specs.Object.{ObjectValue, section_at}
-use Rattle.elf_object.specs.PlainSections.{PlainSection, has_index_table, index_table, names_at, own_section, plain_sections, section_names, strings, strings_at, symbol_table, symbol_table_at}
-use Rattle.elf_object.specs.Widths.{ObjectFits}
+use Rattle.elf_object.specs.PlainSections.{PlainSection, has_index_table, names_at, plain_sections, section_names, strings, strings_at, symbol_table_at}
 use Rattle.elf_object.specs.WrittenObject.{IsWritten, written_sections}
 use Rattle.elf_object.proofs.AllParts.{last_sections}
 use Rattle.elf_object.proofs.CanonicalLayout.{contents_of, header_at, headers_at, identification_kept, layout_order, length-headers_at}
 use Rattle.elf_object.proofs.Elements.{all_of_each}
 use Rattle.elf_object.proofs.SoundObject.{no_wrong_alignment}
 use Rattle.elf_object.proofs.WrittenFields.{EachKind, IsBytes-all, PlainFits, each_plain, plain_fits, section_names_are}
-use Rattle.elf_object.proofs.WrittenLengths.{content_short, names_short, own_short, sections_short, table_short}
-use Rattle.elf_object.proofs.WrittenSections.{length-plain, no_plain, plain_at, plain_last, written_count, written_section}
+use Rattle.elf_object.proofs.WrittenLengths.{content_short, names_short, table_short}
+use Rattle.elf_object.proofs.WrittenSections.{length-plain, no_plain, plain_at, plain_last, written_section}
 
 -- ---- the header
 
 IsBytes-identification : (o : ObjectValue) → o.osabi < 2 ^ 8 → o.abi < 2 ^ 8 → IsBytes (identification o)
 IsBytes-identification o osabi abi = bytes o.order
   where
-  tail : (b : ℕ) → b < 256 → IsBytes (127 ∷ 69 ∷ 76 ∷ 70 ∷ 2 ∷ b ∷ 1 ∷ o.osabi ∷ o.abi ∷ 0 ∷ 0 ∷ 0 ∷ 0 ∷ 0 ∷ 0 ∷ 0 ∷ [])
-  tail b lt = IsBytes-all (127 ∷ 69 ∷ 76 ∷ 70 ∷ 2 ∷ b ∷ 1 ∷ o.osabi ∷ o.abi ∷ 0 ∷ 0 ∷ 0 ∷ 0 ∷ 0 ∷ 0 ∷ 0 ∷ [])
-      (omega arith, (omega arith, (omega arith, (omega arith, (omega arith, (lt, (omega arith, (osabi, (abi, (omega arith, (omega arith, (omega arith, (omega arith, (omega arith, (omega arith, (omega arith, tt))))))))))))))))
-  bytes : (order : Order) → IsBytes (127 ∷ 69 ∷ 76 ∷ 70 ∷ 2 ∷ encoding order ∷ 1 ∷ o.osabi ∷ o.abi ∷ 0 ∷ 0 ∷ 0 ∷ 0 ∷ 0 ∷ 0 ∷ 0 ∷ [])
-  bytes Little = tail 1 (omega arith)
-  bytes Big = tail 2 (omega arith)
+    tail : (b : ℕ) → b < 256 → IsBytes (127 ∷ 69 ∷ 76 ∷ 70 ∷ 2 ∷ b ∷ 1 ∷ o.osabi ∷ o.abi ∷ 0 ∷ 0 ∷ 0 ∷ 0 ∷ 0 ∷ 0 ∷ 0 ∷ [])
+    tail b lt = IsBytes-all (127 ∷ 69 ∷ 76 ∷ 70 ∷ 2 ∷ b ∷ 1 ∷ o.osabi ∷ o.abi ∷ 0 ∷ 0 ∷ 0 ∷ 0 ∷ 0 ∷ 0 ∷ 0 ∷ [])
+        (omega arith, (omega arith, (omega arith, (omega arith, (omega arith, (lt, (omega arith, (osabi, (abi, (omega arith, (omega arith, (omega arith, (omega arith, (omega arith, (omega arith, (omega arith, tt))))))))))))))))
+
+    bytes : (order : Order) → IsBytes (127 ∷ 69 ∷ 76 ∷ 70 ∷ 2 ∷ encoding order ∷ 1 ∷ o.osabi ∷ o.abi ∷ 0 ∷ 0 ∷ 0 ∷ 0 ∷ 0 ∷ 0 ∷ 0 ∷ [])
+    bytes Little = tail 1 (omega arith)
+    bytes Big = tail 2 (omega arith)
 
 short_count_fits : (n : ℕ) → short_count n < 2 ^ 16
 short_count_fits n = elim (cases_lt n 0xff00) [
@@ -98,9 +96,9 @@ module _ (o : ObjectValue) (places : List ℕ) (written : IsWritten o places) wh
   size_fits : (p : ℕ) → p < length (plain_sections o) → (s : PlainSection) → s.space < 2 ^ 64 → length s.content < 2 ^ 64 → (if s.type == SHT_NOBITS then s.space else length s.content) < 2 ^ 64
   size_fits p lt s space long = by_type (s.type == SHT_NOBITS)
     where
-    by_type : (none : Bool) → (if none then s.space else length s.content) < 2 ^ 64
-    by_type true = space
-    by_type false = long
+      by_type : (none : Bool) → (if none then s.space else length s.content) < 2 ^ 64
+      by_type true = space
+      by_type false = long
 
   pub section_fits : (p : ℕ) → p < length (plain_sections o) → IsShdr (section_header (name_place (section_names o)) (plain_at o p) (get_or places p 0))
   section_fits p lt =
@@ -137,9 +135,9 @@ module _ (o : ObjectValue) (places : List ℕ) (written : IsWritten o places) wh
   contents_are_bytes : AllByRecursion IsBytes (contents_of o)
   contents_are_bytes = map_all (plain_sections o) (all_of_each (λ (s : PlainSection). IsBytes s.content) (plain_sections o) no_plain (λ p lt. (fits_at p lt).bytes))
     where
-    map_all : (sections : List PlainSection) → AllByRecursion (λ (s : PlainSection). IsBytes s.content) sections → AllByRecursion IsBytes (map (λ (s : PlainSection). s.content) sections)
-    map_all [] all = tt
-    map_all (s ∷ sections) all = (all.0, map_all sections all.1)
+      map_all : (sections : List PlainSection) → AllByRecursion (λ (s : PlainSection). IsBytes s.content) sections → AllByRecursion IsBytes (map (λ (s : PlainSection). s.content) sections)
+      map_all [] all = tt
+      map_all (s ∷ sections) all = (all.0, map_all sections all.1)
 
   lengths : map length (contents_of o) ≡ map (λ s. (content_extent s).len) (headers_at o places)
   lengths =
@@ -160,9 +158,9 @@ module _ (o : ObjectValue) (places : List ℕ) (written : IsWritten o places) wh
   aligned : EachKind o (λ s. IsAlignment s.align × (1 < s.align → s.addr % s.align ≡ 0))
   aligned = record {
     own = λ p lt.
-      let right = no_wrong_alignment o written.object p lt in
-      let s = section_at o p in
-      (alignment s.align (λ wrong. right (inl wrong)), λ some. equal (s.addr % s.align) 0 (λ other. right (inr (some, other))));
+        let right = no_wrong_alignment o written.object p lt in
+        let s = section_at o p in
+        (alignment s.align (λ wrong. right (inl wrong)), λ some. equal (s.addr % s.align) 0 (λ other. right (inr (some, other))));
     symbols = (inr (3, refl), λ some. refl);
     indexes = λ far. (inr (2, refl), λ some. refl);
     symbol_strings = (inr (0, refl), λ some. refl);
@@ -215,8 +213,8 @@ module _ (o : ObjectValue) (places : List ℕ) (written : IsWritten o places) wh
         name_table_type = λ some. names_type;
         closed = λ some. subst (λ (names : List ℕ). (slice_index names 0 ≡ 0) × (slice_index names (length names - 1) ≡ 0)) (sym names_content) (holds.first, holds.last);
         names_begin = λ i above below typed.
-          each_header (λ (s : Shdr). s.sh_name ≢ 0 → s.sh_name < length (get_or ([] ∷ contents_of o) (names_at o) []))
-          (λ p lt named. subst (λ (names : List ℕ). name_place (section_names o) (plain_at o p).name < length names) (sym names_content) (name_within p lt)) i above below;
+            each_header (λ (s : Shdr). s.sh_name ≢ 0 → s.sh_name < length (get_or ([] ∷ contents_of o) (names_at o) []))
+            (λ p lt named. subst (λ (names : List ℕ). name_place (section_names o) (plain_at o p).name < length names) (sym names_content) (name_within p lt)) i above below;
       }
 
   -- ---- all of it
@@ -242,9 +240,9 @@ module _ (o : ObjectValue) (places : List ℕ) (written : IsWritten o places) wh
         order = layout_order o places written.least.fits;
         short = omega arith;
         alignment = λ i above below typed. each_header (λ (s : Shdr). IsAlignment s.sh_addralign)
-          (λ p lt. (each_plain o (λ s. IsAlignment s.align × (1 < s.align → s.addr % s.align ≡ 0)) aligned p lt).0) i above below;
+            (λ p lt. (each_plain o (λ s. IsAlignment s.align × (1 < s.align → s.addr % s.align ≡ 0)) aligned p lt).0) i above below;
         address = λ i above below typed. each_header (λ (s : Shdr). 1 < s.sh_addralign → s.sh_addr % s.sh_addralign ≡ 0)
-          (λ p lt. (each_plain o (λ s. IsAlignment s.align × (1 < s.align → s.addr % s.align ≡ 0)) aligned p lt).1) i above below;
+            (λ p lt. (each_plain o (λ s. IsAlignment s.align × (1 < s.align → s.addr % s.align ≡ 0)) aligned p lt).1) i above below;
         names_within = omega arith;
         section_names = names_kept;
       }

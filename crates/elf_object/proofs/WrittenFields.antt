@@ -1,5 +1,5 @@
 -- The section headers and contents of a written object fit a file: each number its field, each content the size that is told.
-use Rattle.std.proofs.Common.{◌≡◌, ◌≢◌, ◌<◌, ◌≤◌, ◌+◌, ◌-◌, ◌*◌, ◌^◌, ◌||◌, ℕ, zero, suc, Bool, true, false, List, [], ◌∷◌, length, map, get_or, refl, sym, ap, subst, ◌∙◌, arith, ◌⊎◌, inl, inr}
+use Rattle.std.proofs.Common.{◌≡◌, ◌≢◌, ◌<◌, ◌≤◌, ◌+◌, ◌-◌, ◌^◌, ◌||◌, ℕ, zero, suc, Bool, true, false, List, [], ◌∷◌, length, map, get_or, refl, sym, ap, subst, ◌∙◌, arith, inl, inr}
 use Rattle.std.specs.Prelude.{◌==◌, if◌then◌else◌, codes, Option, None, Some}
 use Rattle.std.specs.List.{AllByRecursion, filter, flat_map}
 use Rattle.std.proofs.lemmas.Bool.{cases_lt, ne_eqb}
@@ -116,16 +116,16 @@ IsBytes-section_names o places written =
     let names = all_of_each (λ (s : PlainSection). IsBytes s.name) (plain_sections o) no_plain each in
     (holds_names (section_names o)).bytes (subst (AllByRecursion IsBytes) (sym (section_names_are o)) (map_all (plain_sections o) names))
   where
-  map_all : (sections : List PlainSection) → AllByRecursion (λ (s : PlainSection). IsBytes s.name) sections → AllByRecursion IsBytes (map (λ (s : PlainSection). s.name) sections)
-  map_all [] all = tt
-  map_all (s ∷ sections) all = (all.0, map_all sections all.1)
+    map_all : (sections : List PlainSection) → AllByRecursion (λ (s : PlainSection). IsBytes s.name) sections → AllByRecursion IsBytes (map (λ (s : PlainSection). s.name) sections)
+    map_all [] all = tt
+    map_all (s ∷ sections) all = (all.0, map_all sections all.1)
 
 IsBytes-symbol_names : (o : ObjectValue) (places : List ℕ) → IsWritten o places → IsBytes (string_table (symbol_names o))
 IsBytes-symbol_names o places written = (holds_names (symbol_names o)).bytes (map_all o.symbols written.widths.symbols)
   where
-  map_all : (symbols : List SymbolValue) → AllByRecursion SymbolFits symbols → AllByRecursion IsBytes (map (λ (s : SymbolValue). s.name) symbols)
-  map_all [] all = tt
-  map_all (s ∷ symbols) all = (all.0.name, map_all symbols all.1)
+    map_all : (symbols : List SymbolValue) → AllByRecursion SymbolFits symbols → AllByRecursion IsBytes (map (λ (s : SymbolValue). s.name) symbols)
+    map_all [] all = tt
+    map_all (s ∷ symbols) all = (all.0.name, map_all symbols all.1)
 
 -- ---- each number fits its field
 
@@ -255,9 +255,9 @@ locals_short : (symbols : List SymbolValue) → length (filter is_local symbols)
 locals_short [] = omega arith
 locals_short (s ∷ symbols) = by_one (is_local s) (locals_short symbols)
   where
-  by_one : (one : Bool) → length (filter is_local symbols) ≤ length symbols → length (if one then s ∷ filter is_local symbols else filter is_local symbols) ≤ suc (length symbols)
-  by_one true le = omega arith
-  by_one false le = omega arith
+    by_one : (one : Bool) → length (filter is_local symbols) ≤ length symbols → length (if one then s ∷ filter is_local symbols else filter is_local symbols) ≤ suc (length symbols)
+    by_one true le = omega arith
+    by_one false le = omega arith
 
 pub plain_fits : (o : ObjectValue) (places : List ℕ) → IsWritten o places → EachKind o PlainFits
 plain_fits o places written =
@@ -267,23 +267,37 @@ plain_fits o places written =
     let far_by = strings_at_short (has_index_table o) in
     record {
       own = λ p lt.
-        let s = section_at o p in
-        let fits = each_of_all SectionFits o.sections no_section written.widths.sections p lt in
-        let position = no_wrong_position o written.object p lt in
-        own_fits o s s.body few (omega arith) fits (record {
-          fits = fits.body;
-          bits = no_wrong_bits o written.object p lt;
-          link = λ past. position (inl past);
-          info = λ past. position (inr (inl past));
-          reference = λ wrong. position (inr (inr wrong));
-        });
+          let s = section_at o p in
+          let fits = each_of_all SectionFits o.sections no_section written.widths.sections p lt in
+          let position = no_wrong_position o written.object p lt in
+          own_fits o s s.body few (omega arith) fits (record {
+            fits = fits.body;
+            bits = no_wrong_bits o written.object p lt;
+            link = λ past. position (inl past);
+            info = λ past. position (inr (inl past));
+            reference = λ wrong. position (inr (inr wrong));
+          });
       symbols = record {
-        type = omega arith; flags = omega arith; addr = omega arith; link = far_by; info = omega arith; align = omega arith; entsize = omega arith; space = omega arith;
+        type = omega arith;
+        flags = omega arith;
+        addr = omega arith;
+        link = far_by;
+        info = omega arith;
+        align = omega arith;
+        entsize = omega arith;
+        space = omega arith;
         bytes = IsBytes-flat (sym_bytes o.order) (λ e. IsBytes-spelled o.order [] sym_widths (sym_values e) IsBytes-nil) (null_symbol ∷ map (symbol_entry o) o.symbols);
         taken = refl;
       };
       indexes = λ far. record {
-        type = omega arith; flags = omega arith; addr = omega arith; link = omega arith; info = omega arith; align = omega arith; entsize = omega arith; space = omega arith;
+        type = omega arith;
+        flags = omega arith;
+        addr = omega arith;
+        link = omega arith;
+        info = omega arith;
+        align = omega arith;
+        entsize = omega arith;
+        space = omega arith;
         bytes = IsBytes-words o.order (0 ∷ map (λ s. index_word s.place) o.symbols);
         taken = refl;
       };
@@ -291,12 +305,20 @@ plain_fits o places written =
       section_strings = strings_fit (codes ".shstrtab") (section_names o) (IsBytes-section_names o places written);
     }
   where
-  strings_at_short : (far : Bool) → length o.sections + 1 + (if far then 2 else 1) < 2 ^ 32
-  strings_at_short true = let few = own_short o places written in omega arith
-  strings_at_short false = let few = own_short o places written in omega arith
-  strings_fit : (name : List ℕ) (names : List (List ℕ)) → IsBytes (string_table names) → PlainFits (strings name names)
-  strings_fit name names bytes = record {
-    type = omega arith; flags = omega arith; addr = omega arith; link = omega arith; info = omega arith; align = omega arith; entsize = omega arith; space = omega arith;
-    bytes = bytes;
-    taken = refl;
-  }
+    strings_at_short : (far : Bool) → length o.sections + 1 + (if far then 2 else 1) < 2 ^ 32
+    strings_at_short true = let few = own_short o places written in omega arith
+    strings_at_short false = let few = own_short o places written in omega arith
+
+    strings_fit : (name : List ℕ) (names : List (List ℕ)) → IsBytes (string_table names) → PlainFits (strings name names)
+    strings_fit name names bytes = record {
+      type = omega arith;
+      flags = omega arith;
+      addr = omega arith;
+      link = omega arith;
+      info = omega arith;
+      align = omega arith;
+      entsize = omega arith;
+      space = omega arith;
+      bytes = bytes;
+      taken = refl;
+    }

@@ -1,15 +1,12 @@
 -- Nothing in a written object is longer than its file: counts and lengths of the parts.
-use Rattle.std.proofs.Common.{◌≡◌, ◌<◌, ◌≤◌, ◌+◌, ◌-◌, ◌*◌, ◌^◌, ℕ, zero, suc, Bool, true, false, List, [], ◌∷◌, ◌++◌, length, map, get_or, refl, sym, ap, subst, ◌∙◌, arith}
+use Rattle.std.proofs.Common.{◌≡◌, ◌<◌, ◌≤◌, ◌+◌, ◌-◌, ◌*◌, ◌^◌, ℕ, zero, suc, Bool, true, false, List, [], ◌∷◌, ◌++◌, length, map, get_or, refl, ap, arith}
 use Rattle.std.specs.Prelude.{if◌then◌else◌}
-use Rattle.std.specs.List.{flat_map}
 use Rattle.std.proofs.lemmas.List.{length-map}
 use Rattle.elf_field.specs.Abi.{EHDR_SIZE, SHDR_SIZE}
 use Rattle.elf_field.specs.RecordTableLaws.{length-table}
-use Rattle.elf_field.specs.Sym.{sym_bytes}
 use Rattle.elf_field.specs.SymLaws.{sym_laws}
-use Rattle.elf_extent.specs.Place.{Fits, end_of}
+use Rattle.elf_extent.specs.Place.{end_of}
 use Rattle.elf_extent.proofs.Public.{above_earlier}
-use Rattle.elf_rules.specs.HeaderRules.{MAX_LEN}
 use Rattle.elf_string_table.specs.StringTable.{string_table}
 use Rattle.elf_object.specs.Laid.{content_part, layout_bytes, layout_parts}
 use Rattle.elf_object.specs.Object.{ObjectValue}

@@ -1,5 +1,5 @@
 -- What an object is written as: accepted, and read as that object.
-use Rattle.std.proofs.Common.{◌≡◌, ◌≤◌, ℕ, List, length, sym, ap, subst, ◌∙◌, refl}
+use Rattle.std.proofs.Common.{◌≡◌, ◌≤◌, ℕ, List, length, sym, subst}
 use Rattle.std.specs.Prelude.{None}
 use Rattle.elf_field.specs.Bytes.{IsBytes}
 use Rattle.elf_field.specs.declared.ehdr.Ehdr.{Ehdr}
@@ -56,7 +56,7 @@ unfolding layout_bytes written_sections
 written_read o b written v stands =
     let places = written.laid.places in
     let read = relocatable_read (header_at o places) (headers_at o places) (contents_of o) (names_at o) (written_file o places (by_places o b written)) v
-      (subst (Stands v) written.laid.bytes stands) in
+    (subst (Stands v) written.laid.bytes stands) in
     let header = read.header in
     let headers = read.sections in
     let contents = read.contents in

@@ -1,7 +1,7 @@
 -- The numbers of an object fit the fields of the file that hold them, and its names and bits are bytes.
 -- (gABI chapter 4: Data Representation, ELF Header, Sections, Symbol Table, Relocation.)
 -- The types of the code see to that: a value of these types has nothing else.
-use Rattle.std.specs.Prelude.{ℕ, ◌<◌, ◌^◌, FitsSigned}
+use Rattle.std.specs.Prelude.{◌<◌, ◌^◌, FitsSigned}
 use Rattle.std.specs.Int.{w64}
 use Rattle.std.specs.List.{AllByRecursion}
 use Rattle.elf_field.specs.Bytes.{IsBytes}
