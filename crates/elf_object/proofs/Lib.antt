@@ -28,3 +28,4 @@ pub mod AllParts
 pub mod WrittenSections
 pub mod WrittenLengths
 pub mod SoundObject
+pub mod Several

@@ -27,6 +27,7 @@
 #![tactic(auto)]
 
 mod body_kind;
+mod entries;
 mod fault;
 mod file_rules;
 mod front_rules;
