@@ -29,3 +29,5 @@ pub mod WrittenSections
 pub mod WrittenLengths
 pub mod SoundObject
 pub mod Several
+pub mod PlacedSections
+pub mod ShortLayout

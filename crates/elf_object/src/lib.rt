@@ -42,6 +42,8 @@ mod name_tables;
 mod object;
 mod object_rules;
 mod parts;
+mod placed_object;
+mod placed_section;
 mod positions;
 mod read_bodies;
 mod read_positions;
