@@ -31,3 +31,4 @@ pub mod SoundObject
 pub mod Several
 pub mod PlacedSections
 pub mod ShortLayout
+pub mod KeptPositions

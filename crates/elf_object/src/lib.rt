@@ -26,12 +26,14 @@
 //! ```
 #![tactic(auto)]
 
+mod body_entries;
 mod body_kind;
 mod entries;
 mod fault;
 mod file_rules;
 mod front_rules;
 mod group_rule;
+mod indexes;
 mod laws;
 mod layout;
 mod layout_laws;
@@ -55,6 +57,7 @@ pub mod rules;
 mod section;
 mod section_rules;
 mod symbol;
+mod symbol_entries;
 mod symbol_rules;
 mod written_laws;
 
