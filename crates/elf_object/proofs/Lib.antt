@@ -32,3 +32,4 @@ pub mod Several
 pub mod PlacedSections
 pub mod ShortLayout
 pub mod KeptPositions
+pub mod OwnSections

@@ -4,6 +4,7 @@ use Rattle.std.specs.Prelude.{codes}
 use Rattle.std.proofs.lemmas.List.{get_or-map, length-map}
 use Rattle.elf_field.specs.Abi.{EHDR_SIZE, SHDR_SIZE}
 use Rattle.elf_field.specs.SymLaws.{sym_laws}
+use Rattle.elf_field.specs.WordLaws.{word_laws}
 use Rattle.elf_field.specs.RecordTableLaws.{length-table}
 use Rattle.elf_extent.specs.Place.{Fits, end_of}
 use Rattle.elf_extent.proofs.Public.{fits_length}
@@ -16,7 +17,7 @@ use Rattle.elf_object.specs.Laid.{content_part, layout_parts}
 use Rattle.elf_object.specs.LayoutView.{IsLayoutOf, LayoutValue}
 use Rattle.elf_object.specs.Object.{ObjectValue}
 use Rattle.elf_object.specs.PlacedObject.{IsSectionAt, plain_section}
-use Rattle.elf_object.specs.PlainSections.{PlainSection, null_symbol, plain_sections, section_names, sections_before_names, symbol_entry, symbol_names}
+use Rattle.elf_object.specs.PlainSections.{PlainSection, index_table, index_word, null_symbol, plain_sections, section_names, sections_before_names, symbol_entry, symbol_names, symbol_table}
 use Rattle.elf_object.proofs.CanonicalLayout.{length-layout_bytes, length-layout_parts}
 use Rattle.elf_object.proofs.LayoutParts.{end_last}
 use Rattle.elf_object.proofs.PlacedSections.{count_far, count_near, either_way, names_at, strings_at, symbols_at}
@@ -80,12 +81,23 @@ short_content o layout k s laid lt at =
     let same = ap (λ (p : PlainSection). length p.content) at.is in
     omega arith
 
+pub length-symbol_table : (o : ObjectValue) → length (symbol_table o).content ≡ 24 * (length o.symbols + 1)
+length-symbol_table o =
+    let whole = length-table sym_laws o.order (null_symbol ∷ map (symbol_entry o) o.symbols) in
+    let same = length-map o.symbols (symbol_entry o) in
+    omega arith
+
+pub length-index_table : (o : ObjectValue) → length (index_table o).content ≡ 4 * (length o.symbols + 1)
+length-index_table o =
+    let whole = length-table word_laws o.order (0 ∷ map (λ s. index_word s.place) o.symbols) in
+    let same = length-map o.symbols (λ s. index_word s.place) in
+    omega arith
+
 pub few_symbols : (o : ObjectValue) (layout : LayoutValue) → IsLayoutOf o layout → 24 * (length o.symbols + 1) ≤ 2 ^ 30
 few_symbols o layout laid =
     let below = own_below o in
     let short = short_content o layout (length o.sections) SymbolTable laid (omega arith) (symbols_at o (length o.sections) refl) in
-    let whole = length-table sym_laws o.order (null_symbol ∷ map (symbol_entry o) o.symbols) in
-    let same = length-map o.symbols (symbol_entry o) in
+    let whole = length-symbol_table o in
     omega arith
 
 -- ---- names

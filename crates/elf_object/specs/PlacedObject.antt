@@ -1,13 +1,15 @@
 -- An object with its string tables and its canonical layout.
-use Rattle.std.specs.Prelude.{◌≡◌, ◌<◌, ℕ, Option, List, codes, get_or, length}
+use Rattle.std.specs.Prelude.{◌≡◌, ◌<◌, ◌≤◌, ℕ, ◌+◌, ◌^◌, All, codes, get_or, length}
 use Rattle.elf_object.specs.declared.name_tables.NameTables.{NameTables}
 use Rattle.elf_object.specs.declared.placed_section.PlacedSection.{PlacedSection}
 use Rattle.elf_object.specs.declared.placed_section.PlacedSection.TheVariants.{Own, SymbolTable, IndexTable, Strings, Names}
 use Rattle.elf_object.specs.LayoutView.{IsLayoutOf, LayoutValue}
 use Rattle.elf_object.specs.NameTables.{AreNameTables}
-use Rattle.elf_object.specs.Object.{ObjectValue, section_at}
+use Rattle.elf_object.specs.Object.{BodyValue, bits, no_bits, relocs, group, ObjectValue, SectionValue, section_at}
 use Rattle.elf_object.specs.ObjectRules.{IsObject}
-use Rattle.elf_object.specs.PlainSections.{PlainSection, index_table, own_section, plain_sections, section_names, strings, symbol_names, symbol_table}
+use Rattle.elf_object.specs.PlainSections.{PlainSection, body_bytes, index_of, index_table, own_section, plain_sections, section_names, strings, symbol_names, symbol_table}
+use Rattle.elf_object.specs.Positions.{info_position}
+use Rattle.elf_object.specs.SectionRules.{IsWrongBits}
 
 pub record PlacedValue : Type 0 where
   pub object : ObjectValue
@@ -43,3 +45,19 @@ IsThere o Names = Unit {0}
 pub record IsSectionAt (o : ObjectValue) (position : ℕ) (section : PlacedSection) : Type 0 where
   pub there : IsThere o section
   pub is : plain_section o section ≡ get_or (plain_sections o) position (plain_section o section)
+
+-- ---- the numbers of a section fit the fields that hold them
+
+-- the indexes in a body
+abbrev pub HasShortIndexes : BodyValue → Type 0
+HasShortIndexes (bits type content) = Unit {0}
+HasShortIndexes (no_bits size) = Unit {0}
+HasShortIndexes (relocs rela target entries) = (target + 1 < 2 ^ 32) × All (λ entry. index_of entry.symbol < 2 ^ 32) entries
+HasShortIndexes (group comdat signature members) = (signature + 1 < 2 ^ 32) × All (λ member. member + 1 < 2 ^ 32) members
+
+pub record IsWritable (o : ObjectValue) (s : SectionValue) : Type 0 where
+  pub right : ¬ IsWrongBits s.body
+  pub link : index_of s.link < 2 ^ 32
+  pub info : index_of (info_position s.info) < 2 ^ 32
+  pub indexes : HasShortIndexes s.body
+  pub short : length (body_bytes o.order s.body) ≤ 2 ^ 30

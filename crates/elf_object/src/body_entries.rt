@@ -10,16 +10,19 @@ use elf_field::abi::*;
 use elf_field::{Rel, Rela};
 
 /// The entries of a section of type `SHT_RELA`.
+#[derive(Drop)]
 pub(crate) struct RelaEntries<'s> {
     pub(crate) entries: &'s [Relocation],
 }
 
 /// The entries of a section of type `SHT_REL`.
+#[derive(Drop)]
 pub(crate) struct RelEntries<'s> {
     pub(crate) entries: &'s [Relocation],
 }
 
 /// The words of a section group: its flags, and the section indexes of its members.
+#[derive(Drop)]
 pub(crate) struct GroupWords<'s> {
     pub(crate) comdat: bool,
     pub(crate) members: &'s [usize],

@@ -28,6 +28,7 @@
 
 mod body_entries;
 mod body_kind;
+mod contents;
 mod entries;
 mod fault;
 mod file_rules;

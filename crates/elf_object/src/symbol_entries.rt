@@ -13,11 +13,13 @@ use elf_field::Sym;
 use elf_field::abi::*;
 
 /// The entries of `.symtab`.
+#[derive(Drop)]
 pub(crate) struct SymbolEntries<'p, 'o, 'a> {
     pub(crate) placed: &'p PlacedObject<'o, 'a>,
 }
 
 /// The words of `.symtab_shndx`.
+#[derive(Drop)]
 pub(crate) struct IndexWords<'p, 'o, 'a> {
     pub(crate) placed: &'p PlacedObject<'o, 'a>,
 }
@@ -63,7 +65,7 @@ impl<'p, 'o, 'a> Entries for IndexWords<'p, 'o, 'a> {
 }
 
 /// How many symbols there are.
-fn symbol_count(placed: &PlacedObject<'_, '_>) -> usize
+pub(crate) fn symbol_count(placed: &PlacedObject<'_, '_>) -> usize
     ensures value { result ≡ length placed.now.object.symbols }
     ensures few { 24 * (result + 1) ≤ 2 ^ 30 }
 {
