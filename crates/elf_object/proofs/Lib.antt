@@ -33,3 +33,5 @@ pub mod PlacedSections
 pub mod ShortLayout
 pub mod KeptPositions
 pub mod OwnSections
+pub mod HeaderTable
+pub mod HeaderFields

@@ -17,10 +17,10 @@ use Rattle.elf_object.specs.Laid.{content_part, layout_parts}
 use Rattle.elf_object.specs.LayoutView.{IsLayoutOf, LayoutValue}
 use Rattle.elf_object.specs.Object.{ObjectValue}
 use Rattle.elf_object.specs.PlacedObject.{IsSectionAt, plain_section}
-use Rattle.elf_object.specs.PlainSections.{PlainSection, index_table, index_word, null_symbol, plain_sections, section_names, sections_before_names, symbol_entry, symbol_names, symbol_table}
+use Rattle.elf_object.specs.PlainSections.{PlainSection, index_table, index_word, names_at, null_symbol, plain_sections, section_names, sections_before_names, symbol_entry, symbol_names, symbol_table}
 use Rattle.elf_object.proofs.CanonicalLayout.{length-layout_bytes, length-layout_parts}
 use Rattle.elf_object.proofs.LayoutParts.{end_last}
-use Rattle.elf_object.proofs.PlacedSections.{count_far, count_near, either_way, names_at, strings_at, symbols_at}
+use Rattle.elf_object.proofs.PlacedSections.{count_far, count_near, either_way, names_at as names_found, strings_at, symbols_at}
 
 -- ---- the sizes of the parts
 
@@ -127,7 +127,7 @@ pub section_name_below : (o : ObjectValue) (layout : LayoutValue) (i : ℕ) → 
 section_name_below o layout i laid lt =
     let many = length-section_names o in
     let k = length (plain_sections o) - 1 in
-    name_below (section_names o) i (omega arith) (short_content o layout k Names laid (omega arith) (names_at o k (omega arith)))
+    name_below (section_names o) i (omega arith) (short_content o layout k Names laid (omega arith) (names_found o k (omega arith)))
 
 -- the place of a name, as code reads it
 pub place_read : (names : List (List ℕ)) (places : List ℕ) (i x : ℕ) → places ≡ map (name_place names) names → i < length names → x ≡ get_or places i x →
@@ -136,3 +136,11 @@ place_read names places i x are lt is = is ∙ ap (λ (q : List ℕ). get_or q i
 
 pub length-places : (names : List (List ℕ)) (places : List ℕ) → places ≡ map (name_place names) names → length places ≡ length names
 length-places names places are = ap length are ∙ length-map names (name_place names)
+
+-- ---- the indexes of the last sections
+
+pub names_at_is : (o : ObjectValue) → names_at o ≡ length (plain_sections o)
+names_at_is o = elim (either_way o) [
+  | inl near ↦ (let count = count_near o near in rw near (omega arith))
+  | inr far ↦ (let count = count_far o far in rw far (omega arith))
+]

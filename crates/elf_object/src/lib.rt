@@ -56,6 +56,7 @@ mod reference_rules;
 mod relocation;
 pub mod rules;
 mod section;
+mod section_headers;
 mod section_rules;
 mod symbol;
 mod symbol_entries;

@@ -1,8 +1,8 @@
 //! An object with all that its canonical layout takes memory for (gABI chapter 4, ELF Header, Sections, String Table).
-ghost use Rattle.std.specs.Prelude.{◌≡◌, ◌<◌, ℕ, ◌+◌, ◌^◌, [], get_or, length, IfErr, IfOk};
+ghost use Rattle.std.specs.Prelude.{◌≡◌, ◌<◌, ℕ, ◌+◌, ◌^◌, [], get_or, length, slice_index, IfErr, IfOk};
 ghost use Rattle.elf_object.specs.LayoutView.{IsLayoutFault};
 ghost use Rattle.elf_object.specs.PlacedObject.{IsPlaced, IsSectionAt};
-ghost use Rattle.elf_object.specs.PlainSections.{plain_sections, section_names, symbol_names};
+ghost use Rattle.elf_object.specs.PlainSections.{names_at, plain_sections, section_names, strings_at, symbol_names, symbol_table_at};
 ghost use Rattle.elf_string_table.specs.StringTable.{name_place, string_table};
 
 use crate::layout::{Layout, LayoutFault, lay_out_with};
@@ -109,9 +109,60 @@ impl<'o, 'a> PlacedObject<'o, 'a> {
 
     /// How many sections there are, from section index 1 on.
     pub(crate) fn section_count(&self) -> usize
-        ensures { result ≡ length (plain_sections self.now.object) }
+        ensures value { result ≡ length (plain_sections self.now.object) }
+        ensures few { result < 2 ^ 24 }
     {
+        self.is_placed();
         self.layout.section_count() - 1
+    }
+
+    /// How many section headers there are.
+    pub(crate) fn header_count(&self) -> usize
+        ensures value { result ≡ length (plain_sections self.now.object) + 1 }
+        ensures few { result < 2 ^ 31 }
+    {
+        self.section_count() + 1
+    }
+
+    /// The section index of `.symtab`.
+    pub(crate) fn symbol_table_index(&self) -> usize
+        ensures value { result ≡ symbol_table_at self.now.object }
+        ensures few { result < 2 ^ 31 }
+    {
+        let _count = self.section_count();
+        self.own_count() + 1
+    }
+
+    /// The section index of `.strtab`.
+    pub(crate) fn strings_index(&self) -> usize
+        ensures value { result ≡ strings_at self.now.object }
+        ensures few { result < 2 ^ 31 }
+    {
+        self.names_index() - 1
+    }
+
+    /// The section index of `.shstrtab`, which is the last one.
+    pub(crate) fn names_index(&self) -> usize
+        ensures value { result ≡ names_at self.now.object }
+        ensures few { result < 2 ^ 31 }
+    {
+        self.section_count()
+    }
+
+    /// Where the content of the section of this position in the layout begins.
+    pub(crate) fn place(&self, position: usize) -> u64
+        requires { position < length (plain_sections self.now.object) }
+        ensures { result ≡ slice_index self.now.layout.places position }
+    {
+        let _count = self.section_count();
+        self.layout.offset(position + 1)
+    }
+
+    /// Where the section header table begins.
+    pub(crate) fn table(&self) -> u64
+        ensures { result ≡ slice_index self.now.layout.places (length (plain_sections self.now.object)) }
+    {
+        self.layout.table()
     }
 
     /// The section of this position in the layout.
