@@ -9,4 +9,4 @@ pub use Rattle.elf_image.proofs.SomeImage.{some_image}
 pub use Rattle.elf_image.proofs.Spread.{in_spread, length-spread, length-unaligned, parts_ascend}
 pub use Rattle.elf_image.proofs.Stands.{contents_read, entry_at, header_read, sections_read, segments_read}
 pub use Rattle.elf_image.proofs.Theorem.{HasTablesOf, Reads, clean_bytes, has_tables_of, image_is_sound, one_list, sound_stands, stands_is_image}
-pub use Rattle.elf_image.proofs.Written.{flat_err, flat_ok, in_records, length-put_mid, record_put}
+pub use Rattle.elf_image.proofs.Written.{flat_err, flat_ok, in_records, length-put_mid, record_put, went_err}

@@ -35,3 +35,4 @@ pub mod KeptPositions
 pub mod OwnSections
 pub mod HeaderTable
 pub mod HeaderFields
+pub mod Going

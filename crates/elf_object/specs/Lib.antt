@@ -20,3 +20,4 @@ pub mod LayoutParts
 pub mod LayoutView
 pub mod NameTables
 pub mod PlacedObject
+pub mod ObjectWriting
