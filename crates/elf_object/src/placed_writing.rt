@@ -111,11 +111,19 @@ fn write_table<W: Write>(
         WritesBehind out (W.contents writer.old) (W.contents writer.new)
         (replicate (slice_index places (length (plain_sections o)) - out) 0 ++ header_table o places) result }
 {
-    placed.is_placed();
     let padding = placed.table() - out;
-    let size = SHDR_SIZE * placed.header_count() as u64;
+    let size = table_size(placed);
     let sent = write_padded_table(placed, padding, writer);
     behind(out, padding + size, sent)
+}
+
+/// The size of the section header table, which ends in time.
+fn table_size(placed: &PlacedObject<'_, '_>) -> u64
+    ensures value { result ≡ length (header_table placed.now.object placed.now.layout.places) }
+    ensures within { slice_index placed.now.layout.places (length (plain_sections placed.now.object)) + result ≤ 2 ^ 30 }
+{
+    placed.is_placed();
+    SHDR_SIZE * placed.header_count() as u64
 }
 
 /// Zeros, and the section header table.
