@@ -52,3 +52,11 @@ pub mod WrittenSymbolValues
 pub mod WrittenDenotes
 pub mod WrittenReferenceRules
 pub mod WrittenRules
+pub mod Several
+pub mod PlacedSections
+pub mod ShortLayout
+pub mod KeptPositions
+pub mod OwnSections
+pub mod HeaderTable
+pub mod HeaderFields
+pub mod Going

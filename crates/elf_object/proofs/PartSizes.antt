@@ -30,7 +30,7 @@ pub sound_bits : (o : ObjectValue) → IsObject o → (i : ℕ) → i < length o
 unfolding object_rules section_rules
 sound_bits o sound i lt wrong = (FirstIn-front (section_rules o) _ sound).1.0 i (i, lt, wrong, refl)
 
-bits_in_file : (type : ℕ) (content : List ℕ) → (IsWrongBits (bits type content) → ⊥) → type ≢ SHT_NOBITS
+pub bits_in_file : (type : ℕ) (content : List ℕ) → (IsWrongBits (bits type content) → ⊥) → type ≢ SHT_NOBITS
 bits_in_file type content right same = right (5, omega arith, sym same)
 
 -- ---- a size that fits

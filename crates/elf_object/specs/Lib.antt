@@ -19,3 +19,5 @@ pub mod WrittenObject
 pub mod LayoutParts
 pub mod LayoutView
 pub mod NameTables
+pub mod PlacedObject
+pub mod ObjectWriting

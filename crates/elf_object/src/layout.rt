@@ -2,6 +2,7 @@
 ghost use Rattle.std.specs.Prelude.{◌≡◌, ◌<◌, ℕ, ◌-◌, ◌∷◌, IfErr, IfOk, length, slice_index};
 ghost use Rattle.elf_extent.specs.Place.{EndsFit, Least};
 ghost use Rattle.elf_object.specs.LayoutView.{ArePartsFault, ArePlacedParts, IsLayoutFault, IsLayoutOf};
+ghost use Rattle.elf_object.specs.NameTables.{AreNameTables};
 
 use crate::layout_parts::layout_parts;
 use crate::name_tables::NameTables;
@@ -95,7 +96,20 @@ pub fn lay_out(alloc: Global, object: &Object<'_>) -> Result<Layout, LayoutFault
     ensures err { IfErr result (IsLayoutFault object.now) }
 {
     let tables = NameTables::new(alloc, object)?;
-    let parts = layout_parts(alloc, object, &tables)?;
+    lay_out_with(alloc, object, &tables)
+}
+
+/// The same, with the object's string tables.
+pub(crate) fn lay_out_with(
+    alloc: Global,
+    object: &Object<'_>,
+    tables: &NameTables,
+) -> Result<Layout, LayoutFault>
+    requires { AreNameTables object.now tables.now }
+    ensures ok { IfOk result (IsLayoutOf object.now) }
+    ensures err { IfErr result (IsLayoutFault object.now) }
+{
+    let parts = layout_parts(alloc, object, tables)?;
     place_parts(alloc, &parts)
 }
 

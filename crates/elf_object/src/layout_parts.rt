@@ -55,7 +55,7 @@ fn own_parts(alloc: Global, object: &Object<'_>) -> Result<Vec<(u64, u64)>, Allo
 }
 
 /// The content of a section, whose alignment counts only where it has bytes in the file.
-fn content_part(section: &Section<'_>) -> (u64, u64)
+pub(crate) fn content_part(section: &Section<'_>) -> (u64, u64)
     requires { ¬ IsWrongBits (body_value section.now.body) }
     ensures { (o : ObjectValue) → result ≡ saturated (content_part (own_section o (section_value section.now))) }
 {

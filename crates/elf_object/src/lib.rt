@@ -26,11 +26,16 @@
 //! ```
 #![tactic(auto)]
 
+mod body_entries;
 mod body_kind;
+mod contents;
+mod entries;
 mod fault;
+mod file_header;
 mod file_rules;
 mod front_rules;
 mod group_rule;
+mod indexes;
 mod laws;
 mod layout;
 mod layout_laws;
@@ -40,7 +45,11 @@ mod member_rule;
 mod name_tables;
 mod object;
 mod object_rules;
+mod object_writing;
 mod parts;
+mod placed_object;
+mod placed_section;
+mod placed_writing;
 mod positions;
 mod read_bodies;
 mod read_positions;
@@ -50,8 +59,10 @@ mod reference_rules;
 mod relocation;
 pub mod rules;
 mod section;
+mod section_headers;
 mod section_rules;
 mod symbol;
+mod symbol_entries;
 mod symbol_rules;
 mod written_laws;
 
@@ -60,6 +71,7 @@ pub use laws::{one_object, one_object_fault};
 pub use layout::{Layout, LayoutFault, lay_out};
 pub use layout_laws::{laid_objects, one_layout};
 pub use object::Object;
+pub use object_writing::{ObjectWriteFault, write_object};
 pub use parts::ObjectParts;
 pub use reading::object_of;
 pub use relocation::Relocation;

@@ -1,6 +1,6 @@
 use Rattle.std.proofs.Common.{◌∙◌}
 use Rattle.elf_object.proofs.CanonicalLayout.{if_err, if_ok, layout_err, layout_ok, some_part}
-use Rattle.elf_object.proofs.layout.lay_out.Goals as goal
+use Rattle.elf_object.proofs.layout.lay_out_with.Goals as goal
 
 pub place_parts-requires : goal.place_parts-requires
 place_parts-requires c = some_part c.args.object.now c.deref.result.now (c.deref.ensures.value ∙ c.in_ok-parts.ensures)
