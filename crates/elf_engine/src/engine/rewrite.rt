@@ -1,4 +1,5 @@
 //! `rewrite`: the object of a file, in canonical layout.
+ghost use Rattle.std.specs.Prelude.{◌≡◌};
 ghost use Rattle.elf_engine.specs.Rewrite.{IsRewritten, IsSaid, ObjectSays, SectionsSay};
 ghost use Rattle.elf_table.specs.Sections.{sections_of};
 
