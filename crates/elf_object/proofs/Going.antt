@@ -1,12 +1,11 @@
 -- The parts of an object's canonical layout, as they go out one by one.
-use Rattle.std.proofs.Common.{◌≡◌, ◌<◌, ◌≤◌, ◌+◌, ◌-◌, ◌*◌, ◌^◌, ℕ, zero, suc, Option, List, [], ◌∷◌, ◌++◌, length, map, take, drop, get_or, refl, sym, ap, ap₂, subst, ◌∙◌, append_assoc, arith, length-append}
+use Rattle.std.proofs.Common.{◌≡◌, ◌<◌, ◌≤◌, ◌+◌, ◌-◌, ◌*◌, ◌^◌, ℕ, Option, List, [], ◌∷◌, ◌++◌, length, map, take, drop, get_or, refl, sym, ap, subst, ◌∙◌, append_assoc, arith, length-append}
 use Rattle.std.specs.Prelude.{replicate, Result, Ok, Err}
 use Rattle.std.specs.Io.KnownBytes.{Appends}
 use Rattle.std.specs.List.{flat_map}
 use Rattle.std.proofs.Math.ListN.{drop_of_length-le}
 use Rattle.std.proofs.KnownBytes.{Appends-trans}
 use Rattle.std.proofs.lemmas.List.{append-nil, drop_more, get_or-append-add, get_or-map, get_or_append_left, length-map, length-replicate, take-append-le}
-use Rattle.elf_field.specs.Abi.{EHDR_SIZE}
 use Rattle.elf_field.specs.Ehdr.{ehdr_bytes}
 use Rattle.elf_field.specs.EhdrLaws.{ehdr_laws}
 use Rattle.elf_field.specs.Shdr.{shdr_bytes}
@@ -17,12 +16,11 @@ use Rattle.elf_field.specs.declared.order.Order.TheVariants.{Little, Big}
 use Rattle.elf_extent.specs.Place.{Fits}
 use Rattle.elf_image.specs.declared.fault.WriteFault.{WriteFault}
 use Rattle.elf_image.specs.FileParts.{spread, unaligned}
-use Rattle.elf_image.specs.Output.{Writes}
-use Rattle.elf_image.specs.RelocatableFile.{all_headers, behind_header, offsets, relocatable_bytes}
+use Rattle.elf_image.specs.RelocatableFile.{all_headers, offsets, relocatable_bytes}
 use Rattle.elf_image.proofs.Public.{went_err}
 use Rattle.elf_rules.specs.Tables.{order_of}
 use Rattle.elf_string_table.specs.StringTable.{name_place}
-use Rattle.elf_object.specs.Laid.{file_header, identification, layout_bytes, layout_parts, section_headers}
+use Rattle.elf_object.specs.Laid.{identification, layout_bytes, section_headers}
 use Rattle.elf_object.specs.LayoutView.{IsLayoutOf, LayoutValue}
 use Rattle.elf_object.specs.Object.{ObjectValue}
 use Rattle.elf_object.specs.ObjectWriting.{WritesBehind, header_table}
@@ -30,9 +28,9 @@ use Rattle.elf_object.specs.PlacedObject.{IsPlaced, IsSectionAt, PlacedValue, pl
 use Rattle.elf_object.specs.PlainSections.{PlainSection, names_at, plain_sections, section_names}
 use Rattle.elf_object.specs.declared.placed_section.PlacedSection.{PlacedSection}
 use Rattle.elf_object.specs.declared.placed_section.PlacedSection.TheVariants.{Names}
-use Rattle.elf_object.proofs.CanonicalLayout.{contents_of, header_at, headers_at, layout_order, length-headers_at, offsets_are}
+use Rattle.elf_object.proofs.CanonicalLayout.{contents_of, header_at, headers_at, layout_order, offsets_are}
 use Rattle.elf_object.proofs.HeaderTable.{length-headers}
-use Rattle.elf_object.proofs.ShortLayout.{content_end, table_end}
+use Rattle.elf_object.proofs.ShortLayout.{content_end}
 
 -- ---- bytes that go out part by part
 

@@ -1,6 +1,6 @@
 -- The section header of each kind of section, field by field.
-use Rattle.std.proofs.Common.{◌≡◌, ◌+◌, ◌*◌, ℕ, false, List, length, refl, sym, ap, ap₂, subst, ◌∙◌, arith}
-use Rattle.std.specs.Prelude.{◌==◌, filter, if◌then◌else◌}
+use Rattle.std.proofs.Common.{◌≡◌, ◌+◌, ℕ, List, length, refl, sym, ap, ap₂, subst, ◌∙◌}
+use Rattle.std.specs.Prelude.{filter}
 use Rattle.std.proofs.lemmas.Bool.{ne_eqb}
 use Rattle.elf_field.specs.Abi.{SHT_NOBITS}
 use Rattle.elf_field.specs.declared.shdr.Shdr.{Shdr}
@@ -10,7 +10,7 @@ use Rattle.elf_object.specs.declared.placed_section.PlacedSection.TheVariants.{O
 use Rattle.elf_object.specs.Laid.{section_header, section_size}
 use Rattle.elf_object.specs.Object.{BodyValue, bits, ObjectValue, SectionValue, section_at}
 use Rattle.elf_object.specs.PlacedObject.{plain_section}
-use Rattle.elf_object.specs.PlainSections.{PlainSection, body_type, index_of, is_local, own_info, own_section, strings_at}
+use Rattle.elf_object.specs.PlainSections.{body_type, index_of, is_local, own_info, own_section, strings_at}
 use Rattle.elf_object.specs.SectionRules.{IsWrongBits}
 use Rattle.elf_object.proofs.PartSizes.{bits_in_file}
 
@@ -54,17 +54,17 @@ pub bits_header : (o : ObjectValue) (s t : SectionValue) (type : ℕ) (content :
     of_section t h.sh_offset h.sh_name kind h.sh_size link info ≡ section_header name_at (own_section o s) h.sh_offset
 bits_header o s t type content name_at h kind link info same body right typed linked informed is =
     let P : SectionValue → Type 0 = λ x. h ≡ begun (name_at x.name) h.sh_offset (length (own_section o x).content) →
-        of_section t h.sh_offset h.sh_name kind h.sh_size link info ≡ section_header name_at (own_section o x) h.sh_offset in
+    of_section t h.sh_offset h.sh_name kind h.sh_size link info ≡ section_header name_at (own_section o x) h.sh_offset in
     subst P same (λ begin. bits_fields o t name_at h.sh_offset h.sh_name kind h.sh_size link info
-        (ap (λ (x : Shdr). x.sh_name) begin) typed
-        (ap (λ (x : Shdr). x.sh_size) begin ∙ sym (bits_size o t t.body type content refl body right))
-        (rw body linked) (rw body informed)) is
+    (ap (λ (x : Shdr). x.sh_name) begin) typed
+    (ap (λ (x : Shdr). x.sh_size) begin ∙ sym (bits_size o t t.body type content refl body right))
+    (rw body linked) (rw body informed)) is
 
 -- one of the object's own sections
 pub own_header_read : (o : ObjectValue) (section : PlacedSection) (position : ℕ) (name offset size : ℕ) (h : Shdr) → section ≡ Own position →
     size ≡ length (plain_section o section).content →
     ((name_at : List ℕ → ℕ) → begun name offset size ≡ begun (name_at (section_at o position).name) offset (length (own_section o (section_at o position)).content) →
-        h ≡ section_header name_at (own_section o (section_at o position)) offset) →
+    h ≡ section_header name_at (own_section o (section_at o position)) offset) →
     (name_at : List ℕ → ℕ) → name ≡ name_at (plain_section o section).name → h ≡ section_header name_at (plain_section o section) offset
 own_header_read o section position name offset size h is sized from name_at named =
     let P : PlacedSection → Type 0 = λ s. size ≡ length (plain_section o s).content → name ≡ name_at (plain_section o s).name → h ≡ section_header name_at (plain_section o s) offset in

@@ -1,19 +1,18 @@
 -- The section header table, header by header.
-use Rattle.std.proofs.Common.{◌≡◌, ◌<◌, ◌≤◌, ◌+◌, ◌-◌, ◌*◌, ◌^◌, ℕ, zero, suc, Bool, true, false, List, [], ◌∷◌, ◌++◌, length, map, get_or, refl, sym, ap, ap₂, subst, ◌∙◌, arith, length-append}
+use Rattle.std.proofs.Common.{◌≡◌, ◌<◌, ◌+◌, ◌-◌, ℕ, zero, suc, Bool, true, false, List, [], ◌∷◌, ◌++◌, length, map, get_or, refl, sym, ap, ap₂, ◌∙◌, arith}
 use Rattle.std.specs.Prelude.{codes, cond, filter}
-use Rattle.std.proofs.lemmas.List.{get_or-map, length-map, map-append}
+use Rattle.std.proofs.lemmas.List.{get_or-map, map-append}
 use Rattle.elf_field.specs.declared.shdr.Shdr.{Shdr}
-use Rattle.elf_image.specs.RelocatableFile.{all_headers, first_header}
 use Rattle.elf_string_table.specs.StringTable.{name_place}
 use Rattle.elf_object.specs.declared.placed_section.PlacedSection.{PlacedSection}
 use Rattle.elf_object.specs.declared.placed_section.PlacedSection.TheVariants.{Names}
 use Rattle.elf_object.specs.declared.symbol.Symbol.{Symbol}
 use Rattle.elf_object.specs.Laid.{section_header, section_headers}
-use Rattle.elf_object.specs.LayoutView.{IsLayoutOf, LayoutValue}
+use Rattle.elf_object.specs.LayoutView.{LayoutValue}
 use Rattle.elf_object.specs.Object.{ObjectValue, SymbolValue}
 use Rattle.elf_object.specs.ObjectView.{symbol_value}
 use Rattle.elf_object.specs.PlacedObject.{IsSectionAt, plain_section}
-use Rattle.elf_object.specs.PlainSections.{PlainSection, is_local, names_at, plain_sections, section_names, sections_before_names}
+use Rattle.elf_object.specs.PlainSections.{PlainSection, is_local, plain_sections, section_names, sections_before_names}
 use Rattle.elf_object.proofs.OwnSections.{any_default}
 
 -- the name of a section is the one at its position in the list of all names

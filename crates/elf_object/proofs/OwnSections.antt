@@ -1,7 +1,6 @@
 -- The numbers of an object's own sections fit the fields of its file.
-use Rattle.std.proofs.Common.{◌≡◌, ◌<◌, ◌≤◌, ◌+◌, ◌*◌, ◌^◌, ◌⊎◌, ℕ, zero, suc, Option, None, Some, List, [], ◌∷◌, length, map, get_or, inl, inr, refl, sym, ap, subst, ◌∙◌, arith}
+use Rattle.std.proofs.Common.{◌≡◌, ◌<◌, ◌≤◌, ◌+◌, ◌^◌, ℕ, zero, suc, Some, List, [], ◌∷◌, length, map, get_or, inl, inr, refl, sym, ap, ◌∙◌, arith}
 use Rattle.std.specs.Prelude.{All, Any}
-use Rattle.std.proofs.lemmas.Bool.{cases_lt}
 use Rattle.std.proofs.lemmas.List.{get_or-map, length-map}
 use Rattle.elf_object.specs.declared.placed_section.PlacedSection.TheVariants.{Own}
 use Rattle.elf_object.specs.declared.relocation.Relocation.{Relocation}
@@ -11,7 +10,7 @@ use Rattle.elf_object.specs.ObjectView.{section_value}
 use Rattle.elf_object.specs.PlacedObject.{HasShortIndexes, IsPlaced, IsWritable, PlacedValue}
 use Rattle.elf_object.specs.PlainSections.{index_of}
 use Rattle.elf_object.specs.Positions.{IsPast, info_position}
-use Rattle.elf_object.specs.SectionRules.{HasWrongReference, IsWrongBits}
+use Rattle.elf_object.specs.SectionRules.{HasWrongReference}
 use Rattle.elf_object.proofs.KeptPositions.{near_index, position_kept}
 use Rattle.elf_object.proofs.PartSizes.{sound_bits}
 use Rattle.elf_object.proofs.PlacedSections.{own_at}
@@ -34,13 +33,15 @@ each_here P Q xs from none = λ k d lt. from (get_or xs k d) (λ p. none (k, get
 short_indexes : (o : ObjectValue) (b : BodyValue) → length o.sections < 2 ^ 31 → length o.symbols < 2 ^ 31 → (HasWrongReference o b → ⊥) → HasShortIndexes b
 short_indexes o (bits type content) few_s few_m right = tt
 short_indexes o (no_bits size) few_s few_m right = tt
-short_indexes o (relocs rela target entries) few_s few_m right =
-    (below_count target (length o.sections) few_s (λ past. right (inl (inl past))),
-    each_here (λ (r : Relocation). IsPast (length o.symbols) r.symbol) (λ r. index_of r.symbol < 2 ^ 32) entries
-    (λ r here. near_index r.symbol (length o.symbols) few_m here) (λ past. right (inr past)))
-short_indexes o (group comdat signature members) few_s few_m right =
-    (below_count signature (length o.symbols) few_m (λ past. right (inl past)),
-    each_here (λ (m : ℕ). length o.sections ≤ m) (λ m. m + 1 < 2 ^ 32) members (λ m here. below_count m (length o.sections) few_s here) (λ past. right (inr past)))
+short_indexes o (relocs rela target entries) few_s few_m right = (
+  below_count target (length o.sections) few_s (λ past. right (inl (inl past))),
+  each_here (λ (r : Relocation). IsPast (length o.symbols) r.symbol) (λ r. index_of r.symbol < 2 ^ 32) entries
+      (λ r here. near_index r.symbol (length o.symbols) few_m here) (λ past. right (inr past)),
+)
+short_indexes o (group comdat signature members) few_s few_m right = (
+  below_count signature (length o.symbols) few_m (λ past. right (inl past)),
+  each_here (λ (m : ℕ). length o.sections ≤ m) (λ m. m + 1 < 2 ^ 32) members (λ m here. below_count m (length o.sections) few_s here) (λ past. right (inr past)),
+)
 
 pub writable : (p : PlacedValue) (i : ℕ) → IsPlaced p → i < length p.object.sections → IsWritable p.object (section_at p.object i)
 writable p i placed lt =

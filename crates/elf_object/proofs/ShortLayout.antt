@@ -1,18 +1,17 @@
 -- What bounds follow for the numbers of an object from a layout that is not too long.
-use Rattle.std.proofs.Common.{◌≡◌, ◌<◌, ◌≤◌, ◌+◌, ◌-◌, ◌*◌, ◌^◌, ℕ, zero, suc, List, [], ◌∷◌, ◌++◌, length, map, get_or, inl, inr, refl, sym, ap, ◌∙◌, arith, length-append}
+use Rattle.std.proofs.Common.{◌≡◌, ◌<◌, ◌≤◌, ◌+◌, ◌-◌, ◌*◌, ◌^◌, ℕ, zero, suc, List, [], ◌∷◌, ◌++◌, length, map, get_or, inl, inr, refl, ap, ◌∙◌, arith, length-append}
 use Rattle.std.specs.Prelude.{codes}
 use Rattle.std.proofs.lemmas.List.{get_or-map, length-map}
 use Rattle.elf_field.specs.Abi.{EHDR_SIZE, SHDR_SIZE}
 use Rattle.elf_field.specs.SymLaws.{sym_laws}
 use Rattle.elf_field.specs.WordLaws.{word_laws}
 use Rattle.elf_field.specs.RecordTableLaws.{length-table}
-use Rattle.elf_extent.specs.Place.{Fits, end_of}
-use Rattle.elf_extent.proofs.Public.{fits_length}
+use Rattle.elf_extent.specs.Place.{end_of}
 use Rattle.elf_rules.specs.HeaderRules.{MAX_LEN}
 use Rattle.elf_string_table.specs.StringTable.{name_place, string_table}
 use Rattle.elf_string_table.proofs.Public.{holds_names}
 use Rattle.elf_object.specs.declared.placed_section.PlacedSection.{PlacedSection}
-use Rattle.elf_object.specs.declared.placed_section.PlacedSection.TheVariants.{Own, SymbolTable, IndexTable, Strings, Names}
+use Rattle.elf_object.specs.declared.placed_section.PlacedSection.TheVariants.{SymbolTable, Strings, Names}
 use Rattle.elf_object.specs.Laid.{content_part, layout_parts}
 use Rattle.elf_object.specs.LayoutView.{IsLayoutOf, LayoutValue}
 use Rattle.elf_object.specs.Object.{ObjectValue}

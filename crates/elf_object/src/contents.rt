@@ -38,10 +38,7 @@ pub(crate) fn write_content<W: Write>(
     }
 }
 
-fn write_symbols<W: Write>(
-    placed: &PlacedObject<'_, '_>,
-    writer: &mut W,
-) -> Result<(), WriteFault>
+fn write_symbols<W: Write>(placed: &PlacedObject<'_, '_>, writer: &mut W) -> Result<(), WriteFault>
     ensures { Writes (W.contents writer.old) (W.contents writer.new) (symbol_table placed.now.object).content result }
 {
     let _few = symbol_count(placed);
@@ -82,11 +79,7 @@ fn write_own_content<W: Write>(
     write_body(placed.object().order(), &section.body, writer)
 }
 
-fn write_body<W: Write>(
-    order: Order,
-    body: &Body<'_>,
-    writer: &mut W,
-) -> Result<(), WriteFault>
+fn write_body<W: Write>(order: Order, body: &Body<'_>, writer: &mut W) -> Result<(), WriteFault>
     requires indexes { HasShortIndexes (body_value body.now) }
     requires short { length (body_bytes order (body_value body.now)) ≤ 2 ^ 30 }
     ensures { Writes (W.contents writer.old) (W.contents writer.new) (body_bytes order (body_value body.now)) result }
@@ -96,7 +89,9 @@ fn write_body<W: Write>(
         Body::NoBits(_) => Ok(()),
         Body::Relocs { rela, entries, .. } => write_relocations(order, *rela, entries, writer),
         Body::Group {
-            comdat, members, ..
+            comdat,
+            members,
+            ..
         } => {
             let words = GroupWords {
                 comdat: *comdat,

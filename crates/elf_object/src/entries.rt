@@ -68,13 +68,7 @@ pub(crate) fn write_entries<E: Entries, W: Write>(
 }
 
 /// Puts the bytes of several entries from this index on into a slice, which is just as long.
-fn put_entries<E: Entries>(
-    order: Order,
-    entries: &E,
-    from: usize,
-    several: usize,
-    bytes: &mut [u8],
-)
+fn put_entries<E: Entries>(order: Order, entries: &E, from: usize, several: usize, bytes: &mut [u8])
     requires fit { E.fit entries.now }
     requires within { from + several ≤ length (E.entries entries.now) }
     requires counted { from + several < 2 ^ 64 }

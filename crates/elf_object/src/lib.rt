@@ -64,6 +64,7 @@ mod section_rules;
 mod symbol;
 mod symbol_entries;
 mod symbol_rules;
+mod widths;
 mod written_laws;
 
 pub use fault::ObjectFault;

@@ -2,12 +2,14 @@
 ghost use Rattle.std.specs.Prelude.{◌≡◌, IfErr, IfOk, OnOk, map};
 ghost use Rattle.elf_object.specs.ObjectRules.{IsObject, IsObjectFault};
 ghost use Rattle.elf_object.specs.ObjectView.{section_value, symbol_value, value_of};
+ghost use Rattle.elf_object.specs.Widths.{ObjectFits};
 
 use crate::fault::ObjectFault;
 use crate::object_rules::judge;
 use crate::parts::ObjectParts;
 use crate::section::Section;
 use crate::symbol::Symbol;
+use crate::widths::parts_fit;
 use elf_field::Order;
 use std::alloc::Global;
 use std::marker::Model;
@@ -60,6 +62,14 @@ impl<'a> Object<'a> {
         ensures { IsObject self.now }
     {
         let _ = &self.parts;
+    }
+
+    /// Promises that each number fits its field in a file, and that names and bits are bytes. It only looks, at each section,
+    /// entry and symbol.
+    pub fn fits_fields(&self)
+        ensures { ObjectFits self.now }
+    {
+        parts_fit(&self.parts);
     }
 
     /// The byte order of the file (gABI chapter 4, Data Encoding).

@@ -45,10 +45,7 @@ pub(crate) fn write_placed<W: Write>(
     }
 }
 
-fn write_header<W: Write>(
-    placed: &PlacedObject<'_, '_>,
-    writer: &mut W,
-) -> Result<(), WriteFault>
+fn write_header<W: Write>(placed: &PlacedObject<'_, '_>, writer: &mut W) -> Result<(), WriteFault>
     ensures { let o = placed.now.object in let count = length (plain_sections o) in
         Writes (W.contents writer.old) (W.contents writer.new)
         (ehdr_bytes o.order (file_header o (count + 1) (slice_index placed.now.layout.places count))) result }
@@ -149,10 +146,7 @@ fn write_padded_table<W: Write>(
 }
 
 #[tactic(auto, unfolding(crate::specs::ObjectWriting::header_table))]
-fn write_headers<W: Write>(
-    placed: &PlacedObject<'_, '_>,
-    writer: &mut W,
-) -> Result<(), WriteFault>
+fn write_headers<W: Write>(placed: &PlacedObject<'_, '_>, writer: &mut W) -> Result<(), WriteFault>
     ensures { Writes (W.contents writer.old) (W.contents writer.new)
         (header_table placed.now.object placed.now.layout.places) result }
 {
@@ -162,11 +156,7 @@ fn write_headers<W: Write>(
 }
 
 /// How many bytes are out when so many more are sent behind others; a fault counts all of them.
-fn behind(
-    out: u64,
-    size: u64,
-    sent: Result<(), WriteFault>,
-) -> Result<u64, WriteFault>
+fn behind(out: u64, size: u64, sent: Result<(), WriteFault>) -> Result<u64, WriteFault>
     requires fits { out + size < 2 ^ 64 }
     requires below { IfErr sent (λ fault. fault.written < size) }
     ensures { (before after : Option (List ℕ)) (bytes : List ℕ) → length bytes ≡ size → Writes before after bytes sent →

@@ -1,9 +1,17 @@
-//! Tests of objects: made from their parts, and read from a file.
+//! Tests of objects: made from their parts, read from a file, and written.
 #![tactic(auto)]
 
+#[cfg(test)]
+mod failing_writers;
+#[cfg(test)]
+mod far_sections;
 #[cfg(test)]
 mod files;
 #[cfg(test)]
 mod groups;
 #[cfg(test)]
 mod parts;
+#[cfg(test)]
+mod writers;
+#[cfg(test)]
+mod written;

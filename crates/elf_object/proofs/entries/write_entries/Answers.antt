@@ -1,4 +1,4 @@
-use Rattle.std.proofs.Common.{◌≡◌, ◌*◌, take, arith, ap, ◌∙◌}
+use Rattle.std.proofs.Common.{◌*◌, take, arith, ap, ◌∙◌}
 use Rattle.std.proofs.lemmas.List.{length-take-le}
 use Rattle.elf_field.specs.RecordTableLaws.{length-table}
 use Rattle.elf_image.proofs.Public.{flat_err, flat_ok}

@@ -1,4 +1,4 @@
-use Rattle.std.proofs.Common.{ℕ, List, ap, length, ◌+◌, ◌∙◌}
+use Rattle.std.proofs.Common.{List, ap, length, ◌+◌, ◌∙◌}
 use Rattle.std.specs.Prelude.{filter}
 use Rattle.elf_object.specs.Object.{ObjectValue, SymbolValue}
 use Rattle.elf_object.specs.PlainSections.{is_local}

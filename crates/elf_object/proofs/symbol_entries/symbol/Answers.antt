@@ -1,4 +1,4 @@
-use Rattle.std.proofs.Common.{sym, ap, ◌∙◌}
+use Rattle.std.proofs.Common.{ap, ◌∙◌}
 use Rattle.elf_object.proofs.KeptPositions.{near_place}
 use Rattle.elf_object.proofs.symbol_entries.symbol.Goals as goal
 

@@ -1,7 +1,6 @@
 use Rattle.std.proofs.Common.{◌+◌, ◌-◌, ℕ, ap, arith, sym, ◌∙◌}
 use Rattle.elf_image.specs.RelocatableFile.{first_header}
 use Rattle.elf_string_table.specs.StringTable.{name_place}
-use Rattle.elf_object.specs.Laid.{section_headers}
 use Rattle.elf_object.specs.PlacedObject.{plain_section}
 use Rattle.elf_object.specs.PlainSections.{names_at, plain_sections, section_names}
 use Rattle.elf_object.specs.declared.placed_section.PlacedSection.TheVariants.{Names}
