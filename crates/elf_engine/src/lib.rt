@@ -11,6 +11,7 @@
 
 mod engine;
 mod fault;
+mod laws;
 mod line;
 mod show_lines;
 mod table_lines;
@@ -19,3 +20,4 @@ pub use engine::check::check;
 pub use engine::rewrite::rewrite;
 pub use engine::show::show;
 pub use fault::{Refusal, ToolFault, Verdict};
+pub use laws::rewrite_again;

@@ -23,4 +23,4 @@ returns-in-Err-Rule g c =
     let broken = rw c.in-Err-Rule.field-0-is at c.in-Err-Rule.ensures.err in
     said RewriteSays (g.R.Read.remaining c.args.reader.now) (g.R.Read.remaining c.read_input.new.reader) old old b c.read_input.new.buf.items (vec_len c.read_input.new.buf)
     c.as_slice.ensures.value (omega (arith, c.as_slice.ensures.len)) c.in_ok-read_input.ensures.taken c.in_ok-read_input.ensures.limit c.in_ok-read_input.ensures.ok
-    (Ok c.refused.result) (rw c.refused.ensures ([], (inr (broken, refl, refl)), Appends-nil old))
+    (Ok c.refused.result) (rw (c.refused.ensures, c.in-Err-Rule.rule-is, c.in-Err-Rule.at-is) ([], (inr (broken, refl, refl)), Appends-nil old))
