@@ -88,7 +88,7 @@ fn each_call_fails_alone(rt: HostRuntime) -> Result<(), Fail> {
         assert_eq!(rt; answer, Err(ObjectWriteFault::Io { written }));
         assert_eq!(rt; Some(writer.bytes.as_slice()), file.get(..written as usize));
         assert_eq!(rt; writer.calls, failing);
-        failing += 1;
+        failing = failing.saturating_add(1);
     }
     Ok(())
 }
