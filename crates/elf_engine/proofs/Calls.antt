@@ -49,12 +49,16 @@ module _ (report : Report) (input rest old new : Option (List ℕ)) (read items 
     (taken : Consumes input rest items) (limit : count ≤ 2 ^ 30 + 1) (whole : IsAtEnd rest ⊎ (count ≡ 2 ^ 30 + 1)) where
   answered_with : (result : Result Verdict ToolFault) → IsSaid (report read) old new result → IsAnswered report input rest old new result
   answered_with (Ok verdict) (text, says, out) = record {
-    bytes = read; taken = rw same taken; limit = rw long limit;
+    bytes = read;
+    taken = rw same taken;
+    limit = rw long limit;
     answered = inr (rw long whole, record { verdict = verdict; text = text; is = says; answer = refl; written = out });
   }
   answered_with (Err (Read at)) said = absurd said
   answered_with (Err (Write written)) (text, says, short, cut) = record {
-    bytes = read; taken = rw same taken; limit = rw long limit;
+    bytes = read;
+    taken = rw same taken;
+    limit = rw long limit;
     answered = inr (rw long whole, record { verdict = Done; text = text; is = says; answer = tt; written = (short, cut) });
   }
   answered_with (Err OutOfMemory) kept = record { bytes = read; taken = rw same taken; limit = rw long limit; answered = inl kept }

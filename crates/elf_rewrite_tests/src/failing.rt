@@ -15,7 +15,11 @@ fn a_read_that_fails_is_told_with_its_place(rt: HostRuntime) {
         let answer = rewrite(rt.alloc(), &mut reader, &mut writer);
         let at = (call * PIECE) as u64;
         assert_eq!(rt; answer, Err(ToolFault::Read { at }), "call {call}");
-        assert_eq!(rt; (reader.calls, reader.empty_calls, writer.calls), (call + 1, 0, 0), "call {call}");
+        assert_eq!(rt;
+            (reader.calls, reader.empty_calls, writer.calls),
+            (call + 1, 0, 0),
+            "call {call}"
+        );
     }
 }
 
@@ -39,7 +43,11 @@ fn a_write_that_fails_is_told_with_what_is_out(rt: HostRuntime) {
         let written = writer.text().len() as u64;
         assert_eq!(rt; answer, Err(ToolFault::Write { written }), "call {call}");
         assert_eq!(rt; writer.text(), &file[..writer.text().len()], "call {call}");
-        assert_eq!(rt; (writer.calls, writer.flushes), (call + 1, 0), "call {call}");
+        assert_eq!(rt;
+            (writer.calls, writer.flushes),
+            (call + 1, 0),
+            "call {call}"
+        );
     }
 }
 

@@ -10,12 +10,11 @@
 mod fakes;
 mod image_files;
 
+use elf_field::Order;
 pub use fakes::{Failure, PIECE, Sink, Source};
 pub use image_files::{
     empty_contents, empty_object, filled_gap, long_parts, one_section, one_segment, two_of_each,
 };
-
-use elf_field::Order;
 
 /// A field: its offset in the file, its width in bytes and its value.
 pub type Field = (usize, usize, u64);

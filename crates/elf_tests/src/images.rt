@@ -1,14 +1,13 @@
 //! Images of the worked files: read, edited and written.
 use crate::image_faults::{Pieces, Shelf};
-use elf_test_files::{
-    empty_contents, empty_object, filled_gap, one_section, one_segment, two_of_each,
-};
 use elf_field::Order;
 use elf_image::{
     Fault, Image, NoSection, Owner, Part, ReplaceFault, WriteFault, parse, read_to_end, verdict,
     write,
 };
-use elf_test_files::set;
+use elf_test_files::{
+    empty_contents, empty_object, filled_gap, one_section, one_segment, set, two_of_each,
+};
 use std::alloc::Global;
 use std::process::Abort;
 use std::test::Fail;
