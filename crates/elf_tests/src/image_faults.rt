@@ -114,13 +114,13 @@ impl Read for OnceFailingReader<'_> {
 /// Takes at most `piece` bytes at a time, and notes how many it is offered. At the call of number
 /// `failing`, counted from 1, and at no other, it fails, or takes none where there is no `failure`.
 #[derive(Drop)]
-struct OnceFailingWriter {
-    bytes: Vec<u8>,
-    piece: usize,
-    failing: usize,
-    failure: Option<ErrorKind>,
-    offers: Vec<usize>,
-    flushes: usize,
+pub struct OnceFailingWriter {
+    pub bytes: Vec<u8>,
+    pub piece: usize,
+    pub failing: usize,
+    pub failure: Option<ErrorKind>,
+    pub offers: Vec<usize>,
+    pub flushes: usize,
 }
 
 impl Write for OnceFailingWriter {
