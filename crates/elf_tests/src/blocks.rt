@@ -13,10 +13,13 @@ use std::test::Fail;
 const ZEROS: usize = 8292;
 
 /// How many of the zeros are out before each call that takes 1,000 bytes: those of a block go out in five.
-const ZEROS_OUT: [usize; 11] = [0, 1000, 2000, 3000, 4000, 4096, 5096, 6096, 7096, 8096, 8192];
+const ZEROS_OUT: [usize; 11] = [
+    0, 1000, 2000, 3000, 4000, 4096, 5096, 6096, 7096, 8096, 8192,
+];
 
 /// A part of 1,500 bytes behind a block of zeros and ten more.
 const PART: [u8; 1500] = [7; 1500];
+
 const PADDING: usize = 4106;
 
 /// The same of zeros and part.

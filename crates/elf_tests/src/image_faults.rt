@@ -1,8 +1,8 @@
 //! Readers and writers that move little, fail, or meet a refused growth.
 ghost use Rattle.std.specs.Prelude.{◌<◌, ◌≤◌};
 
-use elf_test_files::{filled_gap, long_parts};
 use elf_image::{Fault, WriteFault, parse, read_to_end, write, write_whole};
+use elf_test_files::{filled_gap, long_parts};
 use std::alloc::Global;
 use std::io;
 use std::io::{ErrorKind, Read, Write};
