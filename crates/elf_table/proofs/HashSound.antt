@@ -21,6 +21,7 @@ use Rattle.elf_table.specs.WordLists.{names_in, symbol_names_of}
 use Rattle.elf_table.specs.SymbolParts.{symbol_parts}
 use Rattle.elf_table.proofs.ChainsDecided.{ends_or_not, on_or_not}
 use Rattle.elf_table.proofs.WordListLemmas.{names_are}
+use Rattle.elf_table.proofs.TableKinds.{type_of_hash}
 
 -- the section that it links to is there
 pub hash_link : (f : Sections) (i : ℕ) → FirstIn (own_rules HashTable f i) None → (section f i).sh_link < count f
@@ -37,7 +38,7 @@ unfolding own_rules
 hash_type f i own =
     elim (cases_eq (section f i).sh_type SHT_HASH) [
       | inl same ↦ same
-      | inr other ↦ absurd (own.0 _ (other, refl))
+      | inr other ↦ absurd (own.0 _ ((λ is. other (type_of_hash _ is)), refl))
     ]
 
 pub hash_content : (s : Shdr) → s.sh_type ≡ SHT_HASH → (content_extent s).len ≡ s.sh_size
