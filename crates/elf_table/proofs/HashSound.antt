@@ -15,22 +15,13 @@ use Rattle.elf_table.specs.HashTable.{IsLinked, Valid, bucket, bucket_of, chain,
 use Rattle.elf_table.specs.Chains.{Ends, IsOn}
 use Rattle.elf_table.specs.ElfHash.{hash_of}
 use Rattle.elf_table.specs.OwnRules.{own_rules}
-use Rattle.elf_table.specs.Sections.{Sections, content, count, order, section}
+use Rattle.elf_table.specs.Sections.{Sections, content, order, section}
 use Rattle.elf_table.specs.Symbols.{symbols_of}
 use Rattle.elf_table.specs.WordLists.{names_in, symbol_names_of}
 use Rattle.elf_table.specs.SymbolParts.{symbol_parts}
 use Rattle.elf_table.proofs.ChainsDecided.{ends_or_not, on_or_not}
 use Rattle.elf_table.proofs.WordListLemmas.{names_are}
 use Rattle.elf_table.proofs.TableKinds.{type_of_hash}
-
--- the section that it links to is there
-pub hash_link : (f : Sections) (i : ℕ) → FirstIn (own_rules HashTable f i) None → (section f i).sh_link < count f
-unfolding own_rules
-hash_link f i own =
-    elim (cases_lt (section f i).sh_link (count f)) [
-      | inl there ↦ there
-      | inr past ↦ absurd (own.1.1.1.0 _ (inl past, refl))
-    ]
 
 -- it has as many bytes in the file as its section header says
 pub hash_type : (f : Sections) (i : ℕ) → FirstIn (own_rules HashTable f i) None → (section f i).sh_type ≡ SHT_HASH
