@@ -4,6 +4,7 @@ use Rattle.std.specs.Prelude.{replicate, if◌then◌else◌, ◌==◌, Result, 
 use Rattle.std.specs.List.{AllByRecursion}
 use Rattle.std.proofs.lemmas.List.{get_or-set_other, length-replicate, length-set}
 use Rattle.std.proofs.lemmas.Bool.{ne_eqb}
+use Rattle.elf_field.specs.Abi.{EHDR_SIZE, PHDR_SIZE, SHDR_SIZE}
 use Rattle.elf_field.specs.declared.shdr.Shdr.{Shdr}
 use Rattle.elf_field.specs.declared.phdr.Phdr.{Phdr}
 use Rattle.elf_field.specs.declared.ehdr.Ehdr.{Ehdr}
@@ -15,14 +16,14 @@ use Rattle.elf_extent.specs.declared.extent.Piece.{Piece}
 use Rattle.elf_extent.specs.Account.{Accounts}
 use Rattle.elf_rules.specs.Rows.{FirstIn}
 use Rattle.elf_rules.specs.Tables.{content_extent, name_table, section_count, segment_count}
-use Rattle.elf_rules.specs.HeaderRules.{header_rows}
-use Rattle.elf_rules.specs.ImageRules.{entry_rows, image_rows, record_rows, table_rows}
-use Rattle.elf_rules.specs.NameRules.{name_rows}
+use Rattle.elf_rules.specs.HeaderRules.{header_rules}
+use Rattle.elf_rules.specs.ImageRules.{entry_rules, image_rules, record_rules, table_rules}
+use Rattle.elf_rules.specs.NameRules.{name_rules}
 use Rattle.elf_rules.specs.OverlapRule.{extents}
-use Rattle.elf_rules.specs.ProgramTableRules.{program_table_rows}
-use Rattle.elf_rules.specs.SectionRules.{section_rows}
-use Rattle.elf_rules.specs.SectionTableRules.{section_table_rows}
-use Rattle.elf_rules.specs.SegmentRules.{segment_rows}
+use Rattle.elf_rules.specs.ProgramTableRules.{program_table_rules}
+use Rattle.elf_rules.specs.SectionRules.{section_rules}
+use Rattle.elf_rules.specs.SectionTableRules.{section_table_rules}
+use Rattle.elf_rules.specs.SegmentRules.{segment_rules}
 use Rattle.elf_image.specs.declared.part.Part.{Part}
 use Rattle.elf_image.specs.Image.{ImageValue, IsSound, PlacedPart, gap_len, no_section, piece_of, section_of, segment_of, value_extents, value_names}
 use Rattle.elf_image.specs.Edits.{IsReplaceable, flagged, with_content, with_entry, with_flags, with_zero_gaps, zeroed}
@@ -49,7 +50,7 @@ map-set_same f (x ∷ xs) (suc i) y d same = ap (λ (zs : List _). f x ∷ zs) (
 -- ---- e_entry
 
 pub sound-with_entry : (v : ImageValue) (entry : ℕ) → IsSound v → entry < 2 ^ 64 → IsSound (with_entry v entry)
-unfolding image_rows record_rows table_rows entry_rows header_rows section_table_rows program_table_rows section_rows segment_rows name_rows extents
+unfolding image_rules record_rules table_rules entry_rules header_rules section_table_rules program_table_rules section_rules segment_rules name_rules extents
 sound-with_entry v entry sound fits = let h = sound.header in record {
   header = record {
     e_ident = h.e_ident;
@@ -111,7 +112,7 @@ extents-flagged : (h : Ehdr) (ss : List Shdr) (gs : List Phdr) (i flags : ℕ) �
 extents-flagged h ss gs i flags =
     let s = section_of ss i in
     let Table : ℕ → List Extent → List Extent = λ n cs.
-    record { start = 0; len = 64 } ∷ record { start = h.e_shoff; len = 64 * n } ∷ record { start = h.e_phoff; len = 56 * length gs } ∷ cs in
+    record { start = 0; len = EHDR_SIZE } ∷ record { start = h.e_shoff; len = SHDR_SIZE * n } ∷ record { start = h.e_phoff; len = PHDR_SIZE * length gs } ∷ cs in
     ap₂ Table (sym (length-set ss i (record s { sh_flags = flags }))) (sym (map-set_same content_extent ss i (record s { sh_flags = flags }) no_section refl))
 
 flagged_fits : (s : Shdr) (flags : ℕ) → IsShdr s → flags < 2 ^ 64 → IsShdr (record s { sh_flags = flags })
@@ -129,13 +130,13 @@ flagged_fits s flags fits fit = record {
 }
 
 pub sound-with_flags : (v : ImageValue) (i flags : ℕ) → IsSound v → 0 < i → i < length v.sections → flags < 2 ^ 64 → IsSound (with_flags v i flags)
-unfolding image_rows record_rows table_rows entry_rows header_rows section_table_rows program_table_rows section_rows segment_rows name_rows extents
+unfolding image_rules record_rules table_rules entry_rules header_rules section_table_rules program_table_rules section_rules segment_rules name_rules extents
 sound-with_flags v i flags sound above within fits =
     let s = section_of v.sections i in
     let t : Shdr = record s { sh_flags = flags } in
     let first : section_of v.sections 0 ≡ section_of (flagged v.sections i flags) 0 = plain_at-flagged v.sections i flags 0 above in
     let Names : Shdr → List ℕ = λ e. let k = name_table v.header e in if k == 0 then [] else get_or v.contents k [] in
-    let Keeps : (ℕ → Shdr) → Type 0 = λ e. FirstIn (image_rows v.len v.header e (segment_of v.segments) (Names (e 0))) None in
+    let Keeps : (ℕ → Shdr) → Type 0 = λ e. FirstIn (image_rules v.len v.header e (segment_of v.segments) (Names (e 0))) None in
     let all : (λ (k : ℕ). plain_at k (section_of v.sections k)) ≡ (λ (k : ℕ). plain_at k (section_of (flagged v.sections i flags) k)) =
     λ j k. plain_at-flagged v.sections i flags k above j in
     record {
@@ -173,7 +174,7 @@ sound-with_content v i content sound within long other are = record {
   bytes = all_set IsBytes v.contents i content sound.bytes are;
   accounts = sound.accounts;
   gaps = sound.gaps;
-  clean = subst (λ (names : List ℕ). FirstIn (image_rows v.len v.header (section_of v.sections) (segment_of v.segments) names) None)
+  clean = subst (λ (names : List ℕ). FirstIn (image_rules v.len v.header (section_of v.sections) (segment_of v.segments) names) None)
       (names-set v.header v.sections v.contents i content other) sound.clean;
 }
 

@@ -24,8 +24,8 @@ header_fields v b image =
     let whole = stands.len in
     let long = (clean_of v (counted_by_bytes v b image)).header in
     let o = order_of (take 16 b) in
-    let ident : v.header.e_ident ≡ take 16 b = ap (λ (h : Ehdr). h.e_ident) stands.tables.header ∙ first_bytes-take 16 b (omega arith) in
-    let read = subst (IsEhdrAt o b 0) (sym stands.tables.header) (ehdr_fields_at o b 0 (omega arith) stands.bytes) in
+    let ident : v.header.e_ident ≡ take 16 b = ap (λ (h : Ehdr). h.e_ident) stands.records.header ∙ first_bytes-take 16 b (omega arith) in
+    let read = subst (IsEhdrAt o b 0) (sym stands.records.header) (ehdr_fields_at o b 0 (omega arith) stands.bytes) in
     subst (λ (p : Order). IsEhdrAt p b 0 v.header) (sym (ap order_of ident)) read
 
 pub section_fields : (v : ImageValue) (b : List ℕ) (k : ℕ) → IsImage v b → k < length v.sections →
@@ -38,7 +38,7 @@ section_fields v b k image below =
     let shared = (has_tables_by_bytes v b image).count in
     let there = table_there v counted (omega arith) in
     let table = (clean_of v counted).section_table there in
-    let read = ap (λ (f : ℕ → Shdr). f k) (sym (sections_read_at b v.header there)) ∙ entry_at (sections b v.header) v.sections no_section _ (sym stands.tables.section_headers) k (omega arith) in
+    let read = ap (λ (f : ℕ → Shdr). f k) (sym (sections_read_at b v.header there)) ∙ entry_at (sections b v.header) v.sections no_section _ (sym stands.records.section_headers) k (omega arith) in
     subst (IsShdrAt (order_of v.header.e_ident) b (shdr_offset v.header k)) read
     (shdr_fields_at (order_of v.header.e_ident) b (shdr_offset v.header k) (omega arith) stands.bytes)
 
@@ -52,6 +52,6 @@ segment_fields v b j image below =
     let count = counted.segment_count in
     let shared = (has_tables_by_bytes v b image).segment_count in
     let table = (clean_of v counted).program_table (omega arith) in
-    let read = entry_at (segments b v.header) v.segments no_segment _ (sym stands.tables.program_headers) j (omega arith) in
+    let read = entry_at (segments b v.header) v.segments no_segment _ (sym stands.records.program_headers) j (omega arith) in
     subst (IsPhdrAt (order_of v.header.e_ident) b (phdr_offset v.header j)) read
     (phdr_fields_at (order_of v.header.e_ident) b (phdr_offset v.header j) (omega arith) stands.bytes)

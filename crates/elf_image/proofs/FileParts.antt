@@ -22,7 +22,7 @@ use Rattle.elf_rules.specs.Tables.{bytes_in, content_extent, header, order_of, s
 use Rattle.elf_rules.proofs.Public.{rules_unbroken, sections_none}
 use Rattle.elf_image.specs.declared.part.Owner.{Owner}
 use Rattle.elf_image.specs.declared.part.Owner.TheVariants.{Header, ProgramTable, SectionTable, Content, Gap}
-use Rattle.elf_image.specs.Image.{AreTables, ImageValue, Stands, index_of, section_of, segment_of, value_extents, value_names, value_rows}
+use Rattle.elf_image.specs.Image.{AreRecordsIn, ImageValue, Stands, index_of, section_of, segment_of, value_extents, value_names, value_rules}
 use Rattle.elf_image.specs.FileParts.{AreFileParts, FileContents, HasContents, IsWritable, WrittenPart, owner_bytes, owner_start, spread, unaligned, written}
 use Rattle.elf_image.proofs.Holds.{length-content, same_len, same_start}
 use Rattle.elf_image.proofs.OneImage.{owner_from}
@@ -202,7 +202,7 @@ module _ (f : FileContents) (places : List ℕ) (parts : List WrittenPart) (file
   stands = owner_stands f places parts file.placed
 
   -- the value breaks none of the 33 rules
-  clean : FirstIn (value_rows (value_of f (length b))) None
+  clean : FirstIn (value_rules (value_of f (length b))) None
   unfolding b
   clean =
       let same = extents_are f.header f.sections f.segments _ _ file.section_count file.segment_count in
@@ -252,8 +252,8 @@ module _ (f : FileContents) (places : List ℕ) (parts : List WrittenPart) (file
         entry_at (sections b f.header) f.sections _ (length f.sections) sections_are 0 (omega arith))
   ]
 
-  tables : AreTables b f.header f.sections f.segments
-  tables =
+  records : AreRecordsIn b f.header f.sections f.segments
+  records =
       let section_count_is : length f.sections ≡ section_count f.header (sections b f.header 0) = file.section_count ∙ sym (ap (section_count f.header) first_is) in
       let segment_count_is : length f.segments ≡ segment_count f.header (sections b f.header 0) = file.segment_count ∙ sym (ap (segment_count f.header) first_is) in
       record {
@@ -263,7 +263,7 @@ module _ (f : FileContents) (places : List ℕ) (parts : List WrittenPart) (file
       }
 
   reads : Reads (value_of f (length b)) b
-  reads = record { len = refl; tables = tables; contents = contents_are }
+  reads = record { len = refl; records = records; contents = contents_are }
 
   accepted : IsFault b None
   accepted =
@@ -275,13 +275,13 @@ module _ (f : FileContents) (places : List ℕ) (parts : List WrittenPart) (file
 
   read : (v : ImageValue) → Stands v b → HasContents v f
   read v standing =
-      let same : v.header ≡ f.header = standing.tables.header ∙ sym header_is in
+      let same : v.header ≡ f.header = standing.records.header ∙ sym header_is in
       let all : v.sections ≡ f.sections =
-      standing.tables.section_headers ∙ ap (λ (h : Ehdr). map (sections b h) (range_with_len 0 (section_count h (sections b h 0)))) same ∙ sym tables.section_headers in
+      standing.records.section_headers ∙ ap (λ (h : Ehdr). map (sections b h) (range_with_len 0 (section_count h (sections b h 0)))) same ∙ sym records.section_headers in
       record {
         header = same;
         sections = all;
-        segments = standing.tables.program_headers ∙ ap (λ (h : Ehdr). map (segments b h) (range_with_len 0 (segment_count h (sections b h 0)))) same ∙ sym tables.program_headers;
+        segments = standing.records.program_headers ∙ ap (λ (h : Ehdr). map (segments b h) (range_with_len 0 (segment_count h (sections b h 0)))) same ∙ sym records.program_headers;
         contents = standing.contents ∙ ap (λ (ss : List Shdr). map (λ s. bytes_in b (content_extent s)) ss) all ∙ sym contents_are;
       }
 

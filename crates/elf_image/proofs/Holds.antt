@@ -4,6 +4,7 @@ use Rattle.std.specs.Prelude.{slice_get}
 use Rattle.std.specs.List.{AllByRecursion, flat_map}
 use Rattle.std.proofs.lemmas.Bool.{cases_lt}
 use Rattle.std.proofs.lemmas.List.{nil_from_length}
+use Rattle.elf_field.specs.Abi.{EHDR_SIZE, PHDR_SIZE, SHDR_SIZE}
 use Rattle.elf_field.specs.declared.shdr.Shdr.{Shdr}
 use Rattle.elf_field.specs.Bytes.{IsBytes}
 use Rattle.elf_field.specs.Ehdr.{ehdr_bytes}
@@ -146,18 +147,18 @@ holds v sound i e o here is long same =
           ap (λ (n : ℕ). take n (drop e.start (joined v))) empty ∙ sym (nil_from_length (owned_bytes v [] o) (long ∙ empty)))
     ]
 
-pub holds_header : (v : ImageValue) → IsSound v → take 64 (joined v) ≡ ehdr_bytes (order_of v.header.e_ident) v.header
-holds_header v sound = holds v sound 0 (record { start = 0; len = 64 }) Header refl is_header (ehdr_laws.length_is _ v.header) (λ gap. refl)
+pub holds_header : (v : ImageValue) → IsSound v → take EHDR_SIZE (joined v) ≡ ehdr_bytes (order_of v.header.e_ident) v.header
+holds_header v sound = holds v sound 0 (record { start = 0; len = EHDR_SIZE }) Header refl is_header (ehdr_laws.length_is _ v.header) (λ gap. refl)
 
 pub holds_sections : (v : ImageValue) → IsSound v →
-    take (64 * length v.sections) (drop v.header.e_shoff (joined v)) ≡ flat_map (shdr_bytes (order_of v.header.e_ident)) v.sections
+    take (SHDR_SIZE * length v.sections) (drop v.header.e_shoff (joined v)) ≡ flat_map (shdr_bytes (order_of v.header.e_ident)) v.sections
 holds_sections v sound =
-    holds v sound 1 (record { start = v.header.e_shoff; len = 64 * length v.sections }) SectionTable refl is_section_table (length-table shdr_laws _ v.sections) (λ gap. refl)
+    holds v sound 1 (record { start = v.header.e_shoff; len = SHDR_SIZE * length v.sections }) SectionTable refl is_section_table (length-table shdr_laws _ v.sections) (λ gap. refl)
 
 pub holds_segments : (v : ImageValue) → IsSound v →
-    take (56 * length v.segments) (drop v.header.e_phoff (joined v)) ≡ flat_map (phdr_bytes (order_of v.header.e_ident)) v.segments
+    take (PHDR_SIZE * length v.segments) (drop v.header.e_phoff (joined v)) ≡ flat_map (phdr_bytes (order_of v.header.e_ident)) v.segments
 holds_segments v sound =
-    holds v sound 2 (record { start = v.header.e_phoff; len = 56 * length v.segments }) ProgramTable refl is_program_table (length-table phdr_laws _ v.segments) (λ gap. refl)
+    holds v sound 2 (record { start = v.header.e_phoff; len = PHDR_SIZE * length v.segments }) ProgramTable refl is_program_table (length-table phdr_laws _ v.segments) (λ gap. refl)
 
 pub holds_content : (v : ImageValue) → IsSound v → (i : ℕ) (e : Extent) → slice_get (map content_extent v.sections) i ≡ Some e →
     take e.len (drop e.start (joined v)) ≡ get_or v.contents i []

@@ -1,9 +1,11 @@
 -- What a sound image value says of its section headers, its contents and its sections' names.
 use Rattle.std.proofs.Common.{◌≡◌, ◌≢◌, ◌<◌, ◌≤◌, ℕ, Bor, List, [], length, map, get_or, refl, sym, ap, ◌∙◌, arith, inl, inr}
-use Rattle.std.specs.Prelude.{◌==◌, ◌+◌, ◌^◌, if◌then◌else◌}
+use Rattle.std.specs.Prelude.{◌==◌, ◌+◌, if◌then◌else◌}
 use Rattle.std.proofs.lemmas.Bool.{cases_eq, ne_eqb}
 use Rattle.std.proofs.lemmas.List.{get_or-map, length-map}
 use Rattle.std.proofs.lemmas.Option.{slice_get-get_or}
+use Rattle.elf_rules.specs.HeaderRules.{MAX_LEN}
+use Rattle.elf_field.specs.Abi.{SHDR_SIZE, SHN_XINDEX}
 use Rattle.elf_field.specs.declared.shdr.Shdr.{Shdr}
 use Rattle.elf_rules.specs.Tables.{content_extent, name_table, shdr_offset}
 use Rattle.elf_image.specs.Image.{ImageValue, IsSound, no_section, section_of, value_names}
@@ -35,7 +37,7 @@ names_there v sound some =
     elim (cases_eq v.header.e_shoff 0) [
       | inl none ↦
           let no_names = clean.no_names none in
-          let is_none : name_table v.header (section_of v.sections 0) ≡ 0 = rw (ne_eqb v.header.e_shstrndx 0xffff (omega arith)) no_names in
+          let is_none : name_table v.header (section_of v.sections 0) ≡ 0 = rw (ne_eqb v.header.e_shstrndx SHN_XINDEX (omega arith)) no_names in
           absurd (some is_none)
       | inr there ↦ let below = clean.name_table there in omega arith
     ]
@@ -74,10 +76,10 @@ names_held v xs k x sound same is some here =
 
 -- ---- where they lie in the file
 
-pub len_short : (v : ImageValue) → IsSound v → v.len ≤ 2 ^ 30
+pub len_short : (v : ImageValue) → IsSound v → v.len ≤ MAX_LEN
 len_short v sound = (clean_of v (counted_of v sound)).short
 
-pub header_inside : (v : ImageValue) (i : ℕ) → IsSound v → i < length v.sections → shdr_offset v.header i + 64 ≤ v.len
+pub header_inside : (v : ImageValue) (i : ℕ) → IsSound v → i < length v.sections → shdr_offset v.header i + SHDR_SIZE ≤ v.len
 header_inside v i sound lt =
     let counted = counted_of v sound in
     let count = counted.section_count in

@@ -70,11 +70,11 @@ one_image v w b one two =
     let first = one.stands in
     let second = two.stands in
     let lens : v.len ≡ w.len = first.len ∙ sym second.len in
-    let headers : v.header ≡ w.header = first.tables.header ∙ sym second.tables.header in
-    let section_headers : v.sections ≡ w.sections = first.tables.section_headers
-    ∙ ap (λ (h : Ehdr). map (sections b h) (range_with_len 0 (section_count h (sections b h 0)))) headers ∙ sym second.tables.section_headers in
-    let program_headers : v.segments ≡ w.segments = first.tables.program_headers
-    ∙ ap (λ (h : Ehdr). map (segments b h) (range_with_len 0 (segment_count h (sections b h 0)))) headers ∙ sym second.tables.program_headers in
+    let headers : v.header ≡ w.header = first.records.header ∙ sym second.records.header in
+    let section_headers : v.sections ≡ w.sections = first.records.section_headers
+    ∙ ap (λ (h : Ehdr). map (sections b h) (range_with_len 0 (section_count h (sections b h 0)))) headers ∙ sym second.records.section_headers in
+    let program_headers : v.segments ≡ w.segments = first.records.program_headers
+    ∙ ap (λ (h : Ehdr). map (segments b h) (range_with_len 0 (segment_count h (sections b h 0)))) headers ∙ sym second.records.program_headers in
     let contents : v.contents ≡ w.contents = first.contents
     ∙ ap (map (λ s. bytes_in b (content_extent s))) section_headers ∙ sym second.contents in
     let of_len = subst (λ (n : ℕ). Accounts (value_extents w.header w.sections w.segments) n 0 (map piece_of w.parts)) (sym lens) second.accounts in

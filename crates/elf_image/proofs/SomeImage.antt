@@ -8,7 +8,7 @@ use Rattle.elf_extent.proofs.Public.{some_account}
 use Rattle.elf_rules.specs.ImageRules.{IsFault}
 use Rattle.elf_rules.specs.Tables.{bytes_in, content_extent, header, section_count, sections, segment_count, segments}
 use Rattle.elf_image.specs.declared.part.Part.{Part}
-use Rattle.elf_image.specs.Image.{AreTables, ImageValue, IsImage, index_of, part_piece, value_extents}
+use Rattle.elf_image.specs.Image.{AreRecordsIn, ImageValue, IsImage, index_of, part_piece, value_extents}
 use Rattle.elf_image.proofs.OneImage.{owner_from}
 use Rattle.elf_image.proofs.Parsed.{made, made_is_image, tables_disjoint, tables_within}
 
@@ -41,9 +41,9 @@ some_image b are clean =
     let ss = map (sections b h) (range_with_len 0 (section_count h (sections b h 0))) in
     let gs = map (segments b h) (range_with_len 0 (segment_count h (sections b h 0))) in
     let cs = map (λ s. bytes_in b (content_extent s)) ss in
-    let tables : AreTables b h ss gs = record { header = refl; section_headers = refl; program_headers = refl } in
-    let account = some_account (value_extents h ss gs) (length b) (tables_disjoint b h ss gs tables clean) (tables_within b h ss gs tables clean) in
+    let records : AreRecordsIn b h ss gs = record { header = refl; section_headers = refl; program_headers = refl } in
+    let account = some_account (value_extents h ss gs) (length b) (tables_disjoint b h ss gs records clean) (tables_within b h ss gs records clean) in
     let ps = map part_from account.0 in
     let accounts : Accounts (value_extents h ss gs) (length b) 0 (map part_piece ps) =
     subst (Accounts (value_extents h ss gs) (length b) 0) (sym (pieces_stay account.0)) account.1 in
-    (made b h ss gs cs ps, made_is_image b h ss gs cs ps are tables refl accounts clean)
+    (made b h ss gs cs ps, made_is_image b h ss gs cs ps are records refl accounts clean)

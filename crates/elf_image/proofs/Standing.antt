@@ -2,6 +2,7 @@
 use Rattle.std.proofs.Common.{◌≡◌, ◌≢◌, ◌≤◌, ◌<◌, ◌+◌, ◌*◌, ℕ, zero, suc, None, Some, List, [], ◌∷◌, length, map, get_or, refl, sym, ap, subst, ◌∙◌, arith}
 use Rattle.std.specs.Prelude.{slice_get}
 use Rattle.std.specs.List.{AllByRecursion, range_with_len}
+use Rattle.elf_field.specs.Abi.{EHDR_SIZE, PHDR_SIZE, SHDR_SIZE}
 use Rattle.elf_field.specs.declared.ehdr.Ehdr.{Ehdr}
 use Rattle.elf_field.specs.declared.shdr.Shdr.{Shdr}
 use Rattle.elf_field.specs.declared.phdr.Phdr.{Phdr}
@@ -12,7 +13,7 @@ use Rattle.elf_rules.specs.OverlapRule.{extents}
 use Rattle.elf_rules.specs.Rows.{FirstIn}
 use Rattle.elf_rules.specs.SoundTables.{HasSoundTables}
 use Rattle.elf_rules.proofs.Public.{clean_records, content_some, extents_disjoint, sound_tables}
-use Rattle.elf_image.specs.Image.{AreWithinBytes, ImageValue, IsSound, value_rows, no_section, section_of, segment_of, value_extents, value_names}
+use Rattle.elf_image.specs.Image.{AreWithinBytes, ImageValue, IsSound, value_rules, no_section, section_of, segment_of, value_extents, value_names}
 
 -- ---- lists by index
 
@@ -58,14 +59,14 @@ unfolding extents
 extents_are h ss gs n m sections segments =
     subst (λ (k : ℕ). extents h k m (section_of ss) ≡ value_extents h ss gs) sections
     (subst (λ (k : ℕ). extents h (length ss) k (section_of ss) ≡ value_extents h ss gs) segments
-    (ap (λ (cs : List Extent). record { start = 0; len = 64 } ∷ record { start = h.e_shoff; len = 64 * length ss } ∷ record { start = h.e_phoff; len = 56 * length gs } ∷ cs)
+    (ap (λ (cs : List Extent). record { start = 0; len = EHDR_SIZE } ∷ record { start = h.e_shoff; len = SHDR_SIZE * length ss } ∷ record { start = h.e_phoff; len = PHDR_SIZE * length gs } ∷ cs)
     (map_by_index content_extent ss no_section)))
 
 -- a value whose records are as many as it says, and that breaks no rule
 pub record IsCounted (v : ImageValue) : Type 0 where
   pub section_count : length v.sections ≡ section_count v.header (section_of v.sections 0)
   pub segment_count : length v.segments ≡ segment_count v.header (section_of v.sections 0)
-  pub clean : FirstIn (value_rows v) None
+  pub clean : FirstIn (value_rules v) None
 
 pub counted_of : (v : ImageValue) → IsSound v → IsCounted v
 counted_of v sound = record { section_count = sound.section_count; segment_count = sound.segment_count; clean = sound.clean }
@@ -111,10 +112,10 @@ within_of v counted i e here some = by_index i here where
   clean : HasSoundTables v.len v.header (section_of v.sections)
   clean = clean_of v counted
 
-  in_table : 0 < length v.sections → v.header.e_shoff + 64 * length v.sections ≤ v.len
+  in_table : 0 < length v.sections → v.header.e_shoff + SHDR_SIZE * length v.sections ≤ v.len
   in_table some = rw counted.section_count (clean.section_table (table_there v counted some))
 
-  in_program : 0 < length v.segments → v.header.e_phoff + 56 * length v.segments ≤ v.len
+  in_program : 0 < length v.segments → v.header.e_phoff + PHDR_SIZE * length v.segments ≤ v.len
   in_program some = rw counted.segment_count (clean.program_table (let count = counted.segment_count in omega arith))
 
   -- an extent by its fields

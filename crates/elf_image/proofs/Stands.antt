@@ -5,6 +5,7 @@ use Rattle.std.specs.List.{AllByRecursion, flat_map, range_with_len}
 use Rattle.std.proofs.lemmas.Bool.{cases_eq}
 use Rattle.std.proofs.lemmas.List.{nil_from_length, take-take, take_at}
 use Rattle.std.proofs.lemmas.List.FromFn.{get_or-map-range_with_len}
+use Rattle.elf_field.specs.Abi.{EHDR_SIZE, PHDR_SIZE, SHDR_SIZE}
 use Rattle.elf_field.specs.declared.ehdr.Ehdr.{Ehdr}
 use Rattle.elf_field.specs.declared.shdr.Shdr.{Shdr}
 use Rattle.elf_field.specs.declared.phdr.Phdr.{Phdr}
@@ -55,7 +56,7 @@ IsBytes-joined v sound = IsBytes-parts v sound v.parts sound.gaps
 -- ---- what is read of a list that holds the records
 
 -- the header of a list that begins with its bytes
-pub header_read : (b : List ℕ) (h : Ehdr) → IsEhdr h → take 64 b ≡ ehdr_bytes (order_of h.e_ident) h → h ≡ header b
+pub header_read : (b : List ℕ) (h : Ehdr) → IsEhdr h → take EHDR_SIZE b ≡ ehdr_bytes (order_of h.e_ident) h → h ≡ header b
 unfolding header
 header_read b h fits stand =
     let o = order_of h.e_ident in
@@ -67,20 +68,20 @@ header_read b h fits stand =
     rw same (sym (record_read ehdr_laws o b 0 h fits stand))
 
 -- the section headers, as many as there are
-pub sections_read : (b : List ℕ) (h : Ehdr) (ss : List Shdr) → (0 < length ss → h.e_shoff ≢ 0) → AllByRecursion IsShdr ss → take (64 * length ss) (drop h.e_shoff b) ≡ flat_map (shdr_bytes (order_of h.e_ident)) ss →
+pub sections_read : (b : List ℕ) (h : Ehdr) (ss : List Shdr) → (0 < length ss → h.e_shoff ≢ 0) → AllByRecursion IsShdr ss → take (SHDR_SIZE * length ss) (drop h.e_shoff b) ≡ flat_map (shdr_bytes (order_of h.e_ident)) ss →
     map (sections b h) (range_with_len 0 (length ss)) ≡ ss
 sections_read b h [] table fit stand = refl
 sections_read b h (s ∷ ss) table fit stand =
     let there : h.e_shoff ≢ 0 = table (omega arith) in
     let n = length (s ∷ ss) in
     ap (λ (f : ℕ → Shdr). map f (range_with_len 0 n)) (sections_read_at b h there)
-    ∙ entries_read shdr_laws (order_of h.e_ident) b h.e_shoff 0 (s ∷ ss) fit (ap (λ (x : ℕ). take (64 * n) (drop x b)) (add-zero h.e_shoff) ∙ stand)
+    ∙ entries_read shdr_laws (order_of h.e_ident) b h.e_shoff 0 (s ∷ ss) fit (ap (λ (x : ℕ). take (SHDR_SIZE * n) (drop x b)) (add-zero h.e_shoff) ∙ stand)
 
-pub segments_read : (b : List ℕ) (h : Ehdr) (gs : List Phdr) → AllByRecursion IsPhdr gs → take (56 * length gs) (drop h.e_phoff b) ≡ flat_map (phdr_bytes (order_of h.e_ident)) gs →
+pub segments_read : (b : List ℕ) (h : Ehdr) (gs : List Phdr) → AllByRecursion IsPhdr gs → take (PHDR_SIZE * length gs) (drop h.e_phoff b) ≡ flat_map (phdr_bytes (order_of h.e_ident)) gs →
     map (segments b h) (range_with_len 0 (length gs)) ≡ gs
 unfolding segments
 segments_read b h gs fit stand =
-    entries_read phdr_laws (order_of h.e_ident) b h.e_phoff 0 gs fit (ap (λ (x : ℕ). take (56 * length gs) (drop x b)) (add-zero h.e_phoff) ∙ stand)
+    entries_read phdr_laws (order_of h.e_ident) b h.e_phoff 0 gs fit (ap (λ (x : ℕ). take (PHDR_SIZE * length gs) (drop x b)) (add-zero h.e_phoff) ∙ stand)
 
 -- a list made by index has these elements
 pub entry_at : {A : Type 0} (f : ℕ → A) (xs : List A) (d : A) (n : ℕ) → map f (range_with_len 0 n) ≡ xs → (i : ℕ) → i < n → f i ≡ get_or xs i d
@@ -157,7 +158,7 @@ pub joined_stands : (v : ImageValue) → IsSound v → Stands v (joined v)
 joined_stands v sound = record {
   bytes = IsBytes-joined v sound;
   len = sym (length-joined v sound);
-  tables = record {
+  records = record {
     header = header_read (joined v) v.header sound.header (holds_header v sound);
     section_headers = stands_sections v sound;
     program_headers = stands_segments v sound;

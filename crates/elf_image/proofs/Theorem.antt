@@ -6,6 +6,7 @@ use Rattle.std.specs.List.{AllByRecursion, flat_map, range_with_len}
 use Rattle.std.proofs.lemmas.Bool.{cases_eq, cases_lt, ne_eqb}
 use Rattle.std.proofs.lemmas.List.{length-take-le}
 use Rattle.std.proofs.lemmas.List.FromFn.{length-map-range_with_len}
+use Rattle.elf_field.specs.Abi.{EHDR_SIZE, PHDR_SIZE, SHDR_SIZE}
 use Rattle.elf_field.specs.declared.ehdr.Ehdr.{Ehdr}
 use Rattle.elf_field.specs.declared.shdr.Shdr.{Shdr}
 use Rattle.elf_field.specs.Bytes.{IsBytes}
@@ -20,11 +21,11 @@ use Rattle.elf_extent.specs.declared.extent.Extent.{Extent}
 use Rattle.elf_extent.specs.Account.{Accounts, IsOwned}
 use Rattle.elf_extent.proofs.Public.{accounts_le}
 use Rattle.elf_rules.specs.Rows.{FirstIn}
-use Rattle.elf_rules.specs.ImageRules.{image_rows, rows}
+use Rattle.elf_rules.specs.ImageRules.{image_rules, rules_in}
 use Rattle.elf_rules.specs.Tables.{bytes_in, content_extent, header, name_table, names, names_at, order_of, section_count, sections, segment_count, segments}
 use Rattle.elf_image.specs.declared.part.Owner.{Owner}
 use Rattle.elf_image.specs.declared.part.Owner.TheVariants.{Header, ProgramTable, SectionTable, Content, Gap}
-use Rattle.elf_image.specs.Image.{AreTables, ImageValue, IsImage, IsSound, PlacedPart, Stands, gap_in, gap_len, if_gap, index_of, joined, no_section, no_segment, owned_bytes, part_bytes, piece_of, section_of, segment_of, value_extents, value_names, value_rows}
+use Rattle.elf_image.specs.Image.{AreRecordsIn, ImageValue, IsImage, IsSound, PlacedPart, Stands, gap_in, gap_len, if_gap, index_of, joined, no_section, no_segment, owned_bytes, part_bytes, piece_of, section_of, segment_of, value_extents, value_names, value_rules}
 use Rattle.elf_rules.proofs.Public.{clean_records, sections_none, sections_read_at, sound_tables, table_some}
 use Rattle.elf_image.proofs.Holds as holds
 use Rattle.elf_image.proofs.Joins.{flat_parts_are}
@@ -38,13 +39,13 @@ use Rattle.elf_field.specs.RecordTableLaws.{entries_bytes, entries_fit, record_b
 -- what is read of a byte list: the value's records and contents, but not its parts
 pub record Reads (v : ImageValue) (b : List ℕ) : Type 0 where
   pub len : v.len ≡ length b
-  pub tables : AreTables b v.header v.sections v.segments
+  pub records : AreRecordsIn b v.header v.sections v.segments
   pub contents : v.contents ≡ map (λ s. bytes_in b (content_extent s)) v.sections
 
 reads_of : (v : ImageValue) (b : List ℕ) → Stands v b → Reads v b
 reads_of v b stands = record {
   len = stands.len;
-  tables = stands.tables;
+  records = stands.records;
   contents = stands.contents;
 }
 
@@ -61,14 +62,14 @@ first_from : (v : ImageValue) (b : List ℕ) → Reads v b → (v.header.e_shoff
     sections b v.header 0 ≡ section_of v.sections 0
 first_from v b stands some =
     let n = section_count v.header (sections b v.header 0) in
-    let count : length v.sections ≡ n = ap length stands.tables.section_headers ∙ length-map-range_with_len (sections b v.header) 0 n in
+    let count : length v.sections ≡ n = ap length stands.records.section_headers ∙ length-map-range_with_len (sections b v.header) 0 n in
     elim (cases_eq v.header.e_shoff 0) [
       | inl none ↦
           (let no_sections : length v.sections ≡ 0 = count ∙ rw none refl in
           ap (λ (f : ℕ → Shdr). f 0) (sections_none b v.header none) ∙ sym (first_of_none v.sections no_sections))
       | inr there ↦
           (let positive = some there in
-          entry_at (sections b v.header) v.sections no_section n (sym stands.tables.section_headers) 0 (omega arith))
+          entry_at (sections b v.header) v.sections no_section n (sym stands.records.section_headers) 0 (omega arith))
     ]
 
 pub has_tables_of : (v : ImageValue) (b : List ℕ) → Reads v b → (v.header.e_shoff ≢ 0 → 0 < length v.sections) →
@@ -76,8 +77,8 @@ pub has_tables_of : (v : ImageValue) (b : List ℕ) → Reads v b → (v.header.
     (v.header.e_shoff ≢ 0 → name_table v.header (section_of v.sections 0) < length v.sections) → HasTablesOf v b
 has_tables_of v b stands some unnamed named = record {
   first = first_from v b stands some;
-  count = ap length stands.tables.section_headers ∙ length-map-range_with_len (sections b v.header) 0 _;
-  segment_count = ap length stands.tables.program_headers ∙ length-map-range_with_len (segments b v.header) 0 _;
+  count = ap length stands.records.section_headers ∙ length-map-range_with_len (sections b v.header) 0 _;
+  segment_count = ap length stands.records.program_headers ∙ length-map-range_with_len (segments b v.header) 0 _;
   unnamed = unnamed;
   named = named;
 }
@@ -86,8 +87,8 @@ agree_from : (v : ImageValue) (b : List ℕ) → Reads v b → HasTablesOf v b �
     Agree v.header (sections b v.header) (section_of v.sections) (segments b v.header) (segment_of v.segments)
 agree_from v b stands shared = record {
   first = shared.first;
-  sections = entry_at (sections b v.header) v.sections no_section _ (sym stands.tables.section_headers);
-  segments = entry_at (segments b v.header) v.segments no_segment _ (sym stands.tables.program_headers);
+  sections = entry_at (sections b v.header) v.sections no_section _ (sym stands.records.section_headers);
+  segments = entry_at (segments b v.header) v.segments no_segment _ (sym stands.records.program_headers);
 }
 
 agree_back : (v : ImageValue) (b : List ℕ) → Reads v b → HasTablesOf v b →
@@ -128,43 +129,43 @@ names_same v b stands shared =
         ap (λ (s : Shdr). bytes_in b (content_extent s)) entry ∙ sym (content_is b v.sections k lt) ∙ ap (λ (cs : List (List ℕ)). get_or cs k []) (sym stands.contents)
 
 -- a clean value's byte list breaks no rule
-pub clean_bytes : (v : ImageValue) (b : List ℕ) → Reads v b → HasTablesOf v b → FirstIn (value_rows v) None → FirstIn (rows b) None
-unfolding rows
+pub clean_bytes : (v : ImageValue) (b : List ℕ) → Reads v b → HasTablesOf v b → FirstIn (value_rules v) None → FirstIn (rules_in b) None
+unfolding rules_in
 clean_bytes v b stands shared clean =
-    let P : Ehdr → Type 0 = λ h. FirstIn (image_rows (length b) h (sections b h) (segments b h) (names b h)) None in
+    let P : Ehdr → Type 0 = λ h. FirstIn (image_rules (length b) h (sections b h) (segments b h) (names b h)) None in
     let moved = same_clean v.len v.header _ _ _ _ _ (agree_back v b stands shared) clean in
-    let named : FirstIn (image_rows v.len v.header (sections b v.header) (segments b v.header) (names b v.header)) None =
-    subst (λ (ns : List ℕ). FirstIn (image_rows v.len v.header (sections b v.header) (segments b v.header) ns) None) (sym (names_same v b stands shared)) moved in
-    subst P stands.tables.header (subst (λ (n : ℕ). FirstIn (image_rows n v.header (sections b v.header) (segments b v.header) (names b v.header)) None) stands.len named)
+    let named : FirstIn (image_rules v.len v.header (sections b v.header) (segments b v.header) (names b v.header)) None =
+    subst (λ (ns : List ℕ). FirstIn (image_rules v.len v.header (sections b v.header) (segments b v.header) ns) None) (sym (names_same v b stands shared)) moved in
+    subst P stands.records.header (subst (λ (n : ℕ). FirstIn (image_rules n v.header (sections b v.header) (segments b v.header) (names b v.header)) None) stands.len named)
 
 -- the rules of b, said with the header of the value that stands
-rows_at_value : (v : ImageValue) (b : List ℕ) → Reads v b → FirstIn (rows b) None →
-    FirstIn (image_rows v.len v.header (sections b v.header) (segments b v.header) (names b v.header)) None
-unfolding rows
-rows_at_value v b stands clean =
-    let P : Ehdr → Type 0 = λ h. FirstIn (image_rows (length b) h (sections b h) (segments b h) (names b h)) None in
-    subst (λ (n : ℕ). FirstIn (image_rows n v.header (sections b v.header) (segments b v.header) (names b v.header)) None) (sym stands.len) (subst P (sym stands.tables.header) clean)
+rules_at_value : (v : ImageValue) (b : List ℕ) → Reads v b → FirstIn (rules_in b) None →
+    FirstIn (image_rules v.len v.header (sections b v.header) (segments b v.header) (names b v.header)) None
+unfolding rules_in
+rules_at_value v b stands clean =
+    let P : Ehdr → Type 0 = λ h. FirstIn (image_rules (length b) h (sections b h) (segments b h) (names b h)) None in
+    subst (λ (n : ℕ). FirstIn (image_rules n v.header (sections b v.header) (segments b v.header) (names b v.header)) None) (sym stands.len) (subst P (sym stands.records.header) clean)
 
 -- what is shared, from a clean byte list
-has_tables_by_reads : (v : ImageValue) (b : List ℕ) → Reads v b → FirstIn (rows b) None → HasTablesOf v b
+has_tables_by_reads : (v : ImageValue) (b : List ℕ) → Reads v b → FirstIn (rules_in b) None → HasTablesOf v b
 has_tables_by_reads v b stands clean =
     let facts = sound_tables v.len v.header (sections b v.header) (segments b v.header) (names b v.header)
-    (clean_records v.len v.header (sections b v.header) (segments b v.header) (names b v.header) (rows_at_value v b stands clean)) in
+    (clean_records v.len v.header (sections b v.header) (segments b v.header) (names b v.header) (rules_at_value v b stands clean)) in
     let n = section_count v.header (sections b v.header 0) in
-    let count : length v.sections ≡ n = ap length stands.tables.section_headers ∙ length-map-range_with_len (sections b v.header) 0 n in
+    let count : length v.sections ≡ n = ap length stands.records.section_headers ∙ length-map-range_with_len (sections b v.header) 0 n in
     let some : v.header.e_shoff ≢ 0 → 0 < length v.sections = λ there. let lt = facts.some there in omega arith in
     let first = first_from v b stands some in
     let table = ap (name_table v.header) first in
     has_tables_of v b stands some facts.no_names (λ there. let lt = facts.name_table there in omega arith)
 
 -- the value that stands as a clean byte list is clean
-clean_value : (v : ImageValue) (b : List ℕ) → Reads v b → FirstIn (rows b) None → FirstIn (value_rows v) None
+clean_value : (v : ImageValue) (b : List ℕ) → Reads v b → FirstIn (rules_in b) None → FirstIn (value_rules v) None
 clean_value v b stands clean =
     let shared = has_tables_by_reads v b stands clean in
-    let moved = same_clean v.len v.header _ _ _ _ _ (agree_from v b stands shared) (rows_at_value v b stands clean) in
-    subst (λ (ns : List ℕ). FirstIn (image_rows v.len v.header (section_of v.sections) (segment_of v.segments) ns) None) (names_same v b stands shared) moved
+    let moved = same_clean v.len v.header _ _ _ _ _ (agree_from v b stands shared) (rules_at_value v b stands clean) in
+    subst (λ (ns : List ℕ). FirstIn (image_rules v.len v.header (section_of v.sections) (segment_of v.segments) ns) None) (names_same v b stands shared) moved
 
-pub counted_by_reads : (v : ImageValue) (b : List ℕ) → Reads v b → FirstIn (rows b) None → IsCounted v
+pub counted_by_reads : (v : ImageValue) (b : List ℕ) → Reads v b → FirstIn (rules_in b) None → IsCounted v
 counted_by_reads v b stands clean =
     let shared = has_tables_by_reads v b stands clean in
     record {
@@ -196,7 +197,7 @@ joined_is_image v sound = stands_is_image v (joined v) sound (joined_stands v so
 -- ---- and as nothing else: each part's bytes are those at its place
 
 -- the header's bytes are the first ones of a list that it is read from
-header_bytes : (b : List ℕ) (h : Ehdr) → IsBytes b → 64 ≤ length b → h ≡ header b → ehdr_bytes (order_of h.e_ident) h ≡ take 64 b
+header_bytes : (b : List ℕ) (h : Ehdr) → IsBytes b → EHDR_SIZE ≤ length b → h ≡ header b → ehdr_bytes (order_of h.e_ident) h ≡ take EHDR_SIZE b
 unfolding header
 header_bytes b h are long same =
     let o = order_of (take 16 b) in
@@ -204,17 +205,17 @@ header_bytes b h are long same =
     let order : order_of h.e_ident ≡ o = ap order_of ident in
     ap₂ ehdr_bytes order same ∙ record_bytes ehdr_laws o b 0 are (omega arith)
 
-section_bytes : (b : List ℕ) (h : Ehdr) (n : ℕ) → h.e_shoff ≢ 0 → IsBytes b → h.e_shoff + 64 * n ≤ length b →
-    flat_map (shdr_bytes (order_of h.e_ident)) (map (sections b h) (range_with_len 0 n)) ≡ take (64 * n) (drop h.e_shoff b)
+section_bytes : (b : List ℕ) (h : Ehdr) (n : ℕ) → h.e_shoff ≢ 0 → IsBytes b → h.e_shoff + SHDR_SIZE * n ≤ length b →
+    flat_map (shdr_bytes (order_of h.e_ident)) (map (sections b h) (range_with_len 0 n)) ≡ take (SHDR_SIZE * n) (drop h.e_shoff b)
 section_bytes b h n there are within =
     ap (λ (f : ℕ → Shdr). flat_map (shdr_bytes (order_of h.e_ident)) (map f (range_with_len 0 n))) (sections_read_at b h there)
-    ∙ entries_bytes shdr_laws (order_of h.e_ident) b h.e_shoff 0 n are (omega arith) ∙ ap (λ (x : ℕ). take (64 * n) (drop x b)) (add-zero h.e_shoff)
+    ∙ entries_bytes shdr_laws (order_of h.e_ident) b h.e_shoff 0 n are (omega arith) ∙ ap (λ (x : ℕ). take (SHDR_SIZE * n) (drop x b)) (add-zero h.e_shoff)
 
-segment_bytes : (b : List ℕ) (h : Ehdr) (n : ℕ) → IsBytes b → h.e_phoff + 56 * n ≤ length b →
-    flat_map (phdr_bytes (order_of h.e_ident)) (map (segments b h) (range_with_len 0 n)) ≡ take (56 * n) (drop h.e_phoff b)
+segment_bytes : (b : List ℕ) (h : Ehdr) (n : ℕ) → IsBytes b → h.e_phoff + PHDR_SIZE * n ≤ length b →
+    flat_map (phdr_bytes (order_of h.e_ident)) (map (segments b h) (range_with_len 0 n)) ≡ take (PHDR_SIZE * n) (drop h.e_phoff b)
 unfolding segments
 segment_bytes b h n are within =
-    entries_bytes phdr_laws (order_of h.e_ident) b h.e_phoff 0 n are (omega arith) ∙ ap (λ (x : ℕ). take (56 * n) (drop x b)) (add-zero h.e_phoff)
+    entries_bytes phdr_laws (order_of h.e_ident) b h.e_phoff 0 n are (omega arith) ∙ ap (λ (x : ℕ). take (PHDR_SIZE * n) (drop x b)) (add-zero h.e_phoff)
 
 content_bytes : (b : List ℕ) (ss : List Shdr) (i : ℕ) (e : Extent) → slice_get (map content_extent ss) i ≡ Some e →
     get_or (map (λ s. bytes_in b (content_extent s)) ss) i [] ≡ take e.len (drop e.start b)
@@ -233,7 +234,7 @@ owned_at v b image Header gap start len some owned gaps =
     let long = facts.header in
     let e = holds.same_start _ _ owned in
     let l = holds.same_len _ _ owned in
-    header_bytes b v.header stands.bytes (omega arith) stands.tables.header ∙ ap₂ (λ (m n : ℕ). take m (drop n b)) l e
+    header_bytes b v.header stands.bytes (omega arith) stands.records.header ∙ ap₂ (λ (m n : ℕ). take m (drop n b)) l e
 owned_at v b image SectionTable gap start len some owned gaps =
     let stands = image.stands in
     let counted = counted_by_bytes v b image in
@@ -246,7 +247,7 @@ owned_at v b image SectionTable gap start len some owned gaps =
     let within = facts.section_table there in
     let count = counted.section_count in
     let same = (has_tables_by_bytes v b image).count in
-    ap (flat_map (shdr_bytes (order_of v.header.e_ident))) (stands.tables.section_headers ∙ ap (λ (n : ℕ). map (sections b v.header) (range_with_len 0 n)) (sym same))
+    ap (flat_map (shdr_bytes (order_of v.header.e_ident))) (stands.records.section_headers ∙ ap (λ (n : ℕ). map (sections b v.header) (range_with_len 0 n)) (sym same))
     ∙ section_bytes b v.header (length v.sections) there stands.bytes (omega arith) ∙ ap₂ (λ (m n : ℕ). take m (drop n b)) l e
 owned_at v b image ProgramTable gap start len some owned gaps =
     let stands = image.stands in
@@ -259,7 +260,7 @@ owned_at v b image ProgramTable gap start len some owned gaps =
     let positive : 0 < segment_count v.header (section_of v.sections 0) = omega arith in
     let within = facts.program_table positive in
     let same = (has_tables_by_bytes v b image).segment_count in
-    ap (flat_map (phdr_bytes (order_of v.header.e_ident))) (stands.tables.program_headers ∙ ap (λ (n : ℕ). map (segments b v.header) (range_with_len 0 n)) (sym same))
+    ap (flat_map (phdr_bytes (order_of v.header.e_ident))) (stands.records.program_headers ∙ ap (λ (n : ℕ). map (segments b v.header) (range_with_len 0 n)) (sym same))
     ∙ segment_bytes b v.header (length v.segments) stands.bytes (omega arith) ∙ ap₂ (λ (m n : ℕ). take m (drop n b)) l e
 owned_at v b image (Content i) gap start len some owned gaps =
     ap (λ (cs : List (List ℕ)). get_or cs i []) image.stands.contents ∙ content_bytes b v.sections i _ owned
@@ -339,9 +340,9 @@ image_is_sound v b image =
     let counted = counted_by_bytes v b image in
     let whole = stands.len in
     record {
-      header = subst IsEhdr (sym stands.tables.header) (fit_header b stands.bytes);
-      section_headers = subst (AllByRecursion IsShdr) (sym stands.tables.section_headers) (fit_sections b v.header _ (table_some v.header (sections b v.header 0)) stands.bytes);
-      program_headers = subst (AllByRecursion IsPhdr) (sym stands.tables.program_headers) (fit_segments b v.header _ stands.bytes);
+      header = subst IsEhdr (sym stands.records.header) (fit_header b stands.bytes);
+      section_headers = subst (AllByRecursion IsShdr) (sym stands.records.section_headers) (fit_sections b v.header _ (table_some v.header (sections b v.header 0)) stands.bytes);
+      program_headers = subst (AllByRecursion IsPhdr) (sym stands.records.program_headers) (fit_segments b v.header _ stands.bytes);
       section_count = counted.section_count;
       segment_count = counted.segment_count;
       lengths = ap (map length) stands.contents ∙ lengths_by b v.sections (λ k s at some. subst (λ (n : ℕ). s.sh_offset + (content_extent s).len ≤ n) whole (content_within v counted k s at some));

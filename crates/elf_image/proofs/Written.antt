@@ -11,6 +11,7 @@ use Rattle.std.proofs.lemmas.Grind.{flat_map-append}
 use Rattle.std.proofs.lemmas.List.{append-nil, drop_at, length-replicate, length-take-le, replicate-append-replicate, take-append-drop, take-append-le, take-replicate, take_at, take_more}
 use Rattle.std.proofs.lemmas.List.Folds.{flat_map-map}
 use Rattle.std.proofs.lemmas.Slice.{take-put_mid}
+use Rattle.elf_rules.specs.HeaderRules.{MAX_LEN}
 use borrow.Rule.Slice.PartMut.{put_mid}
 use Rattle.elf_extent.specs.declared.extent.Extent.{Extent}
 use Rattle.elf_extent.specs.Account.{Accounts}
@@ -125,7 +126,7 @@ part_at f z file es total at (p ∷ ps) (suc k) d accounts lengths within =
     record { start = omega arith; some = rest.some; whole = rest.whole }
 
 -- an image is not longer than a file may be
-not_long : (v : ImageValue) → IsSound v → v.len ≤ 2 ^ 30
+not_long : (v : ImageValue) → IsSound v → v.len ≤ MAX_LEN
 not_long v sound = (clean_of v (counted_of v sound)).short
 
 -- ---- the parts of an image

@@ -16,7 +16,7 @@ use Rattle.elf_extent.specs.Account.{Accounts}
 use Rattle.elf_rules.specs.Rows.{Ruled, FirstIn}
 use Rattle.elf_rules.specs.Tables.{bytes_in, content_extent, header, name_table, order_of, phdr_offset, section_count, sections, segment_count, segments, shdr_offset}
 pub use Rattle.elf_rules.specs.Tables.{no_section, no_segment, section_of, segment_of}
-use Rattle.elf_rules.specs.ImageRules.{image_rows, rows}
+use Rattle.elf_rules.specs.ImageRules.{image_rules, rules_in}
 use Rattle.elf_image.specs.declared.part.Owner.{Owner}
 use Rattle.elf_image.specs.declared.part.Owner.TheVariants.{Header, ProgramTable, SectionTable, Content, Gap}
 use Rattle.elf_image.specs.declared.part.Part.{Part}
@@ -52,8 +52,8 @@ value_names h ss cs =
     if k == 0 then [] else get_or cs k []
 
 -- the rules of the image, of what the value says
-abbrev pub value_rows : ImageValue → List {1} Ruled
-value_rows v = image_rows v.len v.header (section_of v.sections) (segment_of v.segments) (value_names v.header v.sections v.contents)
+abbrev pub value_rules : ImageValue → List {1} Ruled
+value_rules v = image_rules v.len v.header (section_of v.sections) (segment_of v.segments) (value_names v.header v.sections v.contents)
 
 -- an owner as an index in the list of extents
 abbrev pub index_of : Owner → Option ℕ
@@ -85,7 +85,7 @@ abbrev pub gap_in : List ℕ → Part → List ℕ
 gap_in b p = if_gap p.owner (take p.len (drop p.start b)) []
 
 -- the records are those that the byte list b has at their offsets
-pub record AreTables (b : List ℕ) (h : Ehdr) (ss : List Shdr) (gs : List Phdr) : Type 0 where
+pub record AreRecordsIn (b : List ℕ) (h : Ehdr) (ss : List Shdr) (gs : List Phdr) : Type 0 where
   pub header : h ≡ header b
   pub section_headers : ss ≡ map (sections b h) (range_with_len 0 (section_count h (sections b h 0)))
   pub program_headers : gs ≡ map (segments b h) (range_with_len 0 (segment_count h (sections b h 0)))
@@ -100,7 +100,7 @@ pub record AreWithinBytes (b : List ℕ) (h : Ehdr) (ss : List Shdr) (gs : List 
 pub record Stands (v : ImageValue) (b : List ℕ) : Type 0 where
   pub bytes : IsBytes b
   pub len : v.len ≡ length b
-  pub tables : AreTables b v.header v.sections v.segments
+  pub records : AreRecordsIn b v.header v.sections v.segments
   pub within : AreWithinBytes b v.header v.sections v.segments
   -- each content is the bytes at its offset
   pub contents : v.contents ≡ map (λ s. bytes_in b (content_extent s)) v.sections
@@ -112,7 +112,7 @@ pub record Stands (v : ImageValue) (b : List ℕ) : Type 0 where
 -- the value stands as b, and b breaks no rule
 pub record IsImage (v : ImageValue) (b : List ℕ) : Type 0 where
   pub stands : Stands v b
-  pub clean : FirstIn (rows b) None
+  pub clean : FirstIn (rules_in b) None
 
 -- ---- an image value by itself, with no byte list in it
 
@@ -130,7 +130,7 @@ pub record IsSound (v : ImageValue) : Type 0 where
   pub bytes : AllByRecursion IsBytes v.contents
   pub accounts : Accounts (value_extents v.header v.sections v.segments) v.len 0 (map piece_of v.parts)
   pub gaps : AllByRecursion (λ p. IsBytes p.gap × (length p.gap ≡ gap_len p.part)) v.parts
-  pub clean : FirstIn (value_rows v) None
+  pub clean : FirstIn (value_rules v) None
 
 -- ---- the one byte list
 

@@ -6,7 +6,7 @@ ghost use Rattle.elf_extent.specs.Extent.{AreDisjoint, AreWithin};
 ghost use Rattle.elf_rules.specs.ImageRules.{IsFault};
 ghost use Rattle.elf_rules.specs.JudgedRecords.{file_of};
 ghost use Rattle.elf_rules.specs.Tables.{bytes_in, content_extent, file_counts, header, sections, segments};
-ghost use Rattle.elf_image.specs.Image.{AreTables, IsImage, index_of, part_piece, value_extents};
+ghost use Rattle.elf_image.specs.Image.{AreRecordsIn, IsImage, index_of, part_piece, value_extents};
 ghost use Rattle.elf_image.specs.Parsing.{IsParseFault};
 
 use crate::fault::Fault;
@@ -62,7 +62,7 @@ fn build<'a>(
     extents: &[Extent],
 ) -> Result<Image<'a>, AllocError>
     requires clean { IsFault bytes.now None }
-    requires tables { AreTables bytes.now tables.header tables.sections.items tables.segments.items }
+    requires tables { AreRecordsIn bytes.now tables.header tables.sections.items tables.segments.items }
     requires extents { extents.now ≡ value_extents tables.header tables.sections.items tables.segments.items }
     ensures { IfOk result (λ image. IsImage image bytes.entry.now) }
 {
@@ -79,7 +79,7 @@ fn build<'a>(
 
 /// The tables of a file that keeps rules 1 to 32.
 fn read_tables(alloc: Global, records: &JudgedRecords<'_>) -> Result<Tables, AllocError>
-    ensures { IfOk result (λ t. AreTables (file_of records.now) t.header t.sections.items t.segments.items) }
+    ensures { IfOk result (λ t. AreRecordsIn (file_of records.now) t.header t.sections.items t.segments.items) }
 {
     let sections = section_headers(alloc, records)?;
     let segments = program_headers(alloc, records)?;

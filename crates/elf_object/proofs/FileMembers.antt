@@ -24,6 +24,7 @@ use Rattle.elf_table.specs.SymbolRules.{entry_count, symbol_table_rules}
 use Rattle.elf_table.specs.Symbols.{symbols_of}
 use Rattle.elf_table.specs.TableKind.{IsLinkOf, IsSymbolType}
 use Rattle.elf_table.proofs.GroupLists.{length_members, member_get, sound_group}
+use Rattle.elf_table.proofs.OwnRuleLemmas.{link_there}
 use Rattle.elf_object.proofs.FileRuns.{references_sound}
 use Rattle.elf_object.proofs.KeptTypes.{no_foreign_section, symbol_table_at}
 use Rattle.elf_object.proofs.SymbolCount.{length_symbols_of}
@@ -35,10 +36,7 @@ link_of : (kind : TableKind) (f : Sections) (i : ℕ) → FirstIn (own_rules kin
     ((section f i).sh_link < count f) × IsLinkOf kind (section f (section f i).sh_link).sh_type
 unfolding own_rules
 link_of kind f i own decided =
-    let link = (section f i).sh_link in (
-      elim (cases_lt link (count f)) [ inl there ↦ there | inr past ↦ absurd (own.1.1.1.0 _ (inl past, refl)) ],
-      elim decided [ inl is ↦ is | inr other ↦ absurd (own.1.1.1.0 _ (inr other, refl)) ],
-    )
+    (link_there kind f i own, elim decided [ inl is ↦ is | inr other ↦ absurd (own.1.1.1.0 _ (inr other, refl)) ])
 
 symbol_type : (type : ℕ) → IsSymbolType type ⊎ (IsSymbolType type → ⊥)
 symbol_type type = elim (cases_eq type SHT_SYMTAB) [

@@ -1,5 +1,5 @@
 -- A section group of the file that an object is written as breaks none of its rules, 40 to 58. (gABI chapter 4, Section Groups.)
-use Rattle.std.proofs.Common.{◌≡◌, ◌≢◌, ◌<◌, ◌≤◌, ◌+◌, ◌*◌, ◌^◌, ℕ, suc, Bool, true, false, None, List, length, get_or, inl, inr, sym, ap, ap₂, subst, ◌∙◌, arith}
+use Rattle.std.proofs.Common.{◌≡◌, ◌≢◌, ◌<◌, ◌≤◌, ◌+◌, ◌*◌, ◌^◌, ℕ, suc, Bool, true, false, None, List, length, get_or, inl, inr, refl, sym, ap, ap₂, subst, ◌∙◌, arith}
 use Rattle.std.specs.Prelude.{◌==◌, bit_and, if◌then◌else◌}
 use Rattle.std.specs.List.{Any, flat_map}
 use Rattle.std.proofs.lemmas.Bool.{cases_eq, cases_lt}
@@ -89,7 +89,7 @@ module _ (o : ObjectValue) (places : List ℕ) (written : IsWritten o places) (p
   own_kept : FirstIn (own_rules SectionGroup (written_sections o places) (suc p)) None
   unfolding own_rules
   own_kept = (
-    (λ x (wrong, here). wrong group_type),
+    (λ x (wrong, here). wrong (rw group_type refl)),
     (
       (λ x (wrong, here). wrong (at.sh_entsize ∙ group_entsize (section_at o p) comdat signature members fields_right)),
       (

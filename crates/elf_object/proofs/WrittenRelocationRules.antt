@@ -12,7 +12,7 @@ use Rattle.elf_table.specs.RelocationRules.{relocation_rules, relocation_section
 use Rattle.elf_table.specs.Relocations.{has_addends, relocation_count, relocation_in, relocation_size}
 use Rattle.elf_table.specs.Sections.{content, order, section}
 use Rattle.elf_table.specs.SymbolRules.{entry_count, symbol_table_rules}
-use Rattle.elf_table.specs.TableKind.{IsOf, entry_size}
+use Rattle.elf_table.specs.TableKind.{entry_size, kind_of}
 use Rattle.elf_object.specs.declared.relocation.Relocation.{Relocation}
 use Rattle.elf_object.specs.Object.{BodyValue, relocs, ObjectValue, SectionValue, no_relocation, no_section, section_at}
 use Rattle.elf_object.specs.PlainSections.{body_bytes, body_info, body_link, body_space, body_type, index_of, own_section, relocation_bytes, relocation_type, symbol_table_at}
@@ -31,9 +31,9 @@ use Rattle.elf_object.proofs.WrittenSymbolRules.{symbol_rules_kept}
 
 -- ---- the two types of relocation sections
 
-type_of_relocations : (rela : Bool) (type : ℕ) → type ≡ relocation_type rela → IsOf RelocationTable type
-type_of_relocations true type is = inr is
-type_of_relocations false type is = inl is
+kind_of_relocations : (rela : Bool) (type : ℕ) → type ≡ relocation_type rela → kind_of type ≡ Some RelocationTable
+kind_of_relocations true type is = rw is refl
+kind_of_relocations false type is = rw is refl
 
 size_of_relocations : (rela : Bool) (type : ℕ) → type ≡ relocation_type rela → entry_size RelocationTable type ≡ relocation_size rela
 size_of_relocations true type is = rw is refl
@@ -128,7 +128,7 @@ module _ (o : ObjectValue) (places : List ℕ) (written : IsWritten o places) (p
   own_kept : FirstIn (own_rules RelocationTable (written_sections o places) (suc p)) None
   unfolding own_rules
   own_kept = (
-    (λ x (wrong, here). wrong (type_of_relocations rela _ type_is)),
+    (λ x (wrong, here). wrong (kind_of_relocations rela _ type_is)),
     (
       (λ x (wrong, here). wrong entsize_is),
       (

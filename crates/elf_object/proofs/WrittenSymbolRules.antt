@@ -72,7 +72,7 @@ module _ (o : ObjectValue) (places : List ℕ) (written : IsWritten o places) wh
       let f = written_sections o places in
       let table = symbols_at o places written in
       let names = symbol_strings_at o places written in (
-        (λ x (wrong, here). wrong (inl table.sh_type)),
+        (λ x (wrong, here). wrong (rw table.sh_type refl)),
         (
           (λ x (wrong, here). wrong table.sh_entsize),
           (

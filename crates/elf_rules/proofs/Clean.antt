@@ -2,6 +2,7 @@
 use Rattle.std.proofs.Common.{◌≡◌, ◌≢◌, ℕ, zero, suc, ◌+◌, ◌-◌, ◌*◌, ◌<◌, ◌≤◌, ◌⊎◌, inl, inr, None, Some, List, length, refl, sym, ◌∙◌, ap, subst, arith}
 use Rattle.std.proofs.lemmas.Bool.{cases_eq, ne_eqb}
 use Rattle.std.proofs.lemmas.Option.{slice_get_within}
+use Rattle.elf_field.specs.Abi.{EHDR_SIZE, PHDR_SIZE, SHDR_SIZE, SHN_LORESERVE, SHN_XINDEX}
 use Rattle.elf_field.specs.declared.ehdr.Ehdr.{Ehdr}
 use Rattle.elf_field.specs.declared.shdr.Shdr.{Shdr}
 use Rattle.elf_field.specs.declared.phdr.Phdr.{Phdr}
@@ -10,7 +11,7 @@ use Rattle.elf_extent.specs.declared.extent.Extent.{Extent}
 use Rattle.elf_extent.specs.Extent.{AreDisjoint, AreWithin}
 use Rattle.elf_rules.specs.Rows.{FirstIn}
 use Rattle.elf_rules.specs.OverlapRule.{extents}
-use Rattle.elf_rules.specs.ImageRules.{IsFault, KeepsRecordRules, image_rows, record_rows, rows}
+use Rattle.elf_rules.specs.ImageRules.{IsFault, KeepsRecordRules, image_rules, record_rules, rules_in}
 use Rattle.elf_rules.specs.SoundTables.{HasSoundTables}
 use Rattle.elf_rules.specs.Tables.{content_extent, header, name_table, names, no_section, order_of, section_count, sections, segment_count, segments, shdr_offset}
 use Rattle.elf_rules.proofs.Extents.{content_extent_at, length-extents}
@@ -19,12 +20,12 @@ use Rattle.elf_rules.proofs.Rows.{FirstIn-front}
 
 -- where no rule is broken, none of rules 1 to 32 is
 pub clean_records : (len : ℕ) (h : Ehdr) (s : ℕ → Shdr) (g : ℕ → Phdr) (names : List ℕ) →
-    FirstIn (image_rows len h s g names) None → FirstIn (record_rows len h s g names) None
-unfolding image_rows
-clean_records len h s g names clean = FirstIn-front (record_rows len h s g names) _ clean
+    FirstIn (image_rules len h s g names) None → FirstIn (record_rules len h s g names) None
+unfolding image_rules
+clean_records len h s g names clean = FirstIn-front (record_rules len h s g names) _ clean
 
 -- a section table has entries, where its count is one that stands in the right place
-count_some : (h : Ehdr) (first : Shdr) → h.e_shoff ≢ 0 → (h.e_shnum ≡ 0 → 0xff00 ≤ first.sh_size) → 0 < section_count h first
+count_some : (h : Ehdr) (first : Shdr) → h.e_shoff ≢ 0 → (h.e_shnum ≡ 0 → SHN_LORESERVE ≤ first.sh_size) → 0 < section_count h first
 count_some h first there large =
     rw (ne_eqb h.e_shoff 0 there) (elim (cases_eq h.e_shnum 0) [
       | inl none ↦ rw none (let l = large none in omega arith)
@@ -32,15 +33,15 @@ count_some h first there large =
     ])
 
 -- the name table's index is below the count, where both indexes that name it are
-names_below : (h : Ehdr) (first : Shdr) (n : ℕ) → (h.e_shstrndx ≢ 0xffff → h.e_shstrndx < n) → (h.e_shstrndx ≡ 0xffff → first.sh_link < n) → name_table h first < n
+names_below : (h : Ehdr) (first : Shdr) (n : ℕ) → (h.e_shstrndx ≢ SHN_XINDEX → h.e_shstrndx < n) → (h.e_shstrndx ≡ SHN_XINDEX → first.sh_link < n) → name_table h first < n
 names_below h first n plain extended =
-    elim (cases_eq h.e_shstrndx 0xffff) [
+    elim (cases_eq h.e_shstrndx SHN_XINDEX) [
       | inl escape ↦ rw escape (extended escape)
-      | inr other ↦ rw (ne_eqb h.e_shstrndx 0xffff other) (plain other)
+      | inr other ↦ rw (ne_eqb h.e_shstrndx SHN_XINDEX other) (plain other)
     ]
 
 pub sound_tables : (len : ℕ) (h : Ehdr) (s : ℕ → Shdr) (g : ℕ → Phdr) (names : List ℕ) →
-    FirstIn (record_rows len h s g names) None → HasSoundTables len h s
+    FirstIn (record_rules len h s g names) None → HasSoundTables len h s
 sound_tables len h s g names clean =
     let kept = records_kept len h s g names clean in
     record {
@@ -59,7 +60,7 @@ sound_tables len h s g names clean =
 
 -- no byte belongs to two of the extents
 pub extents_disjoint : (len : ℕ) (h : Ehdr) (s : ℕ → Shdr) (g : ℕ → Phdr) (names : List ℕ) →
-    FirstIn (image_rows len h s g names) None →
+    FirstIn (image_rules len h s g names) None →
     AreDisjoint (extents h (section_count h (s 0)) (segment_count h (s 0)) s)
 extents_disjoint len h s g names clean = (rules_kept len h s g names clean).disjoint
 
@@ -105,14 +106,14 @@ pub extents_within : (len : ℕ) (h : Ehdr) (s : ℕ → Shdr) → HasSoundTable
 unfolding extents
 extents_within len h s sound zero e read =
     let long = sound.header in
-    inside_of len (record { start = 0; len = 64 }) e read (λ some. omega arith)
+    inside_of len (record { start = 0; len = EHDR_SIZE }) e read (λ some. omega arith)
 extents_within len h s sound (suc zero) e read =
     let n = section_count h (s 0) in
-    inside_of len (record { start = h.e_shoff; len = 64 * n }) e read
+    inside_of len (record { start = h.e_shoff; len = SHDR_SIZE * n }) e read
     (λ some. sound.section_table (table_some h (s 0) (omega arith)))
 extents_within len h s sound (suc (suc zero)) e read =
     let m = segment_count h (s 0) in
-    inside_of len (record { start = h.e_phoff; len = 56 * m }) e read
+    inside_of len (record { start = h.e_phoff; len = PHDR_SIZE * m }) e read
     (λ some. sound.program_table (omega arith))
 extents_within len h s sound (suc (suc (suc k))) e read =
     let n = section_count h (s 0) in
@@ -137,7 +138,7 @@ name_table_below len h s sound = elim (cases_eq h.e_shoff 0) [
 -- ---- of a file by its bytes
 
 pub kept_of_clean : (b : List ℕ) → IsFault b None → KeepsRecordRules b
-unfolding rows
+unfolding rules_in
 kept_of_clean b clean = clean_records (length b) (header b) (sections b (header b)) (segments b (header b)) (names b (header b)) clean
 
 pub sound_file : (b : List ℕ) (h : Ehdr) → h ≡ header b → KeepsRecordRules b → HasSoundTables (length b) h (sections b h)

@@ -8,4 +8,4 @@ pub use Rattle.elf_rules.proofs.ImageRules.{fault_of_extents, overlap_alone}
 pub use Rattle.elf_rules.proofs.KeepsRules.{records_kept, records_unbroken, rules_kept, rules_unbroken}
 pub use Rattle.elf_rules.proofs.Kept.{kept_sections, kept_segments, kept_short}
 pub use Rattle.elf_rules.proofs.Rows.{AreSame, AreSame-append, AreSame-refl, FirstIn-behind, FirstIn-front, FirstIn-handed, FirstIn-later, FirstIn-rest, FirstIn-same, FirstIn-sooner, FirstIn-stop, one_fault}
-pub use Rattle.elf_rules.proofs.Same.{Agree, same_clean, same_entries, same_rows}
+pub use Rattle.elf_rules.proofs.Same.{Agree, same_clean, same_entries, same_rules}

@@ -1,26 +1,26 @@
 -- Rules look at no more than the header, section header 0, the entries below the counts, and the name table's content:
 -- where these agree, the same rules are broken at the same offsets.
-use Rattle.std.proofs.Common.{◌≡◌, ◌≢◌, ◌<◌, ◌+◌, ◌*◌, ℕ, zero, suc, None, List, ◌∷◌, ◌++◌, length, map, refl, sym, ap, ap₂, subst, inl, inr, arith}
+use Rattle.std.proofs.Common.{◌≡◌, ◌≢◌, ◌<◌, ◌≤◌, ◌+◌, ◌*◌, ℕ, zero, suc, None, List, ◌∷◌, ◌++◌, length, map, refl, sym, ap, ap₂, subst, inl, inr, arith}
 use Rattle.std.specs.List.{range_with_len}
-use Rattle.elf_field.specs.Abi.{SHT_STRTAB, SH_TYPE_AT}
+use Rattle.elf_field.specs.Abi.{EHDR_SIZE, PHDR_SIZE, SHDR_SIZE, SHT_NULL, SHT_STRTAB, SH_TYPE_AT}
 use Rattle.elf_field.specs.declared.ehdr.Ehdr.{Ehdr}
 use Rattle.elf_field.specs.declared.shdr.Shdr.{Shdr}
 use Rattle.elf_field.specs.declared.phdr.Phdr.{Phdr}
 use Rattle.elf_extent.specs.declared.extent.Extent.{Extent}
 use Rattle.elf_extent.specs.Extent.{Doubly}
 use Rattle.elf_rules.specs.declared.tables.Counts.{Counts}
-use Rattle.elf_rules.specs.Rows.{FirstIn, Ruled, SomeEntry, When}
+use Rattle.elf_rules.specs.Rows.{FirstIn, Ruled, When}
 use Rattle.elf_rules.proofs.Rows.{AreSame, AreSame-append, AreSame-refl, FirstIn-same}
-use Rattle.elf_rules.specs.Tables.{content_extent, counts_in, name_table, phdr_offset, section_count, segment_count, shdr_offset}
-use Rattle.elf_rules.specs.HeaderRules.{header_rows, ident_rows, length_rows}
-use Rattle.elf_rules.specs.ImageRules.{entry_rows, image_rows, record_rows, table_rows}
-use Rattle.elf_rules.specs.NameRules.{name_rows}
+use Rattle.elf_rules.specs.Tables.{content_extent, counts_in, name_table, section_count, segment_count, shdr_offset}
+use Rattle.elf_rules.specs.HeaderRules.{header_rules, ident_rules, length_rules}
+use Rattle.elf_rules.specs.ImageRules.{entry_rules, image_rules, record_rules, table_rules}
+use Rattle.elf_rules.specs.NameRules.{name_rules}
 use Rattle.elf_rules.specs.StringTable.{UnclosedAt}
-use Rattle.elf_rules.specs.OverlapRule.{extents, overlap_rows}
-use Rattle.elf_rules.specs.ProgramTableRules.{program_table_rows}
-use Rattle.elf_rules.specs.SectionRules.{IsMisaligned, IsNamePastEnd, IsWronglyAligned, PassesEnd, SomeSection, section_rows}
-use Rattle.elf_rules.specs.SectionTableRules.{section_table_rows}
-use Rattle.elf_rules.specs.SegmentRules.{IsIncongruent, IsLargerInFile, IsLoad, IsSegmentWronglyAligned, SegmentPassesEnd, SomeSegment, load_out_of_order, segment_rows}
+use Rattle.elf_rules.specs.OverlapRule.{extents, overlap_rules}
+use Rattle.elf_rules.specs.ProgramTableRules.{program_table_rules}
+use Rattle.elf_rules.specs.SectionRules.{IsMisaligned, IsNamePastEnd, IsWronglyAligned, PassesEnd, SomeSection, section_rules}
+use Rattle.elf_rules.specs.SectionTableRules.{section_table_rules}
+use Rattle.elf_rules.specs.SegmentRules.{IsIncongruent, IsLargerInFile, IsLoad, IsSegmentWronglyAligned, SegmentPassesEnd, SomeSegment, load_out_of_order, segment_rules}
 use Rattle.elf_rules.specs.SoundTables.{HasSoundTables}
 use Rattle.elf_rules.proofs.Clean.{clean_records, name_table_below, sound_tables}
 
@@ -32,17 +32,14 @@ pub record Agree (h : Ehdr) (s t : ℕ → Shdr) (g k : ℕ → Phdr) : Type 0 w
 
 -- ---- rows
 
-some_entry : {E : Type 0} (s t : ℕ → E) (from end : ℕ) (P : E → Type 0) (place : ℕ → ℕ) → ((i : ℕ) → i < end → s i ≡ t i) →
-    (x : ℕ) → SomeEntry t from end P place x → SomeEntry s from end P place x
-some_entry s t from end P place agree x (i, above, below, p, at) = (i, above, below, subst P (sym (agree i below)) p, at)
-
 some_section : (h : Ehdr) (s t : ℕ → Shdr) (end : ℕ) (P : Shdr → Type 0) (field : ℕ) → ((i : ℕ) → i < end → s i ≡ t i) →
     (x : ℕ) → SomeSection h end t P field x → SomeSection h end s P field x
-some_section h s t end P field agree = some_entry s t 1 end (λ q. (q.sh_type ≢ 0) × P q) (λ i. shdr_offset h i + field) agree
+some_section h s t end P field agree x (i, below, (above, typed, broken), at) =
+    (i, below, subst (λ (q : Shdr). (1 ≤ i) × (q.sh_type ≢ SHT_NULL) × P q) (sym (agree i below)) (above, typed, broken), at)
 
 some_segment : (h : Ehdr) (g k : ℕ → Phdr) (end : ℕ) (P : Phdr → Type 0) (field : ℕ) → ((j : ℕ) → j < end → g j ≡ k j) →
     (x : ℕ) → SomeSegment h end k P field x → SomeSegment h end g P field x
-some_segment h g k end P field agree = some_entry g k 0 end P (λ j. phdr_offset h j + field) agree
+some_segment h g k end P field agree x (j, below, broken, at) = (j, below, subst P (sym (agree j below)) broken, at)
 
 loads : (h : Ehdr) (g k : ℕ → Phdr) (m : ℕ) → ((j : ℕ) → j < m → g j ≡ k j) → (x : ℕ) → load_out_of_order h m k x → load_out_of_order h m g x
 loads h g k m agree x (i, j, below, load, before, falls, at) =
@@ -71,13 +68,13 @@ unfolding extents
 same_extents h n m s t agree =
     let contents : map (λ i. content_extent (s i)) (range_with_len 0 n) ≡ map (λ i. content_extent (t i)) (range_with_len 0 n) =
     map_agree (λ i. content_extent (s i)) (λ i. content_extent (t i)) 0 n (λ i lt. ap content_extent (agree i (omega arith))) in
-    ap (λ (cs : List Extent). record { start = 0; len = 64 } ∷ record { start = h.e_shoff; len = 64 * n } ∷ record { start = h.e_phoff; len = 56 * m } ∷ cs) contents
+    ap (λ (cs : List Extent). record { start = 0; len = EHDR_SIZE } ∷ record { start = h.e_shoff; len = SHDR_SIZE * n } ∷ record { start = h.e_phoff; len = PHDR_SIZE * m } ∷ cs) contents
 
--- ---- the rows, run by run
+-- ---- the rules, run by run
 
-same_section_rows : (len : ℕ) (h : Ehdr) (n : ℕ) (s t : ℕ → Shdr) → ((i : ℕ) → i < n → s i ≡ t i) → AreSame (section_rows len h n s) (section_rows len h n t)
-unfolding section_rows
-same_section_rows len h n s t agree =
+same_section_rules : (len : ℕ) (h : Ehdr) (n : ℕ) (s t : ℕ → Shdr) → ((i : ℕ) → i < n → s i ≡ t i) → AreSame (section_rules len h n s) (section_rules len h n t)
+unfolding section_rules
+same_section_rules len h n s t agree =
     let back : (i : ℕ) → i < n → t i ≡ s i = λ i lt. sym (agree i lt) in (
       refl,
       some_section h t s n IsWronglyAligned _ back,
@@ -90,9 +87,9 @@ same_section_rows len h n s t agree =
       ),
     )
 
-same_segment_rows : (len : ℕ) (h : Ehdr) (m : ℕ) (g k : ℕ → Phdr) → ((j : ℕ) → j < m → g j ≡ k j) → AreSame (segment_rows len h m g) (segment_rows len h m k)
-unfolding segment_rows
-same_segment_rows len h m g k agree =
+same_segment_rules : (len : ℕ) (h : Ehdr) (m : ℕ) (g k : ℕ → Phdr) → ((j : ℕ) → j < m → g j ≡ k j) → AreSame (segment_rules len h m g) (segment_rules len h m k)
+unfolding segment_rules
+same_segment_rules len h m g k agree =
     let back : (j : ℕ) → j < m → k j ≡ g j = λ j lt. sym (agree j lt) in (
       refl,
       some_segment h k g m (SegmentPassesEnd len) _ back,
@@ -115,10 +112,10 @@ same_segment_rows len h m g k agree =
       ),
     )
 
-same_name_rows : (h : Ehdr) (n k : ℕ) (s t : ℕ → Shdr) (names : List ℕ) → ((i : ℕ) → i < n → s i ≡ t i) → s k ≡ t k →
-    AreSame (name_rows h n k s names) (name_rows h n k t names)
-unfolding name_rows
-same_name_rows h n k s t names agree table =
+same_name_rules : (h : Ehdr) (n k : ℕ) (s t : ℕ → Shdr) (names : List ℕ) → ((i : ℕ) → i < n → s i ≡ t i) → s k ≡ t k →
+    AreSame (name_rules h n k s names) (name_rules h n k t names)
+unfolding name_rules
+same_name_rules h n k s t names agree table =
     let back : (i : ℕ) → i < n → t i ≡ s i = λ i lt. sym (agree i lt) in
     let P : Shdr → ℕ → Type 0 = λ q x. When ((k ≢ 0) × (q.sh_type ≢ SHT_STRTAB)) (shdr_offset h k + SH_TYPE_AT) x in
     let Q : Shdr → ℕ → Type 0 = λ q x. UnclosedAt names q.sh_offset x in (
@@ -136,52 +133,52 @@ same_name_rows h n k s t names agree table =
 -- rules 22 to 32 of entries that are the same below the counts and at the name table, as read of bytes and of tables in memory
 pub same_entries : (len : ℕ) (h : Ehdr) (c : Counts) (s t : ℕ → Shdr) (g k : ℕ → Phdr) (names : List ℕ) →
     ((i : ℕ) → i < c.sections → s i ≡ t i) → ((j : ℕ) → j < c.segments → g j ≡ k j) → s c.name_table ≡ t c.name_table →
-    AreSame (entry_rows len h c s g names) (entry_rows len h c t k names)
-unfolding entry_rows
+    AreSame (entry_rules len h c s g names) (entry_rules len h c t k names)
+unfolding entry_rules
 same_entries len h c s t g k names sections segments table =
-    AreSame-append _ _ _ _ (same_section_rows len h c.sections s t sections)
-    (AreSame-append _ _ _ _ (same_segment_rows len h c.segments g k segments)
-    (same_name_rows h c.sections c.name_table s t names sections table))
+    AreSame-append _ _ _ _ (same_section_rules len h c.sections s t sections)
+    (AreSame-append _ _ _ _ (same_segment_rules len h c.segments g k segments)
+    (same_name_rules h c.sections c.name_table s t names sections table))
 
-same_overlap : (h : Ehdr) (n m : ℕ) (s t : ℕ → Shdr) → ((i : ℕ) → i < n → s i ≡ t i) → AreSame (overlap_rows h n m s) (overlap_rows h n m t)
+same_overlap : (h : Ehdr) (n m : ℕ) (s t : ℕ → Shdr) → ((i : ℕ) → i < n → s i ≡ t i) → AreSame (overlap_rules h n m s) (overlap_rules h n m t)
 same_overlap h n m s t agree =
     let same = same_extents h n m s t agree in
     (refl, (λ x. subst (λ (es : List Extent). Doubly es x) same), (λ x. subst (λ (es : List Extent). Doubly es x) (sym same)), tt)
 
 -- all rules, of a section header 0 by any equal name
-rows_from : ℕ → Ehdr → (ℕ → Shdr) → (ℕ → Phdr) → List ℕ → Shdr → List {1} Ruled
-rows_from len h t k names first =
-    (length_rows len ++ (ident_rows h.e_ident ++ (header_rows len h ++
-    (section_table_rows len h first ++ (program_table_rows len h first ++ entry_rows len h (counts_in h first) t k names)))))
-    ++ overlap_rows h (section_count h first) (segment_count h first) t
+rules_from : ℕ → Ehdr → (ℕ → Shdr) → (ℕ → Phdr) → List ℕ → Shdr → List {1} Ruled
+rules_from len h t k names first =
+    (length_rules len ++ (ident_rules h.e_ident ++ (header_rules len h ++
+    (section_table_rules len h first ++ (program_table_rules len h first ++ entry_rules len h (counts_in h first) t k names)))))
+    ++ overlap_rules h (section_count h first) (segment_count h first) t
 
 same_from : (len : ℕ) (h : Ehdr) (s t : ℕ → Shdr) (g k : ℕ → Phdr) (names : List ℕ) → Agree h s t g k →
-    s (name_table h (s 0)) ≡ t (name_table h (s 0)) → AreSame (image_rows len h s g names) (rows_from len h t k names (s 0))
-unfolding image_rows record_rows table_rows rows_from
+    s (name_table h (s 0)) ≡ t (name_table h (s 0)) → AreSame (image_rules len h s g names) (rules_from len h t k names (s 0))
+unfolding image_rules record_rules table_rules rules_from
 same_from len h s t g k names agree table =
     AreSame-append _ _ _ _
-    (AreSame-append _ _ _ _ (AreSame-refl (length_rows len))
-    (AreSame-append _ _ _ _ (AreSame-refl (ident_rows h.e_ident))
-    (AreSame-append _ _ _ _ (AreSame-refl (header_rows len h))
-    (AreSame-append _ _ _ _ (AreSame-refl (section_table_rows len h (s 0)))
-    (AreSame-append _ _ _ _ (AreSame-refl (program_table_rows len h (s 0)))
+    (AreSame-append _ _ _ _ (AreSame-refl (length_rules len))
+    (AreSame-append _ _ _ _ (AreSame-refl (ident_rules h.e_ident))
+    (AreSame-append _ _ _ _ (AreSame-refl (header_rules len h))
+    (AreSame-append _ _ _ _ (AreSame-refl (section_table_rules len h (s 0)))
+    (AreSame-append _ _ _ _ (AreSame-refl (program_table_rules len h (s 0)))
     (same_entries len h (counts_in h (s 0)) s t g k names agree.sections agree.segments table))))))
     (same_overlap h _ _ s t agree.sections)
 
 -- all rules, where the name table's header is the same too
-pub same_rows : (len : ℕ) (h : Ehdr) (s t : ℕ → Shdr) (g k : ℕ → Phdr) (names : List ℕ) → Agree h s t g k →
-    s (name_table h (s 0)) ≡ t (name_table h (s 0)) → AreSame (image_rows len h s g names) (image_rows len h t k names)
-unfolding image_rows record_rows table_rows rows_from
-same_rows len h s t g k names agree table =
-    subst (λ (first : Shdr). AreSame (image_rows len h s g names) (rows_from len h t k names first)) agree.first
+pub same_rules : (len : ℕ) (h : Ehdr) (s t : ℕ → Shdr) (g k : ℕ → Phdr) (names : List ℕ) → Agree h s t g k →
+    s (name_table h (s 0)) ≡ t (name_table h (s 0)) → AreSame (image_rules len h s g names) (image_rules len h t k names)
+unfolding image_rules record_rules table_rules rules_from
+same_rules len h s t g k names agree table =
+    subst (λ (first : Shdr). AreSame (image_rules len h s g names) (rules_from len h t k names first)) agree.first
     (same_from len h s t g k names agree table)
 
 -- and so where one breaks no rule, the other doesn't
 pub same_clean : (len : ℕ) (h : Ehdr) (s t : ℕ → Shdr) (g k : ℕ → Phdr) (names : List ℕ) → Agree h s t g k →
-    FirstIn (image_rows len h s g names) None → FirstIn (image_rows len h t k names) None
+    FirstIn (image_rules len h s g names) None → FirstIn (image_rules len h t k names) None
 same_clean len h s t g k names agree clean =
     let facts = sound_tables len h s g names (clean_records len h s g names clean) in
-    FirstIn-same (image_rows len h s g names) _ None (same_rows len h s t g k names agree (at_table facts)) clean
+    FirstIn-same (image_rules len h s g names) _ None (same_rules len h s t g k names agree (at_table facts)) clean
   where
     at_table : HasSoundTables len h s → s (name_table h (s 0)) ≡ t (name_table h (s 0))
     at_table facts = elim (name_table_below len h s facts) [

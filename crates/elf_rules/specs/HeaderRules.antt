@@ -60,22 +60,22 @@ abbrev pub first_section_header_past_end : ℕ → Ehdr → Row
 first_section_header_past_end len h = When ((h.e_shoff ≢ 0) × (len < h.e_shoff + SHDR_SIZE)) E_SHOFF_AT
 
 -- rules 1 and 2
-unfoldable pub length_rows : ℕ → List {1} Ruled
-length_rows len =
+unfoldable pub length_rules : ℕ → List {1} Ruled
+length_rules len =
     rule 1 (too_long len) ∷
     rule 2 (too_short len) ∷ []
 
 -- rules 3 to 6
-unfoldable pub ident_rows : List ℕ → List {1} Ruled
-ident_rows ident =
+unfoldable pub ident_rules : List ℕ → List {1} Ruled
+ident_rules ident =
     rule 3 (wrong_magic ident) ∷
     rule 4 (wrong_class ident) ∷
     rule 5 (wrong_data ident) ∷
     rule 6 (wrong_ident_version ident) ∷ []
 
 -- rules 7 to 12
-unfoldable pub header_rows : ℕ → Ehdr → List {1} Ruled
-header_rows len h =
+unfoldable pub header_rules : ℕ → Ehdr → List {1} Ruled
+header_rules len h =
     rule 7 (wrong_version h) ∷
     rule 8 (wrong_header_size h) ∷
     rule 9 (count_without_section_table h) ∷

@@ -23,8 +23,8 @@ abbrev pub name_past_end : Ehdr → ℕ → (ℕ → Shdr) → List ℕ → Row
 name_past_end h n s names = SomeSection h n s (IsNamePastEnd (length names)) SH_NAME_AT
 
 -- rules 30 to 32
-unfoldable pub name_rows : Ehdr → ℕ → ℕ → (ℕ → Shdr) → List ℕ → List {1} Ruled
-name_rows h n k s names =
+unfoldable pub name_rules : Ehdr → ℕ → ℕ → (ℕ → Shdr) → List ℕ → List {1} Ruled
+name_rules h n k s names =
     rule 30 (wrong_name_table_type h k s) ∷
     rule 31 (unclosed_name_table k s names) ∷
     rule 32 (name_past_end h n s names) ∷ []

@@ -27,8 +27,8 @@ extents h n m s =
 abbrev pub shared_byte : Ehdr → ℕ → ℕ → (ℕ → Shdr) → Row
 shared_byte h n m s = Doubly (extents h n m s)
 
-abbrev pub overlap_rows : Ehdr → ℕ → ℕ → (ℕ → Shdr) → List {1} Ruled
-overlap_rows h n m s = rule 33 (shared_byte h n m s) ∷ []
+abbrev pub overlap_rules : Ehdr → ℕ → ℕ → (ℕ → Shdr) → List {1} Ruled
+overlap_rules h n m s = rule 33 (shared_byte h n m s) ∷ []
 
 -- the fault of a file whose lowest byte in two extents is this one, where it keeps all other rules
 abbrev pub shared_fault : Option ℕ → Option (ℕ × ℕ)

@@ -36,8 +36,8 @@ program_table_past_end len h first =
     let m = segment_count h first in When ((0 < m) × (len < phdr_offset h m)) E_PHOFF_AT
 
 -- rules 18 to 21
-unfoldable pub program_table_rows : ℕ → Ehdr → Shdr → List {1} Ruled
-program_table_rows len h first =
+unfoldable pub program_table_rules : ℕ → Ehdr → Shdr → List {1} Ruled
+program_table_rules len h first =
     rule 18 (wrong_segment_count h) ∷
     rule 19 (wrong_program_header_size h) ∷
     rule 20 (wrong_extended_segment_count h first) ∷

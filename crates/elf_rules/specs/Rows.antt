@@ -1,6 +1,6 @@
 -- Lists of rules: which offsets break a rule, and the first rule broken with its lowest offset.
 -- These words know no rule of any file: a rule is a number and a row, and a list of rules is judged in its order.
-use Rattle.std.specs.Prelude.{◌≡◌, ℕ, ◌<◌, ◌≤◌, ◌⊎◌, Option, None, Some, List, [], ◌∷◌}
+use Rattle.std.specs.Prelude.{◌≡◌, ℕ, ◌<◌, ◌⊎◌, Option, None, Some, List, [], ◌∷◌}
 use Rattle.elf_extent.specs.Least.{Never, IsLeast}
 
 -- the row of a rule: at which offsets it is broken
@@ -15,10 +15,6 @@ When P at = λ x. P × (x ≡ at)
 abbrev pub Either : List {1} Row → Row
 Either [] = λ x. ⊥
 Either (row ∷ rows) = λ x. row x ⊎ Either rows x
-
--- the row of a rule on each entry from index `from` to below `end`: broken at the place of one with P
-abbrev pub SomeEntry : {E : Type 0} → (ℕ → E) → ℕ → ℕ → (E → Type 0) → (ℕ → ℕ) → Row
-SomeEntry entry from end P place = λ x. (i : ℕ) × (from ≤ i) × (i < end) × P (entry i) × (x ≡ place i)
 
 -- the row of a rule on each index below n: broken at the place of one with P
 abbrev pub AtEntry : ℕ → (ℕ → Type 0) → (ℕ → ℕ) → Row

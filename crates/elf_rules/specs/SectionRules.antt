@@ -7,13 +7,13 @@ use Rattle.elf_field.specs.declared.ehdr.Ehdr.{Ehdr}
 use Rattle.elf_field.specs.declared.shdr.Shdr.{Shdr}
 use Rattle.elf_rules.specs.declared.section_rules.SectionRule.{SectionRule}
 use Rattle.elf_rules.specs.declared.section_rules.SectionRule.TheVariants.{Alignment, Address, Content, Name}
-use Rattle.elf_rules.specs.Rows.{Row, Ruled, rule, SomeEntry}
+use Rattle.elf_rules.specs.Rows.{AtEntry, Row, Ruled, rule}
 use Rattle.elf_rules.specs.Tables.{shdr_offset}
 
 -- the row of a rule on each of n sections but entry 0 and those of type NULL, at `field` in the header
 abbrev pub SomeSection : Ehdr → ℕ → (ℕ → Shdr) → (Shdr → Type 0) → ℕ → Row
 SomeSection h n s P field =
-    SomeEntry s 1 n (λ entry. (entry.sh_type ≢ SHT_NULL) × P entry) (λ i. shdr_offset h i + field)
+    AtEntry n (λ i. (1 ≤ i) × ((s i).sh_type ≢ SHT_NULL) × P (s i)) (λ i. shdr_offset h i + field)
 
 -- an alignment is neither 0, for none, nor a power of two
 abbrev pub IsWrongAlignment : ℕ → Type 0
@@ -61,8 +61,8 @@ section_field (Content len) = SH_OFFSET_AT
 section_field (Name size) = SH_NAME_AT
 
 -- rules 22 to 24
-unfoldable pub section_rows : ℕ → Ehdr → ℕ → (ℕ → Shdr) → List {1} Ruled
-section_rows len h n s =
+unfoldable pub section_rules : ℕ → Ehdr → ℕ → (ℕ → Shdr) → List {1} Ruled
+section_rules len h n s =
     rule 22 (wrong_section_alignment h n s) ∷
     rule 23 (misaligned_section h n s) ∷
     rule 24 (content_past_end len h n s) ∷ []

@@ -57,8 +57,8 @@ wrong_extended_name_table_index h first =
     InFirst h (HasWrongExtendedNameTableIndex h first (section_count h first)) SH_LINK_AT
 
 -- rules 13 to 17
-unfoldable pub section_table_rows : ℕ → Ehdr → Shdr → List {1} Ruled
-section_table_rows len h first =
+unfoldable pub section_table_rules : ℕ → Ehdr → Shdr → List {1} Ruled
+section_table_rules len h first =
     rule 13 (first_section_header_not_null h first) ∷
     rule 14 (wrong_extended_section_count h first) ∷
     rule 15 (section_table_past_end len h first) ∷

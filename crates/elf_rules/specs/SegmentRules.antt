@@ -6,13 +6,13 @@ use Rattle.elf_field.specs.declared.ehdr.Ehdr.{Ehdr}
 use Rattle.elf_field.specs.declared.phdr.Phdr.{Phdr}
 use Rattle.elf_rules.specs.declared.segment_rules.SegmentRule.{SegmentRule}
 use Rattle.elf_rules.specs.declared.segment_rules.SegmentRule.TheVariants.{End, Size, Alignment, Congruence}
-use Rattle.elf_rules.specs.Rows.{Row, Ruled, rule, SomeEntry}
+use Rattle.elf_rules.specs.Rows.{AtEntry, Row, Ruled, rule}
 use Rattle.elf_rules.specs.SectionRules.{IsWrongAlignment}
 use Rattle.elf_rules.specs.Tables.{phdr_offset}
 
 -- the row of a rule on each of m segments, at `field` in the program header
 abbrev pub SomeSegment : Ehdr → ℕ → (ℕ → Phdr) → (Phdr → Type 0) → ℕ → Row
-SomeSegment h m g P field = SomeEntry g 0 m P (λ j. phdr_offset h j + field)
+SomeSegment h m g P field = AtEntry m (λ j. P (g j)) (λ j. phdr_offset h j + field)
 
 -- a loadable segment (type LOAD)
 abbrev pub IsLoad : Phdr → Type 0
@@ -74,8 +74,8 @@ load_out_of_order h m g = λ x. (k j : ℕ) × (j < m) × IsLoad (g j) × IsLoad
     ((g j).p_vaddr < (g k).p_vaddr) × (x ≡ phdr_offset h j + P_VADDR_AT)
 
 -- rules 25 to 29
-unfoldable pub segment_rows : ℕ → Ehdr → ℕ → (ℕ → Phdr) → List {1} Ruled
-segment_rows len h m g =
+unfoldable pub segment_rules : ℕ → Ehdr → ℕ → (ℕ → Phdr) → List {1} Ruled
+segment_rules len h m g =
     rule 25 (segment_past_end len h m g) ∷
     rule 26 (file_size_above_memory_size h m g) ∷
     rule 27 (wrong_segment_alignment h m g) ∷

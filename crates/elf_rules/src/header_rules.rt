@@ -2,7 +2,7 @@
 ghost use Rattle.std.specs.Prelude.{◌≡◌, ◌+◌, ◌≤◌, IfNone, OnOk};
 ghost use Rattle.elf_extent.specs.Least.{IsLowest};
 ghost use Rattle.elf_rules.specs.Broken.{fault_of};
-ghost use Rattle.elf_rules.specs.HeaderRules.{count_without_section_table, length_rows, ident_rows, header_rows};
+ghost use Rattle.elf_rules.specs.HeaderRules.{count_without_section_table, length_rules, ident_rules, header_rules};
 ghost use Rattle.elf_rules.specs.Rows.{FirstIn};
 
 use crate::broken::Broken;
@@ -14,9 +14,9 @@ use elf_field::abi::*;
 pub const MAX_LEN: u64 = 1 << 30;
 
 /// Rules 1 and 2, of a file of `len` bytes.
-#[tactic(auto, unfolding(crate::specs::HeaderRules::length_rows))]
-pub fn judge_length(len: u64) -> Result<(), Broken>
-    ensures fault { FirstIn (length_rows len) (fault_of result) }
+#[tactic(auto, unfolding(crate::specs::HeaderRules::length_rules))]
+pub(crate) fn judge_length(len: u64) -> Result<(), Broken>
+    ensures fault { FirstIn (length_rules len) (fault_of result) }
     ensures long { OnOk result (EHDR_SIZE ≤ len) }
 {
     if len > MAX_LEN {
@@ -29,9 +29,9 @@ pub fn judge_length(len: u64) -> Result<(), Broken>
 }
 
 /// Rules 3 to 6, of the identification.
-#[tactic(auto, unfolding(crate::specs::HeaderRules::ident_rows))]
-pub fn judge_ident(ident: &[u8; EI_NIDENT]) -> Result<(), Broken>
-    ensures { FirstIn (ident_rows ident.now) (fault_of result) }
+#[tactic(auto, unfolding(crate::specs::HeaderRules::ident_rules))]
+pub(crate) fn judge_ident(ident: &[u8; EI_NIDENT]) -> Result<(), Broken>
+    ensures { FirstIn (ident_rules ident.now) (fault_of result) }
 {
     for i in 0..MAGIC.len() {
         if ident[i] != MAGIC[i] {
@@ -51,9 +51,9 @@ pub fn judge_ident(ident: &[u8; EI_NIDENT]) -> Result<(), Broken>
 }
 
 /// Rules 7 to 12, of the header of a file of `len` bytes.
-#[tactic(auto, unfolding(crate::specs::HeaderRules::header_rows))]
-pub fn judge_header(header: &Ehdr, len: u64) -> Result<(), Broken>
-    ensures fault { FirstIn (header_rows len header.now) (fault_of result) }
+#[tactic(auto, unfolding(crate::specs::HeaderRules::header_rules))]
+pub(crate) fn judge_header(header: &Ehdr, len: u64) -> Result<(), Broken>
+    ensures fault { FirstIn (header_rules len header.now) (fault_of result) }
     ensures first { OnOk result (EHDR_SIZE ≤ len → header.now.e_shoff + SHDR_SIZE ≤ len) }
     ensures nameless { OnOk result (header.now.e_shoff ≡ 0 → header.now.e_shstrndx ≡ 0) }
 {

@@ -1,7 +1,7 @@
 //! The first rule that a file breaks.
 ghost use Rattle.std.specs.Prelude.{◌≡◌, ◌+◌, ◌<◌, ◌≤◌, ◌^◌, ℕ, List, Some, IfErr, IfOk, OnOk, length};
 ghost use Rattle.elf_rules.specs.Broken.{fault_of};
-ghost use Rattle.elf_rules.specs.ImageRules.{IsFault, KeepsRecordRules, entry_rows, table_rows};
+ghost use Rattle.elf_rules.specs.ImageRules.{IsFault, KeepsRecordRules, entry_rules, table_rules};
 ghost use Rattle.elf_rules.specs.JudgedRecords.{file_of};
 ghost use Rattle.elf_rules.specs.StringTable.{AreEnds};
 ghost use Rattle.elf_rules.specs.Rows.{FirstIn};
@@ -36,7 +36,7 @@ pub fn verdict(bytes: &[u8]) -> Option<(u16, u64)>
 }
 
 /// Whether the file is an image: else the first rule that it breaks, and its lowest offset.
-pub fn judge(bytes: &[u8]) -> Result<(), Broken>
+pub(crate) fn judge(bytes: &[u8]) -> Result<(), Broken>
     ensures { IsFault bytes.now (fault_of result) }
 {
     match judge_records(bytes)?.shared_byte() {
@@ -83,7 +83,7 @@ fn judge_tables(bytes: &[u8], header: &Ehdr) -> Result<Counts, Broken>
     requires { header.now.e_shoff + SHDR_SIZE ≤ length bytes.now }
     ensures fault { let b = bytes.now in
         let h = header.now in
-        FirstIn (table_rows (length b) h (sections b h) (segments b h) (names b h)) (fault_of result) }
+        FirstIn (table_rules (length b) h (sections b h) (segments b h) (names b h)) (fault_of result) }
     ensures value { IfOk result (λ c. c ≡ counts_in header.now (sections bytes.now header.now 0)) }
 {
     let len = bytes.len() as u64;
@@ -112,7 +112,7 @@ pub fn judge_entries<T: Records>(
     requires name_table_place { shdr_offset header.now counts.name_table + SHDR_SIZE < 2 ^ 64 }
     requires names { 0 < ends.len → (T.sections records.now counts.name_table).sh_offset + ends.len < 2 ^ 64 }
     ensures { (names : List ℕ) → AreEnds ends names →
-        FirstIn (entry_rows len header.now counts (T.sections records.now) (T.segments records.now) names)
+        FirstIn (entry_rules len header.now counts (T.sections records.now) (T.segments records.now) names)
         (fault_of result) }
 {
     judge_sections(records, header, counts.sections, len)?;

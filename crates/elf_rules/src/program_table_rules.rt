@@ -2,7 +2,7 @@
 //! Program Header).
 ghost use Rattle.std.specs.Prelude.{◌≤◌, ◌+◌, ◌<◌, ◌↔◌, IsTrue, OnOk};
 ghost use Rattle.elf_rules.specs.Broken.{fault_of};
-ghost use Rattle.elf_rules.specs.ProgramTableRules.{HasWrongExtendedSegmentCount, HasWrongSegmentCount, program_table_rows};
+ghost use Rattle.elf_rules.specs.ProgramTableRules.{HasWrongExtendedSegmentCount, HasWrongSegmentCount, program_table_rules};
 ghost use Rattle.elf_rules.specs.Rows.{FirstIn};
 ghost use Rattle.elf_rules.specs.Tables.{phdr_offset, segment_count};
 
@@ -13,10 +13,10 @@ use elf_field::abi::*;
 use elf_field::{Ehdr, Shdr};
 
 /// Rules 18 to 21, of the header and section header 0 of a file of `len` bytes.
-#[tactic(auto, unfolding(crate::specs::ProgramTableRules::program_table_rows))]
-pub fn judge_program_table(header: &Ehdr, first: &Shdr, len: u64) -> Result<(), Broken>
+#[tactic(auto, unfolding(crate::specs::ProgramTableRules::program_table_rules))]
+pub(crate) fn judge_program_table(header: &Ehdr, first: &Shdr, len: u64) -> Result<(), Broken>
     requires { header.now.e_shoff + SHDR_SIZE ≤ len }
-    ensures fault { FirstIn (program_table_rows len header.now first.now) (fault_of result) }
+    ensures fault { FirstIn (program_table_rules len header.now first.now) (fault_of result) }
     ensures inside { OnOk result
         (let m = segment_count header.now first.now in 0 < m → phdr_offset header.now m ≤ len) }
 {

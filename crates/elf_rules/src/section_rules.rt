@@ -3,7 +3,7 @@ ghost use Rattle.std.specs.Prelude.{◌≡◌, ◌<◌, ◌^◌, ◌↔◌, ℕ,
 ghost use Rattle.elf_extent.specs.Least.{IsLowest};
 ghost use Rattle.elf_rules.specs.Broken.{fault_of};
 ghost use Rattle.elf_rules.specs.Rows.{FirstIn};
-ghost use Rattle.elf_rules.specs.SectionRules.{BreaksSection, IsMisaligned, PassesEnd, SomeSection, section_field, section_rows};
+ghost use Rattle.elf_rules.specs.SectionRules.{BreaksSection, IsMisaligned, PassesEnd, SomeSection, section_field, section_rules};
 ghost use Rattle.elf_rules.specs.Tables.{shdr_offset};
 
 use crate::alignment::is_wrong_alignment;
@@ -71,7 +71,7 @@ fn passes_end(entry: &Shdr, len: u64) -> bool
 }
 
 /// The lowest offset in the file at which one of `count` sections breaks the rule.
-pub fn lowest_section<T: Records>(
+pub(crate) fn lowest_section<T: Records>(
     records: &T,
     header: &Ehdr,
     count: u64,
@@ -92,8 +92,8 @@ pub fn lowest_section<T: Records>(
 }
 
 /// Rules 22 to 24, of `count` sections of a file of `len` bytes.
-#[tactic(auto, unfolding(crate::specs::SectionRules::section_rows))]
-pub fn judge_sections<T: Records>(
+#[tactic(auto, unfolding(crate::specs::SectionRules::section_rules))]
+pub(crate) fn judge_sections<T: Records>(
     records: &T,
     header: &Ehdr,
     count: u64,
@@ -101,7 +101,7 @@ pub fn judge_sections<T: Records>(
 ) -> Result<(), Broken>
     requires there { (i : ℕ) → i < count → T.HasSection records.now i }
     requires fits { shdr_offset header.now count < 2 ^ 64 }
-    ensures { FirstIn (section_rows len header.now count (T.sections records.now)) (fault_of result) }
+    ensures { FirstIn (section_rules len header.now count (T.sections records.now)) (fault_of result) }
 {
     if let Some(at) = lowest_section(records, header, count, SectionRule::Alignment) {
         return Err(Broken::new(WRONG_SECTION_ALIGNMENT, at));

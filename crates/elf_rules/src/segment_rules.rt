@@ -3,7 +3,7 @@ ghost use Rattle.std.specs.Prelude.{◌≡◌, ◌≢◌, ◌<◌, ◌%◌, ◌^
 ghost use Rattle.elf_extent.specs.Least.{IsLowest};
 ghost use Rattle.elf_rules.specs.Broken.{fault_of};
 ghost use Rattle.elf_rules.specs.Rows.{FirstIn};
-ghost use Rattle.elf_rules.specs.SegmentRules.{BreaksSegment, SomeSegment, load_out_of_order, segment_field, segment_rows};
+ghost use Rattle.elf_rules.specs.SegmentRules.{BreaksSegment, SomeSegment, load_out_of_order, segment_field, segment_rules};
 ghost use Rattle.elf_rules.specs.Tables.{phdr_offset};
 
 use crate::alignment::is_wrong_alignment;
@@ -67,7 +67,7 @@ fn is_incongruent(segment: &Phdr) -> bool
 }
 
 /// The lowest offset in the file at which one of `count` segments breaks the rule.
-pub fn lowest_segment<T: Records>(
+pub(crate) fn lowest_segment<T: Records>(
     records: &T,
     header: &Ehdr,
     count: u64,
@@ -108,8 +108,8 @@ fn lowest_out_of_order<T: Records>(records: &T, header: &Ehdr, count: u64) -> Op
 }
 
 /// Rules 25 to 29, of `count` segments of a file of `len` bytes.
-#[tactic(auto, unfolding(crate::specs::SegmentRules::segment_rows))]
-pub fn judge_segments<T: Records>(
+#[tactic(auto, unfolding(crate::specs::SegmentRules::segment_rules))]
+pub(crate) fn judge_segments<T: Records>(
     records: &T,
     header: &Ehdr,
     count: u64,
@@ -117,7 +117,7 @@ pub fn judge_segments<T: Records>(
 ) -> Result<(), Broken>
     requires there { (j : ℕ) → j < count → T.HasSegment records.now j }
     requires fits { 0 < count → phdr_offset header.now count < 2 ^ 64 }
-    ensures { FirstIn (segment_rows len header.now count (T.segments records.now)) (fault_of result) }
+    ensures { FirstIn (segment_rules len header.now count (T.segments records.now)) (fault_of result) }
 {
     if let Some(at) = lowest_segment(records, header, count, SegmentRule::End(len)) {
         return Err(Broken::new(SEGMENT_PAST_END, at));

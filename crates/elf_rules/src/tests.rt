@@ -1,6 +1,7 @@
 use crate::header_rules::{MAX_LEN, judge_length};
+use crate::image_rules::judge;
 use crate::rules::TOO_SHORT;
-use crate::{Broken, judge, judge_by_sorting, verdict};
+use crate::{Broken, judge_by_sorting, verdict};
 use elf_field::Order;
 use std::test::Fail;
 

@@ -13,6 +13,7 @@ use Rattle.elf_table.specs.Groups.{member, member_count, members_in}
 use Rattle.elf_table.specs.OwnRules.{own_rules}
 use Rattle.elf_table.specs.Sections.{Sections, section}
 use Rattle.elf_table.specs.SymbolRules.{symbol_table_rules}
+use Rattle.elf_table.proofs.TableKinds.{type_of_group}
 
 pub length_members : (o : Order) (words : List ℕ) → length (members_in o words) ≡ member_count words
 unfolding members_in
@@ -37,7 +38,7 @@ sound_group f i sound =
     let rest = FirstIn-behind (symbol_table_rules f (section f i).sh_link) _ (FirstIn-behind (own_rules SectionGroup f i) _ sound) in
     let front = FirstIn-front (group_front_rules f i) _ rest in
     record {
-      typed = elim (cases_eq (section f i).sh_type SHT_GROUP) [ inl same ↦ same | inr other ↦ absurd (own.0 _ (other, refl)) ];
+      typed = elim (cases_eq (section f i).sh_type SHT_GROUP) [ inl same ↦ same | inr other ↦ absurd (own.0 _ ((λ is. other (type_of_group _ is)), refl)) ];
       sized = elim (cases_eq ((section f i).sh_size % WORD_SIZE) 0) [ inl same ↦ same | inr other ↦ absurd (own.1.1.0 _ (other, refl)) ];
       some = elim (cases_eq (section f i).sh_size 0) [ inl none ↦ absurd (front.0 _ (none, refl)) | inr other ↦ omega arith ];
     }

@@ -15,21 +15,13 @@ use Rattle.elf_table.specs.HashTable.{IsLinked, Valid, bucket, bucket_of, chain,
 use Rattle.elf_table.specs.Chains.{Ends, IsOn}
 use Rattle.elf_table.specs.ElfHash.{hash_of}
 use Rattle.elf_table.specs.OwnRules.{own_rules}
-use Rattle.elf_table.specs.Sections.{Sections, content, count, order, section}
+use Rattle.elf_table.specs.Sections.{Sections, content, order, section}
 use Rattle.elf_table.specs.Symbols.{symbols_of}
 use Rattle.elf_table.specs.WordLists.{names_in, symbol_names_of}
 use Rattle.elf_table.specs.SymbolParts.{symbol_parts}
 use Rattle.elf_table.proofs.ChainsDecided.{ends_or_not, on_or_not}
 use Rattle.elf_table.proofs.WordListLemmas.{names_are}
-
--- the section that it links to is there
-pub hash_link : (f : Sections) (i : ℕ) → FirstIn (own_rules HashTable f i) None → (section f i).sh_link < count f
-unfolding own_rules
-hash_link f i own =
-    elim (cases_lt (section f i).sh_link (count f)) [
-      | inl there ↦ there
-      | inr past ↦ absurd (own.1.1.1.0 _ (inl past, refl))
-    ]
+use Rattle.elf_table.proofs.TableKinds.{type_of_hash}
 
 -- it has as many bytes in the file as its section header says
 pub hash_type : (f : Sections) (i : ℕ) → FirstIn (own_rules HashTable f i) None → (section f i).sh_type ≡ SHT_HASH
@@ -37,7 +29,7 @@ unfolding own_rules
 hash_type f i own =
     elim (cases_eq (section f i).sh_type SHT_HASH) [
       | inl same ↦ same
-      | inr other ↦ absurd (own.0 _ (other, refl))
+      | inr other ↦ absurd (own.0 _ ((λ is. other (type_of_hash _ is)), refl))
     ]
 
 pub hash_content : (s : Shdr) → s.sh_type ≡ SHT_HASH → (content_extent s).len ≡ s.sh_size

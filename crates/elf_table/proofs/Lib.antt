@@ -1,6 +1,7 @@
 -- Lemmas of this crate.
 pub mod Lowest
 pub mod IndexTables
+pub mod OwnRuleLemmas
 pub mod SymbolLists
 pub mod AllIndexTables
 pub mod TableKinds

@@ -1,6 +1,6 @@
 -- The symbols of a symbol table, by index, and what its rules say of a table that breaks none.
 use Rattle.std.proofs.Common.{◌≡◌, ℕ, ◌*◌, ◌<◌, Option, None, Some, List, length, get_or, ◌++◌, inl, inr, refl, sym, subst, arith, zero-add}
-use Rattle.std.proofs.lemmas.Bool.{cases_eq, cases_lt}
+use Rattle.std.proofs.lemmas.Bool.{cases_eq}
 use Rattle.std.proofs.lemmas.List.FromFn.{get_or-map-range_with_len, length-map-range_with_len}
 use Rattle.elf_field.specs.Abi.{SHN_XINDEX, WORD_SIZE}
 use Rattle.elf_field.specs.declared.order.Order.{Order}
@@ -15,6 +15,7 @@ use Rattle.elf_table.specs.SymbolParts.{SymbolPartsValue, symbol_parts}
 use Rattle.elf_table.specs.SymbolRules.{entry, entry_count, entry_rules, index_table_rules, place_rules, rest_rules, symbol_table_rules}
 use Rattle.elf_table.specs.Symbols.{IsReadable, symbol_in, symbols_in}
 use Rattle.elf_table.specs.SymbolView.{no_symbol}
+use Rattle.elf_table.proofs.OwnRuleLemmas.{link_there}
 
 pub length_symbols : (o : Order) (table names words : List ℕ) → length (symbols_in o table names words) ≡ entry_count table
 unfolding symbols_in
@@ -30,13 +31,8 @@ symbol_get o table names words j within =
 
 -- the section that it links to is there
 pub sound_link : (f : Sections) (i : ℕ) → FirstIn (symbol_table_rules f i) None → (section f i).sh_link < count f
-unfolding symbol_table_rules own_rules
-sound_link f i sound =
-    let own = FirstIn-front (own_rules SymbolTable f i) _ sound in
-    elim (cases_lt (section f i).sh_link (count f)) [
-      | inl there ↦ there
-      | inr past ↦ absurd (own.1.1.1.0 _ (inl past, refl))
-    ]
+unfolding symbol_table_rules
+sound_link f i sound = link_there SymbolTable f i (FirstIn-front (own_rules SymbolTable f i) _ sound)
 
 -- rules 49 and 50, and 51 and 52, are kept
 index_table_kept : (f : Sections) (i : ℕ) → FirstIn (symbol_table_rules f i) None →

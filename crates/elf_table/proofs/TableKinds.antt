@@ -1,8 +1,10 @@
 -- Which rules a section's type asks for.
-use Rattle.std.proofs.Common.{◌≡◌, ◌<◌, ℕ, List, Option, None, Some, get_or, inl, inr, refl, subst}
+use Rattle.std.proofs.Common.{◌≡◌, ◌<◌, ℕ, List, Option, None, Some, get_or, inl, inr, refl, subst, arith}
+use Rattle.std.proofs.lemmas.Grind.{common_steps}
 use Rattle.elf_rules.specs.Rows.{FirstIn}
+use Rattle.elf_field.specs.Abi.{SHT_GROUP, SHT_HASH}
 use Rattle.elf_table.specs.declared.table_kind.TableKind.{TableKind}
-use Rattle.elf_table.specs.declared.table_kind.TableKind.TheVariants.{SymbolTable}
+use Rattle.elf_table.specs.declared.table_kind.TableKind.TheVariants.{HashTable, SectionGroup, SymbolTable}
 use Rattle.elf_table.specs.Sections.{Sections, count, section}
 use Rattle.elf_table.specs.TableKind.{IsSymbolType, kind_of}
 use Rattle.elf_table.specs.SymbolRules.{symbol_table_rules}
@@ -13,6 +15,13 @@ use Rattle.elf_table.specs.TableVerdicts.{AreSymbolVerdicts}
 pub symbols_kind : (type : ℕ) → IsSymbolType type → kind_of type ≡ Some SymbolTable
 symbols_kind type (inl symtab) = rw symtab refl
 symbols_kind type (inr dynsym) = rw dynsym refl
+
+-- a section that holds a group or a hash table is of the one type that does
+pub type_of_group : (type : ℕ) → kind_of type ≡ Some SectionGroup → type ≡ SHT_GROUP
+type_of_group type is = grind (arith, common_steps)
+
+pub type_of_hash : (type : ℕ) → kind_of type ≡ Some HashTable → type ≡ SHT_HASH
+type_of_hash type is = grind (arith, common_steps)
 
 -- a section of this kind has the rules of the kind
 pub kind_asked : (f : Sections) (i : ℕ) (kind : Option TableKind) (found : Option (ℕ × ℕ)) → kind_of (section f i).sh_type ≡ kind → FirstIn (table_rules f i) found →

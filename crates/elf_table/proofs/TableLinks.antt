@@ -17,6 +17,7 @@ use Rattle.elf_table.specs.TableRules.{rules_of, table_rules}
 use Rattle.elf_table.specs.TableVerdicts.{AreVerdicts}
 use Rattle.elf_table.proofs.SymbolLists.{length_symbols}
 use Rattle.elf_table.proofs.TableKinds.{symbols_kind}
+use Rattle.elf_table.proofs.OwnRuleLemmas.{link_there}
 
 -- the verdict on a table that breaks no rule is None
 pub none_kept : (f : Sections) (i : ℕ) (kind : Option TableKind) (verdicts : List (Option (ℕ × ℕ))) → AreVerdicts f (count f) verdicts → i < count f →
@@ -28,13 +29,8 @@ none_kept f i kind verdicts are there is sound =
 -- ---- a section group
 
 pub group_link : (f : Sections) (i : ℕ) → FirstIn (group_section_rules f i) None → (section f i).sh_link < count f
-unfolding group_section_rules own_rules
-group_link f i sound =
-    let own = FirstIn-front (own_rules SectionGroup f i) _ sound in
-    elim (cases_lt (section f i).sh_link (count f)) [
-      | inl there ↦ there
-      | inr past ↦ absurd (own.1.1.1.0 _ (inl past, refl))
-    ]
+unfolding group_section_rules
+group_link f i sound = link_there SectionGroup f i (FirstIn-front (own_rules SectionGroup f i) _ sound)
 
 -- it links to a symbol table
 pub group_symbols : (f : Sections) (i : ℕ) → FirstIn (group_section_rules f i) None → kind_of (section f (section f i).sh_link).sh_type ≡ Some SymbolTable
@@ -65,10 +61,5 @@ group_signature f i sound =
 -- ---- a dynamic section
 
 pub dynamic_link : (f : Sections) (i : ℕ) → FirstIn (dynamic_section_rules f i) None → (section f i).sh_link < count f
-unfolding dynamic_section_rules own_rules
-dynamic_link f i sound =
-    let own = FirstIn-front (own_rules DynamicArray f i) _ sound in
-    elim (cases_lt (section f i).sh_link (count f)) [
-      | inl there ↦ there
-      | inr past ↦ absurd (own.1.1.1.0 _ (inl past, refl))
-    ]
+unfolding dynamic_section_rules
+dynamic_link f i sound = link_there DynamicArray f i (FirstIn-front (own_rules DynamicArray f i) _ sound)

@@ -36,6 +36,7 @@ pub mod HashView
 pub mod HashLeft
 pub mod TableRules
 pub mod TableVerdicts
+pub mod LinkedVerdicts
 pub mod Verdict
 pub mod TablesView
 pub mod SymbolView

@@ -1,11 +1,11 @@
 -- Rules 40 and 42 to 44: what the section header of a table says of the table by itself.
 -- (gABI chapter 4, Sections: sh_type, sh_size, sh_link, sh_entsize.)
-use Rattle.std.specs.Prelude.{◌≢◌, ℕ, ◌+◌, ◌%◌, ◌≤◌, ◌⊎◌, List, [], ◌∷◌}
+use Rattle.std.specs.Prelude.{◌≡◌, ◌≢◌, ℕ, ◌+◌, ◌%◌, ◌≤◌, ◌⊎◌, Some, List, [], ◌∷◌}
 use Rattle.elf_field.specs.Abi.{SH_ENTSIZE_AT, SH_LINK_AT, SH_SIZE_AT, SH_TYPE_AT}
 use Rattle.elf_rules.specs.Rows.{Row, Ruled, When, rule}
 use Rattle.elf_table.specs.declared.table_kind.TableKind.{TableKind}
 use Rattle.elf_table.specs.Sections.{Sections, count, header_at, section}
-use Rattle.elf_table.specs.TableKind.{IsLinkOf, IsOf, entry_size}
+use Rattle.elf_table.specs.TableKind.{IsLinkOf, entry_size, kind_of}
 
 -- rule 40: the section is not of a type that holds such a table
 abbrev pub wrong_table_type : (ℕ → Type 0) → Sections → ℕ → Row
@@ -29,7 +29,7 @@ wrong_link kind f i =
 
 unfoldable pub own_rules : TableKind → Sections → ℕ → List {1} Ruled
 own_rules kind f i =
-    rule 40 (wrong_table_type (IsOf kind) f i) ∷
+    rule 40 (wrong_table_type (λ type. kind_of type ≡ Some kind) f i) ∷
     rule 42 (wrong_entry_size kind f i) ∷
     rule 43 (partial_entry kind f i) ∷
     rule 44 (wrong_link kind f i) ∷ []

@@ -21,15 +21,6 @@ kind_of type =
     else (if type == SHT_DYNAMIC then Some DynamicArray
     else (if type == SHT_HASH then Some HashTable else None)))))))
 
--- a section of this type holds a table of the kind
-abbrev pub IsOf : TableKind → ℕ → Type 0
-IsOf SymbolTable type = IsSymbolType type
-IsOf RelocationTable type = (type ≡ SHT_REL) ⊎ (type ≡ SHT_RELA)
-IsOf SectionGroup type = type ≡ SHT_GROUP
-IsOf NoteSection type = type ≡ SHT_NOTE
-IsOf DynamicArray type = type ≡ SHT_DYNAMIC
-IsOf HashTable type = type ≡ SHT_HASH
-
 -- the size in bytes of the entries of a table of the kind, in a section of this type; notes are of any size
 abbrev pub entry_size : TableKind → ℕ → ℕ
 entry_size SymbolTable type = SYM_SIZE

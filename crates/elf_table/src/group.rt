@@ -9,6 +9,7 @@ ghost use Rattle.elf_table.specs.Sections.{sections_of};
 
 use crate::group_rules::{judge_group_section, member, member_count};
 use crate::symbol_parts::word;
+use crate::symbol_verdicts::SymbolVerdicts;
 use elf_field::Order;
 use elf_image::{Fault, Image};
 use std::alloc::Global;
@@ -46,7 +47,7 @@ impl<'a> Group<'a> {
         ensures { let f = sections_of image.now in
             IsJudgedBehind (group_section_front f i) (group_section_rules f i) (λ group. group ≡ group_of f i) result }
     {
-        judge_group_section(alloc, image, i)?;
+        judge_group_section(alloc, image, i, SymbolVerdicts::Unknown)?;
         Ok(Group::of_sound(image, i))
     }
 

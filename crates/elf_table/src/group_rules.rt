@@ -8,13 +8,13 @@ ghost use Rattle.elf_table.specs.Below.{Below};
 ghost use Rattle.elf_table.specs.GroupRules.{IsUnfit, IsWrongMember, group_front_rules, group_rules, group_section_front, group_section_rules};
 ghost use Rattle.elf_table.specs.Groups.{AreAscending, member as member_of, member_count as member_count_of};
 ghost use Rattle.elf_table.specs.Judged.{IsJudgedBehind};
+ghost use Rattle.elf_table.specs.LinkedVerdicts.{AreKnown};
 ghost use Rattle.elf_table.specs.Sections.{content, order, section, sections_of};
 
-use crate::index_tables::index_tables_of;
 use crate::own_rules::judge_own_rules;
 use crate::rules::*;
 use crate::symbol_parts::word;
-use crate::symbol_rules::judge_symbol_table;
+use crate::symbol_verdicts::SymbolVerdicts;
 use crate::table_kind::TableKind;
 use elf_field::Order;
 use elf_field::abi::*;
@@ -23,21 +23,26 @@ use elf_rules::Broken;
 use std::alloc::{AllocError, Global};
 use std::collections::BTreeSet;
 
-/// All rules of the group in section `i`.
+/// All rules of the group in section `i`, by these verdicts on the symbol tables.
 #[tactic(auto, unfolding(crate::specs::GroupRules::group_section_rules))]
-pub(crate) fn judge_group_section(alloc: Global, image: &Image<'_>, i: usize) -> Result<(), Fault>
-    requires { i < length image.now.sections }
+pub(crate) fn judge_group_section(
+    alloc: Global,
+    image: &Image<'_>,
+    i: usize,
+    symbols: SymbolVerdicts<'_>,
+) -> Result<(), Fault>
+    requires there { i < length image.now.sections }
+    requires known { AreKnown (sections_of image.now) symbols }
     ensures { let f = sections_of image.now in
         IsJudgedBehind (group_section_front f i) (group_section_rules f i) (λ _. Unit {0}) result }
 {
     judge_own_rules(image, i, TableKind::SectionGroup)?;
-    let link = image.section(i).sh_link as usize;
-    judge_symbol_table(image, link, index_tables_of(image, link))?;
+    symbols.of(image, image.section(i).sh_link as usize)?;
     judge_group(alloc, image, i)
 }
 
 /// Rules 55 to 58 of the group in section `i`, whose own rules are kept.
-pub(crate) fn judge_group(alloc: Global, image: &Image<'_>, i: usize) -> Result<(), Fault>
+fn judge_group(alloc: Global, image: &Image<'_>, i: usize) -> Result<(), Fault>
     requires there { i < length image.now.sections }
     requires typed { (section (sections_of image.now) i).sh_type ≡ SHT_GROUP }
     requires sized { (section (sections_of image.now) i).sh_size % WORD_SIZE ≡ 0 }

@@ -13,6 +13,7 @@ ghost use Rattle.elf_table.specs.Sections.{sections_of};
 use crate::hash_parts::HashParts;
 use crate::hash_rules::judge_hash_table;
 use crate::hash_words::{HashWords, SymbolNames};
+use crate::symbol_verdicts::SymbolVerdicts;
 use elf_image::{Fault, Image};
 use std::alloc::Global;
 use std::marker::Model;
@@ -48,7 +49,7 @@ impl<'a> Hash<'a> {
         ensures { let f = sections_of image.now in
             IsJudgedBehind (hash_table_front f i) (hash_table_rules f i) (λ hash. hash ≡ hash_of_section f i) result }
     {
-        judge_hash_table(alloc, image, i)?;
+        judge_hash_table(alloc, image, i, SymbolVerdicts::Unknown)?;
         Ok(Hash::of_sound(image, i))
     }
 

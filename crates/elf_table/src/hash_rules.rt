@@ -8,6 +8,7 @@ ghost use Rattle.elf_table.specs.HashParts.{IsInside, hash_parts};
 ghost use Rattle.elf_table.specs.HashRules.{chain_rules, hash_rules, hash_table_front, hash_table_rules, symbol_off_chain, word_rules};
 ghost use Rattle.elf_table.specs.HashTable.{IsLinked, bucket, chain, nbucket, nchain};
 ghost use Rattle.elf_table.specs.Judged.{IsJudgedBehind};
+ghost use Rattle.elf_table.specs.LinkedVerdicts.{AreKnown};
 ghost use Rattle.elf_table.specs.OwnRules.{own_rules};
 ghost use Rattle.elf_table.specs.Sections.{section, sections_of};
 ghost use Rattle.elf_table.specs.SymbolRules.{symbol_table_rules};
@@ -15,33 +16,37 @@ ghost use Rattle.elf_table.specs.SymbolRules.{symbol_table_rules};
 use crate::hash_chains::{first_endless, is_on};
 use crate::hash_parts::HashParts;
 use crate::hash_word_rules::judge_words;
-use crate::index_tables::index_tables_of;
 use crate::own_rules::judge_own_rules;
 use crate::rules::*;
-use crate::symbol_rules::judge_symbol_table;
+use crate::symbol_verdicts::SymbolVerdicts;
 use crate::table_kind::TableKind;
 use elf_field::abi::*;
 use elf_image::{Fault, Image};
 use elf_rules::Broken;
 use std::alloc::{AllocError, Global};
 
-/// All rules of the hash table in section `i`. [`Fault::OutOfMemory`] comes only where no rule from 40 to 67 is broken.
+/// All rules of the hash table in section `i`, by these verdicts on the symbol tables. [`Fault::OutOfMemory`] comes only where no rule from 40 to 67 is broken.
 #[tactic(auto, unfolding(crate::specs::HashRules::hash_table_rules, crate::specs::HashRules::hash_table_front))]
-pub(crate) fn judge_hash_table(alloc: Global, image: &Image<'_>, i: usize) -> Result<(), Fault>
-    requires { i < length image.now.sections }
+pub(crate) fn judge_hash_table(
+    alloc: Global,
+    image: &Image<'_>,
+    i: usize,
+    symbols: SymbolVerdicts<'_>,
+) -> Result<(), Fault>
+    requires there { i < length image.now.sections }
+    requires known { AreKnown (sections_of image.now) symbols }
     ensures { let f = sections_of image.now in
         IsJudgedBehind (hash_table_front f i) (hash_table_rules f i) (λ _. ⊤) result }
 {
     judge_own_rules(image, i, TableKind::HashTable)?;
-    let link = image.section(i).sh_link as usize;
-    judge_symbol_table(image, link, index_tables_of(image, link))?;
+    symbols.of(image, image.section(i).sh_link as usize)?;
     judge_hash(alloc, image, i)
 }
 
 /// Rules 65 to 69 of the hash table in section `i`, whose section header breaks no rule, as the symbol table that it links to.
 /// [`Fault::OutOfMemory`] comes only where none of 65 to 67 is broken.
 #[tactic(auto, unfolding(crate::specs::HashRules::hash_rules))]
-pub(crate) fn judge_hash(alloc: Global, image: &Image<'_>, i: usize) -> Result<(), Fault>
+fn judge_hash(alloc: Global, image: &Image<'_>, i: usize) -> Result<(), Fault>
     requires there { i < length image.now.sections }
     requires own { FirstIn (own_rules TableKind.HashTable (sections_of image.now) i) None }
     requires linked { let f = sections_of image.now in FirstIn (symbol_table_rules f (section f i).sh_link) None }

@@ -37,6 +37,7 @@ mod strings;
 mod symbol;
 mod symbol_parts;
 mod symbol_rules;
+mod symbol_verdicts;
 mod symbols;
 mod table_kind;
 mod tables;

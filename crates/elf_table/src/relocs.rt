@@ -5,16 +5,16 @@ ghost use Rattle.elf_rules.specs.Broken.{fault_of};
 ghost use Rattle.elf_rules.specs.HeaderRules.{MAX_LEN};
 ghost use Rattle.elf_rules.specs.Rows.{AtEntry, FirstIn};
 ghost use Rattle.elf_table.specs.Judged.{IsJudged};
+ghost use Rattle.elf_table.specs.LinkedVerdicts.{AreKnown};
 ghost use Rattle.elf_table.specs.RelocationRules.{relocation_rules, relocation_section_rules};
 ghost use Rattle.elf_table.specs.Relocations.{no_relocation, relocation_count as relocation_count_of, relocation_in, relocation_size, relocations_of};
 ghost use Rattle.elf_table.specs.RelocationsLeft.{relocations_left};
 ghost use Rattle.elf_table.specs.Sections.{section, sections_of};
 
-use crate::index_tables::index_tables_of;
 use crate::own_rules::judge_own_rules;
 use crate::relocation::{Relocation, relocation_at, relocation_count, relocation_offset};
 use crate::rules::*;
-use crate::symbol_rules::judge_symbol_table;
+use crate::symbol_verdicts::SymbolVerdicts;
 use crate::table_kind::TableKind;
 use elf_field::Order;
 use elf_field::abi::*;
@@ -50,7 +50,7 @@ impl<'a> Relocs<'a> {
         requires { i < length image.now.sections }
         ensures { IsJudged (relocation_section_rules (sections_of image.now) i) (λ relocs. relocs ≡ relocations_of (sections_of image.now) i) result }
     {
-        judge_relocation_section(image, i)?;
+        judge_relocation_section(image, i, SymbolVerdicts::Unknown)?;
         Ok(Relocs::of_section(image, i))
     }
 
@@ -119,21 +119,25 @@ impl<'s, 'a> Iterator for RelocIter<'s, 'a> {
     }
 }
 
-/// All rules of the relocation section `i`.
+/// All rules of the relocation section `i`, by these verdicts on the symbol tables.
 #[tactic(auto, unfolding(crate::specs::RelocationRules::relocation_section_rules))]
-fn judge_relocation_section(image: &Image<'_>, i: usize) -> Result<(), Broken>
-    requires { i < length image.now.sections }
+pub(crate) fn judge_relocation_section(
+    image: &Image<'_>,
+    i: usize,
+    symbols: SymbolVerdicts<'_>,
+) -> Result<(), Broken>
+    requires there { i < length image.now.sections }
+    requires known { AreKnown (sections_of image.now) symbols }
     ensures { FirstIn (relocation_section_rules (sections_of image.now) i) (fault_of result) }
 {
     judge_own_rules(image, i, TableKind::RelocationTable)?;
-    let link = image.section(i).sh_link as usize;
-    judge_symbol_table(image, link, index_tables_of(image, link))?;
+    symbols.of(image, image.section(i).sh_link as usize)?;
     judge_relocations(image, i)
 }
 
 /// Rules 53 and 54 of the relocation section `i`, which links to a section.
 #[tactic(auto, unfolding(crate::specs::RelocationRules::relocation_rules))]
-pub(crate) fn judge_relocations(image: &Image<'_>, i: usize) -> Result<(), Broken>
+fn judge_relocations(image: &Image<'_>, i: usize) -> Result<(), Broken>
     requires there { i < length image.now.sections }
     requires linked { (section (sections_of image.now) i).sh_link < length image.now.sections }
     ensures { FirstIn (relocation_rules (sections_of image.now) i) (fault_of result) }

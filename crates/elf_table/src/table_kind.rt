@@ -1,7 +1,7 @@
 //! The kinds of tables, and what the section headers of those say whose entries are of one size
 //! (gABI chapter 4, Sections: sh_type, sh_link, sh_entsize).
 ghost use Rattle.std.specs.Prelude.{◌≡◌, ◌↔◌, ◌<◌, ◌⊎◌, IsTrue};
-ghost use Rattle.elf_table.specs.TableKind.{IsLinkOf, IsOf, IsSymbolType, entry_size as entry_size_of, kind_of};
+ghost use Rattle.elf_table.specs.TableKind.{IsLinkOf, IsSymbolType, entry_size as entry_size_of, kind_of};
 
 use elf_field::abi::*;
 
@@ -36,20 +36,6 @@ impl TableKind {
             SHT_DYNAMIC => Some(TableKind::DynamicArray),
             SHT_HASH => Some(TableKind::HashTable),
             _ => None,
-        }
-    }
-
-    /// Whether a section of this type holds a table of the kind.
-    pub(crate) fn is_of(self, section_type: u32) -> bool
-        ensures { IsTrue result ↔ IsOf self section_type }
-    {
-        match self {
-            TableKind::SymbolTable => is_symbol_type(section_type),
-            TableKind::RelocationTable => section_type == SHT_REL || section_type == SHT_RELA,
-            TableKind::SectionGroup => section_type == SHT_GROUP,
-            TableKind::NoteSection => section_type == SHT_NOTE,
-            TableKind::DynamicArray => section_type == SHT_DYNAMIC,
-            TableKind::HashTable => section_type == SHT_HASH,
         }
     }
 

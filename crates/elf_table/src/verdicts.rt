@@ -1,12 +1,8 @@
 //! The verdicts on the tables of an image: each symbol table is judged once, and its verdict serves every table that links to it.
-ghost use Rattle.std.specs.Prelude.{◌≡◌, ◌<◌, None, Some, IfOk, get_or, length, map};
+ghost use Rattle.std.specs.Prelude.{◌≡◌, ◌<◌, Some, IfOk, length, map};
 ghost use Rattle.elf_rules.specs.Broken.{fault_of};
 ghost use Rattle.elf_rules.specs.Rows.{FirstIn};
 ghost use Rattle.elf_table.specs.IndexTable.{AreIndexTables};
-ghost use Rattle.elf_table.specs.GroupRules.{group_section_front, group_section_rules};
-ghost use Rattle.elf_table.specs.HashRules.{hash_table_front, hash_table_rules};
-ghost use Rattle.elf_table.specs.Judged.{IsJudgedBehind};
-ghost use Rattle.elf_table.specs.RelocationRules.{relocation_section_rules};
 ghost use Rattle.elf_table.specs.Sections.{section, sections_of};
 ghost use Rattle.elf_table.specs.SymbolRules.{symbol_table_rules};
 ghost use Rattle.elf_table.specs.TableKind.{kind_of};
@@ -16,13 +12,13 @@ ghost use Rattle.elf_table.specs.TableVerdicts.{AreAllIndexTables, AreSymbolVerd
 ghost use Rattle.elf_table.specs.Verdict.{IsUnread, IsVerdictOf};
 
 use crate::dynamic::judge_dynamic_section;
-use crate::group_rules::judge_group;
-use crate::hash_rules::judge_hash;
+use crate::group_rules::judge_group_section;
+use crate::hash_rules::judge_hash_table;
 use crate::index_tables::IndexTables;
 use crate::note_rules::judge_note_section;
-use crate::own_rules::judge_own_rules;
-use crate::relocs::judge_relocations;
+use crate::relocs::judge_relocation_section;
 use crate::symbol_rules::judge_symbol_table;
+use crate::symbol_verdicts::SymbolVerdicts;
 use crate::table_kind::TableKind;
 use elf_image::{Fault, Image};
 use elf_rules::Broken;
@@ -88,67 +84,16 @@ fn table_verdict(
     requires symbols { AreSymbolVerdicts (sections_of image.now) (length image.now.sections) (map fault_of symbols.now) }
     ensures { IfOk result (λ verdict. FirstIn (table_rules (sections_of image.now) i) (fault_of verdict)) }
 {
+    let known = SymbolVerdicts::All(symbols);
     match TableKind::of(image.section(i).sh_type) {
         Some(TableKind::SymbolTable) => Ok(symbols[i]),
-        Some(TableKind::RelocationTable) => Ok(relocation_verdict(image, i, symbols)),
-        Some(TableKind::SectionGroup) => verdict_of(group_verdict(alloc, image, i, symbols)),
+        Some(TableKind::RelocationTable) => Ok(judge_relocation_section(image, i, known)),
+        Some(TableKind::SectionGroup) => verdict_of(judge_group_section(alloc, image, i, known)),
         Some(TableKind::NoteSection) => Ok(judge_note_section(image, i)),
         Some(TableKind::DynamicArray) => Ok(judge_dynamic_section(image, i)),
-        Some(TableKind::HashTable) => verdict_of(hash_verdict(alloc, image, i, symbols)),
+        Some(TableKind::HashTable) => verdict_of(judge_hash_table(alloc, image, i, known)),
         None => Ok(Ok(())),
     }
-}
-
-// The verdict on the relocation section `i`, by those on the symbol tables.
-#[tactic(auto, unfolding(crate::specs::RelocationRules::relocation_section_rules))]
-fn relocation_verdict(
-    image: &Image<'_>,
-    i: usize,
-    symbols: &[Result<(), Broken>],
-) -> Result<(), Broken>
-    requires there { i < length image.now.sections }
-    requires symbols { AreSymbolVerdicts (sections_of image.now) (length image.now.sections) (map fault_of symbols.now) }
-    ensures { FirstIn (relocation_section_rules (sections_of image.now) i) (fault_of result) }
-{
-    judge_own_rules(image, i, TableKind::RelocationTable)?;
-    linked_verdict(symbols, image.section(i).sh_link as usize)?;
-    judge_relocations(image, i)
-}
-
-// The verdict on the group in section `i`, by those on the symbol tables.
-#[tactic(auto, unfolding(crate::specs::GroupRules::group_section_rules))]
-fn group_verdict(
-    alloc: Global,
-    image: &Image<'_>,
-    i: usize,
-    symbols: &[Result<(), Broken>],
-) -> Result<(), Fault>
-    requires there { i < length image.now.sections }
-    requires symbols { AreSymbolVerdicts (sections_of image.now) (length image.now.sections) (map fault_of symbols.now) }
-    ensures { let f = sections_of image.now in
-        IsJudgedBehind (group_section_front f i) (group_section_rules f i) (λ _. Unit {0}) result }
-{
-    judge_own_rules(image, i, TableKind::SectionGroup)?;
-    linked_verdict(symbols, image.section(i).sh_link as usize)?;
-    judge_group(alloc, image, i)
-}
-
-// The verdict on the hash table in section `i`, by those on the symbol tables.
-#[tactic(auto, unfolding(crate::specs::HashRules::hash_table_rules))]
-fn hash_verdict(
-    alloc: Global,
-    image: &Image<'_>,
-    i: usize,
-    symbols: &[Result<(), Broken>],
-) -> Result<(), Fault>
-    requires there { i < length image.now.sections }
-    requires symbols { AreSymbolVerdicts (sections_of image.now) (length image.now.sections) (map fault_of symbols.now) }
-    ensures { let f = sections_of image.now in
-        IsJudgedBehind (hash_table_front f i) (hash_table_rules f i) (λ _. Unit {0}) result }
-{
-    judge_own_rules(image, i, TableKind::HashTable)?;
-    linked_verdict(symbols, image.section(i).sh_link as usize)?;
-    judge_hash(alloc, image, i)
 }
 
 // A judgement as a verdict; want of memory apart.
@@ -163,12 +108,4 @@ fn verdict_of(judged: Result<(), Fault>) -> Result<Result<(), Broken>, AllocErro
         // Nothing is read.
         Err(Fault::Io { .. }) => unreachable!(),
     }
-}
-
-// The verdict on the symbol table that a table links to.
-fn linked_verdict(symbols: &[Result<(), Broken>], link: usize) -> Result<(), Broken>
-    requires { link < length symbols.now }
-    ensures { fault_of result ≡ get_or (map fault_of symbols.now) link None }
-{
-    symbols[link]
 }

@@ -114,13 +114,13 @@ impl Read for OnceFailingReader<'_> {
 /// Takes at most `piece` bytes at a time, and notes how many it is offered. At the call of number
 /// `failing`, counted from 1, and at no other, it fails, or takes none where there is no `failure`.
 #[derive(Drop)]
-struct OnceFailingWriter {
-    bytes: Vec<u8>,
-    piece: usize,
-    failing: usize,
-    failure: Option<ErrorKind>,
-    offers: Vec<usize>,
-    flushes: usize,
+pub struct OnceFailingWriter {
+    pub bytes: Vec<u8>,
+    pub piece: usize,
+    pub failing: usize,
+    pub failure: Option<ErrorKind>,
+    pub offers: Vec<usize>,
+    pub flushes: usize,
 }
 
 impl Write for OnceFailingWriter {
@@ -187,20 +187,32 @@ fn reads_all_bytes_however_they_are_cut(rt: HostRuntime) {
     }
 }
 
+/// Reads the first `given` bytes of the text, behind which each read fails: they are kept.
+fn read_up_to_a_failure(rt: &impl Abort, alloc: Global, given: usize, kind: ErrorKind)
+    requires { given ≤ 32 }
+{
+    let mut reader = Pieces {
+        bytes: &TEXT[..given],
+        piece: 1,
+        failure: Some(kind),
+    };
+    let mut buf = Vec::new(alloc);
+    let at = given as u64;
+    assert_eq!(rt; read_to_end(&mut reader, &mut buf), Err(Fault::Io { at }));
+    assert_eq!(rt; buf.as_slice(), &TEXT[..given]);
+}
+
+#[test]
+fn keeps_the_bytes_before_an_interrupted_read(rt: HostRuntime) {
+    for given in 0..=TEXT.len() {
+        read_up_to_a_failure(&rt, rt.alloc(), given, ErrorKind::Interrupted);
+    }
+}
+
 #[test]
 fn keeps_the_bytes_before_a_failed_read(rt: HostRuntime) {
-    for kind in [ErrorKind::Interrupted, ErrorKind::Other] {
-        for given in 0..=TEXT.len() {
-            let mut reader = Pieces {
-                bytes: &TEXT[..given],
-                piece: 1,
-                failure: Some(kind),
-            };
-            let mut buf = Vec::new(rt.alloc());
-            let at = given as u64;
-            assert_eq!(rt; read_to_end(&mut reader, &mut buf), Err(Fault::Io { at }));
-            assert_eq!(rt; buf.as_slice(), &TEXT[..given]);
-        }
+    for given in 0..=TEXT.len() {
+        read_up_to_a_failure(&rt, rt.alloc(), given, ErrorKind::Other);
     }
 }
 
@@ -221,27 +233,54 @@ fn a_refused_growth_loses_no_byte(rt: HostRuntime) {
     }
 }
 
+/// Writes the text to a shelf that takes `piece` bytes a call and has this room: all of it, or what is out is told.
+fn write_to_a_shelf(
+    rt: &impl Abort,
+    alloc: Global,
+    piece: usize,
+    room: usize,
+    failure: Option<ErrorKind>,
+) -> io::Result<()>
+    requires { room ≤ 32 }
+{
+    let mut shelf = Shelf {
+        bytes: Vec::with_capacity(alloc, TEXT.len())?,
+        piece,
+        room,
+        failure,
+    };
+    let written = room as u64;
+    let answer = if room == TEXT.len() {
+        Ok(())
+    } else {
+        Err(WriteFault { written })
+    };
+    assert_eq!(rt; write_whole(&mut shelf, TEXT), answer, "room for {room}");
+    assert_eq!(rt; shelf.bytes.as_slice(), &TEXT[..room], "room for {room}");
+    Ok(())
+}
+
 #[test]
-fn writes_all_bytes_or_tells_how_many(rt: HostRuntime) -> io::Result<()> {
-    for failure in [None, Some(ErrorKind::Interrupted), Some(ErrorKind::Other)] {
-        for room in 0..=TEXT.len() {
-            for piece in [1, 5, 100] {
-                let mut shelf = Shelf {
-                    bytes: Vec::with_capacity(rt.alloc(), TEXT.len())?,
-                    piece,
-                    room,
-                    failure,
-                };
-                let written = room as u64;
-                let answer = if room == TEXT.len() {
-                    Ok(())
-                } else {
-                    Err(WriteFault { written })
-                };
-                assert_eq!(rt; write_whole(&mut shelf, TEXT), answer, "room for {room}");
-                assert_eq!(rt; shelf.bytes.as_slice(), &TEXT[..room], "room for {room}");
-            }
-        }
+fn writes_all_bytes_up_to_a_write_of_none(rt: HostRuntime) -> io::Result<()> {
+    for room in 0..=TEXT.len() {
+        write_to_a_shelf(&rt, rt.alloc(), 1, room, None)?;
+        write_to_a_shelf(&rt, rt.alloc(), 100, room, None)?;
+    }
+    Ok(())
+}
+
+#[test]
+fn writes_all_bytes_up_to_an_interrupted_write(rt: HostRuntime) -> io::Result<()> {
+    for room in 0..=TEXT.len() {
+        write_to_a_shelf(&rt, rt.alloc(), 5, room, Some(ErrorKind::Interrupted))?;
+    }
+    Ok(())
+}
+
+#[test]
+fn writes_all_bytes_up_to_a_failed_write(rt: HostRuntime) -> io::Result<()> {
+    for room in 0..=TEXT.len() {
+        write_to_a_shelf(&rt, rt.alloc(), 5, room, Some(ErrorKind::Other))?;
     }
     Ok(())
 }

@@ -1,4 +1,6 @@
 //! Images of the worked files: read, edited and written.
+ghost use Rattle.std.specs.Prelude.{◌<◌};
+
 use crate::image_faults::{Pieces, Shelf};
 use elf_field::Order;
 use elf_image::{
@@ -382,31 +384,49 @@ fn reads_one_byte_at_a_time(rt: HostRuntime) -> Result<(), Fail> {
     assert_written(&rt, rt.alloc(), &image, &file)
 }
 
+/// Writes the image to a shelf with this room, which is too little for these bytes: what is out is told.
+fn assert_stops(
+    rt: &impl Abort,
+    alloc: Global,
+    image: &Image<'_>,
+    bytes: &[u8],
+    room: usize,
+) -> Result<(), Fail> {
+    let mut out = shelf(alloc, room)?;
+    let written = room as u64;
+    assert_eq!(rt;
+        write(image, &mut out),
+        Err(WriteFault { written }),
+        "room for {room}"
+    );
+    assert_eq!(rt;
+        Some(out.bytes.as_slice()),
+        bytes.get(..room),
+        "room for {room}"
+    );
+    Ok(())
+}
+
 #[test]
 fn a_failed_write_tells_what_is_out(rt: HostRuntime) -> Result<(), Fail> {
-    let mut want = one_section(LITTLE);
-    want[65] = 1;
-    let file = want;
+    let mut file = one_section(LITTLE);
+    file[65] = 1;
+    let image = parse(rt.alloc(), &file)?;
+    for room in 0..456 {
+        assert_stops(&rt, rt.alloc(), &image, &file, room)?;
+    }
+    Ok(())
+}
+
+#[test]
+fn a_failed_write_of_zeroed_gaps_tells_what_is_out(rt: HostRuntime) -> Result<(), Fail> {
+    let mut file = one_section(LITTLE);
+    file[65] = 1;
     let mut image = parse(rt.alloc(), &file)?;
-    for zeroed in [false, true] {
-        if zeroed {
-            image.zero_gaps();
-            want[65] = 0;
-        }
-        for room in 0..456 {
-            let mut out = shelf(rt.alloc(), room)?;
-            let written = room as u64;
-            assert_eq!(rt;
-                write(&image, &mut out),
-                Err(WriteFault { written }),
-                "room for {room}"
-            );
-            assert_eq!(rt;
-                Some(out.bytes.as_slice()),
-                want.get(..room),
-                "room for {room}"
-            );
-        }
+    image.zero_gaps();
+    let zeroed = one_section(LITTLE);
+    for room in 0..456 {
+        assert_stops(&rt, rt.alloc(), &image, &zeroed, room)?;
     }
     Ok(())
 }
@@ -432,17 +452,41 @@ fn judges_the_empty_object(rt: HostRuntime) -> Result<(), Fail> {
     Ok(())
 }
 
+/// Of the file with one section and this byte at an offset `parse` tells the verdict.
+fn assert_told(
+    rt: &impl Abort,
+    alloc: Global,
+    order: Order,
+    at: usize,
+    byte: u8,
+) -> Result<(), Fail>
+    requires { at < 456 }
+{
+    let mut file = one_section(order);
+    file[at] = byte;
+    let told = rule_broken(alloc, &file)?;
+    assert_eq!(rt; told, verdict(&file), "{order:?} {byte} at {at}");
+    Ok(())
+}
+
 #[test]
-fn parse_tells_the_verdict(rt: HostRuntime) -> Result<(), Fail> {
-    for order in [LITTLE, Order::Big] {
-        for at in 0..456 {
-            for byte in [0, 1, 0x5f, 0xff] {
-                let mut file = one_section(order);
-                file[at] = byte;
-                let told = rule_broken(rt.alloc(), &file)?;
-                assert_eq!(rt; told, verdict(&file), "{order:?} {byte} at {at}");
-            }
-        }
+fn parse_tells_the_verdict_in_little_order(rt: HostRuntime) -> Result<(), Fail> {
+    for at in 0..456 {
+        assert_told(&rt, rt.alloc(), LITTLE, at, 0)?;
+        assert_told(&rt, rt.alloc(), LITTLE, at, 1)?;
+        assert_told(&rt, rt.alloc(), LITTLE, at, 0x5f)?;
+        assert_told(&rt, rt.alloc(), LITTLE, at, 0xff)?;
+    }
+    Ok(())
+}
+
+#[test]
+fn parse_tells_the_verdict_in_big_order(rt: HostRuntime) -> Result<(), Fail> {
+    for at in 0..456 {
+        assert_told(&rt, rt.alloc(), Order::Big, at, 0)?;
+        assert_told(&rt, rt.alloc(), Order::Big, at, 1)?;
+        assert_told(&rt, rt.alloc(), Order::Big, at, 0x5f)?;
+        assert_told(&rt, rt.alloc(), Order::Big, at, 0xff)?;
     }
     Ok(())
 }

@@ -1,13 +1,13 @@
 use Rattle.std.proofs.Common.{ℕ, inl, inr, refl, rules, subst}
 use Rattle.elf_field.specs.declared.shdr.Shdr.{Shdr}
 use Rattle.elf_extent.specs.Least.{Never, IsLeast}
-use Rattle.elf_rules.specs.NameRules.{name_rows, wrong_name_table_type}
+use Rattle.elf_rules.specs.NameRules.{name_rules, wrong_name_table_type}
 use Rattle.elf_rules.specs.StringTable.{UnclosedAt}
 use Rattle.elf_rules.specs.SectionRules.{IsNamePastEnd, SomeSection}
 use Rattle.elf_rules.proofs.name_rules.judge_names.Goals as goal
 
 pub returns-in-Some : goal.returns-in-Some
-unfolding name_rows
+unfolding name_rules
 returns-in-Some g c = λ names are.
     let s = g.T.Records.sections c.args.records.now in
     let typed : Never (wrong_name_table_type c.args.header.now c.args.table s) = search rules in
@@ -16,7 +16,7 @@ returns-in-Some g c = λ names are.
     rw c.new-in-Some.ensures (inr (typed, inl (refl, found)))
 
 pub returns-in-Some-lowest_section : goal.returns-in-Some-lowest_section
-unfolding name_rows
+unfolding name_rules
 returns-in-Some-lowest_section g c = λ names are.
     let s = g.T.Records.sections c.args.records.now in
     let typed : Never (wrong_name_table_type c.args.header.now c.args.table s) = search rules in
@@ -27,7 +27,7 @@ returns-in-Some-lowest_section g c = λ names are.
     rw c.new-in-Some-lowest_section.ensures (inr (typed, inr (closed, inl (refl, found))))
 
 pub returns : goal.returns
-unfolding name_rows
+unfolding name_rules
 returns g c = λ names are.
     let s = g.T.Records.sections c.args.records.now in
     let typed : Never (wrong_name_table_type c.args.header.now c.args.table s) = search rules in

@@ -18,5 +18,5 @@ unfolding sections_in
 returns c = λ v b image.
     (let stands = image.stands in
     ap (λ (cs : List (List ℕ)). record { header = v.header; headers = v.sections; contents = cs }) stands.contents
-    ∙ ap (made b v.header) stands.tables.section_headers
-    ∙ ap (λ (h : Ehdr). made b h (headers_at b h)) stands.tables.header)
+    ∙ ap (made b v.header) stands.records.section_headers
+    ∙ ap (λ (h : Ehdr). made b h (headers_at b h)) stands.records.header)

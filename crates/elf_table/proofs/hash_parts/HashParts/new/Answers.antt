@@ -4,16 +4,18 @@ use Rattle.elf_field.specs.Abi.{WORD_SIZE}
 use Rattle.elf_field.specs.declared.order.Order.{Order}
 use Rattle.elf_table.specs.Sections.{section, sections_of}
 use Rattle.elf_table.specs.WordLists.{names_in}
-use Rattle.elf_table.proofs.HashSound.{hash_content, hash_link, hash_type, names_of_section}
+use Rattle.elf_table.proofs.HashSound.{hash_content, hash_type, names_of_section}
 use Rattle.elf_table.proofs.SymbolLists.{sound_link}
 use Rattle.elf_table.proofs.WordListLemmas.{length_names, length_words}
+use Rattle.elf_table.proofs.OwnRuleLemmas.{link_there}
+use Rattle.elf_table.specs.declared.table_kind.TableKind.TheVariants.{HashTable}
 use Rattle.elf_table.proofs.hash_parts.HashParts.new.Goals as goal
 
 pub section-strings-requires : goal.section-strings-requires
-section-strings-requires c = rw c.section-section.ensures.value (hash_link (sections_of c.args.image.now) c.args.i c.requires.own)
+section-strings-requires c = rw c.section-section.ensures.value (link_there HashTable (sections_of c.args.image.now) c.args.i c.requires.own)
 
 pub content-requires-2 : goal.content-requires-2
-content-requires-2 c = rw c.section-section.ensures.value (hash_link (sections_of c.args.image.now) c.args.i c.requires.own)
+content-requires-2 c = rw c.section-section.ensures.value (link_there HashTable (sections_of c.args.image.now) c.args.i c.requires.own)
 
 pub content-requires-3 : goal.content-requires-3
 content-requires-3 c = rw (c.section-strings.ensures.value, c.section-section.ensures.value) (sound_link (sections_of c.args.image.now) _ c.requires.linked)
