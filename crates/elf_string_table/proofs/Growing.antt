@@ -12,7 +12,7 @@ use Rattle.elf_string_table.specs.StringTable.{closed, held, is_named, name_plac
 use Rattle.std.specs.Borrow.{Bor}
 use Rattle.std.specs.BTreeMap.{BTreeMap}
 use Rattle.elf_string_table.specs.Used.{IsTable, place_by}
-use Rattle.elf_string_table.proofs.Distinct.{bytes_eq-self, held-empty, held-none, held-push}
+use Rattle.elf_string_table.proofs.Distinct.{bytes_eq-self, held-empty, held-none, held-push, same_name}
 use Rattle.elf_string_table.proofs.Names.{place_of_some, split_at}
 use Rattle.elf_string_table.proofs.Places.{is_some-place_from, last_has_place, place_from-push, place_stays}
 
@@ -63,6 +63,13 @@ known_place ns n t p x named found is =
     let more = known_more ns n t p x named found is in
     sym (place_of_some (ns ++ (n ∷ [])) n x named (sym (more.places n) ∙ found))
 
+-- the same where each name is looked up as before
+pub known_again : (ns : List (List ℕ)) (n t : List ℕ) (p r : List ℕ → Option ℕ) (x : ℕ) → is_named n ≡ true → p n ≡ Some x → ((q : List ℕ) → r q ≡ p q) →
+    IsTable ns t p → IsTable (ns ++ (n ∷ [])) t r
+known_again ns n t p r x named found looks is =
+    let more = known_more ns n t p x named found is in
+    record { bytes = more.bytes; places = λ q. looks q ∙ more.places q }
+
 -- ---- a further name
 
 further_held : (ns : List (List ℕ)) (n t : List ℕ) (p : List ℕ → Option ℕ) → is_named n ≡ true → p n ≡ None → IsTable ns t p →
@@ -96,22 +103,17 @@ further_place ns n t u p r x named missing place bytes looks is =
     let found : r n ≡ Some x = looks n ∙ rw (bytes_eq-self n) refl in
     sym (place_of_some (ns ++ (n ∷ [])) n x named (sym (more.places n) ∙ found))
 
--- the same where memory may be refused
-pub further_table : {E : Type 0} (result : Result ℕ E) (n t u : List ℕ) (p r : List ℕ → Option ℕ) → is_named n ≡ true → None ≡ p n →
-    OnOk result (u ≡ t ++ (n ++ (0 ∷ []))) → IfOk result (λ x. x ≡ length t) → IfOk result (λ x. (q : List ℕ) → r q ≡ cond (bytes_eq n q) (Some x) (p q)) →
-    OnOk result ((ns : List (List ℕ)) → IsTable ns t p → IsTable (ns ++ (n ∷ [])) u r)
-further_table (Ok x) n t u p r named missing bytes place looks = λ ns. further_more ns n t u p r x named (sym missing) place bytes looks
-further_table (Err e) n t u p r named missing bytes place looks = tt
-
-pub further_at : {E : Type 0} (result : Result ℕ E) (n t u : List ℕ) (p r : List ℕ → Option ℕ) → is_named n ≡ true → None ≡ p n →
-    OnOk result (u ≡ t ++ (n ++ (0 ∷ []))) → IfOk result (λ x. x ≡ length t) → IfOk result (λ x. (q : List ℕ) → r q ≡ cond (bytes_eq n q) (Some x) (p q)) →
-    IfOk result (λ x. (ns : List (List ℕ)) → IsTable ns t p → x ≡ name_place (ns ++ (n ∷ [])) n)
-further_at (Ok x) n t u p r named missing bytes place looks = λ ns. further_place ns n t u p r x named (sym missing) place bytes looks
-further_at (Err e) n t u p r named missing bytes place looks = tt
-
 -- the map's look-up, by its order of names
 pub as_looked : (r s : Option ℕ) (n q : List ℕ) (x : ℕ) → r ≡ cond (is_eq (slice_cmp nat_cmp n q)) (Some x) s → r ≡ cond (bytes_eq n q) (Some x) s
 as_looked r s n q x is = is ∙ ap (λ (e : Bool). cond e (Some x) s) (is_eq-slice_cmp n q)
+
+-- a name that has a place gets another one, and then its own again: every name is where it was
+pub stays_looked : (p : List ℕ → Option ℕ) (r s : Option ℕ) (n q : List ℕ) (other place : ℕ) → p n ≡ Some place → r ≡ cond (bytes_eq n q) (Some other) (p q) →
+    s ≡ cond (bytes_eq n q) (Some place) r → s ≡ p q
+stays_looked p r s n q other place found once again = by_name (bytes_eq n q) refl once again where
+  by_name : (same : Bool) → bytes_eq n q ≡ same → r ≡ cond same (Some other) (p q) → s ≡ cond same (Some place) r → s ≡ p q
+  by_name true is once again = again ∙ sym found ∙ ap p (same_name n q is)
+  by_name false is once again = again ∙ once
 
 -- ---- all names
 

@@ -1,5 +1,5 @@
 //! The bytes of a string table, made name by name.
-ghost use Rattle.std.specs.Prelude.{◌≡◌, ℕ, List, [], ◌∷◌, ◌++◌, cond, length, map, IfOk, OnOk};
+ghost use Rattle.std.specs.Prelude.{◌≡◌, ℕ, List, [], ◌∷◌, ◌++◌, Some, cond, is_some, length, map, IfOk, OnOk};
 ghost use Rattle.std.specs.Str.{bytes_eq};
 ghost use Rattle.elf_string_table.specs.StringTable.{name_place, string_table};
 ghost use Rattle.elf_string_table.specs.Used.{IsTable, place_by};
@@ -51,33 +51,41 @@ fn add_name<'a>(
     if name.is_empty() {
         return Ok(0);
     }
-    match find(used, name) {
+    let end = bytes.len() as u64;
+    match place_name(used, name, end)? {
         Some(place) => Ok(place),
-        None => push_name(bytes, used, name),
+        None => {
+            push_name(bytes, name)?;
+            Ok(end)
+        }
     }
 }
 
-// The offset of a name that the table has.
-fn find<'a>(used: &BTreeMap<&'a [u8], u64>, name: &'a [u8]) -> Option<u64>
-    ensures { result ≡ place_by used.now name.now }
+// The offset of a name that the table has, which stays; a further name gets this one.
+fn place_name<'a>(
+    used: &mut BTreeMap<&'a [u8], u64>,
+    name: &'a [u8],
+    end: u64,
+) -> Result<Option<u64>, AllocError>
+    ensures old { IfOk result (λ old. old ≡ place_by used.old name.now) }
+    ensures used { IfOk result (λ old. (q : List ℕ) → place_by used.new q ≡
+        cond (is_some old) (place_by used.old q) (cond (bytes_eq name.now q) (Some end) (place_by used.old q))) }
 {
-    used.get(&name).copied()
+    match used.insert(name, end)? {
+        // One search for a further name; one that stands already gets its place back.
+        Some(place) => {
+            used.insert(name, place)?;
+            Ok(Some(place))
+        }
+        None => Ok(None),
+    }
 }
 
 // A further name, at the table's end.
-fn push_name<'a>(
-    bytes: &mut Vec<u8>,
-    used: &mut BTreeMap<&'a [u8], u64>,
-    name: &'a [u8],
-) -> Result<u64, AllocError>
-    ensures bytes { OnOk result (bytes.new.items ≡ bytes.old.items ++ (name.now ++ (0 ∷ []))) }
-    ensures place { IfOk result (λ place. place ≡ length bytes.old.items) }
-    ensures used { IfOk result (λ place. (q : List ℕ) →
-        place_by used.new q ≡ cond (bytes_eq name.now q) (Some place) (place_by used.old q)) }
+fn push_name(bytes: &mut Vec<u8>, name: &[u8]) -> Result<(), AllocError>
+    ensures { OnOk result (bytes.new.items ≡ bytes.old.items ++ (name.now ++ (0 ∷ []))) }
 {
-    let place = bytes.len() as u64;
-    used.insert(name, place)?;
     bytes.extend_from_slice(name)?;
     bytes.push(0)?;
-    Ok(place)
+    Ok(())
 }
