@@ -56,7 +56,7 @@ fn largest_in(measure: Measure, name: &[u8], objects: &[Object<'_>], file: usize
 }
 
 /// The largest that is counted of the commons of the name, 0 where there is none.
-fn largest(measure: Measure, name: &[u8], objects: &[Object<'_>]) -> u64
+pub(crate) fn largest(measure: Measure, name: &[u8], objects: &[Object<'_>]) -> u64
     ensures { IsMost objects.now name.now measure result }
 {
     let mut most = 0;
