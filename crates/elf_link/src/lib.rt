@@ -1,5 +1,19 @@
 //! The link of relocatable ELF-64 objects (gABI chapter 4; placement is this project's profile): which sections are kept,
 //! what each name is bound to, and where everything stands.
+//!
+//! [`map`] answers the [`LinkMap`] of some objects, or the first rule ([`rules`]) of the link that stands.
+//!
+//! ```
+//! let options = Options {
+//!     base: 0x1000,
+//!     page: 0x1000,
+//!     entry: Some(b"main"),
+//! };
+//! let link = map(alloc, &objects, &options)?;
+//! // Where section 0 of file 1 stands, and what `main` is bound to.
+//! assert_eq!(link.address(1, 0), Some(0x1006));
+//! assert_eq!(link.binding(b"main"), Some(Binding::Strong { file: 0, symbol: 0 }));
+//! ```
 #![tactic(auto)]
 
 mod addresses;
