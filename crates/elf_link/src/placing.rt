@@ -2,9 +2,9 @@
 ghost use Rattle.std.specs.Prelude.{◌≡◌, ◌+◌, ◌<◌, ◌≤◌, IfOk, length, map, slice_index};
 ghost use Rattle.elf_extent.specs.Place.{end_of};
 ghost use Rattle.elf_link.specs.Listing.{AreIn};
-ghost use Rattle.elf_link.specs.LinkMap.{ArePlacedCommons, ArePlacedOutputs, IsOutput, member_of as member_of_site, placed_common as placed_common_of};
+ghost use Rattle.elf_link.specs.LinkMap.{ArePlacedCommons, ArePlacedOutputs, IsOutput, member_of as member_of_site};
 ghost use Rattle.elf_link.specs.LinkMapView.{common_value, output_value};
-ghost use Rattle.elf_link.specs.Plan.{chosen_at, flat, name_at};
+ghost use Rattle.elf_link.specs.Plan.{flat, name_at};
 ghost use Rattle.elf_link.specs.Planning.{AreAllIn, ArePlaced, AreSome, AreSymbols};
 ghost use Rattle.elf_link.specs.Files.{object_at};
 

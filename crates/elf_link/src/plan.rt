@@ -1,5 +1,5 @@
 //! The plan of a link: the sections of each output and the commons, in order, and their parts.
-ghost use Rattle.std.specs.Prelude.{◌≡◌, ℕ, ◌<◌, ◌++◌, IfOk, OnOk, length, map};
+ghost use Rattle.std.specs.Prelude.{◌≡◌, ◌<◌, ◌++◌, IfOk, OnOk, length, map};
 ghost use Rattle.elf_link.specs.Listing.{AreIn, Lists};
 ghost use Rattle.elf_link.specs.Outputs.{live as live_row, raised};
 ghost use Rattle.elf_link.specs.Plan.{AreMembers, AreOpeners, AreOutputs, common_part as common_part_of, flat, output_parts, parts_of as parts_of_plan};
