@@ -8,3 +8,11 @@ pub mod Picked
 pub mod Most
 pub mod Bound
 pub mod Earlier
+pub mod Plans
+pub mod Openers
+pub mod FirstSite
+pub mod ChosenCommons
+pub mod BoundNames
+pub mod Placings
+pub mod Cells
+pub mod Maps

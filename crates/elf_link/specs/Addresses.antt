@@ -19,11 +19,14 @@ value_at places Lost = None
 value_at places (Fixed value) = Some value
 value_at places (Part t offset) = Some (slice_index places t + offset)
 
--- a part of a target is one of the parts, and a fixed value an address
+-- a part of a target is one of n parts, and a fixed value an address
+abbrev pub IsTargetBelow : ℕ → Target → Type 0
+IsTargetBelow n Lost = Unit {0}
+IsTargetBelow n (Fixed value) = value < 2 ^ 64
+IsTargetBelow n (Part t offset) = t < n
+
 abbrev pub IsTarget : List (ℕ × ℕ) → Target → Type 0
-IsTarget parts Lost = Unit {0}
-IsTarget parts (Fixed value) = value < 2 ^ 64
-IsTarget parts (Part t offset) = t < length parts
+IsTarget parts target = IsTargetBelow (length parts) target
 
 -- at the least places the entry has this value; or it has none below 2^64
 abbrev pub HasValue : List (ℕ × ℕ) → ℕ → Target → ℕ → Type 0

@@ -13,5 +13,11 @@ pub mod LinkRules
 pub mod Listing
 pub mod Outputs
 pub mod OutputPicks
+pub mod Plan
+pub mod Entry
+pub mod LinkMap
+pub mod LinkMapView
+pub mod Planning
+pub mod LinkFaults
 pub mod Addresses
 pub mod AddressFault

@@ -1,6 +1,7 @@
 //! Rules 1 to 9 of the link, in order.
 ghost use Rattle.std.specs.Prelude.{◌≡◌, IfErr, IfOk, None, OnOk, map};
 ghost use Rattle.elf_link.specs.Discarded.{AreMarks};
+ghost use Rattle.elf_link.specs.FileRules.{option_rules};
 ghost use Rattle.elf_link.specs.LinkRules.{IsInputFault, input_rules};
 ghost use Rattle.elf_link.specs.Rows.{FirstIn};
 
@@ -22,6 +23,7 @@ pub(crate) fn judge(
     options: &Options<'_>,
 ) -> Result<Vec<Vec<bool>>, LinkFault>
     ensures sound { OnOk result (FirstIn (input_rules options.now objects.now) None) }
+    ensures options { OnOk result (FirstIn (option_rules options.now objects.now) None) }
     ensures marks { IfOk result (λ marks. AreMarks objects.now (map (λ row. row.items) marks.items)) }
     ensures err { IfErr result (IsInputFault options.now objects.now) }
 {

@@ -1,25 +1,50 @@
 //! The link of relocatable ELF-64 objects (gABI chapter 4; placement is this project's profile): which sections are kept,
 //! what each name is bound to, and where everything stands.
+//!
+//! [`map`] answers the [`LinkMap`] of some objects, or the first rule ([`rules`]) of the link that stands.
+//!
+//! ```
+//! let options = Options {
+//!     base: 0x1000,
+//!     page: 0x1000,
+//!     entry: Some(b"main"),
+//! };
+//! let link = map(alloc, &objects, &options)?;
+//! // Where section 0 of file 1 stands, and what `main` is bound to.
+//! assert_eq!(link.address(1, 0), Some(0x1006));
+//! assert_eq!(link.binding(b"main"), Some(Binding::Strong { file: 0, symbol: 0 }));
+//! ```
 #![tactic(auto)]
 
 mod addresses;
-mod binding;
+mod bind;
+mod bindings;
 mod choice;
+mod commons;
 mod discarded;
 mod fault;
 mod file_rules;
 mod files;
 mod judge;
+mod link;
+mod link_map;
 mod listing;
 mod name_rules;
 mod options;
 mod outputs;
 mod parts;
+mod placing;
+mod plan;
 pub mod rules;
 mod section_tests;
 mod site;
 mod site_test;
 mod symbol_tests;
+mod table;
+mod target;
 
+pub use bindings::Binding;
 pub use fault::LinkFault;
+pub use link::map;
+pub use link_map::{Common, LinkMap, Member, Output};
 pub use options::Options;

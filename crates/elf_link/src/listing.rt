@@ -53,7 +53,7 @@ impl Listed {
 }
 
 /// Whether a site is the section or symbol at `index` of a file.
-fn is_at(found: Site, file: usize, index: usize) -> bool
+pub(crate) fn is_at(found: Site, file: usize, index: usize) -> bool
     ensures { IsTrue result ↔ ((found.file ≡ file) × (found.index ≡ index)) }
 {
     found.file == file && found.index == index

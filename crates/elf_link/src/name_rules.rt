@@ -7,7 +7,7 @@ ghost use Rattle.elf_link.specs.NameRules.{BreaksName, HasEarlier, HasNoName, Is
 ghost use Rattle.elf_link.specs.Rows.{AtSymbol, FirstIn, IsFirstAt, Nowhere, found_of};
 ghost use Rattle.elf_link.specs.Symbols.{IsPlaced, IsUndefinedAt};
 
-use crate::binding::bind;
+use crate::bind::bind;
 use crate::files::{keeps_rules, symbol_count, symbol_of};
 use crate::rules::*;
 use crate::section_tests::is_discarded;

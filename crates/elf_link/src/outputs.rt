@@ -13,14 +13,14 @@ use elf_object::{Body, Object};
 use std::alloc::{AllocError, Global};
 
 /// All flags of a section but `SHF_GROUP`.
-fn output_flags(flags: u64) -> u64
+pub(crate) fn output_flags(flags: u64) -> u64
     ensures { result ≡ output_flags_of flags }
 {
     flags & !SHF_GROUP
 }
 
 /// Whether a body takes memory without bits.
-fn is_no_bits(body: &Body<'_>) -> bool
+pub(crate) fn is_no_bits(body: &Body<'_>) -> bool
     ensures { result ≡ is_no_bits_of (body_value body.now) }
 {
     matches!(body, Body::NoBits(_))
@@ -46,8 +46,8 @@ fn have_one_key(objects: &[Object<'_>], p: Site, q: Site) -> bool
 pub(crate) enum Pick {
     /// The sections that open an output: those without bits, or those with.
     Openers(bool),
-    /// The members of the output that the section at this position opens.
-    Members(usize),
+    /// The members of the output that the section at this site opens.
+    Members(Site),
 }
 
 /// Whether the section at position `k` of the list opens an output.
@@ -76,16 +76,16 @@ fn is_without(objects: &[Object<'_>], live: &[Site], k: usize) -> bool
 impl Pick {
     /// Whether the section at position `k` of the list is picked.
     fn takes(self, objects: &[Object<'_>], live: &[Site], k: usize) -> bool
-        requires pick { IsPick live.now self }
+        requires pick { IsPick objects.now self }
         requires k { k < length live.now }
         requires live { Lists (live_row objects.now) live.now }
-        ensures { IsTrue result ↔ IsPicked objects.now live.now self (site_at live.now k) }
+        ensures { IsTrue result ↔ IsPicked objects.now self (site_at live.now k) }
     {
         match self {
             Pick::Openers(without) => {
                 is_opener(objects, live, k) && is_without(objects, live, k) == without
             }
-            Pick::Members(opener) => have_one_key(objects, live[k], live[opener]),
+            Pick::Members(opener) => have_one_key(objects, live[k], opener),
         }
     }
 }
@@ -98,11 +98,11 @@ fn push_pick(
     k: usize,
     picked: &mut Vec<Site>,
 ) -> Result<(), AllocError>
-    requires pick { IsPick live.now pick }
+    requires pick { IsPick objects.now pick }
     requires k { k < length live.now }
     requires live { Lists (live_row objects.now) live.now }
-    requires before { Picks live.now k (IsPicked objects.now live.now pick) picked.old.items }
-    ensures { OnOk result (Picks live.now (k + 1) (IsPicked objects.now live.now pick) picked.new.items) }
+    requires before { Picks live.now k (IsPicked objects.now pick) picked.old.items }
+    ensures { OnOk result (Picks live.now (k + 1) (IsPicked objects.now pick) picked.new.items) }
 {
     if !pick.takes(objects, live, k) {
         return Ok(());
@@ -118,9 +118,9 @@ pub(crate) fn all_picked(
     objects: &[Object<'_>],
     live: &[Site],
 ) -> Result<Vec<Site>, AllocError>
-    requires pick { IsPick live.now pick }
+    requires pick { IsPick objects.now pick }
     requires live { Lists (live_row objects.now) live.now }
-    ensures { IfOk result (λ picked. Lists (λ p. live_row objects.now p × IsPicked objects.now live.now pick p) picked.items) }
+    ensures { IfOk result (λ picked. Lists (λ p. live_row objects.now p × IsPicked objects.now pick p) picked.items) }
 {
     let mut picked = Vec::new(alloc);
     for k in 0..live.len() {

@@ -8,7 +8,7 @@ pub returns : goal.returns
 returns c =
     let fs = c.args.objects.now in
     let ps = c.args.live.now in
-    let picked = IsPicked fs ps c.args.pick in
+    let picked = IsPicked fs c.args.pick in
     let end : c.loop-k.k ≡ length ps = omega arith in
     picked_done (live fs) ps picked c.loop-k.picked.items c.requires.live
     (subst (λ (n : ℕ). Picks ps n picked c.loop-k.picked.items) end c.loop-k.invariant)

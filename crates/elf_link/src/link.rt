@@ -1,0 +1,89 @@
+//! The link map of objects.
+ghost use Rattle.std.specs.Prelude.{◌≡◌, IfErr, IfOk, None, OnOk, map as map_list};
+ghost use Rattle.elf_link.specs.Discarded.{AreMarks};
+ghost use Rattle.elf_link.specs.FileRules.{option_rules};
+ghost use Rattle.elf_link.specs.LinkFaults.{FirstOfLink, IsLinkFault};
+ghost use Rattle.elf_link.specs.LinkMap.{IsLinkMap};
+ghost use Rattle.elf_link.specs.LinkRules.{input_rules};
+ghost use Rattle.elf_link.specs.Plan.{AreChosen, AreOutputs, flat};
+ghost use Rattle.elf_link.specs.Planning.{AreAllIn, AreLive, AreSome, AreSymbols, HaveChosen};
+ghost use Rattle.elf_link.specs.Rows.{FirstIn};
+
+use crate::addresses::addresses;
+use crate::bindings::all_bindings;
+use crate::commons::{Chosen, chosen_commons};
+use crate::fault::LinkFault;
+use crate::judge::judge;
+use crate::link_map::LinkMap;
+use crate::listing::{Listed, all_listed};
+use crate::options::Options;
+use crate::placing::{placed_commons, placed_outputs};
+use crate::plan::{all_parts, outputs_of, placed};
+use crate::site::Site;
+use crate::table::address_table;
+use crate::target::entry_target;
+use elf_object::Object;
+use std::alloc::Global;
+
+/// The link map of objects that break none of rules 1 to 9, with these outputs and commons.
+fn placed_map<'a>(
+    alloc: Global,
+    objects: &[Object<'a>],
+    options: &Options<'_>,
+    marks: Vec<Vec<bool>>,
+    outputs: &[Vec<Site>],
+    chosen: &[Chosen],
+) -> Result<LinkMap<'a>, LinkFault>
+    requires clean { FirstIn (input_rules options.now objects.now) None }
+    requires options { FirstIn (option_rules options.now objects.now) None }
+    requires marks { AreMarks objects.now (map_list (λ row. row.items) marks.items) }
+    requires outputs { AreOutputs objects.now (map_list (λ ms. ms.items) outputs.now) }
+    requires within { AreAllIn objects.now (map_list (λ ms. ms.items) outputs.now) }
+    requires some { AreSome (map_list (λ ms. ms.items) outputs.now) }
+    requires live { AreLive objects.now (flat (map_list (λ ms. ms.items) outputs.now)) }
+    requires chosen { AreChosen objects.now chosen.now }
+    requires symbols { AreSymbols objects.now chosen.now }
+    requires all { HaveChosen objects.now chosen.now }
+    ensures sound { OnOk result (FirstOfLink options.now objects.now None) }
+    ensures map { IfOk result (λ m. IsLinkMap options.now objects.now m) }
+    ensures err { IfErr result (IsLinkFault options.now objects.now) }
+{
+    let sites = placed(alloc, outputs)?;
+    let parts = all_parts(alloc, options.page, objects, outputs, chosen)?;
+    let target = entry_target(objects, &marks, &sites, chosen, options.entry);
+    let addressed = addresses(alloc, &parts, options.base, target)?;
+    let addresses = address_table(alloc, objects, &sites, &addressed.places)?;
+    let outputs = placed_outputs(alloc, objects, outputs, &parts, &addressed.places)?;
+    let commons = placed_commons(alloc, objects, chosen, &addressed.places, sites.len())?;
+    let bindings = all_bindings(alloc, objects, &marks, &commons)?;
+    Ok(LinkMap {
+        addresses,
+        discarded: marks,
+        bindings,
+        outputs,
+        commons,
+        base: options.base,
+        page: options.page,
+        entry: addressed.entry,
+    })
+}
+
+/// The link map of these objects: where each live section and each common stands, and what each name is bound to.
+///
+/// Answers the first of the link's rules ([`rules`](crate::rules)) that stands, and [`LinkFault::OutOfMemory`] only where memory
+/// is refused, which is asked for only where rules 1 and 2 don't stand.
+pub fn map<'a>(
+    alloc: Global,
+    objects: &[Object<'a>],
+    options: &Options<'_>,
+) -> Result<LinkMap<'a>, LinkFault>
+    ensures sound { OnOk result (FirstOfLink options.now objects.now None) }
+    ensures map { IfOk result (λ m. IsLinkMap options.now objects.now m) }
+    ensures err { IfErr result (IsLinkFault options.now objects.now) }
+{
+    let marks = judge(alloc, objects, options)?;
+    let live = all_listed(alloc, Listed::LiveSections, objects, &marks)?;
+    let outputs = outputs_of(alloc, objects, &live)?;
+    let chosen = chosen_commons(alloc, objects, &marks)?;
+    placed_map(alloc, objects, options, marks, &outputs, &chosen)
+}

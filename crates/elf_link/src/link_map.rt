@@ -1,0 +1,132 @@
+//! The link map: where everything stands, and what each name is bound to.
+ghost use Rattle.std.specs.Prelude.{◌≡◌, map};
+ghost use Rattle.elf_link.specs.Discarded.{mark};
+ghost use Rattle.elf_link.specs.LinkMap.{bound_in, cell};
+ghost use Rattle.elf_link.specs.LinkMapView.{common_value, link_map_value, output_value};
+
+use crate::bindings::{Binding, bound_to};
+use std::collections::BTreeMap;
+use std::marker::Model;
+
+/// A section of an input file.
+#[derive(Clone, Copy, Debug, PartialEq, Eq)]
+pub struct Member {
+    /// The position of the file among the objects, from 0.
+    pub file: usize,
+    /// The position of the section in it.
+    pub section: usize,
+}
+
+/// An output section.
+#[derive(Debug, Drop)]
+pub struct Output<'a> {
+    /// The name of its members.
+    pub name: &'a [u8],
+    /// Their flags without `SHF_GROUP`.
+    pub flags: u64,
+    /// Whether they take memory without bits.
+    pub no_bits: bool,
+    /// Where the first member begins.
+    pub address: u64,
+    /// The bytes from there to the end of the last one.
+    pub length: u64,
+    /// The members, in order of placement.
+    pub members: Vec<Member>,
+}
+
+/// A common that has a place.
+#[derive(Clone, Copy, Debug, PartialEq, Eq)]
+pub struct Common<'a> {
+    /// Its name.
+    pub name: &'a [u8],
+    /// Where it begins.
+    pub address: u64,
+    /// The largest size of its name.
+    pub size: u64,
+    /// The largest alignment of its name.
+    pub align: u64,
+}
+
+/// Where the sections and commons of a link stand, and what each name is bound to. No accessor takes memory.
+#[derive(Debug, Drop)]
+pub struct LinkMap<'a> {
+    pub(crate) addresses: Vec<Vec<Option<u64>>>,
+    pub(crate) discarded: Vec<Vec<bool>>,
+    pub(crate) bindings: BTreeMap<&'a [u8], Binding>,
+    pub(crate) outputs: Vec<Output<'a>>,
+    pub(crate) commons: Vec<Common<'a>>,
+    pub(crate) base: u64,
+    pub(crate) page: u64,
+    pub(crate) entry: u64,
+}
+
+impl<'a> Model for LinkMap<'a> {
+    ghost use Rattle.elf_link.specs.LinkMap.{LinkMapValue};
+
+    ghost Value = { LinkMapValue };
+
+    ghost use Rattle.elf_link.specs.LinkMapView.{link_map_value};
+
+    ghost view = { link_map_value };
+}
+
+impl<'a> LinkMap<'a> {
+    /// The address of a section; None where it is not live, or where there is none at that position.
+    pub fn address(&self, file: usize, section: usize) -> Option<u64>
+        ensures { result ≡ cell self.now.addresses file section }
+    {
+        *self.addresses.get(file)?.get(section)?
+    }
+
+    /// Whether a section is discarded: it is a member of a COMDAT group, and an earlier one has the same signature.
+    pub fn discarded(&self, file: usize, section: usize) -> bool
+        ensures { result ≡ mark self.now.discarded file section }
+    {
+        match self.discarded.get(file) {
+            Some(row) => row.get(section).copied().unwrap_or(false),
+            None => false,
+        }
+    }
+
+    /// What a name is bound to; None where no symbol that is not local has it. It takes log n comparisons of names.
+    pub fn binding(&self, name: &'a [u8]) -> Option<Binding>
+        ensures { result ≡ bound_in self.now.bindings name.now }
+    {
+        bound_to(&self.bindings, name)
+    }
+
+    /// The output sections, in order of placement.
+    pub fn outputs(&self) -> &[Output<'a>]
+        ensures { map output_value result.now ≡ self.now.outputs }
+    {
+        &self.outputs
+    }
+
+    /// The commons that have a place, behind all output sections.
+    pub fn commons(&self) -> &[Common<'a>]
+        ensures { map common_value result.now ≡ self.now.commons }
+    {
+        &self.commons
+    }
+
+    /// Where placement begins.
+    pub fn base(&self) -> u64
+        ensures { result ≡ self.now.base }
+    {
+        self.base
+    }
+
+    /// What each output section begins at a multiple of.
+    pub fn page(&self) -> u64
+        ensures { result ≡ self.now.page }
+    {
+        self.page
+    }
+
+    /// The value of the entry symbol; 0 where none is named.
+    pub fn entry(&self) -> u64
+        ensures { result ≡ self.now.entry }
+    {
+        self.entry
+    }
+}

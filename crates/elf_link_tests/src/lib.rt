@@ -1,0 +1,13 @@
+//! Tests of the link map: worked objects, and where their sections, commons and names stand.
+#![tactic(auto)]
+
+#[cfg(test)]
+mod calls;
+#[cfg(test)]
+mod commons;
+#[cfg(test)]
+mod edges;
+#[cfg(test)]
+mod groups;
+#[cfg(test)]
+mod worked;

@@ -1,0 +1,96 @@
+//! Objects for the tests, by their parts.
+use elf_field::Order;
+use elf_link::{LinkFault, Options, map};
+use elf_object::{Body, Info, Object, ObjectFault, ObjectParts, Place, Section, Symbol};
+use std::alloc::Global;
+
+pub(crate) const GLOBAL: u8 = 0x10;
+
+pub(crate) const WEAK: u8 = 0x20;
+
+/// A section.
+pub(crate) fn section(
+    name: &'static [u8],
+    flags: u64,
+    align: u64,
+    body: Body<'static>,
+) -> Section<'static> {
+    let entsize = match body {
+        Body::Relocs { .. } => 24,
+        Body::Group { .. } => 4,
+        _ => 0,
+    };
+    Section {
+        name,
+        flags,
+        addr: 0,
+        align,
+        entsize,
+        link: None,
+        info: Info::Number(0),
+        body,
+    }
+}
+
+/// A symbol.
+pub(crate) fn symbol(
+    name: &'static [u8],
+    info: u8,
+    place: Place,
+    value: u64,
+    size: u64,
+) -> Symbol<'static> {
+    Symbol {
+        name,
+        info,
+        other: 0,
+        place,
+        value,
+        size,
+    }
+}
+
+/// An object of these sections and symbols, for machine 62.
+pub(crate) fn object(
+    alloc: Global,
+    sections: Vec<Section<'static>>,
+    symbols: Vec<Symbol<'static>>,
+) -> Result<Object<'static>, ObjectFault> {
+    let parts = ObjectParts {
+        order: Order::Little,
+        osabi: 0,
+        abi: 0,
+        machine: 62,
+        flags: 0,
+        sections,
+        symbols,
+    };
+    Object::new(alloc, parts)
+}
+
+/// These options.
+pub(crate) fn options(base: u64, page: u64, entry: Option<&'static [u8]>) -> Options<'static> {
+    Options { base, page, entry }
+}
+
+/// The fault of a link.
+pub(crate) fn fault_of(
+    alloc: Global,
+    objects: &[Object<'_>],
+    options: &Options<'_>,
+) -> Option<LinkFault> {
+    match map(alloc, objects, options) {
+        Ok(_) => None,
+        Err(fault) => Some(fault),
+    }
+}
+
+/// This rule, at this file and section or symbol.
+pub(crate) fn rule(rule: u16, file: usize, index: usize) -> Option<LinkFault> {
+    Some(LinkFault::Rule {
+        rule,
+        file,
+        index,
+        entry: 0,
+    })
+}
