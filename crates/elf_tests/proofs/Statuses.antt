@@ -1,7 +1,10 @@
 -- What the program's exit status says of a file whose bytes are known.
-use Rattle.std.proofs.Common.{◌≡◌, ◌∙◌, ℕ, ◌^◌, ◌≤◌, inl, inr, true, List, ◌++◌, Option, Some, None, Result, Ok, Err, length, ap, sym, arith, length-append}
+use Rattle.std.proofs.Common.{◌≡◌, ◌∙◌, ℕ, ◌^◌, ◌≤◌, inl, inr, true, List, [], ◌∷◌, ◌++◌, Option, Some, None, Result, Ok, Err, length, ap, sym, subst, arith, length-append}
 use Rattle.std.proofs.lemmas.List.{append-nil}
+use Rattle.std.specs.Prelude.{codes}
 use Rattle.std.specs.Io.KnownBytes.{Consumes}
+use Rattle.clap.specs.Simple.{subcommand_of}
+use Rattle.clap.specs.Walk.{Row, Text, walked}
 use Rattle.elf_rules.specs.ImageRules.{IsFault}
 use Rattle.elf_engine.specs.Check.{CheckSays}
 use Rattle.elf_engine.specs.Engine.{IsAnswered, IsReadWhole, Report}
@@ -10,9 +13,10 @@ use Rattle.elf_engine.specs.declared.fault.Refusal.TheVariants.{File, Link, TooL
 use Rattle.elf_engine.specs.declared.fault.ToolFault.{ToolFault}
 use Rattle.elf_engine.specs.declared.fault.Verdict.{Verdict}
 use Rattle.elf_engine.specs.declared.fault.Verdict.TheVariants.{Done, Refused}
+use Rattle.elf_tool.specs.Command.{check, elfmap, rewrite, show}
 use Rattle.elf_tool.specs.Program.{EndsRun, code_of, ending_of}
 use Rattle.elf_tool.specs.declared.program.Status.{Status}
-use Rattle.elf_tool.specs.declared.words.Request.TheVariants.{Check, Show}
+use Rattle.elf_tool.specs.declared.words.Request.TheVariants.{Check, Show, Rewrite}
 use Rattle.elf_tool.specs.declared.words.WordsFault.TheVariants as words_fault
 
 -- some rule is broken
@@ -81,18 +85,42 @@ module _ (report : Report) (means : (b : List ℕ) (verdict : Verdict) (text : L
   }
   status_says bytes input rest old new (Err fault) status short known call is = neither status bytes 3 (λ e. omega arith) (λ e. omega arith) (ap code_of is)
 
+-- ---- the words of a check
+
+abbrev pub check_words : List Text
+check_words = codes "elfmap" ∷ codes "check" ∷ codes "a.o" ∷ []
+
+-- the name beside some matches
+abbrev name_of : Option (Text × List Row) → Text
+name_of None = []
+name_of (Some p) = p.0
+
+-- they ask for nothing else
+asks_check : (name : Text) (rows : List Row) → subcommand_of elfmap check_words ≡ Some (name, rows) → name ≡ codes "check"
+unfolding check show rewrite elfmap walked
+asks_check name rows entered = sym (ap name_of entered)
+
+no_rewrite : (name : Text) → name ≡ codes "check" → name ≡ codes "rewrite" → ⊥
+no_rewrite name one other = let both : codes "check" ≡ codes "rewrite" = sym one ∙ other in cc
+
 -- the whole program says it
-pub run_says : (words : List (List ℕ)) (bytes : List ℕ) (old new : Option (List ℕ)) (status : Status) → length bytes ≤ 2 ^ 30
-    → EndsRun words (λ name. Some bytes) (λ name. true) old new status → Tells status bytes
-run_says words bytes old new status short (inl (Check file, asked, inl (input, rest, answer, known, call, is))) =
+checked_says : (bytes : List ℕ) (old new : Option (List ℕ)) (status : Status) → length bytes ≤ 2 ^ 30
+    → EndsRun check_words (λ name. Some bytes) (λ name. true) old new status → Tells status bytes
+checked_says bytes old new status short (inl (Check file, asked, inl (input, rest, answer, known, call, is))) =
     status_says CheckSays check_says bytes input rest old new answer status short known call.answered is
-run_says words bytes old new status short (inl (Show file, asked, inl (input, rest, answer, known, call, is))) =
+checked_says bytes old new status short (inl (Show file, asked, inl (input, rest, answer, known, call, is))) =
     status_says ShowSays show_says bytes input rest old new answer status short known call is
-run_says words bytes old new status short (inl (Check file, asked, inr (fault, why, is, kept))) =
+checked_says bytes old new status short (inl (Rewrite file, asked, ends)) = absurd (no_rewrite asked.name (asks_check asked.name asked.rows asked.entered) asked.holds.0)
+checked_says bytes old new status short (inl (Check file, asked, inr (fault, why, is, kept))) =
     neither status bytes 3 (λ e. omega arith) (λ e. omega arith) (ap code_of is)
-run_says words bytes old new status short (inl (Show file, asked, inr (fault, why, is, kept))) =
+checked_says bytes old new status short (inl (Show file, asked, inr (fault, why, is, kept))) =
     neither status bytes 3 (λ e. omega arith) (λ e. omega arith) (ap code_of is)
-run_says words bytes old new status short (inr (words_fault.Words error, refused, ends)) =
+checked_says bytes old new status short (inr (words_fault.Words error, refused, ends)) =
     neither status bytes 2 (λ e. omega arith) (λ e. omega arith) (ap code_of ends.0)
-run_says words bytes old new status short (inr (words_fault.OutOfMemory, refused, ends)) =
+checked_says bytes old new status short (inr (words_fault.OutOfMemory, refused, ends)) =
     neither status bytes 3 (λ e. omega arith) (λ e. omega arith) (ap code_of ends.0)
+
+pub run_says : (words : List Text) (bytes : List ℕ) (old new : Option (List ℕ)) (status : Status) → words ≡ check_words → length bytes ≤ 2 ^ 30
+    → EndsRun words (λ name. Some bytes) (λ name. true) old new status → Tells status bytes
+run_says words bytes old new status same short ends =
+    checked_says bytes old new status short (subst (λ (ws : List Text). EndsRun ws (λ name. Some bytes) (λ name. true) old new status) same ends)

@@ -61,7 +61,7 @@ pub fn status_of_check(alloc: Global, bytes: &[u8]) -> u8
     ensures done { result ≡ 0 → IsFault bytes.now None }
     ensures refused { result ≡ 1 → (fault : ℕ × ℕ) × IsFault bytes.now (Some fault) }
 {
-    let mut files = KnownFile::new(bytes);
+    let mut files = KnownFile { bytes };
     let mut out = Vec::new(alloc);
     let mut err = Vec::new(alloc);
     run(
