@@ -42,7 +42,7 @@ fn a_write_that_fails_is_told_with_what_is_out(rt: HostRuntime) {
         let answer = rewrite(rt.alloc(), &mut file.as_slice(), &mut writer);
         let written = writer.text().len() as u64;
         assert_eq!(rt; answer, Err(ToolFault::Write { written }), "call {call}");
-        assert_eq!(rt; writer.text(), &file[..writer.text().len()], "call {call}");
+        assert!(rt; file.starts_with(writer.text()), "call {call}");
         assert_eq!(rt;
             (writer.calls, writer.flushes),
             (call + 1, 0),
