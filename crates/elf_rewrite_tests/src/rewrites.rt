@@ -48,9 +48,8 @@ fn a_section_in_each_order_is_itself(rt: HostRuntime) {
 #[test]
 fn a_file_that_breaks_a_rule_is_refused(rt: HostRuntime) {
     let mut out = Vec::new(rt.alloc());
-    let file = header();
-    let mut reader = &file[..63];
-    let answer = rewrite(rt.alloc(), &mut reader, &mut out);
+    let file = [0; 63];
+    let answer = rewrite(rt.alloc(), &mut file.as_slice(), &mut out);
     let refusal = Refusal::File {
         file: 0,
         rule: 2,
