@@ -57,6 +57,7 @@ fn prefers_a_global_definition(rt: HostRuntime) -> Result<(), Fail> {
     let mut objects = files(alloc)?;
     objects.push(defined(alloc, GLOBAL)?)?;
     let link = map(alloc, &objects, &options(0x2000, 0x1000, None))?;
+    assert!(rt; link.outputs().len() > 0);
     assert_eq!(rt; link.outputs()[0].length, 8);
     assert_eq!(rt; link.address(3, 0), Some(0x2004));
     assert_eq!(rt; link.commons().len(), 0);

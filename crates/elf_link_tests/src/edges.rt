@@ -37,6 +37,7 @@ fn places_up_to_the_last_address(rt: HostRuntime) -> Result<(), Fail> {
     let alloc = rt.alloc();
     let high = options(0xffff_ffff_ffff_f000, 0x1000, None);
     let link = map(alloc, &bss(alloc, 0xfff)?, &high)?;
+    assert!(rt; link.outputs().len() > 0);
     let output = &link.outputs()[0];
     assert_eq!(rt;
         (output.address, output.length),
@@ -49,6 +50,7 @@ fn places_up_to_the_last_address(rt: HostRuntime) -> Result<(), Fail> {
     );
     let all = bss(alloc, 0xffff_ffff_ffff_ffff)?;
     let link = map(alloc, &all, &options(0, 1, None))?;
+    assert!(rt; link.outputs().len() > 0);
     assert_eq!(rt;
         (link.outputs()[0].address, link.outputs()[0].length),
         (0, 0xffff_ffff_ffff_ffff)
