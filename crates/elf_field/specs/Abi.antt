@@ -62,6 +62,10 @@ EHDR_SIZE = 64
 abbrev pub E_TYPE_AT : ℕ
 E_TYPE_AT = 16
 
+-- offset of e_machine
+abbrev pub E_MACHINE_AT : ℕ
+E_MACHINE_AT = 18
+
 -- offset of e_version
 abbrev pub E_VERSION_AT : ℕ
 E_VERSION_AT = 20
@@ -77,6 +81,10 @@ E_PHOFF_AT = 32
 -- offset of e_shoff
 abbrev pub E_SHOFF_AT : ℕ
 E_SHOFF_AT = 40
+
+-- offset of e_flags
+abbrev pub E_FLAGS_AT : ℕ
+E_FLAGS_AT = 48
 
 -- offset of e_ehsize
 abbrev pub E_EHSIZE_AT : ℕ
@@ -321,9 +329,21 @@ ST_NAME_AT = 0
 abbrev pub ST_INFO_AT : ℕ
 ST_INFO_AT = 4
 
+-- offset of st_other
+abbrev pub ST_OTHER_AT : ℕ
+ST_OTHER_AT = 5
+
 -- offset of st_shndx
 abbrev pub ST_SHNDX_AT : ℕ
 ST_SHNDX_AT = 6
+
+-- offset of st_value
+abbrev pub ST_VALUE_AT : ℕ
+ST_VALUE_AT = 8
+
+-- offset of st_size
+abbrev pub ST_SIZE_AT : ℕ
+ST_SIZE_AT = 16
 
 -- not seen outside its object file
 abbrev pub STB_LOCAL : ℕ
@@ -379,11 +399,19 @@ RELA_SIZE = 24
 abbrev pub R_INFO_AT : ℕ
 R_INFO_AT = 8
 
+-- offset of r_addend
+abbrev pub R_ADDEND_AT : ℕ
+R_ADDEND_AT = 16
+
 -- ---- Phdr: a program header (chapter 5, Program Header)
 
 -- size of a program header
 abbrev pub PHDR_SIZE : ℕ
 PHDR_SIZE = 56
+
+-- offset of p_flags
+abbrev pub P_FLAGS_AT : ℕ
+P_FLAGS_AT = 4
 
 -- offset of p_offset
 abbrev pub P_OFFSET_AT : ℕ
@@ -393,9 +421,17 @@ P_OFFSET_AT = 8
 abbrev pub P_VADDR_AT : ℕ
 P_VADDR_AT = 16
 
+-- offset of p_paddr
+abbrev pub P_PADDR_AT : ℕ
+P_PADDR_AT = 24
+
 -- offset of p_filesz
 abbrev pub P_FILESZ_AT : ℕ
 P_FILESZ_AT = 32
+
+-- offset of p_memsz
+abbrev pub P_MEMSZ_AT : ℕ
+P_MEMSZ_AT = 40
 
 -- offset of p_align
 abbrev pub P_ALIGN_AT : ℕ

@@ -1,6 +1,7 @@
 -- An entry of the dynamic array. (gABI chapter 5, Dynamic Section.)
 use Rattle.std.specs.Prelude.{◌+◌, ◌<◌, ◌^◌, ℕ, List, [], ◌∷◌, FitsSigned}
 use Rattle.std.specs.Int.{w64, cast_signed, cast_unsigned}
+use Rattle.elf_field.specs.Abi.{D_UN_AT}
 use Rattle.elf_field.specs.declared.order.Order.{Order}
 use Rattle.elf_field.specs.declared.dynamic.Dyn.{Dyn}
 use Rattle.elf_field.specs.Bytes.{bytes_of, from, num}
@@ -10,7 +11,7 @@ use Rattle.elf_field.specs.Layout.{AreAt, spelled}
 abbrev pub dyn_in : (ℕ → List ℕ → ℕ) → List ℕ → ℕ → Dyn
 dyn_in number b x = record {
   d_tag = cast_signed w64 (from number b x 8);
-  d_un = from number b (x + 8) 8;
+  d_un = from number b (x + D_UN_AT) 8;
 }
 
 -- the record at offset x of b, in an order

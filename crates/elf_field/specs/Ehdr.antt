@@ -1,5 +1,6 @@
 -- The ELF header: a road map of the file, at its beginning. (gABI chapter 4, ELF Header.)
 use Rattle.std.specs.Prelude.{◌≡◌, ◌+◌, ◌<◌, ◌^◌, ℕ, List, [], ◌∷◌, length, take, drop}
+use Rattle.elf_field.specs.Abi.{EI_NIDENT, E_EHSIZE_AT, E_ENTRY_AT, E_FLAGS_AT, E_MACHINE_AT, E_PHENTSIZE_AT, E_PHNUM_AT, E_PHOFF_AT, E_SHENTSIZE_AT, E_SHNUM_AT, E_SHOFF_AT, E_SHSTRNDX_AT, E_TYPE_AT, E_VERSION_AT}
 use Rattle.elf_field.specs.declared.order.Order.{Order}
 use Rattle.elf_field.specs.declared.ehdr.Ehdr.{Ehdr}
 use Rattle.elf_field.specs.Bytes.{IsBytes, first_bytes, bytes_of, from, num}
@@ -8,20 +9,20 @@ use Rattle.elf_field.specs.Layout.{AreAt, spelled}
 -- the layout: each field's offset and width in bytes, in the list b from offset x, by a way of reading numbers
 abbrev pub ehdr_in : (ℕ → List ℕ → ℕ) → List ℕ → ℕ → Ehdr
 ehdr_in number b x = record {
-  e_ident = first_bytes 16 (drop x b);
-  e_type = from number b (x + 16) 2;
-  e_machine = from number b (x + 18) 2;
-  e_version = from number b (x + 20) 4;
-  e_entry = from number b (x + 24) 8;
-  e_phoff = from number b (x + 32) 8;
-  e_shoff = from number b (x + 40) 8;
-  e_flags = from number b (x + 48) 4;
-  e_ehsize = from number b (x + 52) 2;
-  e_phentsize = from number b (x + 54) 2;
-  e_phnum = from number b (x + 56) 2;
-  e_shentsize = from number b (x + 58) 2;
-  e_shnum = from number b (x + 60) 2;
-  e_shstrndx = from number b (x + 62) 2;
+  e_ident = first_bytes EI_NIDENT (drop x b);
+  e_type = from number b (x + E_TYPE_AT) 2;
+  e_machine = from number b (x + E_MACHINE_AT) 2;
+  e_version = from number b (x + E_VERSION_AT) 4;
+  e_entry = from number b (x + E_ENTRY_AT) 8;
+  e_phoff = from number b (x + E_PHOFF_AT) 8;
+  e_shoff = from number b (x + E_SHOFF_AT) 8;
+  e_flags = from number b (x + E_FLAGS_AT) 4;
+  e_ehsize = from number b (x + E_EHSIZE_AT) 2;
+  e_phentsize = from number b (x + E_PHENTSIZE_AT) 2;
+  e_phnum = from number b (x + E_PHNUM_AT) 2;
+  e_shentsize = from number b (x + E_SHENTSIZE_AT) 2;
+  e_shnum = from number b (x + E_SHNUM_AT) 2;
+  e_shstrndx = from number b (x + E_SHSTRNDX_AT) 2;
 }
 
 -- the record at offset x of b, in an order
@@ -39,15 +40,15 @@ ehdr_values v =
 
 -- its bytes, in an order: the identification, and then each number in its width
 abbrev pub ehdr_bytes : Order → Ehdr → List ℕ
-ehdr_bytes o v = spelled (bytes_of o) (first_bytes 16 v.e_ident) ehdr_widths (ehdr_values v)
+ehdr_bytes o v = spelled (bytes_of o) (first_bytes EI_NIDENT v.e_ident) ehdr_widths (ehdr_values v)
 
 -- its fields stand at their offsets from offset x of b
 abbrev pub IsEhdrAt : Order → List ℕ → ℕ → Ehdr → Type 0
-IsEhdrAt o b x v = (take 16 (drop x b) ≡ v.e_ident) × AreAt o b x 16 ehdr_widths (ehdr_values v)
+IsEhdrAt o b x v = (take EI_NIDENT (drop x b) ≡ v.e_ident) × AreAt o b x EI_NIDENT ehdr_widths (ehdr_values v)
 
 -- each field fits its width
 pub record IsEhdr (v : Ehdr) : Type 0 where
-  pub e_ident : length v.e_ident ≡ 16
+  pub e_ident : length v.e_ident ≡ EI_NIDENT
   pub e_ident_bytes : IsBytes v.e_ident
   pub e_type : v.e_type < 2 ^ 16
   pub e_machine : v.e_machine < 2 ^ 16

@@ -1,11 +1,12 @@
 -- The laws of Ehdr.
 use Rattle.std.proofs.Common.{◌≡◌, ◌≤◌, ◌+◌, ℕ, List, [], length, take, drop, slice_index, refl, sym, ap, ap₂, ◌∙◌, arith, lit≤, length-drop}
 use Rattle.std.proofs.lemmas.List.{take_all}
+use Rattle.elf_field.specs.Abi.{EHDR_SIZE, EI_NIDENT}
 use Rattle.elf_field.specs.declared.order.Order.{Order}
 use Rattle.elf_field.specs.declared.ehdr.Ehdr.{Ehdr}
 use Rattle.elf_field.specs.Bytes.{IsBytes, bytes_of, first_bytes}
 use Rattle.elf_field.specs.BytesLaws.{IsBytes-drop, IsBytes-first_bytes, first_bytes-all, first_bytes-append, first_bytes-part, first_bytes-take, length-first_bytes}
-use Rattle.elf_field.specs.Layout.{FitWidths, fields_from, spelled}
+use Rattle.elf_field.specs.Layout.{FitWidths, fields_from, spelled, width_of}
 use Rattle.elf_field.specs.LayoutLaws.{AreAt-fields_from, FitWidths-fields_from, IsBytes-spelled, fields_from-part, fields_from-spelled, length-spelled, spelled-fields_from, spelled-front}
 use Rattle.elf_field.specs.Record.{IsRecord}
 use Rattle.elf_field.specs.Ehdr.{IsEhdr, IsEhdrAt, ehdr_at, ehdr_bytes, ehdr_values, ehdr_widths}
@@ -13,10 +14,10 @@ use Rattle.elf_field.specs.Ehdr.{IsEhdr, IsEhdrAt, ehdr_at, ehdr_bytes, ehdr_val
 abbrev ehdr_of : List ℕ → List ℕ → Ehdr
 ehdr_of ident vs = record { e_ident = ident; e_type = slice_index vs 0; e_machine = slice_index vs 1; e_version = slice_index vs 2; e_entry = slice_index vs 3; e_phoff = slice_index vs 4; e_shoff = slice_index vs 5; e_flags = slice_index vs 6; e_ehsize = slice_index vs 7; e_phentsize = slice_index vs 8; e_phnum = slice_index vs 9; e_shentsize = slice_index vs 10; e_shnum = slice_index vs 11; e_shstrndx = slice_index vs 12 }
 
-pub ehdr_at-fields : (o : Order) (b : List ℕ) (x : ℕ) → ehdr_at o b x ≡ ehdr_of (first_bytes 16 (drop x b)) (fields_from o b x 16 ehdr_widths)
+pub ehdr_at-fields : (o : Order) (b : List ℕ) (x : ℕ) → ehdr_at o b x ≡ ehdr_of (first_bytes EI_NIDENT (drop x b)) (fields_from o b x EI_NIDENT ehdr_widths)
 ehdr_at-fields o b x = refl
 
-pub ehdr_values-at : (o : Order) (b : List ℕ) (x : ℕ) → IsBytes b → ehdr_values (ehdr_at o b x) ≡ fields_from o b x 16 ehdr_widths
+pub ehdr_values-at : (o : Order) (b : List ℕ) (x : ℕ) → IsBytes b → ehdr_values (ehdr_at o b x) ≡ fields_from o b x EI_NIDENT ehdr_widths
 ehdr_values-at o b x bytes = refl
 
 ehdr_fit : (v : Ehdr) → IsEhdr v → FitWidths ehdr_widths (ehdr_values v)
@@ -24,34 +25,34 @@ ehdr_fit v fits = (fits.e_type, (fits.e_machine, (fits.e_version, (fits.e_entry,
 
 ehdr_valid : (o : Order) (b : List ℕ) (x : ℕ) → IsBytes b → IsEhdr (ehdr_at o b x)
 ehdr_valid o b x bytes =
-    let f = FitWidths-fields_from o b x 16 ehdr_widths bytes in
-    record { e_ident = length-first_bytes 16 (drop x b); e_ident_bytes = IsBytes-first_bytes 16 (drop x b) (IsBytes-drop x b bytes); e_type = f.0; e_machine = f.1.0; e_version = f.1.1.0; e_entry = f.1.1.1.0; e_phoff = f.1.1.1.1.0; e_shoff = f.1.1.1.1.1.0; e_flags = f.1.1.1.1.1.1.0; e_ehsize = f.1.1.1.1.1.1.1.0; e_phentsize = f.1.1.1.1.1.1.1.1.0; e_phnum = f.1.1.1.1.1.1.1.1.1.0; e_shentsize = f.1.1.1.1.1.1.1.1.1.1.0; e_shnum = f.1.1.1.1.1.1.1.1.1.1.1.0; e_shstrndx = f.1.1.1.1.1.1.1.1.1.1.1.1.0 }
+    let f = FitWidths-fields_from o b x EI_NIDENT ehdr_widths bytes in
+    record { e_ident = length-first_bytes EI_NIDENT (drop x b); e_ident_bytes = IsBytes-first_bytes EI_NIDENT (drop x b) (IsBytes-drop x b bytes); e_type = f.0; e_machine = f.1.0; e_version = f.1.1.0; e_entry = f.1.1.1.0; e_phoff = f.1.1.1.1.0; e_shoff = f.1.1.1.1.1.0; e_flags = f.1.1.1.1.1.1.0; e_ehsize = f.1.1.1.1.1.1.1.0; e_phentsize = f.1.1.1.1.1.1.1.1.0; e_phnum = f.1.1.1.1.1.1.1.1.1.0; e_shentsize = f.1.1.1.1.1.1.1.1.1.1.0; e_shnum = f.1.1.1.1.1.1.1.1.1.1.1.0; e_shstrndx = f.1.1.1.1.1.1.1.1.1.1.1.1.0 }
 
 ehdr_gets_put : (o : Order) (v : Ehdr) → IsEhdr v → ehdr_at o (ehdr_bytes o v) 0 ≡ v
 ehdr_gets_put o v fits =
-    let ident = first_bytes 16 v.e_ident in
+    let ident = first_bytes EI_NIDENT v.e_ident in
     let numbers = spelled (bytes_of o) [] ehdr_widths (ehdr_values v) in
-    let long : length ident ≡ 16 = length-first_bytes 16 v.e_ident in
-    let read : first_bytes 16 (ehdr_bytes o v) ≡ v.e_ident =
-    ap (first_bytes 16) (spelled-front o ident ehdr_widths (ehdr_values v)) ∙ first_bytes-append 16 ident numbers long ∙ first_bytes-all 16 v.e_ident fits.e_ident in
-    ap₂ ehdr_of read (fields_from-spelled o ident 16 ehdr_widths (ehdr_values v) (ehdr_fit v fits) long)
+    let long : length ident ≡ EI_NIDENT = length-first_bytes EI_NIDENT v.e_ident in
+    let read : first_bytes EI_NIDENT (ehdr_bytes o v) ≡ v.e_ident =
+    ap (first_bytes EI_NIDENT) (spelled-front o ident ehdr_widths (ehdr_values v)) ∙ first_bytes-append EI_NIDENT ident numbers long ∙ first_bytes-all EI_NIDENT v.e_ident fits.e_ident in
+    ap₂ ehdr_of read (fields_from-spelled o ident EI_NIDENT ehdr_widths (ehdr_values v) (ehdr_fit v fits) long)
 
-ehdr_puts_got : (o : Order) (b : List ℕ) → length b ≡ 64 → IsBytes b → ehdr_bytes o (ehdr_at o b 0) ≡ b
+ehdr_puts_got : (o : Order) (b : List ℕ) → length b ≡ EHDR_SIZE → IsBytes b → ehdr_bytes o (ehdr_at o b 0) ≡ b
 ehdr_puts_got o b long bytes =
-    let ident : first_bytes 16 (first_bytes 16 b) ≡ take 16 b = first_bytes-all 16 (first_bytes 16 b) (length-first_bytes 16 b) ∙ first_bytes-take 16 b (omega arith) in
-    ap (λ (s : List ℕ). spelled (bytes_of o) s ehdr_widths (fields_from o b 0 16 ehdr_widths)) ident ∙ spelled-fields_from o b 16 ehdr_widths bytes (omega arith) ∙ take_all 64 b (omega arith)
+    let ident : first_bytes EI_NIDENT (first_bytes EI_NIDENT b) ≡ take EI_NIDENT b = first_bytes-all EI_NIDENT (first_bytes EI_NIDENT b) (length-first_bytes EI_NIDENT b) ∙ first_bytes-take EI_NIDENT b (omega arith) in
+    ap (λ (s : List ℕ). spelled (bytes_of o) s ehdr_widths (fields_from o b 0 EI_NIDENT ehdr_widths)) ident ∙ spelled-fields_from o b EI_NIDENT ehdr_widths bytes (omega arith) ∙ take_all EHDR_SIZE b (omega arith)
 
-pub ehdr_laws : IsRecord 64 ehdr_at ehdr_bytes IsEhdr
+pub ehdr_laws : IsRecord EHDR_SIZE ehdr_at ehdr_bytes IsEhdr
 ehdr_laws = record {
   gets_put = ehdr_gets_put;
   puts_got = ehdr_puts_got;
-  part = λ o b x. ap₂ ehdr_of (first_bytes-part 16 64 (drop x b) (lit≤ tt)) (fields_from-part o b 64 x 16 ehdr_widths (lit≤ tt));
-  length_is = λ o v. length-spelled o (first_bytes 16 v.e_ident) ehdr_widths (ehdr_values v) refl ∙ ap (λ (k : ℕ). k + 48) (length-first_bytes 16 v.e_ident);
+  part = λ o b x. ap₂ ehdr_of (first_bytes-part EI_NIDENT EHDR_SIZE (drop x b) (lit≤ tt)) (fields_from-part o b EHDR_SIZE x EI_NIDENT ehdr_widths (lit≤ tt));
+  length_is = λ o v. length-spelled o (first_bytes EI_NIDENT v.e_ident) ehdr_widths (ehdr_values v) refl ∙ ap (λ (k : ℕ). k + width_of ehdr_widths) (length-first_bytes EI_NIDENT v.e_ident);
   valid = ehdr_valid;
-  are_bytes = λ o v fits. IsBytes-spelled o (first_bytes 16 v.e_ident) ehdr_widths (ehdr_values v) (IsBytes-first_bytes 16 v.e_ident fits.e_ident_bytes);
+  are_bytes = λ o v fits. IsBytes-spelled o (first_bytes EI_NIDENT v.e_ident) ehdr_widths (ehdr_values v) (IsBytes-first_bytes EI_NIDENT v.e_ident fits.e_ident_bytes);
 }
 
-pub ehdr_fields_at : (o : Order) (b : List ℕ) (x : ℕ) → x + 64 ≤ length b → IsBytes b → IsEhdrAt o b x (ehdr_at o b x)
+pub ehdr_fields_at : (o : Order) (b : List ℕ) (x : ℕ) → x + EHDR_SIZE ≤ length b → IsBytes b → IsEhdrAt o b x (ehdr_at o b x)
 ehdr_fields_at o b x within bytes =
-    let there : 16 ≤ length (drop x b) = let e = length-drop x b in omega arith in
-    (sym (first_bytes-take 16 (drop x b) there), AreAt-fields_from o b x 16 ehdr_widths (omega arith))
+    let there : EI_NIDENT ≤ length (drop x b) = let e = length-drop x b in omega arith in
+    (sym (first_bytes-take EI_NIDENT (drop x b) there), AreAt-fields_from o b x EI_NIDENT ehdr_widths (omega arith))

@@ -1,5 +1,6 @@
 -- A program header: one entry of the program header table, a segment. (gABI chapter 5, Program Header.)
 use Rattle.std.specs.Prelude.{◌+◌, ◌<◌, ◌^◌, ℕ, List, [], ◌∷◌}
+use Rattle.elf_field.specs.Abi.{P_ALIGN_AT, P_FILESZ_AT, P_FLAGS_AT, P_MEMSZ_AT, P_OFFSET_AT, P_PADDR_AT, P_VADDR_AT}
 use Rattle.elf_field.specs.declared.order.Order.{Order}
 use Rattle.elf_field.specs.declared.phdr.Phdr.{Phdr}
 use Rattle.elf_field.specs.Bytes.{bytes_of, from, num}
@@ -9,13 +10,13 @@ use Rattle.elf_field.specs.Layout.{AreAt, spelled}
 abbrev pub phdr_in : (ℕ → List ℕ → ℕ) → List ℕ → ℕ → Phdr
 phdr_in number b x = record {
   p_type = from number b x 4;
-  p_flags = from number b (x + 4) 4;
-  p_offset = from number b (x + 8) 8;
-  p_vaddr = from number b (x + 16) 8;
-  p_paddr = from number b (x + 24) 8;
-  p_filesz = from number b (x + 32) 8;
-  p_memsz = from number b (x + 40) 8;
-  p_align = from number b (x + 48) 8;
+  p_flags = from number b (x + P_FLAGS_AT) 4;
+  p_offset = from number b (x + P_OFFSET_AT) 8;
+  p_vaddr = from number b (x + P_VADDR_AT) 8;
+  p_paddr = from number b (x + P_PADDR_AT) 8;
+  p_filesz = from number b (x + P_FILESZ_AT) 8;
+  p_memsz = from number b (x + P_MEMSZ_AT) 8;
+  p_align = from number b (x + P_ALIGN_AT) 8;
 }
 
 -- the record at offset x of b, in an order

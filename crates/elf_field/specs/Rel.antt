@@ -1,5 +1,6 @@
 -- A relocation without addend: one entry of a section of type REL. (gABI chapter 4, Relocation.)
 use Rattle.std.specs.Prelude.{◌+◌, ◌<◌, ◌^◌, ℕ, List, [], ◌∷◌}
+use Rattle.elf_field.specs.Abi.{R_INFO_AT}
 use Rattle.elf_field.specs.declared.order.Order.{Order}
 use Rattle.elf_field.specs.declared.rel.Rel.{Rel}
 use Rattle.elf_field.specs.Bytes.{bytes_of, from, num}
@@ -9,7 +10,7 @@ use Rattle.elf_field.specs.Layout.{AreAt, spelled}
 abbrev pub rel_in : (ℕ → List ℕ → ℕ) → List ℕ → ℕ → Rel
 rel_in number b x = record {
   r_offset = from number b x 8;
-  r_info = from number b (x + 8) 8;
+  r_info = from number b (x + R_INFO_AT) 8;
 }
 
 -- the record at offset x of b, in an order

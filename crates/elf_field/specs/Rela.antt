@@ -1,6 +1,7 @@
 -- A relocation with addend: one entry of a section of type RELA. (gABI chapter 4, Relocation.)
 use Rattle.std.specs.Prelude.{◌+◌, ◌<◌, ◌^◌, ℕ, List, [], ◌∷◌, FitsSigned}
 use Rattle.std.specs.Int.{w64, cast_signed, cast_unsigned}
+use Rattle.elf_field.specs.Abi.{R_ADDEND_AT, R_INFO_AT}
 use Rattle.elf_field.specs.declared.order.Order.{Order}
 use Rattle.elf_field.specs.declared.rela.Rela.{Rela}
 use Rattle.elf_field.specs.Bytes.{bytes_of, from, num}
@@ -10,8 +11,8 @@ use Rattle.elf_field.specs.Layout.{AreAt, spelled}
 abbrev pub rela_in : (ℕ → List ℕ → ℕ) → List ℕ → ℕ → Rela
 rela_in number b x = record {
   r_offset = from number b x 8;
-  r_info = from number b (x + 8) 8;
-  r_addend = cast_signed w64 (from number b (x + 16) 8);
+  r_info = from number b (x + R_INFO_AT) 8;
+  r_addend = cast_signed w64 (from number b (x + R_ADDEND_AT) 8);
 }
 
 -- the record at offset x of b, in an order

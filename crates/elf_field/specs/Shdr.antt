@@ -1,5 +1,6 @@
 -- A section header: one entry of the section header table. (gABI chapter 4, Sections.)
 use Rattle.std.specs.Prelude.{◌+◌, ◌<◌, ◌^◌, ℕ, List, [], ◌∷◌}
+use Rattle.elf_field.specs.Abi.{SH_ADDRALIGN_AT, SH_ADDR_AT, SH_ENTSIZE_AT, SH_FLAGS_AT, SH_INFO_AT, SH_LINK_AT, SH_OFFSET_AT, SH_SIZE_AT, SH_TYPE_AT}
 use Rattle.elf_field.specs.declared.order.Order.{Order}
 use Rattle.elf_field.specs.declared.shdr.Shdr.{Shdr}
 use Rattle.elf_field.specs.Bytes.{bytes_of, from, num}
@@ -9,15 +10,15 @@ use Rattle.elf_field.specs.Layout.{AreAt, spelled}
 abbrev pub shdr_in : (ℕ → List ℕ → ℕ) → List ℕ → ℕ → Shdr
 shdr_in number b x = record {
   sh_name = from number b x 4;
-  sh_type = from number b (x + 4) 4;
-  sh_flags = from number b (x + 8) 8;
-  sh_addr = from number b (x + 16) 8;
-  sh_offset = from number b (x + 24) 8;
-  sh_size = from number b (x + 32) 8;
-  sh_link = from number b (x + 40) 4;
-  sh_info = from number b (x + 44) 4;
-  sh_addralign = from number b (x + 48) 8;
-  sh_entsize = from number b (x + 56) 8;
+  sh_type = from number b (x + SH_TYPE_AT) 4;
+  sh_flags = from number b (x + SH_FLAGS_AT) 8;
+  sh_addr = from number b (x + SH_ADDR_AT) 8;
+  sh_offset = from number b (x + SH_OFFSET_AT) 8;
+  sh_size = from number b (x + SH_SIZE_AT) 8;
+  sh_link = from number b (x + SH_LINK_AT) 4;
+  sh_info = from number b (x + SH_INFO_AT) 4;
+  sh_addralign = from number b (x + SH_ADDRALIGN_AT) 8;
+  sh_entsize = from number b (x + SH_ENTSIZE_AT) 8;
 }
 
 -- the record at offset x of b, in an order

@@ -1,6 +1,7 @@
 -- The laws of Shdr.
 use Rattle.std.proofs.Common.{◌≡◌, ◌≤◌, ◌+◌, ℕ, List, [], length, slice_index, refl, sym, ap, subst, ◌∙◌, arith, lit≤, add-zero}
 use Rattle.std.proofs.lemmas.List.{take_all}
+use Rattle.elf_field.specs.Abi.{SHDR_SIZE, SH_ADDRALIGN_AT, SH_ADDR_AT, SH_ENTSIZE_AT, SH_FLAGS_AT, SH_INFO_AT, SH_LINK_AT, SH_OFFSET_AT, SH_SIZE_AT, SH_TYPE_AT}
 use Rattle.elf_field.specs.declared.order.Order.{Order}
 use Rattle.elf_field.specs.declared.shdr.Shdr.{Shdr}
 use Rattle.elf_field.specs.Bytes.{IsBytes, bytes_of, from, num}
@@ -15,7 +16,7 @@ shdr_of vs = record { sh_name = slice_index vs 0; sh_type = slice_index vs 1; sh
 
 pub shdr_at-fields : (o : Order) (b : List ℕ) (x : ℕ) → shdr_at o b x ≡ shdr_of (fields_from o b x 0 shdr_widths)
 shdr_at-fields o b x =
-    let at : ℕ → Shdr = λ k. record { sh_name = from (num o) b k 4; sh_type = from (num o) b (x + 4) 4; sh_flags = from (num o) b (x + 8) 8; sh_addr = from (num o) b (x + 16) 8; sh_offset = from (num o) b (x + 24) 8; sh_size = from (num o) b (x + 32) 8; sh_link = from (num o) b (x + 40) 4; sh_info = from (num o) b (x + 44) 4; sh_addralign = from (num o) b (x + 48) 8; sh_entsize = from (num o) b (x + 56) 8 } in
+    let at : ℕ → Shdr = λ k. record { sh_name = from (num o) b k 4; sh_type = from (num o) b (x + SH_TYPE_AT) 4; sh_flags = from (num o) b (x + SH_FLAGS_AT) 8; sh_addr = from (num o) b (x + SH_ADDR_AT) 8; sh_offset = from (num o) b (x + SH_OFFSET_AT) 8; sh_size = from (num o) b (x + SH_SIZE_AT) 8; sh_link = from (num o) b (x + SH_LINK_AT) 4; sh_info = from (num o) b (x + SH_INFO_AT) 4; sh_addralign = from (num o) b (x + SH_ADDRALIGN_AT) 8; sh_entsize = from (num o) b (x + SH_ENTSIZE_AT) 8 } in
     ap at (sym (add-zero x))
 
 pub shdr_values-at : (o : Order) (b : List ℕ) (x : ℕ) → IsBytes b → shdr_values (shdr_at o b x) ≡ fields_from o b x 0 shdr_widths
@@ -30,17 +31,17 @@ shdr_valid o b x bytes =
     let fits : IsShdr (shdr_of (fields_from o b x 0 shdr_widths)) = record { sh_name = f.0; sh_type = f.1.0; sh_flags = f.1.1.0; sh_addr = f.1.1.1.0; sh_offset = f.1.1.1.1.0; sh_size = f.1.1.1.1.1.0; sh_link = f.1.1.1.1.1.1.0; sh_info = f.1.1.1.1.1.1.1.0; sh_addralign = f.1.1.1.1.1.1.1.1.0; sh_entsize = f.1.1.1.1.1.1.1.1.1.0 } in
     subst IsShdr (sym (shdr_at-fields o b x)) fits
 
-pub shdr_laws : IsRecord 64 shdr_at shdr_bytes IsShdr
+pub shdr_laws : IsRecord SHDR_SIZE shdr_at shdr_bytes IsShdr
 shdr_laws = record {
   gets_put = λ o v fits. ap shdr_of (fields_from-spelled o [] 0 shdr_widths (shdr_values v) (shdr_fit v fits) refl);
-  puts_got = λ o b long bytes. ap (spelled (bytes_of o) [] shdr_widths) (shdr_values-at o b 0 bytes) ∙ spelled-fields_from o b 0 shdr_widths bytes (omega arith) ∙ take_all 64 b (omega arith);
-  part = λ o b x. ap shdr_of (fields_from-part o b 64 x 0 shdr_widths (lit≤ tt)) ∙ sym (shdr_at-fields o b x);
+  puts_got = λ o b long bytes. ap (spelled (bytes_of o) [] shdr_widths) (shdr_values-at o b 0 bytes) ∙ spelled-fields_from o b 0 shdr_widths bytes (omega arith) ∙ take_all SHDR_SIZE b (omega arith);
+  part = λ o b x. ap shdr_of (fields_from-part o b SHDR_SIZE x 0 shdr_widths (lit≤ tt)) ∙ sym (shdr_at-fields o b x);
   length_is = λ o v. length-spelled o [] shdr_widths (shdr_values v) refl;
   valid = shdr_valid;
   are_bytes = λ o v fits. IsBytes-spelled o [] shdr_widths (shdr_values v) IsBytes-nil;
 }
 
-pub shdr_fields_at : (o : Order) (b : List ℕ) (x : ℕ) → x + 64 ≤ length b → IsBytes b → IsShdrAt o b x (shdr_at o b x)
+pub shdr_fields_at : (o : Order) (b : List ℕ) (x : ℕ) → x + SHDR_SIZE ≤ length b → IsBytes b → IsShdrAt o b x (shdr_at o b x)
 shdr_fields_at o b x within bytes =
     let stand = AreAt-fields_from o b x 0 shdr_widths (omega arith) in
     subst (AreAt o b x 0 shdr_widths) (sym (shdr_values-at o b x bytes)) stand

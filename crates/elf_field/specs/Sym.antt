@@ -1,5 +1,6 @@
 -- A symbol: one entry of a symbol table. (gABI chapter 4, Symbol Table.)
 use Rattle.std.specs.Prelude.{◌+◌, ◌<◌, ◌^◌, ℕ, List, [], ◌∷◌}
+use Rattle.elf_field.specs.Abi.{ST_INFO_AT, ST_OTHER_AT, ST_SHNDX_AT, ST_SIZE_AT, ST_VALUE_AT}
 use Rattle.elf_field.specs.declared.order.Order.{Order}
 use Rattle.elf_field.specs.declared.sym.Sym.{Sym}
 use Rattle.elf_field.specs.Bytes.{bytes_of, from, num}
@@ -9,11 +10,11 @@ use Rattle.elf_field.specs.Layout.{AreAt, spelled}
 abbrev pub sym_in : (ℕ → List ℕ → ℕ) → List ℕ → ℕ → Sym
 sym_in number b x = record {
   st_name = from number b x 4;
-  st_info = from number b (x + 4) 1;
-  st_other = from number b (x + 5) 1;
-  st_shndx = from number b (x + 6) 2;
-  st_value = from number b (x + 8) 8;
-  st_size = from number b (x + 16) 8;
+  st_info = from number b (x + ST_INFO_AT) 1;
+  st_other = from number b (x + ST_OTHER_AT) 1;
+  st_shndx = from number b (x + ST_SHNDX_AT) 2;
+  st_value = from number b (x + ST_VALUE_AT) 8;
+  st_size = from number b (x + ST_SIZE_AT) 8;
 }
 
 -- the record at offset x of b, in an order

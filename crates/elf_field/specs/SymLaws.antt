@@ -1,6 +1,7 @@
 -- The laws of Sym.
 use Rattle.std.proofs.Common.{◌≡◌, ◌≤◌, ◌+◌, ℕ, List, [], length, slice_index, refl, sym, ap, subst, ◌∙◌, arith, lit≤, add-zero}
 use Rattle.std.proofs.lemmas.List.{take_all}
+use Rattle.elf_field.specs.Abi.{ST_INFO_AT, ST_OTHER_AT, ST_SHNDX_AT, ST_SIZE_AT, ST_VALUE_AT, SYM_SIZE}
 use Rattle.elf_field.specs.declared.order.Order.{Order}
 use Rattle.elf_field.specs.declared.sym.Sym.{Sym}
 use Rattle.elf_field.specs.Bytes.{IsBytes, bytes_of, from, num}
@@ -15,7 +16,7 @@ sym_of vs = record { st_name = slice_index vs 0; st_info = slice_index vs 1; st_
 
 pub sym_at-fields : (o : Order) (b : List ℕ) (x : ℕ) → sym_at o b x ≡ sym_of (fields_from o b x 0 sym_widths)
 sym_at-fields o b x =
-    let at : ℕ → Sym = λ k. record { st_name = from (num o) b k 4; st_info = from (num o) b (x + 4) 1; st_other = from (num o) b (x + 5) 1; st_shndx = from (num o) b (x + 6) 2; st_value = from (num o) b (x + 8) 8; st_size = from (num o) b (x + 16) 8 } in
+    let at : ℕ → Sym = λ k. record { st_name = from (num o) b k 4; st_info = from (num o) b (x + ST_INFO_AT) 1; st_other = from (num o) b (x + ST_OTHER_AT) 1; st_shndx = from (num o) b (x + ST_SHNDX_AT) 2; st_value = from (num o) b (x + ST_VALUE_AT) 8; st_size = from (num o) b (x + ST_SIZE_AT) 8 } in
     ap at (sym (add-zero x))
 
 pub sym_values-at : (o : Order) (b : List ℕ) (x : ℕ) → IsBytes b → sym_values (sym_at o b x) ≡ fields_from o b x 0 sym_widths
@@ -30,17 +31,17 @@ sym_valid o b x bytes =
     let fits : IsSym (sym_of (fields_from o b x 0 sym_widths)) = record { st_name = f.0; st_info = f.1.0; st_other = f.1.1.0; st_shndx = f.1.1.1.0; st_value = f.1.1.1.1.0; st_size = f.1.1.1.1.1.0 } in
     subst IsSym (sym (sym_at-fields o b x)) fits
 
-pub sym_laws : IsRecord 24 sym_at sym_bytes IsSym
+pub sym_laws : IsRecord SYM_SIZE sym_at sym_bytes IsSym
 sym_laws = record {
   gets_put = λ o v fits. ap sym_of (fields_from-spelled o [] 0 sym_widths (sym_values v) (sym_fit v fits) refl);
-  puts_got = λ o b long bytes. ap (spelled (bytes_of o) [] sym_widths) (sym_values-at o b 0 bytes) ∙ spelled-fields_from o b 0 sym_widths bytes (omega arith) ∙ take_all 24 b (omega arith);
-  part = λ o b x. ap sym_of (fields_from-part o b 24 x 0 sym_widths (lit≤ tt)) ∙ sym (sym_at-fields o b x);
+  puts_got = λ o b long bytes. ap (spelled (bytes_of o) [] sym_widths) (sym_values-at o b 0 bytes) ∙ spelled-fields_from o b 0 sym_widths bytes (omega arith) ∙ take_all SYM_SIZE b (omega arith);
+  part = λ o b x. ap sym_of (fields_from-part o b SYM_SIZE x 0 sym_widths (lit≤ tt)) ∙ sym (sym_at-fields o b x);
   length_is = λ o v. length-spelled o [] sym_widths (sym_values v) refl;
   valid = sym_valid;
   are_bytes = λ o v fits. IsBytes-spelled o [] sym_widths (sym_values v) IsBytes-nil;
 }
 
-pub sym_fields_at : (o : Order) (b : List ℕ) (x : ℕ) → x + 24 ≤ length b → IsBytes b → IsSymAt o b x (sym_at o b x)
+pub sym_fields_at : (o : Order) (b : List ℕ) (x : ℕ) → x + SYM_SIZE ≤ length b → IsBytes b → IsSymAt o b x (sym_at o b x)
 sym_fields_at o b x within bytes =
     let stand = AreAt-fields_from o b x 0 sym_widths (omega arith) in
     subst (AreAt o b x 0 sym_widths) (sym (sym_values-at o b x bytes)) stand

@@ -35,6 +35,8 @@ pub const EV_CURRENT: u8 = 1;
 pub const EHDR_SIZE: u64 = 64;
 /// Offset of `e_type`.
 pub const E_TYPE_AT: u64 = 16;
+/// Offset of `e_machine`.
+pub const E_MACHINE_AT: u64 = 18;
 /// Offset of `e_version`.
 pub const E_VERSION_AT: u64 = 20;
 /// Offset of `e_entry`.
@@ -43,6 +45,8 @@ pub const E_ENTRY_AT: u64 = 24;
 pub const E_PHOFF_AT: u64 = 32;
 /// Offset of `e_shoff`.
 pub const E_SHOFF_AT: u64 = 40;
+/// Offset of `e_flags`.
+pub const E_FLAGS_AT: u64 = 48;
 /// Offset of `e_ehsize`.
 pub const E_EHSIZE_AT: u64 = 52;
 /// Offset of `e_phentsize`.
@@ -174,8 +178,14 @@ pub const SYM_SIZE: u64 = 24;
 pub const ST_NAME_AT: u64 = 0;
 /// Offset of `st_info`.
 pub const ST_INFO_AT: u64 = 4;
+/// Offset of `st_other`.
+pub const ST_OTHER_AT: u64 = 5;
 /// Offset of `st_shndx`.
 pub const ST_SHNDX_AT: u64 = 6;
+/// Offset of `st_value`.
+pub const ST_VALUE_AT: u64 = 8;
+/// Offset of `st_size`.
+pub const ST_SIZE_AT: u64 = 16;
 
 /// Not seen outside its object file.
 pub const STB_LOCAL: u8 = 0;
@@ -207,17 +217,25 @@ pub const REL_SIZE: u64 = 16;
 pub const RELA_SIZE: u64 = 24;
 /// Offset of `r_info`, in either.
 pub const R_INFO_AT: u64 = 8;
+/// Offset of `r_addend`.
+pub const R_ADDEND_AT: u64 = 16;
 
 // ---- Phdr: a program header (chapter 5, Program Header)
 
 /// Size of a program header.
 pub const PHDR_SIZE: u64 = 56;
+/// Offset of `p_flags`.
+pub const P_FLAGS_AT: u64 = 4;
 /// Offset of `p_offset`.
 pub const P_OFFSET_AT: u64 = 8;
 /// Offset of `p_vaddr`.
 pub const P_VADDR_AT: u64 = 16;
+/// Offset of `p_paddr`.
+pub const P_PADDR_AT: u64 = 24;
 /// Offset of `p_filesz`.
 pub const P_FILESZ_AT: u64 = 32;
+/// Offset of `p_memsz`.
+pub const P_MEMSZ_AT: u64 = 40;
 /// Offset of `p_align`.
 pub const P_ALIGN_AT: u64 = 48;
 

@@ -3,6 +3,7 @@ ghost use Rattle.elf_field.specs.Layout.{spelled};
 ghost use Rattle.elf_field.specs.Dyn.{IsDyn, IsDynAt, dyn_at, dyn_bytes, dyn_in, dyn_values, dyn_widths};
 ghost use Rattle.elf_field.specs.DynLaws.{dyn_fields_at, dyn_laws};
 
+use crate::abi::DYN_SIZE;
 use crate::number::{i64_at, put_i64, put_u64, u64_at};
 use crate::order::Order;
 use crate::record::Record;
@@ -19,7 +20,9 @@ pub struct Dyn {
 }
 
 impl Record for Dyn {
-    ghost SIZE = { 16 };
+    ghost use Rattle.elf_field.specs.Abi.{DYN_SIZE};
+
+    ghost SIZE = { DYN_SIZE };
 
     ghost at = { dyn_at };
 
@@ -33,7 +36,7 @@ impl Record for Dyn {
 
     ghost fields_at = { dyn_fields_at };
 
-    const SIZE: usize = 16;
+    const SIZE: usize = DYN_SIZE as usize;
 
     #[tactic(auto, unfolding(crate::specs::Bytes::num))]
     fn get(order: Order, b: &[u8]) -> Self {
@@ -57,7 +60,7 @@ impl Record for Dyn {
 }
 
 fn read<O: ByteOrder>(b: &[u8]) -> Dyn
-    requires { length b.now ≡ 16 }
+    requires { length b.now ≡ DYN_SIZE }
     ensures { result ≡ dyn_in O.number_of b.now 0 }
 {
     Dyn {
@@ -67,7 +70,7 @@ fn read<O: ByteOrder>(b: &[u8]) -> Dyn
 }
 
 fn write<O: ByteOrder>(v: &Dyn, b: &mut [u8])
-    requires { length b.old ≡ 16 }
+    requires { length b.old ≡ DYN_SIZE }
     ensures { b.new ≡ spelled O.bytes_of [] dyn_widths (dyn_values v.now) }
 {
     put_i64::<O>(b, 0, v.d_tag);

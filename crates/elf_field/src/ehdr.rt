@@ -4,6 +4,7 @@ ghost use Rattle.elf_field.specs.Bytes.{first_bytes};
 ghost use Rattle.elf_field.specs.Ehdr.{IsEhdr, IsEhdrAt, ehdr_at, ehdr_bytes, ehdr_in, ehdr_values, ehdr_widths};
 ghost use Rattle.elf_field.specs.EhdrLaws.{ehdr_fields_at, ehdr_laws};
 
+use crate::abi::{EHDR_SIZE, EI_NIDENT};
 use crate::number::{put_u16, put_u32, put_u64, u16_at, u32_at, u64_at};
 use crate::order::Order;
 use crate::record::Record;
@@ -14,7 +15,7 @@ use byteorder::{BigEndian, ByteOrder, LittleEndian};
 #[derive(Clone, Copy, Debug, PartialEq, Eq)]
 pub struct Ehdr {
     /// Identification: magic, class, data encoding, version, OS/ABI, ABI version and padding.
-    pub e_ident: [u8; 16],
+    pub e_ident: [u8; EI_NIDENT],
     /// Object file type.
     pub e_type: u16,
     /// Required architecture; kept, never interpreted.
@@ -44,7 +45,9 @@ pub struct Ehdr {
 }
 
 impl Record for Ehdr {
-    ghost SIZE = { 64 };
+    ghost use Rattle.elf_field.specs.Abi.{EHDR_SIZE};
+
+    ghost SIZE = { EHDR_SIZE };
 
     ghost at = { ehdr_at };
 
@@ -58,7 +61,7 @@ impl Record for Ehdr {
 
     ghost fields_at = { ehdr_fields_at };
 
-    const SIZE: usize = 64;
+    const SIZE: usize = EHDR_SIZE as usize;
 
     #[tactic(auto, unfolding(crate::specs::Bytes::num))]
     fn get(order: Order, b: &[u8]) -> Self {
@@ -82,7 +85,7 @@ impl Record for Ehdr {
 }
 
 fn read<O: ByteOrder>(b: &[u8]) -> Ehdr
-    requires { length b.now ≡ 64 }
+    requires { length b.now ≡ EHDR_SIZE }
     ensures { result ≡ ehdr_in O.number_of b.now 0 }
 {
     Ehdr {
@@ -104,25 +107,25 @@ fn read<O: ByteOrder>(b: &[u8]) -> Ehdr
 }
 
 // The identification bytes at the beginning of the slice.
-fn ident_at(b: &[u8]) -> [u8; 16]
-    requires { 16 ≤ length b.now }
-    ensures { result ≡ first_bytes 16 b.now }
+fn ident_at(b: &[u8]) -> [u8; EI_NIDENT]
+    requires { EI_NIDENT ≤ length b.now }
+    ensures { result ≡ first_bytes EI_NIDENT b.now }
 {
-    let mut e_ident = [0; 16];
-    e_ident.copy_from_slice(&b[..16]);
+    let mut e_ident = [0; EI_NIDENT];
+    e_ident.copy_from_slice(&b[..EI_NIDENT]);
     e_ident
 }
 
-fn put_ident(b: &mut [u8], e_ident: [u8; 16])
-    requires { 16 ≤ length b.old }
-    ensures { take 16 b.new ≡ first_bytes 16 e_ident }
+fn put_ident(b: &mut [u8], e_ident: [u8; EI_NIDENT])
+    requires { EI_NIDENT ≤ length b.old }
+    ensures { take EI_NIDENT b.new ≡ first_bytes EI_NIDENT e_ident }
 {
-    b[..16].copy_from_slice(&e_ident);
+    b[..EI_NIDENT].copy_from_slice(&e_ident);
 }
 
 fn write<O: ByteOrder>(v: &Ehdr, b: &mut [u8])
-    requires { length b.old ≡ 64 }
-    ensures { b.new ≡ spelled O.bytes_of (first_bytes 16 v.now.e_ident) ehdr_widths (ehdr_values v.now) }
+    requires { length b.old ≡ EHDR_SIZE }
+    ensures { b.new ≡ spelled O.bytes_of (first_bytes EI_NIDENT v.now.e_ident) ehdr_widths (ehdr_values v.now) }
 {
     put_ident(b, v.e_ident);
     put_u16::<O>(b, 16, v.e_type);

@@ -3,6 +3,7 @@ ghost use Rattle.elf_field.specs.Layout.{spelled};
 ghost use Rattle.elf_field.specs.Phdr.{IsPhdr, IsPhdrAt, phdr_at, phdr_bytes, phdr_in, phdr_values, phdr_widths};
 ghost use Rattle.elf_field.specs.PhdrLaws.{phdr_fields_at, phdr_laws};
 
+use crate::abi::PHDR_SIZE;
 use crate::number::{put_u32, put_u64, u32_at, u64_at};
 use crate::order::Order;
 use crate::record::Record;
@@ -31,7 +32,9 @@ pub struct Phdr {
 }
 
 impl Record for Phdr {
-    ghost SIZE = { 56 };
+    ghost use Rattle.elf_field.specs.Abi.{PHDR_SIZE};
+
+    ghost SIZE = { PHDR_SIZE };
 
     ghost at = { phdr_at };
 
@@ -45,7 +48,7 @@ impl Record for Phdr {
 
     ghost fields_at = { phdr_fields_at };
 
-    const SIZE: usize = 56;
+    const SIZE: usize = PHDR_SIZE as usize;
 
     #[tactic(auto, unfolding(crate::specs::Bytes::num))]
     fn get(order: Order, b: &[u8]) -> Self {
@@ -69,7 +72,7 @@ impl Record for Phdr {
 }
 
 fn read<O: ByteOrder>(b: &[u8]) -> Phdr
-    requires { length b.now ≡ 56 }
+    requires { length b.now ≡ PHDR_SIZE }
     ensures { result ≡ phdr_in O.number_of b.now 0 }
 {
     Phdr {
@@ -85,7 +88,7 @@ fn read<O: ByteOrder>(b: &[u8]) -> Phdr
 }
 
 fn write<O: ByteOrder>(v: &Phdr, b: &mut [u8])
-    requires { length b.old ≡ 56 }
+    requires { length b.old ≡ PHDR_SIZE }
     ensures { b.new ≡ spelled O.bytes_of [] phdr_widths (phdr_values v.now) }
 {
     put_u32::<O>(b, 0, v.p_type);

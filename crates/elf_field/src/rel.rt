@@ -3,6 +3,7 @@ ghost use Rattle.elf_field.specs.Layout.{spelled};
 ghost use Rattle.elf_field.specs.Rel.{IsRel, IsRelAt, rel_at, rel_bytes, rel_in, rel_values, rel_widths};
 ghost use Rattle.elf_field.specs.RelLaws.{rel_fields_at, rel_laws};
 
+use crate::abi::REL_SIZE;
 use crate::number::{put_u64, u64_at};
 use crate::order::Order;
 use crate::record::Record;
@@ -37,7 +38,9 @@ impl Rel {
 }
 
 impl Record for Rel {
-    ghost SIZE = { 16 };
+    ghost use Rattle.elf_field.specs.Abi.{REL_SIZE};
+
+    ghost SIZE = { REL_SIZE };
 
     ghost at = { rel_at };
 
@@ -51,7 +54,7 @@ impl Record for Rel {
 
     ghost fields_at = { rel_fields_at };
 
-    const SIZE: usize = 16;
+    const SIZE: usize = REL_SIZE as usize;
 
     #[tactic(auto, unfolding(crate::specs::Bytes::num))]
     fn get(order: Order, b: &[u8]) -> Self {
@@ -75,7 +78,7 @@ impl Record for Rel {
 }
 
 fn read<O: ByteOrder>(b: &[u8]) -> Rel
-    requires { length b.now ≡ 16 }
+    requires { length b.now ≡ REL_SIZE }
     ensures { result ≡ rel_in O.number_of b.now 0 }
 {
     Rel {
@@ -85,7 +88,7 @@ fn read<O: ByteOrder>(b: &[u8]) -> Rel
 }
 
 fn write<O: ByteOrder>(v: &Rel, b: &mut [u8])
-    requires { length b.old ≡ 16 }
+    requires { length b.old ≡ REL_SIZE }
     ensures { b.new ≡ spelled O.bytes_of [] rel_widths (rel_values v.now) }
 {
     put_u64::<O>(b, 0, v.r_offset);

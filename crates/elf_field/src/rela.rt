@@ -3,6 +3,7 @@ ghost use Rattle.elf_field.specs.Layout.{spelled};
 ghost use Rattle.elf_field.specs.Rela.{IsRela, IsRelaAt, rela_at, rela_bytes, rela_in, rela_values, rela_widths};
 ghost use Rattle.elf_field.specs.RelaLaws.{rela_fields_at, rela_laws};
 
+use crate::abi::RELA_SIZE;
 use crate::number::{i64_at, put_i64, put_u64, u64_at};
 use crate::order::Order;
 use crate::record::Record;
@@ -39,7 +40,9 @@ impl Rela {
 }
 
 impl Record for Rela {
-    ghost SIZE = { 24 };
+    ghost use Rattle.elf_field.specs.Abi.{RELA_SIZE};
+
+    ghost SIZE = { RELA_SIZE };
 
     ghost at = { rela_at };
 
@@ -53,7 +56,7 @@ impl Record for Rela {
 
     ghost fields_at = { rela_fields_at };
 
-    const SIZE: usize = 24;
+    const SIZE: usize = RELA_SIZE as usize;
 
     #[tactic(auto, unfolding(crate::specs::Bytes::num))]
     fn get(order: Order, b: &[u8]) -> Self {
@@ -77,7 +80,7 @@ impl Record for Rela {
 }
 
 fn read<O: ByteOrder>(b: &[u8]) -> Rela
-    requires { length b.now ≡ 24 }
+    requires { length b.now ≡ RELA_SIZE }
     ensures { result ≡ rela_in O.number_of b.now 0 }
 {
     Rela {
@@ -88,7 +91,7 @@ fn read<O: ByteOrder>(b: &[u8]) -> Rela
 }
 
 fn write<O: ByteOrder>(v: &Rela, b: &mut [u8])
-    requires { length b.old ≡ 24 }
+    requires { length b.old ≡ RELA_SIZE }
     ensures { b.new ≡ spelled O.bytes_of [] rela_widths (rela_values v.now) }
 {
     put_u64::<O>(b, 0, v.r_offset);

@@ -3,6 +3,7 @@ ghost use Rattle.elf_field.specs.Layout.{spelled};
 ghost use Rattle.elf_field.specs.Shdr.{IsShdr, IsShdrAt, shdr_at, shdr_bytes, shdr_in, shdr_values, shdr_widths};
 ghost use Rattle.elf_field.specs.ShdrLaws.{shdr_fields_at, shdr_laws};
 
+use crate::abi::SHDR_SIZE;
 use crate::number::{put_u32, put_u64, u32_at, u64_at};
 use crate::order::Order;
 use crate::record::Record;
@@ -35,7 +36,9 @@ pub struct Shdr {
 }
 
 impl Record for Shdr {
-    ghost SIZE = { 64 };
+    ghost use Rattle.elf_field.specs.Abi.{SHDR_SIZE};
+
+    ghost SIZE = { SHDR_SIZE };
 
     ghost at = { shdr_at };
 
@@ -49,7 +52,7 @@ impl Record for Shdr {
 
     ghost fields_at = { shdr_fields_at };
 
-    const SIZE: usize = 64;
+    const SIZE: usize = SHDR_SIZE as usize;
 
     #[tactic(auto, unfolding(crate::specs::Bytes::num))]
     fn get(order: Order, b: &[u8]) -> Self {
@@ -73,7 +76,7 @@ impl Record for Shdr {
 }
 
 fn read<O: ByteOrder>(b: &[u8]) -> Shdr
-    requires { length b.now ≡ 64 }
+    requires { length b.now ≡ SHDR_SIZE }
     ensures { result ≡ shdr_in O.number_of b.now 0 }
 {
     Shdr {
@@ -91,7 +94,7 @@ fn read<O: ByteOrder>(b: &[u8]) -> Shdr
 }
 
 fn write<O: ByteOrder>(v: &Shdr, b: &mut [u8])
-    requires { length b.old ≡ 64 }
+    requires { length b.old ≡ SHDR_SIZE }
     ensures { b.new ≡ spelled O.bytes_of [] shdr_widths (shdr_values v.now) }
 {
     put_u32::<O>(b, 0, v.sh_name);

@@ -3,6 +3,7 @@ ghost use Rattle.elf_field.specs.Layout.{spelled};
 ghost use Rattle.elf_field.specs.Sym.{IsSym, IsSymAt, sym_at, sym_bytes, sym_in, sym_values, sym_widths};
 ghost use Rattle.elf_field.specs.SymLaws.{sym_fields_at, sym_laws};
 
+use crate::abi::SYM_SIZE;
 use crate::number::{put_u8, put_u16, put_u32, put_u64, u8_at, u16_at, u32_at, u64_at};
 use crate::order::Order;
 use crate::record::Record;
@@ -43,7 +44,9 @@ impl Sym {
 }
 
 impl Record for Sym {
-    ghost SIZE = { 24 };
+    ghost use Rattle.elf_field.specs.Abi.{SYM_SIZE};
+
+    ghost SIZE = { SYM_SIZE };
 
     ghost at = { sym_at };
 
@@ -57,7 +60,7 @@ impl Record for Sym {
 
     ghost fields_at = { sym_fields_at };
 
-    const SIZE: usize = 24;
+    const SIZE: usize = SYM_SIZE as usize;
 
     #[tactic(auto, unfolding(crate::specs::Bytes::num))]
     fn get(order: Order, b: &[u8]) -> Self {
@@ -81,7 +84,7 @@ impl Record for Sym {
 }
 
 fn read<O: ByteOrder>(b: &[u8]) -> Sym
-    requires { length b.now ≡ 24 }
+    requires { length b.now ≡ SYM_SIZE }
     ensures { result ≡ sym_in O.number_of b.now 0 }
 {
     Sym {
@@ -95,7 +98,7 @@ fn read<O: ByteOrder>(b: &[u8]) -> Sym
 }
 
 fn write<O: ByteOrder>(v: &Sym, b: &mut [u8])
-    requires { length b.old ≡ 24 }
+    requires { length b.old ≡ SYM_SIZE }
     ensures { b.new ≡ spelled O.bytes_of [] sym_widths (sym_values v.now) }
 {
     put_u32::<O>(b, 0, v.st_name);

@@ -43,6 +43,16 @@ fn ruled(order: Order, offset: u64, width: u64) -> u64 {
     number
 }
 
+// The offset of the first of these fields, each a number, an offset and a width, that isn't what the ruler has there.
+fn first_wrong(order: Order, fields: &[(u64, u64, u64)]) -> Option<u64> {
+    for (number, offset, width) in fields {
+        if *number != ruled(order, *offset, *width) {
+            return Some(*offset);
+        }
+    }
+    None
+}
+
 // The record that stands at the beginning of the bytes, through the bound, put back into `copy`.
 fn through_bound<T: Record>(order: Order, bytes: &[u8], copy: &mut [u8]) -> T
     requires read { T.SIZE ≤ length bytes.now }
@@ -126,7 +136,7 @@ fn header_layout(rt: HostRuntime) {
         assert_eq!(rt; Ehdr::get(order, &RULER[..64]), record);
         assert_eq!(rt; copy.as_slice(), &RULER[..64]);
         assert_eq!(rt; record.e_ident.as_slice(), &RULER[..16]);
-        for (number, offset, width) in [
+        let fields = [
             (u64::from(record.e_type), 16, 2),
             (u64::from(record.e_machine), 18, 2),
             (u64::from(record.e_version), 20, 4),
@@ -140,9 +150,8 @@ fn header_layout(rt: HostRuntime) {
             (u64::from(record.e_shentsize), 58, 2),
             (u64::from(record.e_shnum), 60, 2),
             (u64::from(record.e_shstrndx), 62, 2),
-        ] {
-            assert_eq!(rt; number, ruled(order, offset, width), "at {offset}");
-        }
+        ];
+        assert_eq!(rt; first_wrong(order, &fields), None, "{order:?}");
     }
 }
 
@@ -153,7 +162,7 @@ fn section_header_layout(rt: HostRuntime) {
         let record: Shdr = through_bound(order, &RULER, &mut copy);
         assert_eq!(rt; Shdr::get(order, &RULER[..64]), record);
         assert_eq!(rt; copy.as_slice(), &RULER[..64]);
-        for (number, offset, width) in [
+        let fields = [
             (u64::from(record.sh_name), 0, 4),
             (u64::from(record.sh_type), 4, 4),
             (record.sh_flags, 8, 8),
@@ -164,9 +173,8 @@ fn section_header_layout(rt: HostRuntime) {
             (u64::from(record.sh_info), 44, 4),
             (record.sh_addralign, 48, 8),
             (record.sh_entsize, 56, 8),
-        ] {
-            assert_eq!(rt; number, ruled(order, offset, width), "at {offset}");
-        }
+        ];
+        assert_eq!(rt; first_wrong(order, &fields), None, "{order:?}");
     }
 }
 
@@ -177,7 +185,7 @@ fn program_header_layout(rt: HostRuntime) {
         let record: Phdr = through_bound(order, &RULER, &mut copy);
         assert_eq!(rt; Phdr::get(order, &RULER[..56]), record);
         assert_eq!(rt; copy.as_slice(), &RULER[..56]);
-        for (number, offset, width) in [
+        let fields = [
             (u64::from(record.p_type), 0, 4),
             (u64::from(record.p_flags), 4, 4),
             (record.p_offset, 8, 8),
@@ -186,9 +194,8 @@ fn program_header_layout(rt: HostRuntime) {
             (record.p_filesz, 32, 8),
             (record.p_memsz, 40, 8),
             (record.p_align, 48, 8),
-        ] {
-            assert_eq!(rt; number, ruled(order, offset, width), "at {offset}");
-        }
+        ];
+        assert_eq!(rt; first_wrong(order, &fields), None, "{order:?}");
     }
 }
 
@@ -199,16 +206,15 @@ fn symbol_layout(rt: HostRuntime) {
         let record: Sym = through_bound(order, &RULER, &mut copy);
         assert_eq!(rt; Sym::get(order, &RULER[..24]), record);
         assert_eq!(rt; copy.as_slice(), &RULER[..24]);
-        for (number, offset, width) in [
+        let fields = [
             (u64::from(record.st_name), 0, 4),
             (u64::from(record.st_info), 4, 1),
             (u64::from(record.st_other), 5, 1),
             (u64::from(record.st_shndx), 6, 2),
             (record.st_value, 8, 8),
             (record.st_size, 16, 8),
-        ] {
-            assert_eq!(rt; number, ruled(order, offset, width), "at {offset}");
-        }
+        ];
+        assert_eq!(rt; first_wrong(order, &fields), None, "{order:?}");
     }
 }
 
@@ -219,9 +225,8 @@ fn relocation_layout(rt: HostRuntime) {
         let record: Rel = through_bound(order, &RULER, &mut copy);
         assert_eq!(rt; Rel::get(order, &RULER[..16]), record);
         assert_eq!(rt; copy.as_slice(), &RULER[..16]);
-        for (number, offset, width) in [(record.r_offset, 0, 8), (record.r_info, 8, 8)] {
-            assert_eq!(rt; number, ruled(order, offset, width), "at {offset}");
-        }
+        let fields = [(record.r_offset, 0, 8), (record.r_info, 8, 8)];
+        assert_eq!(rt; first_wrong(order, &fields), None, "{order:?}");
     }
 }
 
@@ -232,13 +237,12 @@ fn relocation_with_addend_layout(rt: HostRuntime) {
         let record: Rela = through_bound(order, &RULER, &mut copy);
         assert_eq!(rt; Rela::get(order, &RULER[..24]), record);
         assert_eq!(rt; copy.as_slice(), &RULER[..24]);
-        for (number, offset, width) in [
+        let fields = [
             (record.r_offset, 0, 8),
             (record.r_info, 8, 8),
             (record.r_addend.cast_unsigned(), 16, 8),
-        ] {
-            assert_eq!(rt; number, ruled(order, offset, width), "at {offset}");
-        }
+        ];
+        assert_eq!(rt; first_wrong(order, &fields), None, "{order:?}");
     }
 }
 
@@ -249,9 +253,8 @@ fn dynamic_entry_layout(rt: HostRuntime) {
         let record: Dyn = through_bound(order, &RULER, &mut copy);
         assert_eq!(rt; Dyn::get(order, &RULER[..16]), record);
         assert_eq!(rt; copy.as_slice(), &RULER[..16]);
-        for (number, offset, width) in [(record.d_tag.cast_unsigned(), 0, 8), (record.d_un, 8, 8)] {
-            assert_eq!(rt; number, ruled(order, offset, width), "at {offset}");
-        }
+        let fields = [(record.d_tag.cast_unsigned(), 0, 8), (record.d_un, 8, 8)];
+        assert_eq!(rt; first_wrong(order, &fields), None, "{order:?}");
     }
 }
 

@@ -1,13 +1,16 @@
 ghost use Rattle.elf_field.specs.Word.{IsWord, IsWordAt, word_at, word_bytes};
 ghost use Rattle.elf_field.specs.WordLaws.{word_fields_at, word_laws};
 
+use crate::abi::WORD_SIZE;
 use crate::order::Order;
 use crate::record::Record;
 use byteorder::{BigEndian, ByteOrder, LittleEndian};
 
 /// A word of four bytes (`Elf64_Word`): index tables, section groups and hash tables are lists of them.
 impl Record for u32 {
-    ghost SIZE = { 4 };
+    ghost use Rattle.elf_field.specs.Abi.{WORD_SIZE};
+
+    ghost SIZE = { WORD_SIZE };
 
     ghost at = { word_at };
 
@@ -21,7 +24,7 @@ impl Record for u32 {
 
     ghost fields_at = { word_fields_at };
 
-    const SIZE: usize = 4;
+    const SIZE: usize = WORD_SIZE as usize;
 
     #[tactic(auto, unfolding(crate::specs::Bytes::num))]
     fn get(order: Order, b: &[u8]) -> Self {
