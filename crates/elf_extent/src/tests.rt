@@ -59,21 +59,37 @@ fn check_double(rt: &impl Abort, alloc: Global, extents: &[Extent]) -> Result<()
     Ok(())
 }
 
-// All lists of at most three extents with start and len from 0 to 5.
+// Each extent with start and len from 0 to 5 has a number below 36; so has, in each run of 36, each greater number.
+fn numbered(n: u64) -> Extent {
+    extent(n / 6 % 6, n % 6)
+}
+
+// All lists of at most one of these extents.
 #[test]
-fn agrees_with_a_count_at_each_offset(rt: HostRuntime) -> Result<(), Fail> {
+fn agrees_with_a_count_on_one_extent(rt: HostRuntime) -> Result<(), Fail> {
     let alloc = rt.alloc();
     check_double(&rt, alloc, &[])?;
-    for i in 0..36 {
-        let first = extent(i / 6, i % 6);
-        check_double(&rt, alloc, &[first])?;
-        for j in 0..36 {
-            let second = extent(j / 6, j % 6);
-            check_double(&rt, alloc, &[first, second])?;
-            for k in 0..36 {
-                check_double(&rt, alloc, &[first, second, extent(k / 6, k % 6)])?;
-            }
-        }
+    for n in 0..36 {
+        check_double(&rt, alloc, &[numbered(n)])?;
+    }
+    Ok(())
+}
+
+#[test]
+fn agrees_with_a_count_on_two_extents(rt: HostRuntime) -> Result<(), Fail> {
+    let alloc = rt.alloc();
+    for n in 0..36 * 36 {
+        check_double(&rt, alloc, &[numbered(n / 36), numbered(n)])?;
+    }
+    Ok(())
+}
+
+#[test]
+fn agrees_with_a_count_on_three_extents(rt: HostRuntime) -> Result<(), Fail> {
+    let alloc = rt.alloc();
+    for n in 0..36 * 36 * 36 {
+        let extents = [numbered(n / (36 * 36)), numbered(n / 36), numbered(n)];
+        check_double(&rt, alloc, &extents)?;
     }
     Ok(())
 }

@@ -11,6 +11,7 @@ mod Parsed
 mod PartsOfImage
 pub mod Public
 mod RelocatableFile
+mod Several
 mod SomeImage
 mod Spread
 mod Standing

@@ -1,5 +1,5 @@
 -- What the proofs of the crates above may cite: the laws of src/laws.rt, each under its name there, and the lemmas by
--- which bytes are read as records and contents, and are shown to break no rule, and by which records go out.
+-- which bytes are read as records and contents, and are shown to break no rule.
 pub use Rattle.elf_image.proofs.Fields.{header_fields, section_fields, segment_fields}
 pub use Rattle.elf_image.proofs.FileParts.{written_accepted, written_is_bytes, written_read}
 pub use Rattle.elf_image.proofs.OneImage.{one_image, owner_from}
@@ -9,4 +9,4 @@ pub use Rattle.elf_image.proofs.SomeImage.{some_image}
 pub use Rattle.elf_image.proofs.Spread.{in_spread, length-spread, length-unaligned, parts_ascend}
 pub use Rattle.elf_image.proofs.Stands.{contents_read, entry_at, header_read, sections_read, segments_read}
 pub use Rattle.elf_image.proofs.Theorem.{HasTablesOf, Reads, clean_bytes, has_tables_of, image_is_sound, one_list, sound_stands, stands_is_image}
-pub use Rattle.elf_image.proofs.Written.{flat_err, flat_ok, in_records, length-put_mid, record_put, went_err}
+pub use Rattle.elf_image.proofs.Written.{went_err}

@@ -15,6 +15,7 @@
 #![tactic(auto)]
 
 mod edits;
+pub mod entries;
 mod fault;
 mod image;
 pub mod laws;

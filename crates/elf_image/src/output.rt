@@ -7,6 +7,7 @@ ghost use Rattle.std.specs.Prelude.{◌≡◌, ◌+◌, ◌*◌, ◌^◌, ◌<�
 ghost use Rattle.std.specs.List.{flat_map};
 ghost use Rattle.elf_image.specs.Output.{Writes};
 
+use crate::entries::{RecordEntries, write_entries};
 use crate::fault::WriteFault;
 use elf_field::{Order, Record};
 use std::io::Write;
@@ -69,7 +70,7 @@ pub fn write_padded<W: Write>(writer: &mut W, padding: u64, bytes: &[u8]) -> Res
 
 /// Writes the bytes of these records one after the other, or exactly the first `written` of them, fewer
 /// than all, and a fault. As many records go out at a time as a block holds.
-pub fn write_records<T: Record, W: Write>(
+pub fn write_records<T: Record + Copy, W: Write>(
     writer: &mut W,
     order: Order,
     records: &[T],
@@ -79,28 +80,5 @@ pub fn write_records<T: Record, W: Write>(
     requires fits { T.SIZE * length records.now < 2 ^ 64 }
     ensures { Writes (W.contents writer.old) (W.contents writer.new) (flat_map (T.bytes order) records.now) result }
 {
-    let mut block = [0; BLOCK];
-    let mut next = 0;
-    while next < records.len() {
-        let count = (records.len() - next).min(BLOCK / T::SIZE);
-        let bytes = &mut block[..T::SIZE * count];
-        put_records(order, &records[next..next + count], bytes);
-        match write_whole(writer, bytes) {
-            Ok(()) => {}
-            Err(fault) => return Err(fault.after((T::SIZE * next) as u64)),
-        }
-        next += count;
-    }
-    Ok(())
-}
-
-/// Puts the bytes of these records one after the other into a slice, which is just as long.
-pub fn put_records<T: Record>(order: Order, records: &[T], bytes: &mut [u8])
-    requires { length bytes.old ≡ T.SIZE * length records.now }
-    ensures { bytes.new ≡ flat_map (T.bytes order) records.now }
-{
-    for i in 0..records.len() {
-        let start = T::SIZE * i;
-        records[i].put(order, &mut bytes[start..start + T::SIZE]);
-    }
+    write_entries(writer, order, &RecordEntries { records })
 }

@@ -1,11 +1,11 @@
 use Rattle.std.proofs.Common.{◌*◌, take, arith, ap, ◌∙◌}
 use Rattle.std.proofs.lemmas.List.{length-take-le}
 use Rattle.elf_field.specs.RecordTableLaws.{length-table}
-use Rattle.elf_image.proofs.Public.{flat_err, flat_ok}
-use Rattle.elf_object.proofs.entries.write_entries.Goals as goal
+use Rattle.elf_image.proofs.Written.{flat_err, flat_ok}
+use Rattle.elf_image.proofs.entries.write_entries.Goals as goal
 
-pub overflow_add-result : goal.overflow_add-result
-overflow_add-result g c =
+pub after-requires : goal.after-requires
+after-requires g c =
     let all = g.E.Entries.entries c.args.entries.now in
     let size = g.E.Entry.Record.SIZE in
     let whole = length-table g.met.E.Entry.Record.laws c.args.order all in
@@ -23,7 +23,7 @@ returns-in-Err g c =
     let size = g.E.Entry.Record.SIZE in
     let out = length-table g.met.E.Entry.Record.laws c.args.order (take c.loop-next.next all) in
     let count = length-take-le c.loop-next.next all c.loop-next.invariant.within in
-    rw c.SIZE-in-Err.ensures (flat_err (g.E.Entry.Record.bytes c.args.order) all c.loop-next.next _ _ c.in-Err.fault.written _ _ _ c.put_entries.new.bytes
+    rw (c.after.ensures, c.SIZE-in-Err.ensures) (flat_err (g.E.Entry.Record.bytes c.args.order) all c.loop-next.next _ _ c.in-Err.fault.written _ _ _ c.put_entries.new.bytes
     (out ∙ ap (λ n. size * n) count) c.put_entries.ensures c.loop-next.invariant.out c.in-Err.ensures)
 
 pub loop-next-preserved : goal.loop-next-preserved

@@ -4,13 +4,13 @@ ghost use Rattle.std.specs.Prelude.{◌≡◌, ◌<◌, ◌≤◌, ◌+◌, ◌*
 ghost use Rattle.std.specs.List.{flat_map};
 ghost use Rattle.elf_image.specs.Output.{Writes};
 
+use crate::fault::WriteFault;
+use crate::output::{BLOCK, write_whole};
 use elf_field::{Order, Record};
-use elf_image::output::BLOCK;
-use elf_image::{WriteFault, write_whole};
 use std::io::Write;
 
 /// The entries of a table, each made when it is asked for.
-pub(crate) trait Entries {
+pub trait Entries {
     ghost use Rattle.std.specs.Prelude.{List};
 
     type Entry: Record + Copy;
@@ -35,7 +35,7 @@ pub(crate) trait Entries {
 
 /// Writes the bytes of the entries one after the other, or exactly the first `written` of them, fewer
 /// than all, and a fault. As many entries go out at a time as a block holds; no memory is taken.
-pub(crate) fn write_entries<E: Entries, W: Write>(
+pub fn write_entries<E: Entries, W: Write>(
     writer: &mut W,
     order: Order,
     entries: &E,
@@ -56,11 +56,7 @@ pub(crate) fn write_entries<E: Entries, W: Write>(
         put_entries(order, entries, next, several, bytes);
         match write_whole(writer, bytes) {
             Ok(()) => {}
-            Err(fault) => {
-                return Err(WriteFault {
-                    written: (E::Entry::SIZE * next) as u64 + fault.written,
-                });
-            }
+            Err(fault) => return Err(fault.after((E::Entry::SIZE * next) as u64)),
         }
         next += several;
     }
@@ -80,5 +76,27 @@ fn put_entries<E: Entries>(order: Order, entries: &E, from: usize, several: usiz
         entries
             .entry(from + i)
             .put(order, &mut bytes[start..start + E::Entry::SIZE]);
+    }
+}
+
+/// Records at hand are the entries of their table.
+#[derive(Drop)]
+pub(crate) struct RecordEntries<'r, T: Record + Copy> {
+    pub(crate) records: &'r [T],
+}
+
+impl<'r, T: Record + Copy> Entries for RecordEntries<'r, T> {
+    type Entry = T;
+
+    ghost entries = { λ s. s.records.now };
+
+    ghost fit = { λ _. Unit {0} };
+
+    fn count(&self) -> usize {
+        self.records.len()
+    }
+
+    fn entry(&self, index: usize) -> T {
+        self.records[index]
     }
 }
