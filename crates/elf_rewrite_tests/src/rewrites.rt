@@ -62,7 +62,7 @@ fn a_file_that_breaks_a_rule_is_refused(rt: HostRuntime) {
 // The refusal stands on standard error, and nothing on the output.
 #[test]
 fn an_executable_is_refused(rt: HostRuntime) {
-    let file = one_segment();
+    let file = one_segment(Order::Little);
     let mut out = Vec::new(rt.alloc());
     let mut err = Vec::new(rt.alloc());
     let status = run(

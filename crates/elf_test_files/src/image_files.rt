@@ -138,6 +138,13 @@ const LONG_PARTS: [Field; 7] = [
     (176, 8, 8),
 ];
 
+/// A header alone, without tables.
+pub fn header_alone(order: Order) -> [u8; 64] {
+    let mut file = [0; 64];
+    set_header(&mut file, order, &[]);
+    file
+}
+
 /// An object without sections and symbols of its own: a symbol table, its strings, and the names.
 pub fn empty_object() -> [u8; 376] {
     let mut file = [0; 376];
@@ -165,16 +172,16 @@ pub fn one_section(order: Order) -> [u8; 456] {
 }
 
 /// A section of size 0, and one without bytes in the file, both with an offset far past its end.
-pub fn empty_contents() -> [u8; 256] {
+pub fn empty_contents(order: Order) -> [u8; 256] {
     let mut file = [0; 256];
-    set_header(&mut file, Order::Little, &EMPTY_CONTENTS);
+    set_header(&mut file, order, &EMPTY_CONTENTS);
     file
 }
 
 /// A file of one loadable segment, which is the whole file.
-pub fn one_segment() -> [u8; 120] {
+pub fn one_segment(order: Order) -> [u8; 120] {
     let mut file = [0; 120];
-    set_header(&mut file, Order::Little, &ONE_SEGMENT);
+    set_header(&mut file, order, &ONE_SEGMENT);
     file
 }
 

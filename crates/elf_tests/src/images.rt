@@ -43,7 +43,7 @@ fn assert_written(
 }
 
 #[test]
-fn tells_every_part(rt: HostRuntime) -> Result<(), Fail> {
+fn tells_every_part_of_an_empty_object(rt: HostRuntime) -> Result<(), Fail> {
     let file = empty_object();
     let image = parse(rt.alloc(), &file)?;
     assert_eq!(rt;
@@ -58,7 +58,11 @@ fn tells_every_part(rt: HostRuntime) -> Result<(), Fail> {
         ]
         .as_slice()
     );
+    Ok(())
+}
 
+#[test]
+fn tells_every_part_of_a_section(rt: HostRuntime) -> Result<(), Fail> {
     let file = one_section(LITTLE);
     let image = parse(rt.alloc(), &file)?;
     assert_eq!(rt;
@@ -75,13 +79,12 @@ fn tells_every_part(rt: HostRuntime) -> Result<(), Fail> {
         ]
         .as_slice()
     );
-
     Ok(())
 }
 
 #[test]
-fn tells_the_parts_of_tables_alone(rt: HostRuntime) -> Result<(), Fail> {
-    let file = empty_contents();
+fn tells_the_parts_of_a_section_table_alone(rt: HostRuntime) -> Result<(), Fail> {
+    let file = empty_contents(LITTLE);
     let image = parse(rt.alloc(), &file)?;
     assert_eq!(rt;
         image.parts(),
@@ -91,8 +94,12 @@ fn tells_the_parts_of_tables_alone(rt: HostRuntime) -> Result<(), Fail> {
         ]
         .as_slice()
     );
+    Ok(())
+}
 
-    let file = one_segment();
+#[test]
+fn tells_the_parts_of_a_program_table_alone(rt: HostRuntime) -> Result<(), Fail> {
+    let file = one_segment(LITTLE);
     let image = parse(rt.alloc(), &file)?;
     assert_eq!(rt;
         image.parts(),
@@ -161,7 +168,7 @@ fn tells_section_headers(rt: HostRuntime) -> Result<(), Fail> {
 
 #[test]
 fn has_no_names_without_a_name_table(rt: HostRuntime) -> Result<(), Fail> {
-    let file = empty_contents();
+    let file = empty_contents(LITTLE);
     let image = parse(rt.alloc(), &file)?;
     assert_eq!(rt; image.name_table(), 0);
     assert_eq!(rt; image.section_count(), 3);
@@ -174,7 +181,7 @@ fn has_no_names_without_a_name_table(rt: HostRuntime) -> Result<(), Fail> {
 
 #[test]
 fn tells_a_program_header(rt: HostRuntime) -> Result<(), Fail> {
-    let file = one_segment();
+    let file = one_segment(LITTLE);
     let image = parse(rt.alloc(), &file)?;
     assert_eq!(rt; image.segment_count(), 1);
     assert_eq!(rt; image.segment(0).p_vaddr, 0x1000);
@@ -296,8 +303,8 @@ fn writes_back_what_it_read(rt: HostRuntime) -> Result<(), Fail> {
     let object = empty_object();
     let little = one_section(LITTLE);
     let big = one_section(Order::Big);
-    let contents = empty_contents();
-    let segment = one_segment();
+    let contents = empty_contents(LITTLE);
+    let segment = one_segment(LITTLE);
     let files: [&[u8]; 5] = [&object, &little, &big, &contents, &segment];
     for file in files {
         let image = parse(rt.alloc(), file)?;
@@ -348,9 +355,12 @@ fn replaces_a_content(rt: HostRuntime) -> Result<(), Fail> {
     assert_eq!(rt; image.replace(1, &[0x90]), Ok(()));
     let mut want = one_section(LITTLE);
     want[64] = 0x90;
-    assert_written(&rt, rt.alloc(), &image, &want)?;
+    assert_written(&rt, rt.alloc(), &image, &want)
+}
 
-    let file = empty_contents();
+#[test]
+fn replaces_an_empty_content_and_none_that_is_not_in_the_file(rt: HostRuntime) -> Result<(), Fail> {
+    let file = empty_contents(LITTLE);
     let mut image = parse(rt.alloc(), &file)?;
     assert_eq!(rt; image.replace(1, &[]), Ok(()));
     assert_eq!(rt; image.replace(2, &[]), Err(ReplaceFault::NoSection));

@@ -1,0 +1,9 @@
+//! Tests of the rules of images.
+#![tactic(auto)]
+
+#[cfg(test)]
+mod headers;
+#[cfg(test)]
+mod sections;
+#[cfg(test)]
+mod segments;
