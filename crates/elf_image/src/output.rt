@@ -3,7 +3,7 @@
 //! Any error of the writer, an interruption too, is a [`WriteFault`], and so is a write that takes 0
 //! bytes of a rest that is not empty. Nothing is tried again, nothing is flushed, and no memory is
 //! taken.
-ghost use Rattle.std.specs.Prelude.{◌≡◌, ◌+◌, ◌*◌, ◌^◌, ◌<◌, ◌≤◌, ◌++◌, length, replicate};
+ghost use Rattle.std.specs.Prelude.{◌+◌, ◌*◌, ◌^◌, ◌<◌, ◌≤◌, ◌++◌, length, replicate};
 ghost use Rattle.std.specs.List.{flat_map};
 ghost use Rattle.elf_image.specs.Output.{Writes};
 

@@ -7,7 +7,7 @@ use Rattle.elf_field.specs.Abi.{SHF_GROUP, SHT_GROUP, SHT_NOBITS, SHT_REL, SHT_R
 use Rattle.elf_rules.specs.Rows.{FirstIn}
 use Rattle.elf_object.specs.Denotes.{Denotes, body_denoted}
 use Rattle.elf_object.specs.FileRules.{NamesFirst, file_rules, rules_of_body}
-use Rattle.elf_object.specs.GroupRule.{IsInEarlierGroup, IsWrongMember, NamesMember, wrong_member}
+use Rattle.elf_object.specs.GroupRule.{IsInEarlierGroup, IsWrongMember, NamesMember, wrong_membership}
 use Rattle.elf_object.specs.Kept.{body_kind, is_kept, left_out, position_of}
 use Rattle.elf_object.specs.Object.{ObjectValue, SectionValue, section_at}
 use Rattle.elf_object.specs.Positions.{LacksFlag, is_group, members_of}
@@ -125,7 +125,7 @@ members_right f o i q Group clean denotes lt is at within sound (j, inside, wron
     member_right f o i j (member (order f) (content f i) j) q clean denotes lt is at within sound there (member_sound f i j clean lt sound there)
     (subst (IsWrongAt o q (member_positions f i) j) (position_of_member f i j there) wrong)
 
-pub groups_kept : (f : Sections) (o : ObjectValue) → FirstIn (file_rules f) None → Denotes f o → Never (wrong_member o)
+pub groups_kept : (f : Sections) (o : ObjectValue) → FirstIn (file_rules f) None → Denotes f o → Never (wrong_membership o)
 groups_kept f o clean denotes x (q, within, broken, here) =
     let (i, is) = section_at_position f o q denotes within in
     members_right f o i q (body_kind (section f i).sh_type) clean denotes is.there is.is_kept is.position within (table_sound f i clean is.there is.is_kept)

@@ -13,7 +13,8 @@ use Rattle.elf_object.specs.PlainSections.{index_of}
 use Rattle.elf_object.specs.Positions.{IsPast}
 use Rattle.elf_object.specs.SectionRules.{HasWrongPosition, section_rules}
 use Rattle.elf_object.specs.SymbolRules.{place_position, symbol_rules}
-use Rattle.elf_object.proofs.ShortLayout.{few_sections, few_symbols, own_below}
+use Rattle.elf_object.proofs.PlainSections.{own_below}
+use Rattle.elf_object.proofs.ShortLayout.{few_sections, few_symbols}
 
 pub position_kept : (o : ObjectValue) → IsObject o → (i : ℕ) → i < length o.sections → HasWrongPosition o (section_at o i) → ⊥
 unfolding object_rules section_rules

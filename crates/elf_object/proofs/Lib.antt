@@ -52,8 +52,8 @@ pub mod WrittenSymbolValues
 pub mod WrittenDenotes
 pub mod WrittenReferenceRules
 pub mod WrittenRules
-pub mod Several
 pub mod PlacedSections
+pub mod PlainSections
 pub mod ShortLayout
 pub mod KeptPositions
 pub mod OwnSections

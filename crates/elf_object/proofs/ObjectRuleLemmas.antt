@@ -3,7 +3,7 @@ use Rattle.std.proofs.Common.{ℕ, Option, None, Some, inl, refl}
 use Rattle.elf_extent.specs.Least.{IsLeast, Never}
 use Rattle.elf_rules.specs.Rows.{FirstIn}
 use Rattle.elf_rules.proofs.Public.{FirstIn-later, FirstIn-sooner}
-use Rattle.elf_object.specs.GroupRule.{group_rules, wrong_member}
+use Rattle.elf_object.specs.GroupRule.{group_rules, wrong_membership}
 use Rattle.elf_object.specs.Object.{ObjectValue}
 use Rattle.elf_object.specs.ObjectRules.{object_rules}
 use Rattle.elf_object.specs.SectionRules.{section_rules}
@@ -13,12 +13,12 @@ pub fault_in_sections : (o : ObjectValue) (fault : ℕ × ℕ) → FirstIn (sect
 unfolding object_rules
 fault_in_sections o fault found = FirstIn-sooner (section_rules o) _ fault found
 
-pub fault_in_groups : (o : ObjectValue) (position : ℕ) → FirstIn (section_rules o) None → IsLeast (wrong_member o) position →
+pub fault_in_groups : (o : ObjectValue) (position : ℕ) → FirstIn (section_rules o) None → IsLeast (wrong_membership o) position →
     FirstIn (object_rules o) (Some (6, position))
 unfolding object_rules group_rules
 fault_in_groups o position sections least = FirstIn-later (section_rules o) _ _ sections (inl (refl, least))
 
-pub found_in_symbols : (o : ObjectValue) (found : Option (ℕ × ℕ)) → FirstIn (section_rules o) None → Never (wrong_member o) →
+pub found_in_symbols : (o : ObjectValue) (found : Option (ℕ × ℕ)) → FirstIn (section_rules o) None → Never (wrong_membership o) →
     FirstIn (symbol_rules o) found → FirstIn (object_rules o) found
 unfolding object_rules group_rules
 found_in_symbols o found sections never symbols =

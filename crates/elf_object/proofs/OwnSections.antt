@@ -7,14 +7,15 @@ use Rattle.elf_object.specs.declared.relocation.Relocation.{Relocation}
 use Rattle.elf_object.specs.declared.section.Section.{Section}
 use Rattle.elf_object.specs.Object.{BodyValue, bits, no_bits, relocs, group, ObjectValue, SectionValue, no_section, section_at}
 use Rattle.elf_object.specs.ObjectView.{section_value}
-use Rattle.elf_object.specs.PlacedObject.{HasShortIndexes, IsPlaced, IsWritable, PlacedValue}
+use Rattle.elf_object.specs.PlacedObject.{HasShortIndexes, HasShortNumbers, IsPlaced, PlacedValue}
 use Rattle.elf_object.specs.PlainSections.{index_of}
 use Rattle.elf_object.specs.Positions.{IsPast, info_position}
 use Rattle.elf_object.specs.SectionRules.{HasWrongReference}
 use Rattle.elf_object.proofs.KeptPositions.{near_index, position_kept}
 use Rattle.elf_object.proofs.PartSizes.{sound_bits}
 use Rattle.elf_object.proofs.PlacedSections.{own_at}
-use Rattle.elf_object.proofs.ShortLayout.{few_sections, few_symbols, own_below, short_content}
+use Rattle.elf_object.proofs.PlainSections.{own_below}
+use Rattle.elf_object.proofs.ShortLayout.{few_sections, few_symbols, short_content}
 
 -- a position below a small count
 below_count : (k n : ℕ) → n < 2 ^ 31 → (n ≤ k → ⊥) → k + 1 < 2 ^ 32
@@ -43,8 +44,8 @@ short_indexes o (group comdat signature members) few_s few_m right = (
   each_here (λ (m : ℕ). length o.sections ≤ m) (λ m. m + 1 < 2 ^ 32) members (λ m here. below_count m (length o.sections) few_s here) (λ past. right (inr past)),
 )
 
-pub writable : (p : PlacedValue) (i : ℕ) → IsPlaced p → i < length p.object.sections → IsWritable p.object (section_at p.object i)
-writable p i placed lt =
+pub short_numbers : (p : PlacedValue) (i : ℕ) → IsPlaced p → i < length p.object.sections → HasShortNumbers p.object (section_at p.object i)
+short_numbers p i placed lt =
     let o = p.object in
     let s = section_at o i in
     let few = few_sections o p.layout placed.layout in

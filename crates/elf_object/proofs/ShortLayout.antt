@@ -19,7 +19,8 @@ use Rattle.elf_object.specs.PlacedObject.{IsSectionAt, plain_section}
 use Rattle.elf_object.specs.PlainSections.{PlainSection, index_table, index_word, names_at, null_symbol, plain_sections, section_names, sections_before_names, symbol_entry, symbol_names, symbol_table}
 use Rattle.elf_object.proofs.CanonicalLayout.{length-layout_bytes, length-layout_parts}
 use Rattle.elf_object.proofs.LayoutParts.{end_last}
-use Rattle.elf_object.proofs.PlacedSections.{count_far, count_near, either_way, names_at as names_found, strings_at, symbols_at}
+use Rattle.elf_object.proofs.PlacedSections.{names_at as names_found, strings_at, symbols_at}
+use Rattle.elf_object.proofs.PlainSections.{count_far, count_near, either_way, own_below}
 
 -- ---- the sizes of the parts
 
@@ -66,12 +67,6 @@ table_end o layout laid =
 pub few_sections : (o : ObjectValue) (layout : LayoutValue) → IsLayoutOf o layout → length (plain_sections o) < 2 ^ 24
 few_sections o layout laid = let end = table_end o layout laid in omega arith
 
-pub own_below : (o : ObjectValue) → length o.sections + 3 ≤ length (plain_sections o)
-own_below o = elim (either_way o) [
-  | inl near ↦ (let count = count_near o near in omega arith)
-  | inr far ↦ (let count = count_far o far in omega arith)
-]
-
 -- the content of a section that has a position
 pub short_content : (o : ObjectValue) (layout : LayoutValue) (k : ℕ) (s : PlacedSection) → IsLayoutOf o layout → k < length (plain_sections o) → IsSectionAt o k s →
     length (plain_section o s).content ≤ 2 ^ 30
@@ -101,16 +96,26 @@ few_symbols o layout laid =
 
 -- ---- names
 
+pub short_strings : (o : ObjectValue) (layout : LayoutValue) → IsLayoutOf o layout → length (string_table (symbol_names o)) ≤ 2 ^ 30
+short_strings o layout laid =
+    let below = own_below o in
+    let k = length (plain_sections o) - 2 in
+    short_content o layout k Strings laid (omega arith) (strings_at o k (omega arith))
+
+pub short_names : (o : ObjectValue) (layout : LayoutValue) → IsLayoutOf o layout → length (string_table (section_names o)) ≤ 2 ^ 30
+short_names o layout laid =
+    let below = own_below o in
+    let k = length (plain_sections o) - 1 in
+    short_content o layout k Names laid (omega arith) (names_found o k (omega arith))
+
 name_below : (names : List (List ℕ)) (i : ℕ) → i < length names → length (string_table names) ≤ 2 ^ 30 → name_place names (get_or names i []) < 2 ^ 32
 name_below names i lt short = let within = (holds_names names).within i lt in omega arith
 
 pub symbol_name_below : (o : ObjectValue) (layout : LayoutValue) (i : ℕ) → IsLayoutOf o layout → i < length o.symbols →
     name_place (symbol_names o) (get_or (symbol_names o) i []) < 2 ^ 32
 symbol_name_below o layout i laid lt =
-    let below = own_below o in
     let many = length-map o.symbols (λ s. s.name) in
-    let k = length (plain_sections o) - 2 in
-    name_below (symbol_names o) i (omega arith) (short_content o layout k Strings laid (omega arith) (strings_at o k (omega arith)))
+    name_below (symbol_names o) i (omega arith) (short_strings o layout laid)
 
 pub length-section_names : (o : ObjectValue) → length (section_names o) ≡ length (plain_sections o)
 unfolding section_names plain_sections
@@ -125,8 +130,7 @@ pub section_name_below : (o : ObjectValue) (layout : LayoutValue) (i : ℕ) → 
     name_place (section_names o) (get_or (section_names o) i []) < 2 ^ 32
 section_name_below o layout i laid lt =
     let many = length-section_names o in
-    let k = length (plain_sections o) - 1 in
-    name_below (section_names o) i (omega arith) (short_content o layout k Names laid (omega arith) (names_found o k (omega arith)))
+    name_below (section_names o) i (omega arith) (short_names o layout laid)
 
 -- the place of a name, as code reads it
 pub place_read : (names : List (List ℕ)) (places : List ℕ) (i x : ℕ) → places ≡ map (name_place names) names → i < length names → x ≡ get_or places i x →

@@ -24,10 +24,11 @@ use Rattle.elf_object.specs.WrittenObject.{IsWritten, written_sections}
 use Rattle.elf_object.proofs.AllParts.{last_sections}
 use Rattle.elf_object.proofs.CanonicalLayout.{contents_of, header_at, headers_at, identification_kept, layout_order, length-headers_at}
 use Rattle.elf_object.proofs.Elements.{all_of_each}
+use Rattle.elf_object.proofs.PlainSections.{length-plain, no_plain, plain_at, plain_last}
 use Rattle.elf_object.proofs.SoundObject.{no_wrong_alignment}
 use Rattle.elf_object.proofs.WrittenFields.{EachKind, IsBytes-all, PlainFits, each_plain, plain_fits, section_names_are}
 use Rattle.elf_object.proofs.WrittenLengths.{content_short, names_short, table_short}
-use Rattle.elf_object.proofs.WrittenSections.{length-plain, no_plain, plain_at, plain_last, written_section}
+use Rattle.elf_object.proofs.WrittenSections.{written_section}
 
 -- ---- the header
 

@@ -20,7 +20,7 @@ use Rattle.elf_object.specs.Widths.{BodyFits}
 use Rattle.elf_object.proofs.Elements.{none_of_any}
 use Rattle.elf_object.proofs.ReadLists.{map_twice, read_list}
 use Rattle.elf_object.proofs.WrittenEntries.{AreRelocations, flags_word, group_flags_read, member_below, member_count_is, member_read, relocation_count_is, relocation_read, table_relocation}
-use Rattle.elf_object.proofs.WrittenReferences.{HasPositions, kind_of, position_back, symbol_back}
+use Rattle.elf_object.proofs.WrittenReferences.{HasPositions, kind_of_body, position_back, symbol_back}
 
 -- ---- relocations
 
@@ -83,7 +83,7 @@ members_back o left f named comdat members positions few there =
 not_among : (type : ℕ) (bytes : List ℕ) (k other : ℕ) → (IsWrongBits (bits type bytes) → ⊥) → k < 11 → get_or types_without_bits k type ≡ other → type ≢ other
 not_among type bytes k other right lt at = λ same. right (k, lt, at ∙ sym same)
 
-pub kind_back : (b : BodyValue) → (IsWrongBits b → ⊥) → body_kind (body_type b) ≡ kind_of b
+pub kind_back : (b : BodyValue) → (IsWrongBits b → ⊥) → body_kind (body_type b) ≡ kind_of_body b
 kind_back (bits type bytes) right =
     rw (
       ne_eqb type SHT_NOBITS (not_among type bytes 5 SHT_NOBITS right (omega arith) refl),
@@ -130,7 +130,7 @@ group_of_body o f i s comdat signature members holds =
     ap (λ (named : Order). group_in named (section f i).sh_info (content f i)) holds.order ∙ ap₂ (group_in o.order) holds.info holds.content
 
 pub body_back : (o : ObjectValue) (left : LeftOut) (f : Sections) (i : ℕ) (s : SectionValue) (b : BodyValue) → HasPositions o left f → HoldsBody o f i s b → IsBody o s b →
-    body_denoted left f i (kind_of b) ≡ b
+    body_denoted left f i (kind_of_body b) ≡ b
 body_back o left f i s (bits type bytes) positions holds is = ap₂ bits holds.type holds.content
 body_back o left f i s (no_bits size) positions holds is = ap no_bits holds.size
 body_back o left f i s (relocs rela target entries) positions holds is =

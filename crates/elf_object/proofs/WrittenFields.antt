@@ -27,10 +27,10 @@ use Rattle.elf_object.specs.SectionRules.{HasWrongReference, IsWrongBits}
 use Rattle.elf_object.specs.WrittenObject.{IsWritten}
 use Rattle.elf_rules.proofs.Public.{above}
 use Rattle.elf_object.proofs.Elements.{all_of_each, each_of_all}
+use Rattle.elf_object.proofs.PlainSections.{length-plain, no_plain, plain_at, plain_last, plain_own}
 use Rattle.elf_object.proofs.SoundObject.{no_wrong_bits, no_wrong_position}
 use Rattle.elf_object.proofs.WrittenLengths.{own_short, symbols_short}
 use Rattle.elf_object.proofs.AllParts.{last_sections}
-use Rattle.elf_object.proofs.WrittenSections.{length-plain, no_plain, plain_at, plain_last, plain_own}
 
 -- ---- what holds of each kind of section holds of all
 

@@ -10,9 +10,10 @@ use Rattle.elf_object.specs.Object.{ObjectValue, section_at}
 use Rattle.elf_object.specs.PlainSections.{PlainSection, has_index_table, index_table, own_section, section_names, strings, strings_at, symbol_names, symbol_table, symbol_table_at}
 use Rattle.elf_object.specs.WrittenObject.{IsWritten, written_sections}
 use Rattle.elf_object.proofs.AllParts.{last_sections}
+use Rattle.elf_object.proofs.PlainSections.{last_count, length-plain, no_plain, plain_last}
 use Rattle.elf_object.proofs.WrittenKept.{count_of_written, last_some, written_last, written_own}
 use Rattle.elf_object.proofs.WrittenParts.{own_content}
-use Rattle.elf_object.proofs.WrittenSections.{last_count, length-plain, no_plain, plain_last, written_content}
+use Rattle.elf_object.proofs.WrittenSections.{written_content}
 
 -- section i of the file is this one
 pub record IsSectionAt (f : Sections) (i : ℕ) (s : PlainSection) : Type 0 where

@@ -24,7 +24,8 @@ use Rattle.elf_object.proofs.FirstSection.{and_true, first_found, first_missing}
 use Rattle.elf_object.proofs.KeptFront.{filter_own, none_left_out, one_left_out}
 use Rattle.elf_object.proofs.KeptLists.{not_kept_past}
 use Rattle.elf_object.proofs.PartSizes.{sound_bits}
-use Rattle.elf_object.proofs.WrittenSections.{last_count, length-plain, no_plain, plain_last, plain_own, written_count, written_first, written_section}
+use Rattle.elf_object.proofs.PlainSections.{last_count, length-plain, no_plain, plain_last, plain_own}
+use Rattle.elf_object.proofs.WrittenSections.{written_count, written_first, written_section}
 
 -- ---- the section headers of the object's own sections, and of those behind them
 

@@ -16,7 +16,7 @@ use Rattle.elf_object.proofs.WrittenBodies.{HoldsBody, IsBody, body_back, kind_b
 use Rattle.elf_object.proofs.WrittenKept.{written_kept, written_own, written_position}
 use Rattle.elf_object.proofs.WrittenLengths.{own_short, symbols_short}
 use Rattle.elf_object.proofs.WrittenParts.{own_content, written_name, written_order}
-use Rattle.elf_object.proofs.WrittenReferences.{HasPositions, info_back, kind_of, link_back}
+use Rattle.elf_object.proofs.WrittenReferences.{HasPositions, info_back, kind_of_body, link_back}
 
 -- a section of these fields
 abbrev made : List ℕ → ℕ → ℕ → ℕ → ℕ → Option ℕ → Info → BodyValue → SectionValue
@@ -70,13 +70,13 @@ module _ (o : ObjectValue) (places : List ℕ) (written : IsWritten o places) wh
       let left = left_out f in
       let s = section_at o p in
       let own = written_own o places written p lt in
-      let kind : body_kind (section f (suc p)).sh_type ≡ kind_of s.body =
+      let kind : body_kind (section f (suc p)).sh_type ≡ kind_of_body s.body =
       ap (λ (h : Shdr). body_kind h.sh_type) own ∙ kind_back s.body (no_wrong_bits o written.object p lt) in
       let fields = no_wrong_field o written.object p lt in
       let position = no_wrong_position o written.object p lt in
       denoted_with left f (suc p)
       ∙ ap (section_with left f (suc p)) kind
-      ∙ same_section (section_with left f (suc p) (kind_of s.body)) s
+      ∙ same_section (section_with left f (suc p) (kind_of_body s.body)) s
       (written_name o places written p lt)
       (ap (λ (h : Shdr). h.sh_flags) own) (ap (λ (h : Shdr). h.sh_addr) own) (ap (λ (h : Shdr). h.sh_addralign) own) (ap (λ (h : Shdr). h.sh_entsize) own)
       (link_back o left f s (section f (suc p)) s.body positions (λ past. position (inl past)) fields (ap (λ (h : Shdr). h.sh_link) own))

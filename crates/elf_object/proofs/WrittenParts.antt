@@ -20,10 +20,11 @@ use Rattle.elf_object.specs.Object.{ObjectValue, section_at}
 use Rattle.elf_object.specs.PlainSections.{PlainSection, body_bytes, has_index_table, index_table, names_at, plain_sections, section_names, strings_at, symbol_names, symbol_table, symbol_table_at}
 use Rattle.elf_object.specs.WrittenObject.{IsWritten, written_sections}
 use Rattle.elf_object.proofs.AllParts.{last_sections}
+use Rattle.elf_object.proofs.PlainSections.{last_count, length-plain, no_plain, plain_at, plain_last, plain_own}
 use Rattle.elf_object.proofs.SoundObject.{no_zero_in_section_name}
 use Rattle.elf_object.proofs.WrittenFields.{section_names_are}
 use Rattle.elf_object.proofs.WrittenKept.{last_some, own_typed, written_name_table, written_own}
-use Rattle.elf_object.proofs.WrittenSections.{last_count, length-plain, no_plain, plain_at, plain_last, plain_own, written_content}
+use Rattle.elf_object.proofs.WrittenSections.{written_content}
 
 -- ---- the header
 

@@ -32,14 +32,15 @@ use Rattle.elf_object.specs.SectionRules.{HasWrongField, IsAgainstFlag, HasWrong
 use Rattle.elf_object.specs.SymbolRules.{place_position}
 use Rattle.elf_object.specs.WrittenObject.{IsWritten, written_sections}
 use Rattle.elf_object.proofs.AllParts.{last_sections}
+use Rattle.elf_object.proofs.PlainSections.{last_count, no_plain}
 use Rattle.elf_object.proofs.SoundObject.{no_wrong_bits, no_wrong_field, no_wrong_place, no_wrong_position}
 use Rattle.elf_object.proofs.WrittenBodies.{kind_back}
 use Rattle.elf_object.proofs.WrittenFile.{by_section, last_at, own_at}
 use Rattle.elf_object.proofs.WrittenGroupRules.{group_count, group_member, group_member_below, members_right}
 use Rattle.elf_object.proofs.WrittenKept.{own_is_kept, own_of_kept}
-use Rattle.elf_object.proofs.WrittenReferences.{kind_of}
+use Rattle.elf_object.proofs.WrittenReferences.{kind_of_body}
 use Rattle.elf_object.proofs.WrittenRelocationRules.{relocation_target}
-use Rattle.elf_object.proofs.WrittenSections.{last_count, no_plain, written_first}
+use Rattle.elf_object.proofs.WrittenSections.{written_first}
 use Rattle.elf_object.proofs.WrittenSymbolRules.{written_parts}
 use Rattle.elf_object.proofs.WrittenSymbols.{by_entry, far_word}
 
@@ -93,11 +94,11 @@ symbols_inside o places written x (j, lt, outside, here) =
 -- ---- bodies by their kinds
 
 pub own_kind : (o : ObjectValue) (places : List ℕ) → IsWritten o places → (p : ℕ) → p < length o.sections →
-    body_kind (section (written_sections o places) (suc p)).sh_type ≡ kind_of (section_at o p).body
+    body_kind (section (written_sections o places) (suc p)).sh_type ≡ kind_of_body (section_at o p).body
 own_kind o places written p lt =
     ap (λ (type : ℕ). body_kind type) (own_at o places written p lt).sh_type ∙ kind_back (section_at o p).body (no_wrong_bits o written.object p lt)
 
-is_relocations : (b : BodyValue) → kind_of b ≡ Relocs → (rela : Bool) × (target : ℕ) × (entries : List Relocation) × (b ≡ relocs rela target entries)
+is_relocations : (b : BodyValue) → kind_of_body b ≡ Relocs → (rela : Bool) × (target : ℕ) × (entries : List Relocation) × (b ≡ relocs rela target entries)
 is_relocations (bits type bytes) is = cc
 is_relocations (no_bits size) is = cc
 is_relocations (relocs rela target entries) is = (rela, target, entries, refl)
@@ -110,7 +111,7 @@ is_group_body (relocs true target entries) right is = absurd (omega arith)
 is_group_body (relocs false target entries) right is = absurd (omega arith)
 is_group_body (group comdat signature members) right is = (comdat, signature, members, refl)
 
-kind_of_bits : (b : BodyValue) → is_bits b ≡ true → kind_of b ≡ Bits
+kind_of_bits : (b : BodyValue) → is_bits b ≡ true → kind_of_body b ≡ Bits
 kind_of_bits (bits type bytes) is = refl
 kind_of_bits (no_bits size) is = cc
 kind_of_bits (relocs rela target entries) is = cc
@@ -132,10 +133,10 @@ last_is_bits o false (suc (suc (suc k))) lt = absurd (omega arith)
 module _ (o : ObjectValue) (places : List ℕ) (written : IsWritten o places) where
   -- a section of another kind is one of the object's own
   own_of_kind : (kind : BodyKind) → (Bits ≡ kind → ⊥) → (i : ℕ) → i < count (written_sections o places) → body_kind (section (written_sections o places) i).sh_type ≡ kind →
-      (p : ℕ) × (p < length o.sections) × (i ≡ suc p) × (kind_of (section_at o p).body ≡ kind)
+      (p : ℕ) × (p < length o.sections) × (i ≡ suc p) × (kind_of_body (section_at o p).body ≡ kind)
   own_of_kind kind other =
       by_section o places written (λ i. body_kind (section (written_sections o places) i).sh_type ≡ kind →
-      (p : ℕ) × (p < length o.sections) × (i ≡ suc p) × (kind_of (section_at o p).body ≡ kind))
+      (p : ℕ) × (p < length o.sections) × (i ≡ suc p) × (kind_of_body (section_at o p).body ≡ kind))
       (λ is. absurd (other (sym (ap (λ (s : Shdr). body_kind s.sh_type) (written_first o places written)) ∙ is)))
       (λ p lt is. (p, lt, refl, sym (own_kind o places written p lt) ∙ is))
       (λ k lt is. absurd (other (sym (last_is_bits o (has_index_table o) k lt) ∙ sym (ap (λ (type : ℕ). body_kind type) (last_at o places written (has_index_table o) refl k lt).sh_type) ∙ is)))
@@ -238,7 +239,7 @@ module _ (o : ObjectValue) (places : List ℕ) (written : IsWritten o places) wh
   info_kept i flags (Section p) at right there has out = index_kept i p at there out
 
   -- what the rules of objects say of a section of bits, or without them
-  plain_body : (p : ℕ) (b : BodyValue) → (section_at o p).body ≡ b → p < length o.sections → (kind_of b ≡ Bits) ⊎ (kind_of b ≡ NoBits) →
+  plain_body : (p : ℕ) (b : BodyValue) → (section_at o p).body ≡ b → p < length o.sections → (kind_of_body b ≡ Bits) ⊎ (kind_of_body b ≡ NoBits) →
       ((section (written_sections o places) (suc p)).sh_link ≡ index_of (section_at o p).link) ×
       ((section (written_sections o places) (suc p)).sh_info ≡ own_info (section_at o p).info) ×
       (IsAgainstFlag (section_at o p).flags (section_at o p).info → ⊥)

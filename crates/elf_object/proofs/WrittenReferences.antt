@@ -52,14 +52,14 @@ no_info (info.Number (suc n)) is = absurd (is (λ same. (let zero_is : suc n ≡
 no_info (info.Section p) is = absurd (is (λ same. cc))
 
 -- what the section with this body is read as
-abbrev pub kind_of : BodyValue → BodyKind
-kind_of (bits type content) = Bits
-kind_of (no_bits size) = NoBits
-kind_of (relocs rela target entries) = Relocs
-kind_of (group comdat signature members) = Group
+abbrev pub kind_of_body : BodyValue → BodyKind
+kind_of_body (bits type content) = Bits
+kind_of_body (no_bits size) = NoBits
+kind_of_body (relocs rela target entries) = Relocs
+kind_of_body (group comdat signature members) = Group
 
 pub link_back : (o : ObjectValue) (left : LeftOut) (f : Sections) (s : SectionValue) (h : Shdr) (b : BodyValue) → HasPositions o left f →
-    (IsPast (length o.sections) s.link → ⊥) → (HasWrongField s b → ⊥) → h.sh_link ≡ body_link o s b → link_denoted left f h (kind_of b) ≡ s.link
+    (IsPast (length o.sections) s.link → ⊥) → (HasWrongField s b → ⊥) → h.sh_link ≡ body_link o s b → link_denoted left f h (kind_of_body b) ≡ s.link
 link_back o left f s h (bits type content) positions there right is = ap (section_reference left f) is ∙ reference_back o left f s.link positions there
 link_back o left f s h (no_bits size) positions there right is = ap (section_reference left f) is ∙ reference_back o left f s.link positions there
 link_back o left f s h (relocs rela target entries) positions there right is = no_link s.link (λ other. right (inl (inl other)))
@@ -78,7 +78,7 @@ plain_info_back o left f h flags (info.Section p) positions there right is_flags
 
 pub info_back : (o : ObjectValue) (left : LeftOut) (f : Sections) (s : SectionValue) (h : Shdr) (b : BodyValue) → HasPositions o left f →
     (IsPast (length o.sections) (info_position s.info) → ⊥) → (HasWrongField s b → ⊥) → h.sh_flags ≡ s.flags → h.sh_info ≡ body_info s b →
-    info_denoted left f h (kind_of b) ≡ s.info
+    info_denoted left f h (kind_of_body b) ≡ s.info
 info_back o left f s h (bits type content) positions there right flags is = plain_info_back o left f h s.flags s.info positions there right flags is
 info_back o left f s h (no_bits size) positions there right flags is = plain_info_back o left f h s.flags s.info positions there right flags is
 info_back o left f s h (relocs rela target entries) positions there right flags is = no_info s.info (λ other. right (inl (inr other)))

@@ -16,7 +16,7 @@ use Rattle.elf_object.proofs.WrittenFile.{indexes_at}
 use Rattle.elf_object.proofs.WrittenGroupRules.{group_rules_kept}
 use Rattle.elf_object.proofs.WrittenKept.{written_kept, written_symbol_table}
 use Rattle.elf_object.proofs.WrittenReferenceRules.{own_kind, references_kept, symbols_inside}
-use Rattle.elf_object.proofs.WrittenReferences.{kind_of}
+use Rattle.elf_object.proofs.WrittenReferences.{kind_of_body}
 use Rattle.elf_object.proofs.WrittenRelocationRules.{relocation_rules_kept}
 use Rattle.elf_object.proofs.WrittenSymbolRules.{symbol_rules_kept}
 use Rattle.elf_object.proofs.WrittenTypes.{type_tells}
@@ -64,7 +64,7 @@ module _ (o : ObjectValue) (places : List ℕ) (written : IsWritten o places) wh
 
   -- ---- the tables of the object's own sections
 
-  own_tables_kept : (p : ℕ) → p < length o.sections → (b : BodyValue) → (section_at o p).body ≡ b → FirstIn (rules_of_body (kind_of b) (written_sections o places) (suc p)) None
+  own_tables_kept : (p : ℕ) → p < length o.sections → (b : BodyValue) → (section_at o p).body ≡ b → FirstIn (rules_of_body (kind_of_body b) (written_sections o places) (suc p)) None
   own_tables_kept p below (bits type bytes) is = tt
   own_tables_kept p below (no_bits size) is = tt
   own_tables_kept p below (relocs rela target entries) is = relocation_rules_kept o places written p below rela target entries is

@@ -9,10 +9,11 @@ use Rattle.elf_object.specs.PlainSections.{body_type, has_index_table, symbol_ta
 use Rattle.elf_object.specs.SectionRules.{IsWrongBits}
 use Rattle.elf_object.specs.WrittenObject.{IsWritten, written_sections}
 use Rattle.elf_object.proofs.AllParts.{last_sections}
+use Rattle.elf_object.proofs.PlainSections.{last_count, no_plain}
 use Rattle.elf_object.proofs.SoundObject.{no_wrong_bits}
 use Rattle.elf_object.proofs.WrittenFile.{by_section, last_at, own_at}
 use Rattle.elf_object.proofs.WrittenKept.{indexes_no_body, own_type, symbols_no_body}
-use Rattle.elf_object.proofs.WrittenSections.{last_count, no_plain, written_first}
+use Rattle.elf_object.proofs.WrittenSections.{written_first}
 
 -- what the type of a section says of its index: the symbols' tables are there once, and no type that objects don't have is
 pub record TellsIndex (o : ObjectValue) (i type : ℕ) : Type 0 where

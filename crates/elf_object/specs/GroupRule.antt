@@ -26,11 +26,11 @@ abbrev pub HasWrongMember : ObjectValue → ℕ → Type 0
 HasWrongMember o i = let members = members_of (section_at o i).body in SomeIndex members (IsWrongMember o i members)
 
 -- rule 6: a group has such a member
-abbrev pub wrong_member : ObjectValue → Row
-wrong_member o = AtEntry (length o.sections) (HasWrongMember o) (λ i. i)
+abbrev pub wrong_membership : ObjectValue → Row
+wrong_membership o = AtEntry (length o.sections) (HasWrongMember o) (λ i. i)
 
 unfoldable pub group_rules : ObjectValue → List {1} Ruled
-group_rules o = rule 6 (wrong_member o) ∷ []
+group_rules o = rule 6 (wrong_membership o) ∷ []
 
 -- each section has a mark just where it is one of the first j of these members of section i, or a member of a group before it
 pub record AreMarked (o : ObjectValue) (i : ℕ) (members : List ℕ) (j : ℕ) (marks : List Bool) : Type 0 where

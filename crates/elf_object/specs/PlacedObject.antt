@@ -55,7 +55,7 @@ HasShortIndexes (no_bits size) = Unit {0}
 HasShortIndexes (relocs rela target entries) = (target + 1 < 2 ^ 32) × All (λ entry. index_of entry.symbol < 2 ^ 32) entries
 HasShortIndexes (group comdat signature members) = (signature + 1 < 2 ^ 32) × All (λ member. member + 1 < 2 ^ 32) members
 
-pub record IsWritable (o : ObjectValue) (s : SectionValue) : Type 0 where
+pub record HasShortNumbers (o : ObjectValue) (s : SectionValue) : Type 0 where
   pub right : ¬ IsWrongBits s.body
   pub link : index_of s.link < 2 ^ 32
   pub info : index_of (info_position s.info) < 2 ^ 32

@@ -3,11 +3,11 @@ ghost use Rattle.std.specs.Prelude.{◌≡◌, ◌<◌, ◌+◌, ◌^◌, All, i
 ghost use Rattle.elf_field.specs.Abi.{GRP_COMDAT};
 ghost use Rattle.elf_object.specs.PlainSections.{group_words, index_of, rel_entry, rela_entry, relocation_info};
 
-use crate::entries::Entries;
 use crate::indexes::index_of;
 use crate::relocation::Relocation;
 use elf_field::abi::*;
 use elf_field::{Rel, Rela};
+use elf_image::entries::Entries;
 
 /// The entries of a section of type `SHT_RELA`.
 #[derive(Drop)]

@@ -3,11 +3,10 @@ ghost use Rattle.std.specs.Prelude.{◌≡◌, ◌<◌, ◌≤◌, ◌^◌, All,
 ghost use Rattle.elf_image.specs.Output.{Writes};
 ghost use Rattle.elf_object.specs.Object.{section_at};
 ghost use Rattle.elf_object.specs.ObjectView.{body_value, section_value};
-ghost use Rattle.elf_object.specs.PlacedObject.{HasShortIndexes, IsThere, IsWritable, plain_section};
+ghost use Rattle.elf_object.specs.PlacedObject.{HasShortIndexes, HasShortNumbers, IsThere, plain_section};
 ghost use Rattle.elf_object.specs.PlainSections.{body_bytes, index_of, index_table, own_section, relocation_bytes, symbol_table};
 
 use crate::body_entries::{GroupWords, RelEntries, RelaEntries};
-use crate::entries::write_entries;
 use crate::layout_parts::content_part;
 use crate::placed_object::PlacedObject;
 use crate::placed_section::PlacedSection;
@@ -16,6 +15,7 @@ use crate::section::{Body, Section};
 use crate::symbol_entries::{IndexWords, SymbolEntries, symbol_count};
 use elf_field::Order;
 use elf_field::abi::*;
+use elf_image::entries::write_entries;
 use elf_image::{WriteFault, write_whole};
 use std::io::Write;
 
@@ -59,7 +59,7 @@ fn write_index_table<W: Write>(
 pub(crate) fn own_section<'o, 'a>(placed: &PlacedObject<'o, 'a>, position: usize) -> &'o Section<'a>
     requires { position < length placed.now.object.sections }
     ensures value { section_value result.now ≡ section_at placed.now.object position }
-    ensures fits { IsWritable placed.now.object (section_value result.now) }
+    ensures fits { HasShortNumbers placed.now.object (section_value result.now) }
 {
     placed.is_placed();
     &placed.object().sections()[position]

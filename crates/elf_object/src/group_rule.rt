@@ -2,7 +2,7 @@
 ghost use Rattle.std.specs.Prelude.{◌≡◌, ◌↔◌, ◌+◌, ◌<◌, ◌≤◌, ◌⊎◌, IfOk, IsTrue, [], length};
 ghost use Rattle.std.specs.Bool.{OnFalse};
 ghost use Rattle.elf_extent.specs.Least.{IsLowest};
-ghost use Rattle.elf_object.specs.GroupRule.{AreMarked, CannotJoin, HasWrongMember, wrong_member};
+ghost use Rattle.elf_object.specs.GroupRule.{AreMarked, CannotJoin, HasWrongMember, wrong_membership};
 ghost use Rattle.elf_object.specs.ObjectView.{value_of};
 
 use crate::parts::ObjectParts;
@@ -17,7 +17,7 @@ pub(crate) fn lowest_wrong_group(
     alloc: Global,
     parts: &ObjectParts<'_>,
 ) -> Result<Option<usize>, AllocError>
-    ensures { IfOk result (IsLowest (wrong_member (value_of parts.now))) }
+    ensures { IfOk result (IsLowest (wrong_membership (value_of parts.now))) }
 {
     let mut marks = vec![in alloc; false; parts.sections.len()]?;
     for i in 0..parts.sections.len() {

@@ -29,7 +29,6 @@
 mod body_entries;
 mod body_kind;
 mod contents;
-mod entries;
 mod fault;
 mod file_header;
 mod file_rules;

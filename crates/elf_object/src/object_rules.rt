@@ -24,7 +24,7 @@ pub(crate) fn judge(alloc: Global, parts: &ObjectParts<'_>) -> Result<(), Object
     }
     if let Some(position) = lowest_wrong_group(alloc, parts)? {
         return Err(ObjectFault::Section {
-            rule: WRONG_MEMBER,
+            rule: WRONG_MEMBERSHIP,
             position,
         });
     }

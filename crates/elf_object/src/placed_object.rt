@@ -64,12 +64,6 @@ impl<'o, 'a> PlacedObject<'o, 'a> {
         self.object
     }
 
-    pub(crate) fn layout(&self) -> &Layout
-        ensures { result.now ≡ self.now.layout }
-    {
-        &self.layout
-    }
-
     /// The bytes of `.strtab`.
     pub(crate) fn strings(&self) -> &[u8]
         ensures { result.now ≡ string_table (symbol_names self.now.object) }

@@ -9,13 +9,13 @@ ghost use Rattle.elf_object.specs.PlacedObject.{IsThere, plain_section};
 ghost use Rattle.elf_object.specs.PlainSections.{PlainSection, plain_sections};
 
 use crate::contents::{content_size, write_content};
-use crate::entries::write_entries;
 use crate::file_header::file_header;
 use crate::placed_object::PlacedObject;
 use crate::placed_section::PlacedSection;
 use crate::section_headers::SectionHeaders;
 use elf_field::abi::*;
 use elf_image::WriteFault;
+use elf_image::entries::write_entries;
 use elf_image::output::{write_records, write_zeros};
 use std::io::Write;
 

@@ -12,7 +12,7 @@ pub const WRONG_POSITION: u16 = 4;
 /// A section's `info`, `link`, entry size or addends are not those of its flags and body.
 pub const WRONG_FIELD: u16 = 5;
 /// A group has a member that is not behind it, was named before, is a group, or lacks the flag `SHF_GROUP`.
-pub const WRONG_MEMBER: u16 = 6;
+pub const WRONG_MEMBERSHIP: u16 = 6;
 /// A symbol's name has a zero byte.
 pub const ZERO_IN_SYMBOL_NAME: u16 = 7;
 /// A symbol is defined in a section that isn't there.

@@ -11,7 +11,6 @@ ghost use Rattle.elf_object.specs.Positions.{info_position};
 ghost use Rattle.elf_rules.specs.Tables.{no_section};
 
 use crate::contents::{content_size, own_section};
-use crate::entries::Entries;
 use crate::indexes::{index_of, long_number};
 use crate::placed_object::PlacedObject;
 use crate::placed_section::PlacedSection;
@@ -20,6 +19,7 @@ use crate::symbol::Symbol;
 use crate::symbol_entries::symbol_count;
 use elf_field::Shdr;
 use elf_field::abi::*;
+use elf_image::entries::Entries;
 
 /// A section header all of whose fields are 0.
 const NO_HEADER: Shdr = Shdr {

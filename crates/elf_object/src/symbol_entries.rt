@@ -5,12 +5,12 @@ ghost use Rattle.elf_object.specs.ObjectView.{symbol_value};
 ghost use Rattle.elf_object.specs.PlainSections.{index_of, index_word, null_symbol, symbol_entry};
 ghost use Rattle.elf_object.specs.SymbolRules.{place_position};
 
-use crate::entries::Entries;
 use crate::indexes::{index_word, shndx};
 use crate::placed_object::PlacedObject;
 use crate::symbol::Symbol;
 use elf_field::Sym;
 use elf_field::abi::*;
+use elf_image::entries::Entries;
 
 /// The entries of `.symtab`.
 #[derive(Drop)]

@@ -1,8 +1,8 @@
 use Rattle.std.proofs.Common.{◌≡◌, sym, ap, subst, ◌∙◌}
 use Rattle.elf_object.specs.Object.{section_at}
 use Rattle.elf_object.specs.ObjectView.{section_value}
-use Rattle.elf_object.specs.PlacedObject.{IsWritable}
-use Rattle.elf_object.proofs.OwnSections.{section_read, writable}
+use Rattle.elf_object.specs.PlacedObject.{HasShortNumbers}
+use Rattle.elf_object.proofs.OwnSections.{section_read, short_numbers}
 use Rattle.elf_object.proofs.contents.own_section.Goals as goal
 
 pub returns : goal.returns
@@ -11,4 +11,4 @@ returns c =
     let s = c.index-sections-position.result in
     let read : section_value s ≡ section_at p.object c.args.position =
     ap section_value c.index-sections-position.is ∙ section_read p.object c.sections.result.now c.args.position s (c.sections.ensures ∙ ap (λ o. o.sections) c.object.ensures) c.requires in
-    record { value = read; fits = subst (IsWritable p.object) (sym read) (writable p c.args.position c.is_placed.ensures c.requires) }
+    record { value = read; fits = subst (HasShortNumbers p.object) (sym read) (short_numbers p c.args.position c.is_placed.ensures c.requires) }

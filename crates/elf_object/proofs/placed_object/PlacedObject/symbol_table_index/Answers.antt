@@ -1,5 +1,5 @@
 use Rattle.std.proofs.Common.{arith}
-use Rattle.elf_object.proofs.ShortLayout.{own_below}
+use Rattle.elf_object.proofs.PlainSections.{own_below}
 use Rattle.elf_object.proofs.placed_object.PlacedObject.symbol_table_index.Goals as goal
 
 pub overflow_add-result : goal.overflow_add-result
