@@ -165,8 +165,8 @@ fn one_section_in_both_orders(rt: HostRuntime) -> Result<(), Fail> {
 
 // ---- all fields of the header, links, places of symbols, and relocations without addends
 
-/// Sections without bytes and with a link to another one, relocations, and a symbol of each place.
-fn many_fields(alloc: Global, order: Order) -> Result<Object<'static>, Fail> {
+/// Sections without bytes and with a link to another one, and relocations.
+fn many_sections(alloc: Global) -> Result<Vec<Section<'static>>, AllocError> {
     let entry = Relocation {
         offset: 0x10,
         symbol: None,
@@ -192,7 +192,12 @@ fn many_fields(alloc: Global, order: Order) -> Result<Object<'static>, Fail> {
         entsize: 16,
         ..section(b"a", 0, 8, relocs)
     };
-    let symbols = vec![in alloc;
+    vec![in alloc; space, bits, relocs]
+}
+
+/// A symbol of each place.
+fn many_symbols(alloc: Global) -> Result<Vec<Symbol<'static>>, AllocError> {
+    vec![in alloc;
         Symbol {
             info: 3,
             other: 2,
@@ -208,79 +213,70 @@ fn many_fields(alloc: Global, order: Order) -> Result<Object<'static>, Fail> {
             ..function(b"ab", Place::Common)
         },
         function(b"b", Place::Undef),
-    ]?;
+    ]
+}
+
+fn many_fields(alloc: Global, order: Order) -> Result<Object<'static>, Fail> {
     let parts = ObjectParts {
         order,
         osabi: 3,
         abi: 4,
         machine: 0x1234,
         flags: 0x89abcdef,
-        sections: vec![in alloc; space, bits, relocs]?,
-        symbols,
+        sections: many_sections(alloc)?,
+        symbols: many_symbols(alloc)?,
     };
     Ok(Object::new(alloc, parts)?)
+}
+
+/// The symbol table of its file, behind the symbol of index 0.
+const MANY_SYMBOLS: [Field; 17] = [
+    (116, 1, 3),
+    (117, 1, 2),
+    (118, 2, 1),
+    (128, 8, 1),
+    (136, 4, 1),
+    (140, 1, 0x12),
+    (142, 2, 0xfff1),
+    (144, 8, 5),
+    (152, 8, 1),
+    (160, 4, 3),
+    (164, 1, 0x12),
+    (166, 2, 0xfff2),
+    (168, 8, 16),
+    (176, 8, 0x87654321),
+    (184, 4, 1),
+    (188, 1, 0x12),
+    (200, 8, 1),
+];
+
+fn many_fields_file(order: Order) -> [u8; 696] {
+    let mut file = [0; 696];
+    set_table(&mut file, order, 248, 7, 6);
+    let header = [(7, 1, 3), (8, 1, 4), (18, 2, 0x1234), (48, 4, 0x89abcdef)];
+    set(&mut file, order, &header);
+    set_bytes(&mut file, 64, b"123");
+    set(&mut file, order, &[(72, 8, 0x10), (80, 8, 7)]);
+    set(&mut file, order, &MANY_SYMBOLS);
+    set_bytes(&mut file, 208, b"\0b\0ab\0");
+    set_bytes(&mut file, 214, b"\0a\0b\0.symtab\0.strtab\0.shstrtab\0");
+    let space = [1, 8, 3, 64, 0x123456789, 2, 0, 0x1000, 0];
+    set_section(&mut file, order, 312, space);
+    set(&mut file, order, &[(328, 8, 0x1000)]);
+    set_section(&mut file, order, 376, [3, 7, 0x40, 64, 3, 0, 1, 0, 8]);
+    set_section(&mut file, order, 440, [1, 9, 0, 72, 16, 4, 2, 8, 16]);
+    set_section(&mut file, order, 504, [5, 2, 0, 88, 120, 5, 2, 8, 24]);
+    set_section(&mut file, order, 568, [13, 3, 0, 208, 6, 0, 0, 1, 0]);
+    set_section(&mut file, order, 632, [21, 3, 0, 214, 31, 0, 0, 1, 0]);
+    file
 }
 
 #[test]
 fn all_fields_of_an_object(rt: HostRuntime) -> Result<(), Fail> {
     let alloc = rt.alloc();
     for order in ORDERS {
-        let mut file = [0; 696];
-        set_table(&mut file, order, 248, 7, 6);
-        set(
-            &mut file,
-            order,
-            &[(7, 1, 3), (8, 1, 4), (18, 2, 0x1234), (48, 4, 0x89abcdef)],
-        );
-        set_bytes(&mut file, 64, b"123");
-        set(&mut file, order, &[(72, 8, 0x10), (80, 8, 7)]);
-        set(
-            &mut file,
-            order,
-            &[(116, 1, 3), (117, 1, 2), (118, 2, 1), (128, 8, 1)],
-        );
-        set(
-            &mut file,
-            order,
-            &[
-                (136, 4, 1),
-                (140, 1, 0x12),
-                (142, 2, 0xfff1),
-                (144, 8, 5),
-                (152, 8, 1),
-            ],
-        );
-        set(
-            &mut file,
-            order,
-            &[
-                (160, 4, 3),
-                (164, 1, 0x12),
-                (166, 2, 0xfff2),
-                (168, 8, 16),
-                (176, 8, 0x87654321),
-            ],
-        );
-        set(
-            &mut file,
-            order,
-            &[(184, 4, 1), (188, 1, 0x12), (200, 8, 1)],
-        );
-        set_bytes(&mut file, 208, b"\0b\0ab\0");
-        set_bytes(&mut file, 214, b"\0a\0b\0.symtab\0.strtab\0.shstrtab\0");
-        set_section(
-            &mut file,
-            order,
-            312,
-            [1, 8, 3, 64, 0x123456789, 2, 0, 0x1000, 0],
-        );
-        set(&mut file, order, &[(328, 8, 0x1000)]);
-        set_section(&mut file, order, 376, [3, 7, 0x40, 64, 3, 0, 1, 0, 8]);
-        set_section(&mut file, order, 440, [1, 9, 0, 72, 16, 4, 2, 8, 16]);
-        set_section(&mut file, order, 504, [5, 2, 0, 88, 120, 5, 2, 8, 24]);
-        set_section(&mut file, order, 568, [13, 3, 0, 208, 6, 0, 0, 1, 0]);
-        set_section(&mut file, order, 632, [21, 3, 0, 214, 31, 0, 0, 1, 0]);
-        assert_written(&rt, alloc, &many_fields(alloc, order)?, &file)?;
+        let object = many_fields(alloc, order)?;
+        assert_written(&rt, alloc, &object, &many_fields_file(order))?;
     }
     Ok(())
 }

@@ -1,9 +1,9 @@
 //! Dynamic sections: a file that names one library.
+use crate::verdicts::{Table, verdict_of};
 use elf_field::{Dyn, Order};
 use elf_image::{Fault, parse};
 use elf_table::Dynamic;
 use elf_test_files::{Field, set, set_header};
-use std::alloc::Global;
 use std::test::Fail;
 
 /// A dynamic section of two entries at 64, its string table at 96, and the section headers at 104.
@@ -30,14 +30,6 @@ fn dynamic() -> [u8; 296] {
     let mut file = [0; 296];
     set_header(&mut file, Order::Little, &DYNAMIC);
     file
-}
-
-fn verdict_of(alloc: Global, file: &[u8]) -> Result<(), Fault> {
-    let image = parse(alloc, file)?;
-    if image.section_count() > 1 {
-        Dynamic::new(&image, 1)?;
-    }
-    Ok(())
 }
 
 #[test]
@@ -71,7 +63,10 @@ fn tells_the_first_rule_that_a_dynamic_section_breaks(rt: HostRuntime) -> Result
             rule: *rule,
             at: *at,
         };
-        assert_eq!(rt; verdict_of(rt.alloc(), &file), Err(fault));
+        assert_eq!(rt;
+            verdict_of(rt.alloc(), &file, 1, Table::Dynamic),
+            Err(fault)
+        );
     }
     Ok(())
 }

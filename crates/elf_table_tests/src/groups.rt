@@ -1,9 +1,9 @@
 //! Section groups: a file of one group.
+use crate::verdicts::{Table, verdict_of};
 use elf_field::Order;
 use elf_image::{Fault, parse};
 use elf_table::{Group, Tables};
 use elf_test_files::{Field, set, set_header};
-use std::alloc::Global;
 use std::test::Fail;
 
 /// A group of one section, at 64 with room for a further member; that section at 76; two symbols at 80 and their names at 128; and
@@ -51,14 +51,6 @@ fn group() -> [u8; 456] {
     file
 }
 
-fn verdict_of(alloc: Global, file: &[u8]) -> Result<(), Fault> {
-    let image = parse(alloc, file)?;
-    if image.section_count() > 1 {
-        Group::new(alloc, &image, 1)?;
-    }
-    Ok(())
-}
-
 #[test]
 fn tells_a_group_and_its_members(rt: HostRuntime) -> Result<(), Fail> {
     let file = group();
@@ -82,7 +74,7 @@ fn judges_a_group_with_the_other_tables(rt: HostRuntime) -> Result<(), Fail> {
     let tables = Tables::new(rt.alloc(), &image)?;
     assert_eq!(rt; tables.verdict(1).is_err(), true);
     assert_eq!(rt;
-        verdict_of(rt.alloc(), &file),
+        verdict_of(rt.alloc(), &file, 1, Table::Group),
         Err(Fault::Rule { rule: 41, at: 129 })
     );
     Ok(())
@@ -112,7 +104,7 @@ fn tells_the_first_rule_that_a_group_breaks(rt: HostRuntime) -> Result<(), Fail>
             rule: *rule,
             at: *at,
         };
-        assert_eq!(rt; verdict_of(rt.alloc(), &file), Err(fault));
+        assert_eq!(rt; verdict_of(rt.alloc(), &file, 1, Table::Group), Err(fault));
     }
     Ok(())
 }

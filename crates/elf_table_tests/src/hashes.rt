@@ -1,9 +1,9 @@
 //! Hash tables: of three names.
+use crate::verdicts::{Table, verdict_of};
 use elf_field::Order;
 use elf_image::{Fault, parse};
 use elf_table::{Hash, HashFault, build_hash, elf_hash};
 use elf_test_files::{Field, set, set_header};
-use std::alloc::Global;
 use std::test::Fail;
 
 /// A hash table of two buckets at 64, four symbols at 96, their names at 192, and the section headers at 208.
@@ -48,14 +48,6 @@ fn hash() -> [u8; 464] {
     let mut file = [0; 464];
     set_header(&mut file, Order::Little, &HASH);
     file
-}
-
-fn verdict_of(alloc: Global, file: &[u8]) -> Result<(), Fault> {
-    let image = parse(alloc, file)?;
-    if image.section_count() > 1 {
-        Hash::new(alloc, &image, 1)?;
-    }
-    Ok(())
 }
 
 #[test]
@@ -120,7 +112,7 @@ fn tells_the_first_rule_that_a_hash_table_breaks(rt: HostRuntime) -> Result<(), 
             rule: *rule,
             at: *at,
         };
-        assert_eq!(rt; verdict_of(rt.alloc(), &file), Err(fault));
+        assert_eq!(rt; verdict_of(rt.alloc(), &file, 1, Table::Hash), Err(fault));
     }
     Ok(())
 }

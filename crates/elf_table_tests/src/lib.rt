@@ -11,3 +11,5 @@ mod hashes;
 mod notes;
 #[cfg(test)]
 mod symbols;
+#[cfg(test)]
+mod verdicts;

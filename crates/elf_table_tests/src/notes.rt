@@ -1,9 +1,9 @@
 //! Note sections: a file of one note.
+use crate::verdicts::{Table, verdict_of};
 use elf_field::Order;
 use elf_image::{Fault, parse};
 use elf_table::{Note, Notes};
 use elf_test_files::{Field, set, set_header};
-use std::alloc::Global;
 use std::test::Fail;
 
 /// A note section of one note, whose 20 bytes stand at 64, and the section headers at 88.
@@ -26,14 +26,6 @@ fn note() -> [u8; 216] {
     let mut file = [0; 216];
     set_header(&mut file, Order::Little, &NOTE);
     file
-}
-
-fn verdict_of(alloc: Global, file: &[u8]) -> Result<(), Fault> {
-    let image = parse(alloc, file)?;
-    if image.section_count() > 1 {
-        Notes::new(&image, 1)?;
-    }
-    Ok(())
 }
 
 #[test]
@@ -70,7 +62,7 @@ fn tells_the_first_rule_that_notes_break(rt: HostRuntime) -> Result<(), Fail> {
             rule: *rule,
             at: *at,
         };
-        assert_eq!(rt; verdict_of(rt.alloc(), &file), Err(fault));
+        assert_eq!(rt; verdict_of(rt.alloc(), &file, 1, Table::Notes), Err(fault));
     }
     Ok(())
 }

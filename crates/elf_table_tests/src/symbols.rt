@@ -1,4 +1,5 @@
 //! String tables and symbol tables: of an object of a call, and of a file that has every part of a symbol table.
+use crate::verdicts::{Table, verdict_of};
 use elf_field::Order;
 use elf_image::{Fault, parse};
 use elf_table::{Place, Relocation, Relocs, Strings, Symbol, Symbols, Tables};
@@ -193,22 +194,20 @@ fn judges_every_table_of_an_image(rt: HostRuntime) -> Result<(), Fail> {
     Ok(())
 }
 
-fn strings_verdict(alloc: Global, file: &[u8], i: usize) -> Result<(), Fault> {
-    let image = parse(alloc, file)?;
-    if image.section_count() > i {
-        Strings::new(&image, i)?;
-    }
-    Ok(())
-}
-
 #[test]
 fn tells_the_first_rule_that_a_string_table_breaks(rt: HostRuntime) -> Result<(), Fail> {
     let mut file = symbols(Order::Big);
     let of_type = Fault::Rule { rule: 40, at: 352 };
-    assert_eq!(rt; strings_verdict(rt.alloc(), &file, 3), Err(of_type));
+    assert_eq!(rt;
+        verdict_of(rt.alloc(), &file, 3, Table::Strings),
+        Err(of_type)
+    );
     file[139] = 1;
     let unclosed = Fault::Rule { rule: 41, at: 139 };
-    assert_eq!(rt; strings_verdict(rt.alloc(), &file, 2), Err(unclosed));
+    assert_eq!(rt;
+        verdict_of(rt.alloc(), &file, 2, Table::Strings),
+        Err(unclosed)
+    );
     Ok(())
 }
 
@@ -230,14 +229,6 @@ fn tells_each_relocation(rt: HostRuntime) -> Result<(), Fail> {
     Ok(())
 }
 
-fn relocs_verdict(alloc: Global, file: &[u8]) -> Result<(), Fault> {
-    let image = parse(alloc, file)?;
-    if image.section_count() > 2 {
-        Relocs::new(&image, 2)?;
-    }
-    Ok(())
-}
-
 #[test]
 fn tells_the_first_rule_that_relocations_break(rt: HostRuntime) -> Result<(), Fail> {
     let broken = [
@@ -256,7 +247,7 @@ fn tells_the_first_rule_that_relocations_break(rt: HostRuntime) -> Result<(), Fa
             rule: *rule,
             at: *at,
         };
-        assert_eq!(rt; relocs_verdict(rt.alloc(), &file), Err(fault));
+        assert_eq!(rt; verdict_of(rt.alloc(), &file, 2, Table::Relocs), Err(fault));
     }
     Ok(())
 }
@@ -294,14 +285,6 @@ fn names_outlive_the_image(rt: HostRuntime) -> Result<(), Fail> {
     Ok(())
 }
 
-fn verdict_of(alloc: Global, file: &[u8]) -> Result<(), Fault> {
-    let image = parse(alloc, file)?;
-    if image.section_count() > 1 {
-        Symbols::new(&image, 1)?;
-    }
-    Ok(())
-}
-
 #[test]
 fn tells_the_first_rule_that_a_symbol_table_breaks(rt: HostRuntime) -> Result<(), Fail> {
     for (fields, rule, at) in &BROKEN {
@@ -311,7 +294,10 @@ fn tells_the_first_rule_that_a_symbol_table_breaks(rt: HostRuntime) -> Result<()
             rule: *rule,
             at: *at,
         };
-        assert_eq!(rt; verdict_of(rt.alloc(), &file), Err(fault));
+        assert_eq!(rt;
+            verdict_of(rt.alloc(), &file, 1, Table::Symbols),
+            Err(fault)
+        );
     }
     Ok(())
 }
@@ -325,7 +311,10 @@ fn tells_it_in_big_order_too(rt: HostRuntime) -> Result<(), Fail> {
             rule: *rule,
             at: *at,
         };
-        assert_eq!(rt; verdict_of(rt.alloc(), &file), Err(fault));
+        assert_eq!(rt;
+            verdict_of(rt.alloc(), &file, 1, Table::Symbols),
+            Err(fault)
+        );
     }
     Ok(())
 }
@@ -333,6 +322,6 @@ fn tells_it_in_big_order_too(rt: HostRuntime) -> Result<(), Fail> {
 #[test]
 fn accepts_the_file_unbroken(rt: HostRuntime) -> Result<(), Fail> {
     let file = symbols(Order::Big);
-    assert_eq!(rt; verdict_of(rt.alloc(), &file), Ok(()));
+    assert_eq!(rt; verdict_of(rt.alloc(), &file, 1, Table::Symbols), Ok(()));
     Ok(())
 }

@@ -1,15 +1,9 @@
 //! Readers and writers of which one call alone fails or gives nothing: the answer is exact, and no
 //! call comes after it.
+use crate::program::HEADER;
 use elf_test_files::{PIECE, Sink, Source};
 use elf_tool::{ToolFault, Verdict, check, show};
 use std::io::ErrorKind;
-
-/// A header alone, of 64 bytes, in little order: the row of the header that is accepted.
-const HEADER: [u8; 64] = [
-    0x7f, 0x45, 0x4c, 0x46, 2, 1, 1, 0, 0, 0, 0, 0, 0, 0, 0, 0, 1, 0, 0x3e, 0, 1, 0, 0, 0, 0, 0, 0,
-    0, 0, 0, 0, 0, 0, 0, 0, 0, 0, 0, 0, 0, 0, 0, 0, 0, 0, 0, 0, 0, 0, 0, 0, 0, 0x40, 0, 0, 0, 0, 0,
-    0, 0, 0, 0, 0, 0,
-];
 
 /// What `show` prints of it.
 const HEADER_TEXT: &[u8; 49] = b"file little 1 62 0x0 0x0\npart 0x0 0x40 header\n\0\0\0";
@@ -20,6 +14,15 @@ const FAILURES: [ErrorKind; 3] = [
     ErrorKind::WouldBlock,
     ErrorKind::Other,
 ];
+
+// Each way to fail in turn, and then a call that takes nothing.
+fn failure_of(k: usize) -> Option<ErrorKind> {
+    if k % 4 == 3 {
+        None
+    } else {
+        Some(FAILURES[k % 4 % 3])
+    }
+}
 
 // Eight calls give the header's bytes, and a ninth asks for the end, once.
 #[test]
@@ -76,11 +79,7 @@ fn a_read_of_no_bytes_is_the_end(rt: HostRuntime) {
 fn a_write_of_the_line_that_fails_once_is_not_tried_again(rt: HostRuntime) {
     for k in 0..8 {
         let call = k / 4;
-        let failure = if k % 4 == 3 {
-            None
-        } else {
-            Some(FAILURES[k % 4 % 3])
-        };
+        let failure = failure_of(k);
         let mut reader = Source::new(&HEADER, 100, None);
         let mut writer = Sink::new(call, failure);
         let answer = check(rt.alloc(), &mut reader, &mut writer);
@@ -102,11 +101,7 @@ fn a_write_of_the_line_that_fails_once_is_not_tried_again(rt: HostRuntime) {
 fn a_write_of_the_lines_that_fails_once_is_not_tried_again(rt: HostRuntime) {
     for k in 0..24 {
         let call = k / 4;
-        let failure = if k % 4 == 3 {
-            None
-        } else {
-            Some(FAILURES[k % 4 % 3])
-        };
+        let failure = failure_of(k);
         let mut reader = Source::new(&HEADER, 100, None);
         let mut writer = Sink::new(call, failure);
         let answer = show(rt.alloc(), &mut reader, &mut writer);

@@ -1,13 +1,7 @@
 //! The word for the file is the name that is opened, as it stands.
+use crate::program::HEADER;
 use elf_tool::{MachineFiles, OpenFault, Opener, run};
 use std::io::Read;
-
-/// A header alone, of 64 bytes, in little order.
-const HEADER: [u8; 64] = [
-    0x7f, 0x45, 0x4c, 0x46, 2, 1, 1, 0, 0, 0, 0, 0, 0, 0, 0, 0, 1, 0, 0x3e, 0, 1, 0, 0, 0, 0, 0, 0,
-    0, 0, 0, 0, 0, 0, 0, 0, 0, 0, 0, 0, 0, 0, 0, 0, 0, 0, 0, 0, 0, 0, 0, 0, 0, 0x40, 0, 0, 0, 0, 0,
-    0, 0, 0, 0, 0, 0,
-];
 
 /// Has a header alone under one name, and answers a fault for every other.
 #[derive(Drop)]

@@ -1,62 +1,19 @@
 //! The whole program over fakes: what it answers, writes and says for each way that it can end.
+use crate::image_faults::Pieces;
+use elf_field::Order;
+use elf_test_files::{empty_object, filled_gap, one_section, one_segment};
 use elf_tool::{OpenFault, Opener, ToolFault, check, refuse_words, run, show};
 use std::alloc::Global;
 use std::io;
-use std::io::{ErrorKind, Read, Write};
+use std::io::{ErrorKind, Write};
 use std::process::Abort;
 
 /// A header alone, of 64 bytes, in little order.
-const HEADER: [u8; 64] = [
+pub(crate) const HEADER: [u8; 64] = [
     0x7f, 0x45, 0x4c, 0x46, 2, 1, 1, 0, 0, 0, 0, 0, 0, 0, 0, 0, // identification
     1, 0, 0x3e, 0, 1, 0, 0, 0, // e_type, e_machine, e_version
     0, 0, 0, 0, 0, 0, 0, 0, 0, 0, 0, 0, 0, 0, 0, 0, 0, 0, 0, 0, 0, 0, 0, 0, 0, 0, 0, 0, 0x40, 0, 0,
     0, 0, 0, 0, 0, 0, 0, 0, 0,
-];
-
-/// An object with a symbol table, a string table and section names, and with nothing in them.
-const EMPTY_OBJECT: [u8; 376] = [
-    0x7f, 0x45, 0x4c, 0x46, 2, 1, 1, 0, 0, 0, 0, 0, 0, 0, 0, 0, 1, 0, 0x3e, 0, 1, 0, 0, 0, 0, 0, 0,
-    0, 0, 0, 0, 0, 0, 0, 0, 0, 0, 0, 0, 0, 0x78, 0, 0, 0, 0, 0, 0, 0, 0, 0, 0, 0, 0x40, 0, 0, 0, 0,
-    0, 0x40, 0, 4, 0, 3, 0, 0, 0, 0, 0, 0, 0, 0, 0, 0, 0, 0, 0, 0, 0, 0, 0, 0, 0, 0, 0, 0, 0, 0, 0,
-    0, 0, 0x2e, 0x73, 0x79, 0x6d, 0x74, 0x61, 0x62, 0, 0x2e, 0x73, 0x74, 0x72, 0x74, 0x61, 0x62, 0,
-    0x2e, 0x73, 0x68, 0x73, 0x74, 0x72, 0x74, 0x61, 0x62, 0, 0, 0, 0, 0, 0, 0, 0, 0, 0, 0, 0, 0, 0,
-    0, 0, 0, 0, 0, 0, 0, 0, 0, 0, 0, 0, 0, 0, 0, 0, 0, 0, 0, 0, 0, 0, 0, 0, 0, 0, 0, 0, 0, 0, 0, 0,
-    0, 0, 0, 0, 0, 0, 0, 0, 0, 0, 0, 0, 0, 0, 0, 0, 0, 0, 0, 0, 0, 0, 0, 1, 0, 0, 0, 2, 0, 0, 0, 0,
-    0, 0, 0, 0, 0, 0, 0, 0, 0, 0, 0, 0, 0, 0, 0, 0x40, 0, 0, 0, 0, 0, 0, 0, 0x18, 0, 0, 0, 0, 0, 0,
-    0, 2, 0, 0, 0, 1, 0, 0, 0, 8, 0, 0, 0, 0, 0, 0, 0, 0x18, 0, 0, 0, 0, 0, 0, 0, 9, 0, 0, 0, 3, 0,
-    0, 0, 0, 0, 0, 0, 0, 0, 0, 0, 0, 0, 0, 0, 0, 0, 0, 0, 0x58, 0, 0, 0, 0, 0, 0, 0, 1, 0, 0, 0, 0,
-    0, 0, 0, 0, 0, 0, 0, 0, 0, 0, 0, 1, 0, 0, 0, 0, 0, 0, 0, 0, 0, 0, 0, 0, 0, 0, 0, 0x11, 0, 0, 0,
-    3, 0, 0, 0, 0, 0, 0, 0, 0, 0, 0, 0, 0, 0, 0, 0, 0, 0, 0, 0, 0x59, 0, 0, 0, 0, 0, 0, 0, 0x1b, 0,
-    0, 0, 0, 0, 0, 0, 0, 0, 0, 0, 0, 0, 0, 0, 1, 0, 0, 0, 0, 0, 0, 0, 0, 0, 0, 0, 0, 0, 0, 0,
-];
-
-/// An object with one section of one byte of code.
-const ONE_SECTION: [u8; 456] = [
-    0x7f, 0x45, 0x4c, 0x46, 2, 1, 1, 0, 0, 0, 0, 0, 0, 0, 0, 0, 1, 0, 0x3e, 0, 1, 0, 0, 0, 0, 0, 0,
-    0, 0, 0, 0, 0, 0, 0, 0, 0, 0, 0, 0, 0, 0x88, 0, 0, 0, 0, 0, 0, 0, 0, 0, 0, 0, 0x40, 0, 0, 0, 0,
-    0, 0x40, 0, 5, 0, 4, 0, 0xc3, 0, 0, 0, 0, 0, 0, 0, 0, 0, 0, 0, 0, 0, 0, 0, 0, 0, 0, 0, 0, 0, 0,
-    0, 0, 0, 0, 0, 0, 0, 0, 0, 0, 0, 0x2e, 0x74, 0x65, 0x78, 0x74, 0, 0x2e, 0x73, 0x79, 0x6d, 0x74,
-    0x61, 0x62, 0, 0x2e, 0x73, 0x74, 0x72, 0x74, 0x61, 0x62, 0, 0x2e, 0x73, 0x68, 0x73, 0x74, 0x72,
-    0x74, 0x61, 0x62, 0, 0, 0, 0, 0, 0, 0, 0, 0, 0, 0, 0, 0, 0, 0, 0, 0, 0, 0, 0, 0, 0, 0, 0, 0, 0,
-    0, 0, 0, 0, 0, 0, 0, 0, 0, 0, 0, 0, 0, 0, 0, 0, 0, 0, 0, 0, 0, 0, 0, 0, 0, 0, 0, 0, 0, 0, 0, 0,
-    0, 0, 0, 0, 0, 0, 0, 0, 0, 0, 0, 0, 0, 1, 0, 0, 0, 1, 0, 0, 0, 6, 0, 0, 0, 0, 0, 0, 0, 0, 0, 0,
-    0, 0, 0, 0, 0, 0x40, 0, 0, 0, 0, 0, 0, 0, 1, 0, 0, 0, 0, 0, 0, 0, 0, 0, 0, 0, 0, 0, 0, 0, 0x10,
-    0, 0, 0, 0, 0, 0, 0, 0, 0, 0, 0, 0, 0, 0, 0, 7, 0, 0, 0, 2, 0, 0, 0, 0, 0, 0, 0, 0, 0, 0, 0, 0,
-    0, 0, 0, 0, 0, 0, 0, 0x48, 0, 0, 0, 0, 0, 0, 0, 0x18, 0, 0, 0, 0, 0, 0, 0, 3, 0, 0, 0, 1, 0, 0,
-    0, 8, 0, 0, 0, 0, 0, 0, 0, 0x18, 0, 0, 0, 0, 0, 0, 0, 0xf, 0, 0, 0, 3, 0, 0, 0, 0, 0, 0, 0, 0,
-    0, 0, 0, 0, 0, 0, 0, 0, 0, 0, 0, 0x60, 0, 0, 0, 0, 0, 0, 0, 1, 0, 0, 0, 0, 0, 0, 0, 0, 0, 0, 0,
-    0, 0, 0, 0, 1, 0, 0, 0, 0, 0, 0, 0, 0, 0, 0, 0, 0, 0, 0, 0, 0x17, 0, 0, 0, 3, 0, 0, 0, 0, 0, 0,
-    0, 0, 0, 0, 0, 0, 0, 0, 0, 0, 0, 0, 0, 0x61, 0, 0, 0, 0, 0, 0, 0, 0x21, 0, 0, 0, 0, 0, 0, 0, 0,
-    0, 0, 0, 0, 0, 0, 0, 1, 0, 0, 0, 0, 0, 0, 0, 0, 0, 0, 0, 0, 0, 0, 0,
-];
-
-/// A file with one segment, and no sections.
-const ONE_SEGMENT: [u8; 120] = [
-    0x7f, 0x45, 0x4c, 0x46, 2, 1, 1, 0, 0, 0, 0, 0, 0, 0, 0, 0, 2, 0, 0x3e, 0, 1, 0, 0, 0, 0, 0, 0,
-    0, 0, 0, 0, 0, 0x40, 0, 0, 0, 0, 0, 0, 0, 0, 0, 0, 0, 0, 0, 0, 0, 0, 0, 0, 0, 0x40, 0, 0x38, 0,
-    1, 0, 0, 0, 0, 0, 0, 0, 1, 0, 0, 0, 5, 0, 0, 0, 0, 0, 0, 0, 0, 0, 0, 0, 0, 0x10, 0, 0, 0, 0, 0,
-    0, 0, 0x10, 0, 0, 0, 0, 0, 0, 0x78, 0, 0, 0, 0, 0, 0, 0, 0x78, 0, 0, 0, 0, 0, 0, 0, 0, 0x10, 0,
-    0, 0, 0, 0, 0,
 ];
 
 /// The words that ask for its check.
@@ -64,30 +21,6 @@ const CHECK: [&str; 3] = ["elfmap", "check", "a.o"];
 
 /// More than the program ever writes here.
 const ROOM: usize = 800;
-
-/// Gives its bytes at most `piece` at a time, and then an error, if it has one, or the end.
-#[derive(Drop)]
-struct Pieces<'a> {
-    bytes: &'a [u8],
-    piece: usize,
-    failure: Option<ErrorKind>,
-}
-
-impl Read for Pieces<'_> {
-    fn read(&mut self, buf: &mut [u8]) -> io::Result<usize> {
-        if self.bytes.is_empty() {
-            return match self.failure {
-                Some(kind) => Err(io::Error::from(kind)),
-                None => Ok(0),
-            };
-        }
-        let count = self.piece.min(self.bytes.len()).min(buf.len());
-        let (given, rest) = self.bytes.split_at(count);
-        buf[..count].copy_from_slice(given);
-        self.bytes = rest;
-        Ok(count)
-    }
-}
 
 /// Has one file, `a.o`.
 #[derive(Drop)]
@@ -182,20 +115,24 @@ type Row<'a> = (&'a [&'a str], &'a [u8], u8, &'a str, &'a str);
 
 /// Runs the program on each row; a failed write to standard error changes nothing.
 fn assert_ends(rt: &impl Abort, alloc: Global, rows: &[Row<'_>]) {
-    for err_room in [ROOM, 0] {
-        for (words, bytes, status, said, complained) in rows {
-            let mut files = Folder {
-                bytes,
-                piece: 7,
-                failure: None,
-            };
-            let ran = run_on(alloc, words, &mut files, Shelf::new(ROOM, None), err_room);
-            assert_eq!(rt; ran.status, *status, "{words:?}");
-            assert_eq!(rt; ran.out.text(), said.as_bytes(), "{words:?}");
-            if err_room > 0 {
-                assert_eq!(rt; ran.err.text(), complained.as_bytes(), "{words:?}");
-            }
-        }
+    for row in rows {
+        assert_end(rt, alloc, row, ROOM);
+        assert_end(rt, alloc, row, 0);
+    }
+}
+
+fn assert_end(rt: &impl Abort, alloc: Global, row: &Row<'_>, err_room: usize) {
+    let (words, bytes, status, said, complained) = row;
+    let mut files = Folder {
+        bytes,
+        piece: 7,
+        failure: None,
+    };
+    let ran = run_on(alloc, words, &mut files, Shelf::new(ROOM, None), err_room);
+    assert_eq!(rt; ran.status, *status, "{words:?}");
+    assert_eq!(rt; ran.out.text(), said.as_bytes(), "{words:?}");
+    if err_room > 0 {
+        assert_eq!(rt; ran.err.text(), complained.as_bytes(), "{words:?}");
     }
 }
 
@@ -295,30 +232,29 @@ fn a_failed_read_is_told_with_its_place(rt: HostRuntime) {
     }
 }
 
+/// The check of a header, onto an output that fails so where its room ends, for each room that is too small.
+fn assert_write_fails(rt: &impl Abort, alloc: Global, failure: Option<ErrorKind>) {
+    let line = b"ok 64 0 0\n".as_slice();
+    for (room, digit) in b"0123456789".iter().enumerate() {
+        let mut files = Folder {
+            bytes: &HEADER,
+            piece: 1,
+            failure: None,
+        };
+        let ran = run_on(alloc, &CHECK, &mut files, Shelf::new(room, failure), ROOM);
+        assert_eq!(rt; ran.status, 3);
+        assert_eq!(rt; ran.out.text(), &line[..room]);
+        let mut told = *b"write failed after N\n";
+        told[19] = *digit;
+        assert_eq!(rt; ran.err.text(), told.as_slice(), "room for {room}");
+    }
+}
+
 #[test]
 fn a_failed_write_is_told_with_what_is_out(rt: HostRuntime) {
-    let line = b"ok 64 0 0\n".as_slice();
-    for failure in [None, Some(ErrorKind::Interrupted), Some(ErrorKind::Other)] {
-        for (room, digit) in b"0123456789".iter().enumerate() {
-            let mut files = Folder {
-                bytes: &HEADER,
-                piece: 1,
-                failure: None,
-            };
-            let ran = run_on(
-                rt.alloc(),
-                &CHECK,
-                &mut files,
-                Shelf::new(room, failure),
-                ROOM,
-            );
-            assert_eq!(rt; ran.status, 3);
-            assert_eq!(rt; ran.out.text(), &line[..room]);
-            let mut told = *b"write failed after N\n";
-            told[19] = *digit;
-            assert_eq!(rt; ran.err.text(), told.as_slice(), "room for {room}");
-        }
-    }
+    assert_write_fails(&rt, rt.alloc(), None);
+    assert_write_fails(&rt, rt.alloc(), Some(ErrorKind::Interrupted));
+    assert_write_fails(&rt, rt.alloc(), Some(ErrorKind::Other));
 }
 
 #[test]
@@ -359,7 +295,7 @@ fn a_refused_growth_leaves_nothing_out(rt: HostRuntime) {
     assert_eq!(rt; ran.err.text(), complained.as_bytes());
 }
 
-/// The text on [`EMPTY_OBJECT`].
+/// The text on [`empty_object`].
 const EMPTY_OBJECT_TEXT: &str = "file little 1 62 0x0 0x0
 part 0x0 0x40 header
 part 0x40 0x18 content 1
@@ -389,7 +325,7 @@ section 3 3 0x0 0x0 0x59 0x1b 0 0 0x1 0x0 .shstrtab
 symbol 1 0 0 0 0 undef 0x0 0x0 -
 ";
 
-/// The text on [`ONE_SECTION`].
+/// The text on [`one_section`].
 const ONE_SECTION_TEXT: &str = "file little 1 62 0x0 0x0
 part 0x0 0x40 header
 part 0x40 0x1 content 1
@@ -407,7 +343,7 @@ section 4 3 0x0 0x0 0x61 0x21 0 0 0x1 0x0 .shstrtab
 symbol 2 0 0 0 0 undef 0x0 0x0 -
 ";
 
-/// The text on [`ONE_SEGMENT`].
+/// The text on [`one_segment`].
 const ONE_SEGMENT_TEXT: &str = "file little 2 62 0x0 0x0
 part 0x0 0x40 header
 part 0x40 0x38 segments
@@ -416,16 +352,11 @@ segment 0 1 0x5 0x0 0x1000 0x1000 0x78 0x78 0x1000
 
 #[test]
 fn shows_each_line_of_a_file(rt: HostRuntime) {
-    let mut filled = EMPTY_OBJECT;
-    filled[116] = 1;
-    filled[117] = 2;
-    filled[118] = 3;
-    filled[119] = 4;
     let rows: [(&[u8], &str); 4] = [
-        (&EMPTY_OBJECT, EMPTY_OBJECT_TEXT),
-        (&filled, FILLED_GAP_TEXT),
-        (&ONE_SECTION, ONE_SECTION_TEXT),
-        (&ONE_SEGMENT, ONE_SEGMENT_TEXT),
+        (&empty_object(), EMPTY_OBJECT_TEXT),
+        (&filled_gap(), FILLED_GAP_TEXT),
+        (&one_section(Order::Little), ONE_SECTION_TEXT),
+        (&one_segment(Order::Little), ONE_SEGMENT_TEXT),
     ];
     for (bytes, text) in rows {
         let mut reader = bytes;
@@ -439,8 +370,9 @@ fn shows_each_line_of_a_file(rt: HostRuntime) {
 #[test]
 fn a_failed_write_of_many_lines_is_told_with_what_is_out(rt: HostRuntime) {
     let text = ONE_SEGMENT_TEXT.as_bytes();
+    let file = one_segment(Order::Little);
     for room in 0..text.len() {
-        let mut reader = ONE_SEGMENT.as_slice();
+        let mut reader = file.as_slice();
         let mut shelf = Shelf::new(room, Some(ErrorKind::Other));
         let answer = show(rt.alloc(), &mut reader, &mut shelf);
         assert_eq!(rt;
