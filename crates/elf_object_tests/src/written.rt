@@ -192,12 +192,12 @@ fn many_sections(alloc: Global) -> Result<Vec<Section<'static>>, AllocError> {
         entsize: 16,
         ..section(b"a", 0, 8, relocs)
     };
-    vec![in alloc; space, bits, relocs]
+    Ok(vec![in alloc; space, bits, relocs]?)
 }
 
 /// A symbol of each place.
 fn many_symbols(alloc: Global) -> Result<Vec<Symbol<'static>>, AllocError> {
-    vec![in alloc;
+    Ok(vec![in alloc;
         Symbol {
             info: 3,
             other: 2,
@@ -213,7 +213,7 @@ fn many_symbols(alloc: Global) -> Result<Vec<Symbol<'static>>, AllocError> {
             ..function(b"ab", Place::Common)
         },
         function(b"b", Place::Undef),
-    ]
+    ]?)
 }
 
 fn many_fields(alloc: Global, order: Order) -> Result<Object<'static>, Fail> {
