@@ -12,12 +12,12 @@ use std::test::Fail;
 const ORDERS: [Order; 2] = [Order::Little, Order::Big];
 
 /// An object of machine 62.
-pub(crate) fn object(
+pub(crate) fn object<'a>(
     alloc: Global,
     order: Order,
-    sections: Vec<Section<'static>>,
-    symbols: Vec<Symbol<'static>>,
-) -> Result<Object<'static>, Fail> {
+    sections: Vec<Section<'a>>,
+    symbols: Vec<Symbol<'a>>,
+) -> Result<Object<'a>, Fail> {
     let parts = ObjectParts {
         order,
         osabi: 0,
@@ -50,7 +50,7 @@ pub(crate) fn section(
 }
 
 /// A global function of one byte.
-pub(crate) fn function(name: &'static [u8], place: Place) -> Symbol<'static> {
+pub(crate) fn function<'a>(name: &'a [u8], place: Place) -> Symbol<'a> {
     Symbol {
         name,
         info: 0x12,
