@@ -1,0 +1,3 @@
+mod Between
+mod Fields
+mod Patched

@@ -1,0 +1,29 @@
+//! Relocations as rules describe them (gABI chapter 4, Relocation; the rules are this project's profile): the exact number of
+//! an entry, the numbers that its field admits, and the bytes in which the field holds it.
+//!
+//! ```
+//! // A field of four bytes that counts from itself: the place of a call's target, less four bytes, less the field's place.
+//! let rule = RelocRule { kind: 2, form: Form::Pc, width: Width::W4, range: Range::Signed };
+//! let number = rule.form.number(0x1006, -4, 0x1001);
+//! assert_eq!(number, 1);
+//! assert!(rule.range.admits(rule.width, number));
+//! let mut code = [0xe8, 0, 0, 0, 0];
+//! patch(Order::Little, &mut code, 1, rule.width, number);
+//! assert_eq!(code, [0xe8, 1, 0, 0, 0]);
+//! ```
+#![tactic(auto)]
+
+mod laws;
+mod marking;
+mod number;
+mod patching;
+mod rule;
+
+pub use laws::patched_field;
+pub use marking::mark;
+pub use number::addend_in;
+pub use patching::patch;
+pub use rule::{Form, Range, RelocRule, Width, rule_of};
+
+#[cfg(test)]
+mod tests;

@@ -1,0 +1,69 @@
+//! The rules that say what relocations of a kind are.
+ghost use Rattle.std.specs.Prelude.{◌≡◌};
+ghost use Rattle.elf_relocation.specs.Rule.{rule_for, size_of};
+
+/// What an entry's number is made of.
+#[derive(Clone, Copy, Debug, PartialEq, Eq)]
+pub enum Form {
+    /// The symbol's value and the addend.
+    Abs,
+    /// The same, less the address of the field.
+    Pc,
+    /// Nothing: there is no field.
+    None,
+}
+
+/// The bytes of a field.
+#[derive(Clone, Copy, Debug, PartialEq, Eq)]
+pub enum Width {
+    W1,
+    W2,
+    W4,
+    W8,
+}
+
+impl Width {
+    /// How many bytes these are.
+    pub fn size(self) -> usize
+        ensures { result ≡ size_of self }
+    {
+        match self {
+            Width::W1 => 1,
+            Width::W2 => 2,
+            Width::W4 => 4,
+            Width::W8 => 8,
+        }
+    }
+}
+
+/// The numbers that a field of some width admits.
+#[derive(Clone, Copy, Debug, PartialEq, Eq)]
+pub enum Range {
+    /// Those that stand in it as two's complement.
+    Signed,
+    /// Those from 0 on that stand in it.
+    Unsigned,
+    /// All, of which it holds the lowest bytes.
+    Wrap,
+}
+
+/// What relocations of one kind are. `kind` is `r_info mod 2^32`, whose meaning processor supplements give.
+#[derive(Clone, Copy, Debug, PartialEq, Eq)]
+pub struct RelocRule {
+    pub kind: u32,
+    pub form: Form,
+    pub width: Width,
+    pub range: Range,
+}
+
+/// The first rule of this kind; None where there is none.
+pub fn rule_of(rules: &[RelocRule], kind: u32) -> Option<RelocRule>
+    ensures { result ≡ rule_for kind rules.now }
+{
+    for rule in rules {
+        if rule.kind == kind {
+            return Some(*rule);
+        }
+    }
+    None
+}
