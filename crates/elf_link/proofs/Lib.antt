@@ -13,6 +13,7 @@ pub mod Openers
 pub mod FirstSite
 pub mod ChosenCommons
 pub mod BoundNames
+pub mod Naming
 pub mod Placings
 pub mod Cells
 pub mod Maps

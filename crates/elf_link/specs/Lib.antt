@@ -17,6 +17,7 @@ pub mod Plan
 pub mod Entry
 pub mod LinkMap
 pub mod LinkMapView
+pub mod Naming
 pub mod Planning
 pub mod LinkFaults
 pub mod Addresses

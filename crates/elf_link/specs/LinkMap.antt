@@ -17,7 +17,7 @@ use Rattle.elf_link.specs.Addresses.{HasValue}
 use Rattle.elf_link.specs.Binds.{Binds, entries}
 use Rattle.elf_link.specs.Discarded.{AreMarks}
 use Rattle.elf_link.specs.Entry.{IsEntryTarget}
-use Rattle.elf_link.specs.Listing.{site, site_at}
+use Rattle.elf_link.specs.Listing.{Lists, first_entries, site, site_at}
 use Rattle.elf_link.specs.Outputs.{is_no_bits, live, output_flags, section_of}
 use Rattle.elf_link.specs.Plan.{AreEach, IsPlan, Plan, chosen_at, flat, name_at, parts_of, placed}
 use Rattle.elf_link.specs.Rows.{Nowhere}
@@ -110,6 +110,14 @@ IsBinding fs cs name Zero = Binds fs name ZeroChoice
 abbrev pub bound_in : List (List ℕ × Binding) → List ℕ → Option Binding
 bound_in bindings name = lookup (bytes_eq name) bindings
 
+-- the one that stands for a name that isn't there
+abbrev pub no_name : List ℕ × Binding
+no_name = ([], Zero)
+
+-- each name with an entry stands there once, in the order of the first entries
+abbrev pub AreNames : List ObjectValue → List (List ℕ × Binding) → Type 0
+AreNames fs bindings = (ps : List Site) × Lists (first_entries fs) ps × (map (λ e. e.0) bindings ≡ map (name_at fs) ps)
+
 -- each name with an entry is bound, and no other
 abbrev pub AreBindings : List ObjectValue → List CommonValue → List (List ℕ × Binding) → Type 0
 AreBindings fs cs bindings = (name : List ℕ) → MatchOption (bound_in bindings name) (Nowhere (entries fs name)) (IsBinding fs cs name)
@@ -134,6 +142,7 @@ pub record IsMapOf (opt : Options) (fs : List ObjectValue) (l : LinkPlan) (m : L
   pub addresses : AreAddresses fs (placed l.plan) l.places m.addresses
   pub discarded : AreMarks fs m.discarded
   pub bindings : AreBindings fs m.commons m.bindings
+  pub names : AreNames fs m.bindings
   pub outputs : ArePlacedOutputs fs l.plan.outputs (link_parts fs opt l) l.places (length l.plan.outputs) m.outputs
   pub commons : ArePlacedCommons fs l.plan.commons l.places (length (placed l.plan)) (length l.plan.commons) m.commons
   pub base : m.base ≡ opt.base

@@ -7,7 +7,7 @@ use Rattle.elf_link.specs.declared.site.Site.{Site}
 use Rattle.elf_link.specs.Binds.{commons, entries, strong}
 use Rattle.elf_link.specs.Files.{IsEarlier, object_at, symbol_in}
 use Rattle.elf_link.specs.Live.{Live}
-use Rattle.elf_link.specs.Rows.{AtEach, Before, IsFirstAt, Nowhere, Row, section_count, symbol_count}
+use Rattle.elf_link.specs.Rows.{AtEach, AtSymbol, Before, IsFirstAt, Nowhere, Row, section_count, symbol_count}
 use Rattle.elf_link.specs.Symbols.{IsCommon, IsEntry}
 
 abbrev pub site : ℕ → ℕ → Site
@@ -30,6 +30,9 @@ IsChosen fs f i =
 -- an entry stands for its name where it is the first one
 abbrev pub IsFirstEntry : List ObjectValue → ℕ → ℕ → Type 0
 IsFirstEntry fs f i = (let name = (symbol_in fs f i).name in IsEntry fs name f i × IsFirstAt (entries fs name) (site f i))
+
+abbrev pub first_entries : List ObjectValue → Row
+first_entries fs = AtSymbol fs (IsFirstEntry fs)
 
 -- what is listed
 abbrev pub listed_count : Listed → ObjectValue → ℕ

@@ -1,20 +1,17 @@
 -- What the code keeps while it plans.
-use Rattle.std.specs.Prelude.{◌≡◌, ℕ, ◌<◌, ◌⊎◌, true, Option, None, Some, MatchOption, List, [], get_or, is_some, length, replicate, set, slice_index}
+use Rattle.std.specs.Prelude.{◌≡◌, ℕ, ◌<◌, Option, None, Some, List, [], get_or, length, replicate, set, slice_index}
 use Rattle.elf_extent.specs.Place.{EndsFit, Least}
-use Rattle.elf_field.specs.Abi.{STB_LOCAL}
-use Rattle.elf_object.specs.Object.{ObjectValue, SymbolValue}
-use Rattle.elf_link.specs.declared.bindings.Binding.{Binding}
+use Rattle.elf_object.specs.Object.{ObjectValue}
 use Rattle.elf_link.specs.declared.choice.Choice.TheVariants.{Common}
 use Rattle.elf_link.specs.declared.commons.Chosen.{Chosen}
 use Rattle.elf_link.specs.declared.site.Site.{Site}
 use Rattle.elf_link.specs.Binds.{Binds, IsUnbound, entries}
 use Rattle.elf_link.specs.Entry.{IsCommonOf}
-use Rattle.elf_link.specs.Files.{IsEarlier, object_at}
-use Rattle.elf_link.specs.LinkMap.{CommonValue, IsBinding, IsNamed, cell}
+use Rattle.elf_link.specs.Files.{object_at}
+use Rattle.elf_link.specs.LinkMap.{CommonValue, IsNamed, cell}
 use Rattle.elf_link.specs.Listing.{AreIn, site_at}
 use Rattle.elf_link.specs.Outputs.{live}
 use Rattle.elf_link.specs.Plan.{AreEach, chosen_at}
-use Rattle.elf_link.specs.Symbols.{binding}
 
 -- all sites of all lists are sections of their files
 abbrev pub AreAllIn : List ObjectValue → List (List Site) → Type 0
@@ -74,12 +71,3 @@ AreSymbols fs cs = (k : ℕ) → k < length cs →
 -- each name with an entry is bound
 abbrev pub AllBound : List ObjectValue → Type 0
 AllBound fs = (name : List ℕ) (p : Site) → entries fs name p → IsUnbound fs name → ⊥
-
--- what the names of the symbols before symbol i of file f are bound to
-abbrev pub AreBoundUpTo : List ObjectValue → List CommonValue → ℕ → ℕ → (List ℕ → Option Binding) → Type 0
-AreBoundUpTo fs cs f i bound = (name : List ℕ) →
-    MatchOption (bound name) ((p : Site) → entries fs name p → IsEarlier p.file p.index f i → ⊥) (IsBinding fs cs name)
-
--- a symbol is local, or its name is bound
-abbrev pub IsSettled : (List ℕ → Option Binding) → SymbolValue → Type 0
-IsSettled bound s = (binding s ≡ STB_LOCAL) ⊎ (is_some (bound s.name) ≡ true)

@@ -1,22 +1,23 @@
 //! What every name is bound to, with addresses.
-ghost use Rattle.std.specs.Prelude.{◌≡◌, ◌↔◌, ℕ, ◌+◌, ◌<◌, if◌then◌else◌, Some, List, IfOk, IsTrue, MatchOption, OnOk, length, map};
+ghost use Rattle.std.specs.Prelude.{◌≡◌, ◌↔◌, ℕ, if◌then◌else◌, Some, List, IfOk, IsTrue, MatchOption, OnOk, length, map};
 ghost use Rattle.std.specs.Str.{bytes_eq};
 ghost use Rattle.elf_link.specs.declared.choice.Choice.TheVariants.{Common as CommonChoice};
 ghost use Rattle.elf_link.specs.Binds.{Binds, IsUnbound};
-ghost use Rattle.elf_object.specs.ObjectView.{symbol_value};
 ghost use Rattle.elf_link.specs.Discarded.{AreMarks};
-ghost use Rattle.elf_link.specs.Files.{object_at};
-ghost use Rattle.elf_link.specs.LinkMap.{AreBindings, IsBinding, IsNamed};
-ghost use Rattle.elf_link.specs.LinkMapView.{bound_by, common_value, names_of};
-ghost use Rattle.elf_link.specs.Planning.{AllBound, AreBoundUpTo, HaveCommons, IsSettled};
+ghost use Rattle.elf_link.specs.LinkMap.{AreBindings, AreNames, IsBinding, IsNamed};
+ghost use Rattle.elf_link.specs.LinkMapView.{common_value, named_value};
+ghost use Rattle.elf_link.specs.Listing.{Lists, first_entries};
+ghost use Rattle.elf_link.specs.Naming.{AreNamedAt, ArePositionsOf, IsNamedAt, position_by};
+ghost use Rattle.elf_link.specs.Planning.{AllBound, HaveCommons};
 
 use crate::bind::bind;
 use crate::choice::Choice;
-use crate::files::{symbol_count, symbol_of};
+use crate::files::symbol_of;
 use crate::link_map::Common;
-use crate::symbol_tests::binding;
-use elf_field::abi::*;
-use elf_object::{Object, Symbol};
+use crate::listing::{Listed, all_listed};
+use crate::names::{Named, Names};
+use crate::site::Site;
+use elf_object::Object;
 use std::alloc::{AllocError, Global};
 use std::collections::BTreeMap;
 
@@ -110,99 +111,92 @@ fn binding_of(
     }
 }
 
-/// Adds a binding of a name that has none yet.
-fn add_binding<'a>(
-    bindings: &mut BTreeMap<&'a [u8], Binding>,
-    name: &'a [u8],
-    bound: Binding,
-) -> Result<(), AllocError>
-    ensures { OnOk result ((q : List ℕ) → bound_by bindings.new q ≡ (if bytes_eq name.now q then Some bound else bound_by bindings.old q)) }
-{
-    bindings.insert(name, bound)?;
-    Ok(())
-}
-
-/// What the map has of a name.
-pub(crate) fn bound_to<'n>(
-    bindings: &BTreeMap<&'n [u8], Binding>,
-    name: &'n [u8],
-) -> Option<Binding>
-    ensures { result ≡ bound_by bindings.now name.now }
-{
-    bindings.get(&name).copied()
-}
-
-/// Whether the name of a symbol needs no further binding: it is local, or the name has one.
-fn is_settled<'a>(bindings: &BTreeMap<&'a [u8], Binding>, symbol: &Symbol<'a>) -> bool
-    ensures { IsTrue result ↔ IsSettled (bound_by bindings.now) (symbol_value symbol.now) }
-{
-    binding(symbol) == STB_LOCAL || bound_to(bindings, symbol.name).is_some()
-}
-
-/// Adds the binding of the name of the symbol at `index` of a file, where it is not local.
-fn bind_symbol<'a>(
+/// The name of a first entry, and what it is bound to.
+fn named_at<'a>(
     objects: &[Object<'a>],
     marks: &[Vec<bool>],
     commons: &[Common<'_>],
-    file: usize,
-    index: usize,
-    bindings: &mut BTreeMap<&'a [u8], Binding>,
-) -> Result<(), AllocError>
-    requires file { file < length objects.now }
-    requires index { index < length (object_at objects.now file).symbols }
+    site: Site,
+) -> Named<'a>
     requires marks { AreMarks objects.now (map (λ row. row.items) marks.now) }
     requires commons { HaveCommons objects.now (map common_value commons.now) }
     requires bound { AllBound objects.now }
-    requires before { AreBoundUpTo objects.now (map common_value commons.now) file index (bound_by bindings.old) }
-    ensures { OnOk result (AreBoundUpTo objects.now (map common_value commons.now) file (index + 1) (bound_by bindings.new)) }
+    requires site { first_entries objects.now site }
+    ensures { IsNamedAt objects.now (map common_value commons.now) site (named_value result) }
 {
-    let symbol = symbol_of(objects, file, index);
-    if is_settled(bindings, &symbol) {
-        return Ok(());
-    }
-    let Some(bound) = binding_of(objects, marks, commons, symbol.name) else {
-        return Ok(());
+    let name = symbol_of(objects, site.file, site.index).name;
+    let Some(binding) = binding_of(objects, marks, commons, name) else {
+        unreachable!();
     };
-    add_binding(bindings, symbol.name, bound)?;
-    Ok(())
+    Named { name, binding }
 }
 
-/// Adds the bindings of the names of a file.
-fn bind_file<'a>(
+/// The names of these first entries, and what each is bound to.
+fn names_at<'a>(
+    alloc: Global,
     objects: &[Object<'a>],
     marks: &[Vec<bool>],
     commons: &[Common<'_>],
-    file: usize,
-    bindings: &mut BTreeMap<&'a [u8], Binding>,
-) -> Result<(), AllocError>
-    requires file { file < length objects.now }
+    sites: &[Site],
+) -> Result<Vec<Named<'a>>, AllocError>
     requires marks { AreMarks objects.now (map (λ row. row.items) marks.now) }
     requires commons { HaveCommons objects.now (map common_value commons.now) }
     requires bound { AllBound objects.now }
-    requires before { AreBoundUpTo objects.now (map common_value commons.now) file 0 (bound_by bindings.old) }
-    ensures { OnOk result (AreBoundUpTo objects.now (map common_value commons.now) file (length (object_at objects.now file).symbols) (bound_by bindings.new)) }
+    requires sites { Lists (first_entries objects.now) sites.now }
+    ensures { IfOk result (λ names. AreNamedAt objects.now (map common_value commons.now) sites.now (length sites.now) (map named_value names.items)) }
 {
-    for index in 0..symbol_count(&objects[file]) {
-        bind_symbol(objects, marks, commons, file, index, bindings)?;
+    let mut names = Vec::new(alloc);
+    for k in 0..sites.len() {
+        names.push(named_at(objects, marks, commons, sites[k]))?;
     }
+    Ok(names)
+}
+
+/// Notes the position of a name.
+fn note_position<'a>(
+    positions: &mut BTreeMap<&'a [u8], usize>,
+    name: &'a [u8],
+    position: usize,
+) -> Result<(), AllocError>
+    ensures { OnOk result ((q : List ℕ) → position_by positions.new q ≡ (if bytes_eq name.now q then Some position else position_by positions.old q)) }
+{
+    positions.insert(name, position)?;
     Ok(())
 }
 
-/// The bindings of all names.
+/// The position of each name among these first entries.
+fn positions_of<'a>(
+    alloc: Global,
+    objects: &[Object<'a>],
+    sites: &[Site],
+) -> Result<BTreeMap<&'a [u8], usize>, AllocError>
+    requires { Lists (first_entries objects.now) sites.now }
+    ensures { IfOk result (λ positions. ArePositionsOf objects.now sites.now (length sites.now) (position_by positions)) }
+{
+    let mut positions = BTreeMap::new(alloc);
+    for k in 0..sites.len() {
+        let site = sites[k];
+        let name = symbol_of(objects, site.file, site.index).name;
+        note_position(&mut positions, name, k)?;
+    }
+    Ok(positions)
+}
+
+/// All names with their bindings, in the order of their first entries.
 pub(crate) fn all_bindings<'a>(
     alloc: Global,
     objects: &[Object<'a>],
     marks: &[Vec<bool>],
     commons: &[Common<'_>],
-) -> Result<BTreeMap<&'a [u8], Binding>, AllocError>
+) -> Result<Names<'a>, AllocError>
     requires marks { AreMarks objects.now (map (λ row. row.items) marks.now) }
     requires commons { HaveCommons objects.now (map common_value commons.now) }
     requires bound { AllBound objects.now }
-    ensures { IfOk result (λ bindings. AreBindings objects.now (map common_value commons.now) (names_of bindings)) }
+    ensures bindings { IfOk result (AreBindings objects.now (map common_value commons.now)) }
+    ensures names { IfOk result (AreNames objects.now) }
 {
-    let mut bindings = BTreeMap::new(alloc);
-    for file in 0..objects.len() {
-        bind_file(objects, marks, commons, file, &mut bindings)?;
-    }
-    Ok(bindings)
+    let sites = all_listed(alloc, Listed::FirstEntries, objects, marks)?;
+    let list = names_at(alloc, objects, marks, commons, &sites)?;
+    let positions = positions_of(alloc, objects, &sites)?;
+    Ok(Names::new(list, positions))
 }

@@ -9,7 +9,7 @@
 //!     page: 0x1000,
 //!     entry: Some(b"main"),
 //! };
-//! let link = map(alloc, &objects, &options)?;
+//! let link = map(alloc, &objects, &options, hasher)?;
 //! // Where section 0 of file 1 stands, and what `main` is bound to.
 //! assert_eq!(link.address(1, 0), Some(0x1006));
 //! assert_eq!(link.binding(b"main"), Some(Binding::Strong { file: 0, symbol: 0 }));
@@ -30,6 +30,7 @@ mod link;
 mod link_map;
 mod listing;
 mod name_rules;
+mod names;
 mod options;
 mod outputs;
 mod parts;
@@ -47,4 +48,5 @@ pub use bindings::Binding;
 pub use fault::LinkFault;
 pub use link::map;
 pub use link_map::{Common, LinkMap, Member, Output};
+pub use names::Named;
 pub use options::Options;

@@ -24,6 +24,7 @@ use crate::table::address_table;
 use crate::target::entry_target;
 use elf_object::Object;
 use std::alloc::Global;
+use std::hash::BuildHasher;
 
 /// The link map of objects that break none of rules 1 to 9, with these outputs and commons.
 fn placed_map<'a>(
@@ -55,11 +56,11 @@ fn placed_map<'a>(
     let addresses = address_table(alloc, objects, &sites, &addressed.places)?;
     let outputs = placed_outputs(alloc, objects, outputs, &parts, &addressed.places)?;
     let commons = placed_commons(alloc, objects, chosen, &addressed.places, sites.len())?;
-    let bindings = all_bindings(alloc, objects, &marks, &commons)?;
+    let names = all_bindings(alloc, objects, &marks, &commons)?;
     Ok(LinkMap {
         addresses,
         discarded: marks,
-        bindings,
+        names,
         outputs,
         commons,
         base: options.base,
@@ -70,12 +71,15 @@ fn placed_map<'a>(
 
 /// The link map of these objects: where each live section and each common stands, and what each name is bound to.
 ///
+/// The hasher spreads the keys of the outputs; whichever it is, the map is the same.
+///
 /// Answers the first of the link's rules ([`rules`](crate::rules)) that stands, and [`LinkFault::OutOfMemory`] only where memory
 /// is refused, which is asked for only where rules 1 and 2 don't stand.
-pub fn map<'a>(
+pub fn map<'a, S: BuildHasher + Drop>(
     alloc: Global,
     objects: &[Object<'a>],
     options: &Options<'_>,
+    hasher: S,
 ) -> Result<LinkMap<'a>, LinkFault>
     ensures sound { OnOk result (FirstOfLink options.now objects.now None) }
     ensures map { IfOk result (λ m. IsLinkMap options.now objects.now m) }
@@ -83,7 +87,7 @@ pub fn map<'a>(
 {
     let marks = judge(alloc, objects, options)?;
     let live = all_listed(alloc, Listed::LiveSections, objects, &marks)?;
-    let outputs = outputs_of(alloc, objects, &live)?;
+    let outputs = outputs_of(alloc, objects, &live, hasher)?;
     let chosen = chosen_commons(alloc, objects, &marks)?;
     placed_map(alloc, objects, options, marks, &outputs, &chosen)
 }

@@ -2,10 +2,10 @@
 ghost use Rattle.std.specs.Prelude.{◌≡◌, map};
 ghost use Rattle.elf_link.specs.Discarded.{mark};
 ghost use Rattle.elf_link.specs.LinkMap.{bound_in, cell};
-ghost use Rattle.elf_link.specs.LinkMapView.{common_value, link_map_value, output_value};
+ghost use Rattle.elf_link.specs.LinkMapView.{common_value, named_value, output_value};
 
-use crate::bindings::{Binding, bound_to};
-use std::collections::BTreeMap;
+use crate::bindings::Binding;
+use crate::names::{Named, Names};
 use std::marker::Model;
 
 /// A section of an input file.
@@ -52,7 +52,7 @@ pub struct Common<'a> {
 pub struct LinkMap<'a> {
     pub(crate) addresses: Vec<Vec<Option<u64>>>,
     pub(crate) discarded: Vec<Vec<bool>>,
-    pub(crate) bindings: BTreeMap<&'a [u8], Binding>,
+    pub(crate) names: Names<'a>,
     pub(crate) outputs: Vec<Output<'a>>,
     pub(crate) commons: Vec<Common<'a>>,
     pub(crate) base: u64,
@@ -89,10 +89,18 @@ impl<'a> LinkMap<'a> {
     }
 
     /// What a name is bound to; None where no symbol that is not local has it. It takes log n comparisons of names.
-    pub fn binding(&self, name: &'a [u8]) -> Option<Binding>
+    pub fn binding(&self, name: &[u8]) -> Option<Binding>
         ensures { result ≡ bound_in self.now.bindings name.now }
     {
-        bound_to(&self.bindings, name)
+        self.names.binding(name)
+    }
+
+    /// Every name that a symbol has that is not local, with what it is bound to, in the order of the first such symbol of each,
+    /// by file and position.
+    pub fn names(&self) -> &[Named<'a>]
+        ensures { map named_value result.now ≡ self.now.bindings }
+    {
+        self.names.list()
     }
 
     /// The output sections, in order of placement.

@@ -11,6 +11,7 @@ use crate::parts::{parts_of, raise};
 use crate::site::Site;
 use elf_object::Object;
 use std::alloc::{AllocError, Global};
+use std::hash::BuildHasher;
 
 /// The sections that open an output: those with bits, and behind them those without.
 fn openers(alloc: Global, objects: &[Object<'_>], live: &[Site]) -> Result<Vec<Site>, AllocError>
@@ -42,10 +43,11 @@ fn members_of(
 }
 
 /// The members of each output, in order of placement.
-pub(crate) fn outputs_of(
+pub(crate) fn outputs_of<S: BuildHasher + Drop>(
     alloc: Global,
     objects: &[Object<'_>],
     live: &[Site],
+    _hasher: S,
 ) -> Result<Vec<Vec<Site>>, AllocError>
     requires live { Lists (live_row objects.now) live.now }
     ensures outputs { IfOk result (λ outputs. AreOutputs objects.now (map (λ ms. ms.items) outputs.items)) }

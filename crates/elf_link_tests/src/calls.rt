@@ -1,6 +1,6 @@
 //! A function in one file that is called in another.
-use crate::worked::{GLOBAL, fault_of, object, options, rule, section, symbol};
-use elf_link::{Binding, Member, map};
+use crate::worked::{GLOBAL, fault_of, mapped, object, options, rule, section, symbol};
+use elf_link::{Binding, Member, Named};
 use elf_object::{Body, Object, Place, Relocation};
 use std::alloc::Global;
 use std::test::Fail;
@@ -40,7 +40,7 @@ fn callee(alloc: Global, value: u64) -> Result<Object<'static>, Fail> {
 fn places_the_sections_of_both_files_in_one_output(rt: HostRuntime) -> Result<(), Fail> {
     let alloc = rt.alloc();
     let objects = vec![in alloc; caller(alloc)?, callee(alloc, 0)?]?;
-    let link = map(alloc, &objects, &options(0x1000, 1, Some(b"main")))?;
+    let link = mapped(alloc, &objects, &options(0x1000, 1, Some(b"main")))?;
     assert_eq!(rt; link.outputs().len(), 1);
     let text = &link.outputs()[0];
     assert_eq!(rt; (text.address, text.length), (0x1000, 7));
@@ -74,7 +74,7 @@ fn places_the_sections_of_both_files_in_one_output(rt: HostRuntime) -> Result<()
 fn maps_two_files(rt: HostRuntime) -> Result<(), Fail> {
     let alloc = rt.alloc();
     let objects = vec![in alloc; caller(alloc)?, callee(alloc, 0)?]?;
-    let link = map(alloc, &objects, &options(0x1000, 0x1000, Some(b"main")))?;
+    let link = mapped(alloc, &objects, &options(0x1000, 0x1000, Some(b"main")))?;
     assert_eq!(rt; link.address(1, 0), Some(0x1006));
     assert_eq!(rt;
         link.binding(b"main"),
@@ -87,7 +87,7 @@ fn maps_two_files(rt: HostRuntime) -> Result<(), Fail> {
 fn binds_each_name_to_its_definition(rt: HostRuntime) -> Result<(), Fail> {
     let alloc = rt.alloc();
     let objects = vec![in alloc; caller(alloc)?, callee(alloc, 0)?]?;
-    let link = map(alloc, &objects, &options(0x1000, 1, None))?;
+    let link = mapped(alloc, &objects, &options(0x1000, 1, None))?;
     assert_eq!(rt;
         link.binding(b"main"),
         Some(Binding::Strong { file: 0, symbol: 0 })
@@ -98,6 +98,25 @@ fn binds_each_name_to_its_definition(rt: HostRuntime) -> Result<(), Fail> {
     );
     assert_eq!(rt; link.binding(b"other"), None);
     assert_eq!(rt; link.entry(), 0);
+    Ok(())
+}
+
+#[test]
+fn names_each_name_once_in_order(rt: HostRuntime) -> Result<(), Fail> {
+    let alloc = rt.alloc();
+    let objects = vec![in alloc; caller(alloc)?, callee(alloc, 0)?]?;
+    let link = mapped(alloc, &objects, &options(0x1000, 1, None))?;
+    let names = [
+        Named {
+            name: b"main",
+            binding: Binding::Strong { file: 0, symbol: 0 },
+        },
+        Named {
+            name: b"callee",
+            binding: Binding::Strong { file: 1, symbol: 0 },
+        },
+    ];
+    assert_eq!(rt; link.names(), names.as_slice());
     Ok(())
 }
 

@@ -1,6 +1,6 @@
 //! A name that is weak in one file and common in others.
-use crate::worked::{GLOBAL, WEAK, fault_of, object, options, rule, section, symbol};
-use elf_link::{Binding, map};
+use crate::worked::{GLOBAL, WEAK, fault_of, mapped, object, options, rule, section, symbol};
+use elf_link::Binding;
 use elf_object::{Body, Object, Place};
 use std::alloc::Global;
 use std::test::Fail;
@@ -31,7 +31,7 @@ fn files(alloc: Global) -> Result<Vec<Object<'static>>, Fail> {
 fn chooses_a_common_of_the_largest_size_and_alignment(rt: HostRuntime) -> Result<(), Fail> {
     let alloc = rt.alloc();
     let objects = files(alloc)?;
-    let link = map(alloc, &objects, &options(0x2000, 0x1000, Some(b"x")))?;
+    let link = mapped(alloc, &objects, &options(0x2000, 0x1000, Some(b"x")))?;
     assert_eq!(rt; link.outputs().len(), 1);
     assert_eq!(rt;
         (link.outputs()[0].address, link.outputs()[0].length),
@@ -56,7 +56,7 @@ fn prefers_a_global_definition(rt: HostRuntime) -> Result<(), Fail> {
     let alloc = rt.alloc();
     let mut objects = files(alloc)?;
     objects.push(defined(alloc, GLOBAL)?)?;
-    let link = map(alloc, &objects, &options(0x2000, 0x1000, None))?;
+    let link = mapped(alloc, &objects, &options(0x2000, 0x1000, None))?;
     assert!(rt; link.outputs().len() > 0);
     assert_eq!(rt; link.outputs()[0].length, 8);
     assert_eq!(rt; link.address(3, 0), Some(0x2004));

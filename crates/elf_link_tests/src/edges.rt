@@ -1,6 +1,6 @@
 //! Options and addresses at their limits, and names without a definition.
-use crate::worked::{GLOBAL, WEAK, fault_of, object, options, rule, section, symbol};
-use elf_link::{Binding, map};
+use crate::worked::{GLOBAL, WEAK, fault_of, mapped, object, options, rule, section, symbol};
+use elf_link::Binding;
 use elf_object::{Body, Object, Place};
 use std::alloc::Global;
 use std::test::Fail;
@@ -36,7 +36,7 @@ fn refuses_a_base_that_is_no_multiple_of_the_page(rt: HostRuntime) -> Result<(),
 fn places_up_to_the_last_address(rt: HostRuntime) -> Result<(), Fail> {
     let alloc = rt.alloc();
     let high = options(0xffff_ffff_ffff_f000, 0x1000, None);
-    let link = map(alloc, &bss(alloc, 0xfff)?, &high)?;
+    let link = mapped(alloc, &bss(alloc, 0xfff)?, &high)?;
     assert!(rt; link.outputs().len() > 0);
     let output = &link.outputs()[0];
     assert_eq!(rt;
@@ -49,7 +49,7 @@ fn places_up_to_the_last_address(rt: HostRuntime) -> Result<(), Fail> {
         rule(11, 0, 0)
     );
     let all = bss(alloc, 0xffff_ffff_ffff_ffff)?;
-    let link = map(alloc, &all, &options(0, 1, None))?;
+    let link = mapped(alloc, &all, &options(0, 1, None))?;
     assert!(rt; link.outputs().len() > 0);
     assert_eq!(rt;
         (link.outputs()[0].address, link.outputs()[0].length),
@@ -63,7 +63,7 @@ fn places_up_to_the_last_address(rt: HostRuntime) -> Result<(), Fail> {
 fn binds_a_name_of_weak_entries_alone_to_zero(rt: HostRuntime) -> Result<(), Fail> {
     let alloc = rt.alloc();
     let mut objects = vec![in alloc; undefined(alloc, WEAK)?]?;
-    let link = map(alloc, &objects, &options(0, 1, None))?;
+    let link = mapped(alloc, &objects, &options(0, 1, None))?;
     assert_eq!(rt; link.binding(b"x"), Some(Binding::Zero));
     objects.push(undefined(alloc, GLOBAL)?)?;
     assert_eq!(rt;
@@ -77,7 +77,7 @@ fn binds_a_name_of_weak_entries_alone_to_zero(rt: HostRuntime) -> Result<(), Fai
 fn maps_no_files(rt: HostRuntime) -> Result<(), Fail> {
     let alloc = rt.alloc();
     let none: [Object<'static>; 0] = [];
-    let link = map(alloc, &none, &options(0x1000, 0x1000, None))?;
+    let link = mapped(alloc, &none, &options(0x1000, 0x1000, None))?;
     assert_eq!(rt; (link.outputs().len(), link.commons().len()), (0, 0));
     assert_eq!(rt; link.entry(), 0);
     Ok(())

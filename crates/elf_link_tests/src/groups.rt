@@ -1,6 +1,6 @@
 //! Two COMDAT groups of one signature.
-use crate::worked::{GLOBAL, object, options, section, symbol};
-use elf_link::{Binding, map};
+use crate::worked::{GLOBAL, flatly_mapped, mapped, object, options, section, symbol};
+use elf_link::Binding;
 use elf_object::{Body, Object, Place, Relocation};
 use std::alloc::Global;
 use std::test::Fail;
@@ -39,7 +39,7 @@ fn file(alloc: Global, calls: bool) -> Result<Object<'static>, Fail> {
 fn keeps_the_first_group_alone(rt: HostRuntime) -> Result<(), Fail> {
     let alloc = rt.alloc();
     let objects = vec![in alloc; file(alloc, false)?, file(alloc, true)?]?;
-    let link = map(alloc, &objects, &options(0x1000, 1, None))?;
+    let link = mapped(alloc, &objects, &options(0x1000, 1, None))?;
     assert_eq!(rt; link.outputs().len(), 2);
     let first = &link.outputs()[0];
     assert_eq!(rt; (first.address, first.length, first.flags), (0x1000, 1, 6));
@@ -66,5 +66,23 @@ fn keeps_the_first_group_alone(rt: HostRuntime) -> Result<(), Fail> {
         link.binding(b"f"),
         Some(Binding::Strong { file: 0, symbol: 0 })
     );
+    Ok(())
+}
+
+#[test]
+fn maps_alike_where_all_keys_meet(rt: HostRuntime) -> Result<(), Fail> {
+    let alloc = rt.alloc();
+    let objects = vec![in alloc; file(alloc, false)?, file(alloc, true)?]?;
+    let link = flatly_mapped(alloc, &objects, &options(0x1000, 1, None))?;
+    assert_eq!(rt; link.outputs().len(), 2);
+    let first = &link.outputs()[0];
+    assert_eq!(rt; (first.address, first.length, first.flags), (0x1000, 1, 6));
+    let second = &link.outputs()[1];
+    assert_eq!(rt;
+        (second.address, second.length, second.flags),
+        (0x1001, 5, 6)
+    );
+    assert_eq!(rt; link.address(0, 1), Some(0x1000));
+    assert_eq!(rt; link.address(1, 2), Some(0x1001));
     Ok(())
 }

@@ -1,8 +1,9 @@
 //! Objects for the tests, by their parts.
 use elf_field::Order;
-use elf_link::{LinkFault, Options, map};
+use elf_link::{LinkFault, LinkMap, Options, map};
 use elf_object::{Body, Info, Object, ObjectFault, ObjectParts, Place, Section, Symbol};
 use std::alloc::Global;
+use std::hash::{BuildHasher, BuildHasherDefault, DefaultHasher, Hasher};
 
 pub(crate) const GLOBAL: u8 = 0x10;
 
@@ -73,13 +74,64 @@ pub(crate) fn options(base: u64, page: u64, entry: Option<&'static [u8]>) -> Opt
     Options { base, page, entry }
 }
 
+/// A hasher that gives 0 for every key, so that all keys meet.
+#[derive(Clone, Copy, Debug)]
+pub(crate) struct Flat {
+    pub state: u64,
+}
+
+impl Hasher for Flat {
+    ghost write = { λ s _. s };
+
+    ghost finish = { λ _. 0 };
+
+    fn finish(&self) -> u64 {
+        0
+    }
+
+    fn write(&mut self, _bytes: &[u8]) {}
+}
+
+impl BuildHasher for Flat {
+    type Hasher = Flat;
+
+    ghost build_hasher = { λ _. record { state = 0 } };
+
+    fn build_hasher(&self) -> Flat {
+        Flat { state: 0 }
+    }
+}
+
+/// The link map of these objects, by a hasher that spreads no keys.
+pub(crate) fn flatly_mapped<'a>(
+    alloc: Global,
+    objects: &[Object<'a>],
+    options: &Options<'_>,
+) -> Result<LinkMap<'a>, LinkFault> {
+    map(alloc, objects, options, Flat { state: 0 })
+}
+
+/// The link map of these objects, by std's hasher.
+pub(crate) fn mapped<'a>(
+    alloc: Global,
+    objects: &[Object<'a>],
+    options: &Options<'_>,
+) -> Result<LinkMap<'a>, LinkFault> {
+    map(
+        alloc,
+        objects,
+        options,
+        BuildHasherDefault::<DefaultHasher>::new(),
+    )
+}
+
 /// The fault of a link.
 pub(crate) fn fault_of(
     alloc: Global,
     objects: &[Object<'_>],
     options: &Options<'_>,
 ) -> Option<LinkFault> {
-    match map(alloc, objects, options) {
+    match mapped(alloc, objects, options) {
         Ok(_) => None,
         Err(fault) => Some(fault),
     }

@@ -7,10 +7,10 @@ use Rattle.elf_link.specs.Planning.{HaveChosen}
 use Rattle.elf_link.proofs.link.map.Goals as goal
 
 pub outputs_of-requires : goal.outputs_of-requires
-outputs_of-requires c = record {
+outputs_of-requires g c = record {
   live = subst (λ (ps : List Site). Lists (live c.args.objects.now) ps) (sym c.deref-2.ensures.value) c.in_ok-live.ensures;
 }
 
 pub placed_map-requires-clause-all : goal.placed_map-requires-clause-all
-placed_map-requires-clause-all c =
+placed_map-requires-clause-all g c =
     subst (λ (cs : List Chosen). HaveChosen c.args.objects.now cs) (sym c.deref-5.ensures.value) c.in_ok-chosen.ensures.all

@@ -9,7 +9,7 @@ use Rattle.elf_link.specs.Addresses.{HasValue, IsTarget, IsTargetBelow, address_
 use Rattle.elf_link.specs.Entry.{IsEntryTarget}
 use Rattle.elf_link.specs.LinkFaults.{IsLinkFault}
 use Rattle.elf_link.specs.LinkMap.{AreAddresses, AreBindings, ArePlacedCommons, ArePlacedOutputs}
-use Rattle.elf_link.specs.LinkMapView.{common_value, names_of, output_value}
+use Rattle.elf_link.specs.LinkMapView.{common_value, output_value}
 use Rattle.elf_link.specs.Plan.{parts_of}
 use Rattle.elf_link.specs.Planning.{HaveCommons}
 use Rattle.elf_link.specs.Rows.{FirstIn}
@@ -120,7 +120,8 @@ returns-clause-map c =
         addresses = subst (λ (ps : List Site). AreAddresses fs ps places rows) (c.deref-4.ensures.value ∙ c.in_ok-sites.ensures)
             (subst (λ (xs : List ℕ). AreAddresses fs c.deref-4.result.now xs rows) c.deref-5.ensures.value c.in_ok-addresses.ensures);
         discarded = c.requires.marks;
-        bindings = subst (λ (xs : List Common). AreBindings fs (map common_value xs) (names_of c.in_ok-bindings.bindings)) c.deref-10.ensures.value c.in_ok-bindings.ensures;
+        bindings = subst (λ (xs : List Common). AreBindings fs (map common_value xs) c.in_ok-names.names) c.deref-10.ensures.value c.in_ok-names.ensures.bindings;
+        names = c.in_ok-names.ensures.names;
         outputs = subst (λ (n : ℕ). ArePlacedOutputs fs oss (parts_of fs opt.page (record { outputs = oss; commons = cs })) places n os) (sym (length-map c.args.outputs.now (λ ms. ms.items)))
             (subst (λ (ps : List (ℕ × ℕ)). ArePlacedOutputs fs oss ps places (length c.args.outputs.now) os) (c.deref-6.ensures.value ∙ c.in_ok-parts.ensures)
             (subst (λ (xs : List ℕ). ArePlacedOutputs fs oss c.deref-6.result.now xs (length c.args.outputs.now) os) c.deref-7.ensures.value c.in_ok-outputs.ensures));
