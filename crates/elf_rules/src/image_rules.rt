@@ -97,7 +97,7 @@ fn judge_tables(bytes: &[u8], header: &Ehdr) -> Result<Counts, Broken>
 }
 
 /// Rules 22 to 32, of a file of `len` bytes with these counts and this section name string table.
-fn judge_entries<T: Records>(
+pub fn judge_entries<T: Records>(
     records: &T,
     header: &Ehdr,
     counts: Counts,

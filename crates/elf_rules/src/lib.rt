@@ -10,7 +10,7 @@
 //!
 //! [`rules`] names the numbers and says what breaks each rule. A rule is one row of a list of definitions,
 //! over the file's length, its header and its entries by index: so an image that is no file yet is
-//! held to the same rules.
+//! judged by the same rules, and the same judges read a file's bytes and tables in memory ([`Records`]).
 //! [`judge_records`] answers a file that keeps rules 1 to 32 with its header and counts.
 #![tactic(auto)]
 
@@ -37,10 +37,11 @@ pub mod tables;
 pub use alignment::is_wrong_alignment;
 pub use broken::Broken;
 pub use header_rules::MAX_LEN;
-pub use image_rules::{judge_by_sorting, judge_records, verdict};
+pub use image_rules::{judge_by_sorting, judge_entries, judge_records, verdict};
 pub use judged_records::JudgedRecords;
 pub use laws::{extents_of_image, fault_of_extents, kept_rules, one_fault};
-pub use string_table::unclosed_at;
+pub use records::{FileRecords, Records, TableRecords};
+pub use string_table::{TableEnds, ends_of, unclosed_at};
 
 #[cfg(test)]
 mod tests;

@@ -19,7 +19,7 @@ use elf_field::abi::*;
 
 /// The content of the section name string table of index `table`; 0 is none, and empty.
 #[tactic(auto, unfolding(crate::specs::Tables::names_at))]
-pub(crate) fn names_of<'a>(bytes: &'a [u8], header: &Ehdr, table: u64) -> &'a [u8]
+pub fn names_of<'a>(bytes: &'a [u8], header: &Ehdr, table: u64) -> &'a [u8]
     requires { header.now.e_shoff ≢ 0 → shdr_offset header.now table + SHDR_SIZE ≤ length bytes.now }
     ensures names { result.now ≡ names_at bytes.now header.now table }
     ensures inside { let start = (sections bytes.now header.now table).sh_offset in
@@ -34,7 +34,7 @@ pub(crate) fn names_of<'a>(bytes: &'a [u8], header: &Ehdr, table: u64) -> &'a [u
 /// Rules 30 to 32, of `count` sections with the name table of index `table`, 0 for none, of this
 /// length and these ends.
 #[tactic(auto, unfolding(crate::specs::NameRules::name_rules))]
-pub(crate) fn judge_names<T: Records>(
+pub fn judge_names<T: Records>(
     records: &T,
     header: &Ehdr,
     count: u64,

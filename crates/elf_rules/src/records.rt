@@ -1,11 +1,11 @@
-//! Where the records of a file are read, so that the rules on them are judged, and proved, over records by index.
+//! Where the records of a file are read: in its bytes, or in tables in memory.
 ghost use Rattle.std.specs.Prelude.{◌≡◌, ◌≢◌, ◌≤◌, ◌+◌, length};
 
-use crate::tables::{section_at, segment_at};
+use crate::tables::{NO_SECTION, NO_SEGMENT, section_at, segment_at};
 use elf_field::{Ehdr, Phdr, Shdr};
 
 /// Section headers and program headers by index.
-pub(crate) trait Records {
+pub trait Records {
     ghost use Rattle.std.specs.Prelude.{ℕ};
     ghost use Rattle.elf_field.specs.declared.shdr.Shdr.{Shdr};
     ghost use Rattle.elf_field.specs.declared.phdr.Phdr.{Phdr};
@@ -33,7 +33,7 @@ pub(crate) trait Records {
 
 /// The records in the bytes of a file with this header.
 #[derive(Clone, Copy, Drop)]
-pub(crate) struct FileRecords<'a> {
+pub struct FileRecords<'a> {
     pub bytes: &'a [u8],
     pub header: &'a Ehdr,
 }
@@ -57,5 +57,39 @@ impl<'a> Records for FileRecords<'a> {
 
     fn segment(&self, index: u64) -> Phdr {
         segment_at(self.bytes, self.header, index)
+    }
+}
+
+/// The records in tables in memory.
+#[derive(Clone, Copy, Drop)]
+pub struct TableRecords<'a> {
+    pub sections: &'a [Shdr],
+    pub segments: &'a [Phdr],
+}
+
+impl<'a> Records for TableRecords<'a> {
+    ghost use Rattle.elf_rules.specs.Tables.{section_of, segment_of};
+
+    ghost sections = { λ r i. section_of r.sections.now i };
+
+    // what isn't there is all zeros
+    ghost HasSection = { λ r i. Unit {0} };
+
+    ghost segments = { λ r j. segment_of r.segments.now j };
+
+    ghost HasSegment = { λ r j. Unit {0} };
+
+    fn section(&self, index: u64) -> Shdr {
+        match self.sections.get(index as usize) {
+            Some(entry) => *entry,
+            None => NO_SECTION,
+        }
+    }
+
+    fn segment(&self, index: u64) -> Phdr {
+        match self.segments.get(index as usize) {
+            Some(entry) => *entry,
+            None => NO_SEGMENT,
+        }
     }
 }

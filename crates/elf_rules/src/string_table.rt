@@ -6,14 +6,14 @@ ghost use Rattle.elf_rules.specs.StringTable.{AreEnds, UnclosedAt};
 /// What rules look at of a string table: its length in bytes, and its first and last byte, which are
 /// any where it is empty.
 #[derive(Clone, Copy, Debug, PartialEq, Eq)]
-pub(crate) struct TableEnds {
+pub struct TableEnds {
     pub len: u64,
     pub first: u8,
     pub last: u8,
 }
 
 /// The length and the ends of a string table.
-pub(crate) fn ends_of(table: &[u8]) -> TableEnds
+pub fn ends_of(table: &[u8]) -> TableEnds
     ensures { AreEnds result table.now }
 {
     let (first, last) = match (table.first(), table.last()) {

@@ -42,6 +42,18 @@ pub(crate) const NO_SECTION: Shdr = Shdr {
     sh_entsize: 0,
 };
 
+/// What stands for a program header that isn't there.
+pub(crate) const NO_SEGMENT: Phdr = Phdr {
+    p_type: 0,
+    p_flags: 0,
+    p_offset: 0,
+    p_vaddr: 0,
+    p_paddr: 0,
+    p_filesz: 0,
+    p_memsz: 0,
+    p_align: 0,
+};
+
 /// Section header `index` of a file with this header, where it lies in the file; all zeros without a
 /// section table.
 #[tactic(auto, unfolding(crate::specs::Tables::sections))]
