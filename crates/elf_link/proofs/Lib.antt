@@ -10,6 +10,7 @@ pub mod Bound
 pub mod Earlier
 pub mod Plans
 pub mod Openers
+pub mod Grouped
 pub mod FirstSite
 pub mod ChosenCommons
 pub mod BoundNames

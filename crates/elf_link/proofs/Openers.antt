@@ -39,10 +39,10 @@ one_key fs p q = elim (same_name (section_of fs p).name (section_of fs q).name) 
   ]
 ]
 
-key_swap : (fs : List ObjectValue) (p q : Site) → HaveOneKey fs p q → HaveOneKey fs q p
+pub key_swap : (fs : List ObjectValue) (p q : Site) → HaveOneKey fs p q → HaveOneKey fs q p
 key_swap fs p q (name, flags, kind) = (sym name, sym flags, sym kind)
 
-key_join : (fs : List ObjectValue) (p q r : Site) → HaveOneKey fs p q → HaveOneKey fs q r → HaveOneKey fs p r
+pub key_join : (fs : List ObjectValue) (p q r : Site) → HaveOneKey fs p q → HaveOneKey fs q r → HaveOneKey fs p r
 key_join fs p q r (name, flags, kind) (name_2, flags_2, kind_2) = (name ∙ name_2, flags ∙ flags_2, kind ∙ kind_2)
 
 -- ---- each live section goes to an output

@@ -12,13 +12,13 @@ pub mod NameRules
 pub mod LinkRules
 pub mod Listing
 pub mod Outputs
-pub mod OutputPicks
 pub mod Plan
 pub mod Entry
 pub mod LinkMap
 pub mod LinkMapView
 pub mod Naming
 pub mod Planning
+pub mod OutputGroups
 pub mod LinkFaults
 pub mod Addresses
 pub mod AddressFault

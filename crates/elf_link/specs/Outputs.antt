@@ -36,6 +36,10 @@ HaveOneKey fs p q =
 abbrev pub IsOpener : List ObjectValue → Site → Type 0
 IsOpener fs p = (q : Site) → live fs q → Before q p → HaveOneKey fs q p → ⊥
 
+-- the live sections with bits, or without
+abbrev pub of_kind : List ObjectValue → Bool → Row
+of_kind fs without p = live fs p × (is_no_bits (section_of fs p).body ≡ without)
+
 -- the sections that open the outputs with bits, and those without
 abbrev pub openers : List ObjectValue → Bool → Row
 openers fs without p = live fs p × (IsOpener fs p × (is_no_bits (section_of fs p).body ≡ without))

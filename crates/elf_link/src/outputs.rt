@@ -1,16 +1,31 @@
-//! Output sections: which live sections open one, and which go to it.
-ghost use Rattle.std.specs.Prelude.{◌≡◌, ◌↔◌, ℕ, ◌+◌, ◌<◌, IfOk, IsTrue, OnOk, length};
+//! Output sections: the live sections of each, in order.
+ghost use Rattle.std.specs.Prelude.{◌≡◌, ◌↔◌, ◌+◌, ◌<◌, [], ◌∷◌, ◌++◌, IfOk, IsTrue, OnOk, get_or, length, map, set};
 ghost use Rattle.elf_link.specs.Files.{object_at};
-ghost use Rattle.elf_link.specs.Listing.{Lists, site_at};
-ghost use Rattle.elf_link.specs.Outputs.{HaveOneKey, IsOpener, Picks, is_no_bits as is_no_bits_of, live as live_row, output_flags as output_flags_of, section_of as section_value_of};
+ghost use Rattle.elf_link.specs.Listing.{AreIn, Lists, site_at};
+ghost use Rattle.elf_link.specs.OutputGroups.{AreGrouped, AreGroups, AreInOrder, IsKeyOf};
+ghost use Rattle.elf_link.specs.Outputs.{Picks, is_no_bits as is_no_bits_of, live as live_row, of_kind, output_flags as output_flags_of, section_of as section_value_of};
+ghost use Rattle.elf_link.specs.Plan.{AreOutputs, flat};
+ghost use Rattle.elf_link.specs.Planning.{AreAllIn, AreLive, AreSome};
 ghost use Rattle.elf_object.specs.ObjectView.{body_value};
-ghost use Rattle.elf_link.specs.OutputPicks.{IsPick, IsPicked};
 
 use crate::files::section_of;
 use crate::site::Site;
 use elf_field::abi::*;
 use elf_object::{Body, Object};
+use indexmap::IndexSet;
 use std::alloc::{AllocError, Global};
+use std::hash::BuildHasher;
+
+/// What the sections of one output section have in common.
+#[derive(Clone, Copy, Debug, PartialEq, Eq, Hash)]
+pub(crate) struct OutputKey<'a> {
+    /// The name.
+    name: &'a [u8],
+    /// All flags but `SHF_GROUP`.
+    flags: u64,
+    /// Whether they take memory without bits.
+    no_bits: bool,
+}
 
 /// All flags of a section but `SHF_GROUP`.
 pub(crate) fn output_flags(flags: u64) -> u64
@@ -26,105 +41,138 @@ pub(crate) fn is_no_bits(body: &Body<'_>) -> bool
     matches!(body, Body::NoBits(_))
 }
 
-/// Whether two sections go to one output section.
-fn have_one_key(objects: &[Object<'_>], p: Site, q: Site) -> bool
-    requires p_file { p.file < length objects.now }
-    requires p_index { p.index < length (object_at objects.now p.file).sections }
-    requires q_file { q.file < length objects.now }
-    requires q_index { q.index < length (object_at objects.now q.file).sections }
-    ensures { IsTrue result ↔ HaveOneKey objects.now p q }
+/// The key of the output that a section goes to.
+fn key_of<'a>(objects: &[Object<'a>], site: Site) -> OutputKey<'a>
+    requires file { site.file < length objects.now }
+    requires index { site.index < length (object_at objects.now site.file).sections }
+    ensures { IsKeyOf objects.now site result }
 {
-    let one = section_of(objects, p.file, p.index);
-    let other = section_of(objects, q.file, q.index);
-    one.name == other.name
-        && output_flags(one.flags) == output_flags(other.flags)
-        && is_no_bits(&one.body) == is_no_bits(&other.body)
-}
-
-/// What is picked from the list of live sections.
-#[derive(Clone, Copy, Debug, PartialEq, Eq)]
-pub(crate) enum Pick {
-    /// The sections that open an output: those without bits, or those with.
-    Openers(bool),
-    /// The members of the output that the section at this site opens.
-    Members(Site),
-}
-
-/// Whether the section at position `k` of the list opens an output.
-fn is_opener(objects: &[Object<'_>], live: &[Site], k: usize) -> bool
-    requires k { k < length live.now }
-    requires live { Lists (live_row objects.now) live.now }
-    ensures { IsTrue result ↔ IsOpener objects.now (site_at live.now k) }
-{
-    for j in 0..k {
-        if have_one_key(objects, live[j], live[k]) {
-            return false;
-        }
-    }
-    true
-}
-
-/// Whether the section at position `k` of the list takes memory without bits.
-fn is_without(objects: &[Object<'_>], live: &[Site], k: usize) -> bool
-    requires k { k < length live.now }
-    requires live { Lists (live_row objects.now) live.now }
-    ensures { result ≡ is_no_bits_of (section_value_of objects.now (site_at live.now k)).body }
-{
-    is_no_bits(&section_of(objects, live[k].file, live[k].index).body)
-}
-
-impl Pick {
-    /// Whether the section at position `k` of the list is picked.
-    fn takes(self, objects: &[Object<'_>], live: &[Site], k: usize) -> bool
-        requires pick { IsPick objects.now self }
-        requires k { k < length live.now }
-        requires live { Lists (live_row objects.now) live.now }
-        ensures { IsTrue result ↔ IsPicked objects.now self (site_at live.now k) }
-    {
-        match self {
-            Pick::Openers(without) => {
-                is_opener(objects, live, k) && is_without(objects, live, k) == without
-            }
-            Pick::Members(opener) => have_one_key(objects, live[k], opener),
-        }
+    let section = section_of(objects, site.file, site.index);
+    OutputKey {
+        name: section.name,
+        flags: output_flags(section.flags),
+        no_bits: is_no_bits(&section.body),
     }
 }
 
-/// Adds the section at position `k` of the list to what is picked before it, where it is picked.
-fn push_pick(
-    pick: Pick,
+/// Whether the section at position `k` of the list has bits, or takes memory without them, as asked.
+fn is_of_kind(without: bool, objects: &[Object<'_>], live: &[Site], k: usize) -> bool
+    requires k { k < length live.now }
+    requires live { Lists (live_row objects.now) live.now }
+    ensures { IsTrue result ↔ (is_no_bits_of (section_value_of objects.now (site_at live.now k)).body ≡ without) }
+{
+    is_no_bits(&section_of(objects, live[k].file, live[k].index).body) == without
+}
+
+/// Adds the section at position `k` of the list to those of its kind before it, where it is of the kind.
+fn push_kind(
+    without: bool,
     objects: &[Object<'_>],
     live: &[Site],
     k: usize,
     picked: &mut Vec<Site>,
 ) -> Result<(), AllocError>
-    requires pick { IsPick objects.now pick }
     requires k { k < length live.now }
     requires live { Lists (live_row objects.now) live.now }
-    requires before { Picks live.now k (IsPicked objects.now pick) picked.old.items }
-    ensures { OnOk result (Picks live.now (k + 1) (IsPicked objects.now pick) picked.new.items) }
+    requires before { Picks live.now k (λ p. is_no_bits_of (section_value_of objects.now p).body ≡ without) picked.old.items }
+    ensures { OnOk result (Picks live.now (k + 1) (λ p. is_no_bits_of (section_value_of objects.now p).body ≡ without) picked.new.items) }
 {
-    if !pick.takes(objects, live, k) {
+    if !is_of_kind(without, objects, live, k) {
         return Ok(());
     }
     picked.push(live[k])?;
     Ok(())
 }
 
-/// The sections that are picked from the list of live sections, in order.
-pub(crate) fn all_picked(
+/// The live sections with bits or without, in order.
+fn all_of_kind(
     alloc: Global,
-    pick: Pick,
+    without: bool,
     objects: &[Object<'_>],
     live: &[Site],
 ) -> Result<Vec<Site>, AllocError>
-    requires pick { IsPick objects.now pick }
     requires live { Lists (live_row objects.now) live.now }
-    ensures { IfOk result (λ picked. Lists (λ p. live_row objects.now p × IsPicked objects.now pick p) picked.items) }
+    ensures { IfOk result (λ picked. Lists (of_kind objects.now without) picked.items) }
 {
     let mut picked = Vec::new(alloc);
     for k in 0..live.len() {
-        push_pick(pick, objects, live, k, &mut picked)?;
+        push_kind(without, objects, live, k, &mut picked)?;
     }
     Ok(picked)
+}
+
+/// Adds a site to a group.
+fn add_member(groups: &mut Vec<Vec<Site>>, rank: usize, site: Site) -> Result<(), AllocError>
+    requires { rank < length groups.old.items }
+    ensures { OnOk result (map (λ ms. ms.items) groups.new.items ≡
+        set (map (λ ms. ms.items) groups.old.items) rank (get_or (map (λ ms. ms.items) groups.old.items) rank [] ++ site ∷ [])) }
+{
+    groups[rank].push(site)?;
+    Ok(())
+}
+
+/// Puts the section at position `k` of the list into the group of its key, which it opens where no section before it has the
+/// key.
+fn group_section<'a, S: BuildHasher + Drop>(
+    alloc: Global,
+    objects: &[Object<'a>],
+    sites: &[Site],
+    k: usize,
+    seen: &mut IndexSet<OutputKey<'a>, S>,
+    groups: &mut Vec<Vec<Site>>,
+) -> Result<(), AllocError>
+    requires k { k < length sites.now }
+    requires sites { AreIn objects.now sites.now }
+    requires order { AreInOrder sites.now }
+    requires before { AreGrouped objects.now sites.now k seen.old.keys (map (λ ms. ms.items) groups.old.items) }
+    ensures { OnOk result (AreGrouped objects.now sites.now (k + 1) seen.new.keys (map (λ ms. ms.items) groups.new.items)) }
+{
+    let (rank, _) = seen.insert_full(key_of(objects, sites[k]))?;
+    if rank < groups.len() {
+        add_member(groups, rank, sites[k])?;
+        return Ok(());
+    }
+    groups.push(vec![in alloc; sites[k]]?)?;
+    Ok(())
+}
+
+/// The groups of these sections by key, in the order of the first section of each. What the set had before is forgotten.
+fn groups_of<'a, S: BuildHasher + Drop>(
+    alloc: Global,
+    objects: &[Object<'a>],
+    sites: &[Site],
+    seen: &mut IndexSet<OutputKey<'a>, S>,
+) -> Result<Vec<Vec<Site>>, AllocError>
+    requires sites { AreIn objects.now sites.now }
+    requires order { AreInOrder sites.now }
+    ensures { IfOk result (λ groups. AreGroups objects.now sites.now (map (λ ms. ms.items) groups.items)) }
+{
+    seen.clear();
+    let mut groups = Vec::new(alloc);
+    for k in 0..sites.len() {
+        group_section(alloc, objects, sites, k, seen, &mut groups)?;
+    }
+    Ok(groups)
+}
+
+/// The members of each output, in order of placement: of those with bits, and behind them of those without.
+pub(crate) fn outputs_of<'a, S: BuildHasher + Drop>(
+    alloc: Global,
+    objects: &[Object<'a>],
+    live: &[Site],
+    hasher: S,
+) -> Result<Vec<Vec<Site>>, AllocError>
+    requires live { Lists (live_row objects.now) live.now }
+    ensures outputs { IfOk result (λ outputs. AreOutputs objects.now (map (λ ms. ms.items) outputs.items)) }
+    ensures within { IfOk result (λ outputs. AreAllIn objects.now (map (λ ms. ms.items) outputs.items)) }
+    ensures some { IfOk result (λ outputs. AreSome (map (λ ms. ms.items) outputs.items)) }
+    ensures live { IfOk result (λ outputs. AreLive objects.now (flat (map (λ ms. ms.items) outputs.items))) }
+{
+    let mut seen = IndexSet::with_hasher(alloc, hasher);
+    let with = all_of_kind(alloc, false, objects, live)?;
+    let mut outputs = groups_of(alloc, objects, &with, &mut seen)?;
+    let without = all_of_kind(alloc, true, objects, live)?;
+    let mut behind = groups_of(alloc, objects, &without, &mut seen)?;
+    outputs.append(&mut behind)?;
+    Ok(outputs)
 }
