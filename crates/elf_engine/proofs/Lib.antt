@@ -4,3 +4,6 @@ pub mod Digits
 pub mod Output
 pub mod Words
 pub mod Left
+pub mod Inputs
+pub mod Lines
+pub mod ObjectFiles

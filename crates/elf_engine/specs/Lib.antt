@@ -2,7 +2,11 @@
 pub mod Check
 pub mod Engine
 pub mod Fault
+pub mod Inputs
 pub mod Line
+pub mod Map
+pub mod MapLines
+pub mod ObjectFiles
 pub mod Output
 pub mod Rewrite
 pub mod Show

@@ -3,6 +3,9 @@
 pub(crate) mod check;
 mod input;
 mod lines;
+pub(crate) mod map;
+mod map_text;
+mod object_files;
 mod output;
 pub(crate) mod rewrite;
 pub(crate) mod show;

@@ -13,10 +13,13 @@ mod engine;
 mod fault;
 mod laws;
 mod line;
+mod map_lines;
 mod show_lines;
 mod table_lines;
 
+pub use elf_link::Options;
 pub use engine::check::check;
+pub use engine::map::map;
 pub use engine::rewrite::rewrite;
 pub use engine::show::show;
 pub use fault::{Refusal, ToolFault, Verdict};

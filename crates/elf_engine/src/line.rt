@@ -8,7 +8,7 @@ ghost use Rattle.elf_engine.specs.Line.{blank, hexadecimal, is_graphic as is_gra
 
 mod digits;
 
-use digits::{MOST_DIGITS, put_digits};
+use digits::{MOST_DIGITS, put_digits, put_wide_digits};
 use std::alloc::{AllocError, Global};
 
 /// Appends a line's first word.
@@ -52,6 +52,16 @@ pub(crate) fn push_hexadecimal(text: &mut Vec<u8>, number: u64) -> Result<(), Al
 {
     let mut digits = [0; MOST_DIGITS];
     let start = put_digits(number, 16, &mut digits);
+    text.extend_from_slice(b" 0x")?;
+    text.extend_from_slice(&digits[start..])
+}
+
+/// The same of a number that may be above 64 bits.
+pub(crate) fn push_wide_hexadecimal(text: &mut Vec<u8>, number: u128) -> Result<(), AllocError>
+    ensures { OnOk result (text.new.items ≡ text.old.items ++ blank ∷ hexadecimal number) }
+{
+    let mut digits = [0; MOST_DIGITS];
+    let start = put_wide_digits(number, &mut digits);
     text.extend_from_slice(b" 0x")?;
     text.extend_from_slice(&digits[start..])
 }

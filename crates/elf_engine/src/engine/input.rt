@@ -1,11 +1,13 @@
 //! What the engines read.
-ghost use Rattle.std.specs.Prelude.{◌≡◌, ◌+◌, ◌≤◌, ◌⊎◌, [], take, vec_len, IfErr, IfSome, OnOk};
+ghost use Rattle.std.specs.Prelude.{◌≡◌, ◌+◌, ◌≤◌, ◌⊎◌, [], map, take, vec_len, IfErr, IfOk, IfSome, OnOk};
 ghost use Rattle.std.specs.Io.KnownBytes.{Consumes, IsAtEnd};
 ghost use Rattle.elf_rules.specs.HeaderRules.{MAX_LEN};
 ghost use Rattle.elf_engine.specs.Engine.{IsInputFault};
+ghost use Rattle.elf_engine.specs.Inputs.{AreRead, IsReadingFault};
 
 use crate::fault::ToolFault;
 use elf_image::{Fault, read_to_end};
+use std::alloc::Global;
 use std::io::Read;
 
 /// All bytes of a file, into `buf`, which is empty at the call; of a file longer than 2^30 bytes
@@ -26,4 +28,24 @@ pub(crate) fn read_input<R: Read>(reader: &mut R, buf: &mut Vec<u8>) -> Result<(
         // No rule is judged while the file is read.
         Err(Fault::Rule { .. }) => unreachable!(),
     }
+}
+
+/// The same of several files, one after the other: the next one is not begun before all of the one before it is read.
+pub(crate) fn read_inputs<R: Read>(
+    alloc: Global,
+    readers: &mut [R],
+) -> Result<Vec<Vec<u8>>, ToolFault>
+    ensures ok { IfOk result (λ files.
+        AreRead (map R.remaining readers.old) (map R.remaining readers.new) (map (λ f. f.items) files.items)) }
+    ensures fault { IfErr result (IsReadingFault (map R.remaining readers.old) (map R.remaining readers.new)) }
+{
+    let mut files = Vec::new(alloc);
+    for i in 0..readers.len() {
+        let mut file = Vec::new(alloc);
+        read_input(&mut readers[i], &mut file)?;
+        let Ok(()) = files.push(file) else {
+            return Err(ToolFault::OutOfMemory);
+        };
+    }
+    Ok(files)
 }

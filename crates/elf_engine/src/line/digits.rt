@@ -38,3 +38,21 @@ fn glyph(digit: u64) -> u8
         b'a' + (digit as u8 - 10)
     }
 }
+
+/// Puts the hexadecimal digits of a number of up to 128 bits at the end of `out`, and answers where they start.
+pub(super) fn put_wide_digits(number: u128, out: &mut [u8; MOST_DIGITS]) -> usize
+    ensures inside { result ≤ 64 }
+    ensures digits { drop result out.new ≡ digits 16 false number }
+{
+    let mut start = MOST_DIGITS;
+    let mut rest = number;
+    while start > 0 {
+        start -= 1;
+        out[start] = glyph((rest % 16) as u64);
+        rest /= 16;
+        if rest == 0 {
+            break;
+        }
+    }
+    start
+}

@@ -1,6 +1,4 @@
-use Rattle.std.proofs.Common.{ℕ, List, inl, inr}
-use Rattle.elf_engine.specs.Rewrite.{RewriteSays}
-use Rattle.elf_engine.specs.declared.fault.Verdict.TheVariants.{Done}
+use Rattle.std.proofs.Common.{inl, inr}
 use Rattle.elf_engine.proofs.laws.rewrite_again.Goals as goal
 
 pub returns : goal.returns
