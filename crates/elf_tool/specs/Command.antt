@@ -1,5 +1,6 @@
 -- The program's command: what its words may be, in the words of clap.
-use Rattle.std.specs.Prelude.{◌≡◌, ◌⊎◌, true, false, List, [], ◌∷◌, codes}
+use Rattle.std.specs.Prelude.{◌≡◌, ◌⊎◌, true, false, Some, List, [], ◌∷◌, codes}
+use Rattle.clap.specs.declared.builder.action.ArgAction.TheVariants.{Append}
 use Rattle.clap.specs.Simple.{App, Shape, new_rule, new_shape}
 use Rattle.clap.specs.Walk.{Rule, Text}
 
@@ -19,6 +20,21 @@ show = record (new_shape (codes "show")) { rules = file ∷ [] }
 unfoldable pub rewrite : Shape
 rewrite = record (new_shape (codes "rewrite")) { rules = file ∷ [] }
 
+-- `--base B` and `--page P`
+abbrev pub base : Rule
+base = record (new_rule (codes "B")) { long = Some (codes "base"); required = true }
+
+abbrev pub page : Rule
+page = record (new_rule (codes "P")) { long = Some (codes "page"); required = true }
+
+-- one file or more
+abbrev pub files : Rule
+files = record (new_rule (codes "FILE")) { required = true; action = Some Append }
+
+-- `map --base B --page P FILE...`
+unfoldable pub map_command : Shape
+map_command = record (new_shape (codes "map")) { rules = base ∷ page ∷ files ∷ [] }
+
 -- `elfmap COMMAND ..`; it has no subcommand `help`
 unfoldable pub elfmap : App
 elfmap = record {
@@ -27,7 +43,7 @@ elfmap = record {
     disable_help_subcommand = true;
     is_leaf = false;
   };
-  subs = check ∷ show ∷ rewrite ∷ [];
+  subs = check ∷ show ∷ rewrite ∷ map_command ∷ [];
 }
 
 -- the name of one of the commands

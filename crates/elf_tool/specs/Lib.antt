@@ -1,5 +1,6 @@
 -- The words of this crate's contracts.
 pub mod Command
+pub mod Number
 pub mod Opener
 pub mod Program
 pub mod Words

@@ -1,22 +1,24 @@
 -- How the program ends, and what is out then.
-use Rattle.std.specs.Prelude.{◌≡◌, ◌⊎◌, ℕ, Bool, List, Option, Some, Result, Ok, Err, IfSome}
+use Rattle.std.specs.Prelude.{◌≡◌, ◌⊎◌, ℕ, Bool, List, map, Option, None, Some, Result, Ok, Err, IfSome}
 use Rattle.std.specs.Io.KnownBytes.{Keeps}
 use Rattle.clap.specs.Walk.{Text}
 use Rattle.elf_engine.specs.Check.{IsChecked}
+use Rattle.elf_engine.specs.Map.{IsMapped}
 use Rattle.elf_engine.specs.Rewrite.{IsRewritten}
 use Rattle.elf_engine.specs.Show.{IsShown}
-use Rattle.elf_tool.specs.Opener.{IsOpenFault}
+use Rattle.elf_tool.specs.Opener.{AreOpened, IsOpenFault, IsUnopened}
 use Rattle.elf_tool.specs.Words.{IsAskedBy, IsRefusedBy}
 use Rattle.elf_engine.specs.declared.fault.ToolFault.{ToolFault}
 use Rattle.elf_engine.specs.declared.fault.Verdict.{Verdict}
 use Rattle.elf_engine.specs.declared.fault.Verdict.TheVariants as verdict
 use Rattle.elf_tool.specs.declared.opener.OpenFault.{OpenFault}
+use Rattle.elf_tool.specs.declared.opening.Unopened.{Unopened}
 use Rattle.elf_tool.specs.declared.program.Status.{Status}
 use Rattle.elf_tool.specs.declared.program.Status.TheVariants.{Done, Refused, Usage, Failed}
 use Rattle.elf_tool.specs.declared.words.Request.{Request}
-use Rattle.elf_tool.specs.declared.words.Request.TheVariants.{Check, Show, Rewrite}
+use Rattle.elf_tool.specs.declared.words.Request.TheVariants.{Check, Show, Rewrite, Map}
 use Rattle.elf_tool.specs.declared.words.WordsFault.{WordsFault}
-use Rattle.elf_tool.specs.declared.words.WordsFault.TheVariants.{Words, OutOfMemory}
+use Rattle.elf_tool.specs.declared.words.WordsFault.TheVariants.{Words, TooManyFiles, BadNumber, OutOfMemory}
 
 -- the exit status, as a number
 abbrev pub code_of : Status → ℕ
@@ -43,15 +45,25 @@ EndsFile call known opens old new status =
     × call input rest old new answer × (status ≡ ending_of answer))
     ⊎ ((fault : OpenFault) × IsOpenFault opens fault × (status ≡ Failed) × Keeps old new)
 
+-- files were opened, and `map` was called on their readers; or one of them gave no reader, and nothing is out
+abbrev pub EndsFiles : ℕ → ℕ → (Text → Option (List ℕ)) → (Text → Bool) → List Text → Option (List ℕ) → Option (List ℕ) → Status → Type 0
+EndsFiles base page holds opens names old new status =
+    ((inputs rests : List (Option (List ℕ))) × (answer : Result Verdict ToolFault) × AreOpened holds names inputs
+    × IsMapped (record { base = base; page = page; entry = None }) inputs rests old new answer × (status ≡ ending_of answer))
+    ⊎ ((unopened : Unopened) × IsUnopened opens names unopened × (status ≡ Failed) × Keeps old new)
+
 -- each command, over the files' known bytes by name, and which are known to open
 abbrev pub EndsRequest : (Text → Option (List ℕ)) → (Text → Bool) → Option (List ℕ) → Option (List ℕ) → Request → Status → Type 0
 EndsRequest holds opens old new (Check file) status = EndsFile IsChecked (holds file.now) (opens file.now) old new status
 EndsRequest holds opens old new (Show file) status = EndsFile IsShown (holds file.now) (opens file.now) old new status
 EndsRequest holds opens old new (Rewrite file) status = EndsFile IsRewritten (holds file.now) (opens file.now) old new status
+EndsRequest holds opens old new (Map base page files) status = EndsFiles base page holds opens (map (λ f. f.now) files.items) old new status
 
 -- words that ask for nothing: nothing is out
 abbrev pub EndsWords : Option (List ℕ) → Option (List ℕ) → WordsFault → Status → Type 0
 EndsWords old new (Words error) status = (status ≡ Usage) × Keeps old new
+EndsWords old new TooManyFiles status = (status ≡ Usage) × Keeps old new
+EndsWords old new BadNumber status = (status ≡ Usage) × Keeps old new
 EndsWords old new OutOfMemory status = (status ≡ Failed) × Keeps old new
 
 -- the whole program

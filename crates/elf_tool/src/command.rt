@@ -3,9 +3,9 @@
 ghost use Rattle.std.specs.Prelude.{◌≡◌, false, IfOk};
 ghost use Rattle.clap.specs.Words.{app_of, shape_of};
 ghost use Rattle.clap.specs.declared.builder.command.Command.TheViews.{out-Command as fields_of};
-ghost use Rattle.elf_tool.specs.Command.{check, elfmap as elfmap_app, rewrite, show};
+ghost use Rattle.elf_tool.specs.Command.{check, elfmap as elfmap_app, map_command as map_shape, rewrite, show};
 
-use clap::{Arg, Command};
+use clap::{Arg, ArgAction, Command};
 use std::alloc::{AllocError, Global};
 
 /// The whole command.
@@ -13,12 +13,13 @@ pub(crate) fn elfmap<'a>(alloc: Global) -> Result<Command<'a>, AllocError>
     ensures { IfOk result (λ command. app_of command ≡ elfmap_app) }
 {
     Command::new(alloc, "elfmap")
-        .about("Checks, shows and rewrites ELF-64 object files")
+        .about("Checks, shows, rewrites and links ELF-64 object files")
         .subcommand_required(true)
         .disable_help_subcommand(true)
         .subcommand(check_command(alloc)?)?
         .subcommand(show_command(alloc)?)?
-        .subcommand(rewrite_command(alloc)?)
+        .subcommand(rewrite_command(alloc)?)?
+        .subcommand(map_command(alloc)?)
 }
 
 fn check_command<'a>(alloc: Global) -> Result<Command<'a>, AllocError>
@@ -55,4 +56,27 @@ fn rewrite_command<'a>(alloc: Global) -> Result<Command<'a>, AllocError>
     Command::new(alloc, "rewrite")
         .about("Writes the object of FILE in canonical layout on standard output")
         .arg(file)
+}
+
+fn map_command<'a>(alloc: Global) -> Result<Command<'a>, AllocError>
+    ensures shape { IfOk result (λ command. shape_of command ≡ map_shape) }
+    ensures local { IfOk result (λ command. (fields_of command).has_globals ≡ false) }
+{
+    let base = Arg::new(alloc, "B")
+        .long("base")
+        .help("The address that placement begins at, a multiple of P")
+        .required(true);
+    let page = Arg::new(alloc, "P")
+        .long("page")
+        .help("What each output section begins at a multiple of, a power of two")
+        .required(true);
+    let files = Arg::new(alloc, "FILE")
+        .help("The relocatable files to link, at most 64")
+        .required(true)
+        .action(ArgAction::Append);
+    Command::new(alloc, "map")
+        .about("Shows where the sections and names of the FILEs stand in their link")
+        .arg(base)?
+        .arg(page)?
+        .arg(files)
 }

@@ -10,11 +10,13 @@
 
 mod command;
 mod machine;
+mod number;
 mod opener;
+mod opening;
 mod program;
 mod words;
 
-pub use elf_engine::{Refusal, ToolFault, Verdict, check, rewrite, show};
+pub use elf_engine::{Options, Refusal, ToolFault, Verdict, check, map, rewrite, show};
 pub use machine::run_on_machine;
 pub use opener::{MachineFiles, OpenFault, Opener};
 pub use program::{Status, refuse_words, run};

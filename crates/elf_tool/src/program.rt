@@ -1,16 +1,17 @@
 //! The whole program: from the words of its command line to its exit status.
-ghost use Rattle.std.specs.Prelude.{◌≡◌, ◌≢◌, map};
+ghost use Rattle.std.specs.Prelude.{◌≡◌, ◌≢◌, map as map_list};
 ghost use Rattle.std.specs.IoError.{error_kind};
 ghost use Rattle.std.specs.declared.io.ErrorKind.TheVariants.{InvalidData};
 ghost use Rattle.elf_engine.specs.Check.{IsChecked};
 ghost use Rattle.elf_engine.specs.Rewrite.{IsRewritten};
 ghost use Rattle.elf_engine.specs.Show.{IsShown};
-ghost use Rattle.elf_tool.specs.Program.{EndsFile, EndsRun, code_of, ending_of};
+ghost use Rattle.elf_tool.specs.Program.{EndsFile, EndsFiles, EndsRun, code_of, ending_of};
 ghost use Rattle.elf_tool.specs.declared.program.Status.{Status as Ending};
 
 use crate::opener::{OpenFault, Opener};
+use crate::opening::open_all;
 use crate::words::{Request, WordsFault, read_words};
-use elf_engine::{ToolFault, Verdict, check, rewrite, show};
+use elf_engine::{Options, ToolFault, Verdict, check, map, rewrite, show};
 use std::alloc::Global;
 use std::convert::AsStr;
 use std::fmt::Display;
@@ -44,7 +45,7 @@ pub fn run<S: AsStr, O: Opener, W: Write, E: Write>(
     err: &mut E,
 ) -> u8
     ensures { (status : Ending) × (result ≡ code_of status)
-        × EndsRun (map S.text words.now) (O.holds files.old) (O.opens files.old) (W.contents out.old) (W.contents out.new) status }
+        × EndsRun (map_list S.text words.now) (O.holds files.old) (O.opens files.old) (W.contents out.old) (W.contents out.new) status }
 {
     ending(alloc, words, files, out, err) as u8
 }
@@ -56,17 +57,26 @@ fn ending<S: AsStr, O: Opener, W: Write, E: Write>(
     out: &mut W,
     err: &mut E,
 ) -> Status
-    ensures { EndsRun (map S.text words.now) (O.holds files.old) (O.opens files.old) (W.contents out.old) (W.contents out.new) result }
+    ensures { EndsRun (map_list S.text words.now) (O.holds files.old) (O.opens files.old) (W.contents out.old) (W.contents out.new) result }
 {
     match read_words(alloc, words) {
         Ok(Request::Check { file }) => check_file(alloc, file, files, out, err),
         Ok(Request::Show { file }) => show_file(alloc, file, files, out, err),
         Ok(Request::Rewrite { file }) => rewrite_file(alloc, file, files, out, err),
+        Ok(
+            Request::Map {
+                base,
+                page,
+                files: names,
+            },
+        ) => map_files(alloc, base, page, &names, files, out, err),
         Err(WordsFault::Words(error)) => {
             // This text ends with a line feed of its own.
             let _ = write!(err, "{error}");
             Status::Usage
         }
+        Err(WordsFault::TooManyFiles) => misused("too many files", err),
+        Err(WordsFault::BadNumber) => misused("bad number", err),
         Err(WordsFault::OutOfMemory) => fail(&ToolFault::OutOfMemory, err),
     }
 }
@@ -135,6 +145,37 @@ fn rewrite_file<O: Opener, W: Write, E: Write>(
         Ok(mut input) => told_status(rewrite(alloc, &mut input, out), err),
         Err(fault) => unopened(fault, file, err),
     }
+}
+
+fn map_files<O: Opener, W: Write, E: Write>(
+    alloc: Global,
+    base: u64,
+    page: u64,
+    names: &[&str],
+    files: &mut O,
+    out: &mut W,
+    err: &mut E,
+) -> Status
+    ensures { EndsFiles base page (O.holds files.old) (O.opens files.old) (map_list (λ name. name.now) names.now)
+        (W.contents out.old) (W.contents out.new) result }
+{
+    let options = Options {
+        base,
+        page,
+        entry: None,
+    };
+    match open_all(alloc, names, files) {
+        Ok(mut inputs) => status_of(map(alloc, inputs.as_mut_slice(), &options, out), err),
+        Err(failed) => unopened(failed.fault, names[failed.position], err),
+    }
+}
+
+// How the program ends where the words ask for nothing, with this text.
+fn misused<E: Write>(text: &str, err: &mut E) -> Status
+    ensures { result ≡ Status.Usage }
+{
+    let _ = writeln!(err, "{text}");
+    Status::Usage
 }
 
 // How the program ends where the file of this name gave no reader.

@@ -3,7 +3,7 @@ use Rattle.std.proofs.lemmas.Result.{IfOk-weaker}
 use Rattle.clap.specs.Simple.{App, app_of, app_of_fields, new_app, on_top, with_subcommand}
 use Rattle.clap.specs.declared.builder.command.Command.{Command}
 use Rattle.clap.specs.declared.builder.command.Command.TheOpen.{Command-F}
-use Rattle.elf_tool.specs.Command.{check, elfmap, show}
+use Rattle.elf_tool.specs.Command.{check, elfmap, rewrite, show}
 use Rattle.elf_tool.proofs.command.elfmap.Goals as goal
 
 -- the settings of the top, in the order of the code
@@ -26,6 +26,8 @@ returns c =
     c.in_ok-subcommand.ensures.shape c.in_ok-check_command.ensures.local ∙ ap₂ with_subcommand (settings ∙ ap with_settings named) c.in_ok-check_command.ensures.shape in
     let shown : app_of c.in_ok-subcommand-2.field-0 ≡ with_subcommand (with_subcommand (with_settings (new_app (codes "elfmap"))) check) show =
     c.in_ok-subcommand-2.ensures.shape c.in_ok-show_command.ensures.local ∙ ap₂ with_subcommand checked c.in_ok-show_command.ensures.shape in
-    IfOk-weaker c.subcommand-3.result _ _
-    (λ r added. added.shape c.in_ok-rewrite_command.ensures.local ∙ ap₂ with_subcommand shown c.in_ok-rewrite_command.ensures.shape)
-    c.subcommand-3.ensures
+    let rewritten : app_of c.in_ok-subcommand-3.field-0 ≡ with_subcommand (with_subcommand (with_subcommand (with_settings (new_app (codes "elfmap"))) check) show) rewrite =
+    c.in_ok-subcommand-3.ensures.shape c.in_ok-rewrite_command.ensures.local ∙ ap₂ with_subcommand shown c.in_ok-rewrite_command.ensures.shape in
+    IfOk-weaker c.subcommand-4.result _ _
+    (λ r added. added.shape c.in_ok-map_command.ensures.local ∙ ap₂ with_subcommand rewritten c.in_ok-map_command.ensures.shape)
+    c.subcommand-4.ensures

@@ -6,18 +6,18 @@ use Rattle.clap.specs.Simple.{App, app_of, is_simple, subcommand_of}
 use Rattle.clap.specs.Values.{kind_of}
 use Rattle.clap.specs.Walk.{Text}
 use Rattle.clap.specs.declared.error.Error.{Error}
-use Rattle.elf_tool.specs.Command.{check, elfmap, rewrite, show}
+use Rattle.elf_tool.specs.Command.{check, elfmap, map_command, rewrite, show}
 use Rattle.elf_tool.specs.Words.{IsRefusedBy, Tells}
 use Rattle.elf_tool.specs.declared.words.WordsFault.{WordsFault}
-use Rattle.elf_tool.specs.declared.words.WordsFault.TheVariants.{Words, OutOfMemory}
+use Rattle.elf_tool.specs.declared.words.WordsFault.TheVariants.{Words, TooManyFiles, BadNumber, OutOfMemory}
 use Rattle.elf_tool.proofs.words.matches_of.Goals as goal
 
 simple_and_free : is_simple_and_free elfmap ≡ true
-unfolding check show rewrite elfmap
+unfolding check show rewrite map_command elfmap
 simple_and_free = refl
 
 simple : is_simple elfmap ≡ true
-unfolding check show rewrite elfmap
+unfolding check show rewrite map_command elfmap
 simple = refl
 
 pub returns-clause-taken : goal.returns-clause-taken
@@ -34,6 +34,8 @@ returns-clause-entered g c =
 -- an error of clap refuses the words as its fault tells it
 refused_by : (a : App) (words : List Text) (error : Error) (fault : WordsFault) → a ≡ elfmap → HasKind (fault_of a words) error → Tells error fault → IsRefusedBy words fault
 refused_by a words error OutOfMemory is_elfmap kind tells = tt
+refused_by a words error TooManyFiles is_elfmap kind tells = absurd tells
+refused_by a words error BadNumber is_elfmap kind tells = absurd tells
 refused_by a words error (Words e) is_elfmap (inl refused) tells = absurd (tells.1 refused)
 refused_by a words error (Words e) is_elfmap (inr among) tells =
     let of_elfmap = subst (λ (x : App). IsAmong (kind_of error) (fault_of x words)) is_elfmap among in
