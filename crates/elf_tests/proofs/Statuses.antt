@@ -13,10 +13,10 @@ use Rattle.elf_engine.specs.declared.fault.Refusal.TheVariants.{File, Link, TooL
 use Rattle.elf_engine.specs.declared.fault.ToolFault.{ToolFault}
 use Rattle.elf_engine.specs.declared.fault.Verdict.{Verdict}
 use Rattle.elf_engine.specs.declared.fault.Verdict.TheVariants.{Done, Refused}
-use Rattle.elf_tool.specs.Command.{check, elfmap, rewrite, show}
+use Rattle.elf_tool.specs.Command.{check, elfmap, map_command, rewrite, show}
 use Rattle.elf_tool.specs.Program.{EndsRun, code_of, ending_of}
 use Rattle.elf_tool.specs.declared.program.Status.{Status}
-use Rattle.elf_tool.specs.declared.words.Request.TheVariants.{Check, Show, Rewrite}
+use Rattle.elf_tool.specs.declared.words.Request.TheVariants.{Check, Show, Rewrite, Map}
 use Rattle.elf_tool.specs.declared.words.WordsFault.TheVariants as words_fault
 
 -- some rule is broken
@@ -97,11 +97,14 @@ name_of (Some p) = p.0
 
 -- they ask for nothing else
 asks_check : (name : Text) (rows : List Row) → subcommand_of elfmap check_words ≡ Some (name, rows) → name ≡ codes "check"
-unfolding check show rewrite elfmap walked
+unfolding check show rewrite map_command elfmap walked
 asks_check name rows entered = sym (ap name_of entered)
 
 no_rewrite : (name : Text) → name ≡ codes "check" → name ≡ codes "rewrite" → ⊥
 no_rewrite name one other = let both : codes "check" ≡ codes "rewrite" = sym one ∙ other in cc
+
+no_map : (name : Text) → name ≡ codes "check" → name ≡ codes "map" → ⊥
+no_map name one other = let both : codes "check" ≡ codes "map" = sym one ∙ other in cc
 
 -- the whole program says it
 checked_says : (bytes : List ℕ) (old new : Option (List ℕ)) (status : Status) → length bytes ≤ 2 ^ 30
@@ -111,11 +114,16 @@ checked_says bytes old new status short (inl (Check file, asked, inl (input, res
 checked_says bytes old new status short (inl (Show file, asked, inl (input, rest, answer, known, call, is))) =
     status_says ShowSays show_says bytes input rest old new answer status short known call is
 checked_says bytes old new status short (inl (Rewrite file, asked, ends)) = absurd (no_rewrite asked.name (asks_check asked.name asked.rows asked.entered) asked.holds.0)
+checked_says bytes old new status short (inl (Map base page files, asked, ends)) = absurd (no_map asked.name (asks_check asked.name asked.rows asked.entered) asked.holds.0)
 checked_says bytes old new status short (inl (Check file, asked, inr (fault, why, is, kept))) =
     neither status bytes 3 (λ e. omega arith) (λ e. omega arith) (ap code_of is)
 checked_says bytes old new status short (inl (Show file, asked, inr (fault, why, is, kept))) =
     neither status bytes 3 (λ e. omega arith) (λ e. omega arith) (ap code_of is)
 checked_says bytes old new status short (inr (words_fault.Words error, refused, ends)) =
+    neither status bytes 2 (λ e. omega arith) (λ e. omega arith) (ap code_of ends.0)
+checked_says bytes old new status short (inr (words_fault.TooManyFiles, refused, ends)) =
+    neither status bytes 2 (λ e. omega arith) (λ e. omega arith) (ap code_of ends.0)
+checked_says bytes old new status short (inr (words_fault.BadNumber, refused, ends)) =
     neither status bytes 2 (λ e. omega arith) (λ e. omega arith) (ap code_of ends.0)
 checked_says bytes old new status short (inr (words_fault.OutOfMemory, refused, ends)) =
     neither status bytes 3 (λ e. omega arith) (λ e. omega arith) (ap code_of ends.0)
