@@ -3,10 +3,10 @@ use mathlib.Core.Bool.{beq}
 use Rattle.std.proofs.Common.{◌≡◌, ℕ, ◌+◌, ◌<◌, ◌⊎◌, ◌&&◌, Bool, true, false, List, [], ◌∷◌, ◌++◌, get_or, length, map, set, zero, suc, inl, inr, refl, sym, ◌∙◌, ap, subst, arith, length-append}
 use Rattle.std.specs.Global.{Vec}
 use Rattle.std.specs.List.{list_any, position_or_len}
-use Rattle.std.specs.Prelude.{◌==◌, cond, if◌then◌else◌}
+use Rattle.std.specs.Prelude.{◌==◌, if◌then◌else◌}
 use Rattle.std.specs.Str.{bytes_eq}
 use Rattle.std.proofs.lemmas.Bool.{cases_eq, cases_lt, eq-eqb, eqb-true, true≢false}
-use Rattle.std.proofs.lemmas.List.{get_or-map, get_or_push, get_or-set_other, get_or-set_same, length-map, length-set, map-set}
+use Rattle.std.proofs.lemmas.List.{get_or-map, get_or_push, get_or-set_other, get_or-set_same, length-set, map-set}
 use Rattle.std.proofs.lemmas.List.Folds.{list_any_at}
 use Rattle.std.proofs.lemmas.List.Sums.{fails_before_first, passes_at_first}
 use Rattle.std.proofs.lemmas.Slice.Eq.{bytes_eq-Decides}
@@ -16,10 +16,9 @@ use Rattle.elf_link.specs.declared.outputs.OutputKey.{OutputKey}
 use Rattle.elf_link.specs.declared.site.Site.{Site}
 use Rattle.elf_link.specs.Listing.{Lists, site, site_at}
 use Rattle.elf_link.specs.OutputGroups.{AreGrouped, AreGroups, AreHeaded, AreInOrder, IsHead, IsKeyOf, no_key}
-use Rattle.elf_link.specs.Outputs.{HaveOneKey, IsOpener, Picks, is_no_bits, live, members, of_kind, openers, section_of}
-use Rattle.elf_link.specs.Plan.{AreEach, AreMembers, AreOpeners, AreOutputs}
-use Rattle.elf_link.specs.Planning.{AreAllIn, AreLive, AreSome}
-use Rattle.elf_link.specs.Rows.{Before, Row}
+use Rattle.elf_link.specs.Outputs.{HaveOneKey, Picks, members, of_kind, openers}
+use Rattle.elf_link.specs.Plan.{AreEach, AreMembers, AreOpeners}
+use Rattle.elf_link.specs.Rows.{Before}
 use Rattle.elf_link.proofs.Listings.{lists_more, lists_same}
 use Rattle.elf_link.proofs.Naming.{not_true}
 use Rattle.elf_link.proofs.Openers.{key_join, key_swap, same_bool}

@@ -5,7 +5,6 @@ pub mod Marked
 pub mod Listings
 pub mod Starts
 pub mod Picked
-pub mod Most
 pub mod Bound
 pub mod Earlier
 pub mod Plans
@@ -15,6 +14,7 @@ pub mod FirstSite
 pub mod ChosenCommons
 pub mod BoundNames
 pub mod Naming
+pub mod Tabled
 pub mod Placings
 pub mod Cells
 pub mod Maps

@@ -17,10 +17,10 @@ use Rattle.elf_link.specs.declared.names.Named.{Named}
 use Rattle.elf_link.specs.declared.site.Site.{Site}
 use Rattle.elf_link.specs.Binds.{entries}
 use Rattle.elf_link.specs.Files.{symbol_in}
-use Rattle.elf_link.specs.LinkMap.{AreBindings, AreNames, CommonValue, IsBinding, bound_in, no_name}
+use Rattle.elf_link.specs.LinkMap.{AreBindings, AreNames, CommonValue, IsBinding, IsNamed, bound_in, no_name}
 use Rattle.elf_link.specs.LinkMapView.{named_value}
 use Rattle.elf_link.specs.Listing.{Lists, first_entries, site, site_at}
-use Rattle.elf_link.specs.Naming.{AreNamedAt, ArePositions, ArePositionsOf}
+use Rattle.elf_link.specs.Naming.{AreCommonPositionsBelow, AreNamedAt, ArePositions, ArePositionsOf}
 use Rattle.elf_link.specs.Plan.{name_at}
 use Rattle.elf_link.specs.Rows.{Before, IsFirstAt, Nowhere}
 use Rattle.elf_link.specs.Symbols.{IsEntry, binding}
@@ -187,3 +187,20 @@ position_absent bs position name at are =
 
 pub binding_at : (ns : List Named) (k : ℕ) (d : Named) → k < length ns → (get_or (map named_value ns) k no_name).1 ≡ (get_or ns k d).binding
 binding_at ns k d lt = ap (λ (e : List ℕ × Binding). e.1) (get_or-map named_value ns k d no_name lt)
+
+-- ---- commons by name
+
+pub commons_more : (cs : List CommonValue) (n : ℕ) (m : List ℕ) (old now : List ℕ → Option ℕ) → IsNamed cs m n →
+    ((q : List ℕ) → now q ≡ (if bytes_eq m q then Some n else old q)) → AreCommonPositionsBelow cs n old → AreCommonPositionsBelow cs (n + 1) now
+commons_more cs n m old now here added are name = elim (same_name m name) [
+  | inl same ↦ subst (λ (o : Option ℕ). MatchOption o ((k : ℕ) → k < n + 1 → IsNamed cs name k → ⊥) (IsNamed cs name))
+      (sym (added name ∙ ap (λ (t : Bool). if t then Some n else old name) ((bytes_eq-Decides m name).1 same))) (here.0, here.1 ∙ same)
+  | inr other ↦ subst (λ (o : Option ℕ). MatchOption o ((k : ℕ) → k < n + 1 → IsNamed cs name k → ⊥) (IsNamed cs name))
+      (sym (added name ∙ ap (λ (t : Bool). if t then Some n else old name) (not_true (bytes_eq m name) (λ equal. other ((bytes_eq-Decides m name).0 equal)))))
+      (match_map (old name) _ ((k : ℕ) → k < n + 1 → IsNamed cs name k → ⊥) _ (IsNamed cs name)
+      (λ none k lt is. elim (cases_lt k n) [
+        | inl below ↦ none k below is
+        | inr above ↦ (let same : k ≡ n = omega arith in other (sym here.1 ∙ (subst (IsNamed cs name) same is).1))
+      ])
+      (λ k is. is) (are name))
+]

@@ -28,6 +28,6 @@ cond_right : (b x : Bool) → x ≡ true → cond b true x ≡ true
 cond_right true x is = refl
 cond_right false x is = is
 
-file_before : (e h f n : ℕ) → IsEarlier e h f n → IsEarlier e h (f + 1) 0
+pub file_before : (e h f n : ℕ) → IsEarlier e h f n → IsEarlier e h (f + 1) 0
 file_before e h f n (inl before) = inl (omega arith)
 file_before e h f n (inr (same, before)) = inl (omega arith)

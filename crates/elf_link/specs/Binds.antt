@@ -1,11 +1,9 @@
 -- What a name is bound to, over the set of all its entries.
 -- (gABI chapter 4, Symbol Table: STB_GLOBAL, STB_WEAK, SHN_COMMON.)
-use Rattle.std.specs.Prelude.{◌≡◌, ℕ, ◌<◌, ◌≤◌, ◌⊎◌, List}
+use Rattle.std.specs.Prelude.{◌≡◌, ℕ, ◌≤◌, ◌⊎◌, List}
 use Rattle.elf_object.specs.Object.{ObjectValue}
 use Rattle.elf_link.specs.declared.choice.Choice.{Choice}
 use Rattle.elf_link.specs.declared.choice.Choice.TheVariants.{Strong, Common, Weak, Zero}
-use Rattle.elf_link.specs.declared.choice.Measure.{Measure}
-use Rattle.elf_link.specs.declared.choice.Measure.TheVariants.{Size, Align}
 use Rattle.elf_link.specs.declared.site.Site.{Site}
 use Rattle.elf_link.specs.Files.{symbol_in}
 use Rattle.elf_link.specs.Rows.{AtSymbol, IsFirstAt, Nowhere, Row}
@@ -27,10 +25,12 @@ entries fs name = AtSymbol fs (IsEntry fs name)
 abbrev pub not_weak : List ObjectValue → List ℕ → Row
 not_weak fs name = AtSymbol fs (IsNotWeak fs name)
 
--- what a common counts: its size, or its alignment, which is its value
-abbrev pub measured : List ObjectValue → Measure → ℕ → ℕ → ℕ
-measured fs Size f i = (symbol_in fs f i).size
-measured fs Align f i = (symbol_in fs f i).value
+-- the size of a common, and its alignment, which is its value
+abbrev pub size_at : List ObjectValue → ℕ → ℕ → ℕ
+size_at fs f i = (symbol_in fs f i).size
+
+abbrev pub align_at : List ObjectValue → ℕ → ℕ → ℕ
+align_at fs f i = (symbol_in fs f i).value
 
 -- n is the largest at the sites of the row
 pub record IsLargest (row : Row) (measure : ℕ → ℕ → ℕ) (n : ℕ) : Type 0 where
@@ -42,7 +42,7 @@ pub record IsLargest (row : Row) (measure : ℕ → ℕ → ℕ) (n : ℕ) : Typ
 abbrev pub Binds : List ObjectValue → List ℕ → Choice → Type 0
 Binds fs name (Strong file symbol) = IsFirstAt (strong fs name) (record { file = file; index = symbol; entry = 0 })
 Binds fs name (Common size align) =
-    Nowhere (strong fs name) × IsLargest (commons fs name) (measured fs Size) size × IsLargest (commons fs name) (measured fs Align) align
+    Nowhere (strong fs name) × IsLargest (commons fs name) (size_at fs) size × IsLargest (commons fs name) (align_at fs) align
 Binds fs name (Weak file symbol) =
     Nowhere (strong fs name) × Nowhere (commons fs name) × IsFirstAt (weak fs name) (record { file = file; index = symbol; entry = 0 })
 Binds fs name Zero =
@@ -53,20 +53,3 @@ abbrev pub IsUnbound : List ObjectValue → List ℕ → Type 0
 IsUnbound fs name =
     Nowhere (strong fs name) × Nowhere (commons fs name) × Nowhere (weak fs name) ×
     (Nowhere (entries fs name) ⊎ ((p : Site) × not_weak fs name p))
-
--- n is the larger one of `least` and what symbol i of file f counts, where that is a common of the name
-pub record IsLarger (fs : List ObjectValue) (name : List ℕ) (measure : Measure) (f i least n : ℕ) : Type 0 where
-  pub from : least ≤ n
-  pub above : IsCommon fs name f i → measured fs measure f i ≤ n
-  pub attained : (n ≡ least) ⊎ (IsCommon fs name f i × (measured fs measure f i ≡ n))
-
--- n is the largest that the commons of the name count, 0 where there is none
-pub record IsMost (fs : List ObjectValue) (name : List ℕ) (measure : Measure) (n : ℕ) : Type 0 where
-  pub above : (p : Site) → commons fs name p → measured fs measure p.file p.index ≤ n
-  pub attained : (n ≡ 0) ⊎ ((p : Site) × commons fs name p × (measured fs measure p.file p.index ≡ n))
-
--- n is the largest of `least` and what the commons of the name among the first `count` symbols of file f count
-pub record IsMostIn (fs : List ObjectValue) (name : List ℕ) (measure : Measure) (f count least n : ℕ) : Type 0 where
-  pub from : least ≤ n
-  pub above : (k : ℕ) → k < count → IsCommon fs name f k → measured fs measure f k ≤ n
-  pub attained : (n ≡ least) ⊎ ((k : ℕ) × (k < count) × IsCommon fs name f k × (measured fs measure f k ≡ n))

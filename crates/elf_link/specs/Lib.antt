@@ -17,6 +17,7 @@ pub mod Entry
 pub mod LinkMap
 pub mod LinkMapView
 pub mod Naming
+pub mod NameTable
 pub mod Planning
 pub mod OutputGroups
 pub mod LinkFaults

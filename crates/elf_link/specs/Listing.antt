@@ -1,8 +1,8 @@
--- Lists of sites: all that a row holds, in order. So live sections, chosen commons and names are listed.
+-- Lists of sites: all that a row holds, in order. So live sections, chosen commons and first entries are listed.
 use Rattle.std.specs.Prelude.{◌≡◌, ℕ, ◌<◌, List, length, get_or}
 use Rattle.elf_object.specs.Object.{ObjectValue}
 use Rattle.elf_link.specs.declared.listing.Listed.{Listed}
-use Rattle.elf_link.specs.declared.listing.Listed.TheVariants.{LiveSections, ChosenCommons, FirstEntries}
+use Rattle.elf_link.specs.declared.listing.Listed.TheVariants.{LiveSections, ChosenCommons}
 use Rattle.elf_link.specs.declared.site.Site.{Site}
 use Rattle.elf_link.specs.Binds.{commons, entries, strong}
 use Rattle.elf_link.specs.Files.{IsEarlier, object_at, symbol_in}
@@ -38,12 +38,10 @@ first_entries fs = AtSymbol fs (IsFirstEntry fs)
 abbrev pub listed_count : Listed → ObjectValue → ℕ
 listed_count LiveSections = section_count
 listed_count ChosenCommons = symbol_count
-listed_count FirstEntries = symbol_count
 
 abbrev pub IsListed : List ObjectValue → Listed → ℕ → ℕ → Type 0
 IsListed fs LiveSections f i = Live fs f i
 IsListed fs ChosenCommons f i = IsChosen fs f i
-IsListed fs FirstEntries f i = IsFirstEntry fs f i
 
 abbrev pub listed_row : List ObjectValue → Listed → Row
 listed_row fs what = AtEach (listed_count what) fs (IsListed fs what)

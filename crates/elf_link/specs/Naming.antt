@@ -8,7 +8,7 @@ use Rattle.std.specs.Ordering.{is_eq, nat_cmp}
 use Rattle.elf_object.specs.Object.{ObjectValue}
 use Rattle.elf_link.specs.declared.bindings.Binding.{Binding}
 use Rattle.elf_link.specs.declared.site.Site.{Site}
-use Rattle.elf_link.specs.LinkMap.{CommonValue, IsBinding, bound_in, no_name}
+use Rattle.elf_link.specs.LinkMap.{CommonValue, IsBinding, IsNamed, bound_in, no_name}
 use Rattle.elf_link.specs.Listing.{site_at}
 use Rattle.elf_link.specs.Plan.{AreEach, name_at}
 
@@ -33,3 +33,10 @@ AreNamedAt fs cs ps = AreEach no_name (λ k. IsNamedAt fs cs (site_at ps k))
 abbrev pub ArePositionsOf : List ObjectValue → List Site → ℕ → (List ℕ → Option ℕ) → Type 0
 ArePositionsOf fs ps n position = (name : List ℕ) →
     MatchOption (position name) ((k : ℕ) → k < n → name_at fs (site_at ps k) ≡ name → ⊥) (λ k. (k < n) × (name_at fs (site_at ps k) ≡ name))
+
+-- the position of the common of each name
+abbrev pub AreCommonPositionsBelow : List CommonValue → ℕ → (List ℕ → Option ℕ) → Type 0
+AreCommonPositionsBelow cs n position = (name : List ℕ) → MatchOption (position name) ((k : ℕ) → k < n → IsNamed cs name k → ⊥) (IsNamed cs name)
+
+abbrev pub AreCommonPositions : List CommonValue → (List ℕ → Option ℕ) → Type 0
+AreCommonPositions cs = AreCommonPositionsBelow cs (length cs)

@@ -4,10 +4,9 @@ use Rattle.std.specs.Prelude.{◌≡◌, ℕ, ◌<◌, false, true, List, [], �
 use Rattle.std.specs.List.{flat_map}
 use Rattle.elf_object.specs.Object.{ObjectValue}
 use Rattle.elf_link.specs.declared.commons.Chosen.{Chosen}
-use Rattle.elf_link.specs.declared.choice.Measure.TheVariants.{Size, Align}
 use Rattle.elf_link.specs.declared.listing.Listed.TheVariants.{ChosenCommons}
 use Rattle.elf_link.specs.declared.site.Site.{Site}
-use Rattle.elf_link.specs.Binds.{IsLargest, commons, measured}
+use Rattle.elf_link.specs.Binds.{IsLargest, align_at, commons, size_at}
 use Rattle.elf_link.specs.Files.{symbol_in}
 use Rattle.elf_link.specs.Listing.{Lists, listed_row, site, site_at}
 use Rattle.elf_link.specs.Outputs.{members, openers, part_of, raised}
@@ -46,7 +45,7 @@ chosen_at cs k = get_or cs k no_common
 -- a common has the largest size and the largest alignment of its name
 abbrev pub IsOfLargest : List ObjectValue → Chosen → Type 0
 IsOfLargest fs c = (let name = name_at fs c.site in
-    IsLargest (commons fs name) (measured fs Size) c.size × IsLargest (commons fs name) (measured fs Align) c.align)
+    IsLargest (commons fs name) (size_at fs) c.size × IsLargest (commons fs name) (align_at fs) c.align)
 
 -- the chosen commons, in order of the first one of each name
 abbrev pub AreChosenAt : List ObjectValue → List Site → ℕ → List Chosen → Type 0

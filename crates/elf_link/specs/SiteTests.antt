@@ -1,13 +1,12 @@
--- The tests that one search serves: rules 3 to 7, and the entries of a name.
+-- The tests that one search serves: rules 3 to 7.
 use Rattle.std.specs.Prelude.{ℕ, ◌<◌, List}
 use Rattle.elf_field.specs.Abi.{SHF_LINK_ORDER, SHF_TLS}
 use Rattle.elf_object.specs.Object.{ObjectValue}
 use Rattle.elf_link.specs.declared.site_test.SiteTest.{SiteTest}
-use Rattle.elf_link.specs.declared.site_test.SiteTest.TheVariants.{Tls, LinkOrder, EmptySignature, BadSymbol, BadCommon, Strong, Weak, Common, Entry, NotWeak}
+use Rattle.elf_link.specs.declared.site_test.SiteTest.TheVariants.{Tls, LinkOrder, EmptySignature, BadSymbol, BadCommon}
 use Rattle.elf_link.specs.FileRules.{HasEmptySignature, IsBadCommon, IsBadSymbol, IsLiveWith}
 use Rattle.elf_link.specs.Files.{object_at, symbol_in}
 use Rattle.elf_link.specs.Rows.{AtEach, Row, section_count, symbol_count}
-use Rattle.elf_link.specs.Symbols.{IsCommon, IsEntry, IsNotWeak, IsStrong, IsWeak}
 
 -- what is tested: each section of a file, or each symbol
 abbrev pub counted : SiteTest → ObjectValue → ℕ
@@ -16,11 +15,6 @@ counted LinkOrder = section_count
 counted EmptySignature = section_count
 counted BadSymbol = symbol_count
 counted BadCommon = symbol_count
-counted (Strong name) = symbol_count
-counted (Weak name) = symbol_count
-counted (Common name) = symbol_count
-counted (Entry name) = symbol_count
-counted (NotWeak name) = symbol_count
 
 -- what passes the test
 abbrev pub Passes : List ObjectValue → SiteTest → ℕ → ℕ → Type 0
@@ -29,11 +23,6 @@ Passes fs LinkOrder f i = IsLiveWith SHF_LINK_ORDER fs f i
 Passes fs EmptySignature f i = HasEmptySignature fs f i
 Passes fs BadSymbol f i = IsBadSymbol (symbol_in fs f i)
 Passes fs BadCommon f i = IsBadCommon (symbol_in fs f i)
-Passes fs (Strong name) f i = IsStrong fs name.now f i
-Passes fs (Weak name) f i = IsWeak fs name.now f i
-Passes fs (Common name) f i = IsCommon fs name.now f i
-Passes fs (Entry name) f i = IsEntry fs name.now f i
-Passes fs (NotWeak name) f i = IsNotWeak fs name.now f i
 
 abbrev pub row_of : List ObjectValue → SiteTest → Row
 row_of fs test = AtEach (counted test) fs (Passes fs test)

@@ -1,99 +1,95 @@
 //! What a name is bound to (gABI chapter 4, Symbol Table).
-ghost use Rattle.std.specs.Prelude.{◌≡◌, ◌<◌, MatchOption, length, map};
-ghost use Rattle.elf_link.specs.Binds.{Binds, IsLarger, IsMost, IsMostIn, IsUnbound, measured as measured_of};
-ghost use Rattle.elf_link.specs.Discarded.{AreMarks};
-ghost use Rattle.elf_link.specs.Files.{object_at};
+ghost use Rattle.std.specs.Prelude.{◌≡◌, ◌<◌, MatchOption, length};
+ghost use Rattle.std.specs.Option.{option_map};
+ghost use Rattle.elf_link.specs.Binds.{Binds, IsUnbound, entries, strong};
+ghost use Rattle.elf_link.specs.NameTable.{IsWhole, IsWholeTable, Makes, known_at, spot_site};
+ghost use Rattle.elf_link.specs.Naming.{position_by};
+ghost use Rattle.elf_link.specs.Rows.{IsFirstAt, Nowhere};
 
-use crate::choice::{Choice, Measure};
-use crate::files::{symbol_count, symbol_of};
-use crate::site_test::{SiteTest, first_site};
-use crate::symbol_tests::is_common_entry;
+use crate::choice::Choice;
+use crate::name_table::{Known, NameTable, Spot};
+use crate::site::{Site, site_in};
 use elf_object::Object;
 
-/// What is counted of a symbol.
-fn measured(measure: Measure, objects: &[Object<'_>], file: usize, index: usize) -> u64
-    requires file { file < length objects.now }
-    requires index { index < length (object_at objects.now file).symbols }
-    ensures { result ≡ measured_of objects.now measure file index }
+/// What is known of the name at a position.
+pub(crate) fn known_item(known: &[Known], k: usize) -> Known
+    requires { k < length known.now }
+    ensures { result ≡ known_at known.now k }
 {
-    let symbol = symbol_of(objects, file, index);
-    match measure {
-        Measure::Size => symbol.size,
-        Measure::Align => symbol.value,
+    known[k]
+}
+
+/// What is known of a name; None where it has no entry.
+pub(crate) fn find(_objects: &[Object<'_>], table: &NameTable<'_>, name: &[u8]) -> Option<Known>
+    requires { IsWholeTable _objects.now (position_by table.now.positions) table.now.known.items }
+    ensures { MatchOption result (Nowhere (entries _objects.now name.now)) (IsWhole _objects.now name.now) }
+{
+    match table.positions.get(name) {
+        Some(k) => Some(known_item(&table.known, *k)),
+        None => None,
     }
 }
 
-/// The larger one of `most` and what is counted of a symbol, where that is a common of the name.
-fn larger(
-    measure: Measure,
-    name: &[u8],
+/// A spot as a site.
+fn site_of(spot: Option<Spot>) -> Option<Site>
+    ensures { result ≡ option_map spot_site spot }
+{
+    match spot {
+        Some(spot) => Some(site_in(spot.file, spot.index)),
+        None => None,
+    }
+}
+
+/// The first global definition of a name.
+pub(crate) fn first_strong(
     objects: &[Object<'_>],
-    file: usize,
-    index: usize,
-    most: u64,
-) -> u64
-    requires file { file < length objects.now }
-    requires index { index < length (object_at objects.now file).symbols }
-    ensures { IsLarger objects.now name.now measure file index most result }
+    table: &NameTable<'_>,
+    name: &[u8],
+) -> Option<Site>
+    requires { IsWholeTable objects.now (position_by table.now.positions) table.now.known.items }
+    ensures { MatchOption result (Nowhere (strong objects.now name.now)) (IsFirstAt (strong objects.now name.now)) }
 {
-    if !is_common_entry(name, objects, file, index) {
-        return most;
+    match find(objects, table, name) {
+        Some(known) => site_of(known.strong),
+        None => None,
     }
-    let other = measured(measure, objects, file, index);
-    if most < other { other } else { most }
 }
 
-/// The larger one of `most` and what is counted of the commons of the name in a file.
-fn largest_in(measure: Measure, name: &[u8], objects: &[Object<'_>], file: usize, most: u64) -> u64
-    requires file { file < length objects.now }
-    ensures { IsMostIn objects.now name.now measure file (length (object_at objects.now file).symbols) most result }
+/// What a name makes of what is known of it; None where it is bound to nothing.
+pub(crate) fn choice_of(known: Known) -> Option<Choice>
+    ensures { Makes known result }
 {
-    let mut largest = most;
-    for index in 0..symbol_count(&objects[file]) {
-        largest = larger(measure, name, objects, file, index, largest);
-    }
-    largest
-}
-
-/// The largest that is counted of the commons of the name, 0 where there is none.
-pub(crate) fn largest(measure: Measure, name: &[u8], objects: &[Object<'_>]) -> u64
-    ensures { IsMost objects.now name.now measure result }
-{
-    let mut most = 0;
-    for file in 0..objects.len() {
-        most = largest_in(measure, name, objects, file, most);
-    }
-    most
-}
-
-/// What the name is bound to; None where it is bound to nothing.
-pub(crate) fn bind(objects: &[Object<'_>], marks: &[Vec<bool>], name: &[u8]) -> Option<Choice>
-    requires marks { AreMarks objects.now (map (λ row. row.items) marks.now) }
-    ensures { MatchOption result (IsUnbound objects.now name.now) (Binds objects.now name.now) }
-{
-    if let Some(site) = first_site(&SiteTest::Strong(name), objects, marks) {
+    if let Some(spot) = known.strong {
         return Some(Choice::Strong {
-            file: site.file,
-            symbol: site.index,
+            file: spot.file,
+            symbol: spot.index,
         });
     }
-    if first_site(&SiteTest::Common(name), objects, marks).is_some() {
+    if let Some(block) = known.common {
         return Some(Choice::Common {
-            size: largest(Measure::Size, name, objects),
-            align: largest(Measure::Align, name, objects),
+            size: block.size,
+            align: block.align,
         });
     }
-    if let Some(site) = first_site(&SiteTest::Weak(name), objects, marks) {
+    if let Some(spot) = known.weak {
         return Some(Choice::Weak {
-            file: site.file,
-            symbol: site.index,
+            file: spot.file,
+            symbol: spot.index,
         });
     }
-    if first_site(&SiteTest::NotWeak(name), objects, marks).is_some() {
-        return None;
-    }
-    if first_site(&SiteTest::Entry(name), objects, marks).is_none() {
+    if known.not_weak {
         return None;
     }
     Some(Choice::Zero)
+}
+
+/// What the name is bound to; None where it is bound to nothing.
+pub(crate) fn bind(objects: &[Object<'_>], table: &NameTable<'_>, name: &[u8]) -> Option<Choice>
+    requires { IsWholeTable objects.now (position_by table.now.positions) table.now.known.items }
+    ensures { MatchOption result (IsUnbound objects.now name.now) (Binds objects.now name.now) }
+{
+    match find(objects, table, name) {
+        Some(known) => choice_of(known),
+        None => None,
+    }
 }

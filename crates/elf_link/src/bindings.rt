@@ -1,22 +1,22 @@
 //! What every name is bound to, with addresses.
-ghost use Rattle.std.specs.Prelude.{◌≡◌, ◌↔◌, ℕ, if◌then◌else◌, Some, List, IfOk, IsTrue, MatchOption, OnOk, length, map};
+ghost use Rattle.std.specs.Prelude.{◌≡◌, ℕ, if◌then◌else◌, Some, List, IfOk, MatchOption, OnOk, length, map};
 ghost use Rattle.std.specs.Str.{bytes_eq};
 ghost use Rattle.elf_link.specs.declared.choice.Choice.TheVariants.{Common as CommonChoice};
 ghost use Rattle.elf_link.specs.Binds.{Binds, IsUnbound};
-ghost use Rattle.elf_link.specs.Discarded.{AreMarks};
 ghost use Rattle.elf_link.specs.LinkMap.{AreBindings, AreNames, IsBinding, IsNamed};
 ghost use Rattle.elf_link.specs.LinkMapView.{common_value, named_value};
-ghost use Rattle.elf_link.specs.Listing.{Lists, first_entries};
-ghost use Rattle.elf_link.specs.Naming.{AreNamedAt, ArePositionsOf, IsNamedAt, position_by};
+ghost use Rattle.elf_link.specs.Listing.{first_entries};
+ghost use Rattle.elf_link.specs.NameTable.{AreWhole, IsWhole, IsWholeTable, first_site};
+ghost use Rattle.elf_link.specs.Naming.{AreCommonPositions, AreNamedAt, IsNamedAt, position_by};
+ghost use Rattle.elf_link.specs.Plan.{name_at};
 ghost use Rattle.elf_link.specs.Planning.{AllBound, HaveCommons};
 
-use crate::bind::bind;
+use crate::bind::{choice_of, known_item};
 use crate::choice::Choice;
 use crate::files::symbol_of;
 use crate::link_map::Common;
-use crate::listing::{Listed, all_listed};
+use crate::name_table::{Known, NameTable};
 use crate::names::{Named, Names};
-use crate::site::Site;
 use elf_object::Object;
 use std::alloc::{AllocError, Global};
 use std::collections::BTreeMap;
@@ -34,38 +34,59 @@ pub enum Binding {
     Zero,
 }
 
-/// Whether a common has this name.
-fn is_named(common: &Common<'_>, name: &[u8]) -> bool
-    ensures { IsTrue result ↔ (common.now.name.now ≡ name.now) }
+/// Notes the position of a name.
+fn note_position<'n>(
+    positions: &mut BTreeMap<&'n [u8], usize>,
+    name: &'n [u8],
+    position: usize,
+) -> Result<(), AllocError>
+    ensures { OnOk result ((q : List ℕ) → position_by positions.new q ≡ (if bytes_eq name.now q then Some position else position_by positions.old q)) }
 {
-    common.name == name
+    positions.insert(name, position)?;
+    Ok(())
+}
+
+/// The position of the common of each name.
+fn common_positions<'n>(
+    alloc: Global,
+    commons: &[Common<'n>],
+) -> Result<BTreeMap<&'n [u8], usize>, AllocError>
+    ensures { IfOk result (λ positions. AreCommonPositions (map common_value commons.now) (position_by positions)) }
+{
+    let mut positions = BTreeMap::new(alloc);
+    for k in 0..commons.len() {
+        note_position(&mut positions, commons[k].name, k)?;
+    }
+    Ok(positions)
 }
 
 /// The position of the common of this name.
-fn common_named(commons: &[Common<'_>], name: &[u8]) -> Option<usize>
+fn common_named(
+    commons: &[Common<'_>],
+    index: &BTreeMap<&[u8], usize>,
+    name: &[u8],
+) -> Option<usize>
+    requires { AreCommonPositions (map common_value commons.now) (position_by index.now) }
     ensures { MatchOption result ((k : ℕ) → IsNamed (map common_value commons.now) name.now k → ⊥) (IsNamed (map common_value commons.now) name.now) }
 {
-    for k in 0..commons.len() {
-        if is_named(&commons[k], name) {
-            return Some(k);
-        }
-    }
-    None
+    index.get(name).copied()
 }
 
 /// The binding of a name to its common.
 fn common_binding(
     objects: &[Object<'_>],
     commons: &[Common<'_>],
+    index: &BTreeMap<&[u8], usize>,
     name: &[u8],
     size: u64,
     align: u64,
 ) -> Option<Binding>
     requires binds { Binds objects.now name.now (CommonChoice size align) }
     requires commons { HaveCommons objects.now (map common_value commons.now) }
+    requires index { AreCommonPositions (map common_value commons.now) (position_by index.now) }
     ensures { MatchOption result (IsUnbound objects.now name.now) (IsBinding objects.now (map common_value commons.now) name.now) }
 {
-    match common_named(commons, name) {
+    match common_named(commons, index, name) {
         Some(k) => Some(Binding::Common {
             address: commons[k].address,
             size,
@@ -79,124 +100,84 @@ fn common_binding(
 fn binding_by(
     objects: &[Object<'_>],
     commons: &[Common<'_>],
+    index: &BTreeMap<&[u8], usize>,
     name: &[u8],
     choice: Choice,
 ) -> Option<Binding>
     requires binds { Binds objects.now name.now choice }
     requires commons { HaveCommons objects.now (map common_value commons.now) }
+    requires index { AreCommonPositions (map common_value commons.now) (position_by index.now) }
     ensures { MatchOption result (IsUnbound objects.now name.now) (IsBinding objects.now (map common_value commons.now) name.now) }
 {
     match choice {
         Choice::Strong { file, symbol } => Some(Binding::Strong { file, symbol }),
-        Choice::Common { size, align } => common_binding(objects, commons, name, size, align),
+        Choice::Common { size, align } => common_binding(
+            objects, commons, index, name, size, align,
+        ),
         Choice::Weak { file, symbol } => Some(Binding::Weak { file, symbol }),
         Choice::Zero => Some(Binding::Zero),
     }
 }
 
-/// What a name is bound to; None where it is bound to nothing.
-fn binding_of(
-    objects: &[Object<'_>],
-    marks: &[Vec<bool>],
-    commons: &[Common<'_>],
-    name: &[u8],
-) -> Option<Binding>
-    requires marks { AreMarks objects.now (map (λ row. row.items) marks.now) }
-    requires commons { HaveCommons objects.now (map common_value commons.now) }
-    ensures { MatchOption result (IsUnbound objects.now name.now) (IsBinding objects.now (map common_value commons.now) name.now) }
-{
-    match bind(objects, marks, name) {
-        Some(choice) => binding_by(objects, commons, name, choice),
-        None => None,
-    }
-}
-
 /// The name of a first entry, and what it is bound to.
-fn named_at<'a>(
+fn named_for<'a>(
     objects: &[Object<'a>],
-    marks: &[Vec<bool>],
     commons: &[Common<'_>],
-    site: Site,
+    index: &BTreeMap<&[u8], usize>,
+    known: Known,
 ) -> Named<'a>
-    requires marks { AreMarks objects.now (map (λ row. row.items) marks.now) }
     requires commons { HaveCommons objects.now (map common_value commons.now) }
+    requires index { AreCommonPositions (map common_value commons.now) (position_by index.now) }
     requires bound { AllBound objects.now }
-    requires site { first_entries objects.now site }
-    ensures { IsNamedAt objects.now (map common_value commons.now) site (named_value result) }
+    requires site { first_entries objects.now (first_site known) }
+    requires known { IsWhole objects.now (name_at objects.now (first_site known)) known }
+    ensures { IsNamedAt objects.now (map common_value commons.now) (first_site known) (named_value result) }
 {
-    let name = symbol_of(objects, site.file, site.index).name;
-    let Some(binding) = binding_of(objects, marks, commons, name) else {
+    let name = symbol_of(objects, known.first.file, known.first.index).name;
+    let Some(choice) = choice_of(known) else {
+        unreachable!();
+    };
+    let Some(binding) = binding_by(objects, commons, index, name, choice) else {
         unreachable!();
     };
     Named { name, binding }
 }
 
-/// The names of these first entries, and what each is bound to.
-fn names_at<'a>(
+/// All names that the table knows, and what each is bound to.
+fn names_of<'a>(
     alloc: Global,
     objects: &[Object<'a>],
-    marks: &[Vec<bool>],
     commons: &[Common<'_>],
-    sites: &[Site],
+    index: &BTreeMap<&[u8], usize>,
+    known: &[Known],
 ) -> Result<Vec<Named<'a>>, AllocError>
-    requires marks { AreMarks objects.now (map (λ row. row.items) marks.now) }
     requires commons { HaveCommons objects.now (map common_value commons.now) }
+    requires index { AreCommonPositions (map common_value commons.now) (position_by index.now) }
     requires bound { AllBound objects.now }
-    requires sites { Lists (first_entries objects.now) sites.now }
-    ensures { IfOk result (λ names. AreNamedAt objects.now (map common_value commons.now) sites.now (length sites.now) (map named_value names.items)) }
+    requires known { AreWhole objects.now known.now }
+    ensures { IfOk result (λ names. AreNamedAt objects.now (map common_value commons.now) (map first_site known.now) (length known.now) (map named_value names.items)) }
 {
-    let mut names = Vec::new(alloc);
-    for k in 0..sites.len() {
-        names.push(named_at(objects, marks, commons, sites[k]))?;
+    let mut names = Vec::with_capacity(alloc, known.len())?;
+    for k in 0..known.len() {
+        names.push(named_for(objects, commons, index, known_item(known, k)))?;
     }
     Ok(names)
-}
-
-/// Notes the position of a name.
-fn note_position<'a>(
-    positions: &mut BTreeMap<&'a [u8], usize>,
-    name: &'a [u8],
-    position: usize,
-) -> Result<(), AllocError>
-    ensures { OnOk result ((q : List ℕ) → position_by positions.new q ≡ (if bytes_eq name.now q then Some position else position_by positions.old q)) }
-{
-    positions.insert(name, position)?;
-    Ok(())
-}
-
-/// The position of each name among these first entries.
-fn positions_of<'a>(
-    alloc: Global,
-    objects: &[Object<'a>],
-    sites: &[Site],
-) -> Result<BTreeMap<&'a [u8], usize>, AllocError>
-    requires { Lists (first_entries objects.now) sites.now }
-    ensures { IfOk result (λ positions. ArePositionsOf objects.now sites.now (length sites.now) (position_by positions)) }
-{
-    let mut positions = BTreeMap::new(alloc);
-    for k in 0..sites.len() {
-        let site = sites[k];
-        let name = symbol_of(objects, site.file, site.index).name;
-        note_position(&mut positions, name, k)?;
-    }
-    Ok(positions)
 }
 
 /// All names with their bindings, in the order of their first entries.
 pub(crate) fn all_bindings<'a>(
     alloc: Global,
     objects: &[Object<'a>],
-    marks: &[Vec<bool>],
+    table: NameTable<'a>,
     commons: &[Common<'_>],
 ) -> Result<Names<'a>, AllocError>
-    requires marks { AreMarks objects.now (map (λ row. row.items) marks.now) }
+    requires table { IsWholeTable objects.now (position_by table.positions) table.known.items }
     requires commons { HaveCommons objects.now (map common_value commons.now) }
     requires bound { AllBound objects.now }
     ensures bindings { IfOk result (AreBindings objects.now (map common_value commons.now)) }
     ensures names { IfOk result (AreNames objects.now) }
 {
-    let sites = all_listed(alloc, Listed::FirstEntries, objects, marks)?;
-    let list = names_at(alloc, objects, marks, commons, &sites)?;
-    let positions = positions_of(alloc, objects, &sites)?;
-    Ok(Names::new(list, positions))
+    let index = common_positions(alloc, commons)?;
+    let list = names_of(alloc, objects, commons, &index, &table.known)?;
+    Ok(Names::new(list, table.positions))
 }

@@ -12,12 +12,3 @@ pub(crate) enum Choice {
     /// Zero: only weak entries, and no definition.
     Zero,
 }
-
-/// What is counted of a common.
-#[derive(Clone, Copy, Debug, PartialEq, Eq)]
-pub(crate) enum Measure {
-    /// Its size in bytes.
-    Size,
-    /// Its alignment, which is its value.
-    Align,
-}

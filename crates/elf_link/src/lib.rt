@@ -30,6 +30,7 @@ mod link;
 mod link_map;
 mod listing;
 mod name_rules;
+mod name_table;
 mod names;
 mod options;
 mod outputs;

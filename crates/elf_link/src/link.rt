@@ -5,6 +5,8 @@ ghost use Rattle.elf_link.specs.FileRules.{option_rules};
 ghost use Rattle.elf_link.specs.LinkFaults.{FirstOfLink, IsLinkFault};
 ghost use Rattle.elf_link.specs.LinkMap.{IsLinkMap};
 ghost use Rattle.elf_link.specs.LinkRules.{input_rules};
+ghost use Rattle.elf_link.specs.NameTable.{IsWholeTable};
+ghost use Rattle.elf_link.specs.Naming.{position_by};
 ghost use Rattle.elf_link.specs.Plan.{AreChosen, AreOutputs, flat};
 ghost use Rattle.elf_link.specs.Planning.{AreAllIn, AreLive, AreSome, AreSymbols, HaveChosen};
 ghost use Rattle.elf_link.specs.Rows.{FirstIn};
@@ -13,7 +15,7 @@ use crate::addresses::addresses;
 use crate::bindings::all_bindings;
 use crate::commons::{Chosen, chosen_commons};
 use crate::fault::LinkFault;
-use crate::judge::judge;
+use crate::judge::{Judged, judge};
 use crate::link_map::LinkMap;
 use crate::listing::{Listed, all_listed};
 use crate::options::Options;
@@ -32,13 +34,14 @@ fn placed_map<'a>(
     alloc: Global,
     objects: &[Object<'a>],
     options: &Options<'_>,
-    marks: Vec<Vec<bool>>,
+    judged: Judged<'a>,
     outputs: &[Vec<Site>],
     chosen: &[Chosen],
 ) -> Result<LinkMap<'a>, LinkFault>
     requires clean { FirstIn (input_rules options.now objects.now) None }
     requires options { FirstIn (option_rules options.now objects.now) None }
-    requires marks { AreMarks objects.now (map_list (λ row. row.items) marks.items) }
+    requires marks { AreMarks objects.now (map_list (λ row. row.items) judged.marks.items) }
+    requires table { IsWholeTable objects.now (position_by judged.table.positions) judged.table.known.items }
     requires outputs { AreOutputs objects.now (map_list (λ ms. ms.items) outputs.now) }
     requires within { AreAllIn objects.now (map_list (λ ms. ms.items) outputs.now) }
     requires some { AreSome (map_list (λ ms. ms.items) outputs.now) }
@@ -52,15 +55,15 @@ fn placed_map<'a>(
 {
     let sites = placed(alloc, outputs)?;
     let parts = all_parts(alloc, options.page, objects, outputs, chosen)?;
-    let target = entry_target(objects, &marks, &sites, chosen, options.entry);
+    let target = entry_target(objects, &judged.table, &sites, chosen, options.entry);
     let addressed = addresses(alloc, &parts, options.base, target)?;
     let addresses = address_table(alloc, objects, &sites, &addressed.places)?;
     let outputs = placed_outputs(alloc, objects, outputs, &parts, &addressed.places)?;
     let commons = placed_commons(alloc, objects, chosen, &addressed.places, sites.len())?;
-    let names = all_bindings(alloc, objects, &marks, &commons)?;
+    let names = all_bindings(alloc, objects, judged.table, &commons)?;
     Ok(LinkMap {
         addresses,
-        discarded: marks,
+        discarded: judged.marks,
         names,
         outputs,
         commons,
@@ -86,9 +89,15 @@ pub fn map<'a, S: BuildHasher + Drop>(
     ensures map { IfOk result (λ m. IsLinkMap options.now objects.now m) }
     ensures err { IfErr result (IsLinkFault options.now objects.now) }
 {
-    let marks = judge(alloc, objects, options)?;
-    let live = all_listed(alloc, Listed::LiveSections, objects, &marks)?;
+    let judged = judge(alloc, objects, options)?;
+    let live = all_listed(
+        alloc,
+        Listed::LiveSections,
+        objects,
+        &judged.marks,
+        &judged.table,
+    )?;
     let outputs = outputs_of(alloc, objects, &live, hasher)?;
-    let chosen = chosen_commons(alloc, objects, &marks)?;
-    placed_map(alloc, objects, options, marks, &outputs, &chosen)
+    let chosen = chosen_commons(alloc, objects, &judged.marks, &judged.table)?;
+    placed_map(alloc, objects, options, judged, &outputs, &chosen)
 }

@@ -1,17 +1,17 @@
-//! Lists of sites in order: live sections, chosen commons, and the first entry of each name.
+//! Lists of sites in order: live sections, and chosen commons.
 ghost use Rattle.std.specs.Prelude.{◌≡◌, ◌↔◌, ◌+◌, ◌<◌, IfOk, IsTrue, OnOk, length, map};
-ghost use Rattle.elf_link.specs.Binds.{strong};
 ghost use Rattle.elf_link.specs.Discarded.{AreMarks};
 ghost use Rattle.elf_link.specs.Files.{object_at};
-ghost use Rattle.elf_link.specs.Listing.{IsChosen, IsFirstEntry, IsListed, Lists, UpTo, listed_count, listed_row, site};
-ghost use Rattle.elf_link.specs.Rows.{IsFirstAt, Nowhere};
-ghost use Rattle.elf_link.specs.SiteTests.{row_of};
+ghost use Rattle.elf_link.specs.Listing.{IsChosen, IsListed, Lists, UpTo, listed_count, listed_row};
+ghost use Rattle.elf_link.specs.NameTable.{IsChosenOf, IsFirstCommonOf, IsWholeTable};
+ghost use Rattle.elf_link.specs.Naming.{position_by};
 
+use crate::bind::find;
 use crate::files::{section_count, symbol_count, symbol_of};
+use crate::name_table::{Known, NameTable, Spot};
 use crate::section_tests::is_live;
 use crate::site::{Site, site_in};
-use crate::site_test::{SiteTest, first_site};
-use crate::symbol_tests::{is_common_entry, is_entry};
+use crate::symbol_tests::is_common_entry;
 use elf_object::Object;
 use std::alloc::{AllocError, Global};
 
@@ -22,8 +22,6 @@ pub(crate) enum Listed {
     LiveSections,
     /// The first common of each name that has no global definition.
     ChosenCommons,
-    /// The first entry of each name.
-    FirstEntries,
 }
 
 impl Listed {
@@ -38,16 +36,23 @@ impl Listed {
     }
 
     /// Whether the section or symbol at `index` of a file is listed.
-    fn has(self, objects: &[Object<'_>], marks: &[Vec<bool>], file: usize, index: usize) -> bool
+    fn has(
+        self,
+        objects: &[Object<'_>],
+        marks: &[Vec<bool>],
+        table: &NameTable<'_>,
+        file: usize,
+        index: usize,
+    ) -> bool
         requires file { file < length objects.now }
         requires index { index < listed_count self (object_at objects.now file) }
         requires marks { AreMarks objects.now (map (λ row. row.items) marks.now) }
+        requires table { IsWholeTable objects.now (position_by table.now.positions) table.now.known.items }
         ensures { IsTrue result ↔ IsListed objects.now self file index }
     {
         match self {
             Listed::LiveSections => is_live(objects, marks, file, index),
-            Listed::ChosenCommons => is_chosen(objects, marks, file, index),
-            Listed::FirstEntries => is_first_entry(objects, marks, file, index),
+            Listed::ChosenCommons => is_chosen(objects, table, file, index),
         }
     }
 }
@@ -59,57 +64,48 @@ pub(crate) fn is_at(found: Site, file: usize, index: usize) -> bool
     found.file == file && found.index == index
 }
 
-/// Whether the first site that passes the test is the section or symbol at `index` of a file.
-fn is_first(
-    test: &SiteTest<'_>,
-    objects: &[Object<'_>],
-    marks: &[Vec<bool>],
-    file: usize,
-    index: usize,
-) -> bool
-    requires marks { AreMarks objects.now (map (λ row. row.items) marks.now) }
-    ensures { IsTrue result ↔ IsFirstAt (row_of objects.now test.now) (site file index) }
+/// Whether a spot is the symbol at `index` of a file.
+fn is_spot(spot: Spot, file: usize, index: usize) -> bool
+    ensures { IsTrue result ↔ ((spot.file ≡ file) × (spot.index ≡ index)) }
 {
-    match first_site(test, objects, marks) {
-        Some(found) => is_at(found, file, index),
+    spot.file == file && spot.index == index
+}
+
+/// Whether the first common of a name is this symbol.
+fn is_first_common(known: Known, file: usize, index: usize) -> bool
+    ensures { IsFirstCommonOf known file index result }
+{
+    match known.common {
+        Some(block) => is_spot(block.first, file, index),
         None => false,
     }
 }
 
-/// Whether a name has no global definition.
-fn has_no_strong(name: &[u8], objects: &[Object<'_>], marks: &[Vec<bool>]) -> bool
-    requires marks { AreMarks objects.now (map (λ row. row.items) marks.now) }
-    ensures { IsTrue result ↔ Nowhere (strong objects.now name.now) }
+/// Whether the first common of a name, which has no global definition, is this symbol.
+fn is_chosen_of(known: Known, file: usize, index: usize) -> bool
+    ensures { IsChosenOf known file index result }
 {
-    match first_site(&SiteTest::Strong(name), objects, marks) {
+    match known.strong {
         Some(_) => false,
-        None => true,
+        None => is_first_common(known, file, index),
     }
 }
 
 /// Whether a symbol is the first common of its name, which has no global definition.
-fn is_chosen(objects: &[Object<'_>], marks: &[Vec<bool>], file: usize, index: usize) -> bool
+fn is_chosen(objects: &[Object<'_>], table: &NameTable<'_>, file: usize, index: usize) -> bool
     requires file { file < length objects.now }
     requires index { index < length (object_at objects.now file).symbols }
-    requires marks { AreMarks objects.now (map (λ row. row.items) marks.now) }
+    requires table { IsWholeTable objects.now (position_by table.now.positions) table.now.known.items }
     ensures { IsTrue result ↔ IsChosen objects.now file index }
 {
     let name = symbol_of(objects, file, index).name;
-    is_common_entry(name, objects, file, index)
-        && is_first(&SiteTest::Common(name), objects, marks, file, index)
-        && has_no_strong(name, objects, marks)
-}
-
-/// Whether a symbol is the first entry of its name.
-fn is_first_entry(objects: &[Object<'_>], marks: &[Vec<bool>], file: usize, index: usize) -> bool
-    requires file { file < length objects.now }
-    requires index { index < length (object_at objects.now file).symbols }
-    requires marks { AreMarks objects.now (map (λ row. row.items) marks.now) }
-    ensures { IsTrue result ↔ IsFirstEntry objects.now file index }
-{
-    let name = symbol_of(objects, file, index).name;
-    is_entry(name, objects, file, index)
-        && is_first(&SiteTest::Entry(name), objects, marks, file, index)
+    if !is_common_entry(name, objects, file, index) {
+        return false;
+    }
+    match find(objects, table, name) {
+        Some(known) => is_chosen_of(known, file, index),
+        None => false,
+    }
 }
 
 /// Adds the section or symbol at `index` of a file to what is listed before it, where it is listed.
@@ -117,6 +113,7 @@ fn push_site(
     what: Listed,
     objects: &[Object<'_>],
     marks: &[Vec<bool>],
+    table: &NameTable<'_>,
     file: usize,
     index: usize,
     sites: &mut Vec<Site>,
@@ -124,10 +121,11 @@ fn push_site(
     requires file { file < length objects.now }
     requires index { index < listed_count what (object_at objects.now file) }
     requires marks { AreMarks objects.now (map (λ row. row.items) marks.now) }
+    requires table { IsWholeTable objects.now (position_by table.now.positions) table.now.known.items }
     requires before { Lists (UpTo (listed_row objects.now what) file index) sites.old.items }
     ensures { OnOk result (Lists (UpTo (listed_row objects.now what) file (index + 1)) sites.new.items) }
 {
-    if !what.has(objects, marks, file, index) {
+    if !what.has(objects, marks, table, file, index) {
         return Ok(());
     }
     sites.push(site_in(file, index))?;
@@ -139,16 +137,18 @@ fn push_file(
     what: Listed,
     objects: &[Object<'_>],
     marks: &[Vec<bool>],
+    table: &NameTable<'_>,
     file: usize,
     sites: &mut Vec<Site>,
 ) -> Result<(), AllocError>
     requires file { file < length objects.now }
     requires marks { AreMarks objects.now (map (λ row. row.items) marks.now) }
+    requires table { IsWholeTable objects.now (position_by table.now.positions) table.now.known.items }
     requires before { Lists (UpTo (listed_row objects.now what) file 0) sites.old.items }
     ensures { OnOk result (Lists (UpTo (listed_row objects.now what) file (listed_count what (object_at objects.now file))) sites.new.items) }
 {
     for index in 0..what.count(&objects[file]) {
-        push_site(what, objects, marks, file, index, sites)?;
+        push_site(what, objects, marks, table, file, index, sites)?;
     }
     Ok(())
 }
@@ -159,13 +159,15 @@ pub(crate) fn all_listed(
     what: Listed,
     objects: &[Object<'_>],
     marks: &[Vec<bool>],
+    table: &NameTable<'_>,
 ) -> Result<Vec<Site>, AllocError>
     requires marks { AreMarks objects.now (map (λ row. row.items) marks.now) }
+    requires table { IsWholeTable objects.now (position_by table.now.positions) table.now.known.items }
     ensures { IfOk result (λ sites. Lists (listed_row objects.now what) sites.items) }
 {
     let mut sites = Vec::new(alloc);
     for file in 0..objects.len() {
-        push_file(what, objects, marks, file, &mut sites)?;
+        push_file(what, objects, marks, table, file, &mut sites)?;
     }
     Ok(sites)
 }

@@ -3,16 +3,18 @@ ghost use Rattle.std.specs.Prelude.{◌≡◌, ◌↔◌, ◌<◌, IsTrue, Match
 ghost use Rattle.elf_link.specs.Binds.{IsUnbound};
 ghost use Rattle.elf_link.specs.Discarded.{AreMarks};
 ghost use Rattle.elf_link.specs.Files.{IsEarlier, object_at};
+ghost use Rattle.elf_link.specs.NameTable.{IsWholeTable};
+ghost use Rattle.elf_link.specs.Naming.{position_by};
 ghost use Rattle.elf_link.specs.NameRules.{BreaksName, HasEarlier, HasNoName, IsFirstName, IsLacking, IsSecond, name_rules};
 ghost use Rattle.elf_link.specs.Rows.{AtSymbol, FirstIn, IsFirstAt, Nowhere, found_of};
 ghost use Rattle.elf_link.specs.Symbols.{IsPlaced, IsUndefinedAt};
 
-use crate::bind::bind;
+use crate::bind::{bind, first_strong};
 use crate::files::{keeps_rules, symbol_count, symbol_of};
+use crate::name_table::NameTable;
 use crate::rules::*;
 use crate::section_tests::is_discarded;
 use crate::site::{Broken, Site, site_in};
-use crate::site_test::{SiteTest, first_site};
 use crate::symbol_tests::{binding, is_definition};
 use elf_field::abi::*;
 use elf_object::{Object, Place};
@@ -32,17 +34,19 @@ impl NameRule {
         self,
         objects: &[Object<'_>],
         marks: &[Vec<bool>],
+        table: &NameTable<'_>,
         file: usize,
         index: usize,
     ) -> bool
         requires file { file < length objects.now }
         requires index { index < length (object_at objects.now file).symbols }
         requires marks { AreMarks objects.now (map (λ row. row.items) marks.now) }
+        requires table { IsWholeTable objects.now (position_by table.now.positions) table.now.known.items }
         ensures { IsTrue result ↔ BreaksName objects.now self file index }
     {
         match self {
-            NameRule::TwoDefinitions => is_second(objects, marks, file, index),
-            NameRule::Undefined => is_lacking(objects, marks, file, index),
+            NameRule::TwoDefinitions => is_second(objects, marks, table, file, index),
+            NameRule::Undefined => is_lacking(objects, marks, table, file, index),
         }
     }
 }
@@ -58,29 +62,36 @@ fn is_earlier(site: Site, file: usize, index: usize) -> bool
 fn has_earlier(
     name: &[u8],
     objects: &[Object<'_>],
-    marks: &[Vec<bool>],
+    table: &NameTable<'_>,
     file: usize,
     index: usize,
 ) -> bool
-    requires marks { AreMarks objects.now (map (λ row. row.items) marks.now) }
+    requires table { IsWholeTable objects.now (position_by table.now.positions) table.now.known.items }
     ensures { IsTrue result ↔ HasEarlier objects.now name.now file index }
 {
-    match first_site(&SiteTest::Strong(name), objects, marks) {
+    match first_strong(objects, table, name) {
         Some(site) => is_earlier(site, file, index),
         None => false,
     }
 }
 
 /// Rule 8: whether a symbol is a global definition, and one before it is of its name.
-fn is_second(objects: &[Object<'_>], marks: &[Vec<bool>], file: usize, index: usize) -> bool
+fn is_second(
+    objects: &[Object<'_>],
+    marks: &[Vec<bool>],
+    table: &NameTable<'_>,
+    file: usize,
+    index: usize,
+) -> bool
     requires file { file < length objects.now }
     requires index { index < length (object_at objects.now file).symbols }
     requires marks { AreMarks objects.now (map (λ row. row.items) marks.now) }
+    requires table { IsWholeTable objects.now (position_by table.now.positions) table.now.known.items }
     ensures { IsTrue result ↔ IsSecond objects.now file index }
 {
     let name = symbol_of(objects, file, index).name;
     is_definition(STB_GLOBAL, name, objects, marks, file, index)
-        && has_earlier(name, objects, marks, file, index)
+        && has_earlier(name, objects, table, file, index)
 }
 
 /// Whether a place counts as undefined: nowhere, or in a section that is discarded.
@@ -98,28 +109,35 @@ fn is_undefined_at(objects: &[Object<'_>], marks: &[Vec<bool>], file: usize, pla
 }
 
 /// Whether a name is bound to nothing.
-fn is_unbound(objects: &[Object<'_>], marks: &[Vec<bool>], name: &[u8]) -> bool
-    requires marks { AreMarks objects.now (map (λ row. row.items) marks.now) }
+fn is_unbound(objects: &[Object<'_>], table: &NameTable<'_>, name: &[u8]) -> bool
+    requires table { IsWholeTable objects.now (position_by table.now.positions) table.now.known.items }
     ensures { IsTrue result ↔ IsUnbound objects.now name.now }
 {
-    match bind(objects, marks, name) {
+    match bind(objects, table, name) {
         Some(_) => false,
         None => true,
     }
 }
 
 /// Rule 9: whether a symbol is global, counts as undefined, and its name is bound to nothing.
-fn is_lacking(objects: &[Object<'_>], marks: &[Vec<bool>], file: usize, index: usize) -> bool
+fn is_lacking(
+    objects: &[Object<'_>],
+    marks: &[Vec<bool>],
+    table: &NameTable<'_>,
+    file: usize,
+    index: usize,
+) -> bool
     requires file { file < length objects.now }
     requires index { index < length (object_at objects.now file).symbols }
     requires marks { AreMarks objects.now (map (λ row. row.items) marks.now) }
+    requires table { IsWholeTable objects.now (position_by table.now.positions) table.now.known.items }
     ensures { IsTrue result ↔ IsLacking objects.now file index }
 {
     keeps_rules(objects, file);
     let symbol = symbol_of(objects, file, index);
     binding(&symbol) == STB_GLOBAL
         && is_undefined_at(objects, marks, file, symbol.place)
-        && is_unbound(objects, marks, symbol.name)
+        && is_unbound(objects, table, symbol.name)
 }
 
 /// The first symbol of a file that breaks the rule.
@@ -127,14 +145,16 @@ fn first_name_in(
     rule: NameRule,
     objects: &[Object<'_>],
     marks: &[Vec<bool>],
+    table: &NameTable<'_>,
     file: usize,
 ) -> Option<usize>
     requires file { file < length objects.now }
     requires marks { AreMarks objects.now (map (λ row. row.items) marks.now) }
+    requires table { IsWholeTable objects.now (position_by table.now.positions) table.now.known.items }
     ensures { MatchOption result (HasNoName objects.now rule file) (IsFirstName objects.now rule file) }
 {
     for index in 0..symbol_count(&objects[file]) {
-        if rule.is_broken_by(objects, marks, file, index) {
+        if rule.is_broken_by(objects, marks, table, file, index) {
             return Some(index);
         }
     }
@@ -142,27 +162,38 @@ fn first_name_in(
 }
 
 /// The first site of a symbol that breaks the rule, by file and position.
-fn first_name(rule: NameRule, objects: &[Object<'_>], marks: &[Vec<bool>]) -> Option<Site>
+fn first_name(
+    rule: NameRule,
+    objects: &[Object<'_>],
+    marks: &[Vec<bool>],
+    table: &NameTable<'_>,
+) -> Option<Site>
     requires marks { AreMarks objects.now (map (λ row. row.items) marks.now) }
+    requires table { IsWholeTable objects.now (position_by table.now.positions) table.now.known.items }
     ensures { MatchOption result (Nowhere (AtSymbol objects.now (BreaksName objects.now rule))) (IsFirstAt (AtSymbol objects.now (BreaksName objects.now rule))) }
 {
     for file in 0..objects.len() {
-        if let Some(index) = first_name_in(rule, objects, marks, file) {
+        if let Some(index) = first_name_in(rule, objects, marks, table, file) {
             return Some(site_in(file, index));
         }
     }
     None
 }
 
-/// Rules 8 and 9. Each entry of a name is looked up among all symbols.
-pub(crate) fn judge_names(objects: &[Object<'_>], marks: &[Vec<bool>]) -> Result<(), Broken>
+/// Rules 8 and 9. Names are looked up in the table.
+pub(crate) fn judge_names(
+    objects: &[Object<'_>],
+    marks: &[Vec<bool>],
+    table: &NameTable<'_>,
+) -> Result<(), Broken>
     requires marks { AreMarks objects.now (map (λ row. row.items) marks.now) }
+    requires table { IsWholeTable objects.now (position_by table.now.positions) table.now.known.items }
     ensures { FirstIn (name_rules objects.now) (found_of result) }
 {
-    if let Some(site) = first_name(NameRule::TwoDefinitions, objects, marks) {
+    if let Some(site) = first_name(NameRule::TwoDefinitions, objects, marks, table) {
         return Err(Broken::new(TWO_DEFINITIONS, site));
     }
-    if let Some(site) = first_name(NameRule::Undefined, objects, marks) {
+    if let Some(site) = first_name(NameRule::Undefined, objects, marks, table) {
         return Err(Broken::new(UNDEFINED, site));
     }
     Ok(())

@@ -8,15 +8,13 @@ ghost use Rattle.elf_link.specs.SiteTests.{HasNoneIn, IsFirstIn, Passes, counted
 use crate::files::{section_count, symbol_count};
 use crate::section_tests::{has_empty_signature, is_live_with};
 use crate::site::{Site, site_in};
-use crate::symbol_tests::{
-    is_bad_common, is_bad_symbol, is_common_entry, is_definition, is_entry, is_not_weak,
-};
+use crate::symbol_tests::{is_bad_common, is_bad_symbol};
 use elf_field::abi::*;
 use elf_object::Object;
 
-/// A test of one section or one symbol: a rule of the link, or what an entry of a name is.
+/// A test of one section or one symbol: a rule of the link.
 #[derive(Clone, Copy, Debug, PartialEq, Eq)]
-pub(crate) enum SiteTest<'n> {
+pub(crate) enum SiteTest {
     /// Rule 3: a live section with the flag `SHF_TLS`.
     Tls,
     /// Rule 4: a live section with the flag `SHF_LINK_ORDER`.
@@ -27,19 +25,9 @@ pub(crate) enum SiteTest<'n> {
     BadSymbol,
     /// Rule 7: a common that is not global, or of a wrong alignment.
     BadCommon,
-    /// A global definition of this name.
-    Strong(&'n [u8]),
-    /// A weak definition of this name.
-    Weak(&'n [u8]),
-    /// A common of this name.
-    Common(&'n [u8]),
-    /// An entry of this name.
-    Entry(&'n [u8]),
-    /// An entry of this name that is not weak.
-    NotWeak(&'n [u8]),
 }
 
-impl<'n> SiteTest<'n> {
+impl SiteTest {
     /// How many sections or symbols of a file are tested.
     fn count(&self, object: &Object<'_>) -> usize
         ensures { result ≡ counted self.now object.now }
@@ -63,18 +51,13 @@ impl<'n> SiteTest<'n> {
             SiteTest::EmptySignature => has_empty_signature(objects, file, index),
             SiteTest::BadSymbol => is_bad_symbol(objects, file, index),
             SiteTest::BadCommon => is_bad_common(objects, file, index),
-            SiteTest::Strong(name) => is_definition(STB_GLOBAL, name, objects, marks, file, index),
-            SiteTest::Weak(name) => is_definition(STB_WEAK, name, objects, marks, file, index),
-            SiteTest::Common(name) => is_common_entry(name, objects, file, index),
-            SiteTest::Entry(name) => is_entry(name, objects, file, index),
-            SiteTest::NotWeak(name) => is_not_weak(name, objects, file, index),
         }
     }
 }
 
 /// The first position in a file that passes the test.
 fn first_in_file(
-    test: &SiteTest<'_>,
+    test: &SiteTest,
     objects: &[Object<'_>],
     marks: &[Vec<bool>],
     file: usize,
@@ -93,7 +76,7 @@ fn first_in_file(
 
 /// The first site that passes the test, by file and position.
 pub(crate) fn first_site(
-    test: &SiteTest<'_>,
+    test: &SiteTest,
     objects: &[Object<'_>],
     marks: &[Vec<bool>],
 ) -> Option<Site>

@@ -1,11 +1,12 @@
 //! What the entry symbol's value is made of (gABI chapter 4, ELF Header: `e_entry`; Symbol Table: `st_value`).
-ghost use Rattle.std.specs.Prelude.{◌≡◌, ◌↔◌, ℕ, ◌+◌, ◌^◌, ◌<◌, IsTrue, MatchOption, length, map};
+ghost use Rattle.std.specs.Prelude.{◌≡◌, ◌↔◌, ℕ, ◌+◌, ◌^◌, ◌<◌, IsTrue, MatchOption, length};
 ghost use Rattle.elf_link.specs.declared.addresses.Target.TheVariants.{Part};
 ghost use Rattle.elf_link.specs.Addresses.{IsTargetBelow};
 ghost use Rattle.elf_link.specs.Binds.{Binds};
-ghost use Rattle.elf_link.specs.Discarded.{AreMarks};
 ghost use Rattle.elf_link.specs.Entry.{HasSite, IsChoiceTarget, IsCommonOf, IsEntryTarget, IsNameTarget, IsSectionTarget, IsSymbolTarget};
 ghost use Rattle.elf_link.specs.Files.{object_at};
+ghost use Rattle.elf_link.specs.NameTable.{IsWholeTable};
+ghost use Rattle.elf_link.specs.Naming.{position_by};
 ghost use Rattle.elf_link.specs.Plan.{name_at};
 ghost use Rattle.elf_link.specs.Planning.{AreSymbols, HaveChosen};
 
@@ -15,6 +16,7 @@ use crate::choice::Choice;
 use crate::commons::Chosen;
 use crate::files::symbol_of;
 use crate::listing::is_at;
+use crate::name_table::NameTable;
 use crate::site::Site;
 use elf_object::{Object, Place};
 
@@ -118,19 +120,19 @@ fn choice_target(
 /// The value of a name.
 fn name_target(
     objects: &[Object<'_>],
-    marks: &[Vec<bool>],
+    table: &NameTable<'_>,
     sites: &[Site],
     commons: &[Chosen],
     name: &[u8],
 ) -> Target
-    requires marks { AreMarks objects.now (map (λ row. row.items) marks.now) }
+    requires table { IsWholeTable objects.now (position_by table.now.positions) table.now.known.items }
     requires symbols { AreSymbols objects.now commons.now }
     requires commons { HaveChosen objects.now commons.now }
     requires fits { length sites.now + length commons.now < 2 ^ 64 }
     ensures target { IsNameTarget objects.now sites.now commons.now name.now result }
     ensures below { IsTargetBelow (length sites.now + length commons.now) result }
 {
-    match bind(objects, marks, name) {
+    match bind(objects, table, name) {
         Some(choice) => choice_target(objects, sites, commons, name, choice),
         None => Target::Lost,
     }
@@ -139,12 +141,12 @@ fn name_target(
 /// The value of the entry symbol, 0 where none is named.
 pub(crate) fn entry_target(
     objects: &[Object<'_>],
-    marks: &[Vec<bool>],
+    table: &NameTable<'_>,
     sites: &[Site],
     commons: &[Chosen],
     name: Option<&[u8]>,
 ) -> Target
-    requires marks { AreMarks objects.now (map (λ row. row.items) marks.now) }
+    requires table { IsWholeTable objects.now (position_by table.now.positions) table.now.known.items }
     requires symbols { AreSymbols objects.now commons.now }
     requires commons { HaveChosen objects.now commons.now }
     requires fits { length sites.now + length commons.now < 2 ^ 64 }
@@ -152,7 +154,7 @@ pub(crate) fn entry_target(
     ensures below { IsTargetBelow (length sites.now + length commons.now) result }
 {
     match name {
-        Some(name) => name_target(objects, marks, sites, commons, name),
+        Some(name) => name_target(objects, table, sites, commons, name),
         None => Target::Fixed(0),
     }
 }

@@ -6,7 +6,10 @@ use Rattle.elf_link.proofs.ChosenCommons.{chosen_of, chosen_symbols, have_chosen
 use Rattle.elf_link.proofs.commons.chosen_commons.Goals as goal
 
 pub chosen_at-requires : goal.chosen_at-requires
-chosen_at-requires c = subst (λ (ps : List Site). Lists (listed_row c.args.objects.now ChosenCommons) ps) (sym c.deref.ensures.value) c.in_ok-sites.ensures
+chosen_at-requires c = record {
+  table = c.requires.table;
+  sites = subst (λ (ps : List Site). Lists (listed_row c.args.objects.now ChosenCommons) ps) (sym c.deref.ensures.value) c.in_ok-sites.ensures;
+}
 
 pub returns-clause-chosen : goal.returns-clause-chosen
 returns-clause-chosen c =

@@ -1,6 +1,5 @@
-use Rattle.std.proofs.Common.{List, map, ap, sym, ◌∙◌, subst}
+use Rattle.std.proofs.Common.{map, ap, sym, ◌∙◌, subst}
 use Rattle.std.proofs.lemmas.List.{map-append}
-use Rattle.elf_link.specs.declared.site.Site.{Site}
 use Rattle.elf_link.specs.OutputGroups.{AreInOrder}
 use Rattle.elf_link.proofs.Grouped.{outputs_all}
 use Rattle.elf_link.proofs.Openers.{members_in, outputs_live, outputs_some}

@@ -1,0 +1,20 @@
+use Rattle.std.proofs.Common.{ap, subst}
+use Rattle.elf_object.specs.Object.{SymbolValue}
+use Rattle.elf_link.specs.Binds.{IsUnbound}
+use Rattle.elf_link.specs.NameTable.{first_site}
+use Rattle.elf_link.specs.Plan.{name_at}
+use Rattle.elf_link.proofs.Naming.{entry_there}
+use Rattle.elf_link.proofs.bindings.named_for.Goals as goal
+
+pub unreachable-requires : goal.unreachable-requires
+unreachable-requires c =
+    let fs = c.args.objects.now in
+    let p = first_site c.args.known in
+    c.requires.bound (name_at fs p) p (entry_there fs p c.requires.site) (c.in_default.ensures fs (name_at fs p) c.requires.known)
+
+pub unreachable-requires-in_default-binding_by : goal.unreachable-requires-in_default-binding_by
+unreachable-requires-in_default-binding_by c =
+    let fs = c.args.objects.now in
+    let p = first_site c.args.known in
+    c.requires.bound (name_at fs p) p (entry_there fs p c.requires.site)
+    (subst (IsUnbound fs) (ap (λ (s : SymbolValue). s.name) c.symbol_of.ensures) c.in_default-binding_by.ensures)

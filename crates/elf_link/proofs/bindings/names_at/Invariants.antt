@@ -1,7 +1,0 @@
-use Rattle.std.proofs.Common.{map}
-use Rattle.elf_link.specs.LinkMapView.{common_value, named_value}
-use Rattle.elf_link.specs.Naming.{AreNamedAt}
-use Rattle.elf_link.proofs.bindings.names_at.Given as goal
-
-abbrev pub invariant-loop-k : goal.invariant-loop-k
-invariant-loop-k l = AreNamedAt l.objects (map common_value l.commons) l.sites l.k (map named_value l.names.items)
