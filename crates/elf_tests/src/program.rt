@@ -187,7 +187,7 @@ fn refuses_other_words(rt: HostRuntime) {
 }
 
 /// What `--help` prints, on standard error.
-const HELP: &str = "Checks, shows and rewrites ELF-64 object files
+const HELP: &str = "Checks, shows, rewrites and links ELF-64 object files
 
 Usage: elfmap <COMMAND>
 
@@ -195,6 +195,7 @@ Commands:
   check    Tells whether FILE is an ELF-64 file, or the first rule that it breaks and where
   show     Shows the header, the parts, the sections, the segments and the tables of FILE
   rewrite  Writes the object of FILE in canonical layout on standard output
+  map      Shows where the sections and names of the FILEs stand in their link
 
 Options:
   -h, --help  Print help
