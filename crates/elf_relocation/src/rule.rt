@@ -1,6 +1,6 @@
 //! The rules that say what relocations of a kind are.
-ghost use Rattle.std.specs.Prelude.{◌≡◌};
-ghost use Rattle.elf_relocation.specs.Rule.{rule_for, size_of};
+ghost use Rattle.std.specs.Prelude.{◌≡◌, MatchOption};
+ghost use Rattle.elf_relocation.specs.Rule.{HasNoRule, IsFirstRule, size_of};
 
 /// What an entry's number is made of.
 #[derive(Clone, Copy, Debug, PartialEq, Eq)]
@@ -58,7 +58,7 @@ pub struct RelocRule {
 
 /// The first rule of this kind; None where there is none.
 pub fn rule_of(rules: &[RelocRule], kind: u32) -> Option<RelocRule>
-    ensures { result ≡ rule_for kind rules.now }
+    ensures { MatchOption result (HasNoRule kind rules.now) (IsFirstRule kind rules.now) }
 {
     for rule in rules {
         if rule.kind == kind {
