@@ -54,6 +54,14 @@ pub record IsAnswered (report : Report) (input rest old new : Option (List ℕ))
   pub limit : length bytes ≤ MAX_LEN + 1
   pub answered : IsGivenUp bytes old new result ⊎ (IsReadWhole rest bytes × IsReported (report bytes) old new result)
 
+-- what is said is written, or exactly the first `written` bytes of it, or for want of memory nothing
+abbrev pub IsSaid : (Verdict → List ℕ → Type 0) → Option (List ℕ) → Option (List ℕ) → Result Verdict ToolFault → Type 0
+IsSaid Says old new (Ok verdict) = (text : List ℕ) × Says verdict text × Appends old new text
+IsSaid Says old new (Err (Read at)) = ⊥
+IsSaid Says old new (Err (Write written)) =
+    (verdict : Verdict) × (text : List ℕ) × Says verdict text × (written < length text) × Appends old new (take written text)
+IsSaid Says old new (Err OutOfMemory) = Keeps old new
+
 -- a call of an engine that takes all its memory before it writes: for want of memory nothing is written
 pub record IsAnsweredWithMemory (report : Report) (input rest old new : Option (List ℕ)) (result : Result Verdict ToolFault) : Type 0 where
   pub answered : IsAnswered report input rest old new result

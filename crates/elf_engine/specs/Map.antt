@@ -1,16 +1,16 @@
 -- What `map` says of files.
-use Rattle.std.specs.Prelude.{◌≡◌, ◌⊎◌, ◌<◌, ℕ, List, length, take, None, Option, Some, Result, Ok, Err}
-use Rattle.std.specs.Io.KnownBytes.{Appends, Keeps}
+use Rattle.std.specs.Prelude.{◌≡◌, ◌⊎◌, ℕ, List, None, Option, Some, Result, Ok, Err}
+use Rattle.std.specs.Io.KnownBytes.{Keeps}
 use Rattle.elf_object.specs.Object.{ObjectValue}
 use Rattle.elf_link.specs.declared.options.Options.{Options}
 use Rattle.elf_link.specs.LinkFaults.{FirstOfLink}
 use Rattle.elf_link.specs.LinkMap.{IsLinkMap, LinkMapValue}
+use Rattle.elf_engine.specs.Engine.{IsSaid}
 use Rattle.elf_engine.specs.Inputs.{AreRead, IsReadingFault}
 use Rattle.elf_engine.specs.MapLines.{file_refused_line, link_refused_line, map_text}
 use Rattle.elf_engine.specs.ObjectFiles.{AreObjectFiles, IsFirstRefused}
 use Rattle.elf_engine.specs.declared.fault.Refusal.TheVariants.{File, Link, TooLong}
 use Rattle.elf_engine.specs.declared.fault.ToolFault.{ToolFault}
-use Rattle.elf_engine.specs.declared.fault.ToolFault.TheVariants.{Read, Write, OutOfMemory}
 use Rattle.elf_engine.specs.declared.fault.Verdict.{Verdict}
 use Rattle.elf_engine.specs.declared.fault.Verdict.TheVariants.{Done, Refused}
 
@@ -36,14 +36,6 @@ abbrev pub MapSays : Options → List (List ℕ) → Verdict → List ℕ → Ty
 MapSays opt files verdict text =
     ((fs : List ObjectValue) × AreObjectFiles files fs × LinkSays opt fs verdict text) ⊎ FilesRefuse files verdict text
 
--- what is said is written, or exactly the first `written` bytes of it, or for want of memory nothing
-abbrev pub IsTold : (Verdict → List ℕ → Type 0) → Option (List ℕ) → Option (List ℕ) → Result Verdict ToolFault → Type 0
-IsTold Says old new (Ok verdict) = (text : List ℕ) × Says verdict text × Appends old new text
-IsTold Says old new (Err (Read at)) = ⊥
-IsTold Says old new (Err (Write written)) =
-    (verdict : Verdict) × (text : List ℕ) × Says verdict text × (written < length text) × Appends old new (take written text)
-IsTold Says old new (Err OutOfMemory) = Keeps old new
-
 -- a fault while the files are read: nothing is written
 abbrev pub IsUnread : List (Option (List ℕ)) → List (Option (List ℕ)) → Option (List ℕ) → Option (List ℕ) → Result Verdict ToolFault → Type 0
 IsUnread inputs rests old new (Ok verdict) = ⊥
@@ -53,4 +45,4 @@ IsUnread inputs rests old new (Err fault) = IsReadingFault inputs rests fault ×
 abbrev pub IsMapped : Options → List (Option (List ℕ)) → List (Option (List ℕ)) → Option (List ℕ) → Option (List ℕ) → Result Verdict ToolFault → Type 0
 IsMapped opt inputs rests old new result =
     IsUnread inputs rests old new result
-    ⊎ ((files : List (List ℕ)) × AreRead inputs rests files × IsTold (MapSays opt files) old new result)
+    ⊎ ((files : List (List ℕ)) × AreRead inputs rests files × IsSaid (MapSays opt files) old new result)

@@ -1,6 +1,5 @@
 -- What `rewrite` makes of a file: its object, in canonical layout.
-use Rattle.std.specs.Prelude.{◌≡◌, ◌⊎◌, ◌<◌, ◌≤◌, ℕ, List, [], length, take, None, Option, Some, Result, Ok, Err}
-use Rattle.std.specs.Io.KnownBytes.{Appends, Keeps}
+use Rattle.std.specs.Prelude.{◌≡◌, ◌⊎◌, ◌<◌, ◌≤◌, ℕ, List, [], length, None, Option, Some, Result}
 use Rattle.elf_image.specs.Image.{ImageValue, IsImage}
 use Rattle.elf_object.specs.Denotes.{Denotes}
 use Rattle.elf_object.specs.FileRules.{file_rules}
@@ -13,7 +12,6 @@ use Rattle.elf_table.specs.Sections.{Sections, sections_of}
 use Rattle.elf_engine.specs.Engine.{IsAnsweredWithMemory}
 use Rattle.elf_engine.specs.declared.fault.Refusal.TheVariants.{File, Link, TooLong}
 use Rattle.elf_engine.specs.declared.fault.ToolFault.{ToolFault}
-use Rattle.elf_engine.specs.declared.fault.ToolFault.TheVariants.{Read, Write, OutOfMemory}
 use Rattle.elf_engine.specs.declared.fault.Verdict.{Verdict}
 use Rattle.elf_engine.specs.declared.fault.Verdict.TheVariants.{Done, Refused}
 
@@ -47,10 +45,3 @@ RewriteSays b verdict text =
 -- a call of `rewrite`
 abbrev pub IsRewritten : Option (List ℕ) → Option (List ℕ) → Option (List ℕ) → Option (List ℕ) → Result Verdict ToolFault → Type 0
 IsRewritten = IsAnsweredWithMemory RewriteSays
-
--- what is said is written, or exactly the first `written` bytes of it, or for want of memory nothing
-abbrev pub IsSaid : (Verdict → List ℕ → Type 0) → Option (List ℕ) → Option (List ℕ) → Result Verdict ToolFault → Type 0
-IsSaid Says old new (Ok verdict) = (text : List ℕ) × Says verdict text × Appends old new text
-IsSaid Says old new (Err (Read at)) = ⊥
-IsSaid Says old new (Err (Write written)) = (text : List ℕ) × Says Done text × (written < length text) × Appends old new (take written text)
-IsSaid Says old new (Err OutOfMemory) = Keeps old new

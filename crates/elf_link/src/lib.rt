@@ -51,3 +51,4 @@ pub use link::map;
 pub use link_map::{Common, LinkMap, Member, Output};
 pub use names::Named;
 pub use options::Options;
+pub use parts::memory_size;

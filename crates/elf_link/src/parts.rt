@@ -10,8 +10,8 @@ use crate::site::Site;
 use elf_object::{Body, Object};
 use std::alloc::{AllocError, Global};
 
-/// The size of a section in memory, in bytes.
-fn memory_size(body: &Body<'_>) -> u64
+/// The size of a section in memory, in bytes; 0 of one that takes none there.
+pub fn memory_size(body: &Body<'_>) -> u64
     ensures { result ≡ memory_size_of (body_value body.now) }
 {
     match body {

@@ -2,15 +2,14 @@
 ghost use Rattle.std.specs.Prelude.{◌≡◌, ◌++◌, ◌<◌, IfOk, OnOk, length, slice_index_or};
 ghost use Rattle.elf_engine.specs.MapLines.{binding_value, common_lines, discarded_lines, map_text as map_text_of, name_lines, output_lines, place_value, symbol_value as symbol_value_of};
 ghost use Rattle.elf_link.specs.Files.{object_at, section_in};
-ghost use Rattle.elf_link.specs.Outputs.{memory_size};
-ghost use Rattle.elf_object.specs.ObjectView.{body_value};
+ghost use Rattle.elf_link.specs.Outputs.{memory_size as memory_size_of};
 
 use super::lines::{Lines, push_lines};
 use crate::map_lines::{
     push_common_line, push_discarded_line, push_member_line, push_name_line, push_output_line,
 };
-use elf_link::{Binding, LinkMap, Member};
-use elf_object::{Body, Object, Place};
+use elf_link::{Binding, LinkMap, Member, memory_size};
+use elf_object::{Object, Place};
 use std::alloc::{AllocError, Global};
 
 /// The lines of the link map of these objects: each output section and behind it its members, the commons, the discarded
@@ -135,7 +134,7 @@ impl<'l, 'a> Lines for MemberLines<'l, 'a> {
 
 // The size of a section in memory; 0 where there is none at that position.
 fn size_of(objects: &[Object<'_>], file: usize, section: usize) -> u64
-    ensures { result ≡ memory_size (section_in objects.now file section).body }
+    ensures { result ≡ memory_size_of (section_in objects.now file section).body }
 {
     if file >= objects.len() {
         return 0;
@@ -144,17 +143,7 @@ fn size_of(objects: &[Object<'_>], file: usize, section: usize) -> u64
     if section >= sections.len() {
         return 0;
     }
-    body_size(&sections[section].body)
-}
-
-fn body_size(body: &Body<'_>) -> u64
-    ensures { result ≡ memory_size (body_value body.now) }
-{
-    match body {
-        Body::Bits(_, bytes) => bytes.len() as u64,
-        Body::NoBits(size) => *size,
-        Body::Relocs { .. } | Body::Group { .. } => 0,
-    }
+    memory_size(&sections[section].body)
 }
 
 // The commons.

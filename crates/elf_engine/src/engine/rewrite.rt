@@ -1,6 +1,7 @@
 //! `rewrite`: the object of a file, in canonical layout.
 ghost use Rattle.std.specs.Prelude.{◌≡◌};
-ghost use Rattle.elf_engine.specs.Rewrite.{IsRewritten, IsSaid, ObjectSays, SectionsSay};
+ghost use Rattle.elf_engine.specs.Engine.{IsSaid};
+ghost use Rattle.elf_engine.specs.Rewrite.{IsRewritten, ObjectSays, SectionsSay};
 ghost use Rattle.elf_table.specs.Sections.{sections_of};
 
 use super::input::read_input;
