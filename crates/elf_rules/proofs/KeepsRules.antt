@@ -13,9 +13,9 @@ use Rattle.elf_rules.specs.ImageRules.{entry_rules, image_rules, record_rules, t
 use Rattle.elf_rules.specs.KeepsRules.{IsNullHeader, KeepsEachRecordRule, KeepsHeaderRules, KeepsIdentRules, KeepsLengthRules, KeepsNameRules, KeepsProgramTableRules, KeepsRules, KeepsSectionRules, KeepsSectionTableRules, KeepsSegmentRules}
 use Rattle.elf_rules.specs.NameRules.{name_rules}
 use Rattle.elf_rules.specs.ProgramTableRules.{program_table_rules, wrong_extended_segment_count, wrong_segment_count}
-use Rattle.elf_rules.specs.SectionRules.{IsMisaligned, IsNamePastEnd, IsWronglyAligned, PassesEnd, SomeSection, section_rules}
+use Rattle.elf_rules.specs.SectionRules.{IsMisalignedSection, IsNamePastEnd, HasWrongSectionAlignment, IsContentPastEnd, SomeSection, section_rules}
 use Rattle.elf_rules.specs.SectionTableRules.{first_section_header_not_null, section_table_rules, wrong_extended_name_table_index, wrong_extended_section_count, wrong_name_table_index}
-use Rattle.elf_rules.specs.SegmentRules.{IsIncongruent, IsLargerInFile, IsSegmentWronglyAligned, SegmentPassesEnd, SomeSegment, segment_rules}
+use Rattle.elf_rules.specs.SegmentRules.{IsIncongruentSegment, HasFileSizeAboveMemorySize, HasWrongSegmentAlignment, IsSegmentPastEnd, SomeSegment, segment_rules}
 use Rattle.elf_rules.specs.StringTable.{UnclosedAt}
 use Rattle.elf_rules.specs.Tables.{phdr_offset, section_count, segment_count, shdr_offset}
 use Rattle.elf_rules.proofs.Decided.{above, alignment, at_most, equal, equal_to_either, not_wrong}
@@ -229,19 +229,19 @@ section_never h n s P field kept =
 sections_kept : (len : ℕ) (h : Ehdr) (n : ℕ) (s : ℕ → Shdr) → FirstIn (section_rules len h n s) None → KeepsSectionRules len n s
 unfolding section_rules
 sections_kept len h n s clean = record {
-  alignment = λ i low high typed. alignment _ (section_kept h n s IsWronglyAligned _ clean.0 i low high typed);
-  address = λ i low high typed some. equal _ _ (λ other. section_kept h n s IsMisaligned _ clean.1.0 i low high typed (some, other));
-  content = λ i low high typed bits some. at_most _ _ (λ lt. section_kept h n s (PassesEnd len) _ clean.1.1.0 i low high typed (bits, some, lt));
+  alignment = λ i low high typed. alignment _ (section_kept h n s HasWrongSectionAlignment _ clean.0 i low high typed);
+  address = λ i low high typed some. equal _ _ (λ other. section_kept h n s IsMisalignedSection _ clean.1.0 i low high typed (some, other));
+  content = λ i low high typed bits some. at_most _ _ (λ lt. section_kept h n s (IsContentPastEnd len) _ clean.1.1.0 i low high typed (bits, some, lt));
 }
 
 sections_unbroken : (len : ℕ) (h : Ehdr) (n : ℕ) (s : ℕ → Shdr) → KeepsSectionRules len n s → FirstIn (section_rules len h n s) None
 unfolding section_rules
 sections_unbroken len h n s kept = (
-  section_never h n s IsWronglyAligned _ (λ i low high typed. not_wrong _ (kept.alignment i low high typed)),
+  section_never h n s HasWrongSectionAlignment _ (λ i low high typed. not_wrong _ (kept.alignment i low high typed)),
   (
-    section_never h n s IsMisaligned _ (λ i low high typed (some, other). other (kept.address i low high typed some)),
+    section_never h n s IsMisalignedSection _ (λ i low high typed (some, other). other (kept.address i low high typed some)),
     (
-      section_never h n s (PassesEnd len) _ (λ i low high typed (bits, some, lt). let le = kept.content i low high typed bits some in absurd (omega arith)),
+      section_never h n s (IsContentPastEnd len) _ (λ i low high typed (bits, some, lt). let le = kept.content i low high typed bits some in absurd (omega arith)),
       tt,
     ),
   ),
@@ -259,23 +259,23 @@ segment_never h m g P field kept = entry_never m (λ k. P (g k)) (λ k. phdr_off
 segments_kept : (len : ℕ) (h : Ehdr) (m : ℕ) (g : ℕ → Phdr) → FirstIn (segment_rules len h m g) None → KeepsSegmentRules len m g
 unfolding segment_rules
 segments_kept len h m g clean = record {
-  bytes = λ j below typed some. at_most _ _ (λ lt. segment_kept h m g (SegmentPassesEnd len) _ clean.0 j below (typed, some, lt));
-  sizes = λ j below load. at_most _ _ (λ lt. segment_kept h m g IsLargerInFile _ clean.1.0 j below (load, lt));
-  alignment = λ j below load. alignment _ (λ wrong. segment_kept h m g IsSegmentWronglyAligned _ clean.1.1.0 j below (load, wrong));
-  congruence = λ j below load some. equal _ _ (λ other. segment_kept h m g IsIncongruent _ clean.1.1.1.0 j below (load, some, other));
+  bytes = λ j below typed some. at_most _ _ (λ lt. segment_kept h m g (IsSegmentPastEnd len) _ clean.0 j below (typed, some, lt));
+  sizes = λ j below load. at_most _ _ (λ lt. segment_kept h m g HasFileSizeAboveMemorySize _ clean.1.0 j below (load, lt));
+  alignment = λ j below load. alignment _ (λ wrong. segment_kept h m g HasWrongSegmentAlignment _ clean.1.1.0 j below (load, wrong));
+  congruence = λ j below load some. equal _ _ (λ other. segment_kept h m g IsIncongruentSegment _ clean.1.1.1.0 j below (load, some, other));
   order = λ k j below load before. at_most _ _ (λ lt. clean.1.1.1.1.0 _ (k, j, below, load, before, lt, refl));
 }
 
 segments_unbroken : (len : ℕ) (h : Ehdr) (m : ℕ) (g : ℕ → Phdr) → KeepsSegmentRules len m g → FirstIn (segment_rules len h m g) None
 unfolding segment_rules
 segments_unbroken len h m g kept = (
-  segment_never h m g (SegmentPassesEnd len) _ (λ j below (typed, some, lt). let le = kept.bytes j below typed some in absurd (omega arith)),
+  segment_never h m g (IsSegmentPastEnd len) _ (λ j below (typed, some, lt). let le = kept.bytes j below typed some in absurd (omega arith)),
   (
-    segment_never h m g IsLargerInFile _ (λ j below (load, lt). let le = kept.sizes j below load in absurd (omega arith)),
+    segment_never h m g HasFileSizeAboveMemorySize _ (λ j below (load, lt). let le = kept.sizes j below load in absurd (omega arith)),
     (
-      segment_never h m g IsSegmentWronglyAligned _ (λ j below (load, wrong). not_wrong _ (kept.alignment j below load) wrong),
+      segment_never h m g HasWrongSegmentAlignment _ (λ j below (load, wrong). not_wrong _ (kept.alignment j below load) wrong),
       (
-        segment_never h m g IsIncongruent _ (λ j below (load, some, other). other (kept.congruence j below load some)),
+        segment_never h m g IsIncongruentSegment _ (λ j below (load, some, other). other (kept.congruence j below load some)),
         ((λ x (k, j, below, load, before, lt, at). let le = kept.order k j below load before in absurd (omega arith)), tt),
       ),
     ),

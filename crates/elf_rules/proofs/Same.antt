@@ -18,9 +18,9 @@ use Rattle.elf_rules.specs.NameRules.{name_rules}
 use Rattle.elf_rules.specs.StringTable.{UnclosedAt}
 use Rattle.elf_rules.specs.OverlapRule.{extents, overlap_rules}
 use Rattle.elf_rules.specs.ProgramTableRules.{program_table_rules}
-use Rattle.elf_rules.specs.SectionRules.{IsMisaligned, IsNamePastEnd, IsWronglyAligned, PassesEnd, SomeSection, section_rules}
+use Rattle.elf_rules.specs.SectionRules.{IsMisalignedSection, IsNamePastEnd, HasWrongSectionAlignment, IsContentPastEnd, SomeSection, section_rules}
 use Rattle.elf_rules.specs.SectionTableRules.{section_table_rules}
-use Rattle.elf_rules.specs.SegmentRules.{IsIncongruent, IsLargerInFile, IsLoad, IsSegmentWronglyAligned, SegmentPassesEnd, SomeSegment, load_out_of_order, segment_rules}
+use Rattle.elf_rules.specs.SegmentRules.{IsIncongruentSegment, HasFileSizeAboveMemorySize, IsLoad, HasWrongSegmentAlignment, IsSegmentPastEnd, SomeSegment, load_out_of_order, segment_rules}
 use Rattle.elf_rules.specs.SoundTables.{HasSoundTables}
 use Rattle.elf_rules.proofs.Clean.{clean_records, name_table_below, sound_tables}
 
@@ -77,13 +77,13 @@ unfolding section_rules
 same_section_rules len h n s t agree =
     let back : (i : ℕ) → i < n → t i ≡ s i = λ i lt. sym (agree i lt) in (
       refl,
-      some_section h t s n IsWronglyAligned _ back,
-      some_section h s t n IsWronglyAligned _ agree,
+      some_section h t s n HasWrongSectionAlignment _ back,
+      some_section h s t n HasWrongSectionAlignment _ agree,
       (
         refl,
-        some_section h t s n IsMisaligned _ back,
-        some_section h s t n IsMisaligned _ agree,
-        (refl, some_section h t s n (PassesEnd len) _ back, some_section h s t n (PassesEnd len) _ agree, tt),
+        some_section h t s n IsMisalignedSection _ back,
+        some_section h s t n IsMisalignedSection _ agree,
+        (refl, some_section h t s n (IsContentPastEnd len) _ back, some_section h s t n (IsContentPastEnd len) _ agree, tt),
       ),
     )
 
@@ -92,20 +92,20 @@ unfolding segment_rules
 same_segment_rules len h m g k agree =
     let back : (j : ℕ) → j < m → k j ≡ g j = λ j lt. sym (agree j lt) in (
       refl,
-      some_segment h k g m (SegmentPassesEnd len) _ back,
-      some_segment h g k m (SegmentPassesEnd len) _ agree,
+      some_segment h k g m (IsSegmentPastEnd len) _ back,
+      some_segment h g k m (IsSegmentPastEnd len) _ agree,
       (
         refl,
-        some_segment h k g m IsLargerInFile _ back,
-        some_segment h g k m IsLargerInFile _ agree,
+        some_segment h k g m HasFileSizeAboveMemorySize _ back,
+        some_segment h g k m HasFileSizeAboveMemorySize _ agree,
         (
           refl,
-          some_segment h k g m IsSegmentWronglyAligned _ back,
-          some_segment h g k m IsSegmentWronglyAligned _ agree,
+          some_segment h k g m HasWrongSegmentAlignment _ back,
+          some_segment h g k m HasWrongSegmentAlignment _ agree,
           (
             refl,
-            some_segment h k g m IsIncongruent _ back,
-            some_segment h g k m IsIncongruent _ agree,
+            some_segment h k g m IsIncongruentSegment _ back,
+            some_segment h g k m IsIncongruentSegment _ agree,
             (refl, loads h k g m back, loads h g k m agree, tt),
           ),
         ),

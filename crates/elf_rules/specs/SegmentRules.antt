@@ -5,7 +5,7 @@ use Rattle.elf_field.specs.Abi.{PT_LOAD, PT_NULL, P_ALIGN_AT, P_FILESZ_AT, P_OFF
 use Rattle.elf_field.specs.declared.ehdr.Ehdr.{Ehdr}
 use Rattle.elf_field.specs.declared.phdr.Phdr.{Phdr}
 use Rattle.elf_rules.specs.declared.segment_rules.SegmentRule.{SegmentRule}
-use Rattle.elf_rules.specs.declared.segment_rules.SegmentRule.TheVariants.{End, Size, Alignment, Congruence}
+use Rattle.elf_rules.specs.declared.segment_rules.SegmentRule.TheVariants.{FileSizeAboveMemorySize, IncongruentSegment, SegmentPastEnd, WrongSegmentAlignment}
 use Rattle.elf_rules.specs.Rows.{AtEntry, Row, Ruled, rule}
 use Rattle.elf_rules.specs.SectionRules.{IsWrongAlignment}
 use Rattle.elf_rules.specs.Tables.{phdr_offset}
@@ -19,48 +19,48 @@ abbrev pub IsLoad : Phdr → Type 0
 IsLoad segment = segment.p_type ≡ PT_LOAD
 
 -- rule 25: a segment's bytes pass the end of the file; one of type NULL has none
-abbrev pub SegmentPassesEnd : ℕ → Phdr → Type 0
-SegmentPassesEnd len segment =
+abbrev pub IsSegmentPastEnd : ℕ → Phdr → Type 0
+IsSegmentPastEnd len segment =
     (segment.p_type ≢ PT_NULL) × (0 < segment.p_filesz) × (len < segment.p_offset + segment.p_filesz)
 
 abbrev pub segment_past_end : ℕ → Ehdr → ℕ → (ℕ → Phdr) → Row
-segment_past_end len h m g = SomeSegment h m g (SegmentPassesEnd len) P_OFFSET_AT
+segment_past_end len h m g = SomeSegment h m g (IsSegmentPastEnd len) P_OFFSET_AT
 
 -- rule 26: a loadable segment has more bytes in the file than in memory
-abbrev pub IsLargerInFile : Phdr → Type 0
-IsLargerInFile segment = IsLoad segment × (segment.p_memsz < segment.p_filesz)
+abbrev pub HasFileSizeAboveMemorySize : Phdr → Type 0
+HasFileSizeAboveMemorySize segment = IsLoad segment × (segment.p_memsz < segment.p_filesz)
 
 abbrev pub file_size_above_memory_size : Ehdr → ℕ → (ℕ → Phdr) → Row
-file_size_above_memory_size h m g = SomeSegment h m g IsLargerInFile P_FILESZ_AT
+file_size_above_memory_size h m g = SomeSegment h m g HasFileSizeAboveMemorySize P_FILESZ_AT
 
 -- rule 27: a loadable segment's alignment is neither 0 nor a power of two
-abbrev pub IsSegmentWronglyAligned : Phdr → Type 0
-IsSegmentWronglyAligned segment = IsLoad segment × IsWrongAlignment segment.p_align
+abbrev pub HasWrongSegmentAlignment : Phdr → Type 0
+HasWrongSegmentAlignment segment = IsLoad segment × IsWrongAlignment segment.p_align
 
 abbrev pub wrong_segment_alignment : Ehdr → ℕ → (ℕ → Phdr) → Row
-wrong_segment_alignment h m g = SomeSegment h m g IsSegmentWronglyAligned P_ALIGN_AT
+wrong_segment_alignment h m g = SomeSegment h m g HasWrongSegmentAlignment P_ALIGN_AT
 
 -- rule 28: a loadable segment's address and offset are not congruent modulo its alignment
-abbrev pub IsIncongruent : Phdr → Type 0
-IsIncongruent segment = IsLoad segment × (1 < segment.p_align) ×
+abbrev pub IsIncongruentSegment : Phdr → Type 0
+IsIncongruentSegment segment = IsLoad segment × (1 < segment.p_align) ×
     (segment.p_vaddr % segment.p_align ≢ segment.p_offset % segment.p_align)
 
 abbrev pub incongruent_segment : Ehdr → ℕ → (ℕ → Phdr) → Row
-incongruent_segment h m g = SomeSegment h m g IsIncongruent P_OFFSET_AT
+incongruent_segment h m g = SomeSegment h m g IsIncongruentSegment P_OFFSET_AT
 
 -- what breaks each of these rules on a segment by itself
 abbrev pub BreaksSegment : SegmentRule → Phdr → Type 0
-BreaksSegment (End len) = SegmentPassesEnd len
-BreaksSegment Size = IsLargerInFile
-BreaksSegment Alignment = IsSegmentWronglyAligned
-BreaksSegment Congruence = IsIncongruent
+BreaksSegment (SegmentPastEnd len) = IsSegmentPastEnd len
+BreaksSegment FileSizeAboveMemorySize = HasFileSizeAboveMemorySize
+BreaksSegment WrongSegmentAlignment = HasWrongSegmentAlignment
+BreaksSegment IncongruentSegment = IsIncongruentSegment
 
 -- the offset in the program header of the field that each of them answers
 abbrev pub segment_field : SegmentRule → ℕ
-segment_field (End len) = P_OFFSET_AT
-segment_field Size = P_FILESZ_AT
-segment_field Alignment = P_ALIGN_AT
-segment_field Congruence = P_OFFSET_AT
+segment_field (SegmentPastEnd len) = P_OFFSET_AT
+segment_field FileSizeAboveMemorySize = P_FILESZ_AT
+segment_field WrongSegmentAlignment = P_ALIGN_AT
+segment_field IncongruentSegment = P_OFFSET_AT
 
 -- k is the nearest loadable segment of a lower index than j
 pub record IsLoadBefore (g : ℕ → Phdr) (k j : ℕ) : Type 0 where

@@ -59,7 +59,7 @@ pub fn judge_names<T: Records>(
     if let Some(at) = unclosed_end(ends, entry.sh_offset) {
         return Err(Broken::new(UNCLOSED_NAME_TABLE, at));
     }
-    let rule = SectionRule::Name(ends.len);
+    let rule = SectionRule::NamePastEnd(ends.len);
     if let Some(at) = lowest_section(records, header, count, rule) {
         return Err(Broken::new(NAME_PAST_END, at));
     }

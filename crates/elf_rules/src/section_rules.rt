@@ -3,7 +3,7 @@ ghost use Rattle.std.specs.Prelude.{◌≡◌, ◌<◌, ◌^◌, ◌↔◌, ℕ,
 ghost use Rattle.elf_extent.specs.Least.{IsLowest};
 ghost use Rattle.elf_rules.specs.Broken.{fault_of};
 ghost use Rattle.elf_rules.specs.Rows.{FirstIn};
-ghost use Rattle.elf_rules.specs.SectionRules.{BreaksSection, IsMisaligned, PassesEnd, SomeSection, section_field, section_rules};
+ghost use Rattle.elf_rules.specs.SectionRules.{BreaksSection, IsMisalignedSection, IsContentPastEnd, SomeSection, section_field, section_rules};
 ghost use Rattle.elf_rules.specs.Tables.{shdr_offset};
 
 use crate::alignment::is_wrong_alignment;
@@ -18,13 +18,13 @@ use elf_field::{Ehdr, Shdr};
 #[derive(Clone, Copy, Debug, PartialEq, Eq)]
 pub enum SectionRule {
     /// Rule 22, [`WRONG_SECTION_ALIGNMENT`].
-    Alignment,
+    WrongSectionAlignment,
     /// Rule 23, [`MISALIGNED_SECTION`].
-    Address,
+    MisalignedSection,
     /// Rule 24, [`CONTENT_PAST_END`], in a file of so many bytes.
-    Content(u64),
+    ContentPastEnd(u64),
     /// Rule 32, [`NAME_PAST_END`], with a section name string table of so many bytes.
-    Name(u64),
+    NamePastEnd(u64),
 }
 
 impl SectionRule {
@@ -33,10 +33,10 @@ impl SectionRule {
         ensures { IsTrue result ↔ BreaksSection self entry.now }
     {
         match self {
-            SectionRule::Alignment => is_wrong_alignment(entry.sh_addralign),
-            SectionRule::Address => is_misaligned(entry),
-            SectionRule::Content(len) => passes_end(entry, len),
-            SectionRule::Name(size) => entry.sh_name != 0 && entry.sh_name as u64 >= size,
+            SectionRule::WrongSectionAlignment => is_wrong_alignment(entry.sh_addralign),
+            SectionRule::MisalignedSection => is_misaligned_section(entry),
+            SectionRule::ContentPastEnd(len) => is_content_past_end(entry, len),
+            SectionRule::NamePastEnd(size) => entry.sh_name != 0 && entry.sh_name as u64 >= size,
         }
     }
 
@@ -46,24 +46,24 @@ impl SectionRule {
         ensures inside { result < SHDR_SIZE }
     {
         match self {
-            SectionRule::Alignment => SH_ADDRALIGN_AT,
-            SectionRule::Address => SH_ADDR_AT,
-            SectionRule::Content(_) => SH_OFFSET_AT,
-            SectionRule::Name(_) => SH_NAME_AT,
+            SectionRule::WrongSectionAlignment => SH_ADDRALIGN_AT,
+            SectionRule::MisalignedSection => SH_ADDR_AT,
+            SectionRule::ContentPastEnd(_) => SH_OFFSET_AT,
+            SectionRule::NamePastEnd(_) => SH_NAME_AT,
         }
     }
 }
 
 /// Whether the address is no multiple of the alignment.
-fn is_misaligned(entry: &Shdr) -> bool
-    ensures { IsTrue result ↔ IsMisaligned entry.now }
+fn is_misaligned_section(entry: &Shdr) -> bool
+    ensures { IsTrue result ↔ IsMisalignedSection entry.now }
 {
     entry.sh_addralign > 1 && entry.sh_addr % entry.sh_addralign != 0
 }
 
 /// Whether the content passes the end of a file of `len` bytes.
-fn passes_end(entry: &Shdr, len: u64) -> bool
-    ensures { IsTrue result ↔ PassesEnd len entry.now }
+fn is_content_past_end(entry: &Shdr, len: u64) -> bool
+    ensures { IsTrue result ↔ IsContentPastEnd len entry.now }
 {
     entry.sh_type != SHT_NOBITS
         && entry.sh_size > 0
@@ -103,13 +103,13 @@ pub(crate) fn judge_sections<T: Records>(
     requires fits { shdr_offset header.now count < 2 ^ 64 }
     ensures { FirstIn (section_rules len header.now count (T.sections records.now)) (fault_of result) }
 {
-    if let Some(at) = lowest_section(records, header, count, SectionRule::Alignment) {
+    if let Some(at) = lowest_section(records, header, count, SectionRule::WrongSectionAlignment) {
         return Err(Broken::new(WRONG_SECTION_ALIGNMENT, at));
     }
-    if let Some(at) = lowest_section(records, header, count, SectionRule::Address) {
+    if let Some(at) = lowest_section(records, header, count, SectionRule::MisalignedSection) {
         return Err(Broken::new(MISALIGNED_SECTION, at));
     }
-    if let Some(at) = lowest_section(records, header, count, SectionRule::Content(len)) {
+    if let Some(at) = lowest_section(records, header, count, SectionRule::ContentPastEnd(len)) {
         return Err(Broken::new(CONTENT_PAST_END, at));
     }
     Ok(())

@@ -18,13 +18,13 @@ use elf_field::{Ehdr, Phdr};
 #[derive(Clone, Copy, Debug, PartialEq, Eq)]
 pub enum SegmentRule {
     /// Rule 25, [`SEGMENT_PAST_END`], in a file of so many bytes; not tested at type NULL.
-    End(u64),
+    SegmentPastEnd(u64),
     /// Rule 26, [`FILE_SIZE_ABOVE_MEMORY_SIZE`].
-    Size,
+    FileSizeAboveMemorySize,
     /// Rule 27, [`WRONG_SEGMENT_ALIGNMENT`].
-    Alignment,
+    WrongSegmentAlignment,
     /// Rule 28, [`INCONGRUENT_SEGMENT`].
-    Congruence,
+    IncongruentSegment,
 }
 
 impl SegmentRule {
@@ -34,14 +34,14 @@ impl SegmentRule {
     {
         let is_load = segment.p_type == PT_LOAD;
         match self {
-            SegmentRule::End(len) => {
+            SegmentRule::SegmentPastEnd(len) => {
                 segment.p_type != PT_NULL
                     && segment.p_filesz > 0
                     && ends_behind(segment.p_offset, segment.p_filesz, len)
             }
-            SegmentRule::Size => is_load && segment.p_filesz > segment.p_memsz,
-            SegmentRule::Alignment => is_load && is_wrong_alignment(segment.p_align),
-            SegmentRule::Congruence => is_load && is_incongruent(segment),
+            SegmentRule::FileSizeAboveMemorySize => is_load && segment.p_filesz > segment.p_memsz,
+            SegmentRule::WrongSegmentAlignment => is_load && is_wrong_alignment(segment.p_align),
+            SegmentRule::IncongruentSegment => is_load && is_incongruent_segment(segment),
         }
     }
 
@@ -51,15 +51,15 @@ impl SegmentRule {
         ensures inside { result < PHDR_SIZE }
     {
         match self {
-            SegmentRule::End(_) | SegmentRule::Congruence => P_OFFSET_AT,
-            SegmentRule::Size => P_FILESZ_AT,
-            SegmentRule::Alignment => P_ALIGN_AT,
+            SegmentRule::SegmentPastEnd(_) | SegmentRule::IncongruentSegment => P_OFFSET_AT,
+            SegmentRule::FileSizeAboveMemorySize => P_FILESZ_AT,
+            SegmentRule::WrongSegmentAlignment => P_ALIGN_AT,
         }
     }
 }
 
 /// Whether the address and the offset differ modulo the alignment.
-fn is_incongruent(segment: &Phdr) -> bool
+fn is_incongruent_segment(segment: &Phdr) -> bool
     ensures { let p = segment.now in
         IsTrue result ↔ ((1 < p.p_align) × (p.p_vaddr % p.p_align ≢ p.p_offset % p.p_align)) }
 {
@@ -88,7 +88,7 @@ pub(crate) fn lowest_segment<T: Records>(
 
 /// The lowest offset in the file of an address, of one of `count` segments, that is below that of
 /// the loadable segment before it.
-fn lowest_out_of_order<T: Records>(records: &T, header: &Ehdr, count: u64) -> Option<u64>
+fn lowest_load_out_of_order<T: Records>(records: &T, header: &Ehdr, count: u64) -> Option<u64>
     requires there { (j : ℕ) → j < count → T.HasSegment records.now j }
     requires fits { 0 < count → phdr_offset header.now count < 2 ^ 64 }
     ensures { IsLowest (load_out_of_order header.now count (T.segments records.now)) result }
@@ -119,19 +119,19 @@ pub(crate) fn judge_segments<T: Records>(
     requires fits { 0 < count → phdr_offset header.now count < 2 ^ 64 }
     ensures { FirstIn (segment_rules len header.now count (T.segments records.now)) (fault_of result) }
 {
-    if let Some(at) = lowest_segment(records, header, count, SegmentRule::End(len)) {
+    if let Some(at) = lowest_segment(records, header, count, SegmentRule::SegmentPastEnd(len)) {
         return Err(Broken::new(SEGMENT_PAST_END, at));
     }
-    if let Some(at) = lowest_segment(records, header, count, SegmentRule::Size) {
+    if let Some(at) = lowest_segment(records, header, count, SegmentRule::FileSizeAboveMemorySize) {
         return Err(Broken::new(FILE_SIZE_ABOVE_MEMORY_SIZE, at));
     }
-    if let Some(at) = lowest_segment(records, header, count, SegmentRule::Alignment) {
+    if let Some(at) = lowest_segment(records, header, count, SegmentRule::WrongSegmentAlignment) {
         return Err(Broken::new(WRONG_SEGMENT_ALIGNMENT, at));
     }
-    if let Some(at) = lowest_segment(records, header, count, SegmentRule::Congruence) {
+    if let Some(at) = lowest_segment(records, header, count, SegmentRule::IncongruentSegment) {
         return Err(Broken::new(INCONGRUENT_SEGMENT, at));
     }
-    if let Some(at) = lowest_out_of_order(records, header, count) {
+    if let Some(at) = lowest_load_out_of_order(records, header, count) {
         return Err(Broken::new(LOAD_OUT_OF_ORDER, at));
     }
     Ok(())
