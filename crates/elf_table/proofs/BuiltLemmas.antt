@@ -6,7 +6,7 @@ use Rattle.elf_table.specs.ElfHash.{hash_of}
 use Rattle.elf_table.specs.HashBuilt.{IsBuilt, MAX_HASH}
 use Rattle.elf_table.specs.HashTable.{bucket, chain, name_of, nbucket, nchain}
 use Rattle.elf_table.specs.HashThreads.{AreThreaded, IsThreaded, home_of, threaded}
-use Rattle.elf_table.proofs.ThreadLemmas.{ascending_ends, threaded_more, threaded_none, threaded_on}
+use Rattle.elf_table.proofs.ThreadLemmas.{ascending_ends, threaded_more, threaded_none, threaded_on, threaded_own}
 
 -- a table whose words are 0 has no chains
 pub none_threaded : (words : List ℕ) (names : List (List ℕ)) → ((k : ℕ) → 2 ≤ k → get_or words k 0 ≡ 0) → IsThreaded words names (nchain words)
@@ -73,6 +73,7 @@ all_threaded words names some counted named long few_names few_buckets are = rec
     found = λ s above lt. threaded_on (chain words) (bucket words) (home_of words names) (nbucket words) (nchain words) s are above lt;
   };
   buckets = refl;
+  own = λ b s lt on. threaded_own (chain words) (bucket words) (home_of words names) (nbucket words) (nchain words) b s are (omega arith) lt on;
   ascending = λ s lt more. elim (are.ascending s lt) [ inl end ↦ absurd (more end) | inr up ↦ up.0 ];
   first = are.unset 0 (omega arith);
   few_names = few_names;

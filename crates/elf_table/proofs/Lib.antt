@@ -1,23 +1,25 @@
--- Lemmas of this crate.
-pub mod Lowest
-pub mod IndexTables
-pub mod OwnRuleLemmas
-pub mod SymbolLists
-pub mod AllIndexTables
-pub mod TableKinds
-pub mod TableLinks
-pub mod RelocationLists
-pub mod DynamicLists
-pub mod GroupLists
-pub mod GroupMembers
-pub mod NotePlaces
-pub mod NoteFaults
-pub mod WordListLemmas
-pub mod ChainLemmas
-pub mod HashSound
-pub mod ChainDepthLemmas
-pub mod JudgedLemmas
-pub mod ChainsDecided
-pub mod ProbeLemmas
-pub mod ThreadLemmas
-pub mod BuiltLemmas
+-- `Public` is for the proofs of the crates above, the others are for those of this one.
+mod Lowest
+mod IndexTables
+mod OwnRuleLemmas
+mod SymbolLists
+mod AllIndexTables
+mod TableKinds
+mod TableLinks
+mod RelocationLists
+mod DynamicLists
+mod GroupLists
+mod GroupMembers
+mod NoteInFile
+mod NotePlaces
+mod NoteFaults
+mod WordListLemmas
+mod ChainLemmas
+mod HashSound
+mod ChainDepthLemmas
+mod JudgedLemmas
+mod ChainsDecided
+mod ProbeLemmas
+mod ThreadLemmas
+mod BuiltLemmas
+pub mod Public

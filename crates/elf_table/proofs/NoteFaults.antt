@@ -9,13 +9,13 @@ use Rattle.elf_field.specs.declared.order.Order.{Order}
 use Rattle.elf_rules.specs.declared.broken.Broken.{Broken}
 use Rattle.elf_rules.specs.Rows.{FirstIn}
 use Rattle.elf_table.specs.NoteCut.{IsCut}
-use Rattle.elf_table.specs.NoteRules.{AtNote, IsUnclosed, name_last, note_desc_past_end, note_name_past_end, note_rules, partial_note, unclosed_note_name}
+use Rattle.elf_table.specs.NoteRules.{AtNote, IsUnclosedNoteName, name_last, note_desc_past_end, note_name_past_end, note_rules, partial_note, unclosed_note_name}
 use Rattle.elf_table.specs.Notes.{AreWhole, desc_start, note_end, note_place}
 use Rattle.elf_table.proofs.NotePlaces.{end_above, place_next, place_rises}
 
 -- where one of the first n notes has a name that isn't closed, the last byte of it
 abbrev pub UnclosedBefore : Order → List ℕ → ℕ → ℕ → Type 0
-UnclosedBefore o table n = λ y. (k : ℕ) × (k < n) × IsUnclosed o table (note_place o table 0 k) × (y ≡ name_last o table (note_place o table 0 k))
+UnclosedBefore o table n = λ y. (k : ℕ) × (k < n) × IsUnclosedNoteName o table (note_place o table 0 k) × (y ≡ name_last o table (note_place o table 0 k))
 
 -- the notes before offset x are whole, and this is the lowest name of theirs that isn't closed
 pub record AreJudged (o : Order) (table : List ℕ) (x : ℕ) (unclosed : Option ℕ) : Type 0 where
@@ -120,7 +120,7 @@ cut_fault o table start x unclosed broken are within (inr (inr (name, cut, rule,
 -- ---- a note that is whole
 
 -- the last byte of a whole note's name is in it
-last_inside : (o : Order) (table : List ℕ) (y : ℕ) → IsUnclosed o table y → (y ≤ name_last o table y) × (name_last o table y < note_end o table y)
+last_inside : (o : Order) (table : List ℕ) (y : ℕ) → IsUnclosedNoteName o table y → (y ≤ name_last o table y) × (name_last o table y < note_end o table y)
 unfolding name_last note_end desc_start
 last_inside o table y unclosed = let some = unclosed.0 in (omega arith, omega arith)
 
@@ -145,13 +145,13 @@ unclosed_within o table x last are =
 
 -- of one note more
 one_further : (o : Order) (table : List ℕ) (n y : ℕ) → UnclosedBefore o table (suc n) y →
-    UnclosedBefore o table n y ⊎ (IsUnclosed o table (note_place o table 0 n) × (y ≡ name_last o table (note_place o table 0 n)))
+    UnclosedBefore o table n y ⊎ (IsUnclosedNoteName o table (note_place o table 0 n) × (y ≡ name_last o table (note_place o table 0 n)))
 one_further o table n y here = elim (cases_lt here.0 n) [
   | inl before ↦ inl (here.0, before, here.2, here.3)
   | inr after ↦
       let lt = here.1 in
       let same : here.0 ≡ n = omega arith in
-      inr (subst (λ (k : ℕ). IsUnclosed o table (note_place o table 0 k) × (y ≡ name_last o table (note_place o table 0 k))) same (here.2, here.3))
+      inr (subst (λ (k : ℕ). IsUnclosedNoteName o table (note_place o table 0 k) × (y ≡ name_last o table (note_place o table 0 k))) same (here.2, here.3))
 ]
 
 wider : (o : Order) (table : List ℕ) (n y : ℕ) → UnclosedBefore o table n y → UnclosedBefore o table (suc n) y
@@ -159,17 +159,17 @@ wider o table n y here = (here.0, (let lt = here.1 in omega arith), here.2, here
 
 -- what the note at x tells
 abbrev pub FindsUnclosed : Order → List ℕ → ℕ → Option ℕ → Type 0
-FindsUnclosed o table x found = MatchOption found (IsUnclosed o table x → ⊥)
-    (λ last. IsUnclosed o table x × (last ≡ name_last o table x) × (last < length table))
+FindsUnclosed o table x found = MatchOption found (IsUnclosedNoteName o table x → ⊥)
+    (λ last. IsUnclosedNoteName o table x × (last ≡ name_last o table x) × (last < length table))
 
 lowest_more : (o : Order) (table : List ℕ) (x : ℕ) (unclosed found : Option ℕ) (are : AreJudged o table x unclosed) → FindsUnclosed o table x found →
     IsLowest (UnclosedBefore o table (suc are.count)) (option_or unclosed found)
 lowest_more o table x None None are told = λ y here. elim (one_further o table are.count y here) [
   | inl before ↦ are.lowest y before
-  | inr last ↦ told (subst (IsUnclosed o table) are.here last.0)
+  | inr last ↦ told (subst (IsUnclosedNoteName o table) are.here last.0)
 ]
 lowest_more o table x None (Some last) are told = record {
-  holds = (are.count, omega arith, subst (IsUnclosed o table) (sym are.here) told.0, told.1 ∙ ap (name_last o table) (sym are.here));
+  holds = (are.count, omega arith, subst (IsUnclosedNoteName o table) (sym are.here) told.0, told.1 ∙ ap (name_last o table) (sym are.here));
   lowest = λ y here. elim (one_further o table are.count y here) [
     | inl before ↦ absurd (are.lowest y before)
     | inr same ↦ (let e = same.1 ∙ ap (name_last o table) are.here in let f = told.1 in omega arith)
@@ -181,7 +181,7 @@ lowest_more o table x (Some low) found are told = record {
     | inl before ↦ are.lowest.lowest y before
     | inr same ↦
         let below = last_before o table x (Some low) are low are.lowest.holds in
-        let inside = last_inside o table x (subst (IsUnclosed o table) are.here same.0) in
+        let inside = last_inside o table x (subst (IsUnclosedNoteName o table) are.here same.0) in
         let e = same.1 ∙ ap (name_last o table) are.here in
         omega arith
   ];

@@ -1,5 +1,6 @@
 -- Where the notes of a content begin, and the list of them.
-use Rattle.std.proofs.Common.{◌≡◌, ℕ, zero, suc, ◌+◌, ◌<◌, ◌≤◌, List, [], ◌∷◌, length, inl, inr, refl, sym, ap, ◌∙◌, arith}
+use Rattle.std.proofs.Common.{◌≡◌, ℕ, zero, suc, ◌+◌, ◌<◌, ◌≤◌, List, [], ◌∷◌, None, Some, length, inl, inr, refl, sym, ap, ◌∙◌, arith}
+use Rattle.std.specs.Prelude.{slice_get}
 use Rattle.std.proofs.lemmas.Bool.{cases_lt, le-ltb, lt-ltb}
 use Rattle.elf_field.specs.Abi.{NHDR_SIZE}
 use Rattle.elf_field.specs.declared.order.Order.{Order}
@@ -29,6 +30,14 @@ place_rises o table x j (suc d) =
     omega arith where
       plus_one : (n m : ℕ) → n + suc m ≡ suc (n + m)
       plus_one n m = omega arith
+
+pub place_above : (o : Order) (table : List ℕ) (x k : ℕ) → x ≤ note_place o table x k
+unfolding note_place
+place_above o table x zero = omega arith
+place_above o table x (suc k) =
+    let next = end_above o table x in
+    let above = place_above o table (note_end o table x) k in
+    omega arith
 
 -- ---- the list of notes
 
@@ -72,3 +81,21 @@ first_whole o table x whole within = whole zero within
 pub rest_whole : (o : Order) (table : List ℕ) (x : ℕ) → AreWhole o table x → AreWhole o table (note_end o table x)
 unfolding note_place
 rest_whole o table x whole k within = whole (suc k) within
+
+-- entry k of the list is the note at place k, if that is in the content
+pub note_entry : (o : Order) (table : List ℕ) (x k : ℕ) → note_place o table x k < length table →
+    slice_get (notes_in o table x) k ≡ Some (note_at o table (note_place o table x k))
+unfolding note_place
+note_entry o table x zero within = ap (λ (notes : List _). slice_get notes zero) (note_left o table x within)
+note_entry o table x (suc k) within =
+    let low : x ≤ note_place o table x (suc k) = place_above o table x (suc k) in
+    ap (λ (notes : List _). slice_get notes (suc k)) (note_left o table x (omega arith)) ∙ note_entry o table (note_end o table x) k within
+
+-- and there is no other
+pub no_note_entry : (o : Order) (table : List ℕ) (x k : ℕ) → length table ≤ note_place o table x k → slice_get (notes_in o table x) k ≡ None
+unfolding note_place
+no_note_entry o table x zero past = ap (λ (notes : List _). slice_get notes zero) (no_note_left o table x past)
+no_note_entry o table x (suc k) past = elim (cases_lt x (length table)) [
+  | inl within ↦ ap (λ (notes : List _). slice_get notes (suc k)) (note_left o table x within) ∙ no_note_entry o table (note_end o table x) k past
+  | inr none ↦ ap (λ (notes : List _). slice_get notes (suc k)) (no_note_left o table x none)
+]

@@ -4,7 +4,7 @@ use Rattle.std.proofs.lemmas.Bool.{cases_eq}
 use Rattle.elf_table.specs.ChainDepths.{Leads}
 use Rattle.elf_table.specs.Chains.{Ends, IsOn, IsPath}
 use Rattle.elf_table.specs.HashThreads.{AreThreaded}
-use Rattle.elf_table.proofs.ChainLemmas.{on_from_path}
+use Rattle.elf_table.proofs.ChainLemmas.{on_from_path, path_at}
 
 -- where chain words ascend, a path above a symbol does not see that symbol's chain word
 path_kept : (next after : ℕ → ℕ) (m s start t : ℕ) (xs : List ℕ) → ((k : ℕ) → k < m → k ≢ s → after k ≡ next k) →
@@ -43,6 +43,15 @@ threaded_more next after head first home n m s are some within homes same linked
     ])
   ];
   unset = λ k lt. same k (omega arith) (omega arith) ∙ are.unset k (omega arith);
+  own_heads = λ b lt more. elim (cases_eq b (home s)) [
+    | inl is ↦ (let e : first b ≡ s = ap first is ∙ here in ap home e ∙ sym is)
+    | inr other ↦ (let e = others b lt other in ap home e ∙ are.own_heads b lt (λ none. more (e ∙ none)))
+  ];
+  own_links = λ k lt more. elim (cases_eq k s) [
+    | inl is ↦ (let e : after k ≡ head (home s) = ap after is ∙ linked in
+        ap home e ∙ (are.own_heads (home s) (homes s within) (λ none. more (e ∙ none)) ∙ ap home (sym is)))
+    | inr other ↦ (let e = same k lt other in ap home e ∙ are.own_links k lt (λ none. more (e ∙ none)))
+  ];
   found = λ t le lt. elim (cases_eq t s) [
     | inl is ↦ (let e : first (home t) ≡ t = ap (λ k. first (home k)) is ∙ (here ∙ sym is) in ([], e))
     | inr other ↦ later t lt (omega arith)
@@ -73,6 +82,8 @@ threaded_none next head home n m links heads = record {
   ascending = λ s lt. inl (links s);
   unset = λ s lt. links s;
   found = λ s le lt. absurd (omega arith);
+  own_heads = λ b lt more. absurd (more (heads b));
+  own_links = λ s lt more. absurd (more (links s));
 }
 
 -- chains that ascend end
@@ -94,3 +105,22 @@ pub threaded_on : (next head home : ℕ → ℕ) (n m s : ℕ) → AreThreaded n
 threaded_on next head home n m s are some within =
     let leads = are.found s (omega arith) within in
     on_from_path next (head (home s)) s leads.0 leads.1 (omega arith) (ascending_ends next m s are.ascending within)
+
+-- a chain whose first symbol is of a bucket has symbols of this bucket alone
+home_along : (next home : ℕ → ℕ) (m b start s : ℕ) (xs : List ℕ) → ((k : ℕ) → k < m → next k ≢ 0 → home (next k) ≡ home k) →
+    ((k : ℕ) → k < m → next k < m) → start < m → (start ≢ 0 → home start ≡ b) → IsPath next start xs s → s ≢ 0 → home s ≡ b
+home_along next home m b start s [] links below within first path some = ap home (sym path) ∙ first (λ none. some (sym path ∙ none))
+home_along next home m b start s (x ∷ xs) links below within first path some =
+    let is = path.1 in
+    let inside : x < m = omega arith in
+    home_along next home m b (next x) s xs links below (below x inside) (λ more. links x inside more ∙ (ap home is ∙ first path.0)) path.2 some
+
+pub threaded_own : (next head home : ℕ → ℕ) (n m b s : ℕ) → AreThreaded next head home n m 1 → 0 < m → b < n → IsOn next (head b) s → home s ≡ b
+threaded_own next head home n m b s are more there (before, after, chain) =
+    let at = path_at next (head b) 0 s before after chain in
+    home_along next home m b (head b) s before are.own_links below first (are.own_heads b there) at.1 at.0 where
+      below : (k : ℕ) → k < m → next k < m
+      below k lt = elim (are.ascending k lt) [ inl none ↦ (let e = none in omega arith) | inr up ↦ up.1 ]
+
+      first : head b < m
+      first = elim (are.heads b there) [ inl none ↦ (let e = none in omega arith) | inr up ↦ up.1 ]

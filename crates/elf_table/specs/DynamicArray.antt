@@ -16,11 +16,11 @@ abbrev pub dynamic_entry_count : List ℕ → ℕ
 dynamic_entry_count table = length table / DYN_SIZE
 
 -- an entry ends the array
-abbrev pub IsNull : Dyn → Type 0
-IsNull e = e.d_tag ≡ DT_NULL
+abbrev pub IsNullEntry : Dyn → Type 0
+IsNullEntry e = e.d_tag ≡ DT_NULL
 
-abbrev pub is_null : Dyn → Bool
-is_null e = int_eq e.d_tag DT_NULL
+abbrev pub is_null_entry : Dyn → Bool
+is_null_entry e = int_eq e.d_tag DT_NULL
 
 -- the value of an entry with such a tag is the offset of a string
 abbrev pub is_string_tag : ℤ → Bool
@@ -32,7 +32,7 @@ dynamic_entries o table n = map (dynamic_entry o table) (range_with_len 0 n)
 
 -- the dynamic array in section i
 unfoldable pub dynamic_array_of : Sections → ℕ → List Dyn
-dynamic_array_of f i = before_first is_null (dynamic_entries (order f) (content f i) (dynamic_entry_count (content f i)))
+dynamic_array_of f i = before_first is_null_entry (dynamic_entries (order f) (content f i) (dynamic_entry_count (content f i)))
 
 -- the entry that stands for one that isn't there
 abbrev pub no_dynamic_entry : Dyn

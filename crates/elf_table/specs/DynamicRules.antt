@@ -4,7 +4,7 @@ use Rattle.elf_field.specs.Abi.{DYN_SIZE, D_UN_AT, SH_SIZE_AT}
 use Rattle.elf_field.specs.declared.dynamic.Dyn.{Dyn}
 use Rattle.elf_rules.specs.Rows.{AtEntry, Row, Ruled, When, rule}
 use Rattle.elf_table.specs.declared.table_kind.TableKind.TheVariants.{DynamicArray}
-use Rattle.elf_table.specs.DynamicArray.{IsNull, dynamic_entry, dynamic_entry_count, is_string_tag}
+use Rattle.elf_table.specs.DynamicArray.{IsNullEntry, dynamic_entry, dynamic_entry_count, is_string_tag}
 use Rattle.elf_table.specs.OwnRules.{own_rules}
 use Rattle.elf_table.specs.Sections.{Sections, content, header_at, order, section}
 use Rattle.elf_table.specs.StringRules.{linked_string_rules}
@@ -16,17 +16,17 @@ entry_of f i j = dynamic_entry (order f) (content f i) j
 -- rule 63: no entry ends the array
 abbrev pub no_null_entry : Sections → ℕ → Row
 no_null_entry f i =
-    When ((j : ℕ) → j < dynamic_entry_count (content f i) → ¬ IsNull (entry_of f i j)) (header_at f i + SH_SIZE_AT)
+    When ((j : ℕ) → j < dynamic_entry_count (content f i) → ¬ IsNullEntry (entry_of f i j)) (header_at f i + SH_SIZE_AT)
 
 -- rule 64: a string of an entry before the end begins behind the string table, even an empty one
-abbrev pub IsStringPastEnd : ℕ → Dyn → Type 0
-IsStringPastEnd size e = (is_string_tag e.d_tag ≡ true) × (size ≤ e.d_un)
+abbrev pub IsDynamicStringPastEnd : ℕ → Dyn → Type 0
+IsDynamicStringPastEnd size e = (is_string_tag e.d_tag ≡ true) × (size ≤ e.d_un)
 
 abbrev pub dynamic_string_past_end : Sections → ℕ → Row
 dynamic_string_past_end f i =
     let s = section f i in
     AtEntry (dynamic_entry_count (content f i))
-    (λ j. ((k : ℕ) → k ≤ j → ¬ IsNull (entry_of f i k)) × IsStringPastEnd (length (content f s.sh_link)) (entry_of f i j))
+    (λ j. ((k : ℕ) → k ≤ j → ¬ IsNullEntry (entry_of f i k)) × IsDynamicStringPastEnd (length (content f s.sh_link)) (entry_of f i j))
     (λ j. s.sh_offset + DYN_SIZE * j + D_UN_AT)
 
 unfoldable pub dynamic_rules : Sections → ℕ → List {1} Ruled

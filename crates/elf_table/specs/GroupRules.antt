@@ -14,7 +14,7 @@ use Rattle.elf_table.specs.SymbolRules.{entry_count, symbol_table_rules}
 abbrev pub empty_group : Sections → ℕ → Row
 empty_group f i = When ((section f i).sh_size ≡ 0) (header_at f i + SH_SIZE_AT)
 
--- rule 56: its flags are none, and not GRP_COMDAT alone
+-- rule 56: its flags are neither none nor GRP_COMDAT alone
 abbrev pub wrong_group_flags : Sections → ℕ → Row
 wrong_group_flags f i =
     let flags = group_flags (order f) (content f i) in

@@ -1,6 +1,6 @@
 -- Chains as they are made, from the last symbol down: `next` gives the chain word of each symbol, `head` the word of each bucket, and
 -- `home` the bucket of each symbol.
-use Rattle.std.specs.Prelude.{◌≡◌, ℕ, ◌+◌, ◌%◌, ◌<◌, ◌≤◌, ◌⊎◌, List, slice_set}
+use Rattle.std.specs.Prelude.{◌≡◌, ◌≢◌, ℕ, ◌+◌, ◌%◌, ◌<◌, ◌≤◌, ◌⊎◌, List, slice_set}
 use Rattle.elf_table.specs.ChainDepths.{Leads}
 use Rattle.elf_table.specs.ElfHash.{hash_of}
 use Rattle.elf_table.specs.HashTable.{bucket, chain, name_of, nbucket, nchain}
@@ -11,6 +11,9 @@ pub record AreThreaded (next head home : ℕ → ℕ) (n m from : ℕ) : Type 0 
   pub ascending : (s : ℕ) → s < m → (next s ≡ 0) ⊎ ((s < next s) × (next s < m))
   pub unset : (s : ℕ) → s < from → next s ≡ 0
   pub found : (s : ℕ) → from ≤ s → s < m → Leads next (head (home s)) s
+  -- no chain has a symbol of another bucket
+  pub own_heads : (b : ℕ) → b < n → head b ≢ 0 → home (head b) ≡ b
+  pub own_links : (s : ℕ) → s < m → next s ≢ 0 → home (next s) ≡ home s
 
 -- in the words of a table for these names
 abbrev pub home_of : List ℕ → List (List ℕ) → ℕ → ℕ

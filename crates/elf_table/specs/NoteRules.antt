@@ -29,11 +29,11 @@ unfoldable pub name_last : Order → List ℕ → ℕ → ℕ
 name_last o table x = name_start x + namesz o table x - 1
 
 -- rule 62: it has a name, whose last byte isn't 0
-abbrev pub IsUnclosed : Order → List ℕ → ℕ → Type 0
-IsUnclosed o table x = (0 < namesz o table x) × (slice_index table (name_last o table x) ≢ 0)
+abbrev pub IsUnclosedNoteName : Order → List ℕ → ℕ → Type 0
+IsUnclosedNoteName o table x = (0 < namesz o table x) × (slice_index table (name_last o table x) ≢ 0)
 
 abbrev pub unclosed_note_name : Order → List ℕ → ℕ → Row
-unclosed_note_name o table start = AtNote o table (IsUnclosed o table) (λ x. start + name_last o table x)
+unclosed_note_name o table start = AtNote o table (IsUnclosedNoteName o table) (λ x. start + name_last o table x)
 
 -- rules 59 to 62, of the notes of a content at `start`
 unfoldable pub note_rules : Order → List ℕ → ℕ → List {1} Ruled

@@ -8,7 +8,7 @@ use Rattle.elf_field.specs.Sym.{sym_at}
 use Rattle.elf_field.specs.Word.{word_at}
 use Rattle.elf_rules.specs.Rows.{AtEntry, Either, OfSome, Row, Ruled, When, rule}
 use Rattle.elf_table.specs.declared.symbol_rules.SymbolRule.{SymbolRule}
-use Rattle.elf_table.specs.declared.symbol_rules.SymbolRule.TheVariants.{Binding, Name, Section}
+use Rattle.elf_table.specs.declared.symbol_rules.SymbolRule.TheVariants.{MisplacedBinding, SymbolNamePastEnd, WrongSymbolSection}
 use Rattle.elf_table.specs.declared.table_kind.TableKind.TheVariants.{SymbolTable}
 use Rattle.elf_table.specs.IndexTable.{IsSecondIndexTable}
 use Rattle.elf_table.specs.OwnRules.{own_rules}
@@ -43,13 +43,13 @@ wrong_local_count p = When ((p.info ≡ 0) ⊎ (entry_count p.table < p.info)) (
 -- ---- rules on one symbol
 
 -- rule 47: a symbol below that index is not local, or one from it on is
-abbrev pub IsMisplaced : ℕ → Sym → ℕ → Type 0
-IsMisplaced info symbol j =
+abbrev pub IsMisplacedBinding : ℕ → Sym → ℕ → Type 0
+IsMisplacedBinding info symbol j =
     ((j < info) × (binding symbol ≢ STB_LOCAL)) ⊎ ((info ≤ j) × (binding symbol ≡ STB_LOCAL))
 
 abbrev pub misplaced_binding : SymbolPartsValue → Row
 misplaced_binding p =
-    AtEntry (entry_count p.table) (λ j. IsMisplaced p.info (entry p.order p.table j) j) (λ j. p.start + SYM_SIZE * j + ST_INFO_AT)
+    AtEntry (entry_count p.table) (λ j. IsMisplacedBinding p.info (entry p.order p.table j) j) (λ j. p.start + SYM_SIZE * j + ST_INFO_AT)
 
 -- rule 48: a symbol's name begins behind the string table; 0, for no name, needs no table
 abbrev pub IsSymbolNamePastEnd : ℕ → Sym → Type 0
@@ -72,36 +72,36 @@ wrong_index_table_size f symbols j =
     When (s.sh_entsize ≢ WORD_SIZE) (header_at f j + SH_ENTSIZE_AT) ∷ [])
 
 -- rule 51: a symbol's section stands in an index table that is not there, or there is no such section
-abbrev pub IsWrongSection : Option ℕ → ℕ → Sym → Type 0
-IsWrongSection table sections symbol =
+abbrev pub IsWrongSymbolSection : Option ℕ → ℕ → Sym → Type 0
+IsWrongSymbolSection table sections symbol =
     ((symbol.st_shndx ≡ SHN_XINDEX) × (table ≡ None)) ⊎ ((symbol.st_shndx < SHN_LORESERVE) × (sections ≤ symbol.st_shndx))
 
 abbrev pub wrong_symbol_section : SymbolPartsValue → Row
 wrong_symbol_section p =
-    AtEntry (entry_count p.table) (λ j. IsWrongSection p.index_table p.sections (entry p.order p.table j)) (λ j. p.start + SYM_SIZE * j + ST_SHNDX_AT)
+    AtEntry (entry_count p.table) (λ j. IsWrongSymbolSection p.index_table p.sections (entry p.order p.table j)) (λ j. p.start + SYM_SIZE * j + ST_SHNDX_AT)
 
 -- rule 52: a word of the index table isn't 0 though the symbol needs none, or it is none of a section that needs one
-abbrev pub IsWrongWord : ℕ → Sym → ℕ → Type 0
-IsWrongWord sections symbol index =
+abbrev pub IsWrongIndexWord : ℕ → Sym → ℕ → Type 0
+IsWrongIndexWord sections symbol index =
     ((symbol.st_shndx ≢ SHN_XINDEX) × (index ≢ 0)) ⊎
     ((symbol.st_shndx ≡ SHN_XINDEX) × ((index < SHN_LORESERVE) ⊎ (sections ≤ index)))
 
 abbrev pub wrong_index_word : SymbolPartsValue → Row
 wrong_index_word p =
     OfSome p.index_table (λ _. AtEntry (entry_count p.table)
-    (λ j. IsWrongWord p.sections (entry p.order p.table j) (word p.order p.words j)) (λ j. p.words_start + WORD_SIZE * j))
+    (λ j. IsWrongIndexWord p.sections (entry p.order p.table j) (word p.order p.words j)) (λ j. p.words_start + WORD_SIZE * j))
 
 -- what breaks each rule on one symbol, symbol j
 abbrev pub BreaksSymbol : SymbolRule → SymbolPartsValue → Sym → ℕ → Type 0
-BreaksSymbol Binding p symbol j = IsMisplaced p.info symbol j
-BreaksSymbol Name p symbol j = IsSymbolNamePastEnd (length p.names) symbol
-BreaksSymbol Section p symbol j = IsWrongSection p.index_table p.sections symbol
+BreaksSymbol MisplacedBinding p symbol j = IsMisplacedBinding p.info symbol j
+BreaksSymbol SymbolNamePastEnd p symbol j = IsSymbolNamePastEnd (length p.names) symbol
+BreaksSymbol WrongSymbolSection p symbol j = IsWrongSymbolSection p.index_table p.sections symbol
 
 -- the offset in the symbol of the field that each of them answers
 abbrev pub symbol_field : SymbolRule → ℕ
-symbol_field Binding = ST_INFO_AT
-symbol_field Name = ST_NAME_AT
-symbol_field Section = ST_SHNDX_AT
+symbol_field MisplacedBinding = ST_INFO_AT
+symbol_field SymbolNamePastEnd = ST_NAME_AT
+symbol_field WrongSymbolSection = ST_SHNDX_AT
 
 -- ---- the runs of rules
 

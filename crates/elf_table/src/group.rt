@@ -1,11 +1,12 @@
 //! Section groups (gABI chapter 4, Section Groups).
-ghost use Rattle.std.specs.Prelude.{◌≡◌, ◌<◌, None, length, slice_index};
+ghost use Rattle.std.specs.Prelude.{◌≡◌, ◌<◌, IfErr, None, length, slice_index};
+ghost use Rattle.elf_image.specs.declared.fault.Fault.TheVariants.{OutOfMemory};
 ghost use Rattle.elf_rules.specs.Rows.{FirstIn};
 ghost use Rattle.elf_table.specs.GroupRules.{group_section_front, group_section_rules};
-ghost use Rattle.elf_table.specs.Groups.{group_of};
+ghost use Rattle.elf_table.specs.Groups.{AreAscending, group_of};
 ghost use Rattle.elf_table.specs.Judged.{IsJudgedBehind};
 ghost use Rattle.elf_table.specs.MembersLeft.{members_left};
-ghost use Rattle.elf_table.specs.Sections.{sections_of};
+ghost use Rattle.elf_table.specs.Sections.{content, order, sections_of};
 
 use crate::group_rules::{judge_group_section, member, member_count};
 use crate::symbol_parts::word;
@@ -36,16 +37,18 @@ impl<'a> Model for Group<'a> {
 }
 
 impl<'a> Group<'a> {
-    /// The group that section `i` holds, where `i` is below the image's count of section headers. It takes memory only where the
-    /// members do not ascend, for each of them.
+    /// The group that section `i` holds, where `i` is below the image's count of section headers. It takes memory, for each of
+    /// the members, only where they do not ascend.
     ///
     /// [`Fault::Rule`] is the first rule that is broken, at its lowest offset: 40, 42, 43, 44, then all rules of the symbol table
     /// that the section links to, then 55 to 58. [`Fault::OutOfMemory`] comes only where memory was refused, and none of them
     /// but 58 is broken. No other fault comes.
     pub fn new(alloc: Global, image: &Image<'a>, i: usize) -> Result<Group<'a>, Fault>
         requires { i < length image.now.sections }
-        ensures { let f = sections_of image.now in
+        ensures judged { let f = sections_of image.now in
             IsJudgedBehind (group_section_front f i) (group_section_rules f i) (λ group. group ≡ group_of f i) result }
+        ensures memory { let f = sections_of image.now in
+            IfErr result (λ fault. fault ≡ OutOfMemory → ¬ AreAscending (order f) (content f i)) }
     {
         judge_group_section(alloc, image, i, SymbolVerdicts::Unknown)?;
         Ok(Group::of_sound(image, i))

@@ -1,6 +1,7 @@
 //! Rules 55 to 58: the flags, the signature and the members of a section group (gABI chapter 4, Section Groups; Sections:
 //! sh_info, SHF_GROUP).
-ghost use Rattle.std.specs.Prelude.{◌≡◌, ◌↔◌, ◌<◌, ◌+◌, ◌*◌, ◌%◌, IfOk, IsTrue, OnErr, length};
+ghost use Rattle.std.specs.Prelude.{◌≡◌, ◌↔◌, ◌<◌, ◌+◌, ◌*◌, ◌%◌, IfErr, IfOk, IsTrue, OnErr, length};
+ghost use Rattle.elf_image.specs.declared.fault.Fault.TheVariants.{OutOfMemory};
 ghost use Rattle.elf_extent.specs.Least.{IsLowest};
 ghost use Rattle.elf_rules.specs.Broken.{fault_of};
 ghost use Rattle.elf_rules.specs.Rows.{FirstIn};
@@ -33,8 +34,10 @@ pub(crate) fn judge_group_section(
 ) -> Result<(), Fault>
     requires there { i < length image.now.sections }
     requires known { AreKnown (sections_of image.now) symbols }
-    ensures { let f = sections_of image.now in
+    ensures judged { let f = sections_of image.now in
         IsJudgedBehind (group_section_front f i) (group_section_rules f i) (λ _. Unit {0}) result }
+    ensures memory { let f = sections_of image.now in
+        IfErr result (λ fault. fault ≡ OutOfMemory → ¬ AreAscending (order f) (content f i)) }
 {
     judge_own_rules(image, i, TableKind::SectionGroup)?;
     symbols.of(image, image.section(i).sh_link as usize)?;
@@ -47,8 +50,10 @@ fn judge_group(alloc: Global, image: &Image<'_>, i: usize) -> Result<(), Fault>
     requires typed { (section (sections_of image.now) i).sh_type ≡ SHT_GROUP }
     requires sized { (section (sections_of image.now) i).sh_size % WORD_SIZE ≡ 0 }
     requires linked { (section (sections_of image.now) i).sh_link < length image.now.sections }
-    ensures { let f = sections_of image.now in
+    ensures judged { let f = sections_of image.now in
         IsJudgedBehind (group_front_rules f i) (group_rules f i) (λ _. Unit {0}) result }
+    ensures memory { let f = sections_of image.now in
+        IfErr result (λ fault. fault ≡ OutOfMemory → ¬ AreAscending (order f) (content f i)) }
 {
     judge_group_front(image, i)?;
     let wrong = lowest_wrong_member(alloc, image, i)?;

@@ -33,7 +33,7 @@ impl From<AllocError> for HashFault {
 
 /// The words of a hash table of so many buckets for symbols of these names, of which there is at least one: the first stands
 /// for symbol 0, which is on no chain. They are `nbucket`, `nchain`, the word of each bucket and the chain word of each symbol;
-/// symbols ascend along each chain.
+/// each chain has the symbols of its own bucket alone, and they ascend along it.
 pub fn build_hash(alloc: Global, names: &[&[u8]], nbucket: u32) -> Result<Vec<u32>, HashFault>
     requires { 0 < length names.now }
     ensures built { IfOk result (λ words. IsBuilt words.items (map (λ name. name.now) names.now) nbucket) }

@@ -15,7 +15,7 @@ use crate::hash_words::HashWords;
 use std::alloc::AllocError;
 
 /// The first bucket whose chain does not end. Where there is none, the lengths of all chains, and the jumps on them.
-pub(crate) fn first_endless(
+pub(crate) fn lowest_endless_chain(
     words: &HashWords<'_>,
     depth: &mut [u32],
     jump: &mut [u32],

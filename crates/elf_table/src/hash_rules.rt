@@ -13,7 +13,7 @@ ghost use Rattle.elf_table.specs.OwnRules.{own_rules};
 ghost use Rattle.elf_table.specs.Sections.{section, sections_of};
 ghost use Rattle.elf_table.specs.SymbolRules.{symbol_table_rules};
 
-use crate::hash_chains::{first_endless, is_on};
+use crate::hash_chains::{is_on, lowest_endless_chain};
 use crate::hash_parts::HashParts;
 use crate::hash_word_rules::judge_words;
 use crate::own_rules::judge_own_rules;
@@ -78,7 +78,7 @@ fn judge_chains(alloc: Global, parts: &HashParts<'_>) -> Result<Result<(), Broke
     let mut seen = Vec::new(alloc);
     seen.resize(symbols as usize, false)?;
     let mut stack = Vec::new(alloc);
-    if let Some(b) = first_endless(
+    if let Some(b) = lowest_endless_chain(
         words,
         &mut depth,
         &mut jump,
@@ -89,7 +89,7 @@ fn judge_chains(alloc: Global, parts: &HashParts<'_>) -> Result<Result<(), Broke
         let at = parts.start + WORD_SIZE * (2 + b as u64);
         return Ok(Err(Broken::new(ENDLESS_CHAIN, at)));
     }
-    match lowest_off_chain(parts, &depth, &jump, &starts) {
+    match lowest_symbol_off_chain(parts, &depth, &jump, &starts) {
         Some(at) => Ok(Err(Broken::new(SYMBOL_OFF_CHAIN, at))),
         None => Ok(Ok(())),
     }
@@ -108,7 +108,7 @@ fn numbers(alloc: Global, n: u32) -> Result<Vec<u32>, AllocError>
 }
 
 // The lowest offset in the file of the chain word of a symbol from 1 on that is not on the chain of its name's bucket.
-fn lowest_off_chain(
+fn lowest_symbol_off_chain(
     parts: &HashParts<'_>,
     depth: &[u32],
     jump: &[u32],

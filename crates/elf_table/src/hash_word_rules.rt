@@ -35,14 +35,14 @@ pub(crate) fn judge_words(parts: &HashParts<'_>) -> Result<(), Broken>
     if nchain as usize != parts.names.len() {
         return Err(Broken::new(WRONG_HASH_COUNT, parts.start + WORD_SIZE));
     }
-    match lowest_word_past_end(parts) {
+    match lowest_hash_word_past_end(parts) {
         Some(at) => Err(Broken::new(HASH_WORD_PAST_END, at)),
         None => Ok(()),
     }
 }
 
 /// The lowest offset in the file of a word, behind the first two, of a table as long as they say, that is none of a symbol.
-fn lowest_word_past_end(parts: &HashParts<'_>) -> Option<u64>
+fn lowest_hash_word_past_end(parts: &HashParts<'_>) -> Option<u64>
     requires inside { IsInside parts.now }
     requires whole { parts.now.size ≡ WORD_SIZE * (2 + nbucket parts.now.words + nchain parts.now.words) }
     ensures { IsLowest (hash_word_past_end parts.now) result }

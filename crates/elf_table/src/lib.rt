@@ -14,6 +14,8 @@
 #![tactic(auto)]
 
 mod dynamic;
+mod dynamic_entries;
+mod dynamic_rules;
 mod group;
 mod group_rules;
 mod hash;
@@ -31,6 +33,7 @@ mod note_rules;
 mod notes;
 mod own_rules;
 mod relocation;
+mod relocation_rules;
 mod relocs;
 pub mod rules;
 mod strings;
@@ -43,7 +46,8 @@ mod table_kind;
 mod tables;
 mod verdicts;
 
-pub use dynamic::{Dynamic, DynamicIter, is_string_tag};
+pub use dynamic::{Dynamic, DynamicIter};
+pub use dynamic_entries::is_string_tag;
 pub use group::{Group, GroupIter};
 pub use group_rules::{member, member_count};
 pub use hash::{Hash, HashIter};

@@ -3,7 +3,7 @@ ghost use Rattle.std.specs.Prelude.{◌≡◌, ◌<◌, ◌≤◌, ◌+◌, Matc
 ghost use Rattle.elf_rules.specs.Broken.{fault_of};
 ghost use Rattle.elf_rules.specs.HeaderRules.{MAX_LEN};
 ghost use Rattle.elf_rules.specs.Rows.{FirstIn};
-ghost use Rattle.elf_table.specs.NoteRules.{IsUnclosed, name_last, note_rules, note_section_rules};
+ghost use Rattle.elf_table.specs.NoteRules.{IsUnclosedNoteName, name_last, note_rules, note_section_rules};
 ghost use Rattle.elf_table.specs.Notes.{note_end as note_end_of};
 ghost use Rattle.elf_table.specs.NoteCut.{IsCut};
 ghost use Rattle.elf_table.specs.Sections.{sections_of};
@@ -39,7 +39,7 @@ pub(crate) fn judge_notes(order: Order, table: &[u8], start: u64) -> Result<(), 
     let mut at = 0;
     while at < table.len() {
         let end = judge_end(order, table, start, at)?;
-        unclosed = unclosed.or(unclosed_at(order, table, at));
+        unclosed = unclosed.or(unclosed_note_name(order, table, at));
         at = end;
     }
     match unclosed {
@@ -72,11 +72,11 @@ fn judge_end(order: Order, table: &[u8], start: u64, at: usize) -> Result<usize,
 
 /// The last byte of the name of the note at this offset, which is whole, where it isn't 0.
 #[tactic(auto, unfolding(crate::specs::Notes::note_end, crate::specs::Notes::desc_start, crate::specs::NoteRules::name_last))]
-fn unclosed_at(order: Order, table: &[u8], at: usize) -> Option<usize>
+fn unclosed_note_name(order: Order, table: &[u8], at: usize) -> Option<usize>
     requires { note_end_of order table.now at ≤ length table.now }
     ensures { MatchOption result
-        (IsUnclosed order table.now at → ⊥)
-        (λ last. IsUnclosed order table.now at × (last ≡ name_last order table.now at) × (last < length table.now)) }
+        (IsUnclosedNoteName order table.now at → ⊥)
+        (λ last. IsUnclosedNoteName order table.now at × (last ≡ name_last order table.now at) × (last < length table.now)) }
 {
     let size = namesz(order, table, at);
     if size == 0 {

@@ -51,6 +51,7 @@ pub const UNCLOSED_NOTE_NAME: u16 = 62;
 pub const NO_NULL_ENTRY: u16 = 63;
 /// A string that the dynamic array names begins behind the string table.
 pub const DYNAMIC_STRING_PAST_END: u16 = 64;
+// The next three are judged by judge_words.
 /// A hash table is not as long as its buckets and chains are.
 pub const WRONG_HASH_SIZE: u16 = 65;
 /// A hash table has no bucket, or not one chain word for each symbol.

@@ -8,7 +8,7 @@ ghost use Rattle.elf_rules.specs.Rows.{AtEntry, FirstIn};
 ghost use Rattle.elf_table.specs.IndexTable.{AreIndexTables};
 ghost use Rattle.elf_table.specs.Sections.{content, sections_of};
 ghost use Rattle.elf_table.specs.SymbolParts.{AreInside, parts_value, symbol_parts};
-ghost use Rattle.elf_table.specs.SymbolRules.{BreaksSymbol, entry as entry_of, entry_count, entry_rules, index_table_rules, place_rules, rest_rules, symbol_0_not_null, symbol_field, symbol_table_rules, IsWrongWord, wrong_index_word};
+ghost use Rattle.elf_table.specs.SymbolRules.{BreaksSymbol, entry as entry_of, entry_count, entry_rules, index_table_rules, place_rules, rest_rules, symbol_0_not_null, symbol_field, symbol_table_rules, IsWrongIndexWord, wrong_index_word};
 
 use crate::index_tables::IndexTables;
 use crate::own_rules::judge_own_rules;
@@ -24,12 +24,12 @@ use elf_rules::Broken;
 /// A rule on one symbol by itself.
 #[derive(Clone, Copy, Debug, PartialEq, Eq)]
 pub(crate) enum SymbolRule {
-    /// Rule 47: local symbols come first.
-    Binding,
-    /// Rule 48: its name begins in the string table.
-    Name,
-    /// Rule 51: its section is there, or the index table that has its index.
-    Section,
+    /// Rule 47, [`MISPLACED_BINDING`].
+    MisplacedBinding,
+    /// Rule 48, [`SYMBOL_NAME_PAST_END`].
+    SymbolNamePastEnd,
+    /// Rule 51, [`WRONG_SYMBOL_SECTION`].
+    WrongSymbolSection,
 }
 
 impl SymbolRule {
@@ -38,11 +38,13 @@ impl SymbolRule {
         ensures { IsTrue result ↔ BreaksSymbol self (parts_value parts.now) symbol.now j }
     {
         match self {
-            SymbolRule::Binding => { (j < parts.info as usize) == (symbol.binding() != STB_LOCAL) }
-            SymbolRule::Name => {
+            SymbolRule::MisplacedBinding => {
+                (j < parts.info as usize) == (symbol.binding() != STB_LOCAL)
+            }
+            SymbolRule::SymbolNamePastEnd => {
                 symbol.st_name != 0 && symbol.st_name as usize >= parts.names.len()
             }
-            SymbolRule::Section => {
+            SymbolRule::WrongSymbolSection => {
                 if symbol.st_shndx == SHN_XINDEX {
                     parts.index_table.is_none()
                 } else {
@@ -58,9 +60,9 @@ impl SymbolRule {
         ensures inside { result < SYM_SIZE }
     {
         match self {
-            SymbolRule::Binding => ST_INFO_AT,
-            SymbolRule::Name => ST_NAME_AT,
-            SymbolRule::Section => ST_SHNDX_AT,
+            SymbolRule::MisplacedBinding => ST_INFO_AT,
+            SymbolRule::SymbolNamePastEnd => ST_NAME_AT,
+            SymbolRule::WrongSymbolSection => ST_SHNDX_AT,
         }
     }
 }
@@ -81,7 +83,7 @@ fn lowest_symbol(parts: &SymbolParts<'_>, rule: SymbolRule) -> Option<u64>
 }
 
 /// Rule 45: where there is no symbol 0, or the first byte of it that isn't 0.
-fn symbol_0_at(parts: &SymbolParts<'_>) -> Option<u64>
+fn lowest_symbol_0_not_null(parts: &SymbolParts<'_>) -> Option<u64>
     requires { AreInside (parts_value parts.now) }
     ensures { IsLowest (symbol_0_not_null (parts_value parts.now)) result }
 {
@@ -102,16 +104,16 @@ fn judge_entries(parts: &SymbolParts<'_>) -> Result<(), Broken>
     requires { AreInside (parts_value parts.now) }
     ensures { FirstIn (entry_rules (parts_value parts.now)) (fault_of result) }
 {
-    if let Some(at) = symbol_0_at(parts) {
+    if let Some(at) = lowest_symbol_0_not_null(parts) {
         return Err(Broken::new(SYMBOL_0_NOT_NULL, at));
     }
     if parts.info == 0 || parts.info as usize > parts.len() {
         return Err(Broken::new(WRONG_LOCAL_COUNT, parts.header + SH_INFO_AT));
     }
-    if let Some(at) = lowest_symbol(parts, SymbolRule::Binding) {
+    if let Some(at) = lowest_symbol(parts, SymbolRule::MisplacedBinding) {
         return Err(Broken::new(MISPLACED_BINDING, at));
     }
-    if let Some(at) = lowest_symbol(parts, SymbolRule::Name) {
+    if let Some(at) = lowest_symbol(parts, SymbolRule::SymbolNamePastEnd) {
         return Err(Broken::new(SYMBOL_NAME_PAST_END, at));
     }
     Ok(())
@@ -150,7 +152,7 @@ fn judge_index_table(
 }
 
 /// The lowest offset in the file of a wrong word of the index table, which has one for each symbol.
-fn lowest_wrong_word(parts: &SymbolParts<'_>) -> Option<u64>
+fn lowest_wrong_index_word(parts: &SymbolParts<'_>) -> Option<u64>
     requires inside { AreInside (parts_value parts.now) }
     requires sized { (j : ℕ) → parts.now.index_table ≡ Some j → length parts.now.words.now ≡ WORD_SIZE * entry_count parts.now.table.now }
     ensures { IsLowest (wrong_index_word (parts_value parts.now)) result }
@@ -161,15 +163,15 @@ fn lowest_wrong_word(parts: &SymbolParts<'_>) -> Option<u64>
     for j in 0..parts.len() {
         let symbol = entry(parts.order, parts.table, j);
         let index = word(parts.order, parts.words, j);
-        if is_wrong_word(&symbol, index, parts.sections) {
+        if is_wrong_index_word(&symbol, index, parts.sections) {
             return Some(parts.words_start + WORD_SIZE * j as u64);
         }
     }
     None
 }
 
-fn is_wrong_word(symbol: &Sym, index: u32, sections: usize) -> bool
-    ensures { IsTrue result ↔ IsWrongWord sections symbol.now index }
+fn is_wrong_index_word(symbol: &Sym, index: u32, sections: usize) -> bool
+    ensures { IsTrue result ↔ IsWrongIndexWord sections symbol.now index }
 {
     if symbol.st_shndx == SHN_XINDEX {
         index < SHN_LORESERVE as u32 || index as usize >= sections
@@ -185,10 +187,10 @@ fn judge_places(parts: &SymbolParts<'_>) -> Result<(), Broken>
     requires sized { (j : ℕ) → parts.now.index_table ≡ Some j → length parts.now.words.now ≡ WORD_SIZE * entry_count parts.now.table.now }
     ensures { FirstIn (place_rules (parts_value parts.now)) (fault_of result) }
 {
-    if let Some(at) = lowest_symbol(parts, SymbolRule::Section) {
+    if let Some(at) = lowest_symbol(parts, SymbolRule::WrongSymbolSection) {
         return Err(Broken::new(WRONG_SYMBOL_SECTION, at));
     }
-    if let Some(at) = lowest_wrong_word(parts) {
+    if let Some(at) = lowest_wrong_index_word(parts) {
         return Err(Broken::new(WRONG_INDEX_WORD, at));
     }
     Ok(())

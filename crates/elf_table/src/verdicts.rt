@@ -11,12 +11,12 @@ ghost use Rattle.elf_table.specs.TableRules.{table_rules};
 ghost use Rattle.elf_table.specs.TableVerdicts.{AreAllIndexTables, AreSymbolVerdicts, AreVerdicts};
 ghost use Rattle.elf_table.specs.Verdict.{IsUnread, IsVerdictOf};
 
-use crate::dynamic::judge_dynamic_section;
+use crate::dynamic_rules::judge_dynamic_section;
 use crate::group_rules::judge_group_section;
 use crate::hash_rules::judge_hash_table;
 use crate::index_tables::IndexTables;
 use crate::note_rules::judge_note_section;
-use crate::relocs::judge_relocation_section;
+use crate::relocation_rules::judge_relocation_section;
 use crate::symbol_rules::judge_symbol_table;
 use crate::symbol_verdicts::SymbolVerdicts;
 use crate::table_kind::TableKind;

@@ -15,8 +15,8 @@ endless_at p b least = record {
   lowest = λ x here. (let (k, lt, endless, at) = here in let le = least.lowest k (lt, endless) in omega arith);
 }
 
-all_end : (p : HashParts) → Never (Below (nbucket p.words) (λ b. ¬ Ends (chain p.words) (bucket p.words b))) → Never (endless_chain p)
-all_end p never x here = never here.0 (here.1, here.2)
+no_endless_chain : (p : HashParts) → Never (Below (nbucket p.words) (λ b. ¬ Ends (chain p.words) (bucket p.words b))) → Never (endless_chain p)
+no_endless_chain p never x here = never here.0 (here.1, here.2)
 
 pub returns-in-Some : goal.returns-in-Some
 unfolding chain_rules
@@ -24,14 +24,14 @@ returns-in-Some c =
     let least = rw c.in-Some.is at c.in_ok-b.ensures.lowest in
     rw c.new.ensures (inl (refl, endless_at c.args.parts.now c.in-Some.b least))
 
-pub returns-in-Some-lowest_off_chain : goal.returns-in-Some-lowest_off_chain
+pub returns-in-Some-lowest_symbol_off_chain : goal.returns-in-Some-lowest_symbol_off_chain
 unfolding chain_rules
-returns-in-Some-lowest_off_chain c =
+returns-in-Some-lowest_symbol_off_chain c =
     let never = rw c.in_default.is at c.in_ok-b.ensures.lowest in
-    rw c.new-in-Some-lowest_off_chain.ensures (inr (all_end c.args.parts.now never, inl (refl, c.in-Some-lowest_off_chain.ensures)))
+    rw c.new-in-Some-lowest_symbol_off_chain.ensures (inr (no_endless_chain c.args.parts.now never, inl (refl, c.in-Some-lowest_symbol_off_chain.ensures)))
 
 pub returns : goal.returns
 unfolding chain_rules
 returns c =
     let never = rw c.in_default.is at c.in_ok-b.ensures.lowest in
-    (all_end c.args.parts.now never, (c.in-None.ensures, tt))
+    (no_endless_chain c.args.parts.now never, (c.in-None.ensures, tt))

@@ -8,6 +8,8 @@ use Rattle.elf_field.specs.SymLaws.{sym_laws}
 use Rattle.elf_field.specs.WordLaws.{word_laws}
 use Rattle.elf_table.specs.DynamicArray.{dynamic_entry}
 use Rattle.elf_table.specs.SymbolRules.{entry, word}
+use Rattle.elf_table.proofs.NoteInFile.{note_in_file}
+use Rattle.elf_table.proofs.NotePlaces.{no_note_entry, note_entry}
 use Rattle.elf_table.proofs.laws.entries_in_file.Goals as goal
 
 pub returns-clause-symbols : goal.returns-clause-symbols
@@ -27,3 +29,12 @@ returns-clause-rel c = λ o b e j within. record_of_part rel_laws o b e.start e.
 pub returns-clause-dynamic : goal.returns-clause-dynamic
 unfolding dynamic_entry
 returns-clause-dynamic c = λ o b e j within. record_of_part dyn_laws o b e.start e.len (DYN_SIZE * j) within
+
+pub returns-clause-notes : goal.returns-clause-notes
+returns-clause-notes c = λ o table k within. note_entry o table 0 k within
+
+pub returns-clause-no_note : goal.returns-clause-no_note
+returns-clause-no_note c = λ o table k past. no_note_entry o table 0 k past
+
+pub returns-clause-note : goal.returns-clause-note
+returns-clause-note c = λ o b e x within. note_in_file o b e x within

@@ -21,7 +21,7 @@ pub loop-at-preserved : goal.loop-at-preserved
 loop-at-preserved c =
     let end = c.in_ok-end.ensures in
     let whole = rw end.0 at end.1 in
-    rw (c.or-unclosed.ensures, end.0) (judged_more _ _ _ _ _ c.loop-at.invariant whole c.unclosed_at.ensures)
+    rw (c.or-unclosed.ensures, end.0) (judged_more _ _ _ _ _ c.loop-at.invariant whole c.unclosed_note_name.ensures)
 
 pub returns-in-Some : goal.returns-in-Some
 returns-in-Some c = rw c.new.ensures (unclosed_fault _ _ _ c.loop-at.at _ (rw c.in-Some.is at c.loop-at.invariant) c.loop-at-test.false)

@@ -1,6 +1,6 @@
 use Rattle.std.proofs.Common.{inl, inr, refl, arith}
 use Rattle.elf_table.specs.RelocationRules.{relocation_rules}
-use Rattle.elf_table.proofs.relocs.judge_relocations.Goals as goal
+use Rattle.elf_table.proofs.relocation_rules.judge_relocations.Goals as goal
 
 pub returns-in-Some : goal.returns-in-Some
 unfolding relocation_rules

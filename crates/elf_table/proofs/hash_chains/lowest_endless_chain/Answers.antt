@@ -1,7 +1,7 @@
 use Rattle.std.proofs.Common.{inl, inr, arith}
 use Rattle.std.proofs.lemmas.Bool.{cases_lt}
 use Rattle.elf_table.proofs.ChainDepthLemmas.{known_ends}
-use Rattle.elf_table.proofs.hash_chains.first_endless.Goals as goal
+use Rattle.elf_table.proofs.hash_chains.lowest_endless_chain.Goals as goal
 
 pub returns-in-None-clause-lowest : goal.returns-in-None-clause-lowest
 returns-in-None-clause-lowest c =

@@ -1,6 +1,6 @@
 use Rattle.elf_rules.proofs.Public.{FirstIn-later, FirstIn-stop}
 use Rattle.elf_table.specs.DynamicRules.{dynamic_section_rules}
-use Rattle.elf_table.proofs.dynamic.judge_dynamic_section.Goals as goal
+use Rattle.elf_table.proofs.dynamic_rules.judge_dynamic_section.Goals as goal
 
 pub returns-in_err-judge_own_rules : goal.returns-in_err-judge_own_rules
 unfolding dynamic_section_rules

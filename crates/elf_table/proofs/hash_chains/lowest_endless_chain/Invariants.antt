@@ -1,7 +1,7 @@
 use Rattle.std.proofs.Common.{◌≡◌, ℕ, ◌<◌, []}
 use Rattle.elf_table.specs.ChainDepths.{AreDepths, AreJumps, AreSeen, AreStarts, IsKnown}
 use Rattle.elf_table.specs.HashTable.{bucket, chain, nchain}
-use Rattle.elf_table.proofs.hash_chains.first_endless.Given as goal
+use Rattle.elf_table.proofs.hash_chains.lowest_endless_chain.Given as goal
 
 abbrev pub invariant-loop-b : goal.invariant-loop-b
 invariant-loop-b l = record {

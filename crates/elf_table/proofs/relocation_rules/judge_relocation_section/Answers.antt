@@ -1,6 +1,6 @@
 use Rattle.elf_rules.proofs.Public.{FirstIn-later, FirstIn-stop}
 use Rattle.elf_table.specs.RelocationRules.{relocation_section_rules}
-use Rattle.elf_table.proofs.relocs.judge_relocation_section.Goals as goal
+use Rattle.elf_table.proofs.relocation_rules.judge_relocation_section.Goals as goal
 
 pub returns-in_err-judge_own_rules : goal.returns-in_err-judge_own_rules
 unfolding relocation_section_rules

@@ -2,7 +2,7 @@ use Rattle.std.proofs.Common.{◌≡◌, inl, inr, subst, arith}
 use Rattle.std.proofs.lemmas.Bool.{cases_lt}
 use Rattle.elf_table.specs.Chains.{IsOn}
 use Rattle.elf_table.specs.HashTable.{bucket_of, chain, name_of}
-use Rattle.elf_table.proofs.hash_rules.lowest_off_chain.Goals as goal
+use Rattle.elf_table.proofs.hash_rules.lowest_symbol_off_chain.Goals as goal
 
 pub loop-s-preserved : goal.loop-s-preserved
 loop-s-preserved c = λ k some lt.
