@@ -12,17 +12,17 @@ use Rattle.elf_string_table.specs.StringTable.{string_table}
 use Rattle.elf_object.specs.Laid.{content_part, layout_parts}
 use Rattle.elf_object.specs.LayoutParts.{LARGEST, saturated}
 use Rattle.elf_object.specs.Object.{ObjectValue, SymbolValue}
-use Rattle.elf_object.specs.PlainSections.{PlainSection, has_index_table, index_table, index_word, null_symbol, own_section, plain_sections, section_names, sections_before_names, strings, symbol_entry, symbol_names, symbol_table}
+use Rattle.elf_object.specs.PlainSections.{PlainSection, has_index_table, index_table_section, index_word, null_symbol, own_section, plain_sections, section_names, sections_before_names, strings, symbol_entry, symbol_names, symbol_table_section}
 use Rattle.elf_object.proofs.PartSizes.{fits_largest}
 
 -- ---- the sections behind the object's own
 
 unfoldable pub last_sections : ObjectValue → Bool → List PlainSection
-last_sections o true = symbol_table o ∷ index_table o ∷ strings (codes ".strtab") (symbol_names o) ∷ strings (codes ".shstrtab") (section_names o) ∷ []
-last_sections o false = symbol_table o ∷ strings (codes ".strtab") (symbol_names o) ∷ strings (codes ".shstrtab") (section_names o) ∷ []
+last_sections o true = symbol_table_section o ∷ index_table_section o ∷ strings (codes ".strtab") (symbol_names o) ∷ strings (codes ".shstrtab") (section_names o) ∷ []
+last_sections o false = symbol_table_section o ∷ strings (codes ".strtab") (symbol_names o) ∷ strings (codes ".shstrtab") (section_names o) ∷ []
 
 sections_behind : (o : ObjectValue) (far : Bool) →
-    (symbol_table o ∷ ((if far then index_table o ∷ [] else []) ++ (strings (codes ".strtab") (symbol_names o) ∷ []))) ++ (strings (codes ".shstrtab") (section_names o) ∷ [])
+    (symbol_table_section o ∷ ((if far then index_table_section o ∷ [] else []) ++ (strings (codes ".strtab") (symbol_names o) ∷ []))) ++ (strings (codes ".shstrtab") (section_names o) ∷ [])
     ≡ last_sections o far
 unfolding last_sections
 sections_behind o true = refl
@@ -58,14 +58,14 @@ parts_are o last is =
 pair : (a b align : ℕ) → a ≡ b → let p : ℕ × ℕ = (a, align) in let q : ℕ × ℕ = (b, align) in p ≡ q
 pair a b align same = cc
 
-symbols_part : (o : ObjectValue) (count x : ℕ) → count ≡ length o.symbols → x ≡ min (24 * (count + 1)) LARGEST → let p : ℕ × ℕ = (x, 8) in p ≡ saturated (content_part (symbol_table o))
+symbols_part : (o : ObjectValue) (count x : ℕ) → count ≡ length o.symbols → x ≡ min (24 * (count + 1)) LARGEST → let p : ℕ × ℕ = (x, 8) in p ≡ saturated (content_part (symbol_table_section o))
 symbols_part o count x counted size =
     let all = length-table sym_laws o.order (null_symbol ∷ map (symbol_entry o) o.symbols) in
     let same = length-map o.symbols (symbol_entry o) in
     let whole : 24 * (count + 1) ≡ length (flat_map (sym_bytes o.order) (null_symbol ∷ map (symbol_entry o) o.symbols)) = omega arith in
     pair x _ 8 (size ∙ ap (λ (n : ℕ). min n LARGEST) whole)
 
-index_part : (o : ObjectValue) (count x : ℕ) → count ≡ length o.symbols → x ≡ min (4 * (count + 1)) LARGEST → let p : ℕ × ℕ = (x, 4) in p ≡ saturated (content_part (index_table o))
+index_part : (o : ObjectValue) (count x : ℕ) → count ≡ length o.symbols → x ≡ min (4 * (count + 1)) LARGEST → let p : ℕ × ℕ = (x, 4) in p ≡ saturated (content_part (index_table_section o))
 index_part o count x counted size =
     let words = λ (s : SymbolValue). index_word s.place in
     let all = length-table word_laws o.order (0 ∷ map words o.symbols) in
@@ -118,7 +118,7 @@ parts_without_index_table o p0 p1 p2 p3 p4 count a c d sections e is0 counted ne
     is4 ∙ ap (λ (ps : List (ℕ × ℕ)). ps ++ ((e, 8) ∷ [])) (is3 ∙ ap (λ (ps : List (ℕ × ℕ)). ps ++ ((d, 1) ∷ [])) (is2 ∙ ap (λ (ps : List (ℕ × ℕ)). ps ++ ((c, 1) ∷ [])) (is1 ∙ ap (λ (ps : List (ℕ × ℕ)). ps ++ ((a, 8) ∷ [])) is0))) in
     built ∙ pushes_four (own_parts o) (a, 8) (c, 1) (d, 1) (e, 8)
     ∙ ap₂ (λ (x y : ℕ × ℕ). own_parts o ++ (x ∷ y ∷ (d, 1) ∷ (e, 8) ∷ [])) (symbols_part o count a counted is_a) (strings_part (codes ".strtab") (symbol_names o) c is_c c_lt)
-    ∙ ap₂ (λ (x y : ℕ × ℕ). own_parts o ++ (saturated (content_part (symbol_table o)) ∷ saturated (content_part (strings (codes ".strtab") (symbol_names o))) ∷ x ∷ y ∷ []))
+    ∙ ap₂ (λ (x y : ℕ × ℕ). own_parts o ++ (saturated (content_part (symbol_table_section o)) ∷ saturated (content_part (strings (codes ".strtab") (symbol_names o))) ∷ x ∷ y ∷ []))
     (strings_part (codes ".shstrtab") (section_names o) d is_d d_lt) (table_part o 3 sections e many is_e)
     ∙ sym (parts_are o (last_sections o false) (plain_sections_are o false near))
 
@@ -145,8 +145,8 @@ parts_with_index_table o p0 p1 p2 p3 p4 p5 count a b c d sections e is0 counted 
     is5 ∙ ap (λ (ps : List (ℕ × ℕ)). ps ++ ((e, 8) ∷ [])) (is4 ∙ ap (λ (ps : List (ℕ × ℕ)). ps ++ ((d, 1) ∷ [])) (is3 ∙ ap (λ (ps : List (ℕ × ℕ)). ps ++ ((c, 1) ∷ [])) (is2 ∙ ap (λ (ps : List (ℕ × ℕ)). ps ++ ((b, 4) ∷ [])) (is1 ∙ ap (λ (ps : List (ℕ × ℕ)). ps ++ ((a, 8) ∷ [])) is0)))) in
     built ∙ pushes_four base (b, 4) (c, 1) (d, 1) (e, 8) ∙ append_assoc (own_parts o) ((a, 8) ∷ []) ((b, 4) ∷ (c, 1) ∷ (d, 1) ∷ (e, 8) ∷ [])
     ∙ ap₂ (λ (x y : ℕ × ℕ). own_parts o ++ (x ∷ y ∷ (c, 1) ∷ (d, 1) ∷ (e, 8) ∷ [])) (symbols_part o count a counted is_a) (index_part o count b counted is_b)
-    ∙ ap (λ (x : ℕ × ℕ). own_parts o ++ (saturated (content_part (symbol_table o)) ∷ saturated (content_part (index_table o)) ∷ x ∷ (d, 1) ∷ (e, 8) ∷ []))
+    ∙ ap (λ (x : ℕ × ℕ). own_parts o ++ (saturated (content_part (symbol_table_section o)) ∷ saturated (content_part (index_table_section o)) ∷ x ∷ (d, 1) ∷ (e, 8) ∷ []))
     (strings_part (codes ".strtab") (symbol_names o) c is_c c_lt)
-    ∙ ap₂ (λ (x y : ℕ × ℕ). own_parts o ++ (saturated (content_part (symbol_table o)) ∷ saturated (content_part (index_table o)) ∷ saturated (content_part (strings (codes ".strtab") (symbol_names o))) ∷ x ∷ y ∷ []))
+    ∙ ap₂ (λ (x y : ℕ × ℕ). own_parts o ++ (saturated (content_part (symbol_table_section o)) ∷ saturated (content_part (index_table_section o)) ∷ saturated (content_part (strings (codes ".strtab") (symbol_names o))) ∷ x ∷ y ∷ []))
     (strings_part (codes ".shstrtab") (section_names o) d is_d d_lt) (table_part o 4 sections e many is_e)
     ∙ sym (parts_are o (last_sections o true) (plain_sections_are o true far))

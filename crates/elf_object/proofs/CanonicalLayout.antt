@@ -23,7 +23,7 @@ use Rattle.elf_object.specs.Laid.{Laid, content_part, encoding, file_header, ide
 use Rattle.elf_object.specs.LayoutParts.{saturated}
 use Rattle.elf_object.specs.LayoutView.{ArePartsFault, ArePlacedParts, AreTooLong, IsLayoutFault, IsLayoutOf, LayoutValue}
 use Rattle.elf_object.specs.Object.{ObjectValue}
-use Rattle.elf_object.specs.PlainSections.{PlainSection, names_at, plain_sections, section_names}
+use Rattle.elf_object.specs.PlainSections.{PlainSection, name_table_at, plain_sections, section_names}
 use Rattle.elf_object.proofs.LayoutParts.{placed_parts, too_long_parts}
 
 pub some_layout : (o : ObjectValue) → (b : List ℕ) × Laid o b
@@ -94,7 +94,7 @@ length-headers_at o places fits =
 
 -- each part stands behind the one before it, as a relocatable file wants it
 pub layout_order : (o : ObjectValue) (places : List ℕ) → Fits (layout_parts (plain_sections o)) EHDR_SIZE places →
-    Fits (map unaligned (behind_header (header_at o places) (headers_at o places) (contents_of o) (names_at o))) EHDR_SIZE (offsets (header_at o places) (headers_at o places))
+    Fits (map unaligned (behind_header (header_at o places) (headers_at o places) (contents_of o) (name_table_at o))) EHDR_SIZE (offsets (header_at o places) (headers_at o places))
 unfolding layout_parts
 layout_order o places fits =
     let sections = plain_sections o in
@@ -104,10 +104,10 @@ layout_order o places fits =
     let parts_long = length-parts sections (SHDR_SIZE * count) in
     let places_long : length places ≡ suc (length sections) = (let many = fits_length (layout_parts sections) EHDR_SIZE places fits in omega arith) in
     let headers_long = length-section_headers (name_place (section_names o)) sections places places_long in
-    let table_long : length (section_table h ss (names_at o)) ≡ SHDR_SIZE * count =
-    (let all = length-table shdr_laws (order_of h.e_ident) (all_headers ss (names_at o)) in omega arith) in
-    let loose = unaligned_parts sections (SHDR_SIZE * count) (section_table h ss (names_at o)) EHDR_SIZE places table_long fits in
-    subst (Fits (map unaligned (behind_header h ss (contents_of o) (names_at o))) EHDR_SIZE) (sym (offsets_are (name_place (section_names o)) sections places places_long)) loose
+    let table_long : length (section_table h ss (name_table_at o)) ≡ SHDR_SIZE * count =
+    (let all = length-table shdr_laws (order_of h.e_ident) (all_headers ss (name_table_at o)) in omega arith) in
+    let loose = unaligned_parts sections (SHDR_SIZE * count) (section_table h ss (name_table_at o)) EHDR_SIZE places table_long fits in
+    subst (Fits (map unaligned (behind_header h ss (contents_of o) (name_table_at o))) EHDR_SIZE) (sym (offsets_are (name_place (section_names o)) sections places places_long)) loose
 
 pub length-layout_bytes : (o : ObjectValue) (places : List ℕ) → Fits (layout_parts (plain_sections o)) EHDR_SIZE places →
     length (layout_bytes o places) ≡ end_of (layout_parts (plain_sections o)) places (length (layout_parts (plain_sections o)) - 1)
@@ -118,7 +118,7 @@ length-layout_bytes o places fits =
     let parts_long = length-parts sections (SHDR_SIZE * count) in
     let headers_long = length-headers_at o places fits in
     let contents_long = length-map sections (λ (s : PlainSection). s.content) in
-    let whole = length-relocatable_bytes (header_at o places) (headers_at o places) (contents_of o) (names_at o) (omega arith) (layout_order o places fits) in
+    let whole = length-relocatable_bytes (header_at o places) (headers_at o places) (contents_of o) (name_table_at o) (omega arith) (layout_order o places fits) in
     let last : length (map content_part sections ++ ((SHDR_SIZE * count, 8) ∷ [])) - 1 ≡ length sections = omega arith in
     let size = last_size sections (SHDR_SIZE * count) in
     let end = ap (end_of (map content_part sections ++ ((SHDR_SIZE * count, 8) ∷ [])) places) last in

@@ -10,11 +10,11 @@ use Rattle.elf_rules.specs.KeepsRules.{IsAlignment, KeepsSectionRules}
 use Rattle.elf_rules.specs.Rows.{FirstIn}
 use Rattle.elf_rules.specs.SectionRules.{IsWrongAlignment}
 use Rattle.elf_rules.proofs.Public.{FirstIn-front, rules_kept}
-use Rattle.elf_object.specs.Denotes.{Denotes, body_denoted, info_denoted, link_denoted, name_of, relocation_denoted, section_denoted}
+use Rattle.elf_object.specs.Denotes.{Denotes, body_denoted, info_denoted, link_denoted, relocation_denoted, section_denoted, section_name_of}
 use Rattle.elf_object.specs.FileRules.{file_rules, rules_of_body}
 use Rattle.elf_object.specs.Kept.{body_kind, is_kept, left_out}
 use Rattle.elf_object.specs.Object.{ObjectValue, SectionValue}
-use Rattle.elf_object.specs.SectionRules.{HasWrongField, IsAgainstFlag, IsMisaligned, wrong_alignment, wrong_field}
+use Rattle.elf_object.specs.SectionRules.{HasWrongAlignment, HasWrongField, IsAgainstFlag, wrong_alignment, wrong_field}
 use Rattle.elf_object.specs.declared.body_kind.BodyKind.{BodyKind}
 use Rattle.elf_object.specs.declared.body_kind.BodyKind.TheVariants.{Bits, NoBits, Relocs, Group}
 use Rattle.elf_object.specs.declared.left_out.LeftOut.{LeftOut}
@@ -29,11 +29,11 @@ use Rattle.elf_table.specs.RelocationRules.{relocation_section_rules}
 use Rattle.elf_table.specs.Relocations.{has_addends, no_relocation, relocation_count, relocation_in, relocation_size, relocations_of}
 use Rattle.elf_table.specs.Sections.{Sections, content, order, section, sections_of}
 use Rattle.elf_table.specs.TableKind.{entry_size}
-use Rattle.elf_table.proofs.RelocationLists.{length_relocations, relocation_get}
+use Rattle.elf_table.proofs.Public.{length_relocations, relocation_get}
 use Rattle.elf_object.proofs.DenotedObject.{section_at_position}
 use Rattle.elf_object.proofs.KeptTypes.{kept_section, table_sound}
 
--- ---- rule 3
+-- ---- rule 3 of objects
 
 -- what the rules of the image say of its sections
 sections_kept : (v : ImageValue) → IsSound v → KeepsSectionRules v.len (length v.sections) (section_of v.sections)
@@ -42,13 +42,13 @@ sections_kept v sound =
     let rules = rules_kept v.len v.header (section_of v.sections) (segment_of v.segments) names sound.clean in
     subst (λ (n : ℕ). KeepsSectionRules v.len n (section_of v.sections)) (sym sound.section_count) rules.records.sections
 
-aligned : (align addr : ℕ) → IsAlignment align → (1 < align → addr % align ≡ 0) → IsWrongAlignment align ⊎ ((1 < align) × (addr % align ≢ 0)) → ⊥
+pub aligned : (align addr : ℕ) → IsAlignment align → (1 < align → addr % align ≡ 0) → IsWrongAlignment align ⊎ ((1 < align) × (addr % align ≢ 0)) → ⊥
 aligned align addr (inl zero) multiple (inl (other, never)) = other zero
 aligned align addr (inr power) multiple (inl (other, never)) = never power
 aligned align addr is multiple (inr (above, other)) = other (multiple above)
 
 section_aligned : (v : ImageValue) (i : ℕ) → IsSound v → i < length v.sections → is_kept (left_out (sections_of v)) (sections_of v) i ≡ true →
-    IsMisaligned (section_denoted (left_out (sections_of v)) (sections_of v) i) → ⊥
+    HasWrongAlignment (section_denoted (left_out (sections_of v)) (sections_of v) i) → ⊥
 unfolding section_denoted
 section_aligned v i sound lt is broken =
     let f = sections_of v in
@@ -57,19 +57,19 @@ section_aligned v i sound lt is broken =
     let above : 1 ≤ i = (let other = kept.above in omega arith) in
     aligned (section f i).sh_addralign (section f i).sh_addr (rules.alignment i above lt kept.typed) (rules.address i above lt kept.typed) broken
 
-pub alignments_kept : (v : ImageValue) (o : ObjectValue) → IsSound v → Denotes (sections_of v) o → Never (wrong_alignment o)
-alignments_kept v o sound denotes x (q, within, broken, here) =
+pub no_wrong_alignment : (v : ImageValue) (o : ObjectValue) → IsSound v → Denotes (sections_of v) o → Never (wrong_alignment o)
+no_wrong_alignment v o sound denotes x (q, within, broken, here) =
     let (i, is) = section_at_position (sections_of v) o q denotes within in
-    section_aligned v i sound is.there is.is_kept (subst IsMisaligned is.section broken)
+    section_aligned v i sound is.there is.is_kept (subst HasWrongAlignment is.section broken)
 
--- ---- rule 5
+-- ---- rule 5 of objects
 
 -- section i, with a body of this kind
 abbrev pub section_with : LeftOut → Sections → ℕ → BodyKind → SectionValue
 section_with left f i kind =
     let s = section f i in
     record {
-      name = name_of f i;
+      name = section_name_of f i;
       flags = s.sh_flags;
       addr = s.sh_addr;
       align = s.sh_addralign;
@@ -134,8 +134,8 @@ fields_of left f i Group sound (inl (inl linked)) = linked refl
 fields_of left f i Group sound (inl (inr told)) = told refl
 fields_of left f i Group sound (inr sized) = sized (entries_sized SectionGroup f i (FirstIn-front (own_rules SectionGroup f i) _ sound))
 
-pub fields_kept : (f : Sections) (o : ObjectValue) → FirstIn (file_rules f) None → Denotes f o → Never (wrong_field o)
-fields_kept f o clean denotes x (q, within, broken, here) =
+pub no_wrong_field : (f : Sections) (o : ObjectValue) → FirstIn (file_rules f) None → Denotes f o → Never (wrong_field o)
+no_wrong_field f o clean denotes x (q, within, broken, here) =
     let (i, is) = section_at_position f o q denotes within in
     fields_of (left_out f) f i (body_kind (section f i).sh_type) (table_sound f i clean is.there is.is_kept)
     (subst (λ (s : SectionValue). HasWrongField s s.body) (is.section ∙ denoted_with (left_out f) f i) broken)

@@ -7,7 +7,7 @@ use Rattle.elf_field.specs.Abi.{SHF_GROUP, SHT_GROUP, SHT_NOBITS, SHT_REL, SHT_R
 use Rattle.elf_rules.specs.Rows.{FirstIn}
 use Rattle.elf_object.specs.Denotes.{Denotes, body_denoted}
 use Rattle.elf_object.specs.FileRules.{NamesFirst, file_rules, rules_of_body}
-use Rattle.elf_object.specs.GroupRule.{IsInEarlierGroup, IsWrongMember, NamesMember, wrong_membership}
+use Rattle.elf_object.specs.GroupRule.{IsInEarlierGroup, IsWrongMembership, NamesMember, wrong_membership}
 use Rattle.elf_object.specs.Kept.{body_kind, is_kept, left_out, position_of}
 use Rattle.elf_object.specs.Object.{ObjectValue, SectionValue, section_at}
 use Rattle.elf_object.specs.Positions.{LacksFlag, is_group, members_of}
@@ -17,7 +17,7 @@ use Rattle.elf_object.specs.declared.left_out.LeftOut.{LeftOut}
 use Rattle.elf_table.specs.GroupRules.{group_section_rules}
 use Rattle.elf_table.specs.Groups.{member, member_count}
 use Rattle.elf_table.specs.Sections.{Sections, content, count, order, section}
-use Rattle.elf_table.proofs.GroupLists.{sound_group}
+use Rattle.elf_table.proofs.Public.{sound_group}
 use Rattle.elf_object.proofs.DenotedFields.{denoted_with, section_with}
 use Rattle.elf_object.proofs.DenotedObject.{section_at_index, section_at_position}
 use Rattle.elf_object.proofs.DenotedSymbols.{kept_there}
@@ -40,7 +40,7 @@ named_in_file f h m Group clean lt sound is (k, within, same) =
       (k, inside, one_place (is_kept (left_out f) f) (member (order f) (content f h) k) m named is (sym (position_of_member f h k inside) ∙ same)),
     )
 
--- ---- what rule 6 asks of member j, section m, of the group in section i
+-- ---- what rule 6 of objects asks of member j, section m, of the group in section i
 
 behind_group : (f : Sections) (i j m q : ℕ) → IsMember f i j m → is_kept (left_out f) f i ≡ true → position_of (left_out f) f i ≡ q → position_of (left_out f) f m ≤ q → ⊥
 behind_group f i j m q fact is at le = (let below = places_ascend (is_kept (left_out f) f) i m fact.above is in absurd (omega arith))
@@ -116,7 +116,7 @@ member_right f o i j m q clean denotes lt is at within sound inside fact (inr (i
 
 members_right : (f : Sections) (o : ObjectValue) (i q : ℕ) (kind : BodyKind) → FirstIn (file_rules f) None → Denotes f o → i < count f →
     is_kept (left_out f) f i ≡ true → position_of (left_out f) f i ≡ q → q < length o.sections → FirstIn (rules_of_body kind f i) None →
-    (let members = members_of (section_with (left_out f) f i kind).body in SomeIndex members (IsWrongMember o q members)) → ⊥
+    (let members = members_of (section_with (left_out f) f i kind).body in SomeIndex members (IsWrongMembership o q members)) → ⊥
 members_right f o i q Bits clean denotes lt is at within sound (j, inside, wrong) = absurd (omega arith)
 members_right f o i q NoBits clean denotes lt is at within sound (j, inside, wrong) = absurd (omega arith)
 members_right f o i q Relocs clean denotes lt is at within sound (j, inside, wrong) = absurd (omega arith)
@@ -125,8 +125,8 @@ members_right f o i q Group clean denotes lt is at within sound (j, inside, wron
     member_right f o i j (member (order f) (content f i) j) q clean denotes lt is at within sound there (member_sound f i j clean lt sound there)
     (subst (IsWrongAt o q (member_positions f i) j) (position_of_member f i j there) wrong)
 
-pub groups_kept : (f : Sections) (o : ObjectValue) → FirstIn (file_rules f) None → Denotes f o → Never (wrong_membership o)
-groups_kept f o clean denotes x (q, within, broken, here) =
+pub no_wrong_membership : (f : Sections) (o : ObjectValue) → FirstIn (file_rules f) None → Denotes f o → Never (wrong_membership o)
+no_wrong_membership f o clean denotes x (q, within, broken, here) =
     let (i, is) = section_at_position f o q denotes within in
     members_right f o i q (body_kind (section f i).sh_type) clean denotes is.there is.is_kept is.position within (table_sound f i clean is.there is.is_kept)
-    (subst (λ (s : SectionValue). SomeIndex (members_of s.body) (IsWrongMember o q (members_of s.body))) (is.section ∙ denoted_with (left_out f) f i) broken)
+    (subst (λ (s : SectionValue). SomeIndex (members_of s.body) (IsWrongMembership o q (members_of s.body))) (is.section ∙ denoted_with (left_out f) f i) broken)

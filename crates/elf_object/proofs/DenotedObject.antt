@@ -78,7 +78,7 @@ no_zero_in_name f i has =
     zero_in_either (s.sh_type == SHT_NULL) (string names s.sh_name) (no_zero_in_string names s.sh_name) has
 
 -- so rule 1 of objects is kept
-pub section_names_kept : (f : Sections) (o : ObjectValue) → Denotes f o → Never (zero_in_section_name o)
-section_names_kept f o denotes x (q, within, broken, here) =
+pub no_zero_in_section_name : (f : Sections) (o : ObjectValue) → Denotes f o → Never (zero_in_section_name o)
+no_zero_in_section_name f o denotes x (q, within, broken, here) =
     let (i, is) = section_at_position f o q denotes within in
     no_zero_in_name f i (subst (λ (s : SectionValue). Contains s.name 0) is.section broken)

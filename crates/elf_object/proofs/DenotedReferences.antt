@@ -26,7 +26,7 @@ use Rattle.elf_table.specs.RelocationRules.{relocation_rules, relocation_section
 use Rattle.elf_table.specs.Relocations.{has_addends, no_relocation, relocation_count, relocation_in, relocations_of}
 use Rattle.elf_table.specs.Sections.{Sections, content, count, order, section}
 use Rattle.elf_table.specs.SymbolRules.{entry_count, symbol_table_rules}
-use Rattle.elf_table.proofs.RelocationLists.{length_relocations, relocation_get}
+use Rattle.elf_table.proofs.Public.{length_relocations, relocation_get}
 use Rattle.elf_object.proofs.DenotedFields.{denoted_with, section_with}
 use Rattle.elf_object.proofs.DenotedObject.{position_there, section_at_index, section_at_position}
 use Rattle.elf_object.proofs.DenotedSymbols.{kept_there}
@@ -36,17 +36,17 @@ use Rattle.elf_object.proofs.KeptTypes.{differs, table_sound}
 
 -- ---- rules 76, 78 and 79
 
-no_wrong_target : (f : Sections) → FirstIn (file_rules f) None → Never (wrong_relocation_target (left_out f) f)
+no_wrong_relocation_target : (f : Sections) → FirstIn (file_rules f) None → Never (wrong_relocation_target (left_out f) f)
 unfolding reference_rules
-no_wrong_target f clean = (references_sound f clean).0
+no_wrong_relocation_target f clean = (references_sound f clean).0
 
-no_wrong_link : (f : Sections) → FirstIn (file_rules f) None → Never (wrong_kept_link (left_out f) f)
+no_wrong_kept_link : (f : Sections) → FirstIn (file_rules f) None → Never (wrong_kept_link (left_out f) f)
 unfolding reference_rules
-no_wrong_link f clean = (references_sound f clean).1.1.0
+no_wrong_kept_link f clean = (references_sound f clean).1.1.0
 
-no_wrong_info : (f : Sections) → FirstIn (file_rules f) None → Never (wrong_kept_info (left_out f) f)
+no_wrong_kept_info : (f : Sections) → FirstIn (file_rules f) None → Never (wrong_kept_info (left_out f) f)
 unfolding reference_rules
-no_wrong_info f clean = (references_sound f clean).1.1.1.0
+no_wrong_kept_info f clean = (references_sound f clean).1.1.1.0
 
 -- a section that is not left out is kept
 kept_unless : (b : Bool) → (b ≡ false → ⊥) → b ≡ true
@@ -75,14 +75,14 @@ link_kept : (f : Sections) (o : ObjectValue) (i : ℕ) → FirstIn (file_rules f
 link_kept f o i clean denotes lt plain past =
     let link = (section f i).sh_link in
     reference_kept f o link (link == 0) denotes refl
-    (λ some. kept_unless (is_kept (left_out f) f link) (λ out. no_wrong_link f clean _ (i, lt, (plain, (some, out)), refl))) past
+    (λ some. kept_unless (is_kept (left_out f) f link) (λ out. no_wrong_kept_link f clean _ (i, lt, (plain, (some, out)), refl))) past
 
 plain_info_kept : (f : Sections) (o : ObjectValue) (i : ℕ) → FirstIn (file_rules f) None → Denotes f o → i < count f → IsPlain (left_out f) f i →
     IsPast (length o.sections) (info_position (plain_info (left_out f) f (section f i))) → ⊥
 plain_info_kept f o i clean denotes lt plain past =
     let s = section f i in
     info_kept f o s.sh_flags s.sh_info (bit_and s.sh_flags SHF_INFO_LINK == 0) denotes refl
-    (λ some. kept_unless (is_kept (left_out f) f s.sh_info) (λ out. no_wrong_info f clean _ (i, lt, (plain, (some, out)), refl))) past
+    (λ some. kept_unless (is_kept (left_out f) f s.sh_info) (λ out. no_wrong_kept_info f clean _ (i, lt, (plain, (some, out)), refl))) past
 
 -- ---- relocations
 
@@ -96,7 +96,7 @@ target_sound : (f : Sections) (i : ℕ) → FirstIn (file_rules f) None → i < 
     IsKeptBits (left_out f) f (section f i).sh_info
 target_sound f i clean lt kind =
     let k = (section f i).sh_info in
-    let wrong : (IsKeptBits (left_out f) f k → ⊥) → ⊥ = λ other. no_wrong_target f clean _ (i, lt, (kind, other), refl) in (
+    let wrong : (IsKeptBits (left_out f) f k → ⊥) → ⊥ = λ other. no_wrong_relocation_target f clean _ (i, lt, (kind, other), refl) in (
       kept_unless (is_kept (left_out f) f k) (λ out. wrong (λ is. (let both : true ≡ false = sym is.0 ∙ out in cc))),
       elim (kind_is_bits (body_kind (section f k).sh_type)) [ inl is ↦ is | inr other ↦ absurd (wrong (λ is. other is.1)) ],
     )
@@ -115,9 +115,9 @@ symbol_there : (symbols entries k : ℕ) (b : Bool) → symbols ≡ entries - 1 
 symbol_there symbols entries k true count lt is past = past
 symbol_there symbols entries k false count lt is past = (let some = differs k 0 is in absurd (omega arith))
 
-symbols_there : (f : Sections) (i : ℕ) → FirstIn (relocation_section_rules f i) None → Never (wrong_relocation_symbol f i)
+no_wrong_relocation_symbol : (f : Sections) (i : ℕ) → FirstIn (relocation_section_rules f i) None → Never (wrong_relocation_symbol f i)
 unfolding relocation_section_rules relocation_rules
-symbols_there f i sound =
+no_wrong_relocation_symbol f i sound =
     (FirstIn-behind (symbol_table_rules f (section f i).sh_link) _ (FirstIn-behind (own_rules RelocationTable f i) _ sound)).1.0
 
 entry_kept : (f : Sections) (o : ObjectValue) (i k : ℕ) → FirstIn (file_rules f) None → Denotes f o → FirstIn (relocation_section_rules f i) None →
@@ -131,7 +131,7 @@ entry_kept f o i k clean denotes sound lt past =
     let got = ap (λ (r : table_relocation.Relocation). r.symbol) (relocation_get addends (order f) (content f i) k within) in
     let there : symbol < entry_count (content f s.sh_link) = elim (cases_lt symbol (entry_count (content f s.sh_link))) [
       | inl below ↦ below
-      | inr above ↦ absurd (symbols_there f i sound _ (k, within, above, refl))
+      | inr above ↦ absurd (no_wrong_relocation_symbol f i sound _ (k, within, above, refl))
     ] in
     symbol_there (length o.symbols) (entry_count (content f s.sh_link)) symbol (symbol == 0)
     (symbol_count f o s.sh_link denotes (symbols_of_relocations f i clean sound)) there refl
@@ -147,9 +147,9 @@ entries_kept f o i clean denotes sound (k, x, lt, at, past) =
 
 -- ---- groups
 
-signature_there : (f : Sections) (i : ℕ) → FirstIn (group_section_rules f i) None → Never (wrong_signature f i)
+no_wrong_signature : (f : Sections) (i : ℕ) → FirstIn (group_section_rules f i) None → Never (wrong_signature f i)
 unfolding group_section_rules group_rules group_front_rules
-signature_there f i sound =
+no_wrong_signature f i sound =
     let rest = FirstIn-behind (symbol_table_rules f (section f i).sh_link) _ (FirstIn-behind (own_rules SectionGroup f i) _ sound) in
     (FirstIn-front (group_front_rules f i) _ rest).1.1.0
 
@@ -160,8 +160,8 @@ signature_kept f o i clean denotes sound past =
     let s = section f i in
     let many = symbol_count f o s.sh_link denotes (symbols_of_group f i clean sound) in
     elim (cases_eq s.sh_info 0) [
-      | inl none ↦ signature_there f i sound _ (inl none, refl)
-      | inr some ↦ signature_there f i sound _ (inr (omega arith), refl)
+      | inl none ↦ no_wrong_signature f i sound _ (inl none, refl)
+      | inr some ↦ no_wrong_signature f i sound _ (inr (omega arith), refl)
     ]
 
 members_kept : (f : Sections) (o : ObjectValue) (i : ℕ) → FirstIn (file_rules f) None → Denotes f o → i < count f → FirstIn (group_section_rules f i) None →
@@ -193,8 +193,8 @@ positions_of f o i Group clean denotes lt is kind sound (inr (inl past)) = past
 positions_of f o i Group clean denotes lt is kind sound (inr (inr (inl signature))) = signature_kept f o i clean denotes sound signature
 positions_of f o i Group clean denotes lt is kind sound (inr (inr (inr members))) = members_kept f o i clean denotes lt sound members
 
-pub positions_kept : (f : Sections) (o : ObjectValue) → FirstIn (file_rules f) None → Denotes f o → Never (wrong_position o)
-positions_kept f o clean denotes x (q, within, broken, here) =
+pub no_wrong_position : (f : Sections) (o : ObjectValue) → FirstIn (file_rules f) None → Denotes f o → Never (wrong_position o)
+no_wrong_position f o clean denotes x (q, within, broken, here) =
     let (i, is) = section_at_position f o q denotes within in
     positions_of f o i (body_kind (section f i).sh_type) clean denotes is.there is.is_kept refl (table_sound f i clean is.there is.is_kept)
     (subst (λ (s : SectionValue). HasWrongPosition o s) (is.section ∙ denoted_with (left_out f) f i) broken)

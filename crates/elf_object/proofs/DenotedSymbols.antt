@@ -8,7 +8,7 @@ use Rattle.elf_field.specs.Abi.{STB_LOCAL}
 use Rattle.elf_rules.specs.Rows.{FirstIn}
 use Rattle.elf_rules.proofs.Public.{FirstIn-behind, FirstIn-front}
 use Rattle.elf_object.specs.Denotes.{Denotes, place_denoted, symbol_denoted, symbols_denoted}
-use Rattle.elf_object.specs.FileRules.{IsOutside, file_rules, place_rules, rules_of_symbols}
+use Rattle.elf_object.specs.FileRules.{IsSymbolOutside, file_rules, rules_of_symbols, symbol_outside_rules}
 use Rattle.elf_object.specs.Kept.{is_kept, left_out, symbol_table}
 use Rattle.elf_object.specs.declared.left_out.LeftOut.{LeftOut}
 use Rattle.elf_object.specs.Positions.{IsPast}
@@ -25,7 +25,7 @@ use Rattle.elf_table.specs.SymbolRules.{binding, entry, entry_count, entry_rules
 use Rattle.elf_table.specs.SymbolView as table_view
 use Rattle.elf_table.specs.Symbols as table_symbols
 use Rattle.elf_table.specs.Symbols.{symbol_in, symbols_of}
-use Rattle.elf_table.proofs.SymbolLists.{length_symbols, symbol_get}
+use Rattle.elf_table.proofs.Public.{length_symbols, symbol_get}
 use Rattle.elf_object.proofs.DenotedObject.{no_zero_in_string, position_there}
 use Rattle.elf_object.proofs.FileRuns.{places_sound, symbols_sound}
 use Rattle.elf_object.proofs.KeptLists.{not_kept_past}
@@ -68,13 +68,13 @@ table_name f t j lt has =
     let got = symbol_get p.order p.table p.names p.words j within in
     no_zero_in_string p.names (entry p.order p.table j).st_name (subst (λ (s : table_symbols.SymbolValue). Contains s.name 0) got has)
 
--- rule 7
-pub symbol_names_kept : (f : Sections) (o : ObjectValue) → Denotes f o → Never (zero_in_symbol_name o)
-symbol_names_kept f o denotes x (q, within, broken, here) =
+-- rule 7 of objects
+pub no_zero_in_symbol_name : (f : Sections) (o : ObjectValue) → Denotes f o → Never (zero_in_symbol_name o)
+no_zero_in_symbol_name f o denotes x (q, within, broken, here) =
     let (t, is) = symbol_at_position f o q denotes within in
     table_name f t (q + 1) is.there (subst (λ (s : SymbolValue). Contains s.name 0) is.symbol broken)
 
--- ---- rule 8
+-- ---- rule 8 of objects
 
 -- a section that is kept is there
 pub kept_there : (left : LeftOut) (f : Sections) (k : ℕ) → is_kept left f k ≡ true → k < count f
@@ -88,7 +88,7 @@ cases_bool true = inl refl
 cases_bool false = inr refl
 
 -- a place that rule 75 lets pass is one of an object
-place_kept : (f : Sections) (o : ObjectValue) (place : table_place.Place) → Denotes f o → (IsOutside (left_out f) f place → ⊥) →
+place_kept : (f : Sections) (o : ObjectValue) (place : table_place.Place) → Denotes f o → (IsSymbolOutside (left_out f) f place → ⊥) →
     IsPast (length o.sections) (place_position (place_denoted (left_out f) f place)) → ⊥
 place_kept f o Undefined denotes inside past = past
 place_kept f o Absolute denotes inside past = past
@@ -99,19 +99,19 @@ place_kept f o (Section k) denotes inside past = elim (cases_bool (is_kept (left
   | inr other ↦ inside other
 ]
 
-no_place_outside : (f : Sections) (t j : ℕ) → FirstIn (place_rules (left_out f) f (Some t)) None → j < length (symbols_of f t) →
-    IsOutside (left_out f) f (get_or (symbols_of f t) j table_view.no_symbol).place → ⊥
-unfolding place_rules
+no_place_outside : (f : Sections) (t j : ℕ) → FirstIn (symbol_outside_rules (left_out f) f (Some t)) None → j < length (symbols_of f t) →
+    IsSymbolOutside (left_out f) f (get_or (symbols_of f t) j table_view.no_symbol).place → ⊥
+unfolding symbol_outside_rules
 no_place_outside f t j clean lt outside = clean.0 _ (j, lt, outside, refl)
 
-pub places_kept : (f : Sections) (o : ObjectValue) → FirstIn (file_rules f) None → Denotes f o → Never (wrong_place o)
-places_kept f o clean denotes x (q, within, broken, here) =
+pub no_wrong_place : (f : Sections) (o : ObjectValue) → FirstIn (file_rules f) None → Denotes f o → Never (wrong_place o)
+no_wrong_place f o clean denotes x (q, within, broken, here) =
     let (t, is) = symbol_at_position f o q denotes within in
-    let places = subst (λ (table : Option ℕ). FirstIn (place_rules (left_out f) f table) None) is.table (places_sound f clean) in
+    let places = subst (λ (table : Option ℕ). FirstIn (symbol_outside_rules (left_out f) f table) None) is.table (places_sound f clean) in
     place_kept f o (get_or (symbols_of f t) (q + 1) table_view.no_symbol).place denotes (no_place_outside f t (q + 1) places is.there)
     (subst (λ (s : SymbolValue). IsPast (length o.sections) (place_position s.place)) is.symbol broken)
 
--- ---- rule 9
+-- ---- rule 9 of objects
 
 -- a symbol of the object has the binding of the entry that it is read from
 local_info : (f : Sections) (o : ObjectValue) (q t : ℕ) → IsSymbolOf f o q t →
@@ -121,9 +121,9 @@ local_info f o q t is =
     ap (λ (s : SymbolValue). s.info / 16) is.symbol ∙ ap (λ (x : ℕ). x / 16) (symbol_info f t (q + 1) is.there)
 
 -- rule 47: those below sh_info are local, and no other
-bindings_sound : (f : Sections) (t : ℕ) → FirstIn (symbol_table_rules f t) None → Never (misplaced_binding (symbol_parts f t))
+no_misplaced_binding : (f : Sections) (t : ℕ) → FirstIn (symbol_table_rules f t) None → Never (misplaced_binding (symbol_parts f t))
 unfolding symbol_table_rules rest_rules entry_rules
-bindings_sound f t clean =
+no_misplaced_binding f t clean =
     let p = symbol_parts f t in
     let behind = FirstIn-behind (linked_string_rules p.names p.names_start) _ (FirstIn-behind (own_rules SymbolTable f t) _ clean) in
     (FirstIn-front (entry_rules p) _ behind).1.1.0
@@ -135,8 +135,8 @@ locals_first f t i k never lt within local other = elim (cases_lt i (section f t
   | inr above ↦ never _ (i, within, inr (above, local), refl)
 ]
 
-pub locals_kept : (f : Sections) (o : ObjectValue) → FirstIn (file_rules f) None → Denotes f o → Never (misplaced_local o)
-locals_kept f o clean denotes x (i, within, (local, (k, lt, other)), here) =
+pub no_misplaced_local : (f : Sections) (o : ObjectValue) → FirstIn (file_rules f) None → Denotes f o → Never (misplaced_local o)
+no_misplaced_local f o clean denotes x (i, within, (local, (k, lt, other)), here) =
     let (t, is) = symbol_at_position f o i denotes within in
     let (u, before) = symbol_at_position f o k denotes (omega arith) in
     let one : Some u ≡ Some t = sym before.table ∙ is.table in
@@ -145,5 +145,5 @@ locals_kept f o clean denotes x (i, within, (local, (k, lt, other)), here) =
     let sound = subst (λ (table : Option ℕ). FirstIn (rules_of_symbols f table) None) is.table (symbols_sound f clean) in
     let there = is.there in
     let counted = length_symbols_of f t in
-    locals_first f t (i + 1) (k + 1) (bindings_sound f t sound) (omega arith) (omega arith) (sym (local_info f o i t is) ∙ local)
+    locals_first f t (i + 1) (k + 1) (no_misplaced_binding f t sound) (omega arith) (omega arith) (sym (local_info f o i t is) ∙ local)
     (λ bound. other (local_info f o k t first ∙ bound))

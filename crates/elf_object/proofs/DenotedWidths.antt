@@ -27,7 +27,7 @@ use Rattle.elf_object.specs.declared.body_kind.BodyKind.{BodyKind}
 use Rattle.elf_object.specs.declared.body_kind.BodyKind.TheVariants.{Bits, NoBits, Relocs, Group}
 use Rattle.elf_object.specs.declared.left_out.LeftOut.{LeftOut}
 use Rattle.elf_object.specs.declared.section.Info.TheVariants as info
-use Rattle.elf_object.specs.Denotes.{Denotes, body_denoted, info_denoted, name_of, plain_info, relocation_denoted, section_denoted, symbol_denoted, symbols_denoted}
+use Rattle.elf_object.specs.Denotes.{Denotes, body_denoted, info_denoted, plain_info, relocation_denoted, section_denoted, section_name_of, symbol_denoted, symbols_denoted}
 use Rattle.elf_object.specs.Kept.{body_kind, kept, left_out, position_of, symbol_table}
 use Rattle.elf_object.specs.Object.{ObjectValue}
 use Rattle.elf_object.specs.Widths.{BodyFits, InfoFits, ObjectFits, RelocationFits, SectionFits, SymbolFits}
@@ -125,7 +125,7 @@ module _ (v : ImageValue) (sound : IsSound v) where
 
   -- ---- sections
 
-  name_fits : (i : ℕ) → IsBytes (name_of (sections_of v) i)
+  name_fits : (i : ℕ) → IsBytes (section_name_of (sections_of v) i)
   name_fits i = by_type ((section (sections_of v) i).sh_type == SHT_NULL)
     where
       by_type : (null : Bool) → IsBytes (if null then [] else string (value_names v.header v.sections v.contents) (section (sections_of v) i).sh_name)

@@ -23,8 +23,7 @@ use Rattle.elf_table.specs.Sections.{Sections, content, count, order, section}
 use Rattle.elf_table.specs.SymbolRules.{entry_count, symbol_table_rules}
 use Rattle.elf_table.specs.Symbols.{symbols_of}
 use Rattle.elf_table.specs.TableKind.{IsLinkOf, IsSymbolType}
-use Rattle.elf_table.proofs.GroupLists.{length_members, member_get, sound_group}
-use Rattle.elf_table.proofs.OwnRuleLemmas.{link_there}
+use Rattle.elf_table.proofs.Public.{length_members, link_there, member_get, sound_group}
 use Rattle.elf_object.proofs.FileRuns.{references_sound}
 use Rattle.elf_object.proofs.KeptTypes.{no_foreign_section, symbol_table_at}
 use Rattle.elf_object.proofs.SymbolCount.{length_symbols_of}
@@ -85,7 +84,7 @@ pub record IsMember (f : Sections) (i j m : ℕ) : Type 0 where
   pub once : table.IsNamedBefore (order f) (content f i) j m → ⊥
   pub is_kept : is_kept (left_out f) f m ≡ true
   pub no_group : (section f m).sh_type ≡ SHT_GROUP → ⊥
-  pub alone : file.IsNamedBefore f i m → ⊥
+  pub alone : file.IsMemberBefore f i m → ⊥
 
 -- rules 58 and 77
 no_wrong_member : (f : Sections) (i : ℕ) → FirstIn (group_section_rules f i) None → Never (wrong_member f i)
@@ -107,7 +106,7 @@ pub member_sound : (f : Sections) (i j : ℕ) → FirstIn (file_rules f) None �
 member_sound f i j clean lt sound within =
     let m = member (order f) (content f i) j in
     let unfit : IsUnfit f i m → ⊥ = λ unfit. no_wrong_member f i sound _ (j, within, inl unfit, refl) in
-    let wrong : file.IsWrongMember (left_out f) f i m → ⊥ =
+    let wrong : file.IsWrongGroupMember (left_out f) f i m → ⊥ =
     λ wrong. no_wrong_group_member f clean _ (i, lt, ((sound_group f i sound).typed, (j, within, wrong, refl))) in
     record {
       above = elim (cases_lt i m) [ inl below ↦ below | inr past ↦ absurd (unfit (inl past)) ];

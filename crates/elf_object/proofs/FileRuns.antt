@@ -2,7 +2,7 @@
 use Rattle.std.proofs.Common.{◌≡◌, None, sym, subst}
 use Rattle.elf_rules.specs.Rows.{FirstIn}
 use Rattle.elf_rules.proofs.Public.{FirstIn-behind, FirstIn-front}
-use Rattle.elf_object.specs.FileRules.{file_rules, front_rules, place_rules, reference_rules, rules_behind, rules_of_bodies, rules_of_symbols, symbol_rules_in}
+use Rattle.elf_object.specs.FileRules.{file_rules, front_rules, reference_rules, rules_behind, rules_of_bodies, rules_of_symbols, symbol_outside_rules, symbol_rules_in}
 use Rattle.elf_object.specs.Kept.{kept, left_out, symbol_table}
 use Rattle.elf_object.specs.declared.left_out.LeftOut.{LeftOut}
 use Rattle.elf_table.specs.Sections.{Sections}
@@ -23,7 +23,7 @@ pub symbols_sound : (f : Sections) → FirstIn (file_rules f) None → FirstIn (
 unfolding symbol_rules_in
 symbols_sound f clean = FirstIn-front (rules_of_symbols f (symbol_table f)) _ (symbol_run_sound f clean)
 
-pub places_sound : (f : Sections) → FirstIn (file_rules f) None → FirstIn (place_rules (left_out f) f (symbol_table f)) None
+pub places_sound : (f : Sections) → FirstIn (file_rules f) None → FirstIn (symbol_outside_rules (left_out f) f (symbol_table f)) None
 unfolding symbol_rules_in
 places_sound f clean = FirstIn-behind (rules_of_symbols f (symbol_table f)) _ (symbol_run_sound f clean)
 

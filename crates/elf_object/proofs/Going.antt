@@ -25,7 +25,7 @@ use Rattle.elf_object.specs.LayoutView.{IsLayoutOf, LayoutValue}
 use Rattle.elf_object.specs.Object.{ObjectValue}
 use Rattle.elf_object.specs.ObjectWriting.{WritesBehind, header_table}
 use Rattle.elf_object.specs.PlacedObject.{IsPlaced, IsSectionAt, PlacedValue, plain_section}
-use Rattle.elf_object.specs.PlainSections.{PlainSection, names_at, plain_sections, section_names}
+use Rattle.elf_object.specs.PlainSections.{PlainSection, name_table_at, plain_sections, section_names}
 use Rattle.elf_object.specs.declared.placed_section.PlacedSection.{PlacedSection}
 use Rattle.elf_object.specs.declared.placed_section.PlacedSection.TheVariants.{Names}
 use Rattle.elf_object.proofs.CanonicalLayout.{contents_of, header_at, headers_at, layout_order, offsets_are}
@@ -155,7 +155,7 @@ layout_is o layout laid =
     let h = header_at o q in
     let ss = headers_at o q in
     let cs = contents_of o in
-    let parts : Order → List (List ℕ) = λ order. cs ++ (flat_map (shdr_bytes order) (all_headers ss (names_at o)) ∷ []) in
+    let parts : Order → List (List ℕ) = λ order. cs ++ (flat_map (shdr_bytes order) (all_headers ss (name_table_at o)) ∷ []) in
     let long : 0 + length (ehdr_bytes o.order h) ≡ 64 = (let e = ehdr_laws.length_is o.order h in omega arith) in
     ap (λ (order : Order). ehdr_bytes order h ++ spread (0 + length (ehdr_bytes order h)) (offsets h ss) (parts order)) (order_read o)
     ∙ ap (λ (places : List ℕ). ehdr_bytes o.order h ++ spread (0 + length (ehdr_bytes o.order h)) places (parts o.order)) (places_are o layout laid)
@@ -167,7 +167,7 @@ parts_fit o layout laid =
     let q = layout.places in
     let h = header_at o q in
     let ss = headers_at o q in
-    let parts : Order → List (List ℕ) = λ order. contents_of o ++ (flat_map (shdr_bytes order) (all_headers ss (names_at o)) ∷ []) in
+    let parts : Order → List (List ℕ) = λ order. contents_of o ++ (flat_map (shdr_bytes order) (all_headers ss (name_table_at o)) ∷ []) in
     subst (λ (places : List ℕ). Fits (map unaligned (parts o.order)) 64 places) (places_are o layout laid)
     (subst (λ (order : Order). Fits (map unaligned (parts order)) 64 (offsets h ss)) (order_read o) (layout_order o q laid.least.fits))
 
@@ -271,7 +271,7 @@ unfolding header_table
 length-header_table p placed =
     let o = p.object in
     let headers = section_headers (name_place (section_names o)) (plain_sections o) p.layout.places in
-    let all = length-table shdr_laws o.order (all_headers headers (names_at o)) in
+    let all = length-table shdr_laws o.order (all_headers headers (name_table_at o)) in
     let same = length-headers (name_place (section_names o)) (plain_sections o) p.layout.places placed.layout.count in
     omega arith
 

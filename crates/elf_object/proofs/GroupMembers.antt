@@ -4,7 +4,7 @@ use Rattle.std.proofs.lemmas.Bool.{cases_lt}
 use Rattle.elf_extent.specs.Least.{IsLowest, lower_of}
 use Rattle.elf_extent.proofs.Public.{IsLowest-lower, IsLowest-same}
 use Rattle.elf_field.specs.Abi.{SHT_GROUP}
-use Rattle.elf_object.specs.FileRules.{IsNamedBefore, wrong_member_before, wrong_member_of}
+use Rattle.elf_object.specs.FileRules.{IsMemberBefore, wrong_group_member_before, wrong_group_member_of}
 use Rattle.elf_object.specs.MemberMarks.{AreMarks}
 use Rattle.elf_object.specs.declared.left_out.LeftOut.{LeftOut}
 use Rattle.elf_table.specs.Sections.{Sections, section}
@@ -14,8 +14,8 @@ below_next : (i h : ℕ) → h < i + 1 → (h < i) ⊎ (h ≡ i)
 below_next i h lt = elim (cases_lt h i) [ inl below ↦ inl below | inr above ↦ inr (omega arith) ]
 
 -- a section that is no group names no member
-pub marks_passed : (f : Sections) (n i : ℕ) (marks : List Bool) → (section f i).sh_type ≢ SHT_GROUP → AreMarks n (IsNamedBefore f i) marks →
-    AreMarks n (IsNamedBefore f (i + 1)) marks
+pub marks_passed : (f : Sections) (n i : ℕ) (marks : List Bool) → (section f i).sh_type ≢ SHT_GROUP → AreMarks n (IsMemberBefore f i) marks →
+    AreMarks n (IsMemberBefore f (i + 1)) marks
 marks_passed f n i marks other are = record {
   long = are.long;
   right = λ m within. (
@@ -29,9 +29,9 @@ marks_passed f n i marks other are = record {
 
 -- nor does it break the rule
 pub wrong_passed : (left : LeftOut) (f : Sections) (i : ℕ) (found : Option ℕ) → (section f i).sh_type ≢ SHT_GROUP →
-    IsLowest (wrong_member_before left f i) found → IsLowest (wrong_member_before left f (i + 1)) found
+    IsLowest (wrong_group_member_before left f i) found → IsLowest (wrong_group_member_before left f (i + 1)) found
 wrong_passed left f i found other =
-    IsLowest-same (wrong_member_before left f i) (wrong_member_before left f (i + 1)) found
+    IsLowest-same (wrong_group_member_before left f i) (wrong_group_member_before left f (i + 1)) found
     (λ x (h, lt, broken). (h, omega arith, broken))
     (λ x (h, lt, broken). elim (below_next i h lt) [
       | inl below ↦ (h, below, broken)
@@ -40,16 +40,16 @@ wrong_passed left f i found other =
 
 -- with one more group, the lower offset of two
 pub wrong_next : (left : LeftOut) (f : Sections) (i : ℕ) (before here : Option ℕ) → (section f i).sh_type ≡ SHT_GROUP →
-    IsLowest (wrong_member_before left f i) before → IsLowest (wrong_member_of left f i) here →
-    IsLowest (wrong_member_before left f (i + 1)) (lower_of before here)
+    IsLowest (wrong_group_member_before left f i) before → IsLowest (wrong_group_member_of left f i) here →
+    IsLowest (wrong_group_member_before left f (i + 1)) (lower_of before here)
 wrong_next left f i before here typed lowest_before lowest_here =
-    IsLowest-same (λ x. wrong_member_before left f i x ⊎ wrong_member_of left f i x) (wrong_member_before left f (i + 1)) (lower_of before here)
+    IsLowest-same (λ x. wrong_group_member_before left f i x ⊎ wrong_group_member_of left f i x) (wrong_group_member_before left f (i + 1)) (lower_of before here)
     (λ x either. elim either [
       | inl (h, lt, broken) ↦ (h, omega arith, broken)
       | inr broken ↦ (i, omega arith, (typed, broken))
     ])
     (λ x (h, lt, broken). elim (below_next i h lt) [
       | inl below ↦ inl (h, below, broken)
-      | inr same ↦ inr (subst (λ (k : ℕ). wrong_member_of left f k x) same broken.1)
+      | inr same ↦ inr (subst (λ (k : ℕ). wrong_group_member_of left f k x) same broken.1)
     ])
-    (IsLowest-lower (wrong_member_before left f i) (wrong_member_of left f i) before here lowest_before lowest_here)
+    (IsLowest-lower (wrong_group_member_before left f i) (wrong_group_member_of left f i) before here lowest_before lowest_here)

@@ -11,7 +11,7 @@ use Rattle.elf_object.specs.Laid.{section_header, section_size}
 use Rattle.elf_object.specs.Object.{BodyValue, bits, ObjectValue, SectionValue, section_at}
 use Rattle.elf_object.specs.PlacedObject.{plain_section}
 use Rattle.elf_object.specs.PlainSections.{body_type, index_of, is_local, own_info, own_section, strings_at}
-use Rattle.elf_object.specs.SectionRules.{IsWrongBits}
+use Rattle.elf_object.specs.SectionRules.{IsWrongBitsType}
 use Rattle.elf_object.proofs.PartSizes.{bits_in_file}
 
 -- a header with a name, a place and a size, and nothing else
@@ -33,11 +33,11 @@ of_section s offset name type size link info = record {
   sh_entsize = s.entsize;
 }
 
-bits_size : (o : ObjectValue) (s : SectionValue) (b : BodyValue) (type : ℕ) (content : List ℕ) → s.body ≡ b → b ≡ bits type content → (IsWrongBits b → ⊥) →
+bits_size : (o : ObjectValue) (s : SectionValue) (b : BodyValue) (type : ℕ) (content : List ℕ) → s.body ≡ b → b ≡ bits type content → (IsWrongBitsType b → ⊥) →
     section_size (own_section o s) ≡ length (own_section o s).content
 bits_size o s b type content is kind right =
     let at = is ∙ kind in
-    let other = bits_in_file type content (subst (λ (c : BodyValue). IsWrongBits c → ⊥) kind right) in
+    let other = bits_in_file type content (subst (λ (c : BodyValue). IsWrongBitsType c → ⊥) kind right) in
     rw (at, ne_eqb type SHT_NOBITS other) refl
 
 bits_fields : (o : ObjectValue) (s : SectionValue) (name_at : List ℕ → ℕ) (offset name type size link info : ℕ) → name ≡ name_at s.name → type ≡ body_type s.body →
@@ -49,7 +49,7 @@ bits_fields o s name_at offset name type size link info named typed sized linked
     ∙ ap (λ (i : ℕ). of_section s offset (name_at s.name) (body_type s.body) (section_size (own_section o s)) (own_section o s).link i) informed
 
 pub bits_header : (o : ObjectValue) (s t : SectionValue) (type : ℕ) (content : List ℕ) (name_at : List ℕ → ℕ) (h : Shdr) (kind link info : ℕ) → t ≡ s → t.body ≡ bits type content →
-    (IsWrongBits t.body → ⊥) → kind ≡ body_type t.body → link ≡ index_of t.link → info ≡ own_info t.info →
+    (IsWrongBitsType t.body → ⊥) → kind ≡ body_type t.body → link ≡ index_of t.link → info ≡ own_info t.info →
     h ≡ begun (name_at s.name) h.sh_offset (length (own_section o s).content) →
     of_section t h.sh_offset h.sh_name kind h.sh_size link info ≡ section_header name_at (own_section o s) h.sh_offset
 bits_header o s t type content name_at h kind link info same body right typed linked informed is =

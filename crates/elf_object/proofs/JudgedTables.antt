@@ -18,8 +18,7 @@ use Rattle.elf_table.specs.SymbolRules.{symbol_table_rules}
 use Rattle.elf_table.specs.TableKind.{kind_of}
 use Rattle.elf_table.specs.TableRules.{rules_of, table_rules}
 use Rattle.elf_table.specs.TableVerdicts.{TablesValue}
-use Rattle.elf_table.proofs.TableKinds.{kind_asked, symbols_kind}
-use Rattle.elf_table.proofs.TableLinks.{none_kept}
+use Rattle.elf_table.proofs.Public.{kind_asked, none_kept, symbols_kind}
 use Rattle.elf_object.proofs.KeptLists.{symbol_table_there}
 
 -- ---- the kind of table in a section with such a body

@@ -13,7 +13,7 @@ use Rattle.elf_object.specs.Denotes.{Denotes, body_denoted, section_denoted}
 use Rattle.elf_object.specs.FileRules.{IsForeignType, file_rules, foreign_section, front_rules, rules_of_bodies, rules_of_body, rules_of_symbols, second_symbol_table, stray_index_table}
 use Rattle.elf_object.specs.Kept.{body_kind, is_at, is_kept, kept, left_out, symbol_indexes, symbol_table}
 use Rattle.elf_object.specs.Object.{ObjectValue, SectionValue}
-use Rattle.elf_object.specs.SectionRules.{IsWrongBits, types_without_bits, wrong_bits_type}
+use Rattle.elf_object.specs.SectionRules.{IsWrongBitsType, types_without_bits, wrong_bits_type}
 use Rattle.elf_object.specs.declared.body_kind.BodyKind.{BodyKind}
 use Rattle.elf_object.specs.declared.body_kind.BodyKind.TheVariants.{Bits, NoBits, Relocs, Group}
 use Rattle.elf_object.specs.declared.left_out.LeftOut.{LeftOut}
@@ -180,22 +180,22 @@ type_of_bits f i clean lt is bits =
     )
 
 body_of_type : (f : Sections) (i : ℕ) (kind : BodyKind) → body_kind (section f i).sh_type ≡ kind → (kind ≡ Bits → Contains types_without_bits (section f i).sh_type → ⊥) →
-    IsWrongBits (body_denoted (left_out f) f i kind) → ⊥
+    IsWrongBitsType (body_denoted (left_out f) f i kind) → ⊥
 body_of_type f i Bits is never broken = never refl broken
 body_of_type f i NoBits is never broken = broken
 body_of_type f i Relocs is never broken = broken
 body_of_type f i Group is never broken = broken
 
 bits_of_section : (f : Sections) (i : ℕ) → FirstIn (file_rules f) None → i < count f → is_kept (left_out f) f i ≡ true →
-    IsWrongBits (section_denoted (left_out f) f i).body → ⊥
+    IsWrongBitsType (section_denoted (left_out f) f i).body → ⊥
 unfolding section_denoted
 bits_of_section f i clean lt is broken =
     body_of_type f i (body_kind (section f i).sh_type) refl (λ bits. type_of_bits f i clean lt (kept_section (left_out f) f i is) bits) broken
 
-pub types_kept : (f : Sections) (o : ObjectValue) → FirstIn (file_rules f) None → Denotes f o → Never (wrong_bits_type o)
-types_kept f o clean denotes x (q, within, broken, here) =
+pub no_wrong_bits_type : (f : Sections) (o : ObjectValue) → FirstIn (file_rules f) None → Denotes f o → Never (wrong_bits_type o)
+no_wrong_bits_type f o clean denotes x (q, within, broken, here) =
     let (i, is) = section_at_position f o q denotes within in
-    bits_of_section f i clean is.there is.is_kept (subst (λ (s : SectionValue). IsWrongBits s.body) is.section broken)
+    bits_of_section f i clean is.there is.is_kept (subst (λ (s : SectionValue). IsWrongBitsType s.body) is.section broken)
 
 -- ---- the rules of the tables that are kept
 

@@ -1,4 +1,4 @@
--- Lemmas of this crate.
+-- `Public` is for the proofs of the crates above, the others are for those of this one.
 pub mod Marks
 pub mod ObjectRuleLemmas
 pub mod FirstSection
@@ -31,6 +31,10 @@ pub mod KeptFront
 pub mod WrittenKept
 pub mod WrittenLengths
 pub mod SoundObject
+pub mod KeepsObjectRules
+pub mod SoundReferences
+pub mod ObjectDecided
+pub mod Public
 pub mod WrittenFields
 pub mod WrittenAccepted
 pub mod WrittenObjects

@@ -2,7 +2,7 @@
 use Rattle.std.proofs.Common.{◌≡◌, ℕ, ◌+◌, ◌<◌, ◌⊎◌, inl, inr, Bool, true, false, List, [], length, get_or, set, sym, subst, ◌∙◌, arith, get_or-set_other, get_or-set_same}
 use Rattle.std.proofs.lemmas.Bool.{cases_eq, cases_lt}
 use Rattle.std.proofs.lemmas.List.{get_or_past, length-set}
-use Rattle.elf_object.specs.GroupRule.{AreMarked, CannotJoin, IsWrongMember, NamesMember}
+use Rattle.elf_object.specs.GroupRule.{AreMarked, CannotJoin, IsWrongMembership, NamesMember}
 use Rattle.elf_object.specs.Object.{ObjectValue, section_at}
 use Rattle.elf_object.specs.Positions.{members_of}
 
@@ -77,7 +77,7 @@ mark_there marks m is = elim (cases_lt m (length marks)) [
 
 -- what the marks forbid is wrong
 pub wrong_member_found : (o : ObjectValue) (i : ℕ) (members : List ℕ) (j : ℕ) (marks : List Bool) → AreMarked o i members j marks →
-    CannotJoin o i marks (get_or members j 0) → IsWrongMember o i members j
+    CannotJoin o i marks (get_or members j 0) → IsWrongMembership o i members j
 wrong_member_found o i members j marks are (inl low) = inl low
 wrong_member_found o i members j marks are (inr (inl marked)) =
     inr (inl ((are.right (get_or members j 0) (mark_there marks (get_or members j 0) marked)).0 marked))
@@ -85,7 +85,7 @@ wrong_member_found o i members j marks are (inr (inr other)) = inr (inr other)
 
 -- and what they don't forbid isn't
 pub member_passes : (o : ObjectValue) (i : ℕ) (members : List ℕ) (j : ℕ) (marks : List Bool) → AreMarked o i members j marks →
-    get_or members j 0 < length marks → (CannotJoin o i marks (get_or members j 0) → ⊥) → IsWrongMember o i members j → ⊥
+    get_or members j 0 < length marks → (CannotJoin o i marks (get_or members j 0) → ⊥) → IsWrongMembership o i members j → ⊥
 member_passes o i members j marks are there passes (inl low) = passes (inl low)
 member_passes o i members j marks are there passes (inr (inl named)) = passes (inr (inl ((are.right (get_or members j 0) there).1 named)))
 member_passes o i members j marks are there passes (inr (inr other)) = passes (inr (inr other))

@@ -8,7 +8,7 @@ use Rattle.elf_object.specs.declared.section.Section.{Section}
 use Rattle.elf_object.specs.declared.symbol.Symbol.{Symbol}
 use Rattle.elf_object.specs.Object.{ObjectValue, SectionValue}
 use Rattle.elf_object.specs.ObjectView.{section_value, symbol_value}
-use Rattle.elf_object.specs.PlainSections.{PlainSection, has_index_table, index_table, is_far, own_section, section_names, sections_before_names, strings, symbol_names, symbol_table}
+use Rattle.elf_object.specs.PlainSections.{PlainSection, has_index_table, index_table_section, is_far, own_section, section_names, sections_before_names, strings, symbol_names, symbol_table_section}
 
 abbrev pub now_of : Bor (List ℕ) → List ℕ
 now_of name = name.now
@@ -37,7 +37,7 @@ last_names true = codes ".symtab" ∷ codes ".symtab_shndx" ∷ codes ".strtab" 
 last_names false = codes ".symtab" ∷ codes ".strtab" ∷ codes ".shstrtab" ∷ []
 
 names_behind : (o : ObjectValue) (far : Bool) →
-    map (λ (s : PlainSection). s.name) (symbol_table o ∷ ((if far then index_table o ∷ [] else []) ++ (strings (codes ".strtab") (symbol_names o) ∷ [])))
+    map (λ (s : PlainSection). s.name) (symbol_table_section o ∷ ((if far then index_table_section o ∷ [] else []) ++ (strings (codes ".strtab") (symbol_names o) ∷ [])))
     ++ (codes ".shstrtab" ∷ []) ≡ last_names far
 names_behind o true = refl
 names_behind o false = refl
@@ -45,7 +45,7 @@ names_behind o false = refl
 section_names_are : (o : ObjectValue) (far : Bool) → has_index_table o ≡ far → section_names o ≡ map (λ s. s.name) o.sections ++ last_names far
 unfolding section_names sections_before_names
 section_names_are o far is =
-    let behind = symbol_table o ∷ ((if has_index_table o then index_table o ∷ [] else []) ++ (strings (codes ".strtab") (symbol_names o) ∷ [])) in
+    let behind = symbol_table_section o ∷ ((if has_index_table o then index_table_section o ∷ [] else []) ++ (strings (codes ".strtab") (symbol_names o) ∷ [])) in
     ap (λ (names : List (List ℕ)). names ++ (codes ".shstrtab" ∷ [])) (map-append (λ (s : PlainSection). s.name) (map (own_section o) o.sections) behind)
     ∙ append_assoc (map (λ s. s.name) (map (own_section o) o.sections)) (map (λ (s : PlainSection). s.name) behind) (codes ".shstrtab" ∷ [])
     ∙ ap₂ (λ (front rest : List (List ℕ)). front ++ rest) (own_names o o.sections) (names_behind o (has_index_table o) ∙ ap last_names is)

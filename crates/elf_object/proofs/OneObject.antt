@@ -1,8 +1,11 @@
--- A file denotes one object only.
-use Rattle.std.proofs.Common.{◌≡◌, ℕ, List, ap, sym, ◌∙◌}
+-- A file denotes one object.
+use Rattle.std.proofs.Common.{◌≡◌, ℕ, List, map, ap, refl, sym, ◌∙◌}
+use Rattle.std.specs.Prelude.{slice_index}
+use Rattle.elf_field.specs.Abi.{EI_ABIVERSION, EI_OSABI}
 use Rattle.elf_field.specs.declared.order.Order.{Order}
-use Rattle.elf_table.specs.Sections.{Sections}
-use Rattle.elf_object.specs.Denotes.{Denotes}
+use Rattle.elf_table.specs.Sections.{Sections, order}
+use Rattle.elf_object.specs.Denotes.{Denotes, section_denoted, symbols_denoted}
+use Rattle.elf_object.specs.Kept.{kept, left_out, symbol_table}
 use Rattle.elf_object.specs.Object.{ObjectValue, SectionValue, SymbolValue}
 
 -- an object of these fields
@@ -19,3 +22,11 @@ one_object f o p one other =
     ap (λ (x : ℕ). made p.order p.osabi p.abi p.machine x o.sections o.symbols) (one.flags ∙ sym other.flags) ∙
     ap (λ (x : List SectionValue). made p.order p.osabi p.abi p.machine p.flags x o.symbols) (one.sections ∙ sym other.sections) ∙
     ap (λ (x : List SymbolValue). made p.order p.osabi p.abi p.machine p.flags p.sections x) (one.symbols ∙ sym other.symbols)
+
+-- it is made of what the file's parts denote
+pub some_object : (f : Sections) → (o : ObjectValue) × Denotes f o
+some_object f = (
+  made (order f) (slice_index f.header.e_ident EI_OSABI) (slice_index f.header.e_ident EI_ABIVERSION) f.header.e_machine f.header.e_flags
+      (map (section_denoted (left_out f) f) (kept (left_out f) f)) (symbols_denoted (left_out f) f (symbol_table f)),
+  record { order = refl; osabi = refl; abi = refl; machine = refl; flags = refl; sections = refl; symbols = refl },
+)

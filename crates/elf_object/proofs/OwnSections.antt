@@ -12,7 +12,7 @@ use Rattle.elf_object.specs.PlainSections.{index_of}
 use Rattle.elf_object.specs.Positions.{IsPast, info_position}
 use Rattle.elf_object.specs.SectionRules.{HasWrongReference}
 use Rattle.elf_object.proofs.KeptPositions.{near_index, position_kept}
-use Rattle.elf_object.proofs.PartSizes.{sound_bits}
+use Rattle.elf_object.proofs.SoundObject.{no_wrong_bits_type}
 use Rattle.elf_object.proofs.PlacedSections.{own_at}
 use Rattle.elf_object.proofs.PlainSections.{own_below}
 use Rattle.elf_object.proofs.ShortLayout.{few_sections, few_symbols, short_content}
@@ -53,7 +53,7 @@ short_numbers p i placed lt =
     let symbols = few_symbols o p.layout placed.layout in
     let right = position_kept o placed.rules i lt in
     record {
-      right = sound_bits o placed.rules i lt;
+      right = no_wrong_bits_type o placed.rules i lt;
       link = near_index s.link (length o.sections) (omega arith) (λ past. right (inl past));
       info = near_index (info_position s.info) (length o.sections) (omega arith) (λ past. right (inr (inl past)));
       indexes = short_indexes o s.body (omega arith) (omega arith) (λ past. right (inr (inr past)));

@@ -12,25 +12,19 @@ use Rattle.elf_field.specs.RelLaws.{rel_laws}
 use Rattle.elf_field.specs.RelaLaws.{rela_laws}
 use Rattle.elf_field.specs.WordLaws.{word_laws}
 use Rattle.elf_field.specs.RecordTableLaws.{length-table}
-use Rattle.elf_rules.proofs.Public.{FirstIn-front}
 use Rattle.elf_object.specs.declared.relocation.Relocation.{Relocation}
 use Rattle.elf_object.specs.declared.section.Section.{Section}
 use Rattle.elf_object.specs.Laid.{content_part}
 use Rattle.elf_object.specs.LayoutParts.{LARGEST, saturated}
 use Rattle.elf_object.specs.Object.{BodyValue, bits, relocs, group, ObjectValue, SectionValue, no_section, section_at}
 use Rattle.elf_object.specs.ObjectView.{section_value}
-use Rattle.elf_object.specs.ObjectRules.{IsObject, object_rules}
 use Rattle.elf_object.specs.PlainSections.{group_words, own_section, rel_entry, rela_entry, relocation_bytes, relocation_type}
 use Rattle.elf_table.specs.Relocations.{relocation_size}
-use Rattle.elf_object.specs.SectionRules.{IsWrongBits, section_rules}
+use Rattle.elf_object.specs.SectionRules.{IsWrongBitsType}
 
 -- ---- bits have no type of another body
 
-pub sound_bits : (o : ObjectValue) → IsObject o → (i : ℕ) → i < length o.sections → IsWrongBits (section_at o i).body → ⊥
-unfolding object_rules section_rules
-sound_bits o sound i lt wrong = (FirstIn-front (section_rules o) _ sound).1.0 i (i, lt, wrong, refl)
-
-pub bits_in_file : (type : ℕ) (content : List ℕ) → (IsWrongBits (bits type content) → ⊥) → type ≢ SHT_NOBITS
+pub bits_in_file : (type : ℕ) (content : List ℕ) → (IsWrongBitsType (bits type content) → ⊥) → type ≢ SHT_NOBITS
 bits_in_file type content right same = right (5, omega arith, sym same)
 
 -- ---- a size that fits
@@ -40,10 +34,10 @@ fits_largest n lt = min-eq_left (omega arith)
 
 -- ---- the part of each kind of body
 
-pub bits_part : (o : ObjectValue) (s : SectionValue) (type : ℕ) (content : List ℕ) (x : ℕ) → s.body ≡ bits type content → (IsWrongBits s.body → ⊥) → x ≡ length content → x < 2 ^ 64 →
+pub bits_part : (o : ObjectValue) (s : SectionValue) (type : ℕ) (content : List ℕ) (x : ℕ) → s.body ≡ bits type content → (IsWrongBitsType s.body → ⊥) → x ≡ length content → x < 2 ^ 64 →
     (x, s.align) ≡ saturated (content_part (own_section o s))
 bits_part o s type content x is right long lt =
-    let other = bits_in_file type content (subst (λ (b : BodyValue). IsWrongBits b → ⊥) is right) in
+    let other = bits_in_file type content (subst (λ (b : BodyValue). IsWrongBitsType b → ⊥) is right) in
     let size : x ≡ min (length content) LARGEST = long ∙ sym (fits_largest (length content) (omega arith)) in
     rw (is, ne_eqb type SHT_NOBITS other) (ap (λ (n : ℕ). let p : ℕ × ℕ = (n, s.align) in p) size)
 

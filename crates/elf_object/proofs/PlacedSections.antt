@@ -22,9 +22,9 @@ symbols_at o position at = elim (either_way o) [
   | inr far ↦ record { there = tt; is = sym (behind_own o true position 0 _ far (omega arith)) }
 ]
 
-pub names_at : (o : ObjectValue) (position : ℕ) → position + 1 ≡ length (plain_sections o) → IsSectionAt o position Names
+pub name_table_at : (o : ObjectValue) (position : ℕ) → position + 1 ≡ length (plain_sections o) → IsSectionAt o position Names
 unfolding last_sections
-names_at o position last = elim (either_way o) [
+name_table_at o position last = elim (either_way o) [
   | inl near ↦ (let count = count_near o near in record { there = tt; is = sym (behind_own o false position 2 _ near (omega arith)) })
   | inr far ↦ (let count = count_far o far in record { there = tt; is = sym (behind_own o true position 3 _ far (omega arith)) })
 ]

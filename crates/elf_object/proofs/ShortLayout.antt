@@ -16,10 +16,10 @@ use Rattle.elf_object.specs.Laid.{content_part, layout_parts}
 use Rattle.elf_object.specs.LayoutView.{IsLayoutOf, LayoutValue}
 use Rattle.elf_object.specs.Object.{ObjectValue}
 use Rattle.elf_object.specs.PlacedObject.{IsSectionAt, plain_section}
-use Rattle.elf_object.specs.PlainSections.{PlainSection, index_table, index_word, names_at, null_symbol, plain_sections, section_names, sections_before_names, symbol_entry, symbol_names, symbol_table}
+use Rattle.elf_object.specs.PlainSections.{PlainSection, index_table_section, index_word, name_table_at, null_symbol, plain_sections, section_names, sections_before_names, symbol_entry, symbol_names, symbol_table_section}
 use Rattle.elf_object.proofs.CanonicalLayout.{length-layout_bytes, length-layout_parts}
 use Rattle.elf_object.proofs.LayoutParts.{end_last}
-use Rattle.elf_object.proofs.PlacedSections.{names_at as names_found, strings_at, symbols_at}
+use Rattle.elf_object.proofs.PlacedSections.{name_table_at as names_found, strings_at, symbols_at}
 use Rattle.elf_object.proofs.PlainSections.{count_far, count_near, either_way, own_below}
 
 -- ---- the sizes of the parts
@@ -75,14 +75,14 @@ short_content o layout k s laid lt at =
     let same = ap (λ (p : PlainSection). length p.content) at.is in
     omega arith
 
-pub length-symbol_table : (o : ObjectValue) → length (symbol_table o).content ≡ 24 * (length o.symbols + 1)
-length-symbol_table o =
+pub length-symbol_table_section : (o : ObjectValue) → length (symbol_table_section o).content ≡ 24 * (length o.symbols + 1)
+length-symbol_table_section o =
     let whole = length-table sym_laws o.order (null_symbol ∷ map (symbol_entry o) o.symbols) in
     let same = length-map o.symbols (symbol_entry o) in
     omega arith
 
-pub length-index_table : (o : ObjectValue) → length (index_table o).content ≡ 4 * (length o.symbols + 1)
-length-index_table o =
+pub length-index_table_section : (o : ObjectValue) → length (index_table_section o).content ≡ 4 * (length o.symbols + 1)
+length-index_table_section o =
     let whole = length-table word_laws o.order (0 ∷ map (λ s. index_word s.place) o.symbols) in
     let same = length-map o.symbols (λ s. index_word s.place) in
     omega arith
@@ -91,7 +91,7 @@ pub few_symbols : (o : ObjectValue) (layout : LayoutValue) → IsLayoutOf o layo
 few_symbols o layout laid =
     let below = own_below o in
     let short = short_content o layout (length o.sections) SymbolTable laid (omega arith) (symbols_at o (length o.sections) refl) in
-    let whole = length-symbol_table o in
+    let whole = length-symbol_table_section o in
     omega arith
 
 -- ---- names
@@ -142,7 +142,7 @@ length-places names places are = ap length are ∙ length-map names (name_place 
 
 -- ---- the indexes of the last sections
 
-pub names_at_is : (o : ObjectValue) → names_at o ≡ length (plain_sections o)
+pub names_at_is : (o : ObjectValue) → name_table_at o ≡ length (plain_sections o)
 names_at_is o = elim (either_way o) [
   | inl near ↦ (let count = count_near o near in rw near (omega arith))
   | inr far ↦ (let count = count_far o far in rw far (omega arith))

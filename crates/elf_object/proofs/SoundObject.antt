@@ -3,11 +3,11 @@ use Rattle.std.proofs.Common.{◌<◌, ℕ, ◌++◌, length, refl}
 use Rattle.std.specs.Prelude.{None}
 use Rattle.elf_rules.specs.Rows.{FirstIn}
 use Rattle.elf_rules.proofs.Public.{FirstIn-behind, FirstIn-front}
-use Rattle.elf_object.specs.GroupRule.{HasWrongMember, group_rules}
+use Rattle.elf_object.specs.GroupRule.{HasWrongMembership, group_rules}
 use Rattle.elf_object.specs.Object.{ObjectValue, section_at, symbol_at}
 use Rattle.elf_object.specs.ObjectRules.{IsObject, object_rules}
 use Rattle.elf_object.specs.Positions.{HasZero, IsPast}
-use Rattle.elf_object.specs.SectionRules.{HasWrongField, HasWrongPosition, IsMisaligned, IsWrongBits, section_rules}
+use Rattle.elf_object.specs.SectionRules.{HasWrongAlignment, HasWrongField, HasWrongPosition, IsWrongBitsType, section_rules}
 use Rattle.elf_object.specs.SymbolRules.{IsMisplacedLocal, place_position, symbol_rules}
 
 module _ (o : ObjectValue) (sound : IsObject o) where
@@ -25,16 +25,16 @@ module _ (o : ObjectValue) (sound : IsObject o) where
   symbols_kept : FirstIn (symbol_rules o) None
   symbols_kept = FirstIn-behind (group_rules o) _ groups_and_symbols
 
-  -- rules 1 to 5
+  -- rules 1 to 5 of objects
   pub no_zero_in_section_name : (p : ℕ) → p < length o.sections → HasZero (section_at o p).name → ⊥
   unfolding section_rules
   no_zero_in_section_name p lt broken = sections_kept.0 p (p, lt, broken, refl)
 
-  pub no_wrong_bits : (p : ℕ) → p < length o.sections → IsWrongBits (section_at o p).body → ⊥
+  pub no_wrong_bits_type : (p : ℕ) → p < length o.sections → IsWrongBitsType (section_at o p).body → ⊥
   unfolding section_rules
-  no_wrong_bits p lt broken = sections_kept.1.0 p (p, lt, broken, refl)
+  no_wrong_bits_type p lt broken = sections_kept.1.0 p (p, lt, broken, refl)
 
-  pub no_wrong_alignment : (p : ℕ) → p < length o.sections → IsMisaligned (section_at o p) → ⊥
+  pub no_wrong_alignment : (p : ℕ) → p < length o.sections → HasWrongAlignment (section_at o p) → ⊥
   unfolding section_rules
   no_wrong_alignment p lt broken = sections_kept.1.1.0 p (p, lt, broken, refl)
 
@@ -46,12 +46,12 @@ module _ (o : ObjectValue) (sound : IsObject o) where
   unfolding section_rules
   no_wrong_field p lt broken = sections_kept.1.1.1.1.0 p (p, lt, broken, refl)
 
-  -- rule 6
-  pub no_wrong_member : (p : ℕ) → p < length o.sections → HasWrongMember o p → ⊥
+  -- rule 6 of objects
+  pub no_wrong_membership : (p : ℕ) → p < length o.sections → HasWrongMembership o p → ⊥
   unfolding group_rules
-  no_wrong_member p lt broken = groups_kept.0 p (p, lt, broken, refl)
+  no_wrong_membership p lt broken = groups_kept.0 p (p, lt, broken, refl)
 
-  -- rules 7 to 9
+  -- rules 7 to 9 of objects
   pub no_zero_in_symbol_name : (k : ℕ) → k < length o.symbols → HasZero (symbol_at o k).name → ⊥
   unfolding symbol_rules
   no_zero_in_symbol_name k lt broken = symbols_kept.0 k (k, lt, broken, refl)

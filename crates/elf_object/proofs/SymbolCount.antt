@@ -10,7 +10,7 @@ use Rattle.elf_table.specs.SymbolRules.{entry, entry_count}
 use Rattle.elf_table.specs.Symbols as table_symbols
 use Rattle.elf_table.specs.Symbols.{symbol_in, symbols_of}
 use Rattle.elf_table.specs.SymbolView.{no_symbol}
-use Rattle.elf_table.proofs.SymbolLists.{length_symbols, symbol_get}
+use Rattle.elf_table.proofs.Public.{length_symbols, symbol_get}
 
 pub length_symbols_of : (f : Sections) (t : ℕ) → length (symbols_of f t) ≡ entry_count (content f t)
 unfolding symbols_of

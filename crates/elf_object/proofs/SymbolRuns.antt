@@ -3,14 +3,14 @@ use Rattle.std.proofs.Common.{◌≡◌, ℕ, Option, None, Some, inl, refl, sym
 use Rattle.elf_extent.specs.Least.{IsLeast, Never}
 use Rattle.elf_rules.specs.Rows.{FirstIn}
 use Rattle.elf_rules.proofs.Public.{FirstIn-later, FirstIn-sooner}
-use Rattle.elf_object.specs.FileRules.{place_rules, symbol_outside, symbol_rules_in}
+use Rattle.elf_object.specs.FileRules.{symbol_outside, symbol_outside_rules, symbol_rules_in}
 use Rattle.elf_object.specs.declared.left_out.LeftOut.{LeftOut}
 use Rattle.elf_table.specs.Sections.{Sections}
 use Rattle.elf_table.specs.SymbolRules.{symbol_table_rules}
 
 -- without a symbol table none is broken
 none_kept : (left : LeftOut) (f : Sections) → FirstIn (symbol_rules_in left f None) None
-unfolding symbol_rules_in place_rules
+unfolding symbol_rules_in symbol_outside_rules
 none_kept left f = ((λ x broken. broken), tt)
 
 pub no_symbols_kept : (left : LeftOut) (f : Sections) (table : Option ℕ) → ((t : ℕ) → table ≡ Some t → ⊥) → FirstIn (symbol_rules_in left f table) None
@@ -35,7 +35,7 @@ symbols_fault left f table t fault is found = on_table left f table t (Some faul
 -- then rule 75
 place_fault : (left : LeftOut) (f : Sections) (t at : ℕ) → FirstIn (symbol_table_rules f t) None → IsLeast (symbol_outside left f t) at →
     FirstIn (symbol_rules_in left f (Some t)) (Some (75, at))
-unfolding symbol_rules_in place_rules
+unfolding symbol_rules_in symbol_outside_rules
 place_fault left f t at clean least = FirstIn-later (symbol_table_rules f t) _ _ clean (inl (refl, least))
 
 pub outside_found : (left : LeftOut) (f : Sections) (table : Option ℕ) (t at : ℕ) → table ≡ Some t →
@@ -44,7 +44,7 @@ outside_found left f table t at is clean least = on_table left f table t (Some (
 
 places_kept : (left : LeftOut) (f : Sections) (t : ℕ) → FirstIn (symbol_table_rules f t) None → Never (symbol_outside left f t) →
     FirstIn (symbol_rules_in left f (Some t)) None
-unfolding symbol_rules_in place_rules
+unfolding symbol_rules_in symbol_outside_rules
 places_kept left f t clean never = FirstIn-later (symbol_table_rules f t) _ _ clean (never, tt)
 
 pub symbols_kept : (left : LeftOut) (f : Sections) (table : Option ℕ) (t : ℕ) → table ≡ Some t → FirstIn (symbol_table_rules f t) None →

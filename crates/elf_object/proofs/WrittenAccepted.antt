@@ -19,7 +19,7 @@ use Rattle.elf_string_table.specs.StringTable.{name_place, string_table}
 use Rattle.elf_string_table.proofs.Public.{holds_names}
 use Rattle.elf_object.specs.Laid.{encoding, identification, section_header}
 use Rattle.elf_object.specs.Object.{ObjectValue, section_at}
-use Rattle.elf_object.specs.PlainSections.{PlainSection, has_index_table, names_at, plain_sections, section_names, strings, strings_at, symbol_table_at}
+use Rattle.elf_object.specs.PlainSections.{PlainSection, has_index_table, name_table_at, plain_sections, section_names, strings, strings_at, symbol_table_at}
 use Rattle.elf_object.specs.WrittenObject.{IsWritten, written_sections}
 use Rattle.elf_object.proofs.AllParts.{last_sections}
 use Rattle.elf_object.proofs.CanonicalLayout.{contents_of, header_at, headers_at, identification_kept, layout_order, length-headers_at}
@@ -74,7 +74,7 @@ module _ (o : ObjectValue) (places : List ℕ) (written : IsWritten o places) wh
         e_phnum = omega arith;
         e_shentsize = omega arith;
         e_shnum = short_count_fits (length (plain_sections o) + 1);
-        e_shstrndx = short_index_fits (names_at o);
+        e_shstrndx = short_index_fits (name_table_at o);
       }
 
   -- ---- names
@@ -170,7 +170,7 @@ module _ (o : ObjectValue) (places : List ℕ) (written : IsWritten o places) wh
 
   -- what holds of each section but that of index 0
   each_header : (P : Shdr → Type 0) → ((p : ℕ) → p < length (plain_sections o) → P (section_header (name_place (section_names o)) (plain_at o p) (get_or places p 0))) →
-      (i : ℕ) → 1 ≤ i → i < length (headers_at o places) + 1 → P (section_of (all_headers (headers_at o places) (names_at o)) i)
+      (i : ℕ) → 1 ≤ i → i < length (headers_at o places) + 1 → P (section_of (all_headers (headers_at o places) (name_table_at o)) i)
   each_header P each zero above below = absurd (omega arith)
   each_header P each (suc p) above below =
       let all = many in
@@ -190,37 +190,37 @@ module _ (o : ObjectValue) (places : List ℕ) (written : IsWritten o places) wh
       let at : strings_at o ≡ length o.sections + 2 = ap (λ (far : Bool). symbol_table_at o + (if far then 2 else 1)) is ∙ omega arith in
       (omega arith, ap (plain_at o) at ∙ plain_last o false is 2)
 
-  names_index : names_at o ≡ suc (strings_at o)
+  names_index : name_table_at o ≡ suc (strings_at o)
   names_index = omega arith
 
-  names_content : get_or ([] ∷ contents_of o) (names_at o) [] ≡ string_table (section_names o)
+  names_content : get_or ([] ∷ contents_of o) (name_table_at o) [] ≡ string_table (section_names o)
   names_content =
       let here = strings_plain (has_index_table o) refl in
       ap (λ (i : ℕ). get_or ([] ∷ contents_of o) i []) names_index
       ∙ get_or-map (λ (s : PlainSection). s.content) (plain_sections o) (strings_at o) no_plain [] here.0
       ∙ ap (λ (s : PlainSection). s.content) here.1
 
-  names_type : (section_of (all_headers (headers_at o places) (names_at o)) (names_at o)).sh_type ≡ 3
+  names_type : (section_of (all_headers (headers_at o places) (name_table_at o)) (name_table_at o)).sh_type ≡ 3
   names_type =
       let here = strings_plain (has_index_table o) refl in
-      ap (λ (i : ℕ). (section_of (all_headers (headers_at o places) (names_at o)) i).sh_type) names_index
+      ap (λ (i : ℕ). (section_of (all_headers (headers_at o places) (name_table_at o)) i).sh_type) names_index
       ∙ ap (λ (s : Shdr). s.sh_type) (header_is (strings_at o) here.0)
       ∙ ap (λ (s : PlainSection). s.type) here.1
 
-  names_kept : KeepsNameRules (length (headers_at o places) + 1) (names_at o) (section_of (all_headers (headers_at o places) (names_at o))) (get_or ([] ∷ contents_of o) (names_at o) [])
+  names_kept : KeepsNameRules (length (headers_at o places) + 1) (name_table_at o) (section_of (all_headers (headers_at o places) (name_table_at o))) (get_or ([] ∷ contents_of o) (name_table_at o) [])
   names_kept =
       let holds = holds_names (section_names o) in
       record {
         name_table_type = λ some. names_type;
         closed = λ some. subst (λ (names : List ℕ). (slice_index names 0 ≡ 0) × (slice_index names (length names - 1) ≡ 0)) (sym names_content) (holds.first, holds.last);
         names_begin = λ i above below typed.
-            each_header (λ (s : Shdr). s.sh_name ≢ 0 → s.sh_name < length (get_or ([] ∷ contents_of o) (names_at o) []))
+            each_header (λ (s : Shdr). s.sh_name ≢ 0 → s.sh_name < length (get_or ([] ∷ contents_of o) (name_table_at o) []))
             (λ p lt named. subst (λ (names : List ℕ). name_place (section_names o) (plain_at o p).name < length names) (sym names_content) (name_within p lt)) i above below;
       }
 
   -- ---- all of it
 
-  pub written_file : IsRelocatableFile (header_at o places) (headers_at o places) (contents_of o) (names_at o)
+  pub written_file : IsRelocatableFile (header_at o places) (headers_at o places) (contents_of o) (name_table_at o)
   written_file =
       let all = many in
       let table = table_short o places written in

@@ -15,7 +15,7 @@ use Rattle.elf_object.specs.Denotes.{body_denoted, relocation_denoted}
 use Rattle.elf_object.specs.Kept.{body_kind, position_of}
 use Rattle.elf_object.specs.Object.{BodyValue, bits, no_bits, relocs, group, ObjectValue, SectionValue, no_relocation}
 use Rattle.elf_object.specs.PlainSections.{body_bytes, body_info, body_space, body_type, relocation_bytes, relocation_type}
-use Rattle.elf_object.specs.SectionRules.{HasWrongField, HasWrongReference, IsWrongBits, types_without_bits}
+use Rattle.elf_object.specs.SectionRules.{HasWrongField, HasWrongReference, IsWrongBitsType, types_without_bits}
 use Rattle.elf_object.specs.Widths.{BodyFits}
 use Rattle.elf_object.proofs.Elements.{none_of_any}
 use Rattle.elf_object.proofs.ReadLists.{map_twice, read_list}
@@ -24,7 +24,7 @@ use Rattle.elf_object.proofs.WrittenReferences.{HasPositions, kind_of_body, posi
 
 -- ---- relocations
 
-zero_addend : (addend : ℤ) → (addend ≢ pos 0 → ⊥) → pos 0 ≡ addend
+pub zero_addend : (addend : ℤ) → (addend ≢ pos 0 → ⊥) → pos 0 ≡ addend
 zero_addend (pos zero) is = refl
 zero_addend (pos (suc n)) is = absurd (is (λ same. (let none : suc n ≡ 0 = cc in omega arith)))
 zero_addend (negsuc n) is = absurd (is (λ same. pos-ne-negsuc 0 n (sym same)))
@@ -80,10 +80,10 @@ members_back o left f named comdat members positions few there =
 -- ---- each body
 
 -- a type that goes with bits is that of no other body
-not_among : (type : ℕ) (bytes : List ℕ) (k other : ℕ) → (IsWrongBits (bits type bytes) → ⊥) → k < 11 → get_or types_without_bits k type ≡ other → type ≢ other
+not_among : (type : ℕ) (bytes : List ℕ) (k other : ℕ) → (IsWrongBitsType (bits type bytes) → ⊥) → k < 11 → get_or types_without_bits k type ≡ other → type ≢ other
 not_among type bytes k other right lt at = λ same. right (k, lt, at ∙ sym same)
 
-pub kind_back : (b : BodyValue) → (IsWrongBits b → ⊥) → body_kind (body_type b) ≡ kind_of_body b
+pub kind_back : (b : BodyValue) → (IsWrongBitsType b → ⊥) → body_kind (body_type b) ≡ kind_of_body b
 kind_back (bits type bytes) right =
     rw (
       ne_eqb type SHT_NOBITS (not_among type bytes 5 SHT_NOBITS right (omega arith) refl),

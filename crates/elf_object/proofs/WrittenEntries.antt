@@ -30,7 +30,7 @@ use Rattle.elf_object.specs.declared.symbol.Place.{Place}
 use Rattle.elf_object.specs.declared.symbol.Place.TheVariants.{Undef, Abs, Common, In}
 use Rattle.elf_object.specs.Object.{ObjectValue, SymbolValue, no_relocation, no_symbol, symbol_at}
 use Rattle.elf_object.specs.ObjectRules.{IsObject}
-use Rattle.elf_object.specs.PlainSections.{group_words, index_of, index_table, index_word, null_symbol, rel_entry, rela_entry, relocation_bytes, relocation_info, shndx, symbol_entry, symbol_names, symbol_table}
+use Rattle.elf_object.specs.PlainSections.{group_words, index_of, index_table_section, index_word, null_symbol, rel_entry, rela_entry, relocation_bytes, relocation_info, shndx, symbol_entry, symbol_names, symbol_table_section}
 use Rattle.elf_object.specs.Positions.{IsPast}
 use Rattle.elf_object.specs.SymbolRules.{place_position}
 use Rattle.elf_object.specs.Widths.{ObjectFits, RelocationFits, SymbolFits}
@@ -97,27 +97,27 @@ module _ (o : ObjectValue) (widths : ObjectFits o) (strings_short : length (stri
 
   -- entry j, with the null symbol as entry 0
   entry_read : (j : ℕ) → j < length o.symbols + 1 →
-      entry o.order (symbol_table o).content j ≡ get_or (null_symbol ∷ map (symbol_entry o) o.symbols) j null_symbol
+      entry o.order (symbol_table_section o).content j ≡ get_or (null_symbol ∷ map (symbol_entry o) o.symbols) j null_symbol
   unfolding entry
   entry_read j lt =
       let many = length-map o.symbols (symbol_entry o) in
       let all = all_of_map IsSym (symbol_entry o) o.symbols no_symbol null_symbol symbol_fits in
       record_at sym_laws o.order (null_symbol ∷ map (symbol_entry o) o.symbols) j null_symbol (null_fits, all) (omega arith)
 
-  pub null_entry : entry o.order (symbol_table o).content 0 ≡ null_symbol
+  pub null_entry : entry o.order (symbol_table_section o).content 0 ≡ null_symbol
   null_entry = entry_read 0 (omega arith)
 
-  pub symbol_entry_read : (k : ℕ) → k < length o.symbols → entry o.order (symbol_table o).content (suc k) ≡ symbol_entry o (symbol_at o k)
+  pub symbol_entry_read : (k : ℕ) → k < length o.symbols → entry o.order (symbol_table_section o).content (suc k) ≡ symbol_entry o (symbol_at o k)
   symbol_entry_read k lt = entry_read (suc k) (omega arith) ∙ get_or-map (symbol_entry o) o.symbols k no_symbol null_symbol lt
 
-pub length-symbol_table : (o : ObjectValue) → length (symbol_table o).content ≡ 24 * (length o.symbols + 1)
-length-symbol_table o =
+pub length-symbol_table_section : (o : ObjectValue) → length (symbol_table_section o).content ≡ 24 * (length o.symbols + 1)
+length-symbol_table_section o =
     let long = length-table sym_laws o.order (null_symbol ∷ map (symbol_entry o) o.symbols) in
     let many = length-map o.symbols (symbol_entry o) in
     omega arith
 
-pub symbol_entry_count : (o : ObjectValue) → entry_count (symbol_table o).content ≡ length o.symbols + 1
-symbol_entry_count o = let long = length-symbol_table o in omega arith
+pub symbol_entry_count : (o : ObjectValue) → entry_count (symbol_table_section o).content ≡ length o.symbols + 1
+symbol_entry_count o = let long = length-symbol_table_section o in omega arith
 
 -- ---- its index table
 
@@ -126,7 +126,7 @@ module _ (o : ObjectValue) (sound : IsObject o) (few : length o.sections < 2 ^ 3
   word_fits k lt = index_word_fits (length o.sections) (symbol_at o k).place few (no_wrong_place o sound k lt)
 
   word_read : (j : ℕ) → j < length o.symbols + 1 →
-      word o.order (index_table o).content j ≡ get_or (0 ∷ map (λ s. index_word s.place) o.symbols) j 0
+      word o.order (index_table_section o).content j ≡ get_or (0 ∷ map (λ s. index_word s.place) o.symbols) j 0
   unfolding word
   word_read j lt =
       let of_symbol = λ (s : SymbolValue). index_word s.place in
@@ -134,14 +134,14 @@ module _ (o : ObjectValue) (sound : IsObject o) (few : length o.sections < 2 ^ 3
       let all = all_of_map IsWord of_symbol o.symbols no_symbol 0 word_fits in
       record_at word_laws o.order (0 ∷ map of_symbol o.symbols) j 0 (omega arith, all) (omega arith)
 
-  pub null_word : word o.order (index_table o).content 0 ≡ 0
+  pub null_word : word o.order (index_table_section o).content 0 ≡ 0
   null_word = word_read 0 (omega arith)
 
-  pub symbol_word : (k : ℕ) → k < length o.symbols → word o.order (index_table o).content (suc k) ≡ index_word (symbol_at o k).place
+  pub symbol_word : (k : ℕ) → k < length o.symbols → word o.order (index_table_section o).content (suc k) ≡ index_word (symbol_at o k).place
   symbol_word k lt = word_read (suc k) (omega arith) ∙ get_or-map (λ (s : SymbolValue). index_word s.place) o.symbols k no_symbol 0 lt
 
-pub length-index_table : (o : ObjectValue) → length (index_table o).content ≡ 4 * (length o.symbols + 1)
-length-index_table o =
+pub length-index_table_section : (o : ObjectValue) → length (index_table_section o).content ≡ 4 * (length o.symbols + 1)
+length-index_table_section o =
     let long = length-table word_laws o.order (0 ∷ map (λ s. index_word s.place) o.symbols) in
     let many = length-map o.symbols (λ s. index_word s.place) in
     omega arith

@@ -20,15 +20,15 @@ use Rattle.elf_object.specs.declared.section.Info.{Info}
 use Rattle.elf_object.specs.declared.section.Info.TheVariants.{Number, Section}
 use Rattle.elf_object.specs.Laid.{section_size}
 use Rattle.elf_object.specs.Object.{BodyValue, bits, no_bits, relocs, group, ObjectValue, SectionValue, SymbolValue, no_section, section_at}
-use Rattle.elf_object.specs.PlainSections.{PlainSection, body_bytes, body_info, body_link, body_space, body_type, group_words, has_index_table, index_of, index_word, is_local, null_symbol, own_info, index_table, own_section, plain_sections, rel_entry, rela_entry, relocation_bytes, section_names, sections_before_names, strings, symbol_entry, symbol_names, symbol_table}
+use Rattle.elf_object.specs.PlainSections.{PlainSection, body_bytes, body_info, body_link, body_space, body_type, group_words, has_index_table, index_of, index_table_section, index_word, is_local, null_symbol, own_info, own_section, plain_sections, rel_entry, rela_entry, relocation_bytes, section_names, sections_before_names, strings, symbol_entry, symbol_names, symbol_table_section}
 use Rattle.elf_object.specs.Widths.{BodyFits, InfoFits, SectionFits, SymbolFits}
 use Rattle.elf_object.specs.Positions.{IsPast, info_position}
-use Rattle.elf_object.specs.SectionRules.{HasWrongReference, IsWrongBits}
+use Rattle.elf_object.specs.SectionRules.{HasWrongReference, IsWrongBitsType}
 use Rattle.elf_object.specs.WrittenObject.{IsWritten}
 use Rattle.elf_rules.proofs.Public.{above}
 use Rattle.elf_object.proofs.Elements.{all_of_each, each_of_all}
 use Rattle.elf_object.proofs.PlainSections.{length-plain, no_plain, plain_at, plain_last, plain_own}
-use Rattle.elf_object.proofs.SoundObject.{no_wrong_bits, no_wrong_position}
+use Rattle.elf_object.proofs.SoundObject.{no_wrong_bits_type, no_wrong_position}
 use Rattle.elf_object.proofs.WrittenLengths.{own_short, symbols_short}
 use Rattle.elf_object.proofs.AllParts.{last_sections}
 
@@ -36,8 +36,8 @@ use Rattle.elf_object.proofs.AllParts.{last_sections}
 
 pub record EachKind (o : ObjectValue) (P : PlainSection → Type 0) : Type 0 where
   pub own : (p : ℕ) → p < length o.sections → P (own_section o (section_at o p))
-  pub symbols : P (symbol_table o)
-  pub indexes : has_index_table o ≡ true → P (index_table o)
+  pub symbols : P (symbol_table_section o)
+  pub indexes : has_index_table o ≡ true → P (index_table_section o)
   pub symbol_strings : P (strings (codes ".strtab") (symbol_names o))
   pub section_strings : P (strings (codes ".shstrtab") (section_names o))
 
@@ -174,7 +174,7 @@ own_with o s b = record {
 -- what the rules and widths say of the body
 record IsFitBody (o : ObjectValue) (s : SectionValue) (b : BodyValue) : Type 0 where
   fits : BodyFits b
-  bits : IsWrongBits b → ⊥
+  bits : IsWrongBitsType b → ⊥
   link : IsPast (length o.sections) s.link → ⊥
   info : IsPast (length o.sections) (info_position s.info) → ⊥
   reference : HasWrongReference o b → ⊥
@@ -272,7 +272,7 @@ plain_fits o places written =
           let position = no_wrong_position o written.object p lt in
           own_fits o s s.body few (omega arith) fits (record {
             fits = fits.body;
-            bits = no_wrong_bits o written.object p lt;
+            bits = no_wrong_bits_type o written.object p lt;
             link = λ past. position (inl past);
             info = λ past. position (inr (inl past));
             reference = λ wrong. position (inr (inr wrong));

@@ -7,7 +7,7 @@ use Rattle.elf_string_table.specs.StringTable.{name_place}
 use Rattle.elf_table.specs.Sections.{Sections, content, count, section}
 use Rattle.elf_object.specs.Laid.{section_header, section_size}
 use Rattle.elf_object.specs.Object.{ObjectValue, section_at}
-use Rattle.elf_object.specs.PlainSections.{PlainSection, has_index_table, index_table, own_section, section_names, strings, strings_at, symbol_names, symbol_table, symbol_table_at}
+use Rattle.elf_object.specs.PlainSections.{PlainSection, has_index_table, index_table_section, own_section, section_names, strings, strings_at, symbol_names, symbol_table_at, symbol_table_section}
 use Rattle.elf_object.specs.WrittenObject.{IsWritten, written_sections}
 use Rattle.elf_object.proofs.AllParts.{last_sections}
 use Rattle.elf_object.proofs.PlainSections.{last_count, length-plain, no_plain, plain_last}
@@ -69,15 +69,15 @@ last_here o places s i written far is k lt same at =
     subst (λ (j : ℕ). IsSectionAt (written_sections o places) j s) at
     (subst (IsSectionAt (written_sections o places) (symbol_table_at o + k)) same (last_at o places written far is k lt))
 
-first_of_last : (o : ObjectValue) (far : Bool) → get_or (last_sections o far) 0 no_plain ≡ symbol_table o
+first_of_last : (o : ObjectValue) (far : Bool) → get_or (last_sections o far) 0 no_plain ≡ symbol_table_section o
 unfolding last_sections
 first_of_last o true = refl
 first_of_last o false = refl
 
-pub symbols_at : (o : ObjectValue) (places : List ℕ) → IsWritten o places → IsSectionAt (written_sections o places) (symbol_table_at o) (symbol_table o)
+pub symbols_at : (o : ObjectValue) (places : List ℕ) → IsWritten o places → IsSectionAt (written_sections o places) (symbol_table_at o) (symbol_table_section o)
 symbols_at o places written =
     let more = last_some (has_index_table o) in
-    last_here o places (symbol_table o) (symbol_table_at o) written (has_index_table o) refl 0 (omega arith) (first_of_last o (has_index_table o)) (omega arith)
+    last_here o places (symbol_table_section o) (symbol_table_at o) written (has_index_table o) refl 0 (omega arith) (first_of_last o (has_index_table o)) (omega arith)
 
 abbrev strings_place : Bool → ℕ
 strings_place far = if far then 2 else 1
@@ -97,14 +97,14 @@ symbol_strings_at o places written =
     let far = has_index_table o in
     last_here o places (strings (codes ".strtab") (symbol_names o)) (strings_at o) written far refl (strings_place far) (strings_some far) (strings_of_last o far) refl
 
-second_of_last : (o : ObjectValue) → get_or (last_sections o true) 1 no_plain ≡ index_table o
+second_of_last : (o : ObjectValue) → get_or (last_sections o true) 1 no_plain ≡ index_table_section o
 unfolding last_sections
 second_of_last o = refl
 
 pub indexes_at : (o : ObjectValue) (places : List ℕ) → IsWritten o places → has_index_table o ≡ true →
-    IsSectionAt (written_sections o places) (symbol_table_at o + 1) (index_table o)
+    IsSectionAt (written_sections o places) (symbol_table_at o + 1) (index_table_section o)
 indexes_at o places written is =
-    last_here o places (index_table o) (symbol_table_at o + 1) written true is 1 (omega arith) (second_of_last o) refl
+    last_here o places (index_table_section o) (symbol_table_at o + 1) written true is 1 (omega arith) (second_of_last o) refl
 
 -- ---- all of them
 

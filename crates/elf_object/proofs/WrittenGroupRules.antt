@@ -16,13 +16,13 @@ use Rattle.elf_table.specs.Groups.{group_flags, member, member_count}
 use Rattle.elf_table.specs.OwnRules.{own_rules}
 use Rattle.elf_table.specs.Sections.{content, order, section}
 use Rattle.elf_table.specs.SymbolRules.{entry_count, symbol_table_rules}
-use Rattle.elf_object.specs.GroupRule.{IsWrongMember}
+use Rattle.elf_object.specs.GroupRule.{IsWrongMembership}
 use Rattle.elf_object.specs.Object.{BodyValue, group, ObjectValue, SectionValue, section_at}
 use Rattle.elf_object.specs.PlainSections.{body_bytes, body_info, body_link, body_space, body_type, group_words, own_section, symbol_table_at}
 use Rattle.elf_object.specs.Positions.{members_of}
 use Rattle.elf_object.specs.SectionRules.{HasWrongField, HasWrongReference}
 use Rattle.elf_object.specs.WrittenObject.{IsWritten, written_sections}
-use Rattle.elf_object.proofs.SoundObject.{no_wrong_field, no_wrong_member, no_wrong_position}
+use Rattle.elf_object.proofs.SoundObject.{no_wrong_field, no_wrong_membership, no_wrong_position}
 use Rattle.elf_object.proofs.WrittenEntries.{flags_word, group_flags_read, length-group_words, member_below, member_count_is, member_read, symbol_entry_count}
 use Rattle.elf_object.proofs.WrittenFile.{IsSectionAt, own_at, symbols_at}
 use Rattle.elf_object.proofs.WrittenLengths.{own_short}
@@ -35,7 +35,7 @@ use Rattle.elf_object.proofs.WrittenSymbolRules.{symbol_rules_kept}
 group_entsize : (s : SectionValue) (comdat : Bool) (signature : ℕ) (members : List ℕ) → (HasWrongField s (group comdat signature members) → ⊥) → s.entsize ≡ WORD_SIZE
 group_entsize s comdat signature members right = elim (cases_eq s.entsize WORD_SIZE) [ inl same ↦ same | inr other ↦ absurd (right (inr other)) ]
 
--- rule 4
+-- rule 4 of objects
 signature_below : (o : ObjectValue) (comdat : Bool) (signature : ℕ) (members : List ℕ) → (HasWrongReference o (group comdat signature members) → ⊥) → signature < length o.symbols
 signature_below o comdat signature members right = elim (cases_lt signature (length o.symbols)) [ inl below ↦ below | inr past ↦ absurd (right (inl past)) ]
 
@@ -70,10 +70,10 @@ module _ (o : ObjectValue) (places : List ℕ) (written : IsWritten o places) (p
   references_right = subst (λ (b : BodyValue). HasWrongReference o b → ⊥) is (λ wrong. no_wrong_position o written.object p below (inr (inr wrong)))
 
   -- rule 6 of objects
-  pub members_right : (j : ℕ) → j < length members → IsWrongMember o p members j → ⊥
+  pub members_right : (j : ℕ) → j < length members → IsWrongMembership o p members j → ⊥
   members_right j lt wrong =
-      let right = no_wrong_member o written.object p below in
-      subst (λ (b : BodyValue). ((j : ℕ) × (j < length (members_of b)) × IsWrongMember o p (members_of b) j) → ⊥) is right (j, lt, wrong)
+      let right = no_wrong_membership o written.object p below in
+      subst (λ (b : BodyValue). ((j : ℕ) × (j < length (members_of b)) × IsWrongMembership o p (members_of b) j) → ⊥) is right (j, lt, wrong)
 
   members_there : Any (λ member. length o.sections ≤ member) members → ⊥
   members_there past = references_right (inr past)
@@ -168,8 +168,8 @@ module _ (o : ObjectValue) (places : List ℕ) (written : IsWritten o places) (p
       let first = group_member k (omega arith) in
       members_right j lt (inr (inl (inl (k, before, (let equal : get_or members k 0 ≡ get_or members j 0 = omega arith in equal)))))
 
-  no_wrong_group_member : Never (wrong_member (written_sections o places) (suc p))
-  no_wrong_group_member x (j, lt, wrong, here) =
+  no_wrong_member : Never (wrong_member (written_sections o places) (suc p))
+  no_wrong_member x (j, lt, wrong, here) =
       let many = group_count in
       let within : j < length members = omega arith in
       elim wrong [
@@ -179,7 +179,7 @@ module _ (o : ObjectValue) (places : List ℕ) (written : IsWritten o places) (p
 
   rules_kept : FirstIn (group_rules (written_sections o places) (suc p)) None
   unfolding group_rules group_member_rules
-  rules_kept = FirstIn-later (group_front_rules (written_sections o places) (suc p)) _ None front_kept (no_wrong_group_member, tt)
+  rules_kept = FirstIn-later (group_front_rules (written_sections o places) (suc p)) _ None front_kept (no_wrong_member, tt)
 
   pub group_rules_kept : FirstIn (group_section_rules (written_sections o places) (suc p)) None
   unfolding group_section_rules

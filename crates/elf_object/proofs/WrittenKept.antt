@@ -16,14 +16,14 @@ use Rattle.elf_object.specs.declared.left_out.LeftOut.{LeftOut}
 use Rattle.elf_object.specs.Kept.{is_at, is_kept, kept, left_out, position_of, symbol_indexes, symbol_strings, symbol_table}
 use Rattle.elf_object.specs.Laid.{section_header}
 use Rattle.elf_object.specs.Object.{BodyValue, bits, no_bits, relocs, group, ObjectValue, section_at}
-use Rattle.elf_object.specs.PlainSections.{PlainSection, body_type, has_index_table, names_at, own_section, section_names, strings_at, symbol_table_at}
-use Rattle.elf_object.specs.SectionRules.{IsWrongBits, types_without_bits}
+use Rattle.elf_object.specs.PlainSections.{PlainSection, body_type, has_index_table, name_table_at, own_section, section_names, strings_at, symbol_table_at}
+use Rattle.elf_object.specs.SectionRules.{IsWrongBitsType, types_without_bits}
 use Rattle.elf_object.specs.WrittenObject.{IsWritten, written_sections}
 use Rattle.elf_object.proofs.AllParts.{last_sections}
 use Rattle.elf_object.proofs.FirstSection.{and_true, first_found, first_missing}
 use Rattle.elf_object.proofs.KeptFront.{filter_own, none_left_out, one_left_out}
 use Rattle.elf_object.proofs.KeptLists.{not_kept_past}
-use Rattle.elf_object.proofs.PartSizes.{sound_bits}
+use Rattle.elf_object.proofs.SoundObject.{no_wrong_bits_type}
 use Rattle.elf_object.proofs.PlainSections.{last_count, length-plain, no_plain, plain_last, plain_own}
 use Rattle.elf_object.proofs.WrittenSections.{written_count, written_first, written_section}
 
@@ -76,7 +76,7 @@ symbols_no_body = record { no_bits_type = (1, omega arith, refl); not_no_bits = 
 pub indexes_no_body : IsNoBody SHT_SYMTAB_SHNDX
 indexes_no_body = record { no_bits_type = (10, omega arith, refl); not_no_bits = λ is. omega arith; not_rela = λ is. omega arith; not_rel = λ is. omega arith; not_group = λ is. omega arith }
 
-other_body : (type : ℕ) (b : BodyValue) → IsNoBody type → (IsWrongBits b → ⊥) → body_type b ≢ type
+other_body : (type : ℕ) (b : BodyValue) → IsNoBody type → (IsWrongBitsType b → ⊥) → body_type b ≢ type
 other_body type (bits own content) bodyless right = λ same. right (subst (Contains types_without_bits) (sym same) bodyless.no_bits_type)
 other_body type (no_bits size) bodyless right = bodyless.not_no_bits
 other_body type (relocs true target entries) bodyless right = bodyless.not_rela
@@ -87,7 +87,7 @@ pub own_type : (o : ObjectValue) (places : List ℕ) (type : ℕ) → IsWritten 
     (section (written_sections o places) (suc p)).sh_type ≢ type
 own_type o places type written bodyless p lt = λ same.
     let is = ap (λ (s : Shdr). s.sh_type) (written_own o places written p lt) in
-    other_body type (section_at o p).body bodyless (sound_bits o written.object p lt) (sym is ∙ same)
+    other_body type (section_at o p).body bodyless (no_wrong_bits_type o written.object p lt) (sym is ∙ same)
 
 -- every own section has a type
 pub own_typed : (o : ObjectValue) (places : List ℕ) → IsWritten o places → (p : ℕ) → p < length o.sections →
@@ -208,9 +208,9 @@ index_read index = elim (cases_lt index SHN_LORESERVE) [
 ]
 
 pub written_name_table : (o : ObjectValue) (places : List ℕ) → IsWritten o places →
-    (let f = written_sections o places in name_table f.header (section f 0) ≡ names_at o)
+    (let f = written_sections o places in name_table f.header (section f 0) ≡ name_table_at o)
 unfolding written_sections
-written_name_table o places written = index_read (names_at o)
+written_name_table o places written = index_read (name_table_at o)
 
 -- the string table of the symbols
 first_link : (o : ObjectValue) (far : Bool) → (get_or (last_sections o far) 0 no_plain).link ≡ strings_at o
@@ -231,7 +231,7 @@ left_of o = record {
   symbol_table = Some (symbol_table_at o);
   strings = Some (strings_at o);
   index_table = if has_index_table o then Some (symbol_table_at o + 1) else None;
-  names = names_at o;
+  names = name_table_at o;
 }
 
 pub written_left_out : (o : ObjectValue) (places : List ℕ) → IsWritten o places → left_out (written_sections o places) ≡ left_of o
@@ -242,7 +242,7 @@ written_left_out o places written =
     ap (λ (s : Option ℕ). let l : LeftOut = record { symbol_table = s; strings = symbol_strings f s; index_table = symbol_indexes f s; names = name_table f.header (section f 0) } in l) table
     ∙ ap₂ (λ (k n : ℕ). let l : LeftOut = record { symbol_table = Some t; strings = Some k; index_table = index_table f t; names = n } in l)
     (written_strings o places written) (written_name_table o places written)
-    ∙ ap (λ (i : Option ℕ). let l : LeftOut = record { symbol_table = Some t; strings = Some (strings_at o); index_table = i; names = names_at o } in l)
+    ∙ ap (λ (i : Option ℕ). let l : LeftOut = record { symbol_table = Some t; strings = Some (strings_at o); index_table = i; names = name_table_at o } in l)
     (written_index_table o places written)
 
 -- ---- what is kept
@@ -265,7 +265,7 @@ own_kept o places written p lt =
     (ne_eqb (symbol_table_at o) (suc p) (λ same. omega arith))
     (ne_eqb (strings_at o) (suc p) (λ same. omega arith))
     (no_index_table_at (has_index_table o) (symbol_table_at o + 1) (suc p) (omega arith))
-    (ne_eqb (names_at o) (suc p) (λ same. omega arith))
+    (ne_eqb (name_table_at o) (suc p) (λ same. omega arith))
 
 first_left_out : (o : ObjectValue) (places : List ℕ) → IsWritten o places → is_kept (left_of o) (written_sections o places) 0 ≡ false
 unfolding is_kept
@@ -289,7 +289,7 @@ last_left_out : (o : ObjectValue) (places : List ℕ) (k : ℕ) → k < last_cou
 unfolding is_kept
 last_left_out o places k lt =
     let i = symbol_table_at o + k in
-    one_left_out ((section (written_sections o places) i).sh_type == SHT_NULL) (i == 0) (symbol_table_at o == i) (strings_at o == i) _ (names_at o == i)
+    one_left_out ((section (written_sections o places) i).sh_type == SHT_NULL) (i == 0) (symbol_table_at o == i) (strings_at o == i) _ (name_table_at o == i)
     (inr (which_last (symbol_table_at o) (has_index_table o) k lt))
 
 behind_left_out : (o : ObjectValue) (places : List ℕ) → IsWritten o places → (i : ℕ) → length o.sections < i → is_kept (left_of o) (written_sections o places) i ≡ false

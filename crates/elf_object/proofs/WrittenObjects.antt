@@ -14,7 +14,7 @@ use Rattle.elf_object.specs.Denotes.{Denotes}
 use Rattle.elf_object.specs.FileRules.{file_rules}
 use Rattle.elf_object.specs.Laid.{Laid, layout_bytes}
 use Rattle.elf_object.specs.Object.{ObjectValue}
-use Rattle.elf_object.specs.PlainSections.{names_at}
+use Rattle.elf_object.specs.PlainSections.{name_table_at}
 use Rattle.elf_object.specs.WrittenObject.{IsWritten, IsWrittenAs, written_sections}
 use Rattle.elf_object.proofs.CanonicalLayout.{contents_of, header_at, headers_at}
 use Rattle.elf_object.proofs.DenotedWidths.{denoted_fits}
@@ -42,20 +42,20 @@ unfolding layout_bytes
 written_is_bytes o b written =
     let places = written.laid.places in
     subst IsBytes (sym written.laid.bytes)
-    (relocatable_is_bytes (header_at o places) (headers_at o places) (contents_of o) (names_at o) (written_file o places (by_places o b written)))
+    (relocatable_is_bytes (header_at o places) (headers_at o places) (contents_of o) (name_table_at o) (written_file o places (by_places o b written)))
 
 pub written_accepted : (o : ObjectValue) (b : List ℕ) → IsWrittenAs o b → IsFault b None
 unfolding layout_bytes
 written_accepted o b written =
     let places = written.laid.places in
     subst (λ (c : List ℕ). IsFault c None) (sym written.laid.bytes)
-    (relocatable_accepted (header_at o places) (headers_at o places) (contents_of o) (names_at o) (written_file o places (by_places o b written)))
+    (relocatable_accepted (header_at o places) (headers_at o places) (contents_of o) (name_table_at o) (written_file o places (by_places o b written)))
 
 pub written_read : (o : ObjectValue) (b : List ℕ) (written : IsWrittenAs o b) (v : ImageValue) → Stands v b → sections_of v ≡ written_sections o written.laid.places
 unfolding layout_bytes written_sections
 written_read o b written v stands =
     let places = written.laid.places in
-    let read = relocatable_read (header_at o places) (headers_at o places) (contents_of o) (names_at o) (written_file o places (by_places o b written)) v
+    let read = relocatable_read (header_at o places) (headers_at o places) (contents_of o) (name_table_at o) (written_file o places (by_places o b written)) v
     (subst (Stands v) written.laid.bytes stands) in
     let header = read.header in
     let headers = read.sections in

@@ -11,7 +11,7 @@ use Rattle.elf_object.specs.WrittenObject.{IsWritten, written_sections}
 use Rattle.elf_object.proofs.DenotedFields.{denoted_with, section_with}
 use Rattle.elf_object.proofs.Elements.{each_of_all}
 use Rattle.elf_object.proofs.ReadLists.{read_list}
-use Rattle.elf_object.proofs.SoundObject.{no_wrong_bits, no_wrong_field, no_wrong_position}
+use Rattle.elf_object.proofs.SoundObject.{no_wrong_bits_type, no_wrong_field, no_wrong_position}
 use Rattle.elf_object.proofs.WrittenBodies.{HoldsBody, IsBody, body_back, kind_back}
 use Rattle.elf_object.proofs.WrittenKept.{written_kept, written_own, written_position}
 use Rattle.elf_object.proofs.WrittenLengths.{own_short, symbols_short}
@@ -71,7 +71,7 @@ module _ (o : ObjectValue) (places : List ℕ) (written : IsWritten o places) wh
       let s = section_at o p in
       let own = written_own o places written p lt in
       let kind : body_kind (section f (suc p)).sh_type ≡ kind_of_body s.body =
-      ap (λ (h : Shdr). body_kind h.sh_type) own ∙ kind_back s.body (no_wrong_bits o written.object p lt) in
+      ap (λ (h : Shdr). body_kind h.sh_type) own ∙ kind_back s.body (no_wrong_bits_type o written.object p lt) in
       let fields = no_wrong_field o written.object p lt in
       let position = no_wrong_position o written.object p lt in
       denoted_with left f (suc p)

@@ -14,10 +14,10 @@ use Rattle.elf_string_table.specs.Names.{HasNoZero}
 use Rattle.elf_string_table.specs.StringTable.{name_place, string_table}
 use Rattle.elf_string_table.proofs.Public.{holds_names}
 use Rattle.elf_table.specs.Sections.{content, order, section}
-use Rattle.elf_object.specs.Denotes.{name_of}
+use Rattle.elf_object.specs.Denotes.{section_name_of}
 use Rattle.elf_object.specs.Laid.{encoding}
 use Rattle.elf_object.specs.Object.{ObjectValue, section_at}
-use Rattle.elf_object.specs.PlainSections.{PlainSection, body_bytes, has_index_table, index_table, names_at, plain_sections, section_names, strings_at, symbol_names, symbol_table, symbol_table_at}
+use Rattle.elf_object.specs.PlainSections.{PlainSection, body_bytes, has_index_table, index_table_section, name_table_at, plain_sections, section_names, strings_at, symbol_names, symbol_table_at, symbol_table_section}
 use Rattle.elf_object.specs.WrittenObject.{IsWritten, written_sections}
 use Rattle.elf_object.proofs.AllParts.{last_sections}
 use Rattle.elf_object.proofs.PlainSections.{last_count, length-plain, no_plain, plain_at, plain_last, plain_own}
@@ -69,18 +69,18 @@ last_content o places far is k lt =
     ap (content (written_sections o places)) next ∙ written_content o places (length o.sections + k) (omega arith)
     ∙ ap (λ (s : PlainSection). s.content) (plain_last o far is k)
 
-pub symbols_content : (o : ObjectValue) (places : List ℕ) → content (written_sections o places) (symbol_table_at o) ≡ (symbol_table o).content
+pub symbols_content : (o : ObjectValue) (places : List ℕ) → content (written_sections o places) (symbol_table_at o) ≡ (symbol_table_section o).content
 unfolding last_sections
 symbols_content o places = ap (content (written_sections o places)) at ∙ by_far (has_index_table o) refl
   where
     at : symbol_table_at o ≡ symbol_table_at o + 0
     at = omega arith
 
-    by_far : (far : Bool) → has_index_table o ≡ far → content (written_sections o places) (symbol_table_at o + 0) ≡ (symbol_table o).content
+    by_far : (far : Bool) → has_index_table o ≡ far → content (written_sections o places) (symbol_table_at o + 0) ≡ (symbol_table_section o).content
     by_far true is = last_content o places true is 0 (omega arith)
     by_far false is = last_content o places false is 0 (omega arith)
 
-pub indexes_content : (o : ObjectValue) (places : List ℕ) → has_index_table o ≡ true → content (written_sections o places) (symbol_table_at o + 1) ≡ (index_table o).content
+pub indexes_content : (o : ObjectValue) (places : List ℕ) → has_index_table o ≡ true → content (written_sections o places) (symbol_table_at o + 1) ≡ (index_table_section o).content
 unfolding last_sections
 indexes_content o places is = last_content o places true is 1 (omega arith)
 
@@ -103,7 +103,7 @@ names_content_at o places false is =
     let next : symbol_table_at o + 1 + 1 ≡ symbol_table_at o + 2 = omega arith in
     ap (content (written_sections o places)) next ∙ last_content o places false is 2 (omega arith)
 
-pub names_content : (o : ObjectValue) (places : List ℕ) → content (written_sections o places) (names_at o) ≡ string_table (section_names o)
+pub names_content : (o : ObjectValue) (places : List ℕ) → content (written_sections o places) (name_table_at o) ≡ string_table (section_names o)
 names_content o places = names_content_at o places (has_index_table o) refl
 
 -- ---- names
@@ -124,7 +124,7 @@ pub written_names : (o : ObjectValue) (places : List ℕ) → IsWritten o places
 written_names o places written =
     let f = written_sections o places in
     ap (λ (k : ℕ). if k == 0 then [] else content f k) (written_name_table o places written)
-    ∙ rw (ne_eqb (names_at o) 0 (λ same. omega arith)) (names_content o places)
+    ∙ rw (ne_eqb (name_table_at o) 0 (λ same. omega arith)) (names_content o places)
 
 own_name : (o : ObjectValue) (p : ℕ) → p < length o.sections → HasNoZero (section_at o p).name →
     string (string_table (section_names o)) (name_place (section_names o) (section_at o p).name) ≡ (section_at o p).name
@@ -135,7 +135,7 @@ own_name o p lt named =
     let same = section_name_at o p (omega arith) ∙ ap (λ (s : PlainSection). s.name) (plain_own o p lt) in
     name_read (section_names o) p (section_at o p).name (omega arith) same named
 
-pub written_name : (o : ObjectValue) (places : List ℕ) → IsWritten o places → (p : ℕ) → p < length o.sections → name_of (written_sections o places) (suc p) ≡ (section_at o p).name
+pub written_name : (o : ObjectValue) (places : List ℕ) → IsWritten o places → (p : ℕ) → p < length o.sections → section_name_of (written_sections o places) (suc p) ≡ (section_at o p).name
 written_name o places written p lt =
     let names = section_names o in
     rw (ne_eqb (section (written_sections o places) (suc p)).sh_type SHT_NULL (own_typed o places written p lt))

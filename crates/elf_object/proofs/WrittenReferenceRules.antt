@@ -13,7 +13,7 @@ use Rattle.elf_table.specs.SymbolParts.{symbol_parts}
 use Rattle.elf_table.specs.SymbolRules.{entry_count, word}
 use Rattle.elf_table.specs.Symbols as table_symbols
 use Rattle.elf_table.specs.Symbols.{place_of, symbol_in, symbols_of}
-use Rattle.elf_table.proofs.SymbolLists.{length_symbols, symbol_get}
+use Rattle.elf_table.proofs.Public.{length_symbols, symbol_get}
 use Rattle.elf_object.specs.declared.body_kind.BodyKind.{BodyKind}
 use Rattle.elf_object.specs.declared.body_kind.BodyKind.TheVariants.{Bits, NoBits, Relocs, Group}
 use Rattle.elf_object.specs.declared.left_out.LeftOut.{LeftOut}
@@ -22,18 +22,18 @@ use Rattle.elf_object.specs.declared.section.Info.{Info}
 use Rattle.elf_object.specs.declared.section.Info.TheVariants.{Number, Section}
 use Rattle.elf_object.specs.declared.symbol.Place.{Place}
 use Rattle.elf_object.specs.declared.symbol.Place.TheVariants.{Undef, Abs, Common, In}
-use Rattle.elf_object.specs.FileRules.{HasWrongInfo, HasWrongLink, IsKeptBits, IsOutside, IsPlain, IsWrongMember, reference_rules, symbol_outside, wrong_group_member, wrong_kept_info, wrong_kept_link, wrong_relocation_target}
+use Rattle.elf_object.specs.FileRules.{HasWrongKeptInfo, HasWrongKeptLink, IsKeptBits, IsPlain, IsSymbolOutside, IsWrongGroupMember, reference_rules, symbol_outside, wrong_group_member, wrong_kept_info, wrong_kept_link, wrong_relocation_target}
 use Rattle.elf_object.specs.GroupRule.{NamesMember}
 use Rattle.elf_object.specs.Kept.{body_kind, is_kept, left_out}
 use Rattle.elf_object.specs.Object.{BodyValue, bits, no_bits, relocs, group, ObjectValue, section_at, symbol_at}
 use Rattle.elf_object.specs.PlainSections.{body_info, body_link, body_type, has_index_table, index_of, index_word, is_far, own_info, shndx, symbol_table_at}
 use Rattle.elf_object.specs.Positions.{HasFlag, IsPast, info_position, is_bits, is_group, members_of}
-use Rattle.elf_object.specs.SectionRules.{HasWrongField, IsAgainstFlag, HasWrongReference, IsWrongBits}
+use Rattle.elf_object.specs.SectionRules.{HasWrongField, IsAgainstFlag, HasWrongReference, IsWrongBitsType}
 use Rattle.elf_object.specs.SymbolRules.{place_position}
 use Rattle.elf_object.specs.WrittenObject.{IsWritten, written_sections}
 use Rattle.elf_object.proofs.AllParts.{last_sections}
 use Rattle.elf_object.proofs.PlainSections.{last_count, no_plain}
-use Rattle.elf_object.proofs.SoundObject.{no_wrong_bits, no_wrong_field, no_wrong_place, no_wrong_position}
+use Rattle.elf_object.proofs.SoundObject.{no_wrong_bits_type, no_wrong_field, no_wrong_place, no_wrong_position}
 use Rattle.elf_object.proofs.WrittenBodies.{kind_back}
 use Rattle.elf_object.proofs.WrittenFile.{by_section, last_at, own_at}
 use Rattle.elf_object.proofs.WrittenGroupRules.{group_count, group_member, group_member_below, members_right}
@@ -63,7 +63,7 @@ section_place index extended some is = elim (cases_lt index SHN_LORESERVE) [
 
 -- a place in one of the first n sections is not outside, where these are kept
 place_inside : (left : LeftOut) (f : Sections) (n : ℕ) (place : Place) (extended : ℕ) → ((p : ℕ) → p < n → is_kept left f (suc p) ≡ true) →
-    (IsPast n (place_position place) → ⊥) → (is_far place ≡ true → extended ≡ index_word place) → IsOutside left f (place_of (shndx place) extended) → ⊥
+    (IsPast n (place_position place) → ⊥) → (is_far place ≡ true → extended ≡ index_word place) → IsSymbolOutside left f (place_of (shndx place) extended) → ⊥
 place_inside left f n Undef extended own there word outside = outside
 place_inside left f n Abs extended own there word outside = outside
 place_inside left f n Common extended own there word outside = outside
@@ -72,31 +72,31 @@ place_inside left f n (In p) extended own there word outside = elim (cases_lt p 
   | inl below ↦ (
       let at = section_place (p + 1) extended (omega arith) (λ above. word (le-leb SHN_LORESERVE (p + 1) above)) in
       let next : suc p ≡ p + 1 = omega arith in
-      let out : is_kept left f (p + 1) ≡ false = subst (IsOutside left f) at outside in
+      let out : is_kept left f (p + 1) ≡ false = subst (IsSymbolOutside left f) at outside in
       true≢false (sym (own p below) ∙ ap (is_kept left f) next ∙ out))
 ]
 
-pub symbols_inside : (o : ObjectValue) (places : List ℕ) → IsWritten o places →
+pub no_symbol_outside : (o : ObjectValue) (places : List ℕ) → IsWritten o places →
     Never (symbol_outside (left_out (written_sections o places)) (written_sections o places) (symbol_table_at o))
 unfolding symbols_of symbol_in
-symbols_inside o places written x (j, lt, outside, here) =
+no_symbol_outside o places written x (j, lt, outside, here) =
     let f = written_sections o places in
     let p = symbol_parts f (symbol_table_at o) in
     let are = written_parts o places written in
     let within : j < entry_count p.table = omega (arith, length_symbols p.order p.table p.names p.words) in
     let got = symbol_get p.order p.table p.names p.words j within in
-    by_entry o places written p are (λ j symbol. IsOutside (left_out f) f (place_of symbol.st_shndx (word p.order p.words j)) → ⊥)
+    by_entry o places written p are (λ j symbol. IsSymbolOutside (left_out f) f (place_of symbol.st_shndx (word p.order p.words j)) → ⊥)
     (λ undefined. undefined)
     (λ k below. place_inside (left_out f) f (length o.sections) (symbol_at o k).place (word p.order p.words (suc k)) (own_is_kept o places written)
     (no_wrong_place o written.object k below) (far_word o places written p are k below))
-    j within (subst (λ (s : table_symbols.SymbolValue). IsOutside (left_out f) f s.place) got outside)
+    j within (subst (λ (s : table_symbols.SymbolValue). IsSymbolOutside (left_out f) f s.place) got outside)
 
 -- ---- bodies by their kinds
 
 pub own_kind : (o : ObjectValue) (places : List ℕ) → IsWritten o places → (p : ℕ) → p < length o.sections →
     body_kind (section (written_sections o places) (suc p)).sh_type ≡ kind_of_body (section_at o p).body
 own_kind o places written p lt =
-    ap (λ (type : ℕ). body_kind type) (own_at o places written p lt).sh_type ∙ kind_back (section_at o p).body (no_wrong_bits o written.object p lt)
+    ap (λ (type : ℕ). body_kind type) (own_at o places written p lt).sh_type ∙ kind_back (section_at o p).body (no_wrong_bits_type o written.object p lt)
 
 is_relocations : (b : BodyValue) → kind_of_body b ≡ Relocs → (rela : Bool) × (target : ℕ) × (entries : List Relocation) × (b ≡ relocs rela target entries)
 is_relocations (bits type bytes) is = cc
@@ -104,7 +104,7 @@ is_relocations (no_bits size) is = cc
 is_relocations (relocs rela target entries) is = (rela, target, entries, refl)
 is_relocations (group comdat signature members) is = cc
 
-is_group_body : (b : BodyValue) → (IsWrongBits b → ⊥) → body_type b ≡ SHT_GROUP → (comdat : Bool) × (signature : ℕ) × (members : List ℕ) × (b ≡ group comdat signature members)
+is_group_body : (b : BodyValue) → (IsWrongBitsType b → ⊥) → body_type b ≡ SHT_GROUP → (comdat : Bool) × (signature : ℕ) × (members : List ℕ) × (b ≡ group comdat signature members)
 is_group_body (bits type bytes) right is = absurd (right (9, omega arith, sym is))
 is_group_body (no_bits size) right is = absurd (omega arith)
 is_group_body (relocs true target entries) right is = absurd (omega arith)
@@ -162,8 +162,8 @@ module _ (o : ObjectValue) (places : List ℕ) (written : IsWritten o places) wh
         ]
       ]
 
-  targets_kept : Never (wrong_relocation_target (left_out (written_sections o places)) (written_sections o places))
-  targets_kept x (i, lt, (typed, wrong), here) =
+  no_wrong_relocation_target : Never (wrong_relocation_target (left_out (written_sections o places)) (written_sections o places))
+  no_wrong_relocation_target x (i, lt, (typed, wrong), here) =
       let f = written_sections o places in
       let (p, below, at, kind) = own_of_kind Relocs (λ same. cc) i lt typed in
       let (rela, target, entries, is) = is_relocations (section_at o p).body kind in
@@ -177,18 +177,18 @@ module _ (o : ObjectValue) (places : List ℕ) (written : IsWritten o places) wh
   group_at i lt typed =
       let (p, below, at, kind) = own_of_kind Group (λ same. cc) i lt (ap (λ (type : ℕ). body_kind type) typed) in
       let own = sym (own_at o places written p below).sh_type ∙ ap (λ (k : ℕ). (section (written_sections o places) k).sh_type) (sym at) ∙ typed in
-      let (comdat, signature, members, is) = is_group_body (section_at o p).body (no_wrong_bits o written.object p below) own in
+      let (comdat, signature, members, is) = is_group_body (section_at o p).body (no_wrong_bits_type o written.object p below) own in
       (p, below, at, comdat, signature, members, is)
 
   -- a member that breaks rule 77 would break rule 6 of objects
   member_kept : (p : ℕ) (below : p < length o.sections) (comdat : Bool) (signature : ℕ) (members : List ℕ) (is : (section_at o p).body ≡ group comdat signature members) (j : ℕ) →
-      j < length members → IsWrongMember (left_out (written_sections o places)) (written_sections o places) (suc p) (suc (get_or members j 0)) → ⊥
+      j < length members → IsWrongGroupMember (left_out (written_sections o places)) (written_sections o places) (suc p) (suc (get_or members j 0)) → ⊥
   member_kept p below comdat signature members is j lt (inl out) =
       true≢false (sym (own_is_kept o places written (get_or members j 0) (group_member_below o places written p below comdat signature members is j lt)) ∙ out)
   member_kept p below comdat signature members is j lt (inr (inl typed)) =
       let q = get_or members j 0 in
       let there = group_member_below o places written p below comdat signature members is j lt in
-      let body = is_group_body (section_at o q).body (no_wrong_bits o written.object q there) (sym (own_at o places written q there).sh_type ∙ typed) in
+      let body = is_group_body (section_at o q).body (no_wrong_bits_type o written.object q there) (sym (own_at o places written q there).sh_type ∙ typed) in
       members_right o places written p below comdat signature members is j lt (inr (inr (inl (ap is_group body.3))))
   member_kept p below comdat signature members is j lt (inr (inr (h, before, (typed, (k, within, named))))) =
       let f = written_sections o places in
@@ -205,16 +205,16 @@ module _ (o : ObjectValue) (places : List ℕ) (written : IsWritten o places) wh
       subst (λ (b : BodyValue). NamesMember (members_of b) (length (members_of b)) q) (sym has) (k, inside, same) in
       members_right o places written p below comdat signature members is j lt (inr (inl (inr (r, omega arith, earlier))))
 
-  groups_kept : Never (wrong_group_member (left_out (written_sections o places)) (written_sections o places))
-  groups_kept x (i, lt, (typed, (j, within, wrong, here))) =
+  no_wrong_group_member : Never (wrong_group_member (left_out (written_sections o places)) (written_sections o places))
+  no_wrong_group_member x (i, lt, (typed, (j, within, wrong, here))) =
       let f = written_sections o places in
       let (p, below, at, comdat, signature, members, is) = group_at i lt typed in
-      let moved : (j < member_count (content f (suc p))) × IsWrongMember (left_out f) f (suc p) (member (order f) (content f (suc p)) j) =
-      subst (λ (k : ℕ). (j < member_count (content f k)) × IsWrongMember (left_out f) f k (member (order f) (content f k) j)) at (within, wrong) in
+      let moved : (j < member_count (content f (suc p))) × IsWrongGroupMember (left_out f) f (suc p) (member (order f) (content f (suc p)) j) =
+      subst (λ (k : ℕ). (j < member_count (content f k)) × IsWrongGroupMember (left_out f) f k (member (order f) (content f k) j)) at (within, wrong) in
       let many = group_count o places written p below comdat signature members is in
       let inside : j < length members = (let lt_j = moved.0 in omega arith) in
       member_kept p below comdat signature members is j inside
-      (subst (IsWrongMember (left_out f) f (suc p)) (group_member o places written p below comdat signature members is j inside) moved.1)
+      (subst (IsWrongGroupMember (left_out f) f (suc p)) (group_member o places written p below comdat signature members is j inside) moved.1)
 
   -- ---- rules 78 and 79
 
@@ -267,28 +267,28 @@ module _ (o : ObjectValue) (places : List ℕ) (written : IsWritten o places) wh
   plain_own p below (kept, kind) =
       plain_body p (section_at o p).body refl below (subst (λ (k : BodyKind). (k ≡ Bits) ⊎ (k ≡ NoBits)) (own_kind o places written p below) kind)
 
-  link_right : (p : ℕ) → p < length o.sections → HasWrongLink (left_out (written_sections o places)) (written_sections o places) (suc p) → ⊥
+  link_right : (p : ℕ) → p < length o.sections → HasWrongKeptLink (left_out (written_sections o places)) (written_sections o places) (suc p) → ⊥
   link_right p below (plain, (some, out)) =
       link_kept _ (section_at o p).link (plain_own p below plain).0 (λ past. no_wrong_position o written.object p below (inl past)) some out
 
-  links_kept : Never (wrong_kept_link (left_out (written_sections o places)) (written_sections o places))
-  links_kept x (i, lt, wrong, here) =
+  no_wrong_kept_link : Never (wrong_kept_link (left_out (written_sections o places)) (written_sections o places))
+  no_wrong_kept_link x (i, lt, wrong, here) =
       let f = written_sections o places in
       let (p, below, at) = own_of_kept o places written i wrong.0.0 in
-      link_right p below (subst (HasWrongLink (left_out f) f) at wrong)
+      link_right p below (subst (HasWrongKeptLink (left_out f) f) at wrong)
 
-  info_right : (p : ℕ) → p < length o.sections → HasWrongInfo (left_out (written_sections o places)) (written_sections o places) (suc p) → ⊥
+  info_right : (p : ℕ) → p < length o.sections → HasWrongKeptInfo (left_out (written_sections o places)) (written_sections o places) (suc p) → ⊥
   info_right p below (plain, (has, out)) =
       let own = plain_own p below plain in
       info_kept _ (section_at o p).flags (section_at o p).info own.1 own.2 (λ past. no_wrong_position o written.object p below (inr (inl past)))
       (subst (λ (flags : ℕ). HasFlag flags SHF_INFO_LINK) (own_at o places written p below).sh_flags has) out
 
-  infos_kept : Never (wrong_kept_info (left_out (written_sections o places)) (written_sections o places))
-  infos_kept x (i, lt, wrong, here) =
+  no_wrong_kept_info : Never (wrong_kept_info (left_out (written_sections o places)) (written_sections o places))
+  no_wrong_kept_info x (i, lt, wrong, here) =
       let f = written_sections o places in
       let (p, below, at) = own_of_kept o places written i wrong.0.0 in
-      info_right p below (subst (HasWrongInfo (left_out f) f) at wrong)
+      info_right p below (subst (HasWrongKeptInfo (left_out f) f) at wrong)
 
   pub references_kept : FirstIn (reference_rules (left_out (written_sections o places)) (written_sections o places)) None
   unfolding reference_rules
-  references_kept = (targets_kept, (groups_kept, (links_kept, (infos_kept, tt))))
+  references_kept = (no_wrong_relocation_target, (no_wrong_group_member, (no_wrong_kept_link, (no_wrong_kept_info, tt))))

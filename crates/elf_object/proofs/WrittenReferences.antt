@@ -42,11 +42,11 @@ symbol_back (Some k) =
 -- ---- a section's link and info
 
 -- what a section has where relocations and groups give them a meaning of their own
-no_link : (link : Option ℕ) → (link ≢ None → ⊥) → None ≡ link
+pub no_link : (link : Option ℕ) → (link ≢ None → ⊥) → None ≡ link
 no_link None is = refl
 no_link (Some p) is = absurd (is (λ same. cc))
 
-no_info : (own : Info) → (own ≢ info.Number 0 → ⊥) → info.Number 0 ≡ own
+pub no_info : (own : Info) → (own ≢ info.Number 0 → ⊥) → info.Number 0 ≡ own
 no_info (info.Number zero) is = refl
 no_info (info.Number (suc n)) is = absurd (is (λ same. (let zero_is : suc n ≡ 0 = cc in omega arith)))
 no_info (info.Section p) is = absurd (is (λ same. cc))

@@ -60,7 +60,7 @@ relocation_entsize s rela target entries right = elim (cases_eq s.entsize (reloc
   | inr other ↦ absurd (right (inr (inl other)))
 ]
 
--- rule 4
+-- rule 4 of objects
 target_below : (o : ObjectValue) (rela : Bool) (target : ℕ) (entries : List Relocation) → (HasWrongReference o (relocs rela target entries) → ⊥) → target < length o.sections
 target_below o rela target entries right = elim (cases_lt target (length o.sections)) [
   | inl below ↦ below

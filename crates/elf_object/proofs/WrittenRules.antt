@@ -15,7 +15,7 @@ use Rattle.elf_object.proofs.SymbolRuns.{symbols_kept}
 use Rattle.elf_object.proofs.WrittenFile.{indexes_at}
 use Rattle.elf_object.proofs.WrittenGroupRules.{group_rules_kept}
 use Rattle.elf_object.proofs.WrittenKept.{written_kept, written_symbol_table}
-use Rattle.elf_object.proofs.WrittenReferenceRules.{own_kind, references_kept, symbols_inside}
+use Rattle.elf_object.proofs.WrittenReferenceRules.{no_symbol_outside, own_kind, references_kept}
 use Rattle.elf_object.proofs.WrittenReferences.{kind_of_body}
 use Rattle.elf_object.proofs.WrittenRelocationRules.{relocation_rules_kept}
 use Rattle.elf_object.proofs.WrittenSymbolRules.{symbol_rules_kept}
@@ -35,8 +35,8 @@ module _ (o : ObjectValue) (places : List ℕ) (written : IsWritten o places) wh
   no_foreign_section : Never (foreign_section (written_sections o places))
   no_foreign_section x (i, lt, foreign, here) = (type_tells o places written i lt).not_foreign foreign
 
-  one_symbol_table : Never (second_symbol_table (written_sections o places))
-  one_symbol_table x (i, lt, (is, (k, before, other)), here) =
+  no_second_symbol_table : Never (second_symbol_table (written_sections o places))
+  no_second_symbol_table x (i, lt, (is, (k, before, other)), here) =
       let second = (type_tells o places written i lt).symbols is in
       let first = (type_tells o places written k (omega arith)).symbols other in
       omega arith
@@ -58,7 +58,7 @@ module _ (o : ObjectValue) (places : List ℕ) (written : IsWritten o places) wh
         | inr (inl (some, here)) ↦ some refl
         | inr (inr none) ↦ none
       ]),
-      (no_foreign_section, (one_symbol_table, (no_stray_index_table, tt))),
+      (no_foreign_section, (no_second_symbol_table, (no_stray_index_table, tt))),
     ),
   )
 
@@ -91,7 +91,7 @@ module _ (o : ObjectValue) (places : List ℕ) (written : IsWritten o places) wh
       let f = written_sections o places in
       let left = left_out f in
       let symbols =
-      symbols_kept left f (symbol_table f) (symbol_table_at o) (written_symbol_table o places written) (symbol_rules_kept o places written) (symbols_inside o places written) in
+      symbols_kept left f (symbol_table f) (symbol_table_at o) (written_symbol_table o places written) (symbol_rules_kept o places written) (no_symbol_outside o places written) in
       FirstIn-later (symbol_rules_in left f (symbol_table f)) _ None symbols
       (FirstIn-later (rules_of_bodies f (kept left f)) (reference_rules left f) None bodies_kept (references_kept o places written))
 

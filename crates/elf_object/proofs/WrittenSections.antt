@@ -8,7 +8,7 @@ use Rattle.elf_string_table.specs.StringTable.{name_place}
 use Rattle.elf_table.specs.Sections.{content, count, section}
 use Rattle.elf_object.specs.Laid.{layout_parts, section_header, section_headers}
 use Rattle.elf_object.specs.Object.{ObjectValue}
-use Rattle.elf_object.specs.PlainSections.{PlainSection, names_at, plain_sections, section_names}
+use Rattle.elf_object.specs.PlainSections.{PlainSection, name_table_at, plain_sections, section_names}
 use Rattle.elf_object.specs.WrittenObject.{IsWritten, written_sections}
 use Rattle.elf_object.proofs.CanonicalLayout.{length-headers_at, length-layout_parts}
 use Rattle.elf_object.proofs.PlainSections.{no_plain, plain_at}
@@ -31,9 +31,9 @@ pub written_count : (o : ObjectValue) (places : List ℕ) → IsWritten o places
 unfolding written_sections
 written_count o places written = let long = length-headers_at o places written.least.fits in omega arith
 
-pub written_first : (o : ObjectValue) (places : List ℕ) → IsWritten o places → section (written_sections o places) 0 ≡ first_header (length (plain_sections o) + 1) (names_at o)
+pub written_first : (o : ObjectValue) (places : List ℕ) → IsWritten o places → section (written_sections o places) 0 ≡ first_header (length (plain_sections o) + 1) (name_table_at o)
 unfolding written_sections
-written_first o places written = ap (λ (n : ℕ). first_header (n + 1) (names_at o)) (length-headers_at o places written.least.fits)
+written_first o places written = ap (λ (n : ℕ). first_header (n + 1) (name_table_at o)) (length-headers_at o places written.least.fits)
 
 pub written_section : (o : ObjectValue) (places : List ℕ) → IsWritten o places → (p : ℕ) → p < length (plain_sections o) →
     section (written_sections o places) (suc p) ≡ section_header (name_place (section_names o)) (plain_at o p) (get_or places p 0)

@@ -6,16 +6,16 @@ use Rattle.elf_extent.specs.Least.{Never}
 use Rattle.elf_rules.specs.Rows.{FirstIn, OfSome}
 use Rattle.elf_rules.proofs.Public.{FirstIn-later}
 use Rattle.elf_table.specs.declared.table_kind.TableKind.TheVariants.{SymbolTable}
-use Rattle.elf_table.specs.IndexTable.{index_table as index_table_in, index_words}
+use Rattle.elf_table.specs.IndexTable.{index_table, index_words}
 use Rattle.elf_table.specs.OwnRules.{own_rules}
 use Rattle.elf_table.specs.Sections.{content, section}
 use Rattle.elf_table.specs.StringRules.{linked_string_rules}
 use Rattle.elf_table.specs.SymbolParts.{symbol_parts}
 use Rattle.elf_table.specs.SymbolRules.{entry_count, entry_rules, index_table_rules, rest_rules, second_index_table, symbol_table_rules, wrong_index_table_size}
 use Rattle.elf_object.specs.Object.{ObjectValue}
-use Rattle.elf_object.specs.PlainSections.{has_index_table, index_table, symbol_table_at}
+use Rattle.elf_object.specs.PlainSections.{has_index_table, index_table_section, symbol_table_at}
 use Rattle.elf_object.specs.WrittenObject.{IsWritten, written_sections}
-use Rattle.elf_object.proofs.WrittenEntries.{length-index_table, length-symbol_table, symbol_entry_count}
+use Rattle.elf_object.proofs.WrittenEntries.{length-index_table_section, length-symbol_table_section, symbol_entry_count}
 use Rattle.elf_object.proofs.WrittenFile.{IsSectionAt, indexes_at, symbol_strings_at, symbols_at}
 use Rattle.elf_object.proofs.WrittenKept.{written_index_table}
 use Rattle.elf_object.proofs.WrittenParts.{written_order}
@@ -29,11 +29,11 @@ which_index true t j is = (refl, (let same : t + 1 ≡ j = cc in same))
 which_index false t j is = cc
 
 -- the index table is the section behind the symbol table
-index_at : (o : ObjectValue) (places : List ℕ) → IsWritten o places → (j : ℕ) → index_table_in (written_sections o places) (symbol_table_at o) ≡ Some j →
-    IsSectionAt (written_sections o places) j (index_table o)
+index_at : (o : ObjectValue) (places : List ℕ) → IsWritten o places → (j : ℕ) → index_table (written_sections o places) (symbol_table_at o) ≡ Some j →
+    IsSectionAt (written_sections o places) j (index_table_section o)
 index_at o places written j is =
     let which = which_index (has_index_table o) (symbol_table_at o) j (sym (written_index_table o places written) ∙ is) in
-    subst (λ (k : ℕ). IsSectionAt (written_sections o places) k (index_table o)) which.1 (indexes_at o places written which.0)
+    subst (λ (k : ℕ). IsSectionAt (written_sections o places) k (index_table_section o)) which.1 (indexes_at o places written which.0)
 
 some_index : (far : Bool) (t : ℕ) → far ≡ true → (if far then Some (t + 1) else None) ≡ None → ⊥
 some_index true t is none = cc
@@ -62,7 +62,7 @@ module _ (o : ObjectValue) (places : List ℕ) (written : IsWritten o places) wh
   whole_entries : (section (written_sections o places) (symbol_table_at o)).sh_size % 24 ≡ 0
   whole_entries =
       let size = (symbols_at o places written).sh_size in
-      let long = length-symbol_table o in
+      let long = length-symbol_table_section o in
       omega arith
 
   -- rules 40 and 42 to 44
@@ -89,29 +89,29 @@ module _ (o : ObjectValue) (places : List ℕ) (written : IsWritten o places) wh
       )
 
   -- rule 49
-  one_index_table : Never (second_index_table (written_sections o places) (symbol_table_at o))
-  one_index_table x (j, lt, (is, (k, below, other)), here) =
+  no_second_index_table : Never (second_index_table (written_sections o places) (symbol_table_at o))
+  no_second_index_table x (j, lt, (is, (k, below, other)), here) =
       let last = ((type_tells o places written j lt).indexes is.0).1 in
       let first = ((type_tells o places written k (omega arith)).indexes other.0).1 in
       omega arith
 
   -- rule 50
-  index_table_sized : (found : Option ℕ) → index_table_in (written_sections o places) (symbol_table_at o) ≡ found →
+  no_wrong_index_table_size : (found : Option ℕ) → index_table (written_sections o places) (symbol_table_at o) ≡ found →
       Never (OfSome found (wrong_index_table_size (written_sections o places) (entry_count (symbol_parts (written_sections o places) (symbol_table_at o)).table)))
-  index_table_sized None is x broken = broken
-  index_table_sized (Some j) is x (inl (wrong, here)) =
+  no_wrong_index_table_size None is x broken = broken
+  no_wrong_index_table_size (Some j) is x (inl (wrong, here)) =
       let at = index_at o places written j is in
       let size = at.sh_size in
-      let long = length-index_table o in
+      let long = length-index_table_section o in
       let many = ap (λ (table : List ℕ). entry_count table) (symbols_at o places written).bytes ∙ symbol_entry_count o in
       wrong (omega arith)
-  index_table_sized (Some j) is x (inr (inl (wrong, here))) = wrong (index_at o places written j is).sh_entsize
-  index_table_sized (Some j) is x (inr (inr broken)) = broken
+  no_wrong_index_table_size (Some j) is x (inr (inl (wrong, here))) = wrong (index_at o places written j is).sh_entsize
+  no_wrong_index_table_size (Some j) is x (inr (inr broken)) = broken
 
-  index_table_kept : FirstIn (index_table_rules (written_sections o places) (symbol_table_at o) (index_table_in (written_sections o places) (symbol_table_at o))
+  index_table_kept : FirstIn (index_table_rules (written_sections o places) (symbol_table_at o) (index_table (written_sections o places) (symbol_table_at o))
       (entry_count (symbol_parts (written_sections o places) (symbol_table_at o)).table)) None
   unfolding index_table_rules
-  index_table_kept = (one_index_table, (index_table_sized _ refl, tt))
+  index_table_kept = (no_second_index_table, (no_wrong_index_table_size _ refl, tt))
 
   rest_kept : FirstIn (rest_rules (written_sections o places) (symbol_table_at o) (symbol_parts (written_sections o places) (symbol_table_at o))) None
   unfolding rest_rules

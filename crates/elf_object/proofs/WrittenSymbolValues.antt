@@ -26,7 +26,7 @@ use Rattle.elf_object.specs.Kept.{left_out, position_of}
 use Rattle.elf_object.specs.Object.{ObjectValue, SymbolValue, no_symbol, symbol_at}
 use Rattle.elf_object.specs.ObjectRules.{IsObject}
 use Rattle.elf_object.specs.PlainSections as plain
-use Rattle.elf_object.specs.PlainSections.{has_index_table, index_word, is_far, shndx, strings_at, symbol_entry, symbol_names, symbol_table_at}
+use Rattle.elf_object.specs.PlainSections.{has_index_table, index_word, is_far, shndx, symbol_entry, symbol_names, symbol_table_at}
 use Rattle.elf_object.specs.Positions.{IsPast}
 use Rattle.elf_object.specs.SymbolRules.{place_position}
 use Rattle.elf_object.specs.WrittenObject.{IsWritten, written_sections}
@@ -107,7 +107,7 @@ module _ (o : ObjectValue) (places : List ℕ) (written : IsWritten o places) wh
   words : List ℕ
   words = index_words (written_sections o places) (index_table (written_sections o places) (symbol_table_at o))
 
-  words_are : has_index_table o ≡ true → words ≡ (plain.index_table o).content
+  words_are : has_index_table o ≡ true → words ≡ (plain.index_table_section o).content
   unfolding words
   words_are is =
       let f = written_sections o places in
@@ -123,7 +123,7 @@ module _ (o : ObjectValue) (places : List ℕ) (written : IsWritten o places) wh
   -- ---- all symbols
 
   symbol_at_back : (k : ℕ) → k < length o.symbols →
-      (let f = written_sections o places in symbol_denoted (left_out f) f (symbol_in o.order (plain.symbol_table o).content (string_table (symbol_names o)) words (suc k)) ≡ symbol_at o k)
+      (let f = written_sections o places in symbol_denoted (left_out f) f (symbol_in o.order (plain.symbol_table_section o).content (string_table (symbol_names o)) words (suc k)) ≡ symbol_at o k)
   unfolding symbol_in
   symbol_at_back k lt =
       let f = written_sections o places in
@@ -132,7 +132,7 @@ module _ (o : ObjectValue) (places : List ℕ) (written : IsWritten o places) wh
       (symbol_entry_read o written.widths (omega arith) k lt)
       ∙ entry_back o (left_out f) f k (word o.order words (suc k)) written.object lt (λ p below. written_position o places written p (omega arith)) (word_back k lt)
 
-  table_is : (let f = written_sections o places in symbols_of f (symbol_table_at o) ≡ symbols_in o.order (plain.symbol_table o).content (string_table (symbol_names o)) words)
+  table_is : (let f = written_sections o places in symbols_of f (symbol_table_at o) ≡ symbols_in o.order (plain.symbol_table_section o).content (string_table (symbol_names o)) words)
   unfolding symbols_of words
   table_is =
       let f = written_sections o places in
@@ -145,7 +145,7 @@ module _ (o : ObjectValue) (places : List ℕ) (written : IsWritten o places) wh
   unfolding symbols_in
   symbols_back =
       let f = written_sections o places in
-      let entries = (plain.symbol_table o).content in
+      let entries = (plain.symbol_table_section o).content in
       let names = string_table (symbol_names o) in
       let many : entry_count entries ≡ suc (length o.symbols) = (let all = symbol_entry_count o in omega arith) in
       ap (symbols_denoted (left_out f) f) (written_symbol_table o places written)

@@ -19,11 +19,11 @@ use Rattle.elf_string_table.specs.StringTable.{string_table}
 use Rattle.elf_string_table.proofs.Public.{holds_names}
 use Rattle.elf_table.specs.StringRules.{linked_string_rules, unclosed_string_table}
 use Rattle.elf_table.specs.SymbolParts.{SymbolPartsValue}
-use Rattle.elf_table.specs.SymbolRules.{IsMisplaced, IsSymbolNamePastEnd, IsWrongSection, IsWrongWord, entry, entry_count, entry_rules, misplaced_binding, place_rules, symbol_0_not_null, symbol_name_past_end, word, wrong_local_count, wrong_symbol_section}
+use Rattle.elf_table.specs.SymbolRules.{IsMisplacedBinding, IsSymbolNamePastEnd, IsWrongSymbolSection, IsWrongIndexWord, entry, entry_count, entry_rules, misplaced_binding, place_rules, symbol_0_not_null, symbol_name_past_end, word, wrong_local_count, wrong_symbol_section}
 use Rattle.elf_object.specs.declared.symbol.Place.{Place}
 use Rattle.elf_object.specs.declared.symbol.Place.TheVariants.{Undef, Abs, Common, In}
 use Rattle.elf_object.specs.Object.{ObjectValue, SymbolValue, no_symbol, symbol_at}
-use Rattle.elf_object.specs.PlainSections.{has_index_table, index_table, index_word, is_far, is_local, null_symbol, shndx, symbol_entry, symbol_names, symbol_table}
+use Rattle.elf_object.specs.PlainSections.{has_index_table, index_table_section, index_word, is_far, is_local, null_symbol, shndx, symbol_entry, symbol_names, symbol_table_section}
 use Rattle.elf_object.specs.Positions.{IsPast}
 use Rattle.elf_object.specs.SymbolRules.{place_position}
 use Rattle.elf_object.specs.WrittenObject.{IsWritten}
@@ -125,19 +125,19 @@ module _ (n count : ℕ) (there : n < count) where
 pub record AreSymbolParts (o : ObjectValue) (p : SymbolPartsValue) : Type 0 where
   pub order_is : p.order ≡ o.order
   pub info_is : p.info ≡ 1 + length (filter is_local o.symbols)
-  pub table_is : p.table ≡ (symbol_table o).content
+  pub table_is : p.table ≡ (symbol_table_section o).content
   pub names_are : p.names ≡ string_table (symbol_names o)
   pub sections_there : length o.sections < p.sections
   -- there is an index table exactly where a symbol needs one
   pub index_there : has_index_table o ≡ true → p.index_table ≡ None → ⊥
-  pub words_are : (j : ℕ) → p.index_table ≡ Some j → p.words ≡ (index_table o).content
+  pub words_are : (j : ℕ) → p.index_table ≡ Some j → p.words ≡ (index_table_section o).content
 
 zero_bytes : (order : Order) → sym_bytes order null_symbol ≡ replicate 24 0
 unfolding bytes_of
 zero_bytes Little = refl
 zero_bytes Big = refl
 
-null_bytes : (o : ObjectValue) (k : ℕ) → k < 24 → slice_index (symbol_table o).content k ≡ 0
+null_bytes : (o : ObjectValue) (k : ℕ) → k < 24 → slice_index (symbol_table_section o).content k ≡ 0
 null_bytes o k lt =
     let zeros = zero_bytes o.order in
     let long : length (sym_bytes o.order null_symbol) ≡ 24 = ap length zeros in
@@ -172,35 +172,35 @@ module _ (o : ObjectValue) (places : List ℕ) (written : IsWritten o places) (p
   -- rule 41
   pub strings_closed : (start : ℕ) → FirstIn (linked_string_rules p.names start) None
   unfolding linked_string_rules
-  strings_closed start = (closed p.names are.names_are, tt) where
-    closed : (names : List ℕ) → names ≡ string_table (symbol_names o) → Never (unclosed_string_table names start)
-    closed names is x (inl ((some, other), here)) = other (ap (λ (t : List ℕ). slice_index t 0) is ∙ (holds_names (symbol_names o)).first)
-    closed names is x (inr (inl ((some, other), here))) = other (ap (λ (t : List ℕ). slice_index t (length t - 1)) is ∙ (holds_names (symbol_names o)).last)
-    closed names is x (inr (inr broken)) = broken
+  strings_closed start = (no_unclosed_string_table p.names are.names_are, tt) where
+    no_unclosed_string_table : (names : List ℕ) → names ≡ string_table (symbol_names o) → Never (unclosed_string_table names start)
+    no_unclosed_string_table names is x (inl ((some, other), here)) = other (ap (λ (t : List ℕ). slice_index t 0) is ∙ (holds_names (symbol_names o)).first)
+    no_unclosed_string_table names is x (inr (inl ((some, other), here))) = other (ap (λ (t : List ℕ). slice_index t (length t - 1)) is ∙ (holds_names (symbol_names o)).last)
+    no_unclosed_string_table names is x (inr (inr broken)) = broken
 
   -- rule 45
-  null_first : Never (symbol_0_not_null p)
-  null_first x (inl (none, here)) = let many = count_is in omega arith
-  null_first x (inr (inl (k, below, (some, other), here))) = other (ap (λ (table : List ℕ). slice_index table k) are.table_is ∙ null_bytes o k below)
-  null_first x (inr (inr broken)) = broken
+  no_symbol_0_not_null : Never (symbol_0_not_null p)
+  no_symbol_0_not_null x (inl (none, here)) = let many = count_is in omega arith
+  no_symbol_0_not_null x (inr (inl (k, below, (some, other), here))) = other (ap (λ (table : List ℕ). slice_index table k) are.table_is ∙ null_bytes o k below)
+  no_symbol_0_not_null x (inr (inr broken)) = broken
 
   -- rule 46
-  local_count_right : Never (wrong_local_count p)
-  local_count_right x (inl none, here) = let info = are.info_is in omega arith
-  local_count_right x (inr past, here) =
+  no_wrong_local_count : Never (wrong_local_count p)
+  no_wrong_local_count x (inl none, here) = let info = are.info_is in omega arith
+  no_wrong_local_count x (inr past, here) =
       let info = are.info_is in
       let many = count_is in
       let locals = count_at_most is_local o.symbols in
       omega arith
 
   -- rule 47
-  bindings_right : Never (misplaced_binding p)
-  bindings_right x (j, below, broken, here) = by_entry (λ j symbol. IsMisplaced p.info symbol j → ⊥) null_right symbol_right j below broken where
-    null_right : IsMisplaced p.info null_symbol 0 → ⊥
+  no_misplaced_binding : Never (misplaced_binding p)
+  no_misplaced_binding x (j, below, broken, here) = by_entry (λ j symbol. IsMisplacedBinding p.info symbol j → ⊥) null_right symbol_right j below broken where
+    null_right : IsMisplacedBinding p.info null_symbol 0 → ⊥
     null_right (inl (lt, other)) = other refl
     null_right (inr (le, is)) = let info = are.info_is in omega arith
 
-    symbol_right : (k : ℕ) → k < length o.symbols → IsMisplaced p.info (symbol_entry o (symbol_at o k)) (suc k) → ⊥
+    symbol_right : (k : ℕ) → k < length o.symbols → IsMisplacedBinding p.info (symbol_entry o (symbol_at o k)) (suc k) → ⊥
     symbol_right k lt (inl (before, other)) =
         let info = are.info_is in
         other (eqb-true _ _ ((passing_first is_local o.symbols no_symbol (locals_first o places written) k lt).0 (omega arith)))
@@ -209,8 +209,8 @@ module _ (o : ObjectValue) (places : List ℕ) (written : IsWritten o places) (p
         true≢false (sym (eq-eqb _ _ is) ∙ (passing_first is_local o.symbols no_symbol (locals_first o places written) k lt).1 (omega arith))
 
   -- rule 48
-  names_inside : Never (symbol_name_past_end p)
-  names_inside x (j, below, broken, here) = by_entry (λ j symbol. IsSymbolNamePastEnd (length p.names) symbol → ⊥) (λ wrong. wrong.0 refl) symbol_right j below broken where
+  no_symbol_name_past_end : Never (symbol_name_past_end p)
+  no_symbol_name_past_end x (j, below, broken, here) = by_entry (λ j symbol. IsSymbolNamePastEnd (length p.names) symbol → ⊥) (λ wrong. wrong.0 refl) symbol_right j below broken where
     symbol_right : (k : ℕ) → k < length o.symbols → IsSymbolNamePastEnd (length p.names) (symbol_entry o (symbol_at o k)) → ⊥
     symbol_right k lt (some, past) =
         let within = name_within o k lt in
@@ -219,42 +219,42 @@ module _ (o : ObjectValue) (places : List ℕ) (written : IsWritten o places) (p
 
   pub entries_kept : FirstIn (entry_rules p) None
   unfolding entry_rules
-  entries_kept = (null_first, (local_count_right, (bindings_right, (names_inside, tt))))
+  entries_kept = (no_symbol_0_not_null, (no_wrong_local_count, (no_misplaced_binding, (no_symbol_name_past_end, tt))))
 
   -- rule 51
-  sections_right : Never (wrong_symbol_section p)
-  sections_right x (j, below, broken, here) =
-      by_entry (λ j symbol. IsWrongSection p.index_table p.sections symbol → ⊥) null_right symbol_right j below broken where
-        null_right : IsWrongSection p.index_table p.sections null_symbol → ⊥
+  no_wrong_symbol_section : Never (wrong_symbol_section p)
+  no_wrong_symbol_section x (j, below, broken, here) =
+      by_entry (λ j symbol. IsWrongSymbolSection p.index_table p.sections symbol → ⊥) null_right symbol_right j below broken where
+        null_right : IsWrongSymbolSection p.index_table p.sections null_symbol → ⊥
         null_right = section_right (length o.sections) p.sections are.sections_there p.index_table Undef (λ past. past) (λ far. absurd (true≢false (sym far)))
 
-        symbol_right : (k : ℕ) → k < length o.symbols → IsWrongSection p.index_table p.sections (symbol_entry o (symbol_at o k)) → ⊥
+        symbol_right : (k : ℕ) → k < length o.symbols → IsWrongSymbolSection p.index_table p.sections (symbol_entry o (symbol_at o k)) → ⊥
         symbol_right k lt =
             section_right (length o.sections) p.sections are.sections_there p.index_table (symbol_at o k).place (no_wrong_place o written.object k lt)
             (λ far none. are.index_there (list_any_at (λ (s : SymbolValue). is_far s.place) o.symbols k no_symbol lt far) none)
 
   -- rule 52
-  word_in : (t j : ℕ) → p.index_table ≡ Some t → word p.order p.words j ≡ word o.order (index_table o).content j
+  word_in : (t j : ℕ) → p.index_table ≡ Some t → word p.order p.words j ≡ word o.order (index_table_section o).content j
   word_in t j is = ap₂ (λ (b : Order) (words : List ℕ). word b words j) are.order_is (are.words_are t is)
 
-  words_right : (table : Option ℕ) → p.index_table ≡ table → Never (OfSome table (λ _. AtEntry (entry_count p.table)
-      (λ j. IsWrongWord p.sections (entry p.order p.table j) (word p.order p.words j)) (λ j. p.words_start + WORD_SIZE * j)))
-  words_right None is x broken = broken
-  words_right (Some t) is x (j, below, broken, here) =
-      by_entry (λ j symbol. IsWrongWord p.sections symbol (word p.order p.words j) → ⊥) null_right symbol_right j below broken where
-        null_right : IsWrongWord p.sections null_symbol (word p.order p.words 0) → ⊥
+  no_wrong_index_word : (table : Option ℕ) → p.index_table ≡ table → Never (OfSome table (λ _. AtEntry (entry_count p.table)
+      (λ j. IsWrongIndexWord p.sections (entry p.order p.table j) (word p.order p.words j)) (λ j. p.words_start + WORD_SIZE * j)))
+  no_wrong_index_word None is x broken = broken
+  no_wrong_index_word (Some t) is x (j, below, broken, here) =
+      by_entry (λ j symbol. IsWrongIndexWord p.sections symbol (word p.order p.words j) → ⊥) null_right symbol_right j below broken where
+        null_right : IsWrongIndexWord p.sections null_symbol (word p.order p.words 0) → ⊥
         null_right wrong =
             word_right (length o.sections) p.sections are.sections_there Undef (λ past. past)
-            (subst (λ (w : ℕ). IsWrongWord p.sections null_symbol w) (word_in t 0 is ∙ null_word o written.object sections_below) wrong)
+            (subst (λ (w : ℕ). IsWrongIndexWord p.sections null_symbol w) (word_in t 0 is ∙ null_word o written.object sections_below) wrong)
 
-        symbol_right : (k : ℕ) → k < length o.symbols → IsWrongWord p.sections (symbol_entry o (symbol_at o k)) (word p.order p.words (suc k)) → ⊥
+        symbol_right : (k : ℕ) → k < length o.symbols → IsWrongIndexWord p.sections (symbol_entry o (symbol_at o k)) (word p.order p.words (suc k)) → ⊥
         symbol_right k lt wrong =
             word_right (length o.sections) p.sections are.sections_there (symbol_at o k).place (no_wrong_place o written.object k lt)
-            (subst (λ (w : ℕ). IsWrongWord p.sections (symbol_entry o (symbol_at o k)) w) (word_in t (suc k) is ∙ symbol_word o written.object sections_below k lt) wrong)
+            (subst (λ (w : ℕ). IsWrongIndexWord p.sections (symbol_entry o (symbol_at o k)) w) (word_in t (suc k) is ∙ symbol_word o written.object sections_below k lt) wrong)
 
   pub places_kept : FirstIn (place_rules p) None
   unfolding place_rules
-  places_kept = (sections_right, (words_right p.index_table refl, tt))
+  places_kept = (no_wrong_symbol_section, (no_wrong_index_word p.index_table refl, tt))
 
   -- the word of a symbol whose index its st_shndx can't hold
   pub far_word : (k : ℕ) → k < length o.symbols → is_far (symbol_at o k).place ≡ true → word p.order p.words (suc k) ≡ index_word (symbol_at o k).place

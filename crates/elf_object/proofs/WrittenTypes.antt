@@ -6,11 +6,11 @@ use Rattle.elf_table.specs.Sections.{count, section}
 use Rattle.elf_object.specs.FileRules.{IsForeignType}
 use Rattle.elf_object.specs.Object.{BodyValue, bits, no_bits, relocs, group, ObjectValue, section_at}
 use Rattle.elf_object.specs.PlainSections.{body_type, has_index_table, symbol_table_at}
-use Rattle.elf_object.specs.SectionRules.{IsWrongBits}
+use Rattle.elf_object.specs.SectionRules.{IsWrongBitsType}
 use Rattle.elf_object.specs.WrittenObject.{IsWritten, written_sections}
 use Rattle.elf_object.proofs.AllParts.{last_sections}
 use Rattle.elf_object.proofs.PlainSections.{last_count, no_plain}
-use Rattle.elf_object.proofs.SoundObject.{no_wrong_bits}
+use Rattle.elf_object.proofs.SoundObject.{no_wrong_bits_type}
 use Rattle.elf_object.proofs.WrittenFile.{by_section, last_at, own_at}
 use Rattle.elf_object.proofs.WrittenKept.{indexes_no_body, own_type, symbols_no_body}
 use Rattle.elf_object.proofs.WrittenSections.{written_first}
@@ -35,7 +35,7 @@ no_foreign_number type number is (inr high) =
     not_foreign_type type (λ same. omega arith) (λ same. omega arith) (λ same. omega arith) (λ same. omega arith)
 
 -- no body is of such a type
-body_not_foreign : (b : BodyValue) → (IsWrongBits b → ⊥) → IsForeignType (body_type b) → ⊥
+body_not_foreign : (b : BodyValue) → (IsWrongBitsType b → ⊥) → IsForeignType (body_type b) → ⊥
 body_not_foreign (bits type bytes) right =
     not_foreign_type type (λ same. right (3, omega arith, sym same)) (λ same. right (4, omega arith, sym same)) (λ same. right (7, omega arith, sym same))
     (λ same. right (8, omega arith, sym same))
@@ -85,5 +85,5 @@ type_tells o places written =
         symbols = λ same. absurd (own_type o places SHT_SYMTAB written symbols_no_body p lt same);
         indexes = λ same. absurd (own_type o places SHT_SYMTAB_SHNDX written indexes_no_body p lt same);
         not_foreign =
-            subst (λ (type : ℕ). IsForeignType type → ⊥) (sym (own_at o places written p lt).sh_type) (body_not_foreign (section_at o p).body (no_wrong_bits o written.object p lt));
+            subst (λ (type : ℕ). IsForeignType type → ⊥) (sym (own_at o places written p lt).sh_type) (body_not_foreign (section_at o p).body (no_wrong_bits_type o written.object p lt));
       }

@@ -24,8 +24,8 @@ use Rattle.elf_object.specs.Kept.{body_kind, kept, left_out, position_of, symbol
 use Rattle.elf_object.specs.Object.{BodyValue, bits, no_bits, relocs, group, ObjectValue, SectionValue, SymbolValue}
 
 -- the name of section i: a string of the section name string table
-abbrev pub name_of : Sections → ℕ → List ℕ
-name_of f i =
+abbrev pub section_name_of : Sections → ℕ → List ℕ
+section_name_of f i =
     let s = section f i in
     if s.sh_type == SHT_NULL then [] else string (value_names f.header f.headers f.contents) s.sh_name
 
@@ -79,7 +79,7 @@ section_denoted left f i =
     let s = section f i in
     let kind = body_kind s.sh_type in
     record {
-      name = name_of f i;
+      name = section_name_of f i;
       flags = s.sh_flags;
       addr = s.sh_addr;
       align = s.sh_addralign;

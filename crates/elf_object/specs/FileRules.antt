@@ -17,7 +17,7 @@ use Rattle.elf_object.specs.declared.body_kind.BodyKind.{BodyKind}
 use Rattle.elf_object.specs.declared.body_kind.BodyKind.TheVariants.{Bits, NoBits, Relocs, Group}
 use Rattle.elf_object.specs.declared.left_out.LeftOut.{LeftOut}
 use Rattle.elf_object.specs.declared.reference_rules.ReferenceRule.{ReferenceRule}
-use Rattle.elf_object.specs.declared.reference_rules.ReferenceRule.TheVariants.{Target, Link, Info}
+use Rattle.elf_object.specs.declared.reference_rules.ReferenceRule.TheVariants.{WrongRelocationTarget, WrongKeptLink, WrongKeptInfo}
 use Rattle.elf_object.specs.Kept.{body_kind, is_kept, kept, left_out, symbol_table}
 use Rattle.elf_object.specs.Positions.{HasFlag}
 
@@ -64,22 +64,22 @@ front_rules f =
 -- ---- rule 75, and the rules of tables
 
 -- rule 75: a symbol is defined in a section that is left out, or at a reserved index that has no meaning here
-abbrev pub IsOutside : LeftOut → Sections → Place → Type 0
-IsOutside left f Undefined = ⊥
-IsOutside left f Absolute = ⊥
-IsOutside left f Common = ⊥
-IsOutside left f (Reserved index) = Unit {0}
-IsOutside left f (Section k) = is_kept left f k ≡ false
+abbrev pub IsSymbolOutside : LeftOut → Sections → Place → Type 0
+IsSymbolOutside left f Undefined = ⊥
+IsSymbolOutside left f Absolute = ⊥
+IsSymbolOutside left f Common = ⊥
+IsSymbolOutside left f (Reserved index) = Unit {0}
+IsSymbolOutside left f (Section k) = is_kept left f k ≡ false
 
 abbrev pub symbol_outside : LeftOut → Sections → ℕ → Row
 symbol_outside left f t =
     let s = section f t in
     AtEntry (length (symbols_of f t))
-    (λ j. IsOutside left f (get_or (symbols_of f t) j no_symbol).place)
+    (λ j. IsSymbolOutside left f (get_or (symbols_of f t) j no_symbol).place)
     (λ j. s.sh_offset + SYM_SIZE * j + ST_SHNDX_AT)
 
-unfoldable pub place_rules : LeftOut → Sections → Option ℕ → List {1} Ruled
-place_rules left f table = rule 75 (OfSome table (symbol_outside left f)) ∷ []
+unfoldable pub symbol_outside_rules : LeftOut → Sections → Option ℕ → List {1} Ruled
+symbol_outside_rules left f table = rule 75 (OfSome table (symbol_outside left f)) ∷ []
 
 -- the rules of the symbol table, where there is one
 abbrev pub rules_of_symbols : Sections → Option ℕ → List {1} Ruled
@@ -105,32 +105,32 @@ abbrev pub IsKeptBits : LeftOut → Sections → ℕ → Type 0
 IsKeptBits left f k = (is_kept left f k ≡ true) × (body_kind (section f k).sh_type ≡ Bits)
 
 -- rule 76: relocations apply to a section that is left out, or has no bits
-abbrev pub HasWrongTarget : LeftOut → Sections → ℕ → Type 0
-HasWrongTarget left f i = let s = section f i in (body_kind s.sh_type ≡ Relocs) × ¬ IsKeptBits left f s.sh_info
+abbrev pub HasWrongRelocationTarget : LeftOut → Sections → ℕ → Type 0
+HasWrongRelocationTarget left f i = let s = section f i in (body_kind s.sh_type ≡ Relocs) × ¬ IsKeptBits left f s.sh_info
 
 -- rule 77: a member of a group is left out, or a group itself, or a member of a group before
 abbrev pub NamesFirst : Sections → ℕ → ℕ → ℕ → Type 0
 NamesFirst f h count m = (k : ℕ) × (k < count) × (member (order f) (content f h) k ≡ m)
 
 -- section m is a member of a group before section i
-abbrev pub IsNamedBefore : Sections → ℕ → ℕ → Type 0
-IsNamedBefore f i m = (h : ℕ) × (h < i) × (((section f h).sh_type ≡ SHT_GROUP) × NamesFirst f h (member_count (content f h)) m)
+abbrev pub IsMemberBefore : Sections → ℕ → ℕ → Type 0
+IsMemberBefore f i m = (h : ℕ) × (h < i) × (((section f h).sh_type ≡ SHT_GROUP) × NamesFirst f h (member_count (content f h)) m)
 
-abbrev pub IsWrongMember : LeftOut → Sections → ℕ → ℕ → Type 0
-IsWrongMember left f i m = (is_kept left f m ≡ false) ⊎ (((section f m).sh_type ≡ SHT_GROUP) ⊎ IsNamedBefore f i m)
+abbrev pub IsWrongGroupMember : LeftOut → Sections → ℕ → ℕ → Type 0
+IsWrongGroupMember left f i m = (is_kept left f m ≡ false) ⊎ (((section f m).sh_type ≡ SHT_GROUP) ⊎ IsMemberBefore f i m)
 
-abbrev pub wrong_member_of : LeftOut → Sections → ℕ → Row
-wrong_member_of left f i =
+abbrev pub wrong_group_member_of : LeftOut → Sections → ℕ → Row
+wrong_group_member_of left f i =
     AtEntry (member_count (content f i))
-    (λ j. IsWrongMember left f i (member (order f) (content f i) j))
+    (λ j. IsWrongGroupMember left f i (member (order f) (content f i) j))
     (λ j. (section f i).sh_offset + WORD_SIZE * (j + 1))
 
 -- in the groups among the first `end` sections, and in all
-abbrev pub wrong_member_before : LeftOut → Sections → ℕ → Row
-wrong_member_before left f end = λ x. (i : ℕ) × (i < end) × (((section f i).sh_type ≡ SHT_GROUP) × wrong_member_of left f i x)
+abbrev pub wrong_group_member_before : LeftOut → Sections → ℕ → Row
+wrong_group_member_before left f end = λ x. (i : ℕ) × (i < end) × (((section f i).sh_type ≡ SHT_GROUP) × wrong_group_member_of left f i x)
 
 abbrev pub wrong_group_member : LeftOut → Sections → Row
-wrong_group_member left f = wrong_member_before left f (count f)
+wrong_group_member left f = wrong_group_member_before left f (count f)
 
 -- a section that is kept and has neither relocations nor members
 abbrev pub IsPlain : LeftOut → Sections → ℕ → Type 0
@@ -138,36 +138,36 @@ IsPlain left f i =
     (is_kept left f i ≡ true) × (let kind = body_kind (section f i).sh_type in (kind ≡ Bits) ⊎ (kind ≡ NoBits))
 
 -- rule 78: such a section links to one that is left out
-abbrev pub HasWrongLink : LeftOut → Sections → ℕ → Type 0
-HasWrongLink left f i = let link = (section f i).sh_link in IsPlain left f i × ((link ≢ 0) × (is_kept left f link ≡ false))
+abbrev pub HasWrongKeptLink : LeftOut → Sections → ℕ → Type 0
+HasWrongKeptLink left f i = let link = (section f i).sh_link in IsPlain left f i × ((link ≢ 0) × (is_kept left f link ≡ false))
 
 -- rule 79: its flag INFO_LINK says that sh_info is a section, and that one is left out
-abbrev pub HasWrongInfo : LeftOut → Sections → ℕ → Type 0
-HasWrongInfo left f i =
+abbrev pub HasWrongKeptInfo : LeftOut → Sections → ℕ → Type 0
+HasWrongKeptInfo left f i =
     let s = section f i in IsPlain left f i × (HasFlag s.sh_flags SHF_INFO_LINK × (is_kept left f s.sh_info ≡ false))
 
 -- what breaks the rules on one section's references, and the offset in its section header of the field that is answered
 abbrev pub BreaksReference : ReferenceRule → LeftOut → Sections → ℕ → Type 0
-BreaksReference Target left f i = HasWrongTarget left f i
-BreaksReference Link left f i = HasWrongLink left f i
-BreaksReference Info left f i = HasWrongInfo left f i
+BreaksReference WrongRelocationTarget left f i = HasWrongRelocationTarget left f i
+BreaksReference WrongKeptLink left f i = HasWrongKeptLink left f i
+BreaksReference WrongKeptInfo left f i = HasWrongKeptInfo left f i
 
 abbrev pub reference_field : ReferenceRule → ℕ
-reference_field Target = SH_INFO_AT
-reference_field Link = SH_LINK_AT
-reference_field Info = SH_INFO_AT
+reference_field WrongRelocationTarget = SH_INFO_AT
+reference_field WrongKeptLink = SH_LINK_AT
+reference_field WrongKeptInfo = SH_INFO_AT
 
 abbrev pub SomeReference : ReferenceRule → LeftOut → Sections → Row
 SomeReference r left f = AtEntry (count f) (BreaksReference r left f) (λ i. header_at f i + reference_field r)
 
 abbrev pub wrong_relocation_target : LeftOut → Sections → Row
-wrong_relocation_target = SomeReference Target
+wrong_relocation_target = SomeReference WrongRelocationTarget
 
 abbrev pub wrong_kept_link : LeftOut → Sections → Row
-wrong_kept_link = SomeReference Link
+wrong_kept_link = SomeReference WrongKeptLink
 
 abbrev pub wrong_kept_info : LeftOut → Sections → Row
-wrong_kept_info = SomeReference Info
+wrong_kept_info = SomeReference WrongKeptInfo
 
 unfoldable pub reference_rules : LeftOut → Sections → List {1} Ruled
 reference_rules left f =
@@ -179,7 +179,7 @@ reference_rules left f =
 -- ---- all of them, in the order in which they are tested
 
 unfoldable pub symbol_rules_in : LeftOut → Sections → Option ℕ → List {1} Ruled
-symbol_rules_in left f table = rules_of_symbols f table ++ place_rules left f table
+symbol_rules_in left f table = rules_of_symbols f table ++ symbol_outside_rules left f table
 
 unfoldable pub rules_behind : LeftOut → Sections → Option ℕ → List {1} Ruled
 rules_behind left f table = symbol_rules_in left f table ++ (rules_of_bodies f (kept left f) ++ reference_rules left f)

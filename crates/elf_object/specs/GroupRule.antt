@@ -16,18 +16,18 @@ IsInEarlierGroup o i m =
 
 -- member j of the group in section i, which has these members, is not behind it, or named before in it or in an earlier group,
 -- or a group itself, or lacks the flag GROUP
-abbrev pub IsWrongMember : ObjectValue → ℕ → List ℕ → ℕ → Type 0
-IsWrongMember o i members j =
+abbrev pub IsWrongMembership : ObjectValue → ℕ → List ℕ → ℕ → Type 0
+IsWrongMembership o i members j =
     let m = slice_index members j in
     let s = section_at o m in
     (m ≤ i) ⊎ ((NamesMember members j m ⊎ IsInEarlierGroup o i m) ⊎ ((is_group s.body ≡ true) ⊎ LacksFlag s.flags SHF_GROUP))
 
-abbrev pub HasWrongMember : ObjectValue → ℕ → Type 0
-HasWrongMember o i = let members = members_of (section_at o i).body in SomeIndex members (IsWrongMember o i members)
+abbrev pub HasWrongMembership : ObjectValue → ℕ → Type 0
+HasWrongMembership o i = let members = members_of (section_at o i).body in SomeIndex members (IsWrongMembership o i members)
 
 -- rule 6: a group has such a member
 abbrev pub wrong_membership : ObjectValue → Row
-wrong_membership o = AtEntry (length o.sections) (HasWrongMember o) (λ i. i)
+wrong_membership o = AtEntry (length o.sections) (HasWrongMembership o) (λ i. i)
 
 unfoldable pub group_rules : ObjectValue → List {1} Ruled
 group_rules o = rule 6 (wrong_membership o) ∷ []

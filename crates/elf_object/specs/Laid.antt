@@ -10,7 +10,7 @@ use Rattle.elf_extent.specs.Place.{Least}
 use Rattle.elf_image.specs.RelocatableFile.{relocatable_bytes, short_count, short_index}
 use Rattle.elf_string_table.specs.StringTable.{name_place}
 use Rattle.elf_object.specs.Object.{ObjectValue}
-use Rattle.elf_object.specs.PlainSections.{PlainSection, names_at, plain_sections, section_names}
+use Rattle.elf_object.specs.PlainSections.{PlainSection, name_table_at, plain_sections, section_names}
 
 -- ---- the parts behind the header: each content, and the section header table at a multiple of 8
 
@@ -70,7 +70,7 @@ file_header o count table = record {
   e_phnum = 0;
   e_shentsize = SHDR_SIZE;
   e_shnum = short_count count;
-  e_shstrndx = short_index (names_at o);
+  e_shstrndx = short_index (name_table_at o);
 }
 
 -- ---- the file
@@ -81,7 +81,7 @@ layout_bytes o places =
     let sections = plain_sections o in
     let count = length sections + 1 in
     relocatable_bytes (file_header o count (slice_index places (length sections)))
-    (section_headers (name_place (section_names o)) sections places) (map (λ s. s.content) sections) (names_at o)
+    (section_headers (name_place (section_names o)) sections places) (map (λ s. s.content) sections) (name_table_at o)
 
 -- b is the object in canonical layout: its parts are as low as they can be
 pub record Laid (o : ObjectValue) (b : List ℕ) : Type 0 where

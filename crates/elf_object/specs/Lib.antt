@@ -6,6 +6,7 @@ pub mod SectionRules
 pub mod GroupRule
 pub mod SymbolRules
 pub mod ObjectRules
+pub mod KeepsObjectRules
 pub mod Kept
 pub mod Denotes
 pub mod FileRules

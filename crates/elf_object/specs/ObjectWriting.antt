@@ -14,7 +14,7 @@ use Rattle.elf_object.specs.declared.object_writing.ObjectWriteFault.TheVariants
 use Rattle.elf_object.specs.Laid.{Laid, section_headers}
 use Rattle.elf_object.specs.LayoutView.{IsLayoutFault}
 use Rattle.elf_object.specs.Object.{ObjectValue}
-use Rattle.elf_object.specs.PlainSections.{names_at, plain_sections, section_names}
+use Rattle.elf_object.specs.PlainSections.{name_table_at, plain_sections, section_names}
 
 -- the bytes of the canonical layout go out, or exactly the first of them and then the writer fails
 abbrev pub WritesLayout : ObjectValue → Option (List ℕ) → Option (List ℕ) → Result Unit WriteFault → Type 0
@@ -40,4 +40,4 @@ WritesBehind out before after bytes result = MatchResult result
 -- the bytes of the section header table
 unfoldable pub header_table : ObjectValue → List ℕ → List ℕ
 header_table o places =
-    flat_map (shdr_bytes o.order) (all_headers (section_headers (name_place (section_names o)) (plain_sections o) places) (names_at o))
+    flat_map (shdr_bytes o.order) (all_headers (section_headers (name_place (section_names o)) (plain_sections o) places) (name_table_at o))

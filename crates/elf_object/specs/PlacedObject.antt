@@ -7,9 +7,9 @@ use Rattle.elf_object.specs.LayoutView.{IsLayoutOf, LayoutValue}
 use Rattle.elf_object.specs.NameTables.{AreNameTables}
 use Rattle.elf_object.specs.Object.{BodyValue, bits, no_bits, relocs, group, ObjectValue, SectionValue, section_at}
 use Rattle.elf_object.specs.ObjectRules.{IsObject}
-use Rattle.elf_object.specs.PlainSections.{PlainSection, body_bytes, index_of, index_table, own_section, plain_sections, section_names, strings, symbol_names, symbol_table}
+use Rattle.elf_object.specs.PlainSections.{PlainSection, body_bytes, index_of, index_table_section, own_section, plain_sections, section_names, strings, symbol_names, symbol_table_section}
 use Rattle.elf_object.specs.Positions.{info_position}
-use Rattle.elf_object.specs.SectionRules.{IsWrongBits}
+use Rattle.elf_object.specs.SectionRules.{IsWrongBitsType}
 
 pub record PlacedValue : Type 0 where
   pub object : ObjectValue
@@ -28,8 +28,8 @@ pub record IsPlacedWith (t : NameTables) (p : PlacedValue) : Type 0 where
 
 abbrev pub plain_section : ObjectValue → PlacedSection → PlainSection
 plain_section o (Own position) = own_section o (section_at o position)
-plain_section o SymbolTable = symbol_table o
-plain_section o IndexTable = index_table o
+plain_section o SymbolTable = symbol_table_section o
+plain_section o IndexTable = index_table_section o
 plain_section o Strings = strings (codes ".strtab") (symbol_names o)
 plain_section o Names = strings (codes ".shstrtab") (section_names o)
 
@@ -56,7 +56,7 @@ HasShortIndexes (relocs rela target entries) = (target + 1 < 2 ^ 32) × All (λ 
 HasShortIndexes (group comdat signature members) = (signature + 1 < 2 ^ 32) × All (λ member. member + 1 < 2 ^ 32) members
 
 pub record HasShortNumbers (o : ObjectValue) (s : SectionValue) : Type 0 where
-  pub right : ¬ IsWrongBits s.body
+  pub right : ¬ IsWrongBitsType s.body
   pub link : index_of s.link < 2 ^ 32
   pub info : index_of (info_position s.info) < 2 ^ 32
   pub indexes : HasShortIndexes s.body

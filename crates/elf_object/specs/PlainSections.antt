@@ -60,8 +60,8 @@ symbol_table_at o = length o.sections + 1
 abbrev pub strings_at : ObjectValue → ℕ
 strings_at o = symbol_table_at o + (if has_index_table o then 2 else 1)
 
-abbrev pub names_at : ObjectValue → ℕ
-names_at o = strings_at o + 1
+abbrev pub name_table_at : ObjectValue → ℕ
+name_table_at o = strings_at o + 1
 
 -- ---- symbols
 
@@ -97,8 +97,8 @@ null_symbol = record { st_name = 0; st_info = 0; st_other = 0; st_shndx = SHN_UN
 abbrev pub is_local : SymbolValue → Bool
 is_local s = s.info / 16 == STB_LOCAL
 
-abbrev pub symbol_table : ObjectValue → PlainSection
-symbol_table o = record {
+abbrev pub symbol_table_section : ObjectValue → PlainSection
+symbol_table_section o = record {
   name = codes ".symtab";
   type = SHT_SYMTAB;
   flags = 0;
@@ -111,8 +111,8 @@ symbol_table o = record {
   content = flat_map (sym_bytes o.order) (null_symbol ∷ map (symbol_entry o) o.symbols);
 }
 
-abbrev pub index_table : ObjectValue → PlainSection
-index_table o = record {
+abbrev pub index_table_section : ObjectValue → PlainSection
+index_table_section o = record {
   name = codes ".symtab_shndx";
   type = SHT_SYMTAB_SHNDX;
   flags = 0;
@@ -217,7 +217,7 @@ own_section o s = record {
 unfoldable pub sections_before_names : ObjectValue → List PlainSection
 sections_before_names o =
     map (own_section o) o.sections ++
-    (symbol_table o ∷ ((if has_index_table o then index_table o ∷ [] else []) ++ (strings (codes ".strtab") (symbol_names o) ∷ [])))
+    (symbol_table_section o ∷ ((if has_index_table o then index_table_section o ∷ [] else []) ++ (strings (codes ".strtab") (symbol_names o) ∷ [])))
 
 unfoldable pub section_names : ObjectValue → List (List ℕ)
 section_names o = map (λ s. s.name) (sections_before_names o) ++ (codes ".shstrtab" ∷ [])

@@ -8,7 +8,7 @@ use Rattle.elf_table.specs.Relocations.{relocation_size}
 use Rattle.elf_object.specs.declared.section.Info.{Info}
 use Rattle.elf_object.specs.declared.section.Info.TheVariants.{Number, Section}
 use Rattle.elf_object.specs.declared.section_rules.SectionRule.{SectionRule}
-use Rattle.elf_object.specs.declared.section_rules.SectionRule.TheVariants.{Name, BitsType, Alignment, Position, Fields}
+use Rattle.elf_object.specs.declared.section_rules.SectionRule.TheVariants.{ZeroInSectionName, WrongBitsType, WrongAlignment, WrongPosition, WrongField}
 use Rattle.elf_object.specs.Object.{BodyValue, bits, no_bits, relocs, group, ObjectValue, SectionValue, section_at}
 use Rattle.elf_object.specs.Positions.{HasFlag, HasZero, IsPast, LacksFlag, info_position, is_bits}
 
@@ -18,15 +18,15 @@ types_without_bits =
     SHT_NULL ∷ SHT_SYMTAB ∷ SHT_RELA ∷ SHT_HASH ∷ SHT_DYNAMIC ∷ SHT_NOBITS ∷ SHT_REL ∷ SHT_SHLIB ∷ SHT_DYNSYM ∷ SHT_GROUP ∷ SHT_SYMTAB_SHNDX ∷ []
 
 -- rule 2: the section has bits, and a type that doesn't go with them
-abbrev pub IsWrongBits : BodyValue → Type 0
-IsWrongBits (bits type content) = Contains types_without_bits type
-IsWrongBits (no_bits size) = ⊥
-IsWrongBits (relocs rela target entries) = ⊥
-IsWrongBits (group comdat signature members) = ⊥
+abbrev pub IsWrongBitsType : BodyValue → Type 0
+IsWrongBitsType (bits type content) = Contains types_without_bits type
+IsWrongBitsType (no_bits size) = ⊥
+IsWrongBitsType (relocs rela target entries) = ⊥
+IsWrongBitsType (group comdat signature members) = ⊥
 
 -- rule 3: the alignment is neither 0 nor a power of two, or the address is no multiple of it
-abbrev pub IsMisaligned : SectionValue → Type 0
-IsMisaligned s = IsWrongAlignment s.align ⊎ ((1 < s.align) × (s.addr % s.align ≢ 0))
+abbrev pub HasWrongAlignment : SectionValue → Type 0
+HasWrongAlignment s = IsWrongAlignment s.align ⊎ ((1 < s.align) × (s.addr % s.align ≢ 0))
 
 -- rule 4: a position in the body names a section or symbol that isn't there, or the target has no bits
 abbrev pub IsNoTarget : ObjectValue → ℕ → Type 0
@@ -43,12 +43,13 @@ abbrev pub HasWrongPosition : ObjectValue → SectionValue → Type 0
 HasWrongPosition o s =
     IsPast (length o.sections) s.link ⊎ (IsPast (length o.sections) (info_position s.info) ⊎ HasWrongReference o s.body)
 
--- rule 5: where the body gives info no meaning, it is a section's position just where the flag INFO_LINK says so
+-- rule 5: where the body gives info no meaning, it is a number though the flag INFO_LINK says that it is a section's position,
+-- or the other way round
 abbrev pub IsAgainstFlag : ℕ → Info → Type 0
 IsAgainstFlag flags (Number number) = HasFlag flags SHF_INFO_LINK
 IsAgainstFlag flags (Section position) = LacksFlag flags SHF_INFO_LINK
 
--- where it does, the object has neither link nor info of its own, and entries have their size; those of REL have no addend
+-- where it does, the section has a link or an info of its own, or entries of another size, or entries of REL with an addend
 abbrev pub HasLinkOrInfo : SectionValue → Type 0
 HasLinkOrInfo s = (s.link ≢ None) ⊎ (s.info ≢ Number 0)
 
@@ -61,30 +62,30 @@ HasWrongField s (group comdat signature members) = HasLinkOrInfo s ⊎ (s.entsiz
 
 -- what breaks each of these rules
 abbrev pub BreaksSection : SectionRule → ObjectValue → SectionValue → Type 0
-BreaksSection Name o s = HasZero s.name
-BreaksSection BitsType o s = IsWrongBits s.body
-BreaksSection Alignment o s = IsMisaligned s
-BreaksSection Position o s = HasWrongPosition o s
-BreaksSection Fields o s = HasWrongField s s.body
+BreaksSection ZeroInSectionName o s = HasZero s.name
+BreaksSection WrongBitsType o s = IsWrongBitsType s.body
+BreaksSection WrongAlignment o s = HasWrongAlignment s
+BreaksSection WrongPosition o s = HasWrongPosition o s
+BreaksSection WrongField o s = HasWrongField s s.body
 
 -- the row of such a rule: the positions of the sections that break it
 abbrev pub SomeSection : SectionRule → ObjectValue → Row
 SomeSection r o = AtEntry (length o.sections) (λ i. BreaksSection r o (section_at o i)) (λ i. i)
 
 abbrev pub zero_in_section_name : ObjectValue → Row
-zero_in_section_name = SomeSection Name
+zero_in_section_name = SomeSection ZeroInSectionName
 
 abbrev pub wrong_bits_type : ObjectValue → Row
-wrong_bits_type = SomeSection BitsType
+wrong_bits_type = SomeSection WrongBitsType
 
 abbrev pub wrong_alignment : ObjectValue → Row
-wrong_alignment = SomeSection Alignment
+wrong_alignment = SomeSection WrongAlignment
 
 abbrev pub wrong_position : ObjectValue → Row
-wrong_position = SomeSection Position
+wrong_position = SomeSection WrongPosition
 
 abbrev pub wrong_field : ObjectValue → Row
-wrong_field = SomeSection Fields
+wrong_field = SomeSection WrongField
 
 unfoldable pub section_rules : ObjectValue → List {1} Ruled
 section_rules o =

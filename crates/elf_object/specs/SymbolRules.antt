@@ -5,7 +5,7 @@ use Rattle.elf_rules.specs.Rows.{AtEntry, Row, Ruled, rule}
 use Rattle.elf_object.specs.declared.symbol.Place.{Place}
 use Rattle.elf_object.specs.declared.symbol.Place.TheVariants.{Undef, Abs, Common, In}
 use Rattle.elf_object.specs.declared.symbol_rules.SymbolRule.{SymbolRule}
-use Rattle.elf_object.specs.declared.symbol_rules.SymbolRule.TheVariants.{Name, Section}
+use Rattle.elf_object.specs.declared.symbol_rules.SymbolRule.TheVariants.{ZeroInSymbolName, WrongPlace}
 use Rattle.elf_object.specs.Object.{ObjectValue, SymbolValue, symbol_at}
 use Rattle.elf_object.specs.Positions.{HasZero, IsPast}
 
@@ -22,19 +22,19 @@ IsLocal s = s.info / 16 ≡ STB_LOCAL
 
 -- what breaks the rules on a symbol by itself
 abbrev pub BreaksSymbol : SymbolRule → ObjectValue → SymbolValue → Type 0
-BreaksSymbol Name o s = HasZero s.name
-BreaksSymbol Section o s = IsPast (length o.sections) (place_position s.place)
+BreaksSymbol ZeroInSymbolName o s = HasZero s.name
+BreaksSymbol WrongPlace o s = IsPast (length o.sections) (place_position s.place)
 
 abbrev pub SomeSymbol : SymbolRule → ObjectValue → Row
 SomeSymbol r o = AtEntry (length o.symbols) (λ i. BreaksSymbol r o (symbol_at o i)) (λ i. i)
 
 -- rule 7: a symbol's name has a zero byte
 abbrev pub zero_in_symbol_name : ObjectValue → Row
-zero_in_symbol_name = SomeSymbol Name
+zero_in_symbol_name = SomeSymbol ZeroInSymbolName
 
 -- rule 8: a symbol is defined in a section that isn't there
 abbrev pub wrong_place : ObjectValue → Row
-wrong_place = SomeSymbol Section
+wrong_place = SomeSymbol WrongPlace
 
 -- rule 9: a symbol is local, and one before it is not
 abbrev pub IsMisplacedLocal : ObjectValue → ℕ → Type 0

@@ -9,7 +9,7 @@ use Rattle.elf_table.specs.Sections.{Sections}
 use Rattle.elf_object.specs.Laid.{Laid, file_header, layout_bytes, layout_parts, section_headers}
 use Rattle.elf_object.specs.Object.{ObjectValue}
 use Rattle.elf_object.specs.ObjectRules.{IsObject}
-use Rattle.elf_object.specs.PlainSections.{names_at, plain_sections, section_names}
+use Rattle.elf_object.specs.PlainSections.{name_table_at, plain_sections, section_names}
 use Rattle.elf_object.specs.Widths.{ObjectFits}
 
 -- the sections of the file in which the object's parts are at these places
@@ -19,7 +19,7 @@ written_sections o places =
     let headers = section_headers (name_place (section_names o)) sections places in
     record {
       header = file_header o (length sections + 1) (slice_index places (length sections));
-      headers = all_headers headers (names_at o);
+      headers = all_headers headers (name_table_at o);
       contents = [] ∷ map (λ s. s.content) sections;
     }
 

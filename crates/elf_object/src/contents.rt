@@ -4,7 +4,7 @@ ghost use Rattle.elf_image.specs.Output.{Writes};
 ghost use Rattle.elf_object.specs.Object.{section_at};
 ghost use Rattle.elf_object.specs.ObjectView.{body_value, section_value};
 ghost use Rattle.elf_object.specs.PlacedObject.{HasShortIndexes, HasShortNumbers, IsThere, plain_section};
-ghost use Rattle.elf_object.specs.PlainSections.{body_bytes, index_of, index_table, own_section, relocation_bytes, symbol_table};
+ghost use Rattle.elf_object.specs.PlainSections.{body_bytes, index_of, index_table_section, own_section, relocation_bytes, symbol_table_section};
 
 use crate::body_entries::{GroupWords, RelEntries, RelaEntries};
 use crate::layout_parts::content_part;
@@ -39,7 +39,7 @@ pub(crate) fn write_content<W: Write>(
 }
 
 fn write_symbols<W: Write>(placed: &PlacedObject<'_, '_>, writer: &mut W) -> Result<(), WriteFault>
-    ensures { Writes (W.contents writer.old) (W.contents writer.new) (symbol_table placed.now.object).content result }
+    ensures { Writes (W.contents writer.old) (W.contents writer.new) (symbol_table_section placed.now.object).content result }
 {
     let _few = symbol_count(placed);
     write_entries(writer, placed.object().order(), &SymbolEntries { placed })
@@ -49,7 +49,7 @@ fn write_index_table<W: Write>(
     placed: &PlacedObject<'_, '_>,
     writer: &mut W,
 ) -> Result<(), WriteFault>
-    ensures { Writes (W.contents writer.old) (W.contents writer.new) (index_table placed.now.object).content result }
+    ensures { Writes (W.contents writer.old) (W.contents writer.new) (index_table_section placed.now.object).content result }
 {
     let _few = symbol_count(placed);
     write_entries(writer, placed.object().order(), &IndexWords { placed })

@@ -2,7 +2,7 @@
 //! relocation section and group that is kept, and 76 to 79.
 ghost use Rattle.std.specs.Prelude.{◌≡◌, ◌↔◌, ◌<◌, ◌≤◌, ◌+◌, ◌*◌, [], IsTrue, length};
 ghost use Rattle.elf_extent.specs.Least.{IsLowest};
-ghost use Rattle.elf_object.specs.FileRules.{IsOutside, reference_rules, rules_behind, rules_of_bodies, rules_of_body, symbol_outside, symbol_rules_in};
+ghost use Rattle.elf_object.specs.FileRules.{IsSymbolOutside, reference_rules, rules_behind, rules_of_bodies, rules_of_body, symbol_outside, symbol_rules_in};
 ghost use Rattle.elf_object.specs.Kept.{body_kind, kept, left_out};
 ghost use Rattle.elf_object.specs.Reading.{AreTablesOf};
 ghost use Rattle.elf_rules.specs.Broken.{fault_of};
@@ -13,7 +13,7 @@ ghost use Rattle.elf_table.specs.Symbols.{symbols_of};
 
 use crate::body_kind::BodyKind;
 use crate::left_out::LeftOut;
-use crate::member_rule::lowest_wrong_member;
+use crate::member_rule::lowest_wrong_group_member;
 use crate::reference_rules::{ReferenceRule, lowest_reference};
 use crate::rules::*;
 use elf_field::abi::*;
@@ -66,7 +66,7 @@ fn lowest_symbol_outside(
     ensures { IsLowest (symbol_outside left.now (sections_of image.now) t) result }
 {
     for j in 0..symbols.len() {
-        if is_outside(image, left, symbols.entry(j).place) {
+        if is_symbol_outside(image, left, symbols.entry(j).place) {
             return Some(section_index_offset(image, t, j));
         }
     }
@@ -86,8 +86,8 @@ fn section_index_offset(image: &Image<'_>, t: usize, j: usize) -> u64
 
 /// Whether no symbol of an object can be defined at this place: in a section that is left out, or at a reserved index that has
 /// no meaning here.
-fn is_outside(image: &Image<'_>, left: &LeftOut, place: Place) -> bool
-    ensures { IsTrue result ↔ IsOutside left.now (sections_of image.now) place }
+fn is_symbol_outside(image: &Image<'_>, left: &LeftOut, place: Place) -> bool
+    ensures { IsTrue result ↔ IsSymbolOutside left.now (sections_of image.now) place }
 {
     match place {
         Place::Undefined | Place::Absolute | Place::Common => false,
@@ -126,16 +126,16 @@ fn judge_body(image: &Image<'_>, tables: &Tables<'_, '_>, i: usize) -> Result<()
 fn judge_references(alloc: Global, image: &Image<'_>, left: &LeftOut) -> Result<(), Fault>
     ensures { IsJudgedBehind [] (reference_rules left.now (sections_of image.now)) (λ _. Unit {0}) result }
 {
-    if let Some(at) = lowest_reference(image, left, ReferenceRule::Target) {
+    if let Some(at) = lowest_reference(image, left, ReferenceRule::WrongRelocationTarget) {
         return Err(Fault::from(Broken::new(WRONG_RELOCATION_TARGET, at)));
     }
-    if let Some(at) = lowest_wrong_member(alloc, image, left)? {
+    if let Some(at) = lowest_wrong_group_member(alloc, image, left)? {
         return Err(Fault::from(Broken::new(WRONG_GROUP_MEMBER, at)));
     }
-    if let Some(at) = lowest_reference(image, left, ReferenceRule::Link) {
+    if let Some(at) = lowest_reference(image, left, ReferenceRule::WrongKeptLink) {
         return Err(Fault::from(Broken::new(WRONG_KEPT_LINK, at)));
     }
-    if let Some(at) = lowest_reference(image, left, ReferenceRule::Info) {
+    if let Some(at) = lowest_reference(image, left, ReferenceRule::WrongKeptInfo) {
         return Err(Fault::from(Broken::new(WRONG_KEPT_INFO, at)));
     }
     Ok(())

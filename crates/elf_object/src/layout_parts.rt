@@ -7,7 +7,7 @@ ghost use Rattle.elf_object.specs.NameTables.{AreNameTables};
 ghost use Rattle.elf_object.specs.Object.{ObjectValue};
 ghost use Rattle.elf_object.specs.ObjectView.{body_value, section_value};
 ghost use Rattle.elf_object.specs.PlainSections.{own_section, plain_sections};
-ghost use Rattle.elf_object.specs.SectionRules.{IsWrongBits};
+ghost use Rattle.elf_object.specs.SectionRules.{IsWrongBitsType};
 ghost use Rattle.elf_table.specs.Relocations.{relocation_size};
 
 use crate::name_tables::{NameTables, has_index_table};
@@ -56,7 +56,7 @@ fn own_parts(alloc: Global, object: &Object<'_>) -> Result<Vec<(u64, u64)>, Allo
 
 /// The content of a section, whose alignment counts only where it has bytes in the file.
 pub(crate) fn content_part(section: &Section<'_>) -> (u64, u64)
-    requires { ¬ IsWrongBits (body_value section.now.body) }
+    requires { ¬ IsWrongBitsType (body_value section.now.body) }
     ensures { (o : ObjectValue) → result ≡ saturated (content_part (own_section o (section_value section.now))) }
 {
     match &section.body {

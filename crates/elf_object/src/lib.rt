@@ -67,7 +67,7 @@ mod widths;
 mod written_laws;
 
 pub use fault::ObjectFault;
-pub use laws::{one_object, one_object_fault};
+pub use laws::{kept_object_rules, one_object, one_object_fault};
 pub use layout::{Layout, LayoutFault, lay_out};
 pub use layout_laws::{laid_objects, one_layout};
 pub use object::Object;

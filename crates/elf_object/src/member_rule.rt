@@ -1,7 +1,7 @@
 //! Rule 77: the members of the section groups of a file (gABI chapter 4, Section Groups).
 ghost use Rattle.std.specs.Prelude.{◌≡◌, ◌↔◌, ◌<◌, ◌+◌, IfOk, IsTrue, length};
 ghost use Rattle.elf_extent.specs.Least.{IsLowest, lower_of};
-ghost use Rattle.elf_object.specs.FileRules.{IsNamedBefore, IsWrongMember, wrong_group_member, wrong_member_of};
+ghost use Rattle.elf_object.specs.FileRules.{IsMemberBefore, IsWrongGroupMember, wrong_group_member, wrong_group_member_of};
 ghost use Rattle.elf_object.specs.MemberMarks.{AreMarks};
 ghost use Rattle.elf_table.specs.Sections.{content, order, section, sections_of};
 
@@ -13,7 +13,7 @@ use std::alloc::{AllocError, Global};
 
 /// The lowest offset of a member that is left out, or a group itself, or a member of a group before. It takes a mark for each
 /// section, and the time of one pass over all members.
-pub(crate) fn lowest_wrong_member(
+pub(crate) fn lowest_wrong_group_member(
     alloc: Global,
     image: &Image<'_>,
     left: &LeftOut,
@@ -46,13 +46,13 @@ fn lower(a: Option<u64>, b: Option<u64>) -> Option<u64>
 fn lowest_in_group(image: &Image<'_>, left: &LeftOut, i: usize, marks: &Vec<bool>) -> Option<u64>
     requires there { i < length image.now.sections }
     requires typed { (section (sections_of image.now) i).sh_type ≡ SHT_GROUP }
-    requires marked { let f = sections_of image.now in AreMarks (length image.now.sections) (IsNamedBefore f i) marks.now.items }
-    ensures { IsLowest (wrong_member_of left.now (sections_of image.now) i) result }
+    requires marked { let f = sections_of image.now in AreMarks (length image.now.sections) (IsMemberBefore f i) marks.now.items }
+    ensures { IsLowest (wrong_group_member_of left.now (sections_of image.now) i) result }
 {
     let words = image.content(i);
     for j in 0..member_count(words) {
         let m = member(image.order(), words, j) as usize;
-        if is_wrong_member(image, left, i, m, marks) {
+        if is_wrong_group_member(image, left, i, m, marks) {
             return Some(image.content_offset(i) + WORD_SIZE * (j as u64 + 1));
         }
     }
@@ -60,9 +60,15 @@ fn lowest_in_group(image: &Image<'_>, left: &LeftOut, i: usize, marks: &Vec<bool
 }
 
 /// Whether section `m` can't be a member of the group in section `i`; the members of the groups before are marked.
-fn is_wrong_member(image: &Image<'_>, left: &LeftOut, i: usize, m: usize, marks: &Vec<bool>) -> bool
-    requires { let f = sections_of image.now in AreMarks (length image.now.sections) (IsNamedBefore f i) marks.now.items }
-    ensures { IsTrue result ↔ IsWrongMember left.now (sections_of image.now) i m }
+fn is_wrong_group_member(
+    image: &Image<'_>,
+    left: &LeftOut,
+    i: usize,
+    m: usize,
+    marks: &Vec<bool>,
+) -> bool
+    requires { let f = sections_of image.now in AreMarks (length image.now.sections) (IsMemberBefore f i) marks.now.items }
+    ensures { IsTrue result ↔ IsWrongGroupMember left.now (sections_of image.now) i m }
 {
     let _ = i;
     if !left.is_kept(image, m) {
@@ -75,8 +81,8 @@ fn is_wrong_member(image: &Image<'_>, left: &LeftOut, i: usize, m: usize, marks:
 fn mark_members(image: &Image<'_>, i: usize, marks: &mut Vec<bool>)
     requires there { i < length image.now.sections }
     requires typed { (section (sections_of image.now) i).sh_type ≡ SHT_GROUP }
-    requires marked { let f = sections_of image.now in AreMarks (length image.now.sections) (IsNamedBefore f i) marks.old.items }
-    ensures { let f = sections_of image.now in AreMarks (length image.now.sections) (IsNamedBefore f (i + 1)) marks.new.items }
+    requires marked { let f = sections_of image.now in AreMarks (length image.now.sections) (IsMemberBefore f i) marks.old.items }
+    ensures { let f = sections_of image.now in AreMarks (length image.now.sections) (IsMemberBefore f (i + 1)) marks.new.items }
 {
     let words = image.content(i);
     for j in 0..member_count(words) {

@@ -4,7 +4,7 @@ ghost use Rattle.elf_object.specs.ObjectRules.{IsObject, IsObjectFault};
 ghost use Rattle.elf_object.specs.ObjectView.{value_of};
 
 use crate::fault::ObjectFault;
-use crate::group_rule::lowest_wrong_group;
+use crate::group_rule::lowest_wrong_membership;
 use crate::parts::ObjectParts;
 use crate::rules::*;
 use crate::section_rules::judge_sections;
@@ -22,7 +22,7 @@ pub(crate) fn judge(alloc: Global, parts: &ObjectParts<'_>) -> Result<(), Object
             position: broken.at as usize,
         });
     }
-    if let Some(position) = lowest_wrong_group(alloc, parts)? {
+    if let Some(position) = lowest_wrong_membership(alloc, parts)? {
         return Err(ObjectFault::Section {
             rule: WRONG_MEMBERSHIP,
             position,

@@ -2,7 +2,7 @@
 ghost use Rattle.std.specs.Prelude.{◌≡◌, ◌<◌, ℕ, ◌+◌, ◌^◌, [], get_or, length, slice_index, IfErr, IfOk};
 ghost use Rattle.elf_object.specs.LayoutView.{IsLayoutFault};
 ghost use Rattle.elf_object.specs.PlacedObject.{IsPlaced, IsSectionAt};
-ghost use Rattle.elf_object.specs.PlainSections.{names_at, plain_sections, section_names, strings_at, symbol_names, symbol_table_at};
+ghost use Rattle.elf_object.specs.PlainSections.{name_table_at, plain_sections, section_names, strings_at, symbol_names, symbol_table_at};
 ghost use Rattle.elf_string_table.specs.StringTable.{name_place, string_table};
 
 use crate::layout::{Layout, LayoutFault, lay_out_with};
@@ -137,7 +137,7 @@ impl<'o, 'a> PlacedObject<'o, 'a> {
 
     /// The section index of `.shstrtab`, which is the last one.
     pub(crate) fn names_index(&self) -> usize
-        ensures value { result ≡ names_at self.now.object }
+        ensures value { result ≡ name_table_at self.now.object }
         ensures few { result < 2 ^ 31 }
     {
         self.section_count()

@@ -1,7 +1,7 @@
 //! Rules 76, 78 and 79: the references from one section of a file to another (gABI chapter 4, Sections: sh_link, sh_info).
 ghost use Rattle.std.specs.Prelude.{◌≡◌, ◌↔◌, ◌<◌, ◌+◌, IsTrue, length};
 ghost use Rattle.elf_extent.specs.Least.{IsLowest};
-ghost use Rattle.elf_object.specs.FileRules.{BreaksReference, HasWrongInfo, HasWrongLink, HasWrongTarget, IsPlain, SomeReference, reference_field};
+ghost use Rattle.elf_object.specs.FileRules.{BreaksReference, HasWrongKeptInfo, HasWrongKeptLink, HasWrongRelocationTarget, IsPlain, SomeReference, reference_field};
 ghost use Rattle.elf_table.specs.Sections.{sections_of};
 
 use crate::body_kind::BodyKind;
@@ -13,11 +13,11 @@ use elf_image::Image;
 #[derive(Clone, Copy, Debug, PartialEq, Eq)]
 pub(crate) enum ReferenceRule {
     /// Rule 76, [`WRONG_RELOCATION_TARGET`](crate::rules::WRONG_RELOCATION_TARGET).
-    Target,
+    WrongRelocationTarget,
     /// Rule 78, [`WRONG_KEPT_LINK`](crate::rules::WRONG_KEPT_LINK).
-    Link,
+    WrongKeptLink,
     /// Rule 79, [`WRONG_KEPT_INFO`](crate::rules::WRONG_KEPT_INFO).
-    Info,
+    WrongKeptInfo,
 }
 
 impl ReferenceRule {
@@ -27,9 +27,9 @@ impl ReferenceRule {
         ensures { IsTrue result ↔ BreaksReference self left.now (sections_of image.now) i }
     {
         match self {
-            ReferenceRule::Target => has_wrong_target(image, left, i),
-            ReferenceRule::Link => has_wrong_link(image, left, i),
-            ReferenceRule::Info => has_wrong_info(image, left, i),
+            ReferenceRule::WrongRelocationTarget => has_wrong_relocation_target(image, left, i),
+            ReferenceRule::WrongKeptLink => has_wrong_kept_link(image, left, i),
+            ReferenceRule::WrongKeptInfo => has_wrong_kept_info(image, left, i),
         }
     }
 
@@ -39,16 +39,16 @@ impl ReferenceRule {
         ensures inside { result < SHDR_SIZE }
     {
         match self {
-            ReferenceRule::Target | ReferenceRule::Info => SH_INFO_AT,
-            ReferenceRule::Link => SH_LINK_AT,
+            ReferenceRule::WrongRelocationTarget | ReferenceRule::WrongKeptInfo => SH_INFO_AT,
+            ReferenceRule::WrongKeptLink => SH_LINK_AT,
         }
     }
 }
 
 /// Whether section `i` has relocations that apply to no section with bits.
-fn has_wrong_target(image: &Image<'_>, left: &LeftOut, i: usize) -> bool
+fn has_wrong_relocation_target(image: &Image<'_>, left: &LeftOut, i: usize) -> bool
     requires { i < length image.now.sections }
-    ensures { IsTrue result ↔ HasWrongTarget left.now (sections_of image.now) i }
+    ensures { IsTrue result ↔ HasWrongRelocationTarget left.now (sections_of image.now) i }
 {
     let section = image.section(i);
     let target = section.sh_info as usize;
@@ -67,18 +67,18 @@ fn is_plain(image: &Image<'_>, left: &LeftOut, i: usize) -> bool
 }
 
 /// Whether section `i` is plain and links to one that is left out.
-fn has_wrong_link(image: &Image<'_>, left: &LeftOut, i: usize) -> bool
+fn has_wrong_kept_link(image: &Image<'_>, left: &LeftOut, i: usize) -> bool
     requires { i < length image.now.sections }
-    ensures { IsTrue result ↔ HasWrongLink left.now (sections_of image.now) i }
+    ensures { IsTrue result ↔ HasWrongKeptLink left.now (sections_of image.now) i }
 {
     let link = image.section(i).sh_link as usize;
     is_plain(image, left, i) && (link != 0 && !left.is_kept(image, link))
 }
 
 /// Whether section `i` is plain and has the flag `SHF_INFO_LINK`, and its info is the index of one that is left out.
-fn has_wrong_info(image: &Image<'_>, left: &LeftOut, i: usize) -> bool
+fn has_wrong_kept_info(image: &Image<'_>, left: &LeftOut, i: usize) -> bool
     requires { i < length image.now.sections }
-    ensures { IsTrue result ↔ HasWrongInfo left.now (sections_of image.now) i }
+    ensures { IsTrue result ↔ HasWrongKeptInfo left.now (sections_of image.now) i }
 {
     let section = image.section(i);
     is_plain(image, left, i)

@@ -6,7 +6,7 @@ ghost use Rattle.elf_object.specs.Laid.{section_header, section_headers};
 ghost use Rattle.elf_object.specs.Object.{section_at};
 ghost use Rattle.elf_object.specs.ObjectView.{body_value, symbol_value};
 ghost use Rattle.elf_object.specs.PlacedObject.{IsThere, plain_section};
-ghost use Rattle.elf_object.specs.PlainSections.{PlainSection, body_type, index_of, is_local, names_at, own_info, own_section, plain_sections, section_names};
+ghost use Rattle.elf_object.specs.PlainSections.{PlainSection, body_type, index_of, is_local, name_table_at, own_info, own_section, plain_sections, section_names};
 ghost use Rattle.elf_object.specs.Positions.{info_position};
 ghost use Rattle.elf_rules.specs.Tables.{no_section};
 
@@ -45,7 +45,7 @@ impl<'p, 'o, 'a> Entries for SectionHeaders<'p, 'o, 'a> {
     type Entry = Shdr;
 
     ghost entries = { λ s. let o = s.placed.now.object in
-        all_headers (section_headers (name_place (section_names o)) (plain_sections o) s.placed.now.layout.places) (names_at o) };
+        all_headers (section_headers (name_place (section_names o)) (plain_sections o) s.placed.now.layout.places) (name_table_at o) };
 
     ghost fit = { λ _. Unit {0} };
 
@@ -66,7 +66,7 @@ impl<'p, 'o, 'a> Entries for SectionHeaders<'p, 'o, 'a> {
 
 /// Section header 0, which holds the numbers that the header of the file can't.
 fn first_header(placed: &PlacedObject<'_, '_>) -> Shdr
-    ensures { let o = placed.now.object in result ≡ first_header (length (plain_sections o) + 1) (names_at o) }
+    ensures { let o = placed.now.object in result ≡ first_header (length (plain_sections o) + 1) (name_table_at o) }
 {
     Shdr {
         sh_size: long_number(placed.header_count()) as u64,

@@ -6,7 +6,7 @@ ghost use Rattle.elf_rules.specs.Broken.{fault_of};
 ghost use Rattle.elf_rules.specs.Rows.{FirstIn};
 ghost use Rattle.elf_object.specs.ObjectView.{body_value, section_value, value_of};
 ghost use Rattle.elf_object.specs.Positions.{IsPast};
-ghost use Rattle.elf_object.specs.SectionRules.{BreaksSection, HasLinkOrInfo, HasWrongField, HasWrongPosition, HasWrongReference, IsAgainstFlag, IsMisaligned, IsNoTarget, IsWrongBits, SomeSection, section_rules, types_without_bits};
+ghost use Rattle.elf_object.specs.SectionRules.{BreaksSection, HasLinkOrInfo, HasWrongAlignment, HasWrongField, HasWrongPosition, HasWrongReference, IsAgainstFlag, IsNoTarget, IsWrongBitsType, SomeSection, section_rules, types_without_bits};
 
 use crate::parts::ObjectParts;
 use crate::positions::{has_past, has_zero, info_position, is_bits, is_past, section_at};
@@ -35,15 +35,15 @@ const TYPES_WITHOUT_BITS: [u32; 11] = [
 #[derive(Clone, Copy, Debug, PartialEq, Eq)]
 pub(crate) enum SectionRule {
     /// Rule 1, [`ZERO_IN_SECTION_NAME`].
-    Name,
+    ZeroInSectionName,
     /// Rule 2, [`WRONG_BITS_TYPE`].
-    BitsType,
+    WrongBitsType,
     /// Rule 3, [`WRONG_ALIGNMENT`].
-    Alignment,
+    WrongAlignment,
     /// Rule 4, [`WRONG_POSITION`].
-    Position,
+    WrongPosition,
     /// Rule 5, [`WRONG_FIELD`].
-    Fields,
+    WrongField,
 }
 
 impl SectionRule {
@@ -52,18 +52,18 @@ impl SectionRule {
         ensures { IsTrue result ↔ BreaksSection self (value_of parts.now) (section_value section.now) }
     {
         match self {
-            SectionRule::Name => has_zero(section.name),
-            SectionRule::BitsType => is_wrong_bits(&section.body),
-            SectionRule::Alignment => is_misaligned(section),
-            SectionRule::Position => has_wrong_position(parts, section),
-            SectionRule::Fields => has_wrong_field(section),
+            SectionRule::ZeroInSectionName => has_zero(section.name),
+            SectionRule::WrongBitsType => is_wrong_bits_type(&section.body),
+            SectionRule::WrongAlignment => has_wrong_alignment(section),
+            SectionRule::WrongPosition => has_wrong_position(parts, section),
+            SectionRule::WrongField => has_wrong_field(section),
         }
     }
 }
 
 /// Whether bits have a type that doesn't go with them.
-fn is_wrong_bits(body: &Body<'_>) -> bool
-    ensures { IsTrue result ↔ IsWrongBits (body_value body.now) }
+fn is_wrong_bits_type(body: &Body<'_>) -> bool
+    ensures { IsTrue result ↔ IsWrongBitsType (body_value body.now) }
 {
     match body {
         Body::Bits(section_type, _) => is_type_without_bits(*section_type),
@@ -79,8 +79,8 @@ fn is_type_without_bits(section_type: u32) -> bool
 }
 
 /// Whether the alignment is neither 0 nor a power of two, or the address is no multiple of it.
-fn is_misaligned(section: &Section<'_>) -> bool
-    ensures { IsTrue result ↔ IsMisaligned (section_value section.now) }
+fn has_wrong_alignment(section: &Section<'_>) -> bool
+    ensures { IsTrue result ↔ HasWrongAlignment (section_value section.now) }
 {
     is_wrong_alignment(section.align) || section.align > 1 && section.addr % section.align != 0
 }
@@ -185,19 +185,19 @@ pub(crate) fn judge_sections(parts: &ObjectParts<'_>) -> Result<(), Broken>
     ensures fault { FirstIn (section_rules (value_of parts.now)) (fault_of result) }
     ensures number { IfErr result (λ broken. broken.rule ≤ 5) }
 {
-    if let Some(position) = lowest_section(parts, SectionRule::Name) {
+    if let Some(position) = lowest_section(parts, SectionRule::ZeroInSectionName) {
         return Err(Broken::new(ZERO_IN_SECTION_NAME, position));
     }
-    if let Some(position) = lowest_section(parts, SectionRule::BitsType) {
+    if let Some(position) = lowest_section(parts, SectionRule::WrongBitsType) {
         return Err(Broken::new(WRONG_BITS_TYPE, position));
     }
-    if let Some(position) = lowest_section(parts, SectionRule::Alignment) {
+    if let Some(position) = lowest_section(parts, SectionRule::WrongAlignment) {
         return Err(Broken::new(WRONG_ALIGNMENT, position));
     }
-    if let Some(position) = lowest_section(parts, SectionRule::Position) {
+    if let Some(position) = lowest_section(parts, SectionRule::WrongPosition) {
         return Err(Broken::new(WRONG_POSITION, position));
     }
-    if let Some(position) = lowest_section(parts, SectionRule::Fields) {
+    if let Some(position) = lowest_section(parts, SectionRule::WrongField) {
         return Err(Broken::new(WRONG_FIELD, position));
     }
     Ok(())

@@ -17,9 +17,9 @@ use elf_rules::Broken;
 #[derive(Clone, Copy, Debug, PartialEq, Eq)]
 pub(crate) enum SymbolRule {
     /// Rule 7, [`ZERO_IN_SYMBOL_NAME`].
-    Name,
+    ZeroInSymbolName,
     /// Rule 8, [`WRONG_PLACE`].
-    Section,
+    WrongPlace,
 }
 
 impl SymbolRule {
@@ -28,8 +28,8 @@ impl SymbolRule {
         ensures { IsTrue result ↔ BreaksSymbol self (value_of parts.now) (symbol_value symbol.now) }
     {
         match self {
-            SymbolRule::Name => has_zero(symbol.name),
-            SymbolRule::Section => is_past(parts.sections.len(), place_position(symbol.place)),
+            SymbolRule::ZeroInSymbolName => has_zero(symbol.name),
+            SymbolRule::WrongPlace => is_past(parts.sections.len(), place_position(symbol.place)),
         }
     }
 }
@@ -84,10 +84,10 @@ pub(crate) fn judge_symbols(parts: &ObjectParts<'_>) -> Result<(), Broken>
     ensures fault { FirstIn (symbol_rules (value_of parts.now)) (fault_of result) }
     ensures number { IfErr result (λ broken. 6 < broken.rule) }
 {
-    if let Some(position) = lowest_symbol(parts, SymbolRule::Name) {
+    if let Some(position) = lowest_symbol(parts, SymbolRule::ZeroInSymbolName) {
         return Err(Broken::new(ZERO_IN_SYMBOL_NAME, position));
     }
-    if let Some(position) = lowest_symbol(parts, SymbolRule::Section) {
+    if let Some(position) = lowest_symbol(parts, SymbolRule::WrongPlace) {
         return Err(Broken::new(WRONG_PLACE, position));
     }
     if let Some(position) = lowest_misplaced_local(parts) {

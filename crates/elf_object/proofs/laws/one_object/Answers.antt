@@ -5,11 +5,14 @@ use Rattle.elf_field.specs.Abi.{SHT_SYMTAB}
 use Rattle.elf_field.specs.declared.shdr.Shdr.{Shdr}
 use Rattle.elf_object.specs.Denotes.{section_denoted, symbols_denoted}
 use Rattle.elf_object.specs.Kept.{is_kept, left_out, symbol_table}
-use Rattle.elf_object.proofs.OneObject.{one_object}
+use Rattle.elf_object.proofs.OneObject.{one_object, some_object}
 use Rattle.elf_object.proofs.laws.one_object.Goals as goal
 
 pub returns-clause-one : goal.returns-clause-one
 returns-clause-one c = one_object
+
+pub returns-clause-some : goal.returns-clause-some
+returns-clause-some c = some_object
 
 pub returns-clause-no_sections : goal.returns-clause-no_sections
 returns-clause-no_sections c = λ f o none denotes.

@@ -5,8 +5,9 @@ use Rattle.elf_object.specs.LayoutParts.{saturated}
 use Rattle.elf_object.specs.Object.{SectionValue}
 use Rattle.elf_object.specs.ObjectView.{section_value}
 use Rattle.elf_object.specs.PlainSections.{own_section}
-use Rattle.elf_object.specs.SectionRules.{IsWrongBits}
-use Rattle.elf_object.proofs.PartSizes.{own_parts_are, section_read, sound_bits}
+use Rattle.elf_object.specs.SectionRules.{IsWrongBitsType}
+use Rattle.elf_object.proofs.PartSizes.{own_parts_are, section_read}
+use Rattle.elf_object.proofs.SoundObject.{no_wrong_bits_type}
 use Rattle.elf_object.proofs.layout_parts.own_parts.Goals as goal
 
 pub content_part-requires : goal.content_part-requires
@@ -14,7 +15,7 @@ content_part-requires c = λ wrong.
     let o = c.args.object.now in
     let read =
     section_read o c.sections-section-items.result.now c.loop-section.section-index c.section-item.result c.sections-section-items.ensures c.loop-section-test.true c.section-item.is in
-    sound_bits o c.keeps_rules.ensures c.loop-section.section-index read.1 (subst (λ (s : SectionValue). IsWrongBits s.body) read.0 wrong)
+    no_wrong_bits_type o c.keeps_rules.ensures c.loop-section.section-index read.1 (subst (λ (s : SectionValue). IsWrongBitsType s.body) read.0 wrong)
 
 pub returns : goal.returns
 returns c =

@@ -1,5 +1,5 @@
 use Rattle.std.proofs.Common.{ℕ, ◌⊎◌, length}
-use Rattle.elf_object.specs.FileRules.{IsNamedBefore, NamesFirst}
+use Rattle.elf_object.specs.FileRules.{IsMemberBefore, NamesFirst}
 use Rattle.elf_object.specs.MemberMarks.{AreMarks}
 use Rattle.elf_table.specs.Sections.{sections_of}
 use Rattle.elf_object.proofs.member_rule.mark_members.Given as goal
@@ -8,4 +8,4 @@ use Rattle.elf_object.proofs.member_rule.mark_members.Given as goal
 abbrev pub invariant-loop-j : goal.invariant-loop-j
 invariant-loop-j l =
     let f = sections_of l.image in
-    AreMarks (length l.image.sections) (λ (m : ℕ). IsNamedBefore f l.i m ⊎ NamesFirst f l.i l.j m) l.marks.items
+    AreMarks (length l.image.sections) (λ (m : ℕ). IsMemberBefore f l.i m ⊎ NamesFirst f l.i l.j m) l.marks.items

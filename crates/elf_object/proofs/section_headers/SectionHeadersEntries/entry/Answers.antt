@@ -2,7 +2,7 @@ use Rattle.std.proofs.Common.{◌+◌, ◌-◌, ℕ, ap, arith, sym, ◌∙◌}
 use Rattle.elf_image.specs.RelocatableFile.{first_header}
 use Rattle.elf_string_table.specs.StringTable.{name_place}
 use Rattle.elf_object.specs.PlacedObject.{plain_section}
-use Rattle.elf_object.specs.PlainSections.{names_at, plain_sections, section_names}
+use Rattle.elf_object.specs.PlainSections.{name_table_at, plain_sections, section_names}
 use Rattle.elf_object.specs.declared.placed_section.PlacedSection.TheVariants.{Names}
 use Rattle.elf_object.proofs.HeaderTable.{behind_first, first_one, header_found, length-headers}
 use Rattle.elf_object.proofs.section_headers.SectionHeadersEntries.entry.Goals as goal
@@ -19,7 +19,7 @@ returns-then-index-eq0 c =
     let p = c.args.self.now.placed.now in
     let o = p.object in
     let all = length-headers (name_place (section_names o)) (plain_sections o) p.layout.places c.is_placed.ensures.layout.count in
-    c.first_header.ensures ∙ ap (λ (n : ℕ). first_header (n + 1) (names_at o)) (sym all) ∙ sym (first_one _ _ c.args.index c.first_header.result c.if-index-eq0.true)
+    c.first_header.ensures ∙ ap (λ (n : ℕ). first_header (n + 1) (name_table_at o)) (sym all) ∙ sym (first_one _ _ c.args.index c.first_header.result c.if-index-eq0.true)
 
 pub returns-else-index-eq0 : goal.returns-else-index-eq0
 returns-else-index-eq0 c =

@@ -1,8 +1,8 @@
 use Rattle.std.proofs.Common.{◌≡◌, length, arith}
 use Rattle.elf_table.specs.Sections.{sections_of}
 use Rattle.elf_object.proofs.GroupMembers.{marks_passed, wrong_next, wrong_passed}
-use Rattle.elf_object.proofs.member_rule.lowest_wrong_member.Goals as goal
-use Rattle.elf_object.proofs.member_rule.lowest_wrong_member.Goals.{then-section-eq-SHT_GROUP, else-section-eq-SHT_GROUP}
+use Rattle.elf_object.proofs.member_rule.lowest_wrong_group_member.Goals as goal
+use Rattle.elf_object.proofs.member_rule.lowest_wrong_group_member.Goals.{then-section-eq-SHT_GROUP, else-section-eq-SHT_GROUP}
 
 pub loop-i-preserved : goal.loop-i-preserved
 loop-i-preserved c =

@@ -1,7 +1,7 @@
 use Rattle.std.proofs.Common.{ℕ, ◌<◌, []}
-use Rattle.elf_object.specs.GroupRule.{AreMarked, HasWrongMember}
+use Rattle.elf_object.specs.GroupRule.{AreMarked, HasWrongMembership}
 use Rattle.elf_object.specs.ObjectView.{value_of}
-use Rattle.elf_object.proofs.group_rule.lowest_wrong_group.Given as goal
+use Rattle.elf_object.proofs.group_rule.lowest_wrong_membership.Given as goal
 
 -- the members of the groups so far are marked, and none of them is wrong
 abbrev pub invariant-loop-i : goal.invariant-loop-i
@@ -9,5 +9,5 @@ invariant-loop-i l =
     let o = value_of l.parts in
     record {
       marked : AreMarked o l.i [] 0 l.marks.items;
-      never : (k : ℕ) → k < l.i → HasWrongMember o k → ⊥;
+      never : (k : ℕ) → k < l.i → HasWrongMembership o k → ⊥;
     }

@@ -1,7 +1,7 @@
 use Rattle.std.proofs.Common.{ℕ, ◌<◌}
-use Rattle.elf_object.specs.GroupRule.{AreMarked, IsWrongMember}
+use Rattle.elf_object.specs.GroupRule.{AreMarked, IsWrongMembership}
 use Rattle.elf_object.specs.ObjectView.{value_of}
-use Rattle.elf_object.proofs.group_rule.has_wrong_member.Given as goal
+use Rattle.elf_object.proofs.group_rule.has_wrong_membership.Given as goal
 
 -- the members so far are marked, and none of them is wrong
 abbrev pub invariant-loop-member : goal.invariant-loop-member
@@ -9,5 +9,5 @@ invariant-loop-member l =
     let o = value_of l.parts in
     record {
       marked : AreMarked o l.i l.member-items l.member-index l.marks.items;
-      never : (k : ℕ) → k < l.member-index → IsWrongMember o l.i l.member-items k → ⊥;
+      never : (k : ℕ) → k < l.member-index → IsWrongMembership o l.i l.member-items k → ⊥;
     }
