@@ -35,11 +35,11 @@ address_at cs k d lt =
 
 -- ---- each name with an entry is bound, where rules 6 and 9 don't stand
 
-lacking : (fs : List ObjectValue) (f : ℕ) (p : Place) → (IsDefinedAt fs f p → ⊥) → (is_common p ≡ true → ⊥) → (IsUndefinedAt fs f p → ⊥) → ⊥
-lacking fs f Undef defined common undefined = undefined tt
-lacking fs f Abs defined common undefined = defined tt
-lacking fs f Common defined common undefined = common refl
-lacking fs f (In s) defined common undefined = defined undefined
+no_other_place : (fs : List ObjectValue) (f : ℕ) (p : Place) → (IsDefinedAt fs f p → ⊥) → (is_common p ≡ true → ⊥) → (IsUndefinedAt fs f p → ⊥) → ⊥
+no_other_place fs f Undef defined common undefined = undefined tt
+no_other_place fs f Abs defined common undefined = defined tt
+no_other_place fs f Common defined common undefined = common refl
+no_other_place fs f (In s) defined common undefined = defined undefined
 
 global : (n : ℕ) → n ≢ STB_LOCAL → n ≢ STB_WEAK → (STB_WEAK < n → ⊥) → n ≡ STB_GLOBAL
 global n local weak above = elim (cases_lt STB_WEAK n) [ inl past ↦ absurd (above past) | inr below ↦ omega arith ]
@@ -50,7 +50,7 @@ all_bound opt fs clean name p there (strong, common, weak, inr (q, (file, index,
     let bad_symbol = clean.1.1.1.1.1.0 in
     let undefined = clean.1.1.1.1.1.1.1.1.0 in
     let bound : binding (symbol_in fs q.file q.index) ≡ STB_GLOBAL = global (binding (symbol_in fs q.file q.index)) is.0 not_weak (λ above. bad_symbol q (file, index, inl above, entry)) in
-    lacking fs q.file (symbol_in fs q.file q.index).place
+    no_other_place fs q.file (symbol_in fs q.file q.index).place
     (λ defined. strong q (file, index, (is.1, bound, defined), entry))
     (λ block. common q (file, index, (is, block), entry))
     (λ nowhere. undefined q (file, index, (bound, nowhere, subst (IsUnbound fs) (sym is.1) (strong, common, weak, inr (q, (file, index, (is, not_weak), entry)))), entry))

@@ -111,7 +111,10 @@ absent fs ps places rows f s are filled never (Some a) at =
 pub addresses_are : (fs : List ObjectValue) (ps : List Site) (places : List ℕ) (rows : List (List (Option ℕ))) → AreLive fs ps →
     AreFilled fs ps places (length ps) rows → AreAddresses fs ps places rows
 addresses_are fs ps places rows are filled = record {
+  files = filled.files;
+  long = filled.long;
   placed = filled.placed;
+  only = filled.others;
   none = λ f s. (
     (λ none there. (
         let (k, lt, at) = are.all (site f s) there in

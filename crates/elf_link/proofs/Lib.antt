@@ -18,3 +18,9 @@ pub mod Tabled
 pub mod Placings
 pub mod Cells
 pub mod Maps
+pub mod Apart
+pub mod OneSite
+pub mod OnePlan
+pub mod OneLinkFault
+pub mod OneLinkMap
+pub mod Public

@@ -68,7 +68,7 @@ positions_more fs ps n m old now here added are name = elim (same_name m name) [
 
 -- ---- what a list has of a name
 
-bound_first : (bs : List (List ℕ × Binding)) (q : List ℕ) (k : ℕ) → k < length bs → (get_or bs k no_name).0 ≡ q →
+pub bound_first : (bs : List (List ℕ × Binding)) (q : List ℕ) (k : ℕ) → k < length bs → (get_or bs k no_name).0 ≡ q →
     ((j : ℕ) → j < k → (get_or bs j no_name).0 ≡ q → ⊥) → bound_in bs q ≡ Some (get_or bs k no_name).1
 bound_first [] q k lt is none = absurd (omega arith)
 bound_first (b ∷ bs) q zero lt is none = ap (λ (t : Bool). cond t (Some b.1) (bound_in bs q)) ((bytes_eq-Decides q b.0).1 (sym is))
@@ -97,7 +97,7 @@ pub apart_names : (fs : List ObjectValue) (p q : Site) → first_entries fs p �
     name_at fs q ≡ n → ⊥
 apart_names fs p q p_row q_row before n one other = (first_there fs q n q_row other).first p (subst (λ (m : List ℕ). entries fs m p) one (entry_there fs p p_row)) before
 
-names_once : (fs : List ObjectValue) (ps : List Site) → Lists (first_entries fs) ps → (j k : ℕ) → j < k → k < length ps → (q : List ℕ) →
+pub names_once : (fs : List ObjectValue) (ps : List Site) → Lists (first_entries fs) ps → (j k : ℕ) → j < k → k < length ps → (q : List ℕ) →
     name_at fs (site_at ps j) ≡ q → name_at fs (site_at ps k) ≡ q → ⊥
 names_once fs ps are j k lt within q one other =
     apart_names fs (site_at ps j) (site_at ps k) (are.each j (omega arith)) (are.each k within) (are.order j k lt within) q one other

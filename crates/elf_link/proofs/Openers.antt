@@ -131,7 +131,7 @@ all_apart fs ps (with, without, bits, rest, whole) =
     (pairs_append (λ p q. HaveOneKey fs p q → ⊥) with without (openers_apart fs false with bits) (openers_apart fs true without rest)
     (λ j k j_in k_in key. differ (sym (bits.each j j_in).1.1 ∙ key.2 ∙ (rest.each k k_in).1.1)))
 
-once_of : (row : Row) (ps : List Site) → Lists row ps → AreOnce ps
+pub once_of : (row : Row) (ps : List Site) → Lists row ps → AreOnce ps
 once_of row ps is j k lt within same =
     let before = subst (λ (p : Site). Before p (site_at ps k)) same (is.order j k lt within) in
     one_before (site_at ps k) (site_at ps k) before before

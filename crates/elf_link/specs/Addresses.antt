@@ -1,5 +1,5 @@
 -- Rules 10 and 11 of the link: the entry's value, and the ends of all parts. Addresses have no upper bound here, so that the
--- entry's value is asked even where a part ends past the last address.
+-- entry's value is asked even where a part ends at 2^64 or later.
 use Rattle.std.specs.Prelude.{◌≡◌, ℕ, ◌+◌, ◌^◌, ◌<◌, ◌≤◌, Option, None, Some, List, [], ◌∷◌, ◌++◌, drop, length, slice_index}
 use Rattle.elf_extent.specs.Place.{Least, end_of}
 use Rattle.elf_link.specs.declared.addresses.Target.{Target}
@@ -36,7 +36,7 @@ abbrev pub HasNoValue : List (ℕ × ℕ) → ℕ → Target → Type 0
 HasNoValue parts base target =
     (places : List ℕ) × Least parts base places × ((x : ℕ) → value_at places target ≡ Some x → 2 ^ 64 ≤ x)
 
--- some part ends past the last address
+-- some part ends at 2^64 or later, counted behind its last byte
 abbrev pub Overflows : List (ℕ × ℕ) → ℕ → Type 0
 Overflows parts base =
     (places : List ℕ) × Least parts base places × ((k : ℕ) × (k < length parts) × (2 ^ 64 ≤ end_of parts places k))

@@ -16,6 +16,7 @@ pub mod Plan
 pub mod Entry
 pub mod LinkMap
 pub mod LinkMapView
+pub mod Apart
 pub mod Naming
 pub mod NameTable
 pub mod Planning

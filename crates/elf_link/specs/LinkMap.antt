@@ -17,6 +17,7 @@ use Rattle.elf_link.specs.Addresses.{HasValue}
 use Rattle.elf_link.specs.Binds.{Binds, entries}
 use Rattle.elf_link.specs.Discarded.{AreMarks}
 use Rattle.elf_link.specs.Entry.{IsEntryTarget}
+use Rattle.elf_link.specs.Files.{object_at}
 use Rattle.elf_link.specs.Listing.{Lists, first_entries, site, site_at}
 use Rattle.elf_link.specs.Outputs.{is_no_bits, live, output_flags, section_of}
 use Rattle.elf_link.specs.Plan.{AreEach, IsPlan, Plan, chosen_at, flat, name_at, parts_of, placed}
@@ -60,9 +61,13 @@ no_placed = record { name = []; address = 0; size = 0; align = 0 }
 abbrev pub common_at : List CommonValue → ℕ → CommonValue
 common_at cs k = get_or cs k no_placed
 
--- each section that is placed has the address of its place, and the others have none
+-- each section that is placed has the address of its place, and no other section has one; those without are those that aren't live;
+-- the table has a row for each file, with one item for each of its sections
 pub record AreAddresses (fs : List ObjectValue) (ps : List Site) (places : List ℕ) (rows : List (List (Option ℕ))) : Type 0 where
+  pub files : length rows ≡ length fs
+  pub long : (f : ℕ) → f < length fs → length (get_or rows f []) ≡ length (object_at fs f).sections
   pub placed : (k : ℕ) → k < length ps → cell rows (site_at ps k).file (site_at ps k).index ≡ Some (slice_index places k)
+  pub only : (f s a : ℕ) → cell rows f s ≡ Some a → (k : ℕ) × (k < length ps) × ((site_at ps k).file ≡ f) × ((site_at ps k).index ≡ s)
   pub none : (f s : ℕ) → (cell rows f s ≡ None) ↔ ¬ live fs (site f s)
 
 abbrev pub member_of : Site → Member

@@ -15,25 +15,25 @@ HasEarlier fs name f i =
     (e h : ℕ) × IsEarlier e h f i × (e < length fs) × (h < length (object_at fs e).symbols) × IsStrong fs name e h
 
 -- rule 8: a GLOBAL definition after another of that name
-abbrev pub IsSecond : List ObjectValue → ℕ → ℕ → Type 0
-IsSecond fs f i =
+abbrev pub HasTwoDefinitions : List ObjectValue → ℕ → ℕ → Type 0
+HasTwoDefinitions fs f i =
     IsStrong fs (symbol_in fs f i).name f i × HasEarlier fs (symbol_in fs f i).name f i
 
 -- rule 9: a GLOBAL entry that counts as undefined, its name bound to nothing
-abbrev pub IsLacking : List ObjectValue → ℕ → ℕ → Type 0
-IsLacking fs f i =
+abbrev pub IsUndefined : List ObjectValue → ℕ → ℕ → Type 0
+IsUndefined fs f i =
     (binding (symbol_in fs f i) ≡ STB_GLOBAL) × IsUndefinedAt fs f (symbol_in fs f i).place × IsUnbound fs (symbol_in fs f i).name
 
 -- what breaks each of these rules
 abbrev pub BreaksName : List ObjectValue → NameRule → ℕ → ℕ → Type 0
-BreaksName fs TwoDefinitions f i = IsSecond fs f i
-BreaksName fs Undefined f i = IsLacking fs f i
+BreaksName fs TwoDefinitions f i = HasTwoDefinitions fs f i
+BreaksName fs Undefined f i = IsUndefined fs f i
 
 abbrev pub two_definitions : List ObjectValue → Row
-two_definitions fs = AtSymbol fs (IsSecond fs)
+two_definitions fs = AtSymbol fs (HasTwoDefinitions fs)
 
 abbrev pub undefined : List ObjectValue → Row
-undefined fs = AtSymbol fs (IsLacking fs)
+undefined fs = AtSymbol fs (IsUndefined fs)
 
 abbrev pub name_rules : List ObjectValue → List {1} Ruled
 name_rules fs = rule 8 (two_definitions fs) ∷ rule 9 (undefined fs) ∷ []

@@ -57,8 +57,8 @@ abbrev pub IsNotWeak : List ObjectValue → List ℕ → ℕ → ℕ → Type 0
 IsNotWeak fs name f i = IsEntry fs name f i × (binding (symbol_in fs f i) ≢ STB_WEAK)
 
 -- the section of a place, where it is in one, is one of the object's
-abbrev pub IsPlaced : ObjectValue → Place → Type 0
-IsPlaced o Undef = Unit {0}
-IsPlaced o Abs = Unit {0}
-IsPlaced o Common = Unit {0}
-IsPlaced o (In s) = s < length o.sections
+abbrev pub IsPlaceIn : ObjectValue → Place → Type 0
+IsPlaceIn o Undef = Unit {0}
+IsPlaceIn o Abs = Unit {0}
+IsPlaceIn o Common = Unit {0}
+IsPlaceIn o (In s) = s < length o.sections

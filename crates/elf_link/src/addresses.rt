@@ -22,7 +22,7 @@ pub(crate) enum Target {
     Part(usize, u64),
 }
 
-/// Where part `t` starts, when the parts (size, alignment) are placed from `from`; None if it starts past the last address.
+/// Where part `t` starts, when the parts (size, alignment) are placed from `from`; None if it starts at 2^64 or later.
 /// It takes no memory.
 fn start_of(parts: &[(u64, u64)], from: u64, t: usize) -> Option<u64>
     requires { t < length parts.now }
@@ -42,7 +42,7 @@ fn start_of(parts: &[(u64, u64)], from: u64, t: usize) -> Option<u64>
     next_place(cursor, parts[t].1)
 }
 
-/// The entry's value; None if it has none, or one past the last address.
+/// The entry's value; None if it has none, or one of 2^64 or more.
 fn entry_value(parts: &[(u64, u64)], base: u64, target: Target) -> Option<u64>
     requires { IsTarget parts.now target }
     ensures { MatchOption result (HasNoValue parts.now base target) (HasValue parts.now base target) }
@@ -65,7 +65,7 @@ pub(crate) struct Addressed {
 
 /// The least addresses of the parts (size, alignment) from `base`, and the entry's value.
 ///
-/// Answers rule 10 where the entry has no value below 2^64, else rule 11 where a part ends past the last address, and
+/// Answers rule 10 where the entry has no value below 2^64, else rule 11 where a part ends at 2^64 or later, and
 /// [`LinkFault::OutOfMemory`] only where memory is refused and none of them stands.
 pub(crate) fn addresses(
     alloc: Global,

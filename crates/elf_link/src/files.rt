@@ -7,7 +7,7 @@ ghost use Rattle.elf_object.specs.ObjectView.{section_value, symbol_value};
 use elf_object::{Object, Section, Symbol};
 
 /// Promises that a file breaks none of the object rules. It does nothing.
-pub(crate) fn keeps_rules(objects: &[Object<'_>], file: usize)
+pub fn keeps_rules(objects: &[Object<'_>], file: usize)
     requires { file < length objects.now }
     ensures { IsObject (object_at objects.now file) }
 {
@@ -15,25 +15,21 @@ pub(crate) fn keeps_rules(objects: &[Object<'_>], file: usize)
 }
 
 /// How many sections a file has.
-pub(crate) fn section_count(object: &Object<'_>) -> usize
+pub fn section_count(object: &Object<'_>) -> usize
     ensures { result ≡ length object.now.sections }
 {
     object.sections().len()
 }
 
 /// How many symbols a file has.
-pub(crate) fn symbol_count(object: &Object<'_>) -> usize
+pub fn symbol_count(object: &Object<'_>) -> usize
     ensures { result ≡ length object.now.symbols }
 {
     object.symbols().len()
 }
 
 /// The section at position `index` of a file.
-pub(crate) fn section_of<'o, 'a>(
-    objects: &'o [Object<'a>],
-    file: usize,
-    index: usize,
-) -> &'o Section<'a>
+pub fn section_of<'o, 'a>(objects: &'o [Object<'a>], file: usize, index: usize) -> &'o Section<'a>
     requires file { file < length objects.now }
     requires index { index < length (object_at objects.now file).sections }
     ensures { section_value result.now ≡ section_in objects.now file index }
@@ -42,7 +38,7 @@ pub(crate) fn section_of<'o, 'a>(
 }
 
 /// The symbol at position `index` of a file.
-pub(crate) fn symbol_of<'a>(objects: &[Object<'a>], file: usize, index: usize) -> Symbol<'a>
+pub fn symbol_of<'a>(objects: &[Object<'a>], file: usize, index: usize) -> Symbol<'a>
     requires file { file < length objects.now }
     requires index { index < length (object_at objects.now file).symbols }
     ensures { symbol_value result ≡ symbol_in objects.now file index }

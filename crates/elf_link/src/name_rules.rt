@@ -5,9 +5,9 @@ ghost use Rattle.elf_link.specs.Discarded.{AreMarks};
 ghost use Rattle.elf_link.specs.Files.{IsEarlier, object_at};
 ghost use Rattle.elf_link.specs.NameTable.{IsWholeTable};
 ghost use Rattle.elf_link.specs.Naming.{position_by};
-ghost use Rattle.elf_link.specs.NameRules.{BreaksName, HasEarlier, HasNoName, IsFirstName, IsLacking, IsSecond, name_rules};
+ghost use Rattle.elf_link.specs.NameRules.{BreaksName, HasEarlier, HasNoName, HasTwoDefinitions, IsFirstName, IsUndefined, name_rules};
 ghost use Rattle.elf_link.specs.Rows.{AtSymbol, FirstIn, IsFirstAt, Nowhere, found_of};
-ghost use Rattle.elf_link.specs.Symbols.{IsPlaced, IsUndefinedAt};
+ghost use Rattle.elf_link.specs.Symbols.{IsPlaceIn, IsUndefinedAt};
 
 use crate::bind::{bind, first_strong};
 use crate::files::{keeps_rules, symbol_count, symbol_of};
@@ -45,8 +45,8 @@ impl NameRule {
         ensures { IsTrue result ↔ BreaksName objects.now self file index }
     {
         match self {
-            NameRule::TwoDefinitions => is_second(objects, marks, table, file, index),
-            NameRule::Undefined => is_lacking(objects, marks, table, file, index),
+            NameRule::TwoDefinitions => has_two_definitions(objects, marks, table, file, index),
+            NameRule::Undefined => is_undefined(objects, marks, table, file, index),
         }
     }
 }
@@ -76,7 +76,7 @@ fn has_earlier(
 }
 
 /// Rule 8: whether a symbol is a global definition, and one before it is of its name.
-fn is_second(
+fn has_two_definitions(
     objects: &[Object<'_>],
     marks: &[Vec<bool>],
     table: &NameTable<'_>,
@@ -87,7 +87,7 @@ fn is_second(
     requires index { index < length (object_at objects.now file).symbols }
     requires marks { AreMarks objects.now (map (λ row. row.items) marks.now) }
     requires table { IsWholeTable objects.now (position_by table.now.positions) table.now.known.items }
-    ensures { IsTrue result ↔ IsSecond objects.now file index }
+    ensures { IsTrue result ↔ HasTwoDefinitions objects.now file index }
 {
     let name = symbol_of(objects, file, index).name;
     is_definition(STB_GLOBAL, name, objects, marks, file, index)
@@ -97,7 +97,7 @@ fn is_second(
 /// Whether a place counts as undefined: nowhere, or in a section that is discarded.
 fn is_undefined_at(objects: &[Object<'_>], marks: &[Vec<bool>], file: usize, place: Place) -> bool
     requires file { file < length objects.now }
-    requires place { IsPlaced (object_at objects.now file) place }
+    requires place { IsPlaceIn (object_at objects.now file) place }
     requires marks { AreMarks objects.now (map (λ row. row.items) marks.now) }
     ensures { IsTrue result ↔ IsUndefinedAt objects.now file place }
 {
@@ -120,7 +120,7 @@ fn is_unbound(objects: &[Object<'_>], table: &NameTable<'_>, name: &[u8]) -> boo
 }
 
 /// Rule 9: whether a symbol is global, counts as undefined, and its name is bound to nothing.
-fn is_lacking(
+fn is_undefined(
     objects: &[Object<'_>],
     marks: &[Vec<bool>],
     table: &NameTable<'_>,
@@ -131,7 +131,7 @@ fn is_lacking(
     requires index { index < length (object_at objects.now file).symbols }
     requires marks { AreMarks objects.now (map (λ row. row.items) marks.now) }
     requires table { IsWholeTable objects.now (position_by table.now.positions) table.now.known.items }
-    ensures { IsTrue result ↔ IsLacking objects.now file index }
+    ensures { IsTrue result ↔ IsUndefined objects.now file index }
 {
     keeps_rules(objects, file);
     let symbol = symbol_of(objects, file, index);

@@ -1,28 +1,31 @@
 //! Where a rule of the link stands.
 ghost use Rattle.std.specs.Prelude.{◌≡◌};
 
-/// The position of a file, of a section or symbol in it, and of an entry in a relocation section. What a rule does not look
-/// at is 0.
+/// A place in the files of a link at which a rule may stand: a file, a section or symbol of it, and an entry of a relocation
+/// section. What a rule does not look at is 0. Of two sites the one in the earlier file comes first, in one file the one of the
+/// lower index, and there the one of the lower entry.
 #[derive(Clone, Copy, Debug, PartialEq, Eq)]
-pub(crate) struct Site {
+pub struct Site {
     /// The position of the file among the objects, from 0.
     pub file: usize,
-    /// The position of the section or symbol in it.
+    /// The position in it of the section, or of the symbol where the rule is on symbols, from 0.
     pub index: usize,
-    /// The position of the entry in the relocation section.
+    /// The position of the entry in the relocation section, from 0.
     pub entry: usize,
 }
 
-/// A rule by its number, and the first site where it stands.
+/// A rule of a link that stands, and the first site where it does. A [`LinkFault`](crate::LinkFault) is made from it by `?`.
 #[derive(Clone, Copy, Debug, PartialEq, Eq)]
-pub(crate) struct Broken {
+pub struct Broken {
+    /// The number of the rule; those of the map are in [`rules`](crate::rules).
     pub rule: u16,
+    /// The first site at which it stands.
     pub site: Site,
 }
 
 impl Broken {
     /// The rule of this number, at this site.
-    pub(crate) fn new(rule: u16, site: Site) -> Broken
+    pub fn new(rule: u16, site: Site) -> Broken
         ensures { result ≡ record { rule = rule; site = site } }
     {
         Broken { rule, site }

@@ -15,15 +15,15 @@ use elf_object::Object;
 /// A test of one section or one symbol: a rule of the link.
 #[derive(Clone, Copy, Debug, PartialEq, Eq)]
 pub(crate) enum SiteTest {
-    /// Rule 3: a live section with the flag `SHF_TLS`.
+    /// Rule 3, [`TLS`](crate::rules::TLS).
     Tls,
-    /// Rule 4: a live section with the flag `SHF_LINK_ORDER`.
+    /// Rule 4, [`LINK_ORDER`](crate::rules::LINK_ORDER).
     LinkOrder,
-    /// Rule 5: a COMDAT group with an empty signature.
+    /// Rule 5, [`EMPTY_SIGNATURE`](crate::rules::EMPTY_SIGNATURE).
     EmptySignature,
-    /// Rule 6: a symbol that can't be linked.
+    /// Rule 6, [`BAD_SYMBOL`](crate::rules::BAD_SYMBOL).
     BadSymbol,
-    /// Rule 7: a common that is not global, or of a wrong alignment.
+    /// Rule 7, [`BAD_COMMON`](crate::rules::BAD_COMMON).
     BadCommon,
 }
 

@@ -5,7 +5,7 @@ ghost use Rattle.elf_link.specs.FileRules.{IsBadCommon, IsBadSymbol, IsNoPower};
 ghost use Rattle.elf_link.specs.Files.{object_at, symbol_in};
 ghost use Rattle.elf_link.specs.Symbols.{IsCommon, IsDefinedAt, IsDefinition, IsEntry, IsNotWeak, binding as binding_of, is_common as is_common_of, symbol_type as symbol_type_of};
 ghost use Rattle.elf_object.specs.ObjectView.{symbol_value};
-ghost use Rattle.elf_link.specs.Symbols.{IsPlaced};
+ghost use Rattle.elf_link.specs.Symbols.{IsPlaceIn};
 
 use crate::files::{keeps_rules, symbol_of};
 use crate::section_tests::is_discarded;
@@ -100,7 +100,7 @@ pub(crate) fn is_not_weak(name: &[u8], objects: &[Object<'_>], file: usize, inde
 /// Whether a place is a definition: absolute, or in a section that is not discarded.
 fn is_defined_at(objects: &[Object<'_>], marks: &[Vec<bool>], file: usize, place: Place) -> bool
     requires file { file < length objects.now }
-    requires place { IsPlaced (object_at objects.now file) place }
+    requires place { IsPlaceIn (object_at objects.now file) place }
     requires marks { AreMarks objects.now (map (λ row. row.items) marks.now) }
     ensures { IsTrue result ↔ IsDefinedAt objects.now file place }
 {

@@ -5,7 +5,7 @@ use Rattle.elf_object.specs.Positions.{members_of}
 use Rattle.elf_object.specs.declared.section.Body.{Body}
 use Rattle.elf_link.specs.Files.{object_at, section_in}
 use Rattle.elf_link.specs.Marking.{AreMarked}
-use Rattle.elf_link.proofs.ObjectFacts.{member_there}
+use Rattle.elf_object.proofs.Public.{member_there}
 use Rattle.elf_link.proofs.Marked.{marked_none, marked_next}
 use Rattle.elf_link.proofs.discarded.mark_members.Goals as goal
 

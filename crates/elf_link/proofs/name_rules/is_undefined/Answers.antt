@@ -2,12 +2,12 @@ use Rattle.std.proofs.Common.{ap, sym, subst}
 use Rattle.elf_object.specs.Object.{SymbolValue}
 use Rattle.elf_object.specs.declared.symbol.Place.{Place}
 use Rattle.elf_link.specs.Files.{object_at}
-use Rattle.elf_link.specs.Symbols.{IsPlaced}
+use Rattle.elf_link.specs.Symbols.{IsPlaceIn}
 use Rattle.elf_link.proofs.ObjectFacts.{symbol_placed}
-use Rattle.elf_link.proofs.name_rules.is_lacking.Goals as goal
+use Rattle.elf_link.proofs.name_rules.is_undefined.Goals as goal
 
 pub is_undefined_at-requires-clause-place : goal.is_undefined_at-requires-clause-place
 is_undefined_at-requires-clause-place c =
     let o = object_at c.args.objects.now c.args.file in
-    subst (λ (p : Place). IsPlaced o p) (ap (λ (s : SymbolValue). s.place) (sym c.symbol_of-symbol.ensures))
+    subst (λ (p : Place). IsPlaceIn o p) (ap (λ (s : SymbolValue). s.place) (sym c.symbol_of-symbol.ensures))
     (symbol_placed o c.args.index c.keeps_rules.ensures c.requires.index)
