@@ -30,9 +30,9 @@ pub(crate) fn modulo(width: Width, number: i128) -> u64
 }
 
 impl Form {
-    /// The number of an entry of this form: `value` is its symbol's value, below 2^66, `address` that of the field.
+    /// The number of an entry of this form: `value` is its symbol's value, below 2^126, `address` that of the field.
     pub fn number(self, value: u128, addend: i128, address: u64) -> i128
-        requires value { value < 2 ^ 66 }
+        requires value { value < 2 ^ 126 }
         requires low { neg_ℤ (pos (2 ^ 63)) ≤ℤ addend }
         requires high { addend <ℤ pos (2 ^ 64) }
         ensures { result ≡ number_of self value addend address }

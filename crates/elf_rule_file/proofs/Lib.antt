@@ -1,0 +1,3 @@
+mod Cuts
+mod Lines
+mod Words
