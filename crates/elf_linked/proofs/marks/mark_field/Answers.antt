@@ -1,0 +1,24 @@
+use Rattle.elf_linked.specs.LinkingFacts.{files_of}
+use Rattle.elf_linked.specs.Collecting.{field_at}
+use Rattle.elf_linked.specs.Marking.{marks_view}
+use Rattle.elf_linked.proofs.Marked.{marks_more, shares_taken, taken_shares}
+use Rattle.elf_linked.proofs.ObjectFacts.{target_section}
+use Rattle.elf_linked.proofs.marks.mark_field.Goals as goal
+
+pub returns-clause-taken : goal.returns-clause-taken
+returns-clause-taken c =
+    let fs = files_of c.args.linking.now in
+    let p = (field_at c.args.fields.now c.args.k).site in
+    let there = target_section fs p (c.requires.fields.each c.args.k c.requires.below).applied.0 c.keeps_rules.ensures in
+    let (after, same, taken, marked) = rw (c.target_of-target.ensures, c.entry_of-offset.ensures) at c.mark_in.ensures in (
+      (λ is. taken_shares fs c.args.fields.now c.args.k (marks_view c.args.marks.now.items) there c.requires.before (taken.0 is)),
+      (λ shares. taken.1 (shares_taken fs c.args.fields.now c.args.k (marks_view c.args.marks.now.items) there c.requires.before shares)),
+    )
+
+pub returns-clause-marks : goal.returns-clause-marks
+returns-clause-marks c =
+    let fs = files_of c.args.linking.now in
+    let p = (field_at c.args.fields.now c.args.k).site in
+    let there = target_section fs p (c.requires.fields.each c.args.k c.requires.below).applied.0 c.keeps_rules.ensures in
+    let (after, same, taken, marked) = rw (c.target_of-target.ensures, c.entry_of-offset.ensures) at c.mark_in.ensures in
+    rw same (marks_more fs c.args.fields.now c.args.k (marks_view c.args.marks.now.items) after there c.requires.before marked)

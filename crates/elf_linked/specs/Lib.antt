@@ -1,0 +1,19 @@
+-- The words of this crate's contracts.
+pub mod Entries
+pub mod Fields
+pub mod Values
+pub mod SymbolValues
+pub mod Numbers
+pub mod RelocationRules
+pub mod MapFacts
+pub mod LinkingFacts
+pub mod Collecting
+pub mod FieldTests
+pub mod Grid
+pub mod Marking
+pub mod Judged
+pub mod Memory
+pub mod Linked
+pub mod CopyView
+pub mod Patching
+pub mod LinkedView

@@ -1,0 +1,33 @@
+//! The relocated bytes of a link of ELF-64 objects (gABI chapter 4, Relocation): the number of each applied relocation in its
+//! field, by rules that say what relocations of a kind are.
+//!
+//! [`relocate`] answers the bytes of each live section ([`Linked`]), or the first of rules 12 to 16 ([`rules`]) that stands.
+//!
+//! ```
+//! let link = map(alloc, &objects, &options, hasher)?;
+//! let linked = relocate(alloc, &link, &objects, &[rule])?;
+//! // A call in section 0 of file 0, whose target begins one byte behind it.
+//! assert_eq!(linked.bytes(0, 0), Some([0xe8, 1, 0, 0, 0, 0xc3].as_slice()));
+//! ```
+#![tactic(auto)]
+
+mod collecting;
+mod copies;
+mod entries;
+mod field;
+mod field_test;
+mod judge;
+mod laws;
+mod linked;
+mod linking;
+mod marks;
+mod numbers;
+mod patching;
+mod relocating;
+pub mod rules;
+mod values;
+
+pub use laws::one_byte;
+pub use linked::{Identity, Linked};
+pub use relocating::relocate;
+pub use values::binding_value;

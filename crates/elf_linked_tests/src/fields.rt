@@ -1,0 +1,136 @@
+//! Fields of four bytes in a section of eight, with the addends in them.
+use crate::worked::{GLOBAL, broken, bytes_in, fault_of, object, rule, section, symbol};
+use elf_field::Order;
+use elf_link::LinkFault;
+use elf_object::{Body, Object, Place, Relocation};
+use elf_relocation::{Form, Range};
+use std::alloc::Global;
+use std::test::Fail;
+
+/// The numbers -4 and 0, with a relocation of kind 1 at each of these offsets; its symbol stands behind them.
+fn file(alloc: Global, order: Order, offsets: &[u64]) -> Result<Object<'static>, Fail> {
+    let mut entries = Vec::new(alloc);
+    for offset in offsets {
+        entries.push(Relocation {
+            offset: *offset,
+            symbol: Some(0),
+            kind: 1,
+            addend: 0,
+        })?;
+    }
+    let relocs = Body::Relocs {
+        rela: false,
+        target: 0,
+        entries,
+    };
+    let numbers: &'static [u8] = match order {
+        Order::Little => b"\xfc\xff\xff\xff\0\0\0\0",
+        Order::Big => b"\xff\xff\xff\xfc\0\0\0\0",
+    };
+    let sections = vec![in alloc;
+        section(b".data", 3, 1, 0, Body::Bits(1, numbers)),
+        section(b".rel.data", 0, 1, 16, relocs),
+    ]?;
+    let symbols = vec![in alloc; symbol(b"x", GLOBAL, Place::In(0), 8)]?;
+    Ok(object(alloc, order, sections, symbols)?)
+}
+
+#[test]
+fn holds_its_number_in_the_order_of_the_file(rt: HostRuntime) -> Result<(), Fail> {
+    let alloc = rt.alloc();
+    let rows = [
+        (Order::Little, Range::Signed, b"\x04\x20\0\0\0\0\0\0"),
+        (Order::Little, Range::Wrap, b"\x04\x20\0\0\0\0\0\0"),
+        (Order::Big, Range::Signed, b"\0\0\x20\x04\0\0\0\0"),
+        (Order::Big, Range::Wrap, b"\0\0\x20\x04\0\0\0\0"),
+    ];
+    for (order, range, want) in rows {
+        let objects = vec![in alloc; file(alloc, order, &[0])?]?;
+        let rules = [rule(1, Form::Abs, range)];
+        let bytes = bytes_in(alloc, &objects, 0x2000, &rules, 0, 0)?;
+        assert_eq!(rt; bytes.as_deref(), Some(want.as_slice()));
+    }
+    Ok(())
+}
+
+#[test]
+fn holds_two_numbers_in_any_order_of_their_entries(rt: HostRuntime) -> Result<(), Fail> {
+    let alloc = rt.alloc();
+    for offsets in [[0, 4], [4, 0]] {
+        let objects = vec![in alloc; file(alloc, Order::Little, &offsets)?]?;
+        let rules = [rule(1, Form::Abs, Range::Signed)];
+        let bytes = bytes_in(alloc, &objects, 0x2000, &rules, 0, 0)?;
+        assert_eq!(rt;
+            bytes.as_deref(),
+            Some(b"\x04\x20\0\0\x08\x20\0\0".as_slice())
+        );
+    }
+    Ok(())
+}
+
+// No field at all, so none that passes the end.
+#[test]
+fn leaves_the_bytes_of_a_rule_without_a_field(rt: HostRuntime) -> Result<(), Fail> {
+    let alloc = rt.alloc();
+    let objects = vec![in alloc; file(alloc, Order::Little, &[5])?]?;
+    let rules = [rule(1, Form::None, Range::Signed)];
+    let bytes = bytes_in(alloc, &objects, 0x2000, &rules, 0, 0)?;
+    assert_eq!(rt;
+        bytes.as_deref(),
+        Some(b"\xfc\xff\xff\xff\0\0\0\0".as_slice())
+    );
+    Ok(())
+}
+
+#[test]
+fn refuses_by_the_rule_of_the_kind(rt: HostRuntime) -> Result<(), Fail> {
+    let alloc = rt.alloc();
+    let objects = vec![in alloc; file(alloc, Order::Little, &[0])?]?;
+    let rows = [
+        (rule(1, Form::Abs, Range::Unsigned), broken(16, 0)),
+        (rule(2, Form::Abs, Range::Signed), broken(12, 0)),
+    ];
+    for (of_kind, want) in rows {
+        assert_eq!(rt; fault_of(alloc, &objects, 0x2000, &[of_kind]), want);
+    }
+    Ok(())
+}
+
+#[test]
+fn refuses_a_field_that_passes_the_end(rt: HostRuntime) -> Result<(), Fail> {
+    let alloc = rt.alloc();
+    for offset in [5, 0xffff_ffff_ffff_ffff] {
+        let objects = vec![in alloc; file(alloc, Order::Little, &[offset])?]?;
+        let rules = [rule(1, Form::Abs, Range::Signed)];
+        assert_eq!(rt; fault_of(alloc, &objects, 0x2000, &rules), broken(14, 0));
+    }
+    Ok(())
+}
+
+#[test]
+fn refuses_a_field_that_shares_a_byte(rt: HostRuntime) -> Result<(), Fail> {
+    let alloc = rt.alloc();
+    let objects = vec![in alloc; file(alloc, Order::Little, &[0, 3])?]?;
+    let rules = [rule(1, Form::Abs, Range::Signed)];
+    assert_eq!(rt; fault_of(alloc, &objects, 0x2000, &rules), broken(15, 1));
+    Ok(())
+}
+
+// The tests are also run with each growth refused in turn (`rt try --test --fail-alloc N`): then this one sees want of memory, and
+// no other answer in its place.
+#[test]
+fn a_refused_growth_is_told(rt: HostRuntime) -> Result<(), Fail> {
+    let alloc = rt.alloc();
+    let objects = vec![in alloc; file(alloc, Order::Little, &[0, 4])?]?;
+    let rules = [rule(1, Form::Abs, Range::Signed)];
+    match bytes_in(alloc, &objects, 0x2000, &rules, 0, 0) {
+        Ok(bytes) => {
+            assert_eq!(rt;
+                bytes.as_deref(),
+                Some(b"\x04\x20\0\0\x08\x20\0\0".as_slice())
+            )
+        }
+        Err(fault) => assert_eq!(rt; fault, LinkFault::OutOfMemory),
+    }
+    Ok(())
+}
