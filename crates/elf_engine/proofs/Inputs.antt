@@ -90,4 +90,4 @@ pub stopped : (inputs rests : List (Option (List ℕ))) (bytes : List ℕ) (faul
     → IsReadingFault inputs rests fault
 stopped inputs rests bytes (Read at) stop is = (bytes, stop, is)
 stopped inputs rests bytes (Write written) stop is = absurd is
-stopped inputs rests bytes OutOfMemory stop is = tt
+stopped inputs rests bytes OutOfMemory stop is = (bytes, stop)

@@ -2,8 +2,10 @@
 pub mod Calls
 pub mod Digits
 pub mod Output
+mod Sending
 pub mod Words
 pub mod Left
 pub mod Inputs
+pub mod Items
 pub mod Lines
 pub mod ObjectFiles

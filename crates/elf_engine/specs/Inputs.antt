@@ -34,8 +34,8 @@ StopsAfter (input ∷ inputs) (rest ∷ rests) bytes =
     (GivesBytes input rest bytes × (rests ≡ inputs)) ⊎ ((file : List ℕ) × GivesFile input rest file × StopsAfter inputs rests bytes)
 StopsAfter inputs rests bytes = ⊥
 
--- a fault of reading: a call of a reader failed after it gave so many bytes, or memory was refused
+-- a fault of reading: a call of a reader failed after it gave so many bytes, or memory was refused; no reader behind it is begun
 abbrev pub IsReadingFault : List (Option (List ℕ)) → List (Option (List ℕ)) → ToolFault → Type 0
 IsReadingFault inputs rests (Read at) = (bytes : List ℕ) × StopsAfter inputs rests bytes × (at ≡ length bytes)
 IsReadingFault inputs rests (Write written) = ⊥
-IsReadingFault inputs rests OutOfMemory = Unit {0}
+IsReadingFault inputs rests OutOfMemory = (bytes : List ℕ) × StopsAfter inputs rests bytes

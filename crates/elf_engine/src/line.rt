@@ -8,7 +8,8 @@ ghost use Rattle.elf_engine.specs.Line.{blank, hexadecimal, is_graphic as is_gra
 
 mod digits;
 
-use digits::{MOST_DIGITS, put_digits, put_wide_digits};
+use digits::put_wide_digits;
+pub(crate) use digits::{MOST_DIGITS, put_digits};
 use std::alloc::{AllocError, Global};
 
 /// Appends a line's first word.

@@ -1,15 +1,16 @@
 //! The lines of a link map.
 ghost use Rattle.std.specs.Prelude.{◌≡◌, ◌++◌, ◌<◌, IfOk, OnOk, length, slice_index_or};
-ghost use Rattle.elf_engine.specs.MapLines.{binding_value, common_lines, discarded_lines, map_text as map_text_of, name_lines, output_lines, place_value, symbol_value as symbol_value_of};
-ghost use Rattle.elf_link.specs.Files.{object_at, section_in};
-ghost use Rattle.elf_link.specs.Outputs.{memory_size as memory_size_of};
+ghost use Rattle.std.specs.List.{flat_map};
+ghost use Rattle.elf_engine.specs.MapLines.{common_lines, discarded_lines, map_text as map_text_of, member_text, name_lines, output_lines};
+ghost use Rattle.elf_link.specs.Apart.{size_in};
 
 use super::lines::{Lines, push_lines};
 use crate::map_lines::{
     push_common_line, push_discarded_line, push_member_line, push_name_line, push_output_line,
 };
-use elf_link::{Binding, LinkMap, Member, memory_size};
-use elf_object::{Object, Place};
+use elf_link::{LinkMap, Member, memory_size};
+use elf_linked::binding_value;
+use elf_object::Object;
 use std::alloc::{AllocError, Global};
 
 /// The lines of the link map of these objects: each output section and behind it its members, the commons, the discarded
@@ -81,12 +82,13 @@ struct OutputLines<'l, 'a> {
 }
 
 impl<'l, 'a> Lines for OutputLines<'l, 'a> {
-    ghost use Rattle.std.specs.Prelude.{length};
+    ghost use Rattle.std.specs.Prelude.{get_or, length};
     ghost use Rattle.elf_engine.specs.MapLines.{output_text};
+    ghost use Rattle.elf_link.specs.LinkMap.{no_output};
 
     ghost count = { λ lines. length lines.link.now.outputs };
 
-    ghost line = { λ lines. output_text lines.objects.now lines.link.now };
+    ghost line = { λ lines k. output_text lines.objects.now lines.link.now (get_or lines.link.now.outputs k no_output) };
 
     fn count(&self) -> usize {
         self.link.outputs().len()
@@ -95,13 +97,25 @@ impl<'l, 'a> Lines for OutputLines<'l, 'a> {
     fn push(&self, alloc: Global, text: &mut Vec<u8>, k: usize) -> Result<(), AllocError> {
         let output = &self.link.outputs()[k];
         push_output_line(alloc, text, output)?;
-        let members = MemberLines {
-            objects: self.objects,
-            link: self.link,
-            members: &output.members,
-        };
-        push_lines(alloc, &members, text)
+        push_members(alloc, self.objects, self.link, &output.members, text)
     }
+}
+
+fn push_members<'l, 'a>(
+    alloc: Global,
+    objects: &'l [Object<'a>],
+    link: &'l LinkMap<'a>,
+    members: &'l [Member],
+    text: &mut Vec<u8>,
+) -> Result<(), AllocError>
+    ensures { OnOk result (text.new.items ≡ text.old.items ++ flat_map (member_text objects.now link.now) members.now) }
+{
+    let lines = MemberLines {
+        objects,
+        link,
+        members,
+    };
+    push_lines(alloc, &lines, text)
 }
 
 // The members of an output.
@@ -113,12 +127,13 @@ struct MemberLines<'l, 'a> {
 }
 
 impl<'l, 'a> Lines for MemberLines<'l, 'a> {
-    ghost use Rattle.std.specs.Prelude.{length};
+    ghost use Rattle.std.specs.Prelude.{get_or, length};
+    ghost use Rattle.elf_engine.specs.Members.{no_member};
     ghost use Rattle.elf_engine.specs.MapLines.{member_text};
 
     ghost count = { λ lines. length lines.members.now };
 
-    ghost line = { λ lines. member_text lines.objects.now lines.link.now lines.members.now };
+    ghost line = { λ lines k. member_text lines.objects.now lines.link.now (get_or lines.members.now k no_member) };
 
     fn count(&self) -> usize {
         self.members.len()
@@ -134,7 +149,7 @@ impl<'l, 'a> Lines for MemberLines<'l, 'a> {
 
 // The size of a section in memory; 0 where there is none at that position.
 fn size_of(objects: &[Object<'_>], file: usize, section: usize) -> u64
-    ensures { result ≡ memory_size_of (section_in objects.now file section).body }
+    ensures { result ≡ size_in objects.now file section }
 {
     if file >= objects.len() {
         return 0;
@@ -154,11 +169,12 @@ struct CommonLines<'l, 'a> {
 
 impl<'l, 'a> Lines for CommonLines<'l, 'a> {
     ghost use Rattle.std.specs.Prelude.{length};
-    ghost use Rattle.elf_engine.specs.MapLines.{common_text};
+    ghost use Rattle.elf_engine.specs.MapLines.{common_line};
+    ghost use Rattle.elf_link.specs.LinkMap.{common_at};
 
     ghost count = { λ lines. length lines.link.now.commons };
 
-    ghost line = { λ lines. common_text lines.link.now };
+    ghost line = { λ lines k. common_line (common_at lines.link.now.commons k) };
 
     fn count(&self) -> usize {
         self.link.commons().len()
@@ -234,12 +250,13 @@ struct NameLines<'l, 'a> {
 }
 
 impl<'l, 'a> Lines for NameLines<'l, 'a> {
-    ghost use Rattle.std.specs.Prelude.{length};
+    ghost use Rattle.std.specs.Prelude.{get_or, length};
     ghost use Rattle.elf_engine.specs.MapLines.{named_text};
+    ghost use Rattle.elf_link.specs.LinkMap.{no_name};
 
     ghost count = { λ lines. length lines.link.now.bindings };
 
-    ghost line = { λ lines. named_text lines.objects.now lines.link.now };
+    ghost line = { λ lines k. named_text lines.objects.now lines.link.now (get_or lines.link.now.bindings k no_name) };
 
     fn count(&self) -> usize {
         self.link.names().len()
@@ -247,53 +264,7 @@ impl<'l, 'a> Lines for NameLines<'l, 'a> {
 
     fn push(&self, alloc: Global, text: &mut Vec<u8>, k: usize) -> Result<(), AllocError> {
         let named = self.link.names()[k];
-        let value = value_of(self.objects, self.link, named.binding);
+        let value = binding_value(self.objects, self.link, named.binding);
         push_name_line(alloc, text, value, named)
-    }
-}
-
-// The value of a name; None where its symbol lies in a section that has no address.
-fn value_of(objects: &[Object<'_>], link: &LinkMap<'_>, binding: Binding) -> Option<u128>
-    ensures { result ≡ binding_value objects.now link.now binding }
-{
-    match binding {
-        Binding::Strong { file, symbol } | Binding::Weak { file, symbol } => {
-            symbol_value(objects, link, file, symbol)
-        }
-        Binding::Common { address, .. } => Some(address as u128),
-        Binding::Zero => Some(0),
-    }
-}
-
-fn symbol_value(
-    objects: &[Object<'_>],
-    link: &LinkMap<'_>,
-    file: usize,
-    symbol: usize,
-) -> Option<u128>
-    ensures { result ≡ symbol_value_of objects.now link.now file symbol }
-{
-    if file >= objects.len() {
-        return None;
-    }
-    let symbols = objects[file].symbols();
-    if symbol >= symbols.len() {
-        return None;
-    }
-    let symbol = symbols[symbol];
-    value_at(link, file, symbol.value, symbol.place)
-}
-
-// The value of a symbol of a file at its place.
-fn value_at(link: &LinkMap<'_>, file: usize, value: u64, place: Place) -> Option<u128>
-    ensures { result ≡ place_value link.now file value place }
-{
-    match place {
-        Place::Undef | Place::Common => None,
-        Place::Abs => Some(value as u128),
-        Place::In(section) => match link.address(file, section) {
-            Some(address) => Some(address as u128 + value as u128),
-            None => None,
-        },
     }
 }

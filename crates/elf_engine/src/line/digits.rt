@@ -4,12 +4,12 @@ ghost use Rattle.std.specs.Prelude.{◌≡◌, ◌<◌, ◌≤◌, false, drop};
 ghost use Rattle.std.specs.Fmt.{digit_glyph, digits};
 
 /// A number of 64 bits has no more digits than these, in any base.
-pub(super) const MOST_DIGITS: usize = 64;
+pub(crate) const MOST_DIGITS: usize = 64;
 
 /// Puts the digits at the end of `out`, and answers where they start. It is inlined for the sake of
 /// the base, so that no division is left.
 #[inline(always)]
-pub(super) fn put_digits(number: u64, base: u64, out: &mut [u8; MOST_DIGITS]) -> usize
+pub(crate) fn put_digits(number: u64, base: u64, out: &mut [u8; MOST_DIGITS]) -> usize
     requires least { 2 ≤ base }
     requires most { base ≤ 16 }
     ensures inside { result ≤ 64 }

@@ -21,6 +21,19 @@ returns-in_err-read_input-clause-fault g c =
     let p = err_from_is_err_and c.from_residual.result c.from_residual.ensures.1 in
     rw (p.1, p.2) (stopped _ _ bytes c.in_err-read_input.field-0.0 stop (subst (IsInputFault c.in_err-read_input.field-0.0) long e.fault))
 
+pub returns-in_default-clause-fault : goal.returns-in_default-clause-fault
+returns-in_default-clause-fault g c =
+    let l = c.loop-i in
+    let given = g.R.Read.remaining in
+    let bytes = c.read_input.new.buf.items in
+    let long : vec_len c.read_input.new.buf ≡ length bytes = search rules in
+    let e = c.in_ok-read_input.ensures in
+    let count : length (map items l.files.items) ≡ l.i = length-map l.files.items items ∙ l.invariant.count in (
+      bytes,
+      next_stops given c.args.readers.now l.readers (map items l.files.items) c.index-readers-i.result c.read_input.new.reader l.invariant.read l.i bytes
+          count (search rules) (record { taken = e.taken; limit = rw (← long) e.limit }),
+    )
+
 pub loop-i-preserved : goal.loop-i-preserved
 loop-i-preserved g c =
     let l = c.loop-i in
