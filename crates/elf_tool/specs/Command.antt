@@ -27,13 +27,17 @@ base = record (new_rule (codes "B")) { long = Some (codes "base"); required = tr
 abbrev pub page : Rule
 page = record (new_rule (codes "P")) { long = Some (codes "page"); required = true }
 
+-- `--rules RULES`, which may be left out
+abbrev pub rules_file : Rule
+rules_file = record (new_rule (codes "RULES")) { long = Some (codes "rules") }
+
 -- one file or more
 abbrev pub files : Rule
 files = record (new_rule (codes "FILE")) { required = true; action = Some Append }
 
--- `map --base B --page P FILE...`
+-- `map --base B --page P [--rules RULES] FILE...`
 unfoldable pub map_command : Shape
-map_command = record (new_shape (codes "map")) { rules = base ∷ page ∷ files ∷ [] }
+map_command = record (new_shape (codes "map")) { rules = base ∷ page ∷ rules_file ∷ files ∷ [] }
 
 -- `elfmap COMMAND ..`; it has no subcommand `help`
 unfoldable pub elfmap : App

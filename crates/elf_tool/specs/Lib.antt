@@ -3,4 +3,5 @@ pub mod Command
 pub mod Number
 pub mod Opener
 pub mod Program
+pub mod Rules
 pub mod Words

@@ -1,5 +1,5 @@
 -- What the words of a command line ask for: clap's definition of their matches, read.
-use Rattle.std.specs.Prelude.{◌≡◌, ◌≢◌, ◌⊎◌, ◌<◌, ◌≤◌, ℕ, List, [], Option, None, Some, codes, length, map, unwrap_or}
+use Rattle.std.specs.Prelude.{◌≡◌, ◌≢◌, ◌⊎◌, ◌<◌, ◌≤◌, ℕ, List, [], Option, None, Some, codes, length, map, option_copied, unwrap_or}
 use Rattle.clap.specs.Faults.{fault_of}
 use Rattle.clap.specs.Kinds.{IsAmong}
 use Rattle.clap.specs.Simple.{subcommand_of}
@@ -32,14 +32,18 @@ base_of rows = number_of (text_of (codes "B") rows)
 abbrev pub page_of : List Row → Option ℕ
 page_of rows = number_of (text_of (codes "P") rows)
 
+-- the file that `--rules` names, if it does
+abbrev pub rules_of : List Row → Option Text
+rules_of = first_of (codes "RULES")
+
 -- the command of this name, with these matches, is the request: one equation a command
 abbrev pub Asks : Text → List Row → Request → Type 0
 Asks name rows (Check file) = (name ≡ codes "check") × (file.now ≡ text_of (codes "FILE") rows)
 Asks name rows (Show file) = (name ≡ codes "show") × (file.now ≡ text_of (codes "FILE") rows)
 Asks name rows (Rewrite file) = (name ≡ codes "rewrite") × (file.now ≡ text_of (codes "FILE") rows)
-Asks name rows (Map base page files) =
+Asks name rows (Map base page rules files) =
     (name ≡ codes "map") × (map (λ f. f.now) files.items ≡ files_of rows) × (length (files_of rows) ≤ 64)
-    × (base_of rows ≡ Some base) × (page_of rows ≡ Some page)
+    × (base_of rows ≡ Some base) × (page_of rows ≡ Some page) × (option_copied rules ≡ rules_of rows)
 
 -- the command of this name, with these matches, is refused so: `map` with more than 64 files, or else with a number that is none
 abbrev pub Refuses : Text → List Row → WordsFault → Type 0

@@ -3,7 +3,8 @@
 ghost use Rattle.std.specs.Prelude.{◌≡◌, false, IfOk};
 ghost use Rattle.clap.specs.Words.{app_of, shape_of};
 ghost use Rattle.clap.specs.declared.builder.command.Command.TheViews.{out-Command as fields_of};
-ghost use Rattle.elf_tool.specs.Command.{check, elfmap as elfmap_app, map_command as map_shape, rewrite, show};
+ghost use Rattle.clap.specs.Walk.{rule_of};
+ghost use Rattle.elf_tool.specs.Command.{base as base_rule, check, elfmap as elfmap_app, files as files_rule, map_command as map_shape, page as page_rule, rewrite, rules_file as rules_rule, show};
 
 use clap::{Arg, ArgAction, Command};
 use std::alloc::{AllocError, Global};
@@ -62,21 +63,49 @@ fn map_command<'a>(alloc: Global) -> Result<Command<'a>, AllocError>
     ensures shape { IfOk result (λ command. shape_of command ≡ map_shape) }
     ensures local { IfOk result (λ command. (fields_of command).has_globals ≡ false) }
 {
-    let base = Arg::new(alloc, "B")
-        .long("base")
-        .help("The address that placement begins at, a multiple of P")
-        .required(true);
-    let page = Arg::new(alloc, "P")
-        .long("page")
-        .help("What each output section begins at a multiple of, a power of two")
-        .required(true);
-    let files = Arg::new(alloc, "FILE")
-        .help("The relocatable files to link, at most 64")
-        .required(true)
-        .action(ArgAction::Append);
     Command::new(alloc, "map")
         .about("Shows where the sections and names of the FILEs stand in their link")
-        .arg(base)?
-        .arg(page)?
-        .arg(files)
+        .arg(base(alloc))?
+        .arg(page(alloc))?
+        .arg(rules(alloc))?
+        .arg(files(alloc))
+}
+
+fn base<'a>(alloc: Global) -> Arg<'a>
+    ensures rule { rule_of result ≡ base_rule }
+    ensures local { result.global ≡ false }
+{
+    Arg::new(alloc, "B")
+        .long("base")
+        .help("The address that placement begins at, a multiple of P")
+        .required(true)
+}
+
+fn page<'a>(alloc: Global) -> Arg<'a>
+    ensures rule { rule_of result ≡ page_rule }
+    ensures local { result.global ≡ false }
+{
+    Arg::new(alloc, "P")
+        .long("page")
+        .help("What each output section begins at a multiple of, a power of two")
+        .required(true)
+}
+
+fn rules<'a>(alloc: Global) -> Arg<'a>
+    ensures rule { rule_of result ≡ rules_rule }
+    ensures local { result.global ≡ false }
+{
+    Arg::new(alloc, "RULES").long("rules").help(
+        "The file of relocation rules, a line KIND abs|pc|none 1|2|4|8 signed|unsigned|wrap each",
+    )
+}
+
+fn files<'a>(alloc: Global) -> Arg<'a>
+    ensures rule { rule_of result ≡ files_rule }
+    ensures local { result.global ≡ false }
+{
+    Arg::new(alloc, "FILE")
+        .help("The relocatable files to link, at most 64")
+        .required(true)
+        .action(ArgAction::Append)
 }

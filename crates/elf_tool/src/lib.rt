@@ -14,9 +14,12 @@ mod number;
 mod opener;
 mod opening;
 mod program;
+mod rules;
 mod words;
 
 pub use elf_engine::{Options, Refusal, ToolFault, Verdict, check, map, rewrite, show};
+pub use elf_relocation::{Form, Range, RelocRule, Width};
+pub use elf_rule_file::{RulesFault, read_rules};
 pub use machine::run_on_machine;
 pub use opener::{MachineFiles, OpenFault, Opener};
 pub use program::{Status, refuse_words, run};

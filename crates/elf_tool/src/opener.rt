@@ -1,5 +1,5 @@
 //! Files by name, of the machine or of a test.
-ghost use Rattle.std.specs.Prelude.{◌≡◌, ◌≢◌, ℕ, Bool, false, List, None, Option, Some, IfErr, IfOk, IfSome};
+ghost use Rattle.std.specs.Prelude.{◌≡◌, ℕ, Bool, false, List, None, Option, Some, IfErr, IfOk, IfSome};
 ghost use Rattle.elf_tool.specs.Opener.{IsOpenFault};
 
 use std::fs::Files;
@@ -26,13 +26,13 @@ pub trait Opener {
     ghost opens: { Self → List ℕ → Bool } = { λ _ _. false };
 
     /// A reader of the file's bytes from its beginning on. [`OpenFault::Refused`] comes only for a
-    /// file that is not known to open. Every other name is held as it was.
+    /// file that is not known to open. What is known of the files stays, so that one that is opened twice gives its bytes twice.
     fn reader(&mut self, name: &str) -> Result<Self::Input, OpenFault>
         ensures bytes { IfSome (holds self.old name.now) (λ bytes.
             IfOk result (λ input. Self.Input.remaining input ≡ Some bytes)) }
         ensures fault { IfErr result (IsOpenFault (opens self.old name.now)) }
-        ensures kept { (other : List ℕ) → other ≢ name.now → holds self.new other ≡ holds self.old other }
-        ensures still { (other : List ℕ) → other ≢ name.now → opens self.new other ≡ opens self.old other };
+        ensures kept { holds self.new ≡ holds self.old }
+        ensures still { opens self.new ≡ opens self.old };
 }
 
 /// The machine's files.

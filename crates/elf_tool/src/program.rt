@@ -1,17 +1,20 @@
 //! The whole program: from the words of its command line to its exit status.
-ghost use Rattle.std.specs.Prelude.{◌≡◌, ◌≢◌, map as map_list};
+ghost use Rattle.std.specs.Prelude.{◌≡◌, ◌≢◌, Some, map as map_list, option_copied};
 ghost use Rattle.std.specs.IoError.{error_kind};
 ghost use Rattle.std.specs.declared.io.ErrorKind.TheVariants.{InvalidData};
 ghost use Rattle.elf_engine.specs.Check.{IsChecked};
 ghost use Rattle.elf_engine.specs.Rewrite.{IsRewritten};
 ghost use Rattle.elf_engine.specs.Show.{IsShown};
-ghost use Rattle.elf_tool.specs.Program.{EndsFile, EndsFiles, EndsRun, code_of, ending_of};
+ghost use Rattle.elf_tool.specs.Program.{EndsFile, EndsFiles, EndsMap, EndsRun, code_of, ending_of, unruled};
 ghost use Rattle.elf_tool.specs.declared.program.Status.{Status as Ending};
 
 use crate::opener::{OpenFault, Opener};
 use crate::opening::open_all;
+use crate::rules::{NoRules, rules_of};
 use crate::words::{Request, WordsFault, read_words};
 use elf_engine::{Options, ToolFault, Verdict, check, map, rewrite, show};
+use elf_relocation::RelocRule;
+use elf_rule_file::RulesFault;
 use std::alloc::Global;
 use std::convert::AsStr;
 use std::fmt::Display;
@@ -67,9 +70,20 @@ fn ending<S: AsStr, O: Opener, W: Write, E: Write>(
             Request::Map {
                 base,
                 page,
+                rules,
                 files: names,
             },
-        ) => map_files(alloc, base, page, &names, files, out, err),
+        ) => {
+            let options = Options {
+                base,
+                page,
+                entry: None,
+            };
+            match rules {
+                None => map_files(alloc, &options, None, &names, files, out, err),
+                Some(file) => map_by_rules(alloc, &options, file, &names, files, out, err),
+            }
+        }
         Err(WordsFault::Words(error)) => {
             // This text ends with a line feed of its own.
             let _ = write!(err, "{error}");
@@ -149,33 +163,58 @@ fn rewrite_file<O: Opener, W: Write, E: Write>(
 
 fn map_files<O: Opener, W: Write, E: Write>(
     alloc: Global,
-    base: u64,
-    page: u64,
+    options: &Options<'_>,
+    rules: Option<&[RelocRule]>,
     names: &[&str],
     files: &mut O,
     out: &mut W,
     err: &mut E,
 ) -> Status
-    ensures { EndsFiles base page (O.holds files.old) (O.opens files.old) (map_list (λ name. name.now) names.now)
+    ensures { EndsFiles options.now (option_copied rules.entry) (O.holds files.old) (O.opens files.old) (map_list (λ name. name.now) names.now)
         (W.contents out.old) (W.contents out.new) result }
 {
-    let options = Options {
-        base,
-        page,
-        entry: None,
-    };
     match open_all(alloc, names, files) {
-        Ok(mut inputs) => status_of(map(alloc, inputs.as_mut_slice(), &options, out), err),
+        Ok(mut inputs) => status_of(map(alloc, inputs.as_mut_slice(), options, rules, out), err),
         Err(failed) => unopened(failed.fault, names[failed.position], err),
     }
 }
 
-// How the program ends where the words ask for nothing, with this text.
-fn misused<E: Write>(text: &str, err: &mut E) -> Status
+fn map_by_rules<O: Opener, W: Write, E: Write>(
+    alloc: Global,
+    options: &Options<'_>,
+    file: &str,
+    names: &[&str],
+    files: &mut O,
+    out: &mut W,
+    err: &mut E,
+) -> Status
+    ensures { EndsMap options.now (O.holds files.old) (O.opens files.old) (Some file.now) (map_list (λ name. name.now) names.now)
+        (W.contents out.old) (W.contents out.new) result }
+{
+    match rules_of(alloc, file, files) {
+        Ok(rules) => map_files(alloc, options, Some(&rules), names, files, out, err),
+        Err(fault) => no_rules(fault, file, err),
+    }
+}
+
+// How the program ends where the words ask for nothing, or the file of rules is none, with this text.
+fn misused<T: Display + Copy, E: Write>(text: T, err: &mut E) -> Status
     ensures { result ≡ Status.Usage }
 {
     let _ = writeln!(err, "{text}");
     Status::Usage
+}
+
+// How the program ends where the file of this name gave no rules.
+fn no_rules<E: Write>(fault: NoRules, file: &str, err: &mut E) -> Status
+    ensures { result ≡ unruled fault }
+{
+    match fault {
+        NoRules::Unopened => unopened(OpenFault::Refused, file, err),
+        NoRules::Unread { at } => fail(&ToolFault::Read { at }, err),
+        NoRules::BadLine { line } => misused(RulesFault::BadLine { line }, err),
+        NoRules::OutOfMemory => fail(&ToolFault::OutOfMemory, err),
+    }
 }
 
 // How the program ends where the file of this name gave no reader.

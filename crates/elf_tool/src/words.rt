@@ -1,5 +1,6 @@
 //! What the words of a command line ask for.
-ghost use Rattle.std.specs.Prelude.{◌≡◌, [], IfErr, IfOk, OnOk, codes, map};
+ghost use Rattle.std.specs.Prelude.{◌≡◌, [], IfErr, IfOk, OnOk, codes, map, option_copied};
+ghost use Rattle.clap.specs.Walk.{first_of};
 ghost use Rattle.clap.specs.Words.{fault_of, found_of, rows_of, subcommand_of, subcommand_rows_of};
 ghost use Rattle.elf_tool.specs.Command.{IsNameIn, elfmap as elfmap_app};
 ghost use Rattle.elf_tool.specs.Words.{Asks, IsAskedBy, IsRefusedBy, Refuses, text_of, texts_of};
@@ -27,10 +28,11 @@ pub enum Request<'a> {
         file: &'a str,
     },
     /// Show where the sections and names of these files stand in their link: from `base` on, with
-    /// each output section at a multiple of `page`.
+    /// each output section at a multiple of `page`, by the relocation rules of the file `rules`, if it is named.
     Map {
         base: u64,
         page: u64,
+        rules: Option<&'a str>,
         files: Vec<&'a str>,
     },
 }
@@ -145,7 +147,12 @@ fn map_request<'a>(alloc: Global, matches: &ArgMatches<'a>) -> Result<Request<'a
     let Some(page) = number_of(text_at(matches, "P")) else {
         return Err(WordsFault::BadNumber);
     };
-    Ok(Request::Map { base, page, files })
+    Ok(Request::Map {
+        base,
+        page,
+        rules: given_at(matches, "RULES"),
+        files,
+    })
 }
 
 // The file that a command with one file names.
@@ -159,10 +166,17 @@ fn file_in<'a>(matches: &ArgMatches<'a>) -> &'a str
 fn text_at<'a>(matches: &ArgMatches<'a>, id: &str) -> &'a str
     ensures { result.now ≡ text_of id.now (rows_of (found_of matches.now)) }
 {
-    match matches.get_str(id) {
+    match given_at(matches, id) {
         Some(text) => text,
         None => "",
     }
+}
+
+// The value of an argument, if it has one.
+fn given_at<'a>(matches: &ArgMatches<'a>, id: &str) -> Option<&'a str>
+    ensures { option_copied result ≡ first_of id.now (rows_of (found_of matches.now)) }
+{
+    matches.get_str(id)
 }
 
 // All values of an argument.

@@ -1,6 +1,6 @@
 use Rattle.std.proofs.Common.{◌≡◌, ◌∙◌, ◌≤◌, ◌++◌, [], ◌∷◌, Bor, List, ℕ, Option, Some, IfSome, ap, arith, get_or, length, map, rules, subst, sym}
 use Rattle.std.proofs.lemmas.List.{get_or-map, length-map, map-append}
-use Rattle.elf_tool.proofs.Opened.{bytes_more, still_told}
+use Rattle.elf_tool.proofs.Opened.{bytes_more}
 use Rattle.elf_tool.proofs.opening.open_all.Goals as goal
 
 abbrev now : Bor (List ℕ) → List ℕ
@@ -17,12 +17,10 @@ loop-k-preserved g c =
     ap (map remaining) c.in-Ok-push.ensures.items ∙ map-append remaining l.inputs.items (c.in-Ok.input ∷ []) in
     record {
       count = search rules;
-      held = still_told (g.O.Opener.holds c.args.files.now) (g.O.Opener.holds l.files) (g.O.Opener.holds c.reader.new.self) names l.k l.invariant.held
-          (λ name other. c.in-Ok.ensures.kept name (λ e. other (e ∙ sym at)));
-      known = still_told (g.O.Opener.opens c.args.files.now) (g.O.Opener.opens l.files) (g.O.Opener.opens c.reader.new.self) names l.k l.invariant.known
-          (λ name other. c.in-Ok.ensures.still name (λ e. other (e ∙ sym at)));
+      held = c.in-Ok.ensures.kept ∙ l.invariant.held;
+      known = c.in-Ok.ensures.still ∙ l.invariant.known;
       bytes = rw pushed (bytes_more (g.O.Opener.holds c.args.files.now) names (map remaining l.inputs.items) l.k (remaining c.in-Ok.input) count l.invariant.bytes
-          (λ new. subst (λ (o : Option (List ℕ)). IfSome o (λ bytes. remaining c.in-Ok.input ≡ Some bytes)) (l.invariant.held (get_or names l.k []) new)
+          (subst (λ (held : List ℕ → Option (List ℕ)). IfSome (held (get_or names l.k [])) (λ bytes. remaining c.in-Ok.input ≡ Some bytes)) l.invariant.held
           (subst (λ (n : List ℕ). IfSome (g.O.Opener.holds l.files n) (λ bytes. remaining c.in-Ok.input ≡ Some bytes)) (sym at) c.in-Ok.ensures.bytes)));
     }
 
