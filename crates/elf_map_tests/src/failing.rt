@@ -19,7 +19,7 @@ fn a_read_that_fails_is_told_with_its_place_in_its_file(rt: HostRuntime) -> Resu
             Source::new(&second, call, Some(ErrorKind::Interrupted)),
         ];
         let mut writer = Sink::new(1000, None);
-        let answer = map(alloc, &mut readers, &options(0x1000, 1), &mut writer);
+        let answer = map(alloc, &mut readers, &options(0x1000, 1), None, &mut writer);
         let at = (call * PIECE) as u64;
         assert_eq!(rt; answer, Err(ToolFault::Read { at }), "call {call}");
         assert_eq!(rt; writer.calls, 0, "call {call}");
@@ -36,7 +36,7 @@ fn no_reader_behind_one_that_fails_is_called(rt: HostRuntime) -> Result<(), Fail
         Source::new(&second, 1000, None),
     ];
     let mut writer = Sink::new(1000, None);
-    let answer = map(alloc, &mut readers, &options(0x1000, 1), &mut writer);
+    let answer = map(alloc, &mut readers, &options(0x1000, 1), None, &mut writer);
     assert_eq!(rt; answer, Err(ToolFault::Read { at: 24 }));
     assert_eq!(rt; (readers[0].calls, readers[1].calls), (4, 0));
     Ok(())
@@ -49,7 +49,7 @@ fn a_write_that_fails_is_told_with_what_is_out(rt: HostRuntime) -> Result<(), Fa
     for call in 0..10 {
         let mut writer = Sink::new(call, Some(ErrorKind::Other));
         let files = &mut [first.as_slice(), second.as_slice()];
-        let answer = map(alloc, files, &options(0x1000, 1), &mut writer);
+        let answer = map(alloc, files, &options(0x1000, 1), None, &mut writer);
         let written = (call * PIECE) as u64;
         assert_eq!(rt; answer, Err(ToolFault::Write { written }), "call {call}");
         assert!(rt; LINES.starts_with(writer.text()), "call {call}");
@@ -66,7 +66,7 @@ fn a_refused_growth_leaves_nothing_out(rt: HostRuntime) -> Result<(), Fail> {
     let (first, second) = (caller(alloc)?, callee(alloc, 0)?);
     let mut writer = Sink::new(1000, None);
     let files = &mut [first.as_slice(), second.as_slice()];
-    let answer = map(alloc, files, &options(0x1000, 1), &mut writer);
+    let answer = map(alloc, files, &options(0x1000, 1), None, &mut writer);
     let whole = match answer {
         Ok(Verdict::Done) => LINES,
         _ => b"".as_slice(),

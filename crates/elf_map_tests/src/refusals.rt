@@ -22,6 +22,7 @@ fn a_base_that_is_no_multiple_of_the_page_is_refused(rt: HostRuntime) -> Result<
         alloc,
         &mut [bss(alloc, 1)?.as_slice()],
         &options(0x1001, 0x1000),
+        None,
         &mut out,
     );
     assert_eq!(rt; verdict, Ok(link_refusal(1, 0, 0)));
@@ -38,6 +39,7 @@ fn a_section_past_the_last_address_is_refused(rt: HostRuntime) -> Result<(), Fai
         alloc,
         &mut [bss(alloc, 0x1000)?.as_slice()],
         &high,
+        None,
         &mut out,
     );
     assert_eq!(rt; verdict, Ok(link_refusal(11, 0, 0)));
@@ -84,7 +86,7 @@ fn the_lowest_file_that_is_refused_is_told(rt: HostRuntime) -> Result<(), Fail> 
     let good = callee(alloc, 0)?;
     let mut out = Vec::new(alloc);
     let files = &mut [good.as_slice(), [0; 63].as_slice(), [].as_slice()];
-    let verdict = map(alloc, files, &options(0x1001, 0x1000), &mut out);
+    let verdict = map(alloc, files, &options(0x1001, 0x1000), None, &mut out);
     let refusal = Refusal::File {
         file: 1,
         rule: 2,

@@ -50,6 +50,7 @@ fn shows_a_common_behind_the_outputs(rt: HostRuntime) -> Result<(), Fail> {
         alloc,
         &mut [a.as_slice(), b.as_slice(), c.as_slice()],
         &options(0x2000, 0x1000),
+        None,
         &mut out,
     );
     assert_eq!(rt; verdict, Ok(Verdict::Done));
@@ -74,6 +75,7 @@ fn shows_a_global_definition_in_place_of_a_common(rt: HostRuntime) -> Result<(),
         alloc,
         &mut [a.as_slice(), b.as_slice(), c.as_slice(), d.as_slice()],
         &options(0x2000, 0x1000),
+        None,
         &mut out,
     );
     assert_eq!(rt; verdict, Ok(Verdict::Done));
@@ -136,7 +138,13 @@ fn shows_an_output_up_to_the_last_address(rt: HostRuntime) -> Result<(), Fail> {
     let alloc = rt.alloc();
     let mut out = Vec::new(alloc);
     let high = options(0xffff_ffff_ffff_f000, 0x1000);
-    let verdict = map(alloc, &mut [bss(alloc, 0xfff)?.as_slice()], &high, &mut out);
+    let verdict = map(
+        alloc,
+        &mut [bss(alloc, 0xfff)?.as_slice()],
+        &high,
+        None,
+        &mut out,
+    );
     assert_eq!(rt; verdict, Ok(Verdict::Done));
     assert_eq!(rt;
         out.as_slice(),
@@ -150,7 +158,13 @@ fn shows_a_value_above_64_bits(rt: HostRuntime) -> Result<(), Fail> {
     let alloc = rt.alloc();
     let mut out = Vec::new(alloc);
     let far = callee(alloc, 0xffff_ffff_ffff_ffff)?;
-    let verdict = map(alloc, &mut [far.as_slice()], &options(0x1000, 1), &mut out);
+    let verdict = map(
+        alloc,
+        &mut [far.as_slice()],
+        &options(0x1000, 1),
+        None,
+        &mut out,
+    );
     assert_eq!(rt; verdict, Ok(Verdict::Done));
     assert!(rt; out.ends_with(b"\nname 0x10000000000000fff strong callee\n"));
     Ok(())
@@ -162,7 +176,13 @@ fn shows_a_weak_name_without_definition_as_zero(rt: HostRuntime) -> Result<(), F
     let mut out = Vec::new(alloc);
     let symbols = vec![in alloc; symbol(b"x", WEAK, Place::Undef, 0, 0)]?;
     let weak = file(alloc, Vec::new(alloc), symbols)?;
-    let verdict = map(alloc, &mut [weak.as_slice()], &options(0, 1), &mut out);
+    let verdict = map(
+        alloc,
+        &mut [weak.as_slice()],
+        &options(0, 1),
+        None,
+        &mut out,
+    );
     assert_eq!(rt; verdict, Ok(Verdict::Done));
     assert_eq!(rt; out.as_slice(), b"name 0x0 zero x\n".as_slice());
     Ok(())
@@ -175,7 +195,13 @@ fn shows_no_value_in_a_section_that_is_not_live(rt: HostRuntime) -> Result<(), F
     let sections = vec![in alloc; section(b".comment", 0, 1, Body::Bits(1, b"x"))]?;
     let symbols = vec![in alloc; symbol(b"note", GLOBAL, Place::In(0), 0, 0)]?;
     let quiet = file(alloc, sections, symbols)?;
-    let verdict = map(alloc, &mut [quiet.as_slice()], &options(0, 1), &mut out);
+    let verdict = map(
+        alloc,
+        &mut [quiet.as_slice()],
+        &options(0, 1),
+        None,
+        &mut out,
+    );
     assert_eq!(rt; verdict, Ok(Verdict::Done));
     assert_eq!(rt; out.as_slice(), b"name - strong note\n".as_slice());
     Ok(())

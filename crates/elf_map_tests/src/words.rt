@@ -19,7 +19,7 @@ fn takes_64_files(rt: HostRuntime) -> Result<(), Fail> {
     let words = words_of(rt.alloc(), 64)?;
     let request = read_words(rt.alloc(), &words);
     assert!(rt;
-        matches!(&request, Ok(Request::Map { base: 0x1000, page: 1, files }) if files.len() == 64)
+        matches!(&request, Ok(Request::Map { base: 0x1000, page: 1, rules: None, files }) if files.len() == 64)
     );
     Ok(())
 }

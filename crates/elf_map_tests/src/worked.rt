@@ -117,7 +117,7 @@ pub(crate) fn mapped_two(
     options: &Options<'_>,
 ) -> (Result<Verdict, ToolFault>, Vec<u8>) {
     let mut out = Vec::new(alloc);
-    let verdict = map(alloc, &mut [first, second], options, &mut out);
+    let verdict = map(alloc, &mut [first, second], options, None, &mut out);
     (verdict, out)
 }
 

@@ -114,7 +114,7 @@ checked_says bytes old new status short (inl (Check file, asked, inl (input, res
 checked_says bytes old new status short (inl (Show file, asked, inl (input, rest, answer, known, call, is))) =
     status_says ShowSays show_says bytes input rest old new answer status short known call is
 checked_says bytes old new status short (inl (Rewrite file, asked, ends)) = absurd (no_rewrite asked.name (asks_check asked.name asked.rows asked.entered) asked.holds.0)
-checked_says bytes old new status short (inl (Map base page files, asked, ends)) = absurd (no_map asked.name (asks_check asked.name asked.rows asked.entered) asked.holds.0)
+checked_says bytes old new status short (inl (Map base page rules files, asked, ends)) = absurd (no_map asked.name (asks_check asked.name asked.rows asked.entered) asked.holds.0)
 checked_says bytes old new status short (inl (Check file, asked, inr (fault, why, is, kept))) =
     neither status bytes 3 (λ e. omega arith) (λ e. omega arith) (ap code_of is)
 checked_says bytes old new status short (inl (Show file, asked, inr (fault, why, is, kept))) =
