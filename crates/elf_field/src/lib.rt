@@ -33,6 +33,3 @@ pub use rel::Rel;
 pub use rela::Rela;
 pub use shdr::Shdr;
 pub use sym::Sym;
-
-#[cfg(test)]
-mod tests;

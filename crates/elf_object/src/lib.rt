@@ -78,6 +78,3 @@ pub use relocation::Relocation;
 pub use section::{Body, Info, Section};
 pub use symbol::{Place, Symbol};
 pub use written_laws::{denoted_object, written_object};
-
-#[cfg(test)]
-mod layout_tests;

@@ -10,6 +10,8 @@ mod files;
 #[cfg(test)]
 mod groups;
 #[cfg(test)]
+mod layouts;
+#[cfg(test)]
 mod many_symbols;
 #[cfg(test)]
 mod parts;

@@ -24,6 +24,3 @@ pub use marking::mark;
 pub use number::addend_in;
 pub use patching::patch;
 pub use rule::{Form, Range, RelocRule, Width, rule_of};
-
-#[cfg(test)]
-mod tests;

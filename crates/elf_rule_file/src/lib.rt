@@ -14,6 +14,3 @@ mod line;
 
 pub use fault::RulesFault;
 pub use file::read_rules;
-
-#[cfg(test)]
-mod tests;

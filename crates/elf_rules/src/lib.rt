@@ -42,6 +42,3 @@ pub use judged_records::JudgedRecords;
 pub use laws::{extents_of_image, fault_of_extents, kept_rules, one_fault};
 pub use records::{FileRecords, Records, TableRecords};
 pub use string_table::{TableEnds, ends_of, unclosed_at};
-
-#[cfg(test)]
-mod tests;

@@ -4,6 +4,8 @@
 #[cfg(test)]
 mod headers;
 #[cfg(test)]
+mod lengths;
+#[cfg(test)]
 mod sections;
 #[cfg(test)]
 mod segments;

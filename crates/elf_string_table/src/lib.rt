@@ -14,6 +14,3 @@ mod table;
 
 pub use laws::holds_names;
 pub use table::StringTable;
-
-#[cfg(test)]
-mod tests;

@@ -1,4 +1,4 @@
-//! A reader and a writer of which one call alone fails, or gives or takes nothing.
+//! A reader that gives little; and a reader and a writer of which one call alone fails, or gives or takes nothing.
 ghost use Rattle.std.specs.Prelude.{◌≡◌, IfOk};
 
 use std::io;
@@ -12,6 +12,27 @@ pub const PIECE: usize = 8;
 
 /// What the one call does: it fails so, or gives or takes nothing.
 pub type Failure = Option<ErrorKind>;
+
+/// Gives its bytes at most `piece` at a time, and then an error, if it has one, or the end.
+#[derive(Drop)]
+pub struct Pieces<'a> {
+    pub bytes: &'a [u8],
+    pub piece: usize,
+    pub failure: Failure,
+}
+
+impl Read for Pieces<'_> {
+    fn read(&mut self, buf: &mut [u8]) -> io::Result<usize> {
+        if self.bytes.is_empty() {
+            return answer(self.failure);
+        }
+        let count = self.piece.min(self.bytes.len()).min(buf.len());
+        let (given, rest) = self.bytes.split_at(count);
+        buf[..count].copy_from_slice(given);
+        self.bytes = rest;
+        Ok(count)
+    }
+}
 
 /// Gives its bytes a piece a call, but at one call.
 #[derive(Drop)]

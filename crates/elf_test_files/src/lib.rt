@@ -11,7 +11,7 @@ mod fakes;
 mod image_files;
 
 use elf_field::Order;
-pub use fakes::{Failure, PIECE, Sink, Source};
+pub use fakes::{Failure, PIECE, Pieces, Sink, Source};
 pub use image_files::{
     empty_contents, empty_object, filled_gap, header_alone, long_parts, one_section, one_segment,
     two_of_each,

@@ -2,15 +2,9 @@
 #![tactic(auto)]
 
 #[cfg(test)]
-mod blocks;
-#[cfg(test)]
 mod failing_calls;
 #[cfg(test)]
 mod file_names;
-#[cfg(test)]
-mod image_faults;
-#[cfg(test)]
-mod images;
 mod known_files;
 #[cfg(test)]
 mod many_sections;

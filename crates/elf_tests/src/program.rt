@@ -1,7 +1,6 @@
 //! The whole program over fakes: what it answers, writes and says for each way that it can end.
-use crate::image_faults::Pieces;
 use elf_field::Order;
-use elf_test_files::{empty_object, filled_gap, one_section, one_segment};
+use elf_test_files::{Pieces, empty_object, filled_gap, one_section, one_segment};
 use elf_tool::{OpenFault, Opener, ToolFault, check, refuse_words, run, show};
 use std::alloc::Global;
 use std::io;

@@ -1,8 +1,9 @@
-use crate::StringTable;
+//! The tables of elf_string_table.
+use elf_string_table::StringTable;
 use std::process::Abort;
 use std::test::Fail;
 
-// The example of the crate's root.
+// The example of the root of elf_string_table.
 #[test]
 fn each_name_stands_once(rt: HostRuntime) -> Result<(), Fail> {
     let names: [&[u8]; 4] = [b"ab", b"", b"b", b"ab"];

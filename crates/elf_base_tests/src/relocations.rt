@@ -1,9 +1,10 @@
-use crate::{Form, Range, RelocRule, Width, addend_in, mark, patch, rule_of};
+//! The numbers and fields of elf_relocation.
 use elf_field::Order;
+use elf_relocation::{Form, Range, RelocRule, Width, addend_in, mark, patch, rule_of};
 use std::process::Abort;
 use std::test::Fail;
 
-// The example of the crate's root: a call of what stands at 0x1006, in code at 0x1000.
+// The example of the root of elf_relocation: a call of what stands at 0x1006, in code at 0x1000.
 #[test]
 fn a_call(rt: HostRuntime) -> Result<(), Fail> {
     let rule = RelocRule {

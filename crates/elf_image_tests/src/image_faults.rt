@@ -2,36 +2,12 @@
 ghost use Rattle.std.specs.Prelude.{◌<◌, ◌≤◌};
 
 use elf_image::{Fault, WriteFault, parse, read_to_end, write, write_whole};
-use elf_test_files::{filled_gap, long_parts};
+use elf_test_files::{Pieces, filled_gap, long_parts};
 use std::alloc::Global;
 use std::io;
 use std::io::{ErrorKind, Read, Write};
 use std::process::Abort;
 use std::test::Fail;
-
-/// Gives its bytes at most `piece` at a time, and then an error, if it has one, or the end.
-#[derive(Drop)]
-pub struct Pieces<'a> {
-    pub bytes: &'a [u8],
-    pub piece: usize,
-    pub failure: Option<ErrorKind>,
-}
-
-impl Read for Pieces<'_> {
-    fn read(&mut self, buf: &mut [u8]) -> io::Result<usize> {
-        if self.bytes.is_empty() {
-            return match self.failure {
-                Some(kind) => Err(io::Error::from(kind)),
-                None => Ok(0),
-            };
-        }
-        let count = self.piece.min(self.bytes.len()).min(buf.len());
-        let (given, rest) = self.bytes.split_at(count);
-        buf[..count].copy_from_slice(given);
-        self.bytes = rest;
-        Ok(count)
-    }
-}
 
 /// Takes at most `piece` bytes at a time, up to `room` of them, and then fails, or takes none.
 #[derive(Drop)]

@@ -1,5 +1,6 @@
-use crate::{Body, Info, LayoutFault, Object, ObjectParts, Section, lay_out};
+//! Where the parts of an object stand in its file.
 use elf_field::Order;
+use elf_object::{Body, Info, LayoutFault, Object, ObjectParts, Section, lay_out};
 use std::alloc::Global;
 use std::process::Abort;
 use std::test::Fail;

@@ -1,14 +1,14 @@
 //! Images of the worked files: read, edited and written.
 ghost use Rattle.std.specs.Prelude.{◌<◌};
 
-use crate::image_faults::{Pieces, Shelf};
+use crate::image_faults::Shelf;
 use elf_field::Order;
 use elf_image::{
     Fault, Image, NoSection, Owner, Part, ReplaceFault, WriteFault, parse, read_to_end, verdict,
     write,
 };
 use elf_test_files::{
-    empty_contents, empty_object, filled_gap, one_section, one_segment, set, two_of_each,
+    Pieces, empty_contents, empty_object, filled_gap, one_section, one_segment, set, two_of_each,
 };
 use std::alloc::Global;
 use std::process::Abort;

@@ -1,6 +1,7 @@
+//! The records of elf_field.
 ghost use Rattle.std.specs.Prelude.{◌≡◌, ◌≤◌, length};
 
-use super::*;
+use elf_field::{Dyn, Ehdr, Order, Phdr, Record, Rel, Rela, Shdr, Sym, abi, get_at};
 
 // The header of an empty relocatable file, little-endian, and the same in big-endian.
 const LITTLE_HEADER: [u8; 64] = [
@@ -64,7 +65,7 @@ fn through_bound<T: Record>(order: Order, bytes: &[u8], copy: &mut [u8]) -> T
     record
 }
 
-// The example of the crate's root.
+// The example of the root of elf_field.
 #[test]
 fn writes_and_reads_an_entry(rt: HostRuntime) {
     let entry = Dyn {

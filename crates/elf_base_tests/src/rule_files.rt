@@ -1,5 +1,6 @@
-use crate::{RulesFault, read_rules};
+//! The files of rules of elf_rule_file.
 use elf_relocation::{Form, Range, RelocRule, Width};
+use elf_rule_file::{RulesFault, read_rules};
 use std::process::Abort;
 use std::test::Fail;
 
