@@ -1,9 +1,11 @@
 //! The lines of relocated bytes.
 use crate::worked::{callee, caller, options};
 use elf_relocation::{Form, Range, RelocRule, Width};
-use elf_test_files::Sink;
+use elf_test_files::{Failure, Sink};
 use elf_tool::{Refusal, ToolFault, Verdict, map};
+use std::alloc::Global;
 use std::io::ErrorKind;
+use std::process::Abort;
 use std::test::Fail;
 
 /// What `map` says of a call between two files.
@@ -52,14 +54,12 @@ fn refuses_an_entry_without_a_rule(rt: HostRuntime) -> Result<(), Fail> {
     Ok(())
 }
 
-// Each call of the writer fails in turn; what is out is the beginning of the text, and its length is told.
-#[test]
-fn a_failed_write_is_told_with_what_is_out(rt: HostRuntime) -> Result<(), Fail> {
-    let alloc = rt.alloc();
+// Each call of the writer fails so in turn; what is out is the beginning of the text, and its length is told.
+fn assert_told(rt: &impl Abort, alloc: Global, failure: Failure) -> Result<(), Fail> {
     let (first, second) = (caller(alloc)?, callee(alloc, 0)?);
     let rules = [call(2)];
     for fails_at in 0..20 {
-        let mut writer = Sink::new(fails_at, Some(ErrorKind::Other));
+        let mut writer = Sink::new(fails_at, failure);
         let files = &mut [first.as_slice(), second.as_slice()];
         let answer = map(alloc, files, &options(0x1000, 1), Some(&rules), &mut writer);
         let written = writer.text().len() as u64;
@@ -72,4 +72,14 @@ fn a_failed_write_is_told_with_what_is_out(rt: HostRuntime) -> Result<(), Fail> 
         assert_eq!(rt; writer.calls, fails_at + 1, "call {fails_at}");
     }
     Ok(())
+}
+
+#[test]
+fn a_failed_write_is_told_with_what_is_out(rt: HostRuntime) -> Result<(), Fail> {
+    assert_told(&rt, rt.alloc(), Some(ErrorKind::Other))
+}
+
+#[test]
+fn a_write_that_takes_nothing_is_told_with_what_is_out(rt: HostRuntime) -> Result<(), Fail> {
+    assert_told(&rt, rt.alloc(), None)
 }
