@@ -27,5 +27,3 @@ mod extent;
 mod laws;
 mod members;
 mod placement;
-#[cfg(test)]
-mod tests;

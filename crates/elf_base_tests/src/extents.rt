@@ -1,7 +1,10 @@
+//! Extents, accounts and places of elf_extent.
 ghost use Rattle.std.specs.Prelude.{◌≤◌, ◌+◌, ◌↔◌, IsTrue};
 ghost use Rattle.std.specs.List.{All};
 
-use crate::{Extent, OutOfMemory, Piece, PlaceFault, account, first_double, next_place, place};
+use elf_extent::{
+    Extent, OutOfMemory, Piece, PlaceFault, account, first_double, next_place, place,
+};
 use std::alloc::Global;
 use std::process::Abort;
 use std::test::Fail;
@@ -14,7 +17,7 @@ fn piece(owner: Option<usize>, start: u64, len: u64) -> Piece {
     Piece { owner, start, len }
 }
 
-// The example of the crate's root.
+// The example of the root of elf_extent.
 #[test]
 fn finds_a_double_and_places_parts(rt: HostRuntime) -> Result<(), Fail> {
     let alloc = rt.alloc();
