@@ -2,12 +2,12 @@
 use Rattle.std.specs.Prelude.{◌≡◌, ℕ, List, length, None, Option, Some, Result}
 use Rattle.elf_rules.specs.ImageRules.{IsFault}
 use Rattle.elf_rules.specs.Tables.{header, sections, section_count, segment_count}
-use Rattle.elf_engine.specs.Engine.{IsAnsweredWithMemory}
-use Rattle.elf_engine.specs.Line.{ok_line, refused_line}
-use Rattle.elf_engine.specs.declared.fault.Refusal.TheVariants.{File, Link, TooLong}
-use Rattle.elf_engine.specs.declared.fault.ToolFault.{ToolFault}
-use Rattle.elf_engine.specs.declared.fault.Verdict.{Verdict}
-use Rattle.elf_engine.specs.declared.fault.Verdict.TheVariants.{Done, Refused}
+use Rattle.elf_stream.specs.Engine.{IsAnsweredWithMemory}
+use Rattle.elf_stream.specs.Line.{ok_line, refused_line}
+use Rattle.elf_stream.specs.declared.fault.Refusal.TheVariants.{File, Link, TooLong}
+use Rattle.elf_stream.specs.declared.fault.ToolFault.{ToolFault}
+use Rattle.elf_stream.specs.declared.fault.Verdict.{Verdict}
+use Rattle.elf_stream.specs.declared.fault.Verdict.TheVariants.{Done, Refused}
 
 -- how many sections the file has by its header and its section header 0 (gABI chapter 4, ELF Header)
 abbrev pub file_sections : List ℕ → ℕ

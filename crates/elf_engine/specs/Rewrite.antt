@@ -9,11 +9,11 @@ use Rattle.elf_rules.specs.HeaderRules.{MAX_LEN}
 use Rattle.elf_rules.specs.ImageRules.{IsFault}
 use Rattle.elf_rules.specs.Rows.{FirstIn}
 use Rattle.elf_table.specs.Sections.{Sections, sections_of}
-use Rattle.elf_engine.specs.Engine.{IsAnsweredWithMemory}
-use Rattle.elf_engine.specs.declared.fault.Refusal.TheVariants.{File, Link, TooLong}
-use Rattle.elf_engine.specs.declared.fault.ToolFault.{ToolFault}
-use Rattle.elf_engine.specs.declared.fault.Verdict.{Verdict}
-use Rattle.elf_engine.specs.declared.fault.Verdict.TheVariants.{Done, Refused}
+use Rattle.elf_stream.specs.Engine.{IsAnsweredWithMemory}
+use Rattle.elf_stream.specs.declared.fault.Refusal.TheVariants.{File, Link, TooLong}
+use Rattle.elf_stream.specs.declared.fault.ToolFault.{ToolFault}
+use Rattle.elf_stream.specs.declared.fault.Verdict.{Verdict}
+use Rattle.elf_stream.specs.declared.fault.Verdict.TheVariants.{Done, Refused}
 
 -- of an object: its canonical layout, or that this is too long for a file
 abbrev pub ObjectSays : ObjectValue → Verdict → List ℕ → Type 0

@@ -6,14 +6,14 @@ use Rattle.elf_image.specs.Image.{ImageValue, IsImage, section_of, segment_of}
 use Rattle.elf_image.specs.Strings.{section_name}
 use Rattle.elf_table.specs.Sections.{sections_of}
 use Rattle.elf_table.specs.TableVerdicts.{AreVerdicts, TablesValue}
-use Rattle.elf_engine.specs.Engine.{IsAnswered}
-use Rattle.elf_engine.specs.Line.{refused_line}
+use Rattle.elf_stream.specs.Engine.{IsAnswered}
+use Rattle.elf_stream.specs.Line.{refused_line}
 use Rattle.elf_engine.specs.ShowLines.{file_line, part_line, section_line, segment_line}
 use Rattle.elf_engine.specs.TableLines.{all_table_lines}
-use Rattle.elf_engine.specs.declared.fault.Refusal.TheVariants.{File, Link, TooLong}
-use Rattle.elf_engine.specs.declared.fault.ToolFault.{ToolFault}
-use Rattle.elf_engine.specs.declared.fault.Verdict.{Verdict}
-use Rattle.elf_engine.specs.declared.fault.Verdict.TheVariants.{Done, Refused}
+use Rattle.elf_stream.specs.declared.fault.Refusal.TheVariants.{File, Link, TooLong}
+use Rattle.elf_stream.specs.declared.fault.ToolFault.{ToolFault}
+use Rattle.elf_stream.specs.declared.fault.Verdict.{Verdict}
+use Rattle.elf_stream.specs.declared.fault.Verdict.TheVariants.{Done, Refused}
 
 -- the line of a section or segment by its index
 abbrev pub section_text : ImageValue → ℕ → List ℕ

@@ -11,7 +11,7 @@ use Rattle.elf_rules.specs.Tables.{order_of}
 use Rattle.elf_image.specs.declared.part.Owner.{Owner}
 use Rattle.elf_image.specs.declared.part.Owner.TheVariants.{Header, ProgramTable, SectionTable, Content, Gap}
 use Rattle.elf_image.specs.declared.part.Part.{Part}
-use Rattle.elf_engine.specs.Line.{hexadecimal, line, name_text}
+use Rattle.elf_stream.specs.Line.{hexadecimal, line, name_text}
 
 abbrev pub order_text : Order → List ℕ
 order_text Little = codes "little"

@@ -24,7 +24,7 @@ use Rattle.elf_table.specs.Symbols.{SymbolValue, symbols_of}
 use Rattle.elf_table.specs.SymbolView.{no_symbol}
 use Rattle.elf_table.specs.TableKind.{kind_of}
 use Rattle.elf_table.specs.TableVerdicts.{TablesValue}
-use Rattle.elf_engine.specs.Line.{hexadecimal, line, name_text}
+use Rattle.elf_stream.specs.Line.{hexadecimal, line, name_text}
 
 -- where a symbol is defined
 abbrev pub place_text : Place → List ℕ

@@ -1,7 +1,7 @@
 //! What holds of the engines.
 ghost use Rattle.std.specs.Prelude.{ℕ, List};
 ghost use Rattle.elf_engine.specs.Rewrite.{RewriteSays};
-ghost use Rattle.elf_engine.specs.declared.fault.Verdict.TheVariants.{Done};
+ghost use Rattle.elf_stream.specs.declared.fault.Verdict.TheVariants.{Done};
 
 use elf_image::laws::some_image;
 use elf_object::{denoted_object, written_object};

@@ -1,4 +1,4 @@
-//! The engines of `elfmap`, over any reader and any writer: each reads a whole file, judges it, and
+//! The engines of `elfmap` for one file, over any reader and any writer: each reads a whole file, judges it, and
 //! writes what it says of it, in lines.
 //!
 //! ```
@@ -10,17 +10,12 @@
 #![tactic(auto)]
 
 mod engine;
-mod fault;
 mod laws;
-mod line;
-mod map_lines;
 mod show_lines;
 mod table_lines;
 
-pub use elf_link::Options;
+pub use elf_stream::{Refusal, ToolFault, Verdict};
 pub use engine::check::check;
-pub use engine::map::map;
 pub use engine::rewrite::rewrite;
 pub use engine::show::show;
-pub use fault::{Refusal, ToolFault, Verdict};
 pub use laws::rewrite_again;

@@ -1,14 +1,14 @@
 //! The lines of `show`: each function appends one to the text that is to go out.
 ghost use Rattle.std.specs.Prelude.{◌≡◌, ◌++◌, OnOk, drop, take};
-ghost use Rattle.elf_engine.specs.Line.{further_words};
+ghost use Rattle.elf_stream.specs.Line.{further_words};
 ghost use Rattle.elf_engine.specs.ShowLines.{file_line, order_text, owner_words, part_line, section_line, segment_line};
 
-use crate::line::{
-    begin_line, end_line, push_bytes, push_decimal, push_hexadecimal, push_name, push_word,
-};
 use elf_field::{Ehdr, Order, Phdr, Shdr};
 use elf_image::{Owner, Part};
 use elf_rules::tables::order_in;
+use elf_stream::line::{
+    begin_line, end_line, push_bytes, push_decimal, push_hexadecimal, push_name, push_word,
+};
 use std::alloc::{AllocError, Global};
 
 /// How many bytes of a gap are shown.

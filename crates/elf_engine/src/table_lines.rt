@@ -1,18 +1,18 @@
 //! The lines of tables: each function appends one to the text that is to go out.
 ghost use Rattle.std.specs.Prelude.{◌≡◌, ◌∷◌, ◌++◌, OnOk, map};
 ghost use Rattle.std.specs.Fmt.{decimal};
-ghost use Rattle.elf_engine.specs.Line.{blank, further_words};
+ghost use Rattle.elf_stream.specs.Line.{blank, further_words};
 ghost use Rattle.elf_engine.specs.TableLines.{addend_text, bytes_text, dynamic_line, group_line, hash_line, note_line, place_text, relocation_line, string_words, symbol_line, table_refused_line};
 ghost use Rattle.elf_table.specs.NoteView.{note_value};
 ghost use Rattle.elf_table.specs.SymbolView.{symbol_value};
 
-use crate::line::{
-    begin_line, end_line, push_bytes, push_decimal, push_hexadecimal, push_name, push_signed,
-    push_word,
-};
 use elf_field::Dyn;
 use elf_image::strings::string_at;
 use elf_rules::Broken;
+use elf_stream::line::{
+    begin_line, end_line, push_bytes, push_decimal, push_hexadecimal, push_name, push_signed,
+    push_word,
+};
 use elf_table::{Group, Hash, Note, Place, Relocation, Symbol, is_string_tag};
 use std::alloc::{AllocError, Global};
 

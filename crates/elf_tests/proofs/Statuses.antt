@@ -7,12 +7,12 @@ use Rattle.clap.specs.Simple.{subcommand_of}
 use Rattle.clap.specs.Walk.{Row, Text, walked}
 use Rattle.elf_rules.specs.ImageRules.{IsFault}
 use Rattle.elf_engine.specs.Check.{CheckSays}
-use Rattle.elf_engine.specs.Engine.{IsAnswered, IsReadWhole, Report}
+use Rattle.elf_stream.specs.Engine.{IsAnswered, IsReadWhole, Report}
 use Rattle.elf_engine.specs.Show.{ShowSays}
-use Rattle.elf_engine.specs.declared.fault.Refusal.TheVariants.{File, Link, TooLong}
-use Rattle.elf_engine.specs.declared.fault.ToolFault.{ToolFault}
-use Rattle.elf_engine.specs.declared.fault.Verdict.{Verdict}
-use Rattle.elf_engine.specs.declared.fault.Verdict.TheVariants.{Done, Refused}
+use Rattle.elf_stream.specs.declared.fault.Refusal.TheVariants.{File, Link, TooLong}
+use Rattle.elf_stream.specs.declared.fault.ToolFault.{ToolFault}
+use Rattle.elf_stream.specs.declared.fault.Verdict.{Verdict}
+use Rattle.elf_stream.specs.declared.fault.Verdict.TheVariants.{Done, Refused}
 use Rattle.elf_tool.specs.Command.{check, elfmap, map_command, rewrite, show}
 use Rattle.elf_tool.specs.Program.{EndsRun, code_of, ending_of}
 use Rattle.elf_tool.specs.declared.program.Status.{Status}

@@ -7,6 +7,8 @@ mod failing_calls;
 mod file_names;
 mod known_files;
 #[cfg(test)]
+mod lines;
+#[cfg(test)]
 mod many_sections;
 #[cfg(test)]
 mod many_segments;

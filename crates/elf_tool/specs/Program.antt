@@ -3,7 +3,7 @@ use Rattle.std.specs.Prelude.{◌≡◌, ◌⊎◌, ℕ, Bool, List, map, Option
 use Rattle.std.specs.Io.KnownBytes.{Keeps}
 use Rattle.clap.specs.Walk.{Text}
 use Rattle.elf_engine.specs.Check.{IsChecked}
-use Rattle.elf_engine.specs.Map.{IsMapped}
+use Rattle.elf_map_engine.specs.Map.{IsMapped}
 use Rattle.elf_engine.specs.Rewrite.{IsRewritten}
 use Rattle.elf_engine.specs.Show.{IsShown}
 use Rattle.elf_link.specs.declared.options.Options.{Options}
@@ -11,9 +11,9 @@ use Rattle.elf_relocation.specs.declared.rule.RelocRule.{RelocRule}
 use Rattle.elf_tool.specs.Opener.{AreOpened, IsOpenFault, IsUnopened}
 use Rattle.elf_tool.specs.Rules.{GivesNoRules, GivesRules}
 use Rattle.elf_tool.specs.Words.{IsAskedBy, IsRefusedBy}
-use Rattle.elf_engine.specs.declared.fault.ToolFault.{ToolFault}
-use Rattle.elf_engine.specs.declared.fault.Verdict.{Verdict}
-use Rattle.elf_engine.specs.declared.fault.Verdict.TheVariants as verdict
+use Rattle.elf_stream.specs.declared.fault.ToolFault.{ToolFault}
+use Rattle.elf_stream.specs.declared.fault.Verdict.{Verdict}
+use Rattle.elf_stream.specs.declared.fault.Verdict.TheVariants as verdict
 use Rattle.elf_tool.specs.declared.opener.OpenFault.{OpenFault}
 use Rattle.elf_tool.specs.declared.opening.Unopened.{Unopened}
 use Rattle.elf_tool.specs.declared.program.Status.{Status}

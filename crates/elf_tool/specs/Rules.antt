@@ -3,7 +3,7 @@ use Rattle.std.specs.Prelude.{◌≡◌, ◌⊎◌, ℕ, ◌+◌, ◌<◌, ◌�
 use Rattle.elf_relocation.specs.declared.rule.RelocRule.{RelocRule}
 use Rattle.elf_rules.specs.HeaderRules.{MAX_LEN}
 use Rattle.elf_rule_file.specs.File.{AreRules, IsBadLine}
-use Rattle.elf_engine.specs.Inputs.{GivesBytes, GivesFile}
+use Rattle.elf_stream.specs.Inputs.{GivesBytes, GivesFile}
 use Rattle.elf_tool.specs.declared.rules.NoRules.{NoRules}
 use Rattle.elf_tool.specs.declared.rules.NoRules.TheVariants.{Unopened, Unread, BadLine, OutOfMemory}
 

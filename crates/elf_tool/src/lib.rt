@@ -17,9 +17,11 @@ mod program;
 mod rules;
 mod words;
 
-pub use elf_engine::{Options, Refusal, ToolFault, Verdict, check, map, rewrite, show};
+pub use elf_engine::{check, rewrite, show};
+pub use elf_map_engine::{Options, map};
 pub use elf_relocation::{Form, Range, RelocRule, Width};
 pub use elf_rule_file::{RulesFault, read_rules};
+pub use elf_stream::{Refusal, ToolFault, Verdict};
 pub use machine::run_on_machine;
 pub use opener::{MachineFiles, OpenFault, Opener};
 pub use program::{Status, refuse_words, run};

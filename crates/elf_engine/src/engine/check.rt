@@ -4,13 +4,12 @@ ghost use Rattle.elf_rules.specs.Broken.{fault_of};
 ghost use Rattle.elf_rules.specs.ImageRules.{IsFault};
 ghost use Rattle.elf_rules.specs.JudgedRecords.{file_of};
 ghost use Rattle.elf_engine.specs.Check.{CheckSays, IsChecked, file_sections, file_segments, verdict_of};
-ghost use Rattle.elf_engine.specs.Line.{ok_line as ok_line_of};
+ghost use Rattle.elf_stream.specs.Line.{ok_line as ok_line_of};
 
-use super::input::read_input;
-use crate::fault::{Refusal, ToolFault, Verdict};
-use crate::line::{ok_line, refused_line};
 use elf_image::write_whole;
 use elf_rules::{Broken, JudgedRecords, judge_by_sorting};
+use elf_stream::line::{ok_line, refused_line};
+use elf_stream::{Refusal, ToolFault, Verdict, read_input};
 use std::alloc::{AllocError, Global};
 use std::io::{Read, Write};
 

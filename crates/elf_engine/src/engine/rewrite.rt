@@ -1,13 +1,12 @@
 //! `rewrite`: the object of a file, in canonical layout.
 ghost use Rattle.std.specs.Prelude.{◌≡◌};
-ghost use Rattle.elf_engine.specs.Engine.{IsSaid};
+ghost use Rattle.elf_stream.specs.Engine.{IsSaid};
 ghost use Rattle.elf_engine.specs.Rewrite.{IsRewritten, ObjectSays, SectionsSay};
 ghost use Rattle.elf_table.specs.Sections.{sections_of};
 
-use super::input::read_input;
-use crate::fault::{Refusal, ToolFault, Verdict};
 use elf_image::{Fault, Image, parse};
 use elf_object::{Object, ObjectWriteFault, object_of, write_object};
+use elf_stream::{Refusal, ToolFault, Verdict, read_input};
 use std::alloc::Global;
 use std::io::{Read, Write};
 

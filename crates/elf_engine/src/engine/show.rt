@@ -1,20 +1,18 @@
 //! `show`: the header, the parts, the sections, the segments and the tables of a file.
 ghost use Rattle.std.specs.Prelude.{◌≡◌, List, length, map};
 ghost use Rattle.std.specs.List.{flat_map};
-ghost use Rattle.elf_engine.specs.Engine.{IsWritten};
-ghost use Rattle.elf_engine.specs.Line.{refused_line as refused_line_of};
-ghost use Rattle.elf_engine.specs.Output.{IsBuffered};
+ghost use Rattle.elf_stream.specs.Engine.{IsWritten};
+ghost use Rattle.elf_stream.specs.Line.{refused_line as refused_line_of};
+ghost use Rattle.elf_stream.specs.Output.{IsBuffered};
 ghost use Rattle.elf_engine.specs.Show.{IsShown, section_lines, segment_lines, show_text};
 ghost use Rattle.elf_engine.specs.ShowLines.{part_line};
 
-use super::input::read_input;
-use super::lines::{Lines, show_lines};
-use super::output::Output;
 use super::show_tables::show_tables;
-use crate::fault::{Refusal, ToolFault, Verdict};
-use crate::line::refused_line;
 use crate::show_lines::{push_file_line, push_part_line, push_section_line, push_segment_line};
 use elf_image::{Fault, Image, Part, parse, write_whole};
+use elf_stream::line::refused_line;
+use elf_stream::lines::{Lines, show_lines};
+use elf_stream::{Output, Refusal, ToolFault, Verdict, read_input};
 use elf_table::Tables;
 use std::alloc::{AllocError, Global};
 use std::io::{Read, Write};

@@ -1,6 +1,6 @@
 //! The lines of `show` on the tables that a file holds.
 ghost use Rattle.std.specs.Prelude.{◌≡◌, ◌<◌, None, Some, get_or, length};
-ghost use Rattle.elf_engine.specs.Output.{IsBuffered};
+ghost use Rattle.elf_stream.specs.Output.{IsBuffered};
 ghost use Rattle.elf_engine.specs.TableLines.{all_table_lines, group_line, hash_line, note_lines, table_refused_line, table_text};
 ghost use Rattle.elf_table.specs.declared.table_kind.TableKind.TheVariants as kind;
 ghost use Rattle.elf_table.specs.Groups.{group_of};
@@ -8,21 +8,20 @@ ghost use Rattle.elf_table.specs.Sections.{section, sections_of};
 ghost use Rattle.elf_table.specs.Signature.{signature_name};
 ghost use Rattle.elf_table.specs.TableKind.{kind_of};
 
-use super::lines::{Lines, show_lines};
-use super::output::Output;
-use crate::fault::ToolFault;
 use crate::table_lines::{
     push_dynamic_line, push_group_line, push_hash_line, push_note_line, push_relocation_line,
     push_symbol_line, push_table_refused_line,
 };
 use elf_image::Image;
 use elf_rules::Broken;
+use elf_stream::lines::{Lines, show_lines};
+use elf_stream::{Output, ToolFault};
 use elf_table::{Dynamic, Hash, Notes, Relocs, Symbols, TableKind, Tables};
 use std::alloc::{AllocError, Global};
 use std::io::Write;
 
 /// The lines of all tables of the image.
-pub(super) fn show_tables<W: Write>(
+pub(crate) fn show_tables<W: Write>(
     alloc: Global,
     image: &Image<'_>,
     tables: &Tables<'_, '_>,

@@ -1,7 +1,7 @@
 use Rattle.std.proofs.Common.{[], ◌∷◌, rules}
-use Rattle.elf_engine.specs.Line.{hexadecimal}
+use Rattle.elf_stream.specs.Line.{hexadecimal}
 use Rattle.elf_engine.specs.ShowLines.{part_line}
-use Rattle.elf_engine.proofs.Words.{line_ended_by}
+use Rattle.elf_stream.proofs.Public.{line_ended_by}
 use Rattle.elf_engine.proofs.show_lines.push_part_line.Goals as goal
 
 pub returns : goal.returns

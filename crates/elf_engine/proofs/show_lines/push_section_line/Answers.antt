@@ -1,6 +1,6 @@
 use Rattle.std.proofs.Common.{rules}
 use Rattle.elf_engine.specs.ShowLines.{section_line}
-use Rattle.elf_engine.proofs.Words.{line_ended}
+use Rattle.elf_stream.proofs.Public.{line_ended}
 use Rattle.elf_engine.proofs.show_lines.push_section_line.Goals as goal
 
 pub returns : goal.returns

@@ -1,8 +1,8 @@
 use Rattle.std.proofs.Common.{[], ◌∷◌, rules}
 use Rattle.std.specs.Fmt.{decimal}
-use Rattle.elf_engine.specs.Line.{name_text}
+use Rattle.elf_stream.specs.Line.{name_text}
 use Rattle.elf_engine.specs.TableLines.{group_line}
-use Rattle.elf_engine.proofs.Words.{line_ended_by}
+use Rattle.elf_stream.proofs.Public.{line_ended_by}
 use Rattle.elf_engine.proofs.table_lines.push_group_line.Goals as goal
 
 pub returns : goal.returns

@@ -1,6 +1,6 @@
 use Rattle.std.proofs.Common.{rules}
 use Rattle.elf_engine.specs.TableLines.{hash_line}
-use Rattle.elf_engine.proofs.Words.{line_ended}
+use Rattle.elf_stream.proofs.Public.{line_ended}
 use Rattle.elf_engine.proofs.table_lines.push_hash_line.Goals as goal
 
 pub returns : goal.returns

@@ -1,6 +1,6 @@
 use Rattle.std.proofs.Common.{◌≡◌, ◌++◌, map}
 use Rattle.std.specs.Fmt.{decimal}
-use Rattle.elf_engine.specs.Line.{further_words}
+use Rattle.elf_stream.specs.Line.{further_words}
 use Rattle.elf_engine.proofs.table_lines.push_members.Given as goal
 
 abbrev pub invariant-loop-member : goal.invariant-loop-member

@@ -1,6 +1,6 @@
 use Rattle.std.proofs.Common.{rules}
 use Rattle.elf_engine.specs.TableLines.{table_refused_line}
-use Rattle.elf_engine.proofs.Words.{line_ended}
+use Rattle.elf_stream.proofs.Public.{line_ended}
 use Rattle.elf_engine.proofs.table_lines.push_table_refused_line.Goals as goal
 
 pub returns : goal.returns

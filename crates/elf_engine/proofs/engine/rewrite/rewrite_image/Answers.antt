@@ -1,7 +1,7 @@
 use Rattle.std.proofs.Common.{inl}
 use Rattle.elf_table.specs.Sections.{sections_of}
 use Rattle.elf_engine.specs.Rewrite.{ObjectSays, SectionsSay}
-use Rattle.elf_engine.proofs.Calls.{said_more}
+use Rattle.elf_stream.proofs.Public.{said_more}
 use Rattle.elf_engine.proofs.engine.rewrite.rewrite_image.Goals as goal
 
 pub returns-in-Ok : goal.returns-in-Ok

@@ -1,11 +1,11 @@
 use Rattle.std.proofs.Common.{refl, vec_len, arith}
 use Rattle.std.proofs.lemmas.Result.{err_from_is_err_and}
 use Rattle.elf_table.specs.TableVerdicts.{TablesValue}
-use Rattle.elf_engine.specs.Line.{refused_line}
+use Rattle.elf_stream.specs.Line.{refused_line}
 use Rattle.elf_engine.specs.Show.{ShowSays, show_text}
-use Rattle.elf_engine.specs.declared.fault.Refusal.TheVariants.{File}
-use Rattle.elf_engine.specs.declared.fault.Verdict.TheVariants.{Done, Refused}
-use Rattle.elf_engine.proofs.Calls.{stopped}
+use Rattle.elf_stream.specs.declared.fault.Refusal.TheVariants.{File}
+use Rattle.elf_stream.specs.declared.fault.Verdict.TheVariants.{Done, Refused}
+use Rattle.elf_stream.proofs.Public.{stopped}
 use Rattle.elf_engine.proofs.engine.show.show.Goals as goal
 
 pub returns-in_err-show_image-in-Ok : goal.returns-in_err-show_image-in-Ok

@@ -7,11 +7,11 @@ use Rattle.elf_image.specs.Image.{ImageValue, PlacedPart}
 use Rattle.elf_image.specs.declared.part.Part.{Part}
 use Rattle.elf_table.specs.TableVerdicts.{TablesValue}
 use Rattle.elf_engine.specs.TableLines.{all_table_lines}
-use Rattle.elf_engine.specs.Output.{Buffers, IsCutShort}
+use Rattle.elf_stream.specs.Output.{Buffers, IsCutShort}
 use Rattle.elf_engine.specs.Show.{part_lines, section_lines, segment_lines, show_text}
 use Rattle.elf_engine.specs.ShowLines.{file_line, part_line}
-use Rattle.elf_engine.specs.declared.engine.output.Output.{Output}
-use Rattle.elf_engine.proofs.Output.{all_out, all_cut, buffers_both, buffers_line, buffers_none, cut_later, cut_longer}
+use Rattle.elf_stream.specs.declared.output.Output.{Output}
+use Rattle.elf_stream.proofs.Public.{all_out, all_cut, buffers_both, buffers_line, buffers_none, cut_later, cut_longer}
 use Rattle.elf_engine.proofs.engine.show.show_image.Goals as goal
 
 -- the lines of the parts alone are those of the value's

@@ -3,7 +3,7 @@ use Rattle.std.proofs.lemmas.Result.{err_from_is_err_and}
 use Rattle.elf_image.specs.declared.part.Part.{Part}
 use Rattle.elf_image.specs.declared.part.Owner.TheVariants.{Header}
 use Rattle.elf_engine.specs.ShowLines.{part_line}
-use Rattle.elf_engine.proofs.Output.{line_refused, line_buffered, line_cut}
+use Rattle.elf_stream.proofs.Public.{line_refused, line_buffered, line_cut}
 use Rattle.elf_engine.proofs.engine.show.show_parts.Goals as goal
 
 -- stands for a part that isn't there

@@ -1,6 +1,6 @@
 use Rattle.std.proofs.Common.{take}
 use Rattle.std.specs.List.{flat_map}
-use Rattle.elf_engine.specs.Output.{Buffers}
+use Rattle.elf_stream.specs.Output.{Buffers}
 use Rattle.elf_engine.specs.ShowLines.{part_line}
 use Rattle.elf_engine.proofs.engine.show.show_parts.Given as goal
 

@@ -1,6 +1,6 @@
 use Rattle.std.proofs.Common.{◌≡◌, ℕ, drop, take}
 use Rattle.std.specs.List.{flat_map}
-use Rattle.elf_engine.specs.Output.{Buffers}
+use Rattle.elf_stream.specs.Output.{Buffers}
 use Rattle.elf_engine.specs.TableLines.{note_line}
 use Rattle.elf_engine.proofs.engine.show_tables.show_notes.Given as goal
 

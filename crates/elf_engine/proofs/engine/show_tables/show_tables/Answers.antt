@@ -2,9 +2,9 @@ use Rattle.std.proofs.Common.{◌∙◌, List, ℕ, ap, length, refl, subst, sym
 use Rattle.std.specs.List.{range_with_len}
 use Rattle.std.proofs.lemmas.Result.{err_from_is_err_and}
 use Rattle.elf_image.specs.Image.{ImageValue}
-use Rattle.elf_engine.specs.Output.{Buffers, IsCutShort}
+use Rattle.elf_stream.specs.Output.{Buffers, IsCutShort}
 use Rattle.elf_engine.specs.TableLines.{all_table_lines, table_text}
-use Rattle.elf_engine.proofs.Output.{all_lines_buffered, is_index, line_at, lines_buffered, lines_cut, no_index}
+use Rattle.elf_stream.proofs.Public.{all_lines_buffered, is_index, line_at, lines_buffered, lines_cut, no_index}
 use Rattle.elf_engine.proofs.engine.show_tables.show_tables.Goals as goal
 
 pub returns-in_err-show_table : goal.returns-in_err-show_table

@@ -1,6 +1,6 @@
 use Rattle.std.proofs.Common.{length, take}
 use Rattle.std.specs.List.{flat_map, range_with_len}
-use Rattle.elf_engine.specs.Output.{Buffers}
+use Rattle.elf_stream.specs.Output.{Buffers}
 use Rattle.elf_engine.specs.TableLines.{table_text}
 use Rattle.elf_engine.proofs.engine.show_tables.show_tables.Given as goal
 

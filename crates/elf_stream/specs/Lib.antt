@@ -1,0 +1,7 @@
+-- The words of this crate's contracts.
+pub mod Engine
+pub mod Fault
+pub mod Inputs
+pub mod Line
+pub mod Output
+pub mod Sending

@@ -1,0 +1,25 @@
+//! What goes in and out of the engines of `elfmap`: files that are read whole, lines that are made word by word, texts that go
+//! out in pieces, and how an engine ends ([`Verdict`], [`ToolFault`]).
+//!
+//! A [`line`](mod@line) is its words with single blanks between them and a line feed behind:
+//!
+//! ```
+//! let mut text = Vec::new(alloc);
+//! begin_line(&mut text, b"part")?;
+//! push_hexadecimal(&mut text, 64)?;
+//! push_decimal(&mut text, 24)?;
+//! end_line(&mut text)?;
+//! assert_eq!(text.as_slice(), b"part 0x40 24\n");
+//! ```
+#![tactic(auto)]
+
+mod fault;
+mod input;
+pub mod line;
+pub mod lines;
+mod output;
+pub mod sending;
+
+pub use fault::{Refusal, ToolFault, Verdict};
+pub use input::{read_input, read_inputs};
+pub use output::Output;
