@@ -21,27 +21,29 @@ fn piece(owner: Option<usize>, start: u64, len: u64) -> Piece {
 #[test]
 fn finds_a_double_and_places_parts(rt: HostRuntime) -> Result<(), Fail> {
     let alloc = rt.alloc();
-    let extents = [extent(0, 4), extent(2, 4)];
-    assert_eq!(rt; first_double(alloc, &extents)?, Some(2));
+    let double = first_double(alloc, &[extent(0, 4), extent(2, 4)])?;
     let places = place(alloc, &[(1, 1), (8, 8)], 64)?;
-    assert_eq!(rt; places.as_slice(), [64, 72].as_slice());
+    assert_eq!(rt; (double, places.as_slice()), (Some(2), [64, 72].as_slice()));
     Ok(())
 }
 
 #[test]
-fn finds_the_lowest_double(rt: HostRuntime) -> Result<(), Fail> {
+fn finds_the_lowest_double(rt: HostRuntime) -> Result<(), OutOfMemory> {
     let several = [extent(10, 5), extent(0, 3), extent(2, 9), extent(14, 1)];
-    assert_eq!(rt; first_double(rt.alloc(), &several)?, Some(2));
     let equal = [extent(5, 0), extent(5, 2), extent(5, 2)];
-    assert_eq!(rt; first_double(rt.alloc(), &equal)?, Some(5));
     let touching = [extent(5, 0), extent(4, 3)];
-    assert_eq!(rt; first_double(rt.alloc(), &touching)?, None);
+    let doubles = [
+        first_double(rt.alloc(), &several)?,
+        first_double(rt.alloc(), &equal)?,
+        first_double(rt.alloc(), &touching)?,
+    ];
+    assert_eq!(rt; doubles, [Some(2), Some(5), None]);
     Ok(())
 }
 
 // Extents that end past a u64 are counted over whole numbers.
 #[test]
-fn finds_a_double_at_the_end(rt: HostRuntime) -> Result<(), Fail> {
+fn finds_a_double_at_the_end(rt: HostRuntime) -> Result<(), OutOfMemory> {
     let past = [extent(u64::MAX, 1), extent(u64::MAX - 1, u64::MAX)];
     assert_eq!(rt; first_double(rt.alloc(), &past)?, Some(u64::MAX));
     Ok(())
@@ -69,7 +71,7 @@ fn numbered(n: u64) -> Extent {
 
 // All lists of at most one of these extents.
 #[test]
-fn agrees_with_a_count_on_one_extent(rt: HostRuntime) -> Result<(), Fail> {
+fn agrees_with_a_count_on_one_extent(rt: HostRuntime) -> Result<(), OutOfMemory> {
     let alloc = rt.alloc();
     check_double(&rt, alloc, &[])?;
     for n in 0..36 {
@@ -79,7 +81,7 @@ fn agrees_with_a_count_on_one_extent(rt: HostRuntime) -> Result<(), Fail> {
 }
 
 #[test]
-fn agrees_with_a_count_on_two_extents(rt: HostRuntime) -> Result<(), Fail> {
+fn agrees_with_a_count_on_two_extents(rt: HostRuntime) -> Result<(), OutOfMemory> {
     let alloc = rt.alloc();
     for n in 0..36 * 36 {
         check_double(&rt, alloc, &[numbered(n / 36), numbered(n)])?;
@@ -88,7 +90,7 @@ fn agrees_with_a_count_on_two_extents(rt: HostRuntime) -> Result<(), Fail> {
 }
 
 #[test]
-fn agrees_with_a_count_on_three_extents(rt: HostRuntime) -> Result<(), Fail> {
+fn agrees_with_a_count_on_three_extents(rt: HostRuntime) -> Result<(), OutOfMemory> {
     let alloc = rt.alloc();
     for n in 0..36 * 36 * 36 {
         let extents = [numbered(n / (36 * 36)), numbered(n / 36), numbered(n)];
@@ -134,7 +136,7 @@ fn check_account(
 }
 
 #[test]
-fn accounts_for_every_offset(rt: HostRuntime) -> Result<(), Fail> {
+fn accounts_for_every_offset(rt: HostRuntime) -> Result<(), OutOfMemory> {
     let alloc = rt.alloc();
     let extents = [extent(4, 2), extent(0, 0), extent(1, 1)];
     let pieces = [
@@ -146,8 +148,7 @@ fn accounts_for_every_offset(rt: HostRuntime) -> Result<(), Fail> {
     ];
     check_account(&rt, alloc, &extents, 8, &pieces)?;
     check_account(&rt, alloc, &[], 0, &[])?;
-    check_account(&rt, alloc, &[], 3, &[piece(None, 0, 3)])?;
-    Ok(())
+    check_account(&rt, alloc, &[], 3, &[piece(None, 0, 3)])
 }
 
 // The extents (2k, 1) for k below `count`, the last one first.
@@ -161,41 +162,71 @@ fn every_other(alloc: Global, count: u64) -> Result<Vec<Extent>, OutOfMemory> {
     Ok(extents)
 }
 
+// How many pieces the account has.
+fn piece_count(
+    alloc: Global,
+    extents: &[Extent],
+    total: u64,
+) -> Result<Option<usize>, OutOfMemory> {
+    match checked_account(alloc, extents, total)? {
+        Some(pieces) => Ok(Some(pieces.len())),
+        None => Ok(None),
+    }
+}
+
 // As many extents as the section table of a large file has are accounted for in well under a second.
 #[test]
-fn many_extents_take_no_quadratic_time(rt: HostRuntime) -> Result<(), Fail> {
+fn many_extents_take_no_quadratic_time(rt: HostRuntime) -> Result<(), OutOfMemory> {
     let alloc = rt.alloc();
     let extents = every_other(alloc, 100_000)?;
-    assert_eq!(rt; first_double(alloc, &extents)?, None);
-    let pieces = checked_account(alloc, &extents, 200_000)?;
-    assert!(rt; matches!(&pieces, Some(found) if found.len() == 200_000));
+    let double = first_double(alloc, &extents)?;
+    let count = piece_count(alloc, &extents, 200_000)?;
+    assert_eq!(rt; (double, count), (None, Some(200_000)));
     Ok(())
 }
 
 #[test]
 fn finds_the_next_place(rt: HostRuntime) {
-    for (cursor, align, expected) in [
-        (5, 4, Some(8)),
-        (8, 4, Some(8)),
-        (5, 0, Some(5)),
-        (0, 16, Some(0)),
-        (7, 3, Some(9)),
-        (u64::MAX, 1, Some(u64::MAX)),
-        (u64::MAX, 2, None),
-    ] {
-        assert_eq!(rt; next_place(cursor, align), expected);
-    }
+    let places = [
+        next_place(5, 4),
+        next_place(8, 4),
+        next_place(5, 0),
+        next_place(0, 16),
+        next_place(7, 3),
+        next_place(u64::MAX, 1),
+        next_place(u64::MAX, 2),
+    ];
+    let expected = [
+        Some(8),
+        Some(8),
+        Some(5),
+        Some(0),
+        Some(9),
+        Some(u64::MAX),
+        None,
+    ];
+    assert_eq!(rt; places, expected);
+}
+
+// Why the parts have no places, if they have none.
+fn place_fault(alloc: Global, parts: &[(u64, u64)], from: u64) -> Option<PlaceFault> {
+    place(alloc, parts, from).err()
 }
 
 #[test]
-fn places_parts(rt: HostRuntime) -> Result<(), Fail> {
-    let alloc = rt.alloc();
-    let places = place(alloc, &[(1, 4), (0, 8), (3, 2)], 5)?;
-    assert_eq!(rt; places.as_slice(), [8, 16, 16].as_slice());
+fn places_parts(rt: HostRuntime) -> Result<(), PlaceFault> {
+    let places = place(rt.alloc(), &[(1, 4), (0, 8), (3, 2)], 5)?;
     let last = u64::MAX - 1;
-    let overflow = place(alloc, &[(1, 1), (1, 2)], last);
-    assert!(rt; matches!(&overflow, Err(PlaceFault::Overflow { index: 1 })));
-    let end = place(alloc, &[(1, 1), (2, 1)], last);
-    assert!(rt; matches!(&end, Err(PlaceFault::Overflow { index: 1 })));
+    let faults = [
+        place_fault(rt.alloc(), &[(1, 1), (1, 2)], last),
+        place_fault(rt.alloc(), &[(1, 1), (2, 1)], last),
+    ];
+    assert_eq!(rt;
+        (places.as_slice(), faults),
+        (
+            [8, 16, 16].as_slice(),
+            [Some(PlaceFault::Overflow { index: 1 }); 2]
+        )
+    );
     Ok(())
 }

@@ -2,6 +2,7 @@
 ghost use Rattle.std.specs.Prelude.{◌≡◌, ◌≤◌, length};
 
 use elf_field::{Dyn, Ehdr, Order, Phdr, Record, Rel, Rela, Shdr, Sym, abi, get_at};
+use std::process::Abort;
 
 // The header of an empty relocatable file, little-endian, and the same in big-endian.
 const LITTLE_HEADER: [u8; 64] = [
@@ -74,39 +75,47 @@ fn writes_and_reads_an_entry(rt: HostRuntime) {
     };
     let mut bytes = [0; 16];
     entry.put(Order::Big, &mut bytes);
-    assert_eq!(rt; bytes, [0, 0, 0, 0, 0, 0, 0, 1, 0, 0, 0, 0, 0, 0, 0, 7]);
-    assert_eq!(rt; Dyn::get(Order::Big, &bytes), entry);
+    assert_eq!(rt;
+        (bytes, Dyn::get(Order::Big, &bytes)),
+        ([0, 0, 0, 0, 0, 0, 0, 1, 0, 0, 0, 0, 0, 0, 0, 7], entry)
+    );
+}
+
+/// The header of an empty relocatable file stands in these bytes, which are what it is put back as.
+fn assert_header(rt: &impl Abort, order: Order, bytes: &[u8; 64]) {
+    let header = Ehdr::get(order, bytes);
+    let mut copy = [0; 64];
+    header.put(order, &mut copy);
+    let kind = (header.e_type, header.e_machine, header.e_version);
+    let sizes = (header.e_shoff, header.e_ehsize, header.e_shentsize);
+    assert_eq!(rt;
+        (header.e_ident.as_slice(), kind, sizes, copy.as_slice()),
+        (&bytes[..16], (1, 62, 1), (0, 64, 0), bytes.as_slice())
+    );
 }
 
 #[test]
 fn headers_in_both_orders(rt: HostRuntime) {
-    for (order, bytes) in [(Order::Little, LITTLE_HEADER), (Order::Big, BIG_HEADER)] {
-        let header = Ehdr::get(order, &bytes);
-        assert_eq!(rt; header.e_ident.as_slice(), &bytes[..16]);
-        assert_eq!(rt; header.e_type, 1);
-        assert_eq!(rt; header.e_machine, 62);
-        assert_eq!(rt; header.e_version, 1);
-        assert_eq!(rt; header.e_shoff, 0);
-        assert_eq!(rt; header.e_ehsize, 64);
-        assert_eq!(rt; header.e_shentsize, 0);
-        let mut copy = [0; 64];
-        header.put(order, &mut copy);
-        assert_eq!(rt; copy, bytes);
-    }
+    assert_header(&rt, Order::Little, &LITTLE_HEADER);
+    assert_header(&rt, Order::Big, &BIG_HEADER);
+}
+
+/// A relocation at 1 by symbol 1, of type 2, stands in these bytes, which are what it is put back as.
+fn assert_relocation(rt: &impl Abort, order: Order, bytes: &[u8; 24]) {
+    let rela = Rela::get(order, bytes);
+    let mut copy = [0; 24];
+    rela.put(order, &mut copy);
+    let info = (rela.symbol(), rela.relocation_type());
+    assert_eq!(rt;
+        (rela.r_offset, info, rela.r_addend, copy.as_slice()),
+        (1, (1, 2), -4, bytes.as_slice())
+    );
 }
 
 #[test]
 fn relocations_in_both_orders(rt: HostRuntime) {
-    for (order, bytes) in [(Order::Little, LITTLE_RELA), (Order::Big, BIG_RELA)] {
-        let rela = Rela::get(order, &bytes);
-        assert_eq!(rt; rela.r_offset, 1);
-        assert_eq!(rt; rela.symbol(), 1);
-        assert_eq!(rt; rela.relocation_type(), 2);
-        assert_eq!(rt; rela.r_addend, -4);
-        let mut copy = [0; 24];
-        rela.put(order, &mut copy);
-        assert_eq!(rt; copy, bytes);
-    }
+    assert_relocation(&rt, Order::Little, &LITTLE_RELA);
+    assert_relocation(&rt, Order::Big, &BIG_RELA);
 }
 
 #[test]
@@ -119,152 +128,236 @@ fn parts_of_info(rt: HostRuntime) {
         st_value: 0,
         st_size: 0,
     };
-    assert_eq!(rt; sym.binding(), 1);
-    assert_eq!(rt; sym.symbol_type(), 2);
     let rel = Rel {
         r_offset: 0,
         r_info: 0x0000_0007_8000_0009,
     };
-    assert_eq!(rt; rel.symbol(), 7);
-    assert_eq!(rt; rel.relocation_type(), 0x8000_0009);
+    let of_symbol = (sym.binding(), sym.symbol_type());
+    let of_relocation = (rel.symbol(), rel.relocation_type());
+    assert_eq!(rt; (of_symbol, of_relocation), ((1, 2), (7, 0x8000_0009)));
+}
+
+/// The fields of a header.
+fn header_fields(record: &Ehdr) -> [(u64, u64, u64); 13] {
+    [
+        (u64::from(record.e_type), 16, 2),
+        (u64::from(record.e_machine), 18, 2),
+        (u64::from(record.e_version), 20, 4),
+        (record.e_entry, 24, 8),
+        (record.e_phoff, 32, 8),
+        (record.e_shoff, 40, 8),
+        (u64::from(record.e_flags), 48, 4),
+        (u64::from(record.e_ehsize), 52, 2),
+        (u64::from(record.e_phentsize), 54, 2),
+        (u64::from(record.e_phnum), 56, 2),
+        (u64::from(record.e_shentsize), 58, 2),
+        (u64::from(record.e_shnum), 60, 2),
+        (u64::from(record.e_shstrndx), 62, 2),
+    ]
+}
+
+/// A header has its fields where the ruler says.
+fn assert_header_layout(rt: &impl Abort, order: Order) {
+    let mut copy = [0; 64];
+    let record: Ehdr = through_bound(order, &RULER, &mut copy);
+    let wrong = first_wrong(order, &header_fields(&record));
+    let read = (Ehdr::get(order, &RULER[..64]), record.e_ident.as_slice());
+    assert_eq!(rt;
+        (read, copy.as_slice(), wrong),
+        ((record, &RULER[..16]), &RULER[..64], None),
+        "{order:?}"
+    );
 }
 
 #[test]
 fn header_layout(rt: HostRuntime) {
-    for order in [Order::Little, Order::Big] {
-        let mut copy = [0; 64];
-        let record: Ehdr = through_bound(order, &RULER, &mut copy);
-        assert_eq!(rt; Ehdr::get(order, &RULER[..64]), record);
-        assert_eq!(rt; copy.as_slice(), &RULER[..64]);
-        assert_eq!(rt; record.e_ident.as_slice(), &RULER[..16]);
-        let fields = [
-            (u64::from(record.e_type), 16, 2),
-            (u64::from(record.e_machine), 18, 2),
-            (u64::from(record.e_version), 20, 4),
-            (record.e_entry, 24, 8),
-            (record.e_phoff, 32, 8),
-            (record.e_shoff, 40, 8),
-            (u64::from(record.e_flags), 48, 4),
-            (u64::from(record.e_ehsize), 52, 2),
-            (u64::from(record.e_phentsize), 54, 2),
-            (u64::from(record.e_phnum), 56, 2),
-            (u64::from(record.e_shentsize), 58, 2),
-            (u64::from(record.e_shnum), 60, 2),
-            (u64::from(record.e_shstrndx), 62, 2),
-        ];
-        assert_eq!(rt; first_wrong(order, &fields), None, "{order:?}");
-    }
+    assert_header_layout(&rt, Order::Little);
+    assert_header_layout(&rt, Order::Big);
+}
+
+/// The fields of a section header.
+fn section_fields(record: &Shdr) -> [(u64, u64, u64); 10] {
+    [
+        (u64::from(record.sh_name), 0, 4),
+        (u64::from(record.sh_type), 4, 4),
+        (record.sh_flags, 8, 8),
+        (record.sh_addr, 16, 8),
+        (record.sh_offset, 24, 8),
+        (record.sh_size, 32, 8),
+        (u64::from(record.sh_link), 40, 4),
+        (u64::from(record.sh_info), 44, 4),
+        (record.sh_addralign, 48, 8),
+        (record.sh_entsize, 56, 8),
+    ]
+}
+
+/// A section header has its fields where the ruler says.
+fn assert_section_layout(rt: &impl Abort, order: Order) {
+    let mut copy = [0; 64];
+    let record: Shdr = through_bound(order, &RULER, &mut copy);
+    let wrong = first_wrong(order, &section_fields(&record));
+    let read = Shdr::get(order, &RULER[..64]);
+    assert_eq!(rt;
+        (read, copy.as_slice(), wrong),
+        (record, &RULER[..64], None),
+        "{order:?}"
+    );
 }
 
 #[test]
 fn section_header_layout(rt: HostRuntime) {
-    for order in [Order::Little, Order::Big] {
-        let mut copy = [0; 64];
-        let record: Shdr = through_bound(order, &RULER, &mut copy);
-        assert_eq!(rt; Shdr::get(order, &RULER[..64]), record);
-        assert_eq!(rt; copy.as_slice(), &RULER[..64]);
-        let fields = [
-            (u64::from(record.sh_name), 0, 4),
-            (u64::from(record.sh_type), 4, 4),
-            (record.sh_flags, 8, 8),
-            (record.sh_addr, 16, 8),
-            (record.sh_offset, 24, 8),
-            (record.sh_size, 32, 8),
-            (u64::from(record.sh_link), 40, 4),
-            (u64::from(record.sh_info), 44, 4),
-            (record.sh_addralign, 48, 8),
-            (record.sh_entsize, 56, 8),
-        ];
-        assert_eq!(rt; first_wrong(order, &fields), None, "{order:?}");
-    }
+    assert_section_layout(&rt, Order::Little);
+    assert_section_layout(&rt, Order::Big);
+}
+
+/// The fields of a program header.
+fn segment_fields(record: &Phdr) -> [(u64, u64, u64); 8] {
+    [
+        (u64::from(record.p_type), 0, 4),
+        (u64::from(record.p_flags), 4, 4),
+        (record.p_offset, 8, 8),
+        (record.p_vaddr, 16, 8),
+        (record.p_paddr, 24, 8),
+        (record.p_filesz, 32, 8),
+        (record.p_memsz, 40, 8),
+        (record.p_align, 48, 8),
+    ]
+}
+
+/// A program header has its fields where the ruler says.
+fn assert_segment_layout(rt: &impl Abort, order: Order) {
+    let mut copy = [0; 56];
+    let record: Phdr = through_bound(order, &RULER, &mut copy);
+    let wrong = first_wrong(order, &segment_fields(&record));
+    let read = Phdr::get(order, &RULER[..56]);
+    assert_eq!(rt;
+        (read, copy.as_slice(), wrong),
+        (record, &RULER[..56], None),
+        "{order:?}"
+    );
 }
 
 #[test]
 fn program_header_layout(rt: HostRuntime) {
-    for order in [Order::Little, Order::Big] {
-        let mut copy = [0; 56];
-        let record: Phdr = through_bound(order, &RULER, &mut copy);
-        assert_eq!(rt; Phdr::get(order, &RULER[..56]), record);
-        assert_eq!(rt; copy.as_slice(), &RULER[..56]);
-        let fields = [
-            (u64::from(record.p_type), 0, 4),
-            (u64::from(record.p_flags), 4, 4),
-            (record.p_offset, 8, 8),
-            (record.p_vaddr, 16, 8),
-            (record.p_paddr, 24, 8),
-            (record.p_filesz, 32, 8),
-            (record.p_memsz, 40, 8),
-            (record.p_align, 48, 8),
-        ];
-        assert_eq!(rt; first_wrong(order, &fields), None, "{order:?}");
-    }
+    assert_segment_layout(&rt, Order::Little);
+    assert_segment_layout(&rt, Order::Big);
+}
+
+/// The fields of a symbol.
+fn symbol_fields(record: &Sym) -> [(u64, u64, u64); 6] {
+    [
+        (u64::from(record.st_name), 0, 4),
+        (u64::from(record.st_info), 4, 1),
+        (u64::from(record.st_other), 5, 1),
+        (u64::from(record.st_shndx), 6, 2),
+        (record.st_value, 8, 8),
+        (record.st_size, 16, 8),
+    ]
+}
+
+/// A symbol has its fields where the ruler says.
+fn assert_symbol_layout(rt: &impl Abort, order: Order) {
+    let mut copy = [0; 24];
+    let record: Sym = through_bound(order, &RULER, &mut copy);
+    let wrong = first_wrong(order, &symbol_fields(&record));
+    let read = Sym::get(order, &RULER[..24]);
+    assert_eq!(rt;
+        (read, copy.as_slice(), wrong),
+        (record, &RULER[..24], None),
+        "{order:?}"
+    );
 }
 
 #[test]
 fn symbol_layout(rt: HostRuntime) {
-    for order in [Order::Little, Order::Big] {
-        let mut copy = [0; 24];
-        let record: Sym = through_bound(order, &RULER, &mut copy);
-        assert_eq!(rt; Sym::get(order, &RULER[..24]), record);
-        assert_eq!(rt; copy.as_slice(), &RULER[..24]);
-        let fields = [
-            (u64::from(record.st_name), 0, 4),
-            (u64::from(record.st_info), 4, 1),
-            (u64::from(record.st_other), 5, 1),
-            (u64::from(record.st_shndx), 6, 2),
-            (record.st_value, 8, 8),
-            (record.st_size, 16, 8),
-        ];
-        assert_eq!(rt; first_wrong(order, &fields), None, "{order:?}");
-    }
+    assert_symbol_layout(&rt, Order::Little);
+    assert_symbol_layout(&rt, Order::Big);
+}
+
+/// The fields of a relocation.
+fn rel_fields(record: &Rel) -> [(u64, u64, u64); 2] {
+    [(record.r_offset, 0, 8), (record.r_info, 8, 8)]
+}
+
+/// A relocation has its fields where the ruler says.
+fn assert_rel_layout(rt: &impl Abort, order: Order) {
+    let mut copy = [0; 16];
+    let record: Rel = through_bound(order, &RULER, &mut copy);
+    let wrong = first_wrong(order, &rel_fields(&record));
+    let read = Rel::get(order, &RULER[..16]);
+    assert_eq!(rt;
+        (read, copy.as_slice(), wrong),
+        (record, &RULER[..16], None),
+        "{order:?}"
+    );
 }
 
 #[test]
 fn relocation_layout(rt: HostRuntime) {
-    for order in [Order::Little, Order::Big] {
-        let mut copy = [0; 16];
-        let record: Rel = through_bound(order, &RULER, &mut copy);
-        assert_eq!(rt; Rel::get(order, &RULER[..16]), record);
-        assert_eq!(rt; copy.as_slice(), &RULER[..16]);
-        let fields = [(record.r_offset, 0, 8), (record.r_info, 8, 8)];
-        assert_eq!(rt; first_wrong(order, &fields), None, "{order:?}");
-    }
+    assert_rel_layout(&rt, Order::Little);
+    assert_rel_layout(&rt, Order::Big);
+}
+
+/// The fields of a relocation with an addend.
+fn rela_fields(record: &Rela) -> [(u64, u64, u64); 3] {
+    [
+        (record.r_offset, 0, 8),
+        (record.r_info, 8, 8),
+        (record.r_addend.cast_unsigned(), 16, 8),
+    ]
+}
+
+/// A relocation with an addend has its fields where the ruler says.
+fn assert_rela_layout(rt: &impl Abort, order: Order) {
+    let mut copy = [0; 24];
+    let record: Rela = through_bound(order, &RULER, &mut copy);
+    let wrong = first_wrong(order, &rela_fields(&record));
+    let read = Rela::get(order, &RULER[..24]);
+    assert_eq!(rt;
+        (read, copy.as_slice(), wrong),
+        (record, &RULER[..24], None),
+        "{order:?}"
+    );
 }
 
 #[test]
 fn relocation_with_addend_layout(rt: HostRuntime) {
-    for order in [Order::Little, Order::Big] {
-        let mut copy = [0; 24];
-        let record: Rela = through_bound(order, &RULER, &mut copy);
-        assert_eq!(rt; Rela::get(order, &RULER[..24]), record);
-        assert_eq!(rt; copy.as_slice(), &RULER[..24]);
-        let fields = [
-            (record.r_offset, 0, 8),
-            (record.r_info, 8, 8),
-            (record.r_addend.cast_unsigned(), 16, 8),
-        ];
-        assert_eq!(rt; first_wrong(order, &fields), None, "{order:?}");
-    }
+    assert_rela_layout(&rt, Order::Little);
+    assert_rela_layout(&rt, Order::Big);
+}
+
+/// The fields of an entry of the dynamic array.
+fn entry_fields(record: &Dyn) -> [(u64, u64, u64); 2] {
+    [(record.d_tag.cast_unsigned(), 0, 8), (record.d_un, 8, 8)]
+}
+
+/// An entry of the dynamic array has its fields where the ruler says.
+fn assert_entry_layout(rt: &impl Abort, order: Order) {
+    let mut copy = [0; 16];
+    let record: Dyn = through_bound(order, &RULER, &mut copy);
+    let wrong = first_wrong(order, &entry_fields(&record));
+    let read = Dyn::get(order, &RULER[..16]);
+    assert_eq!(rt;
+        (read, copy.as_slice(), wrong),
+        (record, &RULER[..16], None),
+        "{order:?}"
+    );
 }
 
 #[test]
 fn dynamic_entry_layout(rt: HostRuntime) {
-    for order in [Order::Little, Order::Big] {
-        let mut copy = [0; 16];
-        let record: Dyn = through_bound(order, &RULER, &mut copy);
-        assert_eq!(rt; Dyn::get(order, &RULER[..16]), record);
-        assert_eq!(rt; copy.as_slice(), &RULER[..16]);
-        let fields = [(record.d_tag.cast_unsigned(), 0, 8), (record.d_un, 8, 8)];
-        assert_eq!(rt; first_wrong(order, &fields), None, "{order:?}");
-    }
+    assert_entry_layout(&rt, Order::Little);
+    assert_entry_layout(&rt, Order::Big);
 }
 
 #[test]
 fn words(rt: HostRuntime) {
     let mut copy = [0; 4];
     let word: u32 = through_bound(Order::Little, &RULER, &mut copy);
-    assert_eq!(rt; <u32 as Record>::get(Order::Little, &RULER[..4]), word);
-    assert_eq!(rt; word, 0x0302_0100);
-    assert_eq!(rt; copy, [0, 1, 2, 3]);
-    assert_eq!(rt; get_at::<u32>(Order::Big, &RULER, 5), 0x0506_0708);
+    let read = <u32 as Record>::get(Order::Little, &RULER[..4]);
+    let other = get_at::<u32>(Order::Big, &RULER, 5);
+    assert_eq!(rt;
+        (read, word, copy, other),
+        (word, 0x0302_0100, [0, 1, 2, 3], 0x0506_0708)
+    );
 }

@@ -7,7 +7,6 @@ use elf_image::output::{write_padded, write_records, write_zeros};
 use std::alloc::{AllocError, Global};
 use std::io::ErrorKind;
 use std::process::Abort;
-use std::test::Fail;
 
 /// Two blocks of 4,096 zeros and 100 more.
 const ZEROS: usize = 8292;
@@ -54,9 +53,15 @@ fn assert_fails_behind(
     out: usize,
 ) {
     let written = out as u64;
-    assert_eq!(rt; answer, Err(WriteFault { written }));
-    assert_eq!(rt; Some(writer.bytes.as_slice()), bytes.get(..out));
-    assert_eq!(rt; (writer.offers.len(), writer.flushes), (writer.failing, 0));
+    let calls = (writer.offers.len(), writer.flushes);
+    assert_eq!(rt;
+        (answer, Some(writer.bytes.as_slice()), calls),
+        (
+            Err(WriteFault { written }),
+            bytes.get(..out),
+            (writer.failing, 0)
+        )
+    );
 }
 
 /// All of these bytes went out, in so many calls.
@@ -67,12 +72,21 @@ fn assert_written(
     bytes: &[u8],
     calls: usize,
 ) {
-    assert_eq!(rt; answer, Ok(()));
-    assert_eq!(rt; writer.bytes.as_slice(), bytes);
-    assert_eq!(rt; (writer.offers.len(), writer.flushes), (calls, 0));
+    let counts = (writer.offers.len(), writer.flushes);
+    assert_eq!(rt;
+        (answer, writer.bytes.as_slice(), counts),
+        (Ok(()), bytes, (calls, 0))
+    );
 }
 
-/// The zeros and the part behind them.
+/// The zeros.
+fn zeros(alloc: Global) -> Result<Vec<u8>, AllocError> {
+    let mut bytes = Vec::new(alloc);
+    bytes.resize(ZEROS, 0)?;
+    Ok(bytes)
+}
+
+/// The padding and the part behind it.
 fn padded(alloc: Global) -> Result<Vec<u8>, AllocError> {
     let mut bytes = Vec::new(alloc);
     bytes.resize(PADDING, 0)?;
@@ -106,29 +120,27 @@ fn relocation_bytes(alloc: Global) -> Result<Vec<u8>, AllocError> {
 }
 
 #[test]
-fn zeros_that_go_out(rt: HostRuntime) -> Result<(), Fail> {
-    let mut zeros = Vec::new(rt.alloc());
-    zeros.resize(ZEROS, 0)?;
+fn zeros_that_go_out(rt: HostRuntime) -> Result<(), AllocError> {
+    let bytes = zeros(rt.alloc())?;
     let mut writer = once_failing(rt.alloc(), 0);
     let answer = write_zeros(&mut writer, ZEROS as u64);
-    assert_written(&rt, &writer, answer, &zeros, 11);
+    assert_written(&rt, &writer, answer, &bytes, 11);
     Ok(())
 }
 
 #[test]
-fn zeros_whose_write_fails_once(rt: HostRuntime) -> Result<(), Fail> {
-    let mut zeros = Vec::new(rt.alloc());
-    zeros.resize(ZEROS, 0)?;
+fn zeros_whose_write_fails_once(rt: HostRuntime) -> Result<(), AllocError> {
+    let bytes = zeros(rt.alloc())?;
     for (call, out) in ZEROS_OUT.iter().enumerate() {
         let mut writer = once_failing(rt.alloc(), call + 1);
         let answer = write_zeros(&mut writer, ZEROS as u64);
-        assert_fails_behind(&rt, &writer, answer, &zeros, *out);
+        assert_fails_behind(&rt, &writer, answer, &bytes, *out);
     }
     Ok(())
 }
 
 #[test]
-fn a_padded_part_that_goes_out(rt: HostRuntime) -> Result<(), Fail> {
+fn a_padded_part_that_goes_out(rt: HostRuntime) -> Result<(), AllocError> {
     let bytes = padded(rt.alloc())?;
     let mut writer = once_failing(rt.alloc(), 0);
     let answer = write_padded(&mut writer, PADDING as u64, &PART);
@@ -137,7 +149,7 @@ fn a_padded_part_that_goes_out(rt: HostRuntime) -> Result<(), Fail> {
 }
 
 #[test]
-fn a_padded_part_whose_write_fails_once(rt: HostRuntime) -> Result<(), Fail> {
+fn a_padded_part_whose_write_fails_once(rt: HostRuntime) -> Result<(), AllocError> {
     let bytes = padded(rt.alloc())?;
     for (call, out) in PADDED_OUT.iter().enumerate() {
         let mut writer = once_failing(rt.alloc(), call + 1);
@@ -148,7 +160,7 @@ fn a_padded_part_whose_write_fails_once(rt: HostRuntime) -> Result<(), Fail> {
 }
 
 #[test]
-fn records_that_go_out(rt: HostRuntime) -> Result<(), Fail> {
+fn records_that_go_out(rt: HostRuntime) -> Result<(), AllocError> {
     let records = relocations(rt.alloc())?;
     let bytes = relocation_bytes(rt.alloc())?;
     let mut writer = once_failing(rt.alloc(), 0);
@@ -158,7 +170,7 @@ fn records_that_go_out(rt: HostRuntime) -> Result<(), Fail> {
 }
 
 #[test]
-fn records_whose_write_fails_once(rt: HostRuntime) -> Result<(), Fail> {
+fn records_whose_write_fails_once(rt: HostRuntime) -> Result<(), AllocError> {
     let records = relocations(rt.alloc())?;
     let bytes = relocation_bytes(rt.alloc())?;
     for (call, out) in RELOCATIONS_OUT.iter().enumerate() {

@@ -10,9 +10,9 @@ use elf_image::{
 use elf_test_files::{
     Pieces, empty_contents, empty_object, filled_gap, one_section, one_segment, set, two_of_each,
 };
-use std::alloc::Global;
+use std::alloc::{AllocError, Global};
+use std::io::Read;
 use std::process::Abort;
-use std::test::Fail;
 
 const LITTLE: Order = Order::Little;
 
@@ -21,7 +21,7 @@ fn part(owner: Owner, start: u64, len: u64) -> Part {
 }
 
 /// A shelf that takes everything up to `room`.
-fn shelf(alloc: Global, room: usize) -> Result<Shelf, Fail> {
+fn shelf(alloc: Global, room: usize) -> Result<Shelf, AllocError> {
     Ok(Shelf {
         bytes: Vec::with_capacity(alloc, 456)?,
         piece: 1000,
@@ -30,287 +30,401 @@ fn shelf(alloc: Global, room: usize) -> Result<Shelf, Fail> {
     })
 }
 
+/// The image is written as these bytes.
 fn assert_written(
     rt: &impl Abort,
     alloc: Global,
     image: &Image<'_>,
     bytes: &[u8],
-) -> Result<(), Fail> {
+) -> Result<(), AllocError> {
     let mut out = shelf(alloc, 1000)?;
-    assert_eq!(rt; write(image, &mut out), Ok(()));
-    assert_eq!(rt; out.bytes.as_slice(), bytes);
+    let answer = write(image, &mut out);
+    assert_eq!(rt; (answer, out.bytes.as_slice()), (Ok(()), bytes));
     Ok(())
 }
 
-#[test]
-fn tells_every_part_of_an_empty_object(rt: HostRuntime) -> Result<(), Fail> {
-    let file = empty_object();
-    let image = parse(rt.alloc(), &file)?;
-    assert_eq!(rt;
-        image.parts(),
-        [
-            part(Owner::Header, 0, 64),
-            part(Owner::Content(1), 64, 24),
-            part(Owner::Content(2), 88, 1),
-            part(Owner::Content(3), 89, 27),
-            part(Owner::Gap, 116, 4),
-            part(Owner::SectionTable, 120, 256),
-        ]
-        .as_slice()
-    );
+/// The image of this file has these parts.
+fn assert_parts(rt: &impl Abort, alloc: Global, file: &[u8], parts: &[Part]) -> Result<(), Fault> {
+    let image = parse(alloc, file)?;
+    assert_eq!(rt; image.parts(), parts);
     Ok(())
 }
 
+/// The image of these bytes is written as the file.
+fn assert_written_back(
+    rt: &impl Abort,
+    alloc: Global,
+    bytes: &[u8],
+    file: &[u8],
+) -> Result<(), Fault> {
+    let image = parse(alloc, bytes)?;
+    assert_written(rt, alloc, &image, file)?;
+    Ok(())
+}
+
+/// The image of this file is written as the file.
+fn assert_kept(rt: &impl Abort, alloc: Global, file: &[u8]) -> Result<(), Fault> {
+    assert_written_back(rt, alloc, file, file)
+}
+
+/// The name of section `index`.
+fn name_of<'a>(image: &Image<'a>, index: usize) -> Option<&'a [u8]> {
+    if index < image.section_count() {
+        Some(image.name(index))
+    } else {
+        None
+    }
+}
+
+/// The content of section `index`.
+fn content_of<'a>(image: &Image<'a>, index: usize) -> Option<&'a [u8]> {
+    if index < image.section_count() {
+        Some(image.content(index))
+    } else {
+        None
+    }
+}
+
+/// The names of the first five sections.
+fn names_of<'a>(image: &Image<'a>) -> [Option<&'a [u8]>; 5] {
+    [
+        name_of(image, 0),
+        name_of(image, 1),
+        name_of(image, 2),
+        name_of(image, 3),
+        name_of(image, 4),
+    ]
+}
+
+/// The lengths of the name and of the content of section `index`.
+fn lengths_of(image: &Image<'_>, index: usize) -> Option<(usize, usize)> {
+    if index < image.section_count() {
+        Some((image.name(index).len(), image.content(index).len()))
+    } else {
+        None
+    }
+}
+
+/// The length of the content of section `index`, and where it stands.
+fn place_of(image: &Image<'_>, index: usize) -> Option<(usize, u64)> {
+    if index < image.section_count() {
+        Some((image.content(index).len(), image.content_offset(index)))
+    } else {
+        None
+    }
+}
+
+/// The same of the first five sections.
+fn places_of(image: &Image<'_>) -> [Option<(usize, u64)>; 5] {
+    [
+        place_of(image, 0),
+        place_of(image, 1),
+        place_of(image, 2),
+        place_of(image, 3),
+        place_of(image, 4),
+    ]
+}
+
+/// The size and the address in section header `index`, and where it stands.
+fn section_of(image: &Image<'_>, index: usize) -> Option<(u64, u64, u64)> {
+    if index < image.section_count() {
+        let section = image.section(index);
+        let offset = image.header_offset(index);
+        Some((section.sh_size, section.sh_addr, offset))
+    } else {
+        None
+    }
+}
+
+/// The same of the first five sections.
+fn sections_of(image: &Image<'_>) -> [Option<(u64, u64, u64)>; 5] {
+    [
+        section_of(image, 0),
+        section_of(image, 1),
+        section_of(image, 2),
+        section_of(image, 3),
+        section_of(image, 4),
+    ]
+}
+
+/// The address in program header `index`, and its sizes in the file and in memory.
+fn segment_of(image: &Image<'_>, index: usize) -> Option<(u64, u64, u64)> {
+    if index < image.segment_count() {
+        let segment = image.segment(index);
+        Some((segment.p_vaddr, segment.p_filesz, segment.p_memsz))
+    } else {
+        None
+    }
+}
+
 #[test]
-fn tells_every_part_of_a_section(rt: HostRuntime) -> Result<(), Fail> {
+fn tells_every_part_of_an_empty_object(rt: HostRuntime) -> Result<(), Fault> {
+    let parts = [
+        part(Owner::Header, 0, 64),
+        part(Owner::Content(1), 64, 24),
+        part(Owner::Content(2), 88, 1),
+        part(Owner::Content(3), 89, 27),
+        part(Owner::Gap, 116, 4),
+        part(Owner::SectionTable, 120, 256),
+    ];
+    assert_parts(&rt, rt.alloc(), &empty_object(), &parts)
+}
+
+#[test]
+fn tells_every_part_of_a_section(rt: HostRuntime) -> Result<(), Fault> {
+    let parts = [
+        part(Owner::Header, 0, 64),
+        part(Owner::Content(1), 64, 1),
+        part(Owner::Gap, 65, 7),
+        part(Owner::Content(2), 72, 24),
+        part(Owner::Content(3), 96, 1),
+        part(Owner::Content(4), 97, 33),
+        part(Owner::Gap, 130, 6),
+        part(Owner::SectionTable, 136, 320),
+    ];
+    assert_parts(&rt, rt.alloc(), &one_section(LITTLE), &parts)
+}
+
+#[test]
+fn tells_the_parts_of_a_section_table_alone(rt: HostRuntime) -> Result<(), Fault> {
+    let parts = [
+        part(Owner::Header, 0, 64),
+        part(Owner::SectionTable, 64, 192),
+    ];
+    assert_parts(&rt, rt.alloc(), &empty_contents(LITTLE), &parts)
+}
+
+#[test]
+fn tells_the_parts_of_a_program_table_alone(rt: HostRuntime) -> Result<(), Fault> {
+    let parts = [
+        part(Owner::Header, 0, 64),
+        part(Owner::ProgramTable, 64, 56),
+    ];
+    assert_parts(&rt, rt.alloc(), &one_segment(LITTLE), &parts)
+}
+
+#[test]
+fn tells_the_header(rt: HostRuntime) -> Result<(), Fault> {
     let file = one_section(LITTLE);
     let image = parse(rt.alloc(), &file)?;
+    let counts = (image.section_count(), image.segment_count());
+    let numbers = (image.len(), image.header().e_shoff, image.name_table());
     assert_eq!(rt;
-        image.parts(),
-        [
-            part(Owner::Header, 0, 64),
-            part(Owner::Content(1), 64, 1),
-            part(Owner::Gap, 65, 7),
-            part(Owner::Content(2), 72, 24),
-            part(Owner::Content(3), 96, 1),
-            part(Owner::Content(4), 97, 33),
-            part(Owner::Gap, 130, 6),
-            part(Owner::SectionTable, 136, 320),
-        ]
-        .as_slice()
+        (image.order(), counts, numbers),
+        (LITTLE, (5, 0), (456, 136, 4))
     );
     Ok(())
 }
 
 #[test]
-fn tells_the_parts_of_a_section_table_alone(rt: HostRuntime) -> Result<(), Fail> {
+fn tells_names(rt: HostRuntime) -> Result<(), Fault> {
+    let file = one_section(LITTLE);
+    let image = parse(rt.alloc(), &file)?;
+    let expected: [Option<&[u8]>; 5] = [
+        Some(b""),
+        Some(b".text"),
+        Some(b".symtab"),
+        Some(b".strtab"),
+        Some(b".shstrtab"),
+    ];
+    assert_eq!(rt; (image.section_count(), names_of(&image)), (5, expected));
+    Ok(())
+}
+
+#[test]
+fn tells_contents(rt: HostRuntime) -> Result<(), Fault> {
+    let file = one_section(LITTLE);
+    let image = parse(rt.alloc(), &file)?;
+    let expected = [
+        Some((0, 0)),
+        Some((1, 64)),
+        Some((24, 72)),
+        Some((1, 96)),
+        Some((33, 97)),
+    ];
+    assert_eq!(rt;
+        (
+            image.section_count(),
+            places_of(&image),
+            content_of(&image, 1)
+        ),
+        (5, expected, Some([0xc3].as_slice()))
+    );
+    Ok(())
+}
+
+#[test]
+fn tells_section_headers(rt: HostRuntime) -> Result<(), Fault> {
+    let file = one_section(LITTLE);
+    let image = parse(rt.alloc(), &file)?;
+    let expected = [
+        Some((0, 0, 136)),
+        Some((1, 0, 200)),
+        Some((24, 0, 264)),
+        Some((1, 0, 328)),
+        Some((33, 0, 392)),
+    ];
+    assert_eq!(rt; (image.section_count(), sections_of(&image)), (5, expected));
+    Ok(())
+}
+
+#[test]
+fn has_no_names_without_a_name_table(rt: HostRuntime) -> Result<(), Fault> {
     let file = empty_contents(LITTLE);
     let image = parse(rt.alloc(), &file)?;
+    let lengths = [
+        lengths_of(&image, 0),
+        lengths_of(&image, 1),
+        lengths_of(&image, 2),
+    ];
     assert_eq!(rt;
-        image.parts(),
-        [
-            part(Owner::Header, 0, 64),
-            part(Owner::SectionTable, 64, 192),
-        ]
-        .as_slice()
+        (image.name_table(), image.section_count(), lengths),
+        (0, 3, [Some((0, 0)); 3])
     );
     Ok(())
 }
 
 #[test]
-fn tells_the_parts_of_a_program_table_alone(rt: HostRuntime) -> Result<(), Fail> {
+fn tells_a_program_header(rt: HostRuntime) -> Result<(), Fault> {
     let file = one_segment(LITTLE);
     let image = parse(rt.alloc(), &file)?;
     assert_eq!(rt;
-        image.parts(),
-        [
-            part(Owner::Header, 0, 64),
-            part(Owner::ProgramTable, 64, 56),
-        ]
-        .as_slice()
+        (image.segment_count(), segment_of(&image, 0)),
+        (1, Some((0x1000, 120, 120)))
     );
-    Ok(())
-}
-
-#[test]
-fn tells_the_header(rt: HostRuntime) -> Result<(), Fail> {
-    let file = one_section(LITTLE);
-    let image = parse(rt.alloc(), &file)?;
-    assert_eq!(rt; image.len(), 456);
-    assert_eq!(rt; image.order(), LITTLE);
-    assert_eq!(rt; image.header().e_shoff, 136);
-    assert_eq!(rt; image.section_count(), 5);
-    assert_eq!(rt; image.segment_count(), 0);
-    assert_eq!(rt; image.name_table(), 4);
-    Ok(())
-}
-
-#[test]
-fn tells_names(rt: HostRuntime) -> Result<(), Fail> {
-    let file = one_section(LITTLE);
-    let image = parse(rt.alloc(), &file)?;
-    let names: [&[u8]; 5] = [b"", b".text", b".symtab", b".strtab", b".shstrtab"];
-    assert_eq!(rt; image.section_count(), 5);
-    for i in 0..5 {
-        assert_eq!(rt; image.name(i), names[i], "name {i}");
-    }
-    Ok(())
-}
-
-#[test]
-fn tells_contents(rt: HostRuntime) -> Result<(), Fail> {
-    let file = one_section(LITTLE);
-    let image = parse(rt.alloc(), &file)?;
-    let sizes = [0, 1, 24, 1, 33];
-    let offsets = [0, 64, 72, 96, 97];
-    assert_eq!(rt; image.section_count(), 5);
-    for i in 0..5 {
-        assert_eq!(rt; image.content(i).len(), sizes[i], "content {i}");
-        assert_eq!(rt; image.content_offset(i), offsets[i], "content {i}");
-    }
-    assert_eq!(rt; image.content(1), [0xc3].as_slice());
-    Ok(())
-}
-
-#[test]
-fn tells_section_headers(rt: HostRuntime) -> Result<(), Fail> {
-    let file = one_section(LITTLE);
-    let image = parse(rt.alloc(), &file)?;
-    let sizes = [0, 1, 24, 1, 33];
-    let offsets = [136, 200, 264, 328, 392];
-    assert_eq!(rt; image.section_count(), 5);
-    for i in 0..5 {
-        assert_eq!(rt; image.section(i).sh_size, sizes[i], "section {i}");
-        assert_eq!(rt; image.header_offset(i), offsets[i], "section {i}");
-    }
-    Ok(())
-}
-
-#[test]
-fn has_no_names_without_a_name_table(rt: HostRuntime) -> Result<(), Fail> {
-    let file = empty_contents(LITTLE);
-    let image = parse(rt.alloc(), &file)?;
-    assert_eq!(rt; image.name_table(), 0);
-    assert_eq!(rt; image.section_count(), 3);
-    for i in 0..3 {
-        assert!(rt; image.name(i).is_empty(), "name {i}");
-        assert!(rt; image.content(i).is_empty(), "content {i}");
-    }
-    Ok(())
-}
-
-#[test]
-fn tells_a_program_header(rt: HostRuntime) -> Result<(), Fail> {
-    let file = one_segment(LITTLE);
-    let image = parse(rt.alloc(), &file)?;
-    assert_eq!(rt; image.segment_count(), 1);
-    assert_eq!(rt; image.segment(0).p_vaddr, 0x1000);
-    assert_eq!(rt; image.segment(0).p_filesz, 120);
     Ok(())
 }
 
 /// A name outlives the image that told it.
-fn first_name<'a>(alloc: Global, file: &'a [u8]) -> Result<&'a [u8], Fault> {
+fn first_name<'a>(alloc: Global, file: &'a [u8]) -> Result<Option<&'a [u8]>, Fault> {
     let image = parse(alloc, file)?;
-    if image.section_count() < 2 {
-        return Ok(&[]);
-    }
-    Ok(image.name(1))
+    Ok(name_of(&image, 1))
 }
 
 #[test]
-fn a_name_outlives_the_image(rt: HostRuntime) -> Result<(), Fail> {
+fn a_name_outlives_the_image(rt: HostRuntime) -> Result<(), Fault> {
     let file = one_section(LITTLE);
-    assert_eq!(rt; first_name(rt.alloc(), &file)?, b".text".as_slice());
+    let name = first_name(rt.alloc(), &file)?;
+    assert_eq!(rt; name, Some(b".text".as_slice()));
     Ok(())
 }
 
 /// So does a content.
-fn first_content<'a>(alloc: Global, file: &'a [u8]) -> Result<&'a [u8], Fault> {
+fn first_content<'a>(alloc: Global, file: &'a [u8]) -> Result<Option<&'a [u8]>, Fault> {
     let image = parse(alloc, file)?;
-    if image.section_count() < 2 {
-        return Ok(&[]);
-    }
-    Ok(image.content(1))
+    Ok(content_of(&image, 1))
 }
 
 #[test]
-fn a_content_outlives_the_image(rt: HostRuntime) -> Result<(), Fail> {
+fn a_content_outlives_the_image(rt: HostRuntime) -> Result<(), Fault> {
     let file = one_section(LITTLE);
-    assert_eq!(rt; first_content(rt.alloc(), &file)?, [0xc3].as_slice());
+    let content = first_content(rt.alloc(), &file)?;
+    assert_eq!(rt; content, Some([0xc3].as_slice()));
+    Ok(())
+}
+
+/// The bytes that a reader gives of this file.
+fn bytes_read<R: Read>(alloc: Global, reader: &mut R) -> Result<Vec<u8>, Fault> {
+    let mut bytes = Vec::new(alloc);
+    read_to_end(reader, &mut bytes)?;
+    Ok(bytes)
+}
+
+/// The image of these bytes is written as the file, once its entry is set.
+fn assert_entry_set(
+    rt: &impl Abort,
+    alloc: Global,
+    bytes: &[u8],
+    file: &[u8],
+) -> Result<(), Fault> {
+    let mut image = parse(alloc, bytes)?;
+    image.set_entry(0x1000);
+    assert_written(rt, alloc, &image, file)?;
     Ok(())
 }
 
 // The example of the crate's root.
 #[test]
-fn sets_the_entry_of_what_a_reader_gives(rt: HostRuntime) -> Result<(), Fail> {
-    let alloc = rt.alloc();
+fn sets_the_entry_of_what_a_reader_gives(rt: HostRuntime) -> Result<(), Fault> {
     let file = two_of_each(LITTLE);
-    let mut reader = file.as_slice();
-    let mut writer = shelf(alloc, 1000)?;
-
-    let mut bytes = Vec::new(alloc);
-    read_to_end(&mut reader, &mut bytes)?;
-    let mut image = parse(alloc, &bytes)?;
-    image.set_entry(0x1000);
-    assert_eq!(rt; write(&image, &mut writer), Ok(()));
-
+    let bytes = bytes_read(rt.alloc(), &mut file.as_slice())?;
     let mut want = two_of_each(LITTLE);
     set(&mut want, LITTLE, &[(24, 8, 0x1000)]);
-    assert_eq!(rt; writer.bytes.as_slice(), want.as_slice());
-    Ok(())
+    assert_entry_set(&rt, rt.alloc(), &bytes, &want)
 }
 
 // ---- two sections and two segments, in either order
 
 /// The parts of that file, and the file again.
-fn assert_two_of_each(rt: &impl Abort, alloc: Global, order: Order) -> Result<(), Fail> {
+fn assert_two_of_each(rt: &impl Abort, alloc: Global, order: Order) -> Result<(), Fault> {
     let file = two_of_each(order);
-    assert_eq!(rt; verdict(&file), None);
     let image = parse(alloc, &file)?;
-    assert_eq!(rt; image.order(), order);
+    let parts = [
+        part(Owner::Header, 0, 64),
+        part(Owner::ProgramTable, 64, 112),
+        part(Owner::Content(1), 176, 4),
+        part(Owner::Gap, 180, 4),
+        part(Owner::Content(2), 184, 8),
+        part(Owner::SectionTable, 192, 192),
+    ];
     assert_eq!(rt;
-        image.parts(),
-        [
-            part(Owner::Header, 0, 64),
-            part(Owner::ProgramTable, 64, 112),
-            part(Owner::Content(1), 176, 4),
-            part(Owner::Gap, 180, 4),
-            part(Owner::Content(2), 184, 8),
-            part(Owner::SectionTable, 192, 192),
-        ]
-        .as_slice()
+        (verdict(&file), image.order(), image.parts()),
+        (None, order, parts.as_slice())
     );
-    assert_written(rt, alloc, &image, &file)
+    assert_written(rt, alloc, &image, &file)?;
+    Ok(())
 }
 
 #[test]
-fn two_of_each_in_little_order(rt: HostRuntime) -> Result<(), Fail> {
+fn two_of_each_in_little_order(rt: HostRuntime) -> Result<(), Fault> {
     assert_two_of_each(&rt, rt.alloc(), LITTLE)
 }
 
 #[test]
-fn two_of_each_in_big_order(rt: HostRuntime) -> Result<(), Fail> {
+fn two_of_each_in_big_order(rt: HostRuntime) -> Result<(), Fault> {
     assert_two_of_each(&rt, rt.alloc(), Order::Big)
 }
 
 #[test]
-fn tells_both_segments_and_sections(rt: HostRuntime) -> Result<(), Fail> {
+fn tells_both_segments_and_sections(rt: HostRuntime) -> Result<(), Fault> {
     let file = two_of_each(Order::Big);
     let image = parse(rt.alloc(), &file)?;
-    assert_eq!(rt; image.segment_count(), 2);
-    assert_eq!(rt; image.segment(0).p_filesz, 180);
-    assert_eq!(rt; image.segment(1).p_memsz, 16);
-    assert_eq!(rt; image.section_count(), 3);
-    assert_eq!(rt; image.section(2).sh_addr, 0x20b8);
-    assert_eq!(rt; image.content(1), b"text".as_slice());
-    assert_eq!(rt; image.content(2), b"datadata".as_slice());
+    let counts = (image.segment_count(), image.section_count());
+    let segments = [segment_of(&image, 0), segment_of(&image, 1)];
+    let contents = [content_of(&image, 1), content_of(&image, 2)];
+    assert_eq!(rt;
+        (counts, segments, section_of(&image, 2), contents),
+        (
+            (2, 3),
+            [Some((0x1000, 180, 180)), Some((0x20b8, 8, 16))],
+            Some((8, 0x20b8, 320)),
+            [Some(b"text".as_slice()), Some(b"datadata")]
+        )
+    );
     Ok(())
+}
+
+/// What `verdict` and `parse` tell of this file.
+fn verdicts(alloc: Global, file: &[u8]) -> Result<[Option<(u16, u64)>; 2], Fault> {
+    Ok([verdict(file), rule_broken(alloc, file)?])
 }
 
 // The segment of the higher address first.
 #[test]
-fn tells_segments_out_of_order(rt: HostRuntime) -> Result<(), Fail> {
+fn tells_segments_out_of_order(rt: HostRuntime) -> Result<(), Fault> {
     let mut file = two_of_each(Order::Big);
     set(&mut file, Order::Big, &[(80, 8, 0x3000)]);
-    assert_eq!(rt; verdict(&file), Some((29, 136)));
-    assert_eq!(rt; rule_broken(rt.alloc(), &file)?, Some((29, 136)));
+    assert_eq!(rt; verdicts(rt.alloc(), &file)?, [Some((29, 136)); 2]);
     Ok(())
 }
 
 #[test]
-fn writes_back_what_it_read(rt: HostRuntime) -> Result<(), Fail> {
-    let object = empty_object();
-    let little = one_section(LITTLE);
-    let big = one_section(Order::Big);
-    let contents = empty_contents(LITTLE);
-    let segment = one_segment(LITTLE);
-    let files: [&[u8]; 5] = [&object, &little, &big, &contents, &segment];
-    for file in files {
-        let image = parse(rt.alloc(), file)?;
-        assert_written(&rt, rt.alloc(), &image, file)?;
-    }
-    Ok(())
+fn writes_back_what_it_read(rt: HostRuntime) -> Result<(), Fault> {
+    assert_kept(&rt, rt.alloc(), &empty_object())?;
+    assert_kept(&rt, rt.alloc(), &one_section(LITTLE))?;
+    assert_kept(&rt, rt.alloc(), &one_section(Order::Big))?;
+    assert_kept(&rt, rt.alloc(), &empty_contents(LITTLE))?;
+    assert_kept(&rt, rt.alloc(), &one_segment(LITTLE))
 }
 
 #[test]
@@ -327,71 +441,117 @@ fn big_order_byte_for_byte(rt: HostRuntime) {
     );
 }
 
+/// The image is written as the file, and with its gap zeroed as the empty object.
+fn assert_gap_zeroed(
+    rt: &impl Abort,
+    alloc: Global,
+    image: &mut Image<'_>,
+    file: &[u8],
+) -> Result<(), AllocError> {
+    assert_written(rt, alloc, image, file)?;
+    image.zero_gaps();
+    assert_written(rt, alloc, image, &empty_object())
+}
+
 #[test]
-fn keeps_a_filled_gap_until_it_is_zeroed(rt: HostRuntime) -> Result<(), Fail> {
+fn keeps_a_filled_gap_until_it_is_zeroed(rt: HostRuntime) -> Result<(), Fault> {
     let file = filled_gap();
     let mut image = parse(rt.alloc(), &file)?;
-    assert_written(&rt, rt.alloc(), &image, &file)?;
-    image.zero_gaps();
-    assert_written(&rt, rt.alloc(), &image, &empty_object())
+    assert_gap_zeroed(&rt, rt.alloc(), &mut image, &file)?;
+    Ok(())
 }
 
-#[test]
-fn replaces_a_content(rt: HostRuntime) -> Result<(), Fail> {
-    let file = one_section(LITTLE);
-    let mut image = parse(rt.alloc(), &file)?;
-    assert_eq!(rt; image.replace(0, &[]), Err(ReplaceFault::NoSection));
-    assert_eq!(rt; image.replace(5, &[]), Err(ReplaceFault::NoSection));
-    assert_eq!(rt;
+/// How contents are refused that cannot stand in the file with one section.
+fn refusals(image: &mut Image<'_>) -> [Result<(), ReplaceFault>; 4] {
+    [
+        image.replace(0, &[]),
+        image.replace(5, &[]),
         image.replace(1, &[0x90, 0x90]),
-        Err(ReplaceFault::WrongLength)
-    );
-    assert_eq!(rt;
         image.replace(4, b"\0.text\0.symtab\0.strtab\0.shstrtab\0"),
-        Err(ReplaceFault::NameTable)
-    );
-    assert_written(&rt, rt.alloc(), &image, &file)?;
+    ]
+}
 
-    assert_eq!(rt; image.replace(1, &[0x90]), Ok(()));
+/// They change nothing.
+fn assert_refuses(
+    rt: &impl Abort,
+    alloc: Global,
+    image: &mut Image<'_>,
+    file: &[u8],
+) -> Result<(), AllocError> {
+    let expected = [
+        Err(ReplaceFault::NoSection),
+        Err(ReplaceFault::NoSection),
+        Err(ReplaceFault::WrongLength),
+        Err(ReplaceFault::NameTable),
+    ];
+    assert_eq!(rt; refusals(image), expected);
+    assert_written(rt, alloc, image, file)
+}
+
+/// Another byte of its section stands in the file with one section.
+fn assert_replaces(
+    rt: &impl Abort,
+    alloc: Global,
+    image: &mut Image<'_>,
+) -> Result<(), AllocError> {
     let mut want = one_section(LITTLE);
     want[64] = 0x90;
-    assert_written(&rt, rt.alloc(), &image, &want)
+    assert_eq!(rt; image.replace(1, &[0x90]), Ok(()));
+    assert_written(rt, alloc, image, &want)
 }
 
 #[test]
-fn replaces_an_empty_content_and_none_that_is_not_in_the_file(rt: HostRuntime) -> Result<(), Fail> {
-    let file = empty_contents(LITTLE);
+fn replaces_a_content(rt: HostRuntime) -> Result<(), Fault> {
+    let file = one_section(LITTLE);
     let mut image = parse(rt.alloc(), &file)?;
-    assert_eq!(rt; image.replace(1, &[]), Ok(()));
-    assert_eq!(rt; image.replace(2, &[]), Err(ReplaceFault::NoSection));
+    assert_refuses(&rt, rt.alloc(), &mut image, &file)?;
+    assert_replaces(&rt, rt.alloc(), &mut image)?;
     Ok(())
 }
 
 #[test]
-fn sets_the_entry_and_flags(rt: HostRuntime) -> Result<(), Fail> {
-    let file = one_section(Order::Big);
+fn replaces_an_empty_content_and_none_that_is_not_in_the_file(
+    rt: HostRuntime,
+) -> Result<(), Fault> {
+    let file = empty_contents(LITTLE);
     let mut image = parse(rt.alloc(), &file)?;
+    let answers = [image.replace(1, &[]), image.replace(2, &[])];
+    assert_eq!(rt; answers, [Ok(()), Err(ReplaceFault::NoSection)]);
+    Ok(())
+}
+
+/// Sets the entry, and flags of sections that are not there and of one that is.
+fn set_entry_and_flags(image: &mut Image<'_>) -> [Result<(), NoSection>; 3] {
     image.set_entry(0x1234);
-    assert_eq!(rt; image.set_flags(0, 7), Err(NoSection));
-    assert_eq!(rt; image.set_flags(5, 7), Err(NoSection));
-    assert_eq!(rt; image.set_flags(1, 7), Ok(()));
-    let mut want = one_section(Order::Big);
-    set(&mut want, Order::Big, &[(24, 8, 0x1234), (208, 8, 7)]);
-    assert_written(&rt, rt.alloc(), &image, &want)
+    [
+        image.set_flags(0, 7),
+        image.set_flags(5, 7),
+        image.set_flags(1, 7),
+    ]
 }
 
 #[test]
-fn reads_one_byte_at_a_time(rt: HostRuntime) -> Result<(), Fail> {
+fn sets_the_entry_and_flags(rt: HostRuntime) -> Result<(), Fault> {
+    let file = one_section(Order::Big);
+    let mut image = parse(rt.alloc(), &file)?;
+    let answers = set_entry_and_flags(&mut image);
+    assert_eq!(rt; answers, [Err(NoSection), Err(NoSection), Ok(())]);
+    let mut want = one_section(Order::Big);
+    set(&mut want, Order::Big, &[(24, 8, 0x1234), (208, 8, 7)]);
+    assert_written(&rt, rt.alloc(), &image, &want)?;
+    Ok(())
+}
+
+#[test]
+fn reads_one_byte_at_a_time(rt: HostRuntime) -> Result<(), Fault> {
     let file = one_section(LITTLE);
     let mut reader = Pieces {
         bytes: &file,
         piece: 1,
         failure: None,
     };
-    let mut buf = Vec::new(rt.alloc());
-    read_to_end(&mut reader, &mut buf)?;
-    let image = parse(rt.alloc(), &buf)?;
-    assert_written(&rt, rt.alloc(), &image, &file)
+    let bytes = bytes_read(rt.alloc(), &mut reader)?;
+    assert_written_back(&rt, rt.alloc(), &bytes, &file)
 }
 
 /// Writes the image to a shelf with this room, which is too little for these bytes: what is out is told.
@@ -401,43 +561,52 @@ fn assert_stops(
     image: &Image<'_>,
     bytes: &[u8],
     room: usize,
-) -> Result<(), Fail> {
+) -> Result<(), AllocError> {
     let mut out = shelf(alloc, room)?;
+    let answer = write(image, &mut out);
     let written = room as u64;
     assert_eq!(rt;
-        write(image, &mut out),
-        Err(WriteFault { written }),
-        "room for {room}"
-    );
-    assert_eq!(rt;
-        Some(out.bytes.as_slice()),
-        bytes.get(..room),
+        (answer, Some(out.bytes.as_slice())),
+        (Err(WriteFault { written }), bytes.get(..room)),
         "room for {room}"
     );
     Ok(())
 }
 
-#[test]
-fn a_failed_write_tells_what_is_out(rt: HostRuntime) -> Result<(), Fail> {
-    let mut file = one_section(LITTLE);
-    file[65] = 1;
-    let image = parse(rt.alloc(), &file)?;
+/// The same with each room that is too little for the file with one section.
+fn assert_stops_at_each(
+    rt: &impl Abort,
+    alloc: Global,
+    image: &Image<'_>,
+    bytes: &[u8],
+) -> Result<(), AllocError> {
     for room in 0..456 {
-        assert_stops(&rt, rt.alloc(), &image, &file, room)?;
+        assert_stops(rt, alloc, image, bytes, room)?;
     }
     Ok(())
 }
 
-#[test]
-fn a_failed_write_of_zeroed_gaps_tells_what_is_out(rt: HostRuntime) -> Result<(), Fail> {
+/// The file with one section, and a byte in its first gap.
+fn one_section_and_a_gap() -> [u8; 456] {
     let mut file = one_section(LITTLE);
     file[65] = 1;
+    file
+}
+
+#[test]
+fn a_failed_write_tells_what_is_out(rt: HostRuntime) -> Result<(), Fault> {
+    let file = one_section_and_a_gap();
+    let image = parse(rt.alloc(), &file)?;
+    assert_stops_at_each(&rt, rt.alloc(), &image, &file)?;
+    Ok(())
+}
+
+#[test]
+fn a_failed_write_of_zeroed_gaps_tells_what_is_out(rt: HostRuntime) -> Result<(), Fault> {
+    let file = one_section_and_a_gap();
     let mut image = parse(rt.alloc(), &file)?;
     image.zero_gaps();
-    let zeroed = one_section(LITTLE);
-    for room in 0..456 {
-        assert_stops(&rt, rt.alloc(), &image, &zeroed, room)?;
-    }
+    assert_stops_at_each(&rt, rt.alloc(), &image, &one_section(LITTLE))?;
     Ok(())
 }
 
@@ -451,14 +620,13 @@ fn rule_broken(alloc: Global, file: &[u8]) -> Result<Option<(u16, u64)>, Fault> 
 }
 
 #[test]
-fn judges_the_empty_object(rt: HostRuntime) -> Result<(), Fail> {
+fn judges_the_empty_object(rt: HostRuntime) -> Result<(), Fault> {
     let mut file = empty_object();
-    assert_eq!(rt; verdict(&file), None);
-    assert_eq!(rt; rule_broken(rt.alloc(), &file)?, None);
+    let sound = verdicts(rt.alloc(), &file)?;
     // The count stands in section header 0, where `e_shnum` could hold it.
     set(&mut file, LITTLE, &[(60, 2, 0), (152, 8, 4)]);
-    assert_eq!(rt; verdict(&file), Some((14, 152)));
-    assert_eq!(rt; rule_broken(rt.alloc(), &file)?, Some((14, 152)));
+    let broken = verdicts(rt.alloc(), &file)?;
+    assert_eq!(rt; [sound, broken], [[None; 2], [Some((14, 152)); 2]]);
     Ok(())
 }
 
@@ -469,7 +637,7 @@ fn assert_told(
     order: Order,
     at: usize,
     byte: u8,
-) -> Result<(), Fail>
+) -> Result<(), Fault>
     requires { at < 456 }
 {
     let mut file = one_section(order);
@@ -479,24 +647,22 @@ fn assert_told(
     Ok(())
 }
 
-#[test]
-fn parse_tells_the_verdict_in_little_order(rt: HostRuntime) -> Result<(), Fail> {
+/// So it does with each of these bytes at each offset.
+fn assert_all_told(rt: &impl Abort, alloc: Global, order: Order) -> Result<(), Fault> {
     for at in 0..456 {
-        assert_told(&rt, rt.alloc(), LITTLE, at, 0)?;
-        assert_told(&rt, rt.alloc(), LITTLE, at, 1)?;
-        assert_told(&rt, rt.alloc(), LITTLE, at, 0x5f)?;
-        assert_told(&rt, rt.alloc(), LITTLE, at, 0xff)?;
+        for byte in [0, 1, 0x5f, 0xff] {
+            assert_told(rt, alloc, order, at, byte)?;
+        }
     }
     Ok(())
 }
 
 #[test]
-fn parse_tells_the_verdict_in_big_order(rt: HostRuntime) -> Result<(), Fail> {
-    for at in 0..456 {
-        assert_told(&rt, rt.alloc(), Order::Big, at, 0)?;
-        assert_told(&rt, rt.alloc(), Order::Big, at, 1)?;
-        assert_told(&rt, rt.alloc(), Order::Big, at, 0x5f)?;
-        assert_told(&rt, rt.alloc(), Order::Big, at, 0xff)?;
-    }
-    Ok(())
+fn parse_tells_the_verdict_in_little_order(rt: HostRuntime) -> Result<(), Fault> {
+    assert_all_told(&rt, rt.alloc(), LITTLE)
+}
+
+#[test]
+fn parse_tells_the_verdict_in_big_order(rt: HostRuntime) -> Result<(), Fault> {
+    assert_all_told(&rt, rt.alloc(), Order::Big)
 }

@@ -1,51 +1,95 @@
 //! A function in one file that is called in another.
-use crate::worked::{GLOBAL, fault_of, mapped, object, options, rule, section, symbol};
-use elf_link::{Binding, Member, Named};
-use elf_object::{Body, Object, Place, Relocation};
-use std::alloc::Global;
+use crate::worked::{
+    GLOBAL, call, fault_of, list, mapped, members_of, name_of, no_bits_of, numbers_of, object,
+    options, rule, section, symbol,
+};
+use elf_link::{Binding, LinkFault, LinkMap, Member, Named, Options};
+use elf_object::{Body, Object, ObjectFault, Place, Section, Symbol};
+use std::alloc::{AllocError, Global};
 use std::test::Fail;
 
+/// The code of `main`, with its call.
+fn caller_sections(alloc: Global) -> Result<Vec<Section<'static>>, AllocError> {
+    let relocs = call(alloc, 0, 1)?;
+    list(
+        alloc,
+        [
+            section(b".text", 6, 1, Body::Bits(1, b"\xe8\0\0\0\0\xc3")),
+            section(b".rela.text", 0, 8, relocs),
+        ],
+    )
+}
+
+/// `main`, and the name that it calls.
+fn caller_symbols(alloc: Global) -> Result<Vec<Symbol<'static>>, AllocError> {
+    list(
+        alloc,
+        [
+            symbol(b"main", GLOBAL, Place::In(0), 0, 0),
+            symbol(b"callee", GLOBAL, Place::Undef, 0, 0),
+        ],
+    )
+}
+
 /// `main`, which calls `callee`.
-fn caller(alloc: Global) -> Result<Object<'static>, Fail> {
-    let entry = Relocation {
-        offset: 1,
-        symbol: Some(1),
-        kind: 2,
-        addend: -4,
-    };
-    let relocs = Body::Relocs {
-        rela: true,
-        target: 0,
-        entries: vec![in alloc; entry]?,
-    };
-    let sections = vec![in alloc;
-        section(b".text", 6, 1, Body::Bits(1, b"\xe8\0\0\0\0\xc3")),
-        section(b".rela.text", 0, 8, relocs),
-    ]?;
-    let symbols = vec![in alloc;
-        symbol(b"main", GLOBAL, Place::In(0), 0, 0),
-        symbol(b"callee", GLOBAL, Place::Undef, 0, 0),
-    ]?;
-    Ok(object(alloc, sections, symbols)?)
+fn caller(alloc: Global) -> Result<Object<'static>, ObjectFault> {
+    let sections = caller_sections(alloc)?;
+    let symbols = caller_symbols(alloc)?;
+    object(alloc, sections, symbols)
 }
 
 /// `callee`, at this offset of its section.
-fn callee(alloc: Global, value: u64) -> Result<Object<'static>, Fail> {
-    let sections = vec![in alloc; section(b".text", 6, 1, Body::Bits(1, b"\xc3"))]?;
-    let symbols = vec![in alloc; symbol(b"callee", GLOBAL, Place::In(0), value, 0)]?;
-    Ok(object(alloc, sections, symbols)?)
+fn callee(alloc: Global, value: u64) -> Result<Object<'static>, ObjectFault> {
+    let sections = list(alloc, [section(b".text", 6, 1, Body::Bits(1, b"\xc3"))])?;
+    let symbols = list(alloc, [symbol(b"callee", GLOBAL, Place::In(0), value, 0)])?;
+    object(alloc, sections, symbols)
+}
+
+/// Both.
+fn files(alloc: Global) -> Result<[Object<'static>; 2], ObjectFault> {
+    Ok([caller(alloc)?, callee(alloc, 0)?])
+}
+
+/// The link map of both.
+fn linked(alloc: Global, options: &Options<'_>) -> Result<LinkMap<'static>, Fail> {
+    let objects = files(alloc)?;
+    Ok(mapped(alloc, &objects, options)?)
+}
+
+/// The fault of the link of both.
+fn fault_of_both(alloc: Global, options: &Options<'_>) -> Result<Option<LinkFault>, ObjectFault> {
+    let objects = files(alloc)?;
+    Ok(fault_of(alloc, &objects, options))
+}
+
+/// The fault of the link of `callee` alone, at the last offset.
+fn fault_of_callee(alloc: Global, options: &Options<'_>) -> Result<Option<LinkFault>, ObjectFault> {
+    let objects = [callee(alloc, 0xffff_ffff_ffff_ffff)?];
+    Ok(fault_of(alloc, &objects, options))
+}
+
+/// The binding to a global definition at symbol 0 of this file.
+fn strong(file: usize) -> Option<Binding> {
+    Some(Binding::Strong { file, symbol: 0 })
 }
 
 #[test]
 fn places_the_sections_of_both_files_in_one_output(rt: HostRuntime) -> Result<(), Fail> {
-    let alloc = rt.alloc();
-    let objects = vec![in alloc; caller(alloc)?, callee(alloc, 0)?]?;
-    let link = mapped(alloc, &objects, &options(0x1000, 1, Some(b"main")))?;
-    assert_eq!(rt; link.outputs().len(), 1);
-    let text = &link.outputs()[0];
-    assert_eq!(rt; (text.address, text.length), (0x1000, 7));
-    assert_eq!(rt; (text.no_bits, text.flags), (false, 6));
-    assert_eq!(rt; text.name, b".text".as_slice());
+    let link = linked(rt.alloc(), &options(0x1000, 1, Some(b"main")))?;
+    let output = (
+        name_of(&link, 0),
+        numbers_of(&link, 0),
+        no_bits_of(&link, 0),
+        members_of(&link, 0),
+    );
+    let addresses = [
+        link.address(0, 0),
+        link.address(0, 1),
+        link.address(1, 0),
+        link.address(2, 0),
+    ];
+    let numbers = (link.base(), link.page(), link.entry());
+    let counts = (link.outputs().len(), link.commons().len());
     let members = [
         Member {
             file: 0,
@@ -56,56 +100,50 @@ fn places_the_sections_of_both_files_in_one_output(rt: HostRuntime) -> Result<()
             section: 0,
         },
     ];
-    assert_eq!(rt; text.members.as_slice(), members.as_slice());
-    assert_eq!(rt; link.address(0, 0), Some(0x1000));
-    assert_eq!(rt; link.address(0, 1), None);
-    assert_eq!(rt; link.address(1, 0), Some(0x1006));
-    assert_eq!(rt; link.address(2, 0), None);
-    assert_eq!(rt;
-        (link.base(), link.page(), link.entry()),
-        (0x1000, 1, 0x1000)
+    let text = (
+        Some(b".text".as_slice()),
+        Some((0x1000, 7, 6)),
+        Some(false),
+        Some(members.as_slice()),
     );
-    assert_eq!(rt; link.commons().len(), 0);
+    assert_eq!(rt;
+        (output, addresses, numbers, counts),
+        (
+            text,
+            [Some(0x1000), None, Some(0x1006), None],
+            (0x1000, 1, 0x1000),
+            (1, 0)
+        )
+    );
     Ok(())
 }
 
 // The example of the root of `elf_link`.
 #[test]
 fn maps_two_files(rt: HostRuntime) -> Result<(), Fail> {
-    let alloc = rt.alloc();
-    let objects = vec![in alloc; caller(alloc)?, callee(alloc, 0)?]?;
-    let link = mapped(alloc, &objects, &options(0x1000, 0x1000, Some(b"main")))?;
-    assert_eq!(rt; link.address(1, 0), Some(0x1006));
+    let link = linked(rt.alloc(), &options(0x1000, 0x1000, Some(b"main")))?;
     assert_eq!(rt;
-        link.binding(b"main"),
-        Some(Binding::Strong { file: 0, symbol: 0 })
+        (link.address(1, 0), link.binding(b"main")),
+        (Some(0x1006), strong(0))
     );
     Ok(())
 }
 
 #[test]
 fn binds_each_name_to_its_definition(rt: HostRuntime) -> Result<(), Fail> {
-    let alloc = rt.alloc();
-    let objects = vec![in alloc; caller(alloc)?, callee(alloc, 0)?]?;
-    let link = mapped(alloc, &objects, &options(0x1000, 1, None))?;
-    assert_eq!(rt;
+    let link = linked(rt.alloc(), &options(0x1000, 1, None))?;
+    let bindings = [
         link.binding(b"main"),
-        Some(Binding::Strong { file: 0, symbol: 0 })
-    );
-    assert_eq!(rt;
         link.binding(b"callee"),
-        Some(Binding::Strong { file: 1, symbol: 0 })
-    );
-    assert_eq!(rt; link.binding(b"other"), None);
-    assert_eq!(rt; link.entry(), 0);
+        link.binding(b"other"),
+    ];
+    assert_eq!(rt; (bindings, link.entry()), ([strong(0), strong(1), None], 0));
     Ok(())
 }
 
 #[test]
 fn names_each_name_once_in_order(rt: HostRuntime) -> Result<(), Fail> {
-    let alloc = rt.alloc();
-    let objects = vec![in alloc; caller(alloc)?, callee(alloc, 0)?]?;
-    let link = mapped(alloc, &objects, &options(0x1000, 1, None))?;
+    let link = linked(rt.alloc(), &options(0x1000, 1, None))?;
     let names = [
         Named {
             name: b"main",
@@ -123,7 +161,7 @@ fn names_each_name_once_in_order(rt: HostRuntime) -> Result<(), Fail> {
 #[test]
 fn refuses_a_name_that_no_file_defines(rt: HostRuntime) -> Result<(), Fail> {
     let alloc = rt.alloc();
-    let objects = vec![in alloc; caller(alloc)?]?;
+    let objects = [caller(alloc)?];
     assert_eq!(rt;
         fault_of(alloc, &objects, &options(0x1000, 1, None)),
         rule(9, 0, 1)
@@ -134,12 +172,11 @@ fn refuses_a_name_that_no_file_defines(rt: HostRuntime) -> Result<(), Fail> {
 #[test]
 fn refuses_an_entry_that_is_not_there_or_too_high(rt: HostRuntime) -> Result<(), Fail> {
     let alloc = rt.alloc();
-    let objects = vec![in alloc; caller(alloc)?, callee(alloc, 0)?]?;
-    let nope = options(0x1000, 1, Some(b"nope"));
-    assert_eq!(rt; fault_of(alloc, &objects, &nope), rule(10, 0, 0));
-    let high = vec![in alloc; callee(alloc, 0xffff_ffff_ffff_ffff)?]?;
-    let entered = options(0x1000, 1, Some(b"callee"));
-    assert_eq!(rt; fault_of(alloc, &high, &entered), rule(10, 0, 0));
-    assert_eq!(rt; fault_of(alloc, &high, &options(0x1000, 1, None)), None);
+    let faults = [
+        fault_of_both(alloc, &options(0x1000, 1, Some(b"nope")))?,
+        fault_of_callee(alloc, &options(0x1000, 1, Some(b"callee")))?,
+        fault_of_callee(alloc, &options(0x1000, 1, None))?,
+    ];
+    assert_eq!(rt; faults, [rule(10, 0, 0), rule(10, 0, 0), None]);
     Ok(())
 }

@@ -1,8 +1,10 @@
 //! Objects for the tests, by their parts.
 use elf_field::Order;
-use elf_link::{LinkFault, LinkMap, Options, map};
-use elf_object::{Body, Info, Object, ObjectFault, ObjectParts, Place, Section, Symbol};
-use std::alloc::Global;
+use elf_link::{LinkFault, LinkMap, Member, Options, map};
+use elf_object::{
+    Body, Info, Object, ObjectFault, ObjectParts, Place, Relocation, Section, Symbol,
+};
+use std::alloc::{AllocError, Global};
 use std::hash::{BuildHasher, BuildHasherDefault, DefaultHasher, Hasher};
 
 pub(crate) const GLOBAL: u8 = 0x10;
@@ -31,6 +33,33 @@ pub(crate) fn section(
         info: Info::Number(0),
         body,
     }
+}
+
+/// These items, in a vector.
+pub(crate) fn list<T: Drop, const N: usize>(
+    alloc: Global,
+    items: [T; N],
+) -> Result<Vec<T>, AllocError> {
+    Ok(Vec::from_array(alloc, items)?)
+}
+
+/// One relocation of a call in a section, at this symbol.
+pub(crate) fn call(
+    alloc: Global,
+    target: usize,
+    symbol: usize,
+) -> Result<Body<'static>, AllocError> {
+    let entry = Relocation {
+        offset: 1,
+        symbol: Some(symbol),
+        kind: 2,
+        addend: -4,
+    };
+    Ok(Body::Relocs {
+        rela: true,
+        target,
+        entries: list(alloc, [entry])?,
+    })
 }
 
 /// A symbol.
@@ -135,6 +164,27 @@ pub(crate) fn fault_of(
         Ok(_) => None,
         Err(fault) => Some(fault),
     }
+}
+
+/// The name of an output section.
+pub(crate) fn name_of<'a>(link: &LinkMap<'a>, position: usize) -> Option<&'a [u8]> {
+    Some(link.outputs().get(position)?.name)
+}
+
+/// The address, the length and the flags of an output section.
+pub(crate) fn numbers_of(link: &LinkMap<'_>, position: usize) -> Option<(u64, u64, u64)> {
+    let output = link.outputs().get(position)?;
+    Some((output.address, output.length, output.flags))
+}
+
+/// Whether an output section takes memory without bits.
+pub(crate) fn no_bits_of(link: &LinkMap<'_>, position: usize) -> Option<bool> {
+    Some(link.outputs().get(position)?.no_bits)
+}
+
+/// The members of an output section.
+pub(crate) fn members_of<'m>(link: &'m LinkMap<'_>, position: usize) -> Option<&'m [Member]> {
+    Some(link.outputs().get(position)?.members.as_slice())
 }
 
 /// This rule, at this file and section or symbol.

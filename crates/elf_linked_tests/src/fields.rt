@@ -1,14 +1,14 @@
 //! Fields of four bytes in a section of eight, with the addends in them.
-use crate::worked::{GLOBAL, broken, bytes_in, fault_of, object, rule, section, symbol};
+use crate::worked::{GLOBAL, broken, bytes_in, fault_of, list, object, rule, section, symbol};
 use elf_field::Order;
 use elf_link::LinkFault;
-use elf_object::{Body, Object, Place, Relocation};
-use elf_relocation::{Form, Range};
-use std::alloc::Global;
+use elf_object::{Body, Object, ObjectFault, Place, Relocation};
+use elf_relocation::{Form, Range, RelocRule};
+use std::alloc::{AllocError, Global};
 use std::test::Fail;
 
-/// The numbers -4 and 0, with a relocation of kind 1 at each of these offsets; its symbol stands behind them.
-fn file(alloc: Global, order: Order, offsets: &[u64]) -> Result<Object<'static>, Fail> {
+/// A relocation of kind 1 at each of these offsets, of symbol 0.
+fn relocs(alloc: Global, offsets: &[u64]) -> Result<Body<'static>, AllocError> {
     let mut entries = Vec::new(alloc);
     for offset in offsets {
         entries.push(Relocation {
@@ -18,26 +18,58 @@ fn file(alloc: Global, order: Order, offsets: &[u64]) -> Result<Object<'static>,
             addend: 0,
         })?;
     }
-    let relocs = Body::Relocs {
+    Ok(Body::Relocs {
         rela: false,
         target: 0,
         entries,
-    };
-    let numbers: &'static [u8] = match order {
+    })
+}
+
+/// The numbers -4 and 0.
+fn numbers(order: Order) -> &'static [u8] {
+    match order {
         Order::Little => b"\xfc\xff\xff\xff\0\0\0\0",
         Order::Big => b"\xff\xff\xff\xfc\0\0\0\0",
-    };
-    let sections = vec![in alloc;
-        section(b".data", 3, 1, 0, Body::Bits(1, numbers)),
-        section(b".rel.data", 0, 1, 16, relocs),
-    ]?;
-    let symbols = vec![in alloc; symbol(b"x", GLOBAL, Place::In(0), 8)]?;
-    Ok(object(alloc, order, sections, symbols)?)
+    }
+}
+
+/// The numbers, with a relocation at each of these offsets; its symbol stands behind them.
+fn file(alloc: Global, order: Order, offsets: &[u64]) -> Result<Object<'static>, ObjectFault> {
+    let relocs = relocs(alloc, offsets)?;
+    let sections = list(
+        alloc,
+        [
+            section(b".data", 3, 1, 0, Body::Bits(1, numbers(order))),
+            section(b".rel.data", 0, 1, 16, relocs),
+        ],
+    )?;
+    let symbols = list(alloc, [symbol(b"x", GLOBAL, Place::In(0), 8)])?;
+    object(alloc, order, sections, symbols)
+}
+
+/// The bytes of the numbers by this rule.
+fn bytes_by(
+    alloc: Global,
+    order: Order,
+    offsets: &[u64],
+    rule: RelocRule,
+) -> Result<Option<Vec<u8>>, Fail> {
+    let objects = [file(alloc, order, offsets)?];
+    Ok(bytes_in(alloc, &objects, 0x2000, &[rule], 0, 0)?)
+}
+
+/// The fault of the link by this rule.
+fn fault_by(
+    alloc: Global,
+    offsets: &[u64],
+    rule: RelocRule,
+) -> Result<Option<LinkFault>, ObjectFault> {
+    let objects = [file(alloc, Order::Little, offsets)?];
+    Ok(fault_of(alloc, &objects, 0x2000, &[rule]))
 }
 
 #[test]
 fn holds_its_number_in_the_order_of_the_file(rt: HostRuntime) -> Result<(), Fail> {
-    let alloc = rt.alloc();
     let rows = [
         (Order::Little, Range::Signed, b"\x04\x20\0\0\0\0\0\0"),
         (Order::Little, Range::Wrap, b"\x04\x20\0\0\0\0\0\0"),
@@ -45,9 +77,9 @@ fn holds_its_number_in_the_order_of_the_file(rt: HostRuntime) -> Result<(), Fail
         (Order::Big, Range::Wrap, b"\0\0\x20\x04\0\0\0\0"),
     ];
     for (order, range, want) in rows {
-        let objects = vec![in alloc; file(alloc, order, &[0])?]?;
+        let objects = [file(rt.alloc(), order, &[0])?];
         let rules = [rule(1, Form::Abs, range)];
-        let bytes = bytes_in(alloc, &objects, 0x2000, &rules, 0, 0)?;
+        let bytes = bytes_in(rt.alloc(), &objects, 0x2000, &rules, 0, 0)?;
         assert_eq!(rt; bytes.as_deref(), Some(want.as_slice()));
     }
     Ok(())
@@ -55,11 +87,9 @@ fn holds_its_number_in_the_order_of_the_file(rt: HostRuntime) -> Result<(), Fail
 
 #[test]
 fn holds_two_numbers_in_any_order_of_their_entries(rt: HostRuntime) -> Result<(), Fail> {
-    let alloc = rt.alloc();
     for offsets in [[0, 4], [4, 0]] {
-        let objects = vec![in alloc; file(alloc, Order::Little, &offsets)?]?;
-        let rules = [rule(1, Form::Abs, Range::Signed)];
-        let bytes = bytes_in(alloc, &objects, 0x2000, &rules, 0, 0)?;
+        let signed = rule(1, Form::Abs, Range::Signed);
+        let bytes = bytes_by(rt.alloc(), Order::Little, &offsets, signed)?;
         assert_eq!(rt;
             bytes.as_deref(),
             Some(b"\x04\x20\0\0\x08\x20\0\0".as_slice())
@@ -71,10 +101,8 @@ fn holds_two_numbers_in_any_order_of_their_entries(rt: HostRuntime) -> Result<()
 // No field at all, so none that passes the end.
 #[test]
 fn leaves_the_bytes_of_a_rule_without_a_field(rt: HostRuntime) -> Result<(), Fail> {
-    let alloc = rt.alloc();
-    let objects = vec![in alloc; file(alloc, Order::Little, &[5])?]?;
-    let rules = [rule(1, Form::None, Range::Signed)];
-    let bytes = bytes_in(alloc, &objects, 0x2000, &rules, 0, 0)?;
+    let none = rule(1, Form::None, Range::Signed);
+    let bytes = bytes_by(rt.alloc(), Order::Little, &[5], none)?;
     assert_eq!(rt;
         bytes.as_deref(),
         Some(b"\xfc\xff\xff\xff\0\0\0\0".as_slice())
@@ -85,34 +113,31 @@ fn leaves_the_bytes_of_a_rule_without_a_field(rt: HostRuntime) -> Result<(), Fai
 #[test]
 fn refuses_by_the_rule_of_the_kind(rt: HostRuntime) -> Result<(), Fail> {
     let alloc = rt.alloc();
-    let objects = vec![in alloc; file(alloc, Order::Little, &[0])?]?;
-    let rows = [
-        (rule(1, Form::Abs, Range::Unsigned), broken(16, 0)),
-        (rule(2, Form::Abs, Range::Signed), broken(12, 0)),
+    let faults = [
+        fault_by(alloc, &[0], rule(1, Form::Abs, Range::Unsigned))?,
+        fault_by(alloc, &[0], rule(2, Form::Abs, Range::Signed))?,
     ];
-    for (of_kind, want) in rows {
-        assert_eq!(rt; fault_of(alloc, &objects, 0x2000, &[of_kind]), want);
-    }
+    assert_eq!(rt; faults, [broken(16, 0), broken(12, 0)]);
     Ok(())
 }
 
 #[test]
 fn refuses_a_field_that_passes_the_end(rt: HostRuntime) -> Result<(), Fail> {
     let alloc = rt.alloc();
-    for offset in [5, 0xffff_ffff_ffff_ffff] {
-        let objects = vec![in alloc; file(alloc, Order::Little, &[offset])?]?;
-        let rules = [rule(1, Form::Abs, Range::Signed)];
-        assert_eq!(rt; fault_of(alloc, &objects, 0x2000, &rules), broken(14, 0));
-    }
+    let signed = rule(1, Form::Abs, Range::Signed);
+    let faults = [
+        fault_by(alloc, &[5], signed)?,
+        fault_by(alloc, &[0xffff_ffff_ffff_ffff], signed)?,
+    ];
+    assert_eq!(rt; faults, [broken(14, 0), broken(14, 0)]);
     Ok(())
 }
 
 #[test]
 fn refuses_a_field_that_shares_a_byte(rt: HostRuntime) -> Result<(), Fail> {
-    let alloc = rt.alloc();
-    let objects = vec![in alloc; file(alloc, Order::Little, &[0, 3])?]?;
-    let rules = [rule(1, Form::Abs, Range::Signed)];
-    assert_eq!(rt; fault_of(alloc, &objects, 0x2000, &rules), broken(15, 1));
+    let signed = rule(1, Form::Abs, Range::Signed);
+    let fault = fault_by(rt.alloc(), &[0, 3], signed)?;
+    assert_eq!(rt; fault, broken(15, 1));
     Ok(())
 }
 
@@ -121,7 +146,7 @@ fn refuses_a_field_that_shares_a_byte(rt: HostRuntime) -> Result<(), Fail> {
 #[test]
 fn a_refused_growth_is_told(rt: HostRuntime) -> Result<(), Fail> {
     let alloc = rt.alloc();
-    let objects = vec![in alloc; file(alloc, Order::Little, &[0, 4])?]?;
+    let objects = [file(alloc, Order::Little, &[0, 4])?];
     let rules = [rule(1, Form::Abs, Range::Signed)];
     match bytes_in(alloc, &objects, 0x2000, &rules, 0, 0) {
         Ok(bytes) => {

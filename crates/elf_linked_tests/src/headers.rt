@@ -2,13 +2,13 @@
 use crate::worked::{mapped, rule};
 use elf_field::Order;
 use elf_linked::{Identity, relocate};
-use elf_object::{Object, ObjectParts};
+use elf_object::{Object, ObjectFault, ObjectParts};
 use elf_relocation::{Form, Range};
 use std::alloc::Global;
 use std::test::Fail;
 
 /// An object without sections and symbols, that uses these extensions.
-fn empty(alloc: Global, osabi: u8, abi: u8) -> Result<Object<'static>, Fail> {
+fn empty(alloc: Global, osabi: u8, abi: u8) -> Result<Object<'static>, ObjectFault> {
     let parts = ObjectParts {
         order: Order::Big,
         osabi,
@@ -18,13 +18,13 @@ fn empty(alloc: Global, osabi: u8, abi: u8) -> Result<Object<'static>, Fail> {
         sections: Vec::new(alloc),
         symbols: Vec::new(alloc),
     };
-    Ok(Object::new(alloc, parts)?)
+    Object::new(alloc, parts)
 }
 
 #[test]
 fn has_the_identity_of_the_first_file(rt: HostRuntime) -> Result<(), Fail> {
     let alloc = rt.alloc();
-    let objects = vec![in alloc; empty(alloc, 3, 1)?, empty(alloc, 0, 0)?]?;
+    let objects = [empty(alloc, 3, 1)?, empty(alloc, 0, 0)?];
     let rules = [rule(1, Form::Abs, Range::Signed)];
     let map = mapped(alloc, &objects, 0x2000)?;
     let linked = relocate(alloc, &map, &objects, &rules)?;
@@ -35,11 +35,14 @@ fn has_the_identity_of_the_first_file(rt: HostRuntime) -> Result<(), Fail> {
         machine: 62,
         flags: 5,
     };
-    assert_eq!(rt; linked.identity(), identity);
-    assert_eq!(rt; linked.map().base(), 0x2000);
     assert_eq!(rt;
-        (linked.objects().len(), linked.rules()),
-        (2, rules.as_slice())
+        (
+            linked.identity(),
+            linked.map().base(),
+            linked.objects().len(),
+            linked.rules()
+        ),
+        (identity, 0x2000, 2, rules.as_slice())
     );
     Ok(())
 }
@@ -57,7 +60,6 @@ fn has_an_identity_of_zeros_without_files(rt: HostRuntime) -> Result<(), Fail> {
         machine: 0,
         flags: 0,
     };
-    assert_eq!(rt; linked.identity(), identity);
-    assert_eq!(rt; linked.bytes(0, 0), None);
+    assert_eq!(rt; (linked.identity(), linked.bytes(0, 0)), (identity, None));
     Ok(())
 }

@@ -48,6 +48,14 @@ pub(crate) fn section(
     }
 }
 
+/// These items, in a vector.
+pub(crate) fn list<T: Drop, const N: usize>(
+    alloc: Global,
+    items: [T; N],
+) -> Result<Vec<T>, AllocError> {
+    Ok(Vec::from_array(alloc, items)?)
+}
+
 /// One relocation of a section, with its addend beside it.
 pub(crate) fn rela(
     alloc: Global,
@@ -57,7 +65,7 @@ pub(crate) fn rela(
     Ok(Body::Relocs {
         rela: true,
         target,
-        entries: vec![in alloc; entry]?,
+        entries: list(alloc, [entry])?,
     })
 }
 
