@@ -1,9 +1,0 @@
-//! The program `elfmap` once more, for a stored run that ends with status 2: an unknown command.
-#![tactic(auto)]
-
-use elf_tool::run_on_machine;
-use std::process::ExitCode;
-
-fn main(rt: HostRuntime) -> ExitCode {
-    ExitCode::from(run_on_machine(&rt))
-}
