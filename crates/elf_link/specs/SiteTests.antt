@@ -16,21 +16,21 @@ counted EmptySignature = section_count
 counted BadSymbol = symbol_count
 counted BadCommon = symbol_count
 
--- what passes the test
-abbrev pub Passes : List ObjectValue → SiteTest → ℕ → ℕ → Type 0
-Passes fs Tls f i = IsLiveWith SHF_TLS fs f i
-Passes fs LinkOrder f i = IsLiveWith SHF_LINK_ORDER fs f i
-Passes fs EmptySignature f i = HasEmptySignature fs f i
-Passes fs BadSymbol f i = IsBadSymbol (symbol_in fs f i)
-Passes fs BadCommon f i = IsBadCommon (symbol_in fs f i)
+-- what breaks the rule of a test
+abbrev pub Breaks : List ObjectValue → SiteTest → ℕ → ℕ → Type 0
+Breaks fs Tls f i = IsLiveWith SHF_TLS fs f i
+Breaks fs LinkOrder f i = IsLiveWith SHF_LINK_ORDER fs f i
+Breaks fs EmptySignature f i = HasEmptySignature fs f i
+Breaks fs BadSymbol f i = IsBadSymbol (symbol_in fs f i)
+Breaks fs BadCommon f i = IsBadCommon (symbol_in fs f i)
 
 abbrev pub row_of : List ObjectValue → SiteTest → Row
-row_of fs test = AtEach (counted test) fs (Passes fs test)
+row_of fs test = AtEach (counted test) fs (Breaks fs test)
 
--- i is the first position of file f that passes the test
+-- i is the first position of file f that breaks it
 abbrev pub IsFirstIn : List ObjectValue → SiteTest → ℕ → ℕ → Type 0
 IsFirstIn fs test f i =
-    (i < counted test (object_at fs f)) × Passes fs test f i × ((k : ℕ) → k < i → Passes fs test f k → ⊥)
+    (i < counted test (object_at fs f)) × Breaks fs test f i × ((k : ℕ) → k < i → Breaks fs test f k → ⊥)
 
 abbrev pub HasNoneIn : List ObjectValue → SiteTest → ℕ → Type 0
-HasNoneIn fs test f = (k : ℕ) → k < counted test (object_at fs f) → Passes fs test f k → ⊥
+HasNoneIn fs test f = (k : ℕ) → k < counted test (object_at fs f) → Breaks fs test f k → ⊥

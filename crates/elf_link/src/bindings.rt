@@ -1,4 +1,4 @@
-//! What every name is bound to, with addresses.
+//! What every name is bound to, with addresses (gABI chapter 4, Symbol Table: symbol binding).
 ghost use Rattle.std.specs.Prelude.{◌≡◌, ℕ, if◌then◌else◌, Some, List, IfOk, MatchOption, OnOk, length, map};
 ghost use Rattle.std.specs.Str.{bytes_eq};
 ghost use Rattle.elf_link.specs.declared.choice.Choice.TheVariants.{Common as CommonChoice};

@@ -28,7 +28,7 @@ pub fn symbol_count(object: &Object<'_>) -> usize
     object.symbols().len()
 }
 
-/// The section at position `index` of a file.
+/// The section at position `index` of a file. There has to be one.
 pub fn section_of<'o, 'a>(objects: &'o [Object<'a>], file: usize, index: usize) -> &'o Section<'a>
     requires file { file < length objects.now }
     requires index { index < length (object_at objects.now file).sections }
@@ -37,7 +37,7 @@ pub fn section_of<'o, 'a>(objects: &'o [Object<'a>], file: usize, index: usize) 
     &objects[file].sections()[index]
 }
 
-/// The symbol at position `index` of a file.
+/// The symbol at position `index` of a file. There has to be one.
 pub fn symbol_of<'a>(objects: &[Object<'a>], file: usize, index: usize) -> Symbol<'a>
     requires file { file < length objects.now }
     requires index { index < length (object_at objects.now file).symbols }

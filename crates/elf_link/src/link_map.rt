@@ -1,4 +1,4 @@
-//! The link map: where everything stands, and what each name is bound to.
+//! The link map: where everything stands, and what each name is bound to (gABI chapter 4, Sections, Symbol Table).
 ghost use Rattle.std.specs.Prelude.{◌≡◌, map};
 ghost use Rattle.elf_link.specs.Discarded.{mark};
 ghost use Rattle.elf_link.specs.LinkMap.{bound_in, cell};

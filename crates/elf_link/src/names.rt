@@ -1,4 +1,4 @@
-//! The names of a link map, with what each is bound to.
+//! The names of a link map, with what each is bound to (gABI chapter 4, Symbol Table).
 ghost use Rattle.std.specs.Prelude.{◌≡◌, map};
 ghost use Rattle.elf_link.specs.LinkMap.{bound_in};
 ghost use Rattle.elf_link.specs.LinkMapView.{named_value};

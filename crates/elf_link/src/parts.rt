@@ -1,4 +1,4 @@
-//! The parts (size, alignment) of output sections, as they are placed.
+//! The parts (size, alignment) of output sections, as they are placed (gABI chapter 4, Sections: sh_addralign).
 ghost use Rattle.std.specs.Prelude.{◌≡◌, ◌<◌, IfOk, fold, length, map, max};
 ghost use Rattle.elf_link.specs.Files.{object_at};
 ghost use Rattle.elf_link.specs.Listing.{AreIn};

@@ -1,9 +1,9 @@
-//! The first section or symbol that passes a test, over all files.
+//! The first section or symbol that breaks a rule by itself, over all files.
 ghost use Rattle.std.specs.Prelude.{◌≡◌, ◌↔◌, ◌<◌, IsTrue, MatchOption, length, map};
 ghost use Rattle.elf_link.specs.Discarded.{AreMarks};
 ghost use Rattle.elf_link.specs.Files.{object_at};
 ghost use Rattle.elf_link.specs.Rows.{IsFirstAt, Nowhere};
-ghost use Rattle.elf_link.specs.SiteTests.{HasNoneIn, IsFirstIn, Passes, counted, row_of};
+ghost use Rattle.elf_link.specs.SiteTests.{Breaks, HasNoneIn, IsFirstIn, counted, row_of};
 
 use crate::files::{section_count, symbol_count};
 use crate::section_tests::{has_empty_signature, is_live_with};
@@ -12,7 +12,7 @@ use crate::symbol_tests::{is_bad_common, is_bad_symbol};
 use elf_field::abi::*;
 use elf_object::Object;
 
-/// A test of one section or one symbol: a rule of the link.
+/// A rule of the link that looks at one section or one symbol by itself.
 #[derive(Clone, Copy, Debug, PartialEq, Eq)]
 pub(crate) enum SiteTest {
     /// Rule 3, [`TLS`](crate::rules::TLS).
@@ -38,12 +38,18 @@ impl SiteTest {
         }
     }
 
-    /// Whether the section or symbol at `index` of a file passes the test.
-    fn passes(&self, objects: &[Object<'_>], marks: &[Vec<bool>], file: usize, index: usize) -> bool
+    /// Whether the section or symbol at `index` of a file breaks the rule.
+    fn is_broken_by(
+        &self,
+        objects: &[Object<'_>],
+        marks: &[Vec<bool>],
+        file: usize,
+        index: usize,
+    ) -> bool
         requires file { file < length objects.now }
         requires index { index < counted self.now (object_at objects.now file) }
         requires marks { AreMarks objects.now (map (λ row. row.items) marks.now) }
-        ensures { IsTrue result ↔ Passes objects.now self.now file index }
+        ensures { IsTrue result ↔ Breaks objects.now self.now file index }
     {
         match self {
             SiteTest::Tls => is_live_with(SHF_TLS, objects, marks, file, index),
@@ -55,7 +61,7 @@ impl SiteTest {
     }
 }
 
-/// The first position in a file that passes the test.
+/// The first position in a file that breaks the rule.
 fn first_in_file(
     test: &SiteTest,
     objects: &[Object<'_>],
@@ -67,14 +73,14 @@ fn first_in_file(
     ensures { MatchOption result (HasNoneIn objects.now test.now file) (IsFirstIn objects.now test.now file) }
 {
     for index in 0..test.count(&objects[file]) {
-        if test.passes(objects, marks, file, index) {
+        if test.is_broken_by(objects, marks, file, index) {
             return Some(index);
         }
     }
     None
 }
 
-/// The first site that passes the test, by file and position.
+/// The first site that breaks the rule, by file and position.
 pub(crate) fn first_site(
     test: &SiteTest,
     objects: &[Object<'_>],

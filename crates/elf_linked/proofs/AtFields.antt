@@ -12,7 +12,7 @@ use Rattle.elf_linked.specs.Entries.{entry_at}
 use Rattle.elf_linked.specs.Fields.{HasField, Share}
 use Rattle.elf_linked.specs.FieldTests.{HasNone, IsFirst}
 use Rattle.elf_linked.specs.Marking.{AllWithin, HasNoOverlap, IsFirstOverlap, SharesBefore}
-use Rattle.elf_linked.specs.RelocationRules.{AtField, IsOutside, SharesEarlier}
+use Rattle.elf_linked.specs.RelocationRules.{AtField, IsFieldOutOfRange, SharesEarlier}
 use Rattle.elf_linked.proofs.FirstRule.{one_rule}
 use Rattle.elf_linked.proofs.Sites.{never_both, never_itself}
 
@@ -78,5 +78,5 @@ within_or a b never = elim (cases_lt b a) [
   | inr below ↦ below
 ]
 
-pub all_within : (fs : List ObjectValue) (ds : List Field) → HasNone (IsOutside fs) ds → AllWithin fs ds
+pub all_within : (fs : List ObjectValue) (ds : List Field) → HasNone (IsFieldOutOfRange fs) ds → AllWithin fs ds
 all_within fs ds none k lt = within_or _ _ (none k lt)

@@ -10,9 +10,9 @@ use Rattle.elf_link.specs.LinkMap.{LinkMapValue}
 use Rattle.elf_link.specs.Rows.{IsFirstAt, Nowhere, Row}
 use Rattle.elf_linked.specs.declared.field.Field.{Field}
 use Rattle.elf_linked.specs.declared.field_test.FieldTest.{FieldTest}
-use Rattle.elf_linked.specs.declared.field_test.FieldTest.TheVariants.{Unplaced, OutOfRange, Refused}
+use Rattle.elf_linked.specs.declared.field_test.FieldTest.TheVariants.{FieldOutOfRange, Unplaced, ValueOutOfRange}
 use Rattle.elf_linked.specs.Collecting.{entry_site, field_at}
-use Rattle.elf_linked.specs.RelocationRules.{AtField, IsOutside, IsRefused, IsUnplaced, no_rule}
+use Rattle.elf_linked.specs.RelocationRules.{AtField, IsFieldOutOfRange, IsUnplaced, IsValueOutOfRange, no_rule}
 
 -- rule 12 stands nowhere; or it is the fault, at its first site
 abbrev pub NoneUnruled : List ObjectValue → List RelocRule → Type 0
@@ -22,11 +22,11 @@ abbrev pub IsRuleFault : List ObjectValue → List RelocRule → LinkFault → T
 IsRuleFault fs rules (Rule number file index entry) = (number ≡ 12) × IsFirstAt (no_rule fs rules) (entry_site file index entry)
 IsRuleFault fs rules OutOfMemory = Unit {0}
 
--- what passes each test of one field: rules 13, 14 and 16
-abbrev pub Passes : List ObjectValue → LinkMapValue → FieldTest → Site → RelocRule → Type 0
-Passes fs m Unplaced = IsUnplaced fs m
-Passes fs m OutOfRange = IsOutside fs
-Passes fs m Refused = IsRefused fs m
+-- what breaks each rule of one field: rules 13, 14 and 16
+abbrev pub Breaks : List ObjectValue → LinkMapValue → FieldTest → Site → RelocRule → Type 0
+Breaks fs m Unplaced = IsUnplaced fs m
+Breaks fs m FieldOutOfRange = IsFieldOutOfRange fs
+Breaks fs m ValueOutOfRange = IsValueOutOfRange fs m
 
 -- the field at position k of the list
 abbrev pub Holds : (Site → RelocRule → Type 0) → List Field → ℕ → Type 0
@@ -42,12 +42,12 @@ IsFirst P ds k = (k < length ds) × Holds P ds k × ((j : ℕ) → j < k → Hol
 -- the number of the rule that a test is
 abbrev pub test_number : FieldTest → ℕ
 test_number Unplaced = 13
-test_number OutOfRange = 14
-test_number Refused = 16
+test_number FieldOutOfRange = 14
+test_number ValueOutOfRange = 16
 
 -- its row
 abbrev pub test_row : List ObjectValue → LinkMapValue → List RelocRule → FieldTest → Row
-test_row fs m rules test = AtField fs rules (Passes fs m test)
+test_row fs m rules test = AtField fs rules (Breaks fs m test)
 
 -- the rule of a test is the fault, at its first site
 abbrev pub IsTestFault : List ObjectValue → LinkMapValue → List RelocRule → FieldTest → Broken → Type 0

@@ -23,7 +23,7 @@ no_rule fs rules p = IsApplied fs p × HasNoRule (entry_at fs p).kind rules
 abbrev pub AtField : List ObjectValue → List RelocRule → (Site → RelocRule → Type 0) → Row
 AtField fs rules P p = (r : RelocRule) × HasField fs rules p r × P p r
 
--- rule 13: its symbol has no place
+-- rule 13: its symbol has no value
 abbrev pub IsUnplaced : List ObjectValue → LinkMapValue → Site → RelocRule → Type 0
 IsUnplaced fs m p r = value_at fs m p ≡ None
 
@@ -31,11 +31,11 @@ abbrev pub unplaced : List ObjectValue → LinkMapValue → List RelocRule → R
 unplaced fs m rules = AtField fs rules (IsUnplaced fs m)
 
 -- rule 14: it passes the end of its target
-abbrev pub IsOutside : List ObjectValue → Site → RelocRule → Type 0
-IsOutside fs p r = ¬ IsWithin fs p r
+abbrev pub IsFieldOutOfRange : List ObjectValue → Site → RelocRule → Type 0
+IsFieldOutOfRange fs p r = ¬ IsWithin fs p r
 
 abbrev pub field_out_of_range : List ObjectValue → List RelocRule → Row
-field_out_of_range fs rules = AtField fs rules (IsOutside fs)
+field_out_of_range fs rules = AtField fs rules (IsFieldOutOfRange fs)
 
 -- rule 15: it shares a byte with a field before it
 abbrev pub SharesEarlier : List ObjectValue → List RelocRule → Site → RelocRule → Type 0
@@ -45,11 +45,11 @@ abbrev pub fields_overlap : List ObjectValue → List RelocRule → Row
 fields_overlap fs rules = AtField fs rules (SharesEarlier fs rules)
 
 -- rule 16: its number, which is made of the field's own bytes where the section is of type REL, is one that it does not admit
-abbrev pub IsRefused : List ObjectValue → LinkMapValue → Site → RelocRule → Type 0
-IsRefused fs m p r = IsWithin fs p r × ((z : ℤ) × (number_at fs m p r ≡ Some z) × ¬ Admits r.range (size_of r.width) z)
+abbrev pub IsValueOutOfRange : List ObjectValue → LinkMapValue → Site → RelocRule → Type 0
+IsValueOutOfRange fs m p r = IsWithin fs p r × ((z : ℤ) × (number_at fs m p r ≡ Some z) × ¬ Admits r.range (size_of r.width) z)
 
 abbrev pub value_out_of_range : List ObjectValue → LinkMapValue → List RelocRule → Row
-value_out_of_range fs m rules = AtField fs rules (IsRefused fs m)
+value_out_of_range fs m rules = AtField fs rules (IsValueOutOfRange fs m)
 
 abbrev pub relocation_rules : List ObjectValue → LinkMapValue → List RelocRule → List {1} Ruled
 relocation_rules fs m rules =

@@ -1,4 +1,4 @@
--- The value of a symbol at the addresses of a link map: a whole number, or none where the symbol has no place.
+-- The value of a symbol at the addresses of a link map: a whole number, or none where the symbol has no value.
 -- (gABI chapter 4, Symbol Table: st_value; STB_LOCAL.)
 use Rattle.std.specs.Prelude.{ℕ, ◌+◌, ◌^◌, ◌<◌, if◌then◌else◌, nat_eq, Option, None, Some, List, option_map, IfSome}
 use Rattle.elf_field.specs.Abi.{STB_LOCAL}

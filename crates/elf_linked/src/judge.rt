@@ -2,7 +2,7 @@
 ghost use Rattle.std.specs.Prelude.{◌≡◌, IfErr, IfOk, None, OnOk};
 ghost use Rattle.elf_link.specs.Rows.{FirstIn, Nowhere};
 ghost use Rattle.elf_linked.specs.Collecting.{AreFields};
-ghost use Rattle.elf_linked.specs.FieldTests.{HasNone, IsTestFault, Passes, test_row};
+ghost use Rattle.elf_linked.specs.FieldTests.{Breaks, HasNone, IsTestFault, test_row};
 ghost use Rattle.elf_linked.specs.Judged.{AreJudged, IsOverlapFault};
 ghost use Rattle.elf_linked.specs.LinkingFacts.{IsReady, files_of, map_of, rules_of};
 ghost use Rattle.elf_linked.specs.Marking.{AllWithin, HasNoOverlap};
@@ -17,11 +17,11 @@ use crate::rules::FIELDS_OVERLAP;
 use elf_link::{Broken, LinkFault};
 use std::alloc::Global;
 
-/// Answers the rule of a test at the first field that passes it.
+/// Answers a rule at the first field that breaks it.
 fn refuse_first(test: FieldTest, linking: &Linking<'_, '_>, fields: &[Field]) -> Result<(), Broken>
     requires ready { IsReady linking.now }
     requires fields { AreFields (files_of linking.now) (rules_of linking.now) fields.now }
-    ensures ok { OnOk result (HasNone (Passes (files_of linking.now) (map_of linking.now) test) fields.now) }
+    ensures ok { OnOk result (HasNone (Breaks (files_of linking.now) (map_of linking.now) test) fields.now) }
     ensures nowhere { OnOk result (Nowhere (test_row (files_of linking.now) (map_of linking.now) (rules_of linking.now) test)) }
     ensures err { IfErr result (IsTestFault (files_of linking.now) (map_of linking.now) (rules_of linking.now) test) }
 {
@@ -61,8 +61,8 @@ pub(crate) fn judged_fields(
 {
     let fields = all_fields(alloc, linking.objects, linking.map, linking.rules)?;
     refuse_first(FieldTest::Unplaced, linking, &fields)?;
-    refuse_first(FieldTest::OutOfRange, linking, &fields)?;
+    refuse_first(FieldTest::FieldOutOfRange, linking, &fields)?;
     refuse_overlap(alloc, linking, &fields)?;
-    refuse_first(FieldTest::Refused, linking, &fields)?;
+    refuse_first(FieldTest::ValueOutOfRange, linking, &fields)?;
     Ok(fields)
 }

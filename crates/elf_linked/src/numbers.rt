@@ -4,7 +4,7 @@ ghost use Rattle.elf_link.specs.Files.{object_at};
 ghost use Rattle.elf_linked.specs.Fields.{IsWithin, content_at};
 ghost use Rattle.elf_linked.specs.LinkingFacts.{IsFieldOf, IsReady, files_of, map_of};
 ghost use Rattle.elf_linked.specs.Numbers.{addend_of as addend_at, field_address as field_address_of, number_at};
-ghost use Rattle.elf_linked.specs.RelocationRules.{IsOutside, IsRefused, IsUnplaced};
+ghost use Rattle.elf_linked.specs.RelocationRules.{IsFieldOutOfRange, IsUnplaced, IsValueOutOfRange};
 ghost use Rattle.elf_linked.specs.Values.{IsSmall, reference_value, value_at};
 
 use crate::entries::{content, entry_of, is_rela, target_of};
@@ -39,7 +39,7 @@ fn value_of(linking: &Linking<'_, '_>, field: Field) -> Option<u128>
     reference(linking, field.site.file, symbol)
 }
 
-/// Rule 13: whether a field's symbol has no place.
+/// Rule 13: whether a field's symbol has no value.
 pub(crate) fn is_unplaced(linking: &Linking<'_, '_>, field: Field) -> bool
     requires ready { IsReady linking.now }
     requires field { IsFieldOf linking.now field }
@@ -58,9 +58,9 @@ fn target_content<'a>(linking: &Linking<'_, 'a>, field: Field) -> &'a [u8]
 }
 
 /// Rule 14: whether a field passes the end of its target.
-pub(crate) fn is_outside(linking: &Linking<'_, '_>, field: Field) -> bool
+pub(crate) fn is_field_out_of_range(linking: &Linking<'_, '_>, field: Field) -> bool
     requires field { IsFieldOf linking.now field }
-    ensures { IsTrue result ↔ IsOutside (files_of linking.now) field.site field.rule }
+    ensures { IsTrue result ↔ IsFieldOutOfRange (files_of linking.now) field.site field.rule }
 {
     let offset = entry_of(linking.objects, field.site).offset;
     let length = target_content(linking, field).len();
@@ -123,12 +123,12 @@ pub(crate) fn number_of(linking: &Linking<'_, '_>, field: Field) -> Option<i128>
 }
 
 /// Rule 16: whether a field, which ends within its target, does not admit its number.
-pub(crate) fn is_refused(linking: &Linking<'_, '_>, field: Field) -> bool
+pub(crate) fn is_value_out_of_range(linking: &Linking<'_, '_>, field: Field) -> bool
     requires ready { IsReady linking.now }
     requires field { IsFieldOf linking.now field }
-    ensures { IsTrue result ↔ IsRefused (files_of linking.now) (map_of linking.now) field.site field.rule }
+    ensures { IsTrue result ↔ IsValueOutOfRange (files_of linking.now) (map_of linking.now) field.site field.rule }
 {
-    if is_outside(linking, field) {
+    if is_field_out_of_range(linking, field) {
         return false;
     }
     match number_of(linking, field) {

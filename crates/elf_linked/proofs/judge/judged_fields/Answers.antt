@@ -3,7 +3,7 @@ use Rattle.elf_linked.specs.declared.field.Field.{Field}
 use Rattle.elf_linked.specs.FieldTests.{HasNone}
 use Rattle.elf_linked.specs.LinkingFacts.{files_of, map_of}
 use Rattle.elf_linked.specs.Marking.{HasNoOverlap}
-use Rattle.elf_linked.specs.RelocationRules.{IsOutside, IsUnplaced}
+use Rattle.elf_linked.specs.RelocationRules.{IsFieldOutOfRange, IsUnplaced}
 use Rattle.elf_linked.proofs.AtFields.{all_within}
 use Rattle.elf_linked.proofs.judge.judged_fields.Goals as goal
 
@@ -14,6 +14,6 @@ returns-clause-fields c =
     record {
       fields = c.in_ok-fields.ensures.fields;
       placed = subst (λ (ds : List Field). HasNone (IsUnplaced fs m) ds) c.deref.ensures.value c.in_ok-refuse_first.ensures.ok;
-      within = all_within fs c.in_ok-fields.fields.items (subst (λ (ds : List Field). HasNone (IsOutside fs) ds) c.deref-2.ensures.value c.in_ok-refuse_first-2.ensures.ok);
+      within = all_within fs c.in_ok-fields.fields.items (subst (λ (ds : List Field). HasNone (IsFieldOutOfRange fs) ds) c.deref-2.ensures.value c.in_ok-refuse_first-2.ensures.ok);
       apart = subst (λ (ds : List Field). HasNoOverlap fs ds) c.deref-3.ensures.value c.in_ok-refuse_overlap.ensures.ok;
     }
