@@ -19,6 +19,8 @@ pub struct Extent {
 pub struct Piece {
     /// The index of the extent in the list; None for a gap.
     pub owner: Option<usize>,
+    /// The first offset.
     pub start: u64,
+    /// How many offsets these are.
     pub len: u64,
 }

@@ -1,3 +1,4 @@
+//! Entries of a dynamic array (gABI chapter 5, Dynamic Section).
 ghost use Rattle.std.specs.Prelude.{◌≡◌, length, []};
 ghost use Rattle.elf_field.specs.Layout.{spelled};
 ghost use Rattle.elf_field.specs.Dyn.{IsDyn, IsDynAt, dyn_at, dyn_bytes, dyn_in, dyn_values, dyn_widths};

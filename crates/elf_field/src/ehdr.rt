@@ -1,3 +1,4 @@
+//! The header of a file (gABI chapter 4, ELF Header).
 ghost use Rattle.std.specs.Prelude.{◌≡◌, length, ◌≤◌, take};
 ghost use Rattle.elf_field.specs.Layout.{spelled};
 ghost use Rattle.elf_field.specs.Bytes.{first_bytes};

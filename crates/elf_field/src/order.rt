@@ -1,3 +1,5 @@
+//! The byte order of a file (gABI chapter 4, Data Encoding).
+
 /// The order of a number's bytes in a file (gABI chapter 4, Data Encoding): identification byte 5.
 #[derive(Clone, Copy, Debug, PartialEq, Eq)]
 pub enum Order {

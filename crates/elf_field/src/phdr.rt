@@ -1,3 +1,4 @@
+//! Program headers (gABI chapter 5, Program Header).
 ghost use Rattle.std.specs.Prelude.{◌≡◌, length, []};
 ghost use Rattle.elf_field.specs.Layout.{spelled};
 ghost use Rattle.elf_field.specs.Phdr.{IsPhdr, IsPhdrAt, phdr_at, phdr_bytes, phdr_in, phdr_values, phdr_widths};

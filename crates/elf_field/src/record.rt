@@ -1,3 +1,4 @@
+//! What every record of a file has: its size, its bytes, and where its fields are (gABI chapter 4, Data Representation).
 ghost use Rattle.std.specs.Prelude.{◌≡◌, ◌+◌, ◌≤◌, ℕ, List, length};
 ghost use Rattle.elf_field.specs.Bytes.{IsBytes};
 ghost use Rattle.elf_field.specs.Record.{IsRecord};
@@ -46,7 +47,7 @@ pub trait Record {
     ghost fields_at: { (o : Order) (b : List ℕ) (x : ℕ) → x + SIZE ≤ length b → IsBytes b → IsAt o b x (at o b x) };
 }
 
-/// The record at an offset of a file's bytes.
+/// The record at an offset of a file's bytes, within which it has to end.
 pub fn get_at<T: Record>(order: Order, bytes: &[u8], offset: usize) -> T
     requires { offset + T.SIZE ≤ length bytes.now }
     ensures value { result ≡ T.at order bytes.now offset }

@@ -1,3 +1,4 @@
+//! Relocations without addends (gABI chapter 4, Relocation).
 ghost use Rattle.std.specs.Prelude.{◌≡◌, length, ◌/◌, ◌%◌, ◌^◌, []};
 ghost use Rattle.elf_field.specs.Layout.{spelled};
 ghost use Rattle.elf_field.specs.Rel.{IsRel, IsRelAt, rel_at, rel_bytes, rel_in, rel_values, rel_widths};

@@ -1,3 +1,4 @@
+//! Relocations with addends (gABI chapter 4, Relocation).
 ghost use Rattle.std.specs.Prelude.{◌≡◌, length, ◌/◌, ◌%◌, ◌^◌, []};
 ghost use Rattle.elf_field.specs.Layout.{spelled};
 ghost use Rattle.elf_field.specs.Rela.{IsRela, IsRelaAt, rela_at, rela_bytes, rela_in, rela_values, rela_widths};

@@ -1,3 +1,4 @@
+//! Section headers (gABI chapter 4, Sections).
 ghost use Rattle.std.specs.Prelude.{◌≡◌, length, []};
 ghost use Rattle.elf_field.specs.Layout.{spelled};
 ghost use Rattle.elf_field.specs.Shdr.{IsShdr, IsShdrAt, shdr_at, shdr_bytes, shdr_in, shdr_values, shdr_widths};

@@ -1,3 +1,4 @@
+//! Symbols (gABI chapter 4, Symbol Table).
 ghost use Rattle.std.specs.Prelude.{◌≡◌, length, ◌/◌, ◌%◌, []};
 ghost use Rattle.elf_field.specs.Layout.{spelled};
 ghost use Rattle.elf_field.specs.Sym.{IsSym, IsSymAt, sym_at, sym_bytes, sym_in, sym_values, sym_widths};

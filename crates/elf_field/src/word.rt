@@ -1,3 +1,4 @@
+//! Words of four bytes, as index tables, section groups and hash tables hold (gABI chapter 4, Data Representation).
 ghost use Rattle.elf_field.specs.Word.{IsWord, IsWordAt, word_at, word_bytes};
 ghost use Rattle.elf_field.specs.WordLaws.{word_fields_at, word_laws};
 

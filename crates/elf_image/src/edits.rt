@@ -1,4 +1,5 @@
-//! The edits of an image. Each changes just its own field, content or gaps, and leaves an image again.
+//! The edits of an image (gABI chapter 4, ELF Header, Sections). Each changes just its own field, content or gaps, and leaves an
+//! image again.
 ghost use Rattle.std.specs.Prelude.{◌≡◌, MatchResult, OnErr, OnOk};
 ghost use Rattle.elf_image.specs.Edits.{IsReplaceFault, IsReplaceable, IsSection, with_content, with_entry, with_flags, with_zero_gaps};
 

@@ -13,6 +13,7 @@ use std::io::Write;
 pub trait Entries {
     ghost use Rattle.std.specs.Prelude.{List};
 
+    /// The kind of record that the table holds.
     type Entry: Record + Copy;
 
     // all of them

@@ -17,7 +17,10 @@ pub enum Owner {
 /// A part of a file, by its offset and length in bytes; the length is above 0.
 #[derive(Clone, Copy, Debug, PartialEq, Eq)]
 pub struct Part {
+    /// What the bytes belong to.
     pub owner: Owner,
+    /// The offset in the file at which it begins.
     pub start: u64,
+    /// How many bytes it has.
     pub len: u64,
 }

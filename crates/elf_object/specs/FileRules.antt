@@ -137,11 +137,11 @@ abbrev pub IsPlain : LeftOut → Sections → ℕ → Type 0
 IsPlain left f i =
     (is_kept left f i ≡ true) × (let kind = body_kind (section f i).sh_type in (kind ≡ Bits) ⊎ (kind ≡ NoBits))
 
--- rule 78: such a section links to one that is left out
+-- rule 78: such a section links to one that is left out, or is not there
 abbrev pub HasWrongKeptLink : LeftOut → Sections → ℕ → Type 0
 HasWrongKeptLink left f i = let link = (section f i).sh_link in IsPlain left f i × ((link ≢ 0) × (is_kept left f link ≡ false))
 
--- rule 79: its flag INFO_LINK says that sh_info is a section, and that one is left out
+-- rule 79: its flag INFO_LINK says that sh_info is a section, and that one is left out, or is not there
 abbrev pub HasWrongKeptInfo : LeftOut → Sections → ℕ → Type 0
 HasWrongKeptInfo left f i =
     let s = section f i in IsPlain left f i × (HasFlag s.sh_flags SHF_INFO_LINK × (is_kept left f s.sh_info ≡ false))

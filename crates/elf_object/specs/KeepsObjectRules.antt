@@ -97,12 +97,21 @@ pub record HasRightMembers (o : ObjectValue) : Type 0 where
 
 -- rules 1 to 9
 pub record KeepsObjectRules (o : ObjectValue) : Type 0 where
+  -- 1, zero_in_section_name
   pub section_names : EachSection o (λ s. ¬ HasZero s.name)
+  -- 2, wrong_bits_type
   pub bits_types : EachSection o (λ s. HasBitsType s.body)
+  -- 3, wrong_alignment
   pub alignments : EachSection o IsAligned
+  -- 4, wrong_position
   pub positions : EachSection o (HasRightPositions o)
+  -- 5, wrong_field
   pub fields : EachSection o (λ s. HasRightFields s s.body)
+  -- 6, wrong_membership
   pub membership : HasRightMembers o
+  -- 7, zero_in_symbol_name
   pub symbol_names : EachSymbol o (λ s. ¬ HasZero s.name)
+  -- 8, wrong_place
   pub places_there : EachSymbol o (λ s. IfSome (place_position s.place) (λ p. p < length o.sections))
+  -- 9, misplaced_local
   pub locals_first : (k j : ℕ) → k < j → j < length o.symbols → IsLocal (symbol_at o j) → IsLocal (symbol_at o k)

@@ -10,6 +10,7 @@ use Rattle.elf_object.specs.ObjectRules.{IsObject}
 use Rattle.elf_object.specs.PlainSections.{PlainSection, body_bytes, index_of, index_table_section, own_section, plain_sections, section_names, strings, symbol_names, symbol_table_section}
 use Rattle.elf_object.specs.Positions.{info_position}
 use Rattle.elf_object.specs.SectionRules.{IsWrongBitsType}
+use Rattle.elf_rules.specs.HeaderRules.{MAX_LEN}
 
 pub record PlacedValue : Type 0 where
   pub object : ObjectValue
@@ -60,4 +61,4 @@ pub record HasShortNumbers (o : ObjectValue) (s : SectionValue) : Type 0 where
   pub link : index_of s.link < 2 ^ 32
   pub info : index_of (info_position s.info) < 2 ^ 32
   pub indexes : HasShortIndexes s.body
-  pub short : length (body_bytes o.order s.body) ≤ 2 ^ 30
+  pub short : length (body_bytes o.order s.body) ≤ MAX_LEN

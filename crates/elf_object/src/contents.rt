@@ -5,6 +5,7 @@ ghost use Rattle.elf_object.specs.Object.{section_at};
 ghost use Rattle.elf_object.specs.ObjectView.{body_value, section_value};
 ghost use Rattle.elf_object.specs.PlacedObject.{HasShortIndexes, HasShortNumbers, IsThere, plain_section};
 ghost use Rattle.elf_object.specs.PlainSections.{body_bytes, index_of, index_table_section, own_section, relocation_bytes, symbol_table_section};
+ghost use Rattle.elf_rules.specs.HeaderRules.{MAX_LEN};
 
 use crate::body_entries::{GroupWords, RelEntries, RelaEntries};
 use crate::layout_parts::content_part;
@@ -81,7 +82,7 @@ fn write_own_content<W: Write>(
 
 fn write_body<W: Write>(order: Order, body: &Body<'_>, writer: &mut W) -> Result<(), WriteFault>
     requires indexes { HasShortIndexes (body_value body.now) }
-    requires short { length (body_bytes order (body_value body.now)) ≤ 2 ^ 30 }
+    requires short { length (body_bytes order (body_value body.now)) ≤ MAX_LEN }
     ensures { Writes (W.contents writer.old) (W.contents writer.new) (body_bytes order (body_value body.now)) result }
 {
     match body {
@@ -109,7 +110,7 @@ fn write_relocations<W: Write>(
     writer: &mut W,
 ) -> Result<(), WriteFault>
     requires indexes { All (λ entry. index_of entry.symbol < 2 ^ 32) entries.now }
-    requires short { length (relocation_bytes order rela entries.now) ≤ 2 ^ 30 }
+    requires short { length (relocation_bytes order rela entries.now) ≤ MAX_LEN }
     ensures { Writes (W.contents writer.old) (W.contents writer.new) (relocation_bytes order rela entries.now) result }
 {
     if rela {

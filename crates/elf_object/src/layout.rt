@@ -99,7 +99,7 @@ pub fn lay_out(alloc: Global, object: &Object<'_>) -> Result<Layout, LayoutFault
     lay_out_with(alloc, object, &tables)
 }
 
-/// The same, with the object's string tables.
+/// The canonical layout of an object whose string tables are made already.
 pub(crate) fn lay_out_with(
     alloc: Global,
     object: &Object<'_>,

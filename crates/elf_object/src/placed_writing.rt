@@ -7,6 +7,7 @@ ghost use Rattle.elf_object.specs.Laid.{file_header, layout_bytes};
 ghost use Rattle.elf_object.specs.ObjectWriting.{WritesBehind, header_table};
 ghost use Rattle.elf_object.specs.PlacedObject.{IsThere, plain_section};
 ghost use Rattle.elf_object.specs.PlainSections.{PlainSection, plain_sections};
+ghost use Rattle.elf_rules.specs.HeaderRules.{MAX_LEN};
 
 use crate::contents::{content_size, write_content};
 use crate::file_header::file_header;
@@ -117,7 +118,7 @@ fn write_table<W: Write>(
 /// The size of the section header table, which ends in time.
 fn table_size(placed: &PlacedObject<'_, '_>) -> u64
     ensures value { result ≡ length (header_table placed.now.object placed.now.layout.places) }
-    ensures within { slice_index placed.now.layout.places (length (plain_sections placed.now.object)) + result ≤ 2 ^ 30 }
+    ensures within { slice_index placed.now.layout.places (length (plain_sections placed.now.object)) + result ≤ MAX_LEN }
 {
     placed.is_placed();
     SHDR_SIZE * placed.header_count() as u64

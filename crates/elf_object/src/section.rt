@@ -19,14 +19,20 @@ pub enum Body<'a> {
     NoBits(u64),
     /// Relocations of the section at position `target`: with addends (`SHT_RELA`) or without (`SHT_REL`).
     Relocs {
+        /// Whether the entries have addends.
         rela: bool,
+        /// The position of the section that they apply to.
         target: usize,
+        /// The relocations, in order.
         entries: Vec<Relocation>,
     },
     /// A section group (`SHT_GROUP`), by the positions of its signature symbol and of its member sections.
     Group {
+        /// Whether it is a COMDAT group (`GRP_COMDAT`).
         comdat: bool,
+        /// The position of the symbol whose name tells the group.
         signature: usize,
+        /// The positions of its sections.
         members: Vec<usize>,
     },
 }

@@ -4,6 +4,7 @@ ghost use Rattle.elf_object.specs.Object.{symbol_at};
 ghost use Rattle.elf_object.specs.ObjectView.{symbol_value};
 ghost use Rattle.elf_object.specs.PlainSections.{index_of, index_word, null_symbol, symbol_entry};
 ghost use Rattle.elf_object.specs.SymbolRules.{place_position};
+ghost use Rattle.elf_rules.specs.HeaderRules.{MAX_LEN};
 
 use crate::indexes::{index_word, shndx};
 use crate::placed_object::PlacedObject;
@@ -67,7 +68,7 @@ impl<'p, 'o, 'a> Entries for IndexWords<'p, 'o, 'a> {
 /// How many symbols there are.
 pub(crate) fn symbol_count(placed: &PlacedObject<'_, '_>) -> usize
     ensures value { result ≡ length placed.now.object.symbols }
-    ensures few { 24 * (result + 1) ≤ 2 ^ 30 }
+    ensures few { 24 * (result + 1) ≤ MAX_LEN }
 {
     placed.is_placed();
     placed.object().symbols().len()

@@ -30,7 +30,9 @@ pub(crate) fn modulo(width: Width, number: i128) -> u64
 }
 
 impl Form {
-    /// The number of an entry of this form: `value` is its symbol's value, below 2^126, `address` that of the field.
+    /// The number of an entry of this form, exact: `value` is its symbol's value, which has to be below 2^126, the addend is from
+    /// -2^63 to 2^64 - 1, and `address` is that of the field. An entry of form [`Form::None`] has no field, and is answered as one of
+    /// [`Form::Abs`].
     pub fn number(self, value: u128, addend: i128, address: u64) -> i128
         requires value { value < 2 ^ 126 }
         requires low { neg_ℤ (pos (2 ^ 63)) ≤ℤ addend }
@@ -89,8 +91,8 @@ fn addend_by<O: ByteOrder>(range: Range, width: Width, bytes: &[u8], offset: usi
     }
 }
 
-/// The addend that stands in the field of this width at an offset of the bytes (an entry of type `SHT_REL` has no other one): two's
-/// complement, but from 0 on where the range is [`Range::Unsigned`].
+/// The addend that stands in the field of this width at an offset of the bytes, in which it has to lie whole (an entry of type
+/// `SHT_REL` has no other one): two's complement, but from 0 on where the range is [`Range::Unsigned`].
 #[tactic(auto, unfolding(elf_field::specs::Bytes::num))]
 pub fn addend_in(order: Order, range: Range, width: Width, bytes: &[u8], offset: usize) -> i128
     requires { offset + size_of width ≤ length bytes.now }

@@ -15,7 +15,8 @@ fn patch_by<O: ByteOrder>(bytes: &mut [u8], offset: usize, width: Width, number:
     O::write_uint(&mut bytes[offset..], modulo(width, number), width.size());
 }
 
-/// Puts the number, modulo 2 to the bits of the width, into the field of this width at an offset of the bytes.
+/// Puts the number, modulo 2 to the bits of the width, into the field of this width at an offset of the bytes, in which it has to lie
+/// whole.
 #[tactic(auto, unfolding(elf_field::specs::Bytes::bytes_of))]
 pub fn patch(order: Order, bytes: &mut [u8], offset: usize, width: Width, number: i128)
     requires { offset + size_of width ≤ length bytes.old }

@@ -7,7 +7,7 @@ ghost use Rattle.elf_relocation.specs.Rule.{HasNoRule, IsFirstRule, size_of};
 pub enum Form {
     /// The symbol's value and the addend.
     Abs,
-    /// The same, less the address of the field.
+    /// The symbol's value and the addend, less the address of the field.
     Pc,
     /// Nothing: there is no field.
     None,
@@ -16,9 +16,13 @@ pub enum Form {
 /// The bytes of a field.
 #[derive(Clone, Copy, Debug, PartialEq, Eq)]
 pub enum Width {
+    /// One byte.
     W1,
+    /// Two bytes.
     W2,
+    /// Four bytes.
     W4,
+    /// Eight bytes.
     W8,
 }
 
@@ -50,9 +54,13 @@ pub enum Range {
 /// What relocations of one kind are. `kind` is `r_info mod 2^32`, whose meaning processor supplements give.
 #[derive(Clone, Copy, Debug, PartialEq, Eq)]
 pub struct RelocRule {
+    /// The type of the relocations, as entries have it.
     pub kind: u32,
+    /// What their number is made of.
     pub form: Form,
+    /// How many bytes their field has.
     pub width: Width,
+    /// Which numbers the field admits.
     pub range: Range,
 }
 

@@ -4,7 +4,9 @@ ghost use Rattle.std.specs.Prelude.{◌≡◌};
 /// A rule by its number, and the offset in the file, in bytes, where it is broken.
 #[derive(Clone, Copy, Debug, PartialEq, Eq)]
 pub struct Broken {
+    /// The number of the rule, one of those in [`rules`](crate::rules).
     pub rule: u16,
+    /// The offset of the lowest byte at which it is broken.
     pub at: u64,
 }
 

@@ -45,8 +45,9 @@ pub(crate) fn judge(bytes: &[u8]) -> Result<(), Broken>
     }
 }
 
-/// The same by sorting, where the contents don't stand in the order of their section headers and memory
-/// for it isn't refused; an image with its header and counts.
+/// Judges a file by all 33 rules, as [`verdict`] does, in n log n: where the contents don't stand in the order of their
+/// section headers they are sorted, and where memory for that is refused the answer is found without. A file that
+/// breaks no rule is answered with its header and counts; else the first rule broken and its lowest offset.
 pub fn judge_by_sorting<'a>(alloc: Global, bytes: &'a [u8]) -> Result<JudgedRecords<'a>, Broken>
     ensures fault { IsFault bytes.entry.now (fault_of result) }
     ensures file { IfOk result (λ records. file_of records ≡ bytes.entry.now) }

@@ -19,7 +19,8 @@ impl<'a> JudgedRecords<'a> {
         FileExtents::new(self).lowest_shared_byte()
     }
 
-    /// The same by sorting, where the contents don't stand in the order of their section headers.
+    /// The lowest byte that two parts of the file hold, as [`shared_byte`](JudgedRecords::shared_byte), in n log n: where the
+    /// contents don't stand in the order of their section headers they are sorted. Memory for that may be refused.
     pub fn shared_byte_by_sorting(&self, alloc: Global) -> Result<Option<u64>, OutOfMemory>
         ensures { IfOk result (λ found. IsFault (file_of self.now) (shared_fault found)) }
     {

@@ -34,7 +34,9 @@ pub trait Records {
 /// The records in the bytes of a file with this header.
 #[derive(Clone, Copy, Drop)]
 pub struct FileRecords<'a> {
+    /// The whole file.
     pub bytes: &'a [u8],
+    /// Its header, which says where the two tables are.
     pub header: &'a Ehdr,
 }
 
@@ -63,7 +65,9 @@ impl<'a> Records for FileRecords<'a> {
 /// The records in tables in memory.
 #[derive(Clone, Copy, Drop)]
 pub struct TableRecords<'a> {
+    /// The section headers, from index 0 on.
     pub sections: &'a [Shdr],
+    /// The program headers, from index 0 on.
     pub segments: &'a [Phdr],
 }
 

@@ -84,8 +84,11 @@ pub(crate) fn segment_at(bytes: &[u8], header: &Ehdr, index: u64) -> Phdr
 /// table, 0 for none.
 #[derive(Clone, Copy, Debug, PartialEq, Eq)]
 pub struct Counts {
+    /// How many section headers there are.
     pub sections: u64,
+    /// How many program headers there are.
     pub segments: u64,
+    /// The index of the section name string table, 0 for none.
     pub name_table: u64,
 }
 

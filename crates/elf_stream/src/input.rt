@@ -11,7 +11,8 @@ use std::alloc::Global;
 use std::io::Read;
 
 /// All bytes of a file, into `buf`, which is empty at the call; of a file longer than 2^30 bytes
-/// the first 2^30 + 1.
+/// the first 2^30 + 1. A failed read is [`ToolFault::Read`] with the count of bytes read before it, a growth that is refused
+/// [`ToolFault::OutOfMemory`].
 pub fn read_input<R: Read>(reader: &mut R, buf: &mut Vec<u8>) -> Result<(), ToolFault>
     requires { buf.old.items ≡ [] }
     ensures taken { Consumes (R.remaining reader.old) (R.remaining reader.new) buf.new.items }
@@ -30,7 +31,8 @@ pub fn read_input<R: Read>(reader: &mut R, buf: &mut Vec<u8>) -> Result<(), Tool
     }
 }
 
-/// The same of several files, one after the other: the next one is not begun before all of the one before it is read.
+/// All bytes of each of several files, as [`read_input`] reads them, one after the other: the next one is not begun before all of the
+/// one before it is read. The first fault ends it.
 pub fn read_inputs<R: Read>(alloc: Global, readers: &mut [R]) -> Result<Vec<Vec<u8>>, ToolFault>
     ensures ok { IfOk result (λ files.
         AreRead (map R.remaining readers.old) (map R.remaining readers.new) (map (λ f. f.items) files.items)) }

@@ -1,5 +1,6 @@
 //! Lines, word by word, at the end of a text: [`begin_line`] with the first word, a call for each
-//! further one, [`end_line`]. And the lines that all engines share.
+//! further one, [`end_line`]. And the lines that all engines share. Each call fails for want of memory alone;
+//! some of what it was to append may stand behind the text then.
 ghost use Rattle.std.specs.Prelude.{◌≡◌, ◌∷◌, ◌++◌, IfOk, OnOk, codes, string_bytes};
 ghost use Rattle.std.specs.Fmt.{decimal, signed_decimal};
 ghost use Rattle.std.specs.List.{list_all};
@@ -57,7 +58,7 @@ pub fn push_hexadecimal(text: &mut Vec<u8>, number: u64) -> Result<(), AllocErro
     text.extend_from_slice(&digits[start..])
 }
 
-/// The same of a number that may be above 64 bits.
+/// Appends a number that may be above 64 bits in hexadecimal, in lower case behind `0x`.
 pub fn push_wide_hexadecimal(text: &mut Vec<u8>, number: u128) -> Result<(), AllocError>
     ensures { OnOk result (text.new.items ≡ text.old.items ++ blank ∷ hexadecimal number) }
 {

@@ -18,16 +18,17 @@ pub trait Lines {
     // the text of line j
     ghost line: { Self → ℕ → List ℕ };
 
+    /// How many there are.
     fn count(&self) -> usize
         ensures { result ≡ count self.now };
 
-    /// Appends line `j` to the text that is to go out.
+    /// Appends line `j`, which has to be one of them, to the text that is to go out. Fails for want of memory alone.
     fn push(&self, alloc: Global, text: &mut Vec<u8>, j: usize) -> Result<(), AllocError>
         requires { j < count self.now }
         ensures { OnOk result (text.new.items ≡ text.old.items ++ line self.now j) };
 }
 
-/// Sends them all, in pieces.
+/// Sends them all, in pieces. Fails where the writer does, with how many bytes of the whole text are out, or for want of memory.
 pub fn show_lines<L: Lines, W: Write>(
     alloc: Global,
     lines: &L,
@@ -44,7 +45,7 @@ pub fn show_lines<L: Lines, W: Write>(
     Ok(())
 }
 
-/// Appends them all to a text.
+/// Appends them all to a text. Fails for want of memory alone.
 pub fn push_lines<L: Lines>(alloc: Global, lines: &L, text: &mut Vec<u8>) -> Result<(), AllocError>
     ensures { OnOk result (text.new.items
         ≡ text.old.items ++ flat_map (L.line lines.now) (range_with_len 0 (L.count lines.now))) }

@@ -13,7 +13,9 @@ const PIECE: usize = 65536;
 /// The end of a text that is yet to go out, and how many bytes of the text went out before.
 #[derive(Drop)]
 pub struct Output {
+    /// What is yet to go out.
     pub pending: Vec<u8>,
+    /// How many bytes are out.
     pub written: u64,
 }
 
@@ -29,10 +31,10 @@ impl Output {
         }
     }
 
-    /// Lets what is pending go out where it is a large piece.
+    /// Lets what is pending go out where it is a large piece. Fails as [`flush`](Output::flush) does.
     pub fn flush_piece<W: Write>(&mut self, writer: &mut W) -> Result<(), ToolFault>
         ensures buffered { IsBuffered (W.contents writer.old) (W.contents writer.new) self.old self.new [] result }
-        ensures short { OnOk result (length self.new.pending.items < 65536) }
+        ensures short { OnOk result (length self.new.pending.items < PIECE) }
     {
         if self.pending.len() < PIECE {
             return Ok(());
@@ -40,7 +42,7 @@ impl Output {
         self.flush(writer)
     }
 
-    /// Lets all that is pending go out.
+    /// Lets all that is pending go out. Where the writer fails, [`ToolFault::Write`] has the count of all bytes that are out.
     ///
     /// A text of 2^64 bytes and more would end here, before the count of what is out no longer fits:
     /// no file of at most 2^30 bytes has so long a text.

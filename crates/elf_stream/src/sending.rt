@@ -1,4 +1,5 @@
-//! A text that goes out piece by piece, without memory. Each call is told how many bytes are out, and answers how many are then.
+//! A text that goes out piece by piece, without memory. Each call is told how many bytes are out, and answers how many are then; where
+//! the writer fails, the fault has the count of all bytes that are out, and the text is not sent on.
 ghost use Rattle.std.specs.Prelude.{◌≡◌, ◌∷◌, ◌<◌, ◌≤◌, length};
 ghost use Rattle.std.specs.Fmt.{decimal};
 ghost use Rattle.std.specs.List.{flat_map, range_with_len};
@@ -84,10 +85,11 @@ pub trait Pieces {
     // text j
     ghost piece: { Self → ℕ → List ℕ };
 
+    /// How many there are.
     fn count(&self) -> usize
         ensures { result ≡ count self.now };
 
-    /// Sends text `j`.
+    /// Sends text `j`, which has to be one of them, behind `out` bytes.
     fn send<W: Write>(&self, writer: &mut W, out: u64, j: usize) -> Result<u64, WriteFault>
         requires { j < count self.now }
         ensures { Sends (W.contents writer.old) (W.contents writer.new) out (piece self.now j) result };

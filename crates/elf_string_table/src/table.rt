@@ -11,7 +11,9 @@ use std::collections::BTreeMap;
 /// order.
 #[derive(Debug, Drop)]
 pub struct StringTable {
+    /// The content of the table.
     pub bytes: Vec<u8>,
+    /// For each name the offset in the table at which it begins.
     pub places: Vec<u64>,
 }
 

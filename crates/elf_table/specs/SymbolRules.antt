@@ -63,7 +63,7 @@ symbol_name_past_end p =
 abbrev pub second_index_table : Sections → ℕ → Row
 second_index_table f i = AtEntry (count f) (IsSecondIndexTable f i) (λ j. header_at f j + SH_LINK_AT)
 
--- rule 50: the index table, section j, has not one word for each symbol
+-- rule 50: the index table, section j, has not one word of four bytes for each symbol, or its sh_entsize isn't 4
 abbrev pub wrong_index_table_size : Sections → ℕ → ℕ → Row
 wrong_index_table_size f symbols j =
     let s = section f j in

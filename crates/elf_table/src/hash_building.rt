@@ -34,6 +34,9 @@ impl From<AllocError> for HashFault {
 /// The words of a hash table of so many buckets for symbols of these names, of which there is at least one: the first stands
 /// for symbol 0, which is on no chain. They are `nbucket`, `nchain`, the word of each bucket and the chain word of each symbol;
 /// each chain has the symbols of its own bucket alone, and they ascend along it.
+///
+/// [`HashFault::NoBuckets`] where there is to be no bucket; else [`HashFault::TooMany`] for more than 2^24 names or buckets; else
+/// [`HashFault::OutOfMemory`] where the words don't fit into memory.
 pub fn build_hash(alloc: Global, names: &[&[u8]], nbucket: u32) -> Result<Vec<u32>, HashFault>
     requires { 0 < length names.now }
     ensures built { IfOk result (λ words. IsBuilt words.items (map (λ name. name.now) names.now) nbucket) }

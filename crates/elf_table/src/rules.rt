@@ -21,7 +21,7 @@ pub const MISPLACED_BINDING: u16 = 47;
 pub const SYMBOL_NAME_PAST_END: u16 = 48;
 /// A symbol table has a second index table.
 pub const SECOND_INDEX_TABLE: u16 = 49;
-/// An index table has not one word for each symbol.
+/// An index table has not one word of four bytes for each symbol, or its `sh_entsize` isn't 4.
 pub const WRONG_INDEX_TABLE_SIZE: u16 = 50;
 /// A symbol's section stands in an index table that is not there, or there is no such section.
 pub const WRONG_SYMBOL_SECTION: u16 = 51;
@@ -51,7 +51,6 @@ pub const UNCLOSED_NOTE_NAME: u16 = 62;
 pub const NO_NULL_ENTRY: u16 = 63;
 /// A string that the dynamic array names begins behind the string table.
 pub const DYNAMIC_STRING_PAST_END: u16 = 64;
-// The next three are judged by judge_words.
 /// A hash table is not as long as its buckets and chains are.
 pub const WRONG_HASH_SIZE: u16 = 65;
 /// A hash table has no bucket, or not one chain word for each symbol.

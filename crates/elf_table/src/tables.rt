@@ -1,4 +1,4 @@
-//! The tables of an image, each judged once.
+//! The tables of an image, each judged once (gABI chapter 4, Sections: sh_type).
 ghost use Rattle.std.specs.Prelude.{◌≡◌, ◌<◌, None, Some, IfOk, get_or, length};
 ghost use Rattle.elf_rules.specs.Broken.{fault_of};
 ghost use Rattle.elf_rules.specs.Rows.{FirstIn};

@@ -17,6 +17,7 @@ pub enum OpenFault {
 
 /// What opens files by their names.
 pub trait Opener {
+    /// What an open file is read by.
     type Input: Read + Drop;
 
     // The bytes of the file of this name, where they are known.
