@@ -13,11 +13,11 @@ use Rattle.elf_stream.specs.declared.fault.Refusal.TheVariants.{File, Link, TooL
 use Rattle.elf_stream.specs.declared.fault.ToolFault.{ToolFault}
 use Rattle.elf_stream.specs.declared.fault.Verdict.{Verdict}
 use Rattle.elf_stream.specs.declared.fault.Verdict.TheVariants.{Done, Refused}
-use Rattle.elf_tool.specs.Command.{check, elfmap, map_command, rewrite, show}
+use Rattle.elf_command_line.specs.Command.{check, elfmap, map_command, rewrite, show}
 use Rattle.elf_tool.specs.Program.{EndsRun, code_of, ending_of}
 use Rattle.elf_tool.specs.declared.program.Status.{Status}
-use Rattle.elf_tool.specs.declared.words.Request.TheVariants.{Check, Show, Rewrite, Map}
-use Rattle.elf_tool.specs.declared.words.WordsFault.TheVariants as words_fault
+use Rattle.elf_command_line.specs.declared.words.Request.TheVariants.{Check, Show, Rewrite, Map}
+use Rattle.elf_command_line.specs.declared.words.WordsFault.TheVariants as words_fault
 
 -- some rule is broken
 abbrev pub IsBroken : List ℕ → Type 0

@@ -1,5 +1,2 @@
--- Lemmas on the program's command.
-pub mod Entered
-pub mod Numbers
+-- Lemmas on the files that the program opens.
 pub mod Opened
-pub mod Requests

@@ -10,7 +10,7 @@ use Rattle.elf_link.specs.declared.options.Options.{Options}
 use Rattle.elf_relocation.specs.declared.rule.RelocRule.{RelocRule}
 use Rattle.elf_tool.specs.Opener.{AreOpened, IsOpenFault, IsUnopened}
 use Rattle.elf_tool.specs.Rules.{GivesNoRules, GivesRules}
-use Rattle.elf_tool.specs.Words.{IsAskedBy, IsRefusedBy}
+use Rattle.elf_command_line.specs.Words.{IsAskedBy, IsRefusedBy}
 use Rattle.elf_stream.specs.declared.fault.ToolFault.{ToolFault}
 use Rattle.elf_stream.specs.declared.fault.Verdict.{Verdict}
 use Rattle.elf_stream.specs.declared.fault.Verdict.TheVariants as verdict
@@ -20,10 +20,10 @@ use Rattle.elf_tool.specs.declared.program.Status.{Status}
 use Rattle.elf_tool.specs.declared.program.Status.TheVariants.{Done, Refused, Usage, Failed}
 use Rattle.elf_tool.specs.declared.rules.NoRules.{NoRules}
 use Rattle.elf_tool.specs.declared.rules.NoRules.TheVariants as no_rules
-use Rattle.elf_tool.specs.declared.words.Request.{Request}
-use Rattle.elf_tool.specs.declared.words.Request.TheVariants.{Check, Show, Rewrite, Map}
-use Rattle.elf_tool.specs.declared.words.WordsFault.{WordsFault}
-use Rattle.elf_tool.specs.declared.words.WordsFault.TheVariants.{Words, TooManyFiles, BadNumber, OutOfMemory}
+use Rattle.elf_command_line.specs.declared.words.Request.{Request}
+use Rattle.elf_command_line.specs.declared.words.Request.TheVariants.{Check, Show, Rewrite, Map}
+use Rattle.elf_command_line.specs.declared.words.WordsFault.{WordsFault}
+use Rattle.elf_command_line.specs.declared.words.WordsFault.TheVariants.{Words, TooManyFiles, BadNumber, OutOfMemory}
 
 -- the exit status, as a number
 abbrev pub code_of : Status → ℕ

@@ -1,5 +1,5 @@
-//! The program `elfmap` without its surroundings: its words, the files that it opens, and the whole
-//! of it as one call, [`run`], over the engines.
+//! The program `elfmap` without its surroundings: the files that it opens, and the whole of it as
+//! one call, [`run`], over its words and the engines.
 //!
 //! ```
 //! // The first word is the program's name; `files` opens names, `out` and `err` take what is written.
@@ -8,15 +8,13 @@
 //! ```
 #![tactic(auto)]
 
-mod command;
 mod machine;
-mod number;
 mod opener;
 mod opening;
 mod program;
 mod rules;
-mod words;
 
+pub use elf_command_line::{Request, WordsFault, read_words};
 pub use elf_engine::{check, rewrite, show};
 pub use elf_map_engine::{Options, map};
 pub use elf_relocation::{Form, Range, RelocRule, Width};
@@ -25,4 +23,3 @@ pub use elf_stream::{Refusal, ToolFault, Verdict};
 pub use machine::run_on_machine;
 pub use opener::{MachineFiles, OpenFault, Opener};
 pub use program::{Status, refuse_words, run};
-pub use words::{Request, WordsFault, read_words};

@@ -11,7 +11,7 @@ ghost use Rattle.elf_tool.specs.declared.program.Status.{Status as Ending};
 use crate::opener::{OpenFault, Opener};
 use crate::opening::open_all;
 use crate::rules::{NoRules, rules_of};
-use crate::words::{Request, WordsFault, read_words};
+use elf_command_line::{Request, WordsFault, read_words};
 use elf_engine::{check, rewrite, show};
 use elf_map_engine::{Options, map};
 use elf_relocation::RelocRule;

@@ -1,5 +1,5 @@
 use Rattle.std.proofs.Common.{None, Some, inl}
-use Rattle.elf_tool.specs.declared.words.Request.TheVariants.{Map}
+use Rattle.elf_command_line.specs.declared.words.Request.TheVariants.{Map}
 use Rattle.elf_tool.proofs.program.ending.Goals as goal
 
 pub returns-in-None : goal.returns-in-None

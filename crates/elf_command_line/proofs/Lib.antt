@@ -1,0 +1,4 @@
+-- Lemmas on the words of the command line.
+pub mod Entered
+pub mod Numbers
+pub mod Requests
