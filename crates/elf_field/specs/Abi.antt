@@ -1,6 +1,6 @@
 -- Numbers of the gABI by their names there, chapters 4 (Object Files) and 5 (Program Loading and Dynamic Linking).
 -- Where the gABI has no name of its own, a size is .._SIZE and the offset of a field in its record .._AT, in bytes.
-use Rattle.std.specs.Prelude.{ℕ, ℤ, pos, List, [], ◌∷◌}
+use Rattle.std.specs.Prelude.{ℕ, ℤ, pos, Bool, true, false, List, [], ◌∷◌}
 
 -- ---- e_ident: the identification (chapter 4, ELF Identification)
 
@@ -394,6 +394,11 @@ REL_SIZE = 16
 -- size of a relocation with an addend
 abbrev pub RELA_SIZE : ℕ
 RELA_SIZE = 24
+
+-- size of a relocation, with an addend or without
+abbrev pub relocation_size : Bool → ℕ
+relocation_size true = RELA_SIZE
+relocation_size false = REL_SIZE
 
 -- offset of r_info, in either
 abbrev pub R_INFO_AT : ℕ

@@ -1,10 +1,10 @@
 -- Rules 53 and 54: the target and the symbols of a relocation section. (gABI chapter 4, Relocation; Sections: sh_info.)
 use Rattle.std.specs.Prelude.{ℕ, ◌+◌, ◌*◌, ◌≤◌, List, [], ◌∷◌, ◌++◌}
-use Rattle.elf_field.specs.Abi.{R_INFO_AT, SH_INFO_AT}
+use Rattle.elf_field.specs.Abi.{R_INFO_AT, SH_INFO_AT, relocation_size}
 use Rattle.elf_rules.specs.Rows.{AtEntry, Row, Ruled, When, rule}
 use Rattle.elf_table.specs.declared.table_kind.TableKind.TheVariants.{RelocationTable}
 use Rattle.elf_table.specs.OwnRules.{own_rules}
-use Rattle.elf_table.specs.Relocations.{has_addends, relocation_count, relocation_in, relocation_size}
+use Rattle.elf_table.specs.Relocations.{has_addends, relocation_count, relocation_in}
 use Rattle.elf_table.specs.Sections.{Sections, content, count, header_at, order, section}
 use Rattle.elf_table.specs.SymbolRules.{entry_count, symbol_table_rules}
 

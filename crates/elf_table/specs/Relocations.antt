@@ -12,11 +12,7 @@ use Rattle.elf_table.specs.Sections.{Sections, content, order, section}
 abbrev pub has_addends : ℕ → Bool
 has_addends type = type == SHT_RELA
 
--- the size of a relocation, and how many there are in a content
-abbrev pub relocation_size : Bool → ℕ
-relocation_size true = RELA_SIZE
-relocation_size false = REL_SIZE
-
+-- how many relocations there are in a content
 abbrev pub relocation_count : Bool → List ℕ → ℕ
 relocation_count true table = length table / RELA_SIZE
 relocation_count false table = length table / REL_SIZE

@@ -1,7 +1,8 @@
 //! A relocation (gABI chapter 4, Relocation).
 ghost use Rattle.std.specs.Prelude.{◌≡◌, ◌<◌, ◌≤◌, ◌+◌, ◌*◌, length};
+ghost use Rattle.elf_field.specs.Abi.{relocation_size};
 ghost use Rattle.elf_rules.specs.HeaderRules.{MAX_LEN};
-ghost use Rattle.elf_table.specs.Relocations.{relocation_count as relocation_count_of, relocation_in, relocation_size};
+ghost use Rattle.elf_table.specs.Relocations.{relocation_count as relocation_count_of, relocation_in};
 
 use elf_field::abi::*;
 use elf_field::{Order, Rel, Rela, get_at};

@@ -1,12 +1,13 @@
 //! Rules 53 and 54: the target and the symbols of a relocation section (gABI chapter 4, Relocation; Sections: sh_info).
 ghost use Rattle.std.specs.Prelude.{◌≡◌, ◌<◌, ◌≤◌, ◌+◌, ◌*◌, length};
 ghost use Rattle.elf_extent.specs.Least.{IsLowest};
+ghost use Rattle.elf_field.specs.Abi.{relocation_size};
 ghost use Rattle.elf_rules.specs.Broken.{fault_of};
 ghost use Rattle.elf_rules.specs.HeaderRules.{MAX_LEN};
 ghost use Rattle.elf_rules.specs.Rows.{AtEntry, FirstIn};
 ghost use Rattle.elf_table.specs.LinkedVerdicts.{AreKnown};
 ghost use Rattle.elf_table.specs.RelocationRules.{relocation_rules, relocation_section_rules};
-ghost use Rattle.elf_table.specs.Relocations.{relocation_count as relocation_count_of, relocation_in, relocation_size};
+ghost use Rattle.elf_table.specs.Relocations.{relocation_count as relocation_count_of, relocation_in};
 ghost use Rattle.elf_table.specs.Sections.{section, sections_of};
 
 use crate::own_rules::judge_own_rules;
