@@ -1,9 +1,9 @@
 -- What `rewrite` makes of a file: its object, in canonical layout.
 use Rattle.std.specs.Prelude.{◌≡◌, ◌⊎◌, ◌<◌, ◌≤◌, ℕ, List, [], length, None, Option, Some, Result}
 use Rattle.elf_image.specs.Image.{ImageValue, IsImage}
-use Rattle.elf_object.specs.Denotes.{Denotes}
-use Rattle.elf_object.specs.FileRules.{file_rules}
-use Rattle.elf_object.specs.Laid.{Laid}
+use Rattle.elf_object_file.specs.Denotes.{Denotes}
+use Rattle.elf_object_file.specs.FileRules.{file_rules}
+use Rattle.elf_object_writer.specs.Laid.{Laid}
 use Rattle.elf_object.specs.Object.{ObjectValue}
 use Rattle.elf_rules.specs.HeaderRules.{MAX_LEN}
 use Rattle.elf_rules.specs.ImageRules.{IsFault}

@@ -10,7 +10,6 @@
 #![tactic(auto)]
 
 mod engine;
-mod laws;
 mod show_lines;
 mod table_lines;
 
@@ -18,4 +17,3 @@ pub use elf_stream::{Refusal, ToolFault, Verdict};
 pub use engine::check::check;
 pub use engine::rewrite::rewrite;
 pub use engine::show::show;
-pub use laws::rewrite_again;

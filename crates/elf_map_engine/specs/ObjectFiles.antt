@@ -1,8 +1,8 @@
 -- What files are as objects.
 use Rattle.std.specs.Prelude.{ℕ, zero, suc, ◌⊎◌, List, [], ◌∷◌, None, Some}
 use Rattle.elf_image.specs.Image.{ImageValue, IsImage}
-use Rattle.elf_object.specs.Denotes.{Denotes}
-use Rattle.elf_object.specs.FileRules.{file_rules}
+use Rattle.elf_object_file.specs.Denotes.{Denotes}
+use Rattle.elf_object_file.specs.FileRules.{file_rules}
 use Rattle.elf_object.specs.Object.{ObjectValue}
 use Rattle.elf_image.specs.declared.fault.Fault.{Fault}
 use Rattle.elf_image.specs.declared.fault.Fault.TheVariants as fault

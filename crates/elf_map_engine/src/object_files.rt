@@ -3,7 +3,8 @@ ghost use Rattle.std.specs.Prelude.{MatchResult, map};
 ghost use Rattle.elf_map_engine.specs.ObjectFiles.{AreObjectFiles, IsFileFault, IsObjectFile, IsObjectFault};
 
 use elf_image::{Fault, parse};
-use elf_object::{Object, object_of};
+use elf_object::Object;
+use elf_object_file::object_of;
 use std::alloc::Global;
 
 /// Why files are not all objects.

@@ -1,8 +1,7 @@
 //! Files for the tests, by their sections and symbols.
 use elf_field::Order;
-use elf_object::{
-    Body, Info, Object, ObjectParts, Place, Relocation, Section, Symbol, write_object,
-};
+use elf_object::{Body, Info, Object, ObjectParts, Place, Relocation, Section, Symbol};
+use elf_object_writer::write_object;
 use elf_tool::{Options, ToolFault, Verdict, map};
 use std::alloc::Global;
 use std::test::Fail;

@@ -3,10 +3,9 @@ use Rattle.std.proofs.Common.{◌≡◌, ◌≢◌, ◌<◌, ◌≤◌, ℕ, Boo
 use Rattle.std.specs.Prelude.{slice_index, IfSome, pos}
 use Rattle.std.proofs.lemmas.Bool.{cases_order}
 use Rattle.std.proofs.lemmas.List.{get_or_default}
-use Rattle.elf_field.specs.Abi.{WORD_SIZE}
+use Rattle.elf_field.specs.Abi.{WORD_SIZE, relocation_size}
 use Rattle.elf_rules.specs.Rows.{FirstIn}
 use Rattle.elf_rules.proofs.Public.{above, alignment, equal}
-use Rattle.elf_table.specs.Relocations.{relocation_size}
 use Rattle.elf_object.specs.declared.relocation.Relocation.{Relocation}
 use Rattle.elf_object.specs.declared.section.Info.{Info}
 use Rattle.elf_object.specs.declared.section.Info.TheVariants.{Number, Section}
@@ -17,12 +16,10 @@ use Rattle.elf_object.specs.ObjectRules.{IsObject}
 use Rattle.elf_object.specs.Positions.{IsPast}
 use Rattle.elf_object.specs.SectionRules.{HasLinkOrInfo, HasWrongAlignment, HasWrongField, HasWrongPosition, HasWrongReference, IsAgainstFlag, IsWrongBitsType, section_rules}
 use Rattle.elf_object.specs.SymbolRules.{IsLocal, IsMisplacedLocal, symbol_rules}
-use Rattle.elf_object.proofs.DenotedFields.{aligned}
+use Rattle.elf_object.proofs.RightFields.{aligned, no_info, no_link, zero_addend}
 use Rattle.elf_object.proofs.Elements.{none_of_any}
 use Rattle.elf_object.proofs.ObjectRuleLemmas.{found_in_symbols}
 use Rattle.elf_object.proofs.SoundObject as sound
-use Rattle.elf_object.proofs.WrittenBodies.{zero_addend}
-use Rattle.elf_object.proofs.WrittenReferences as written
 
 -- ---- what isn't broken is kept
 
@@ -76,8 +73,8 @@ follows flags (Section position) never = never
 
 entry_fields : (s : SectionValue) (size : ℕ) → (HasLinkOrInfo s → ⊥) → (s.entsize ≢ size → ⊥) → HasEntryFields s size
 entry_fields s size alone sized = record {
-  no_link = sym (written.no_link s.link (λ other. alone (inl other)));
-  no_info = sym (written.no_info s.info (λ other. alone (inr other)));
+  no_link = sym (no_link s.link (λ other. alone (inl other)));
+  no_info = sym (no_info s.info (λ other. alone (inr other)));
   entry_size = equal _ _ sized;
 }
 

@@ -6,9 +6,8 @@ use Rattle.std.proofs.Math.Nat.{pow-suc}
 use Rattle.std.proofs.lemmas.Bool.{cases_eq, cases_lt}
 use Rattle.std.proofs.lemmas.List.{get_or_default}
 use Rattle.elf_extent.specs.Least.{IsLowest, Never}
-use Rattle.elf_field.specs.Abi.{SHF_GROUP, SHF_INFO_LINK, STB_LOCAL, WORD_SIZE}
+use Rattle.elf_field.specs.Abi.{SHF_GROUP, SHF_INFO_LINK, STB_LOCAL, WORD_SIZE, relocation_size}
 use Rattle.elf_rules.specs.Rows.{AtEntry, FirstIn, Ruled}
-use Rattle.elf_table.specs.Relocations.{relocation_size}
 use Rattle.elf_object.specs.declared.relocation.Relocation.{Relocation}
 use Rattle.elf_object.specs.declared.section.Info.{Info}
 use Rattle.elf_object.specs.declared.section.Info.TheVariants.{Number, Section}

@@ -2,9 +2,8 @@
 -- (gABI chapter 4, Sections: sh_name, sh_type, sh_flags, sh_addr, sh_addralign, sh_link, sh_info, sh_entsize; Section Groups;
 -- Symbol Table: st_name, st_shndx, st_info; Relocation.)
 use Rattle.std.specs.Prelude.{◌≡◌, ℕ, ◌%◌, ◌<◌, true, false, IfSome, None, List, length, get_or, pos, slice_index, Contains}
-use Rattle.elf_field.specs.Abi.{SHF_GROUP, SHF_INFO_LINK, WORD_SIZE}
+use Rattle.elf_field.specs.Abi.{SHF_GROUP, SHF_INFO_LINK, WORD_SIZE, relocation_size}
 use Rattle.elf_rules.specs.KeepsRules.{IsAlignment}
-use Rattle.elf_table.specs.Relocations.{relocation_size}
 use Rattle.elf_object.specs.declared.relocation.Relocation.{Relocation}
 use Rattle.elf_object.specs.declared.section.Info.{Info}
 use Rattle.elf_object.specs.declared.section.Info.TheVariants.{Number, Section}

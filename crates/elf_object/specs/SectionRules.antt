@@ -1,10 +1,9 @@
 -- Rules 1 to 5 of an object: what each section says by itself, and whether what it names is there.
 -- (gABI chapter 4, Sections: sh_type, sh_flags, sh_link, sh_info, sh_addralign, sh_entsize; Relocation.)
 use Rattle.std.specs.Prelude.{◌≡◌, ◌≢◌, ℕ, ◌%◌, ◌<◌, ◌≤◌, ◌⊎◌, false, None, List, [], ◌∷◌, length, pos, Any, Contains}
-use Rattle.elf_field.specs.Abi.{SHF_INFO_LINK, SHT_DYNAMIC, SHT_DYNSYM, SHT_GROUP, SHT_HASH, SHT_NOBITS, SHT_NULL, SHT_REL, SHT_RELA, SHT_SHLIB, SHT_SYMTAB, SHT_SYMTAB_SHNDX, WORD_SIZE}
+use Rattle.elf_field.specs.Abi.{SHF_INFO_LINK, SHT_DYNAMIC, SHT_DYNSYM, SHT_GROUP, SHT_HASH, SHT_NOBITS, SHT_NULL, SHT_REL, SHT_RELA, SHT_SHLIB, SHT_SYMTAB, SHT_SYMTAB_SHNDX, WORD_SIZE, relocation_size}
 use Rattle.elf_rules.specs.Rows.{AtEntry, Row, Ruled, rule}
 use Rattle.elf_rules.specs.SectionRules.{IsWrongAlignment}
-use Rattle.elf_table.specs.Relocations.{relocation_size}
 use Rattle.elf_object.specs.declared.section.Info.{Info}
 use Rattle.elf_object.specs.declared.section.Info.TheVariants.{Number, Section}
 use Rattle.elf_object.specs.declared.section_rules.SectionRule.{SectionRule}

@@ -49,8 +49,8 @@ impl<'a> Object<'a> {
         Ok(Object { parts })
     }
 
-    /// The object of these parts, which break no rule.
-    pub(crate) fn of_kept(parts: ObjectParts<'a>) -> Object<'a>
+    /// The object of these parts, of which the caller knows that they break no rule.
+    pub fn of_kept(parts: ObjectParts<'a>) -> Object<'a>
         requires { IsObject (value_of parts) }
         ensures { result ≡ value_of parts.entry }
     {

@@ -2,7 +2,8 @@
 use crate::writers::{Counter, Shelf, taking};
 use crate::written::{object, one_section, one_section_file, section};
 use elf_field::Order;
-use elf_object::{Body, ObjectWriteFault, write_object};
+use elf_object::Body;
+use elf_object_writer::{ObjectWriteFault, write_object};
 use std::alloc::Global;
 use std::io::ErrorKind;
 use std::process::Abort;

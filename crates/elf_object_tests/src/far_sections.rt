@@ -2,7 +2,8 @@
 use crate::writers::taking;
 use crate::written::{function, object, section};
 use elf_field::Order;
-use elf_object::{Body, Place, Symbol, write_object};
+use elf_object::{Body, Place, Symbol};
+use elf_object_writer::write_object;
 use std::alloc::Global;
 use std::process::Abort;
 use std::test::Fail;

@@ -1,7 +1,8 @@
 //! An object file of a group with one member, a section beside it, relocations and a symbol table.
 use elf_field::Order;
 use elf_image::{Fault, parse};
-use elf_object::{Body, Place, Relocation, object_of};
+use elf_object::{Body, Place, Relocation};
+use elf_object_file::object_of;
 use elf_test_files::{Field, set, set_header};
 use std::alloc::Global;
 use std::test::Fail;

@@ -1,6 +1,7 @@
 //! Where the parts of an object stand in its file.
 use elf_field::Order;
-use elf_object::{Body, Info, LayoutFault, Object, ObjectParts, Section, lay_out};
+use elf_object::{Body, Info, Object, ObjectParts, Section};
+use elf_object_writer::{LayoutFault, lay_out};
 use std::alloc::Global;
 use std::process::Abort;
 use std::test::Fail;

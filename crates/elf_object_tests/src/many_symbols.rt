@@ -2,7 +2,8 @@
 use crate::writers::taking;
 use crate::written::{function, object};
 use elf_field::Order;
-use elf_object::{Place, Symbol, write_object};
+use elf_object::{Place, Symbol};
+use elf_object_writer::write_object;
 use std::alloc::{AllocError, Global};
 use std::fmt::Write;
 use std::process::Abort;

@@ -1,9 +1,8 @@
 //! Objects as they are written, byte by byte: what stands in their files is given field by field.
 use crate::writers::taking;
 use elf_field::Order;
-use elf_object::{
-    Body, Info, Object, ObjectParts, Place, Relocation, Section, Symbol, write_object,
-};
+use elf_object::{Body, Info, Object, ObjectParts, Place, Relocation, Section, Symbol};
+use elf_object_writer::write_object;
 use elf_test_files::{Field, set, set_header};
 use std::alloc::{AllocError, Global};
 use std::process::Abort;

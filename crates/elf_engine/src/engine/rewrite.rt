@@ -5,7 +5,9 @@ ghost use Rattle.elf_engine.specs.Rewrite.{IsRewritten, ObjectSays, SectionsSay}
 ghost use Rattle.elf_table.specs.Sections.{sections_of};
 
 use elf_image::{Fault, Image, parse};
-use elf_object::{Object, ObjectWriteFault, object_of, write_object};
+use elf_object::Object;
+use elf_object_file::object_of;
+use elf_object_writer::{ObjectWriteFault, write_object};
 use elf_stream::{Refusal, ToolFault, Verdict, read_input};
 use std::alloc::Global;
 use std::io::{Read, Write};

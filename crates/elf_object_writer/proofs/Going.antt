@@ -1,0 +1,283 @@
+-- The parts of an object's canonical layout, as they go out one by one.
+use Rattle.std.proofs.Common.{◌≡◌, ◌<◌, ◌≤◌, ◌+◌, ◌-◌, ◌*◌, ◌^◌, ℕ, Option, List, [], ◌∷◌, ◌++◌, length, map, take, drop, get_or, refl, sym, ap, subst, ◌∙◌, append_assoc, arith, length-append}
+use Rattle.std.specs.Prelude.{replicate, Result, Ok, Err}
+use Rattle.std.specs.Io.KnownBytes.{Appends}
+use Rattle.std.specs.List.{flat_map}
+use Rattle.std.proofs.Math.ListN.{drop_of_length-le}
+use Rattle.std.proofs.KnownBytes.{Appends-trans}
+use Rattle.std.proofs.lemmas.List.{append-nil, drop_more, get_or-append-add, get_or-map, get_or_append_left, length-map, length-replicate, take-append-le}
+use Rattle.elf_field.specs.Ehdr.{ehdr_bytes}
+use Rattle.elf_field.specs.EhdrLaws.{ehdr_laws}
+use Rattle.elf_field.specs.Shdr.{shdr_bytes}
+use Rattle.elf_field.specs.ShdrLaws.{shdr_laws}
+use Rattle.elf_field.specs.RecordTableLaws.{length-table}
+use Rattle.elf_field.specs.declared.order.Order.{Order}
+use Rattle.elf_field.specs.declared.order.Order.TheVariants.{Little, Big}
+use Rattle.elf_extent.specs.Place.{Fits}
+use Rattle.elf_image.specs.declared.fault.WriteFault.{WriteFault}
+use Rattle.elf_image.specs.FileParts.{spread, unaligned}
+use Rattle.elf_image.specs.RelocatableFile.{all_headers, offsets, relocatable_bytes}
+use Rattle.elf_image.proofs.Public.{went_err}
+use Rattle.elf_rules.specs.Tables.{order_of}
+use Rattle.elf_string_table.specs.StringTable.{name_place}
+use Rattle.elf_object_writer.specs.Laid.{identification, layout_bytes, section_headers}
+use Rattle.elf_object_writer.specs.LayoutView.{IsLayoutOf, LayoutValue}
+use Rattle.elf_object.specs.Object.{ObjectValue}
+use Rattle.elf_object_writer.specs.ObjectWriting.{WritesBehind, header_table}
+use Rattle.elf_object_writer.specs.PlacedObject.{IsPlaced, IsSectionAt, PlacedValue, plain_section}
+use Rattle.elf_object_writer.specs.PlainSections.{PlainSection, name_table_at, plain_sections, section_names}
+use Rattle.elf_object_writer.specs.declared.placed_section.PlacedSection.{PlacedSection}
+use Rattle.elf_object_writer.specs.declared.placed_section.PlacedSection.TheVariants.{Names}
+use Rattle.elf_object_writer.proofs.CanonicalLayout.{contents_of, header_at, headers_at, layout_order, offsets_are}
+use Rattle.elf_object_writer.proofs.HeaderTable.{length-headers}
+use Rattle.elf_object_writer.proofs.ShortLayout.{content_end}
+
+-- ---- bytes that go out part by part
+
+-- the bytes that are out, and the parts that are still to come at their places
+pub record IsGoing (a b : Option (List ℕ)) (whole : List ℕ) (at : ℕ) (q : List ℕ) (ps : List (List ℕ)) : Type 0 where
+  pub out : List ℕ
+  pub long : length out ≡ at
+  pub sent : Appends a b out
+  pub rest : whole ≡ out ++ spread at q ps
+  pub fits : Fits (map unaligned ps) at q
+
+one_sent : (a b c : Option (List ℕ)) (whole : List ℕ) (at end x : ℕ) (q : List ℕ) (p : List ℕ) (ps : List (List ℕ)) → IsGoing a b whole at (x ∷ q) (p ∷ ps) →
+    (end ≡ at + length (replicate (x - at) 0 ++ p)) × Appends b c (replicate (x - at) 0 ++ p) → IsGoing a c whole end q ps
+one_sent a b c whole at end x q p ps going went =
+    let zeros : List ℕ = replicate (x - at) 0 in
+    let both = length-append zeros p in
+    let count : length zeros ≡ x - at = length-replicate (x - at) 0 in
+    let above = going.fits.1 in
+    let here : x + length p ≡ end = (let e = went.0 in omega arith) in
+    let long = length-append going.out (zeros ++ p) in
+    let before = going.long in
+    let ended = went.0 in
+    record {
+      out = going.out ++ (zeros ++ p);
+      long = omega arith;
+      sent = Appends-trans a b c going.out (zeros ++ p) going.sent went.1;
+      rest = going.rest ∙ ap (λ (s : List ℕ). going.out ++ s) (sym (append_assoc zeros p (spread (x + length p) q ps)))
+          ∙ sym (append_assoc going.out (zeros ++ p) (spread (x + length p) q ps)) ∙ ap (λ (n : ℕ). (going.out ++ (zeros ++ p)) ++ spread n q ps) here;
+      fits = subst (λ (n : ℕ). Fits (map unaligned ps) n q) here going.fits.2;
+    }
+
+one_cut : (a b c : Option (List ℕ)) (whole : List ℕ) (at written x : ℕ) (q : List ℕ) (p : List ℕ) (ps : List (List ℕ)) → IsGoing a b whole at (x ∷ q) (p ∷ ps) →
+    (at ≤ written) × (written < at + length (replicate (x - at) 0 ++ p)) × Appends b c (take (written - at) (replicate (x - at) 0 ++ p)) →
+    (written < length whole) × Appends a c (take written whole)
+one_cut a b c whole at written x q p ps going failed =
+    let zeros : List ℕ = replicate (x - at) 0 in
+    let rest : List ℕ = spread (x + length p) q ps in
+    let whole_is : whole ≡ going.out ++ ((zeros ++ p) ++ rest) = going.rest ∙ ap (λ (s : List ℕ). going.out ++ s) (sym (append_assoc zeros p rest)) in
+    let above = failed.0 in
+    let below = failed.1 in
+    let sum : at + (written - at) ≡ written = omega arith in
+    let all = went_err a b c at (written - at) going.out (zeros ++ p) rest going.long going.sent ((let n : written - at < length (zeros ++ p) = omega arith in n), failed.2) in
+    subst (λ (s : List ℕ). (written < length s) × Appends a c (take written s)) (sym whole_is)
+    (subst (λ (n : ℕ). (n < length (going.out ++ ((zeros ++ p) ++ rest))) × Appends a c (take n (going.out ++ ((zeros ++ p) ++ rest)))) sum all)
+
+-- ---- part k of a list
+
+moved : (a b : Option (List ℕ)) (whole : List ℕ) (at : ℕ) (q : List ℕ) (ps : List (List ℕ)) (k : ℕ) → k < length q → k < length ps → IsGoing a b whole at (drop k q) (drop k ps) →
+    IsGoing a b whole at (get_or q k 0 ∷ drop (k + 1) q) (get_or ps k [] ∷ drop (k + 1) ps)
+moved a b whole at q ps k in_q in_ps going =
+    subst (λ (r : List ℕ). IsGoing a b whole at r (get_or ps k [] ∷ drop (k + 1) ps)) (drop_more q k 0 in_q)
+    (subst (λ (rs : List (List ℕ)). IsGoing a b whole at (drop k q) rs) (drop_more ps k [] in_ps) going)
+
+pub part_sent : (a b c : Option (List ℕ)) (whole : List ℕ) (at end : ℕ) (q : List ℕ) (ps : List (List ℕ)) (k : ℕ) → k < length q → k < length ps →
+    IsGoing a b whole at (drop k q) (drop k ps) → WritesBehind at b c (replicate (get_or q k 0 - at) 0 ++ get_or ps k []) (Ok end) →
+    IsGoing a c whole end (drop (k + 1) q) (drop (k + 1) ps)
+part_sent a b c whole at end q ps k in_q in_ps going went =
+    one_sent a b c whole at end (get_or q k 0) (drop (k + 1) q) (get_or ps k []) (drop (k + 1) ps) (moved a b whole at q ps k in_q in_ps going) went
+
+pub part_cut : (a b c : Option (List ℕ)) (whole : List ℕ) (at : ℕ) (fault : WriteFault) (q : List ℕ) (ps : List (List ℕ)) (k : ℕ) → k < length q → k < length ps →
+    IsGoing a b whole at (drop k q) (drop k ps) → WritesBehind at b c (replicate (get_or q k 0 - at) 0 ++ get_or ps k []) (Err fault) →
+    (fault.written < length whole) × Appends a c (take fault.written whole)
+part_cut a b c whole at fault q ps k in_q in_ps going failed =
+    one_cut a b c whole at fault.written (get_or q k 0) (drop (k + 1) q) (get_or ps k []) (drop (k + 1) ps) (moved a b whole at q ps k in_q in_ps going) failed
+
+pub part_place : (a b : Option (List ℕ)) (whole : List ℕ) (at : ℕ) (q : List ℕ) (ps : List (List ℕ)) (k : ℕ) → k < length q → k < length ps →
+    IsGoing a b whole at (drop k q) (drop k ps) → at ≤ get_or q k 0
+part_place a b whole at q ps k in_q in_ps going = (moved a b whole at q ps k in_q in_ps going).fits.1
+
+-- nothing is to come
+pub all_sent : (a b : Option (List ℕ)) (whole : List ℕ) (at : ℕ) (q : List ℕ) → IsGoing a b whole at q [] → Appends a b whole
+all_sent a b whole at [] going = subst (Appends a b) (sym (going.rest ∙ append-nil going.out)) going.sent
+all_sent a b whole at (x ∷ q) going = absurd going.fits
+
+-- ---- the parts of the layout
+
+order_read : (o : ObjectValue) → order_of (identification o) ≡ o.order
+unfolding order_of
+order_read o = which o.order
+  where
+    which : (order : Order) → order_of (identification (record o { order = order })) ≡ order
+    which Little = refl
+    which Big = refl
+
+-- the contents and the section header table
+abbrev pub laid_parts : ObjectValue → List ℕ → List (List ℕ)
+laid_parts o places = contents_of o ++ (header_table o places ∷ [])
+
+length-parts : (o : ObjectValue) (places : List ℕ) → length (laid_parts o places) ≡ length (plain_sections o) + 1
+length-parts o places =
+    let both = length-append (contents_of o) (header_table o places ∷ []) in
+    let same = length-map (plain_sections o) (λ (s : PlainSection). s.content) in
+    omega arith
+
+content_at : (o : ObjectValue) (places : List ℕ) (k : ℕ) (d : PlainSection) → k < length (plain_sections o) → get_or (laid_parts o places) k [] ≡ (get_or (plain_sections o) k d).content
+content_at o places k d lt =
+    let same = length-map (plain_sections o) (λ (s : PlainSection). s.content) in
+    get_or_append_left (contents_of o) (header_table o places ∷ []) [] k (omega arith) ∙ get_or-map (λ (s : PlainSection). s.content) (plain_sections o) k d [] lt
+
+table_at : (o : ObjectValue) (places : List ℕ) → get_or (laid_parts o places) (length (plain_sections o)) [] ≡ header_table o places
+table_at o places =
+    let same = length-map (plain_sections o) (λ (s : PlainSection). s.content) in
+    let e : length (plain_sections o) ≡ length (contents_of o) + 0 = omega arith in
+    ap (λ (k : ℕ). get_or (laid_parts o places) k []) e ∙ get_or-append-add (contents_of o) (header_table o places ∷ []) 0 []
+
+-- the header's bytes
+unfoldable pub header_bytes : ObjectValue → List ℕ → List ℕ
+header_bytes o places = ehdr_bytes o.order (header_at o places)
+
+pub length-header_bytes : (o : ObjectValue) (places : List ℕ) → length (header_bytes o places) ≡ 64
+unfolding header_bytes
+length-header_bytes o places = ehdr_laws.length_is o.order (header_at o places)
+
+places_are : (o : ObjectValue) (layout : LayoutValue) → IsLayoutOf o layout → offsets (header_at o layout.places) (headers_at o layout.places) ≡ layout.places
+places_are o layout laid = offsets_are (name_place (section_names o)) (plain_sections o) layout.places (let count = laid.count in omega arith)
+
+layout_is : (o : ObjectValue) (layout : LayoutValue) → IsLayoutOf o layout →
+    layout_bytes o layout.places ≡ header_bytes o layout.places ++ spread 64 layout.places (laid_parts o layout.places)
+unfolding layout_bytes relocatable_bytes header_table header_bytes
+layout_is o layout laid =
+    let q = layout.places in
+    let h = header_at o q in
+    let ss = headers_at o q in
+    let cs = contents_of o in
+    let parts : Order → List (List ℕ) = λ order. cs ++ (flat_map (shdr_bytes order) (all_headers ss (name_table_at o)) ∷ []) in
+    let long : 0 + length (ehdr_bytes o.order h) ≡ 64 = (let e = ehdr_laws.length_is o.order h in omega arith) in
+    ap (λ (order : Order). ehdr_bytes order h ++ spread (0 + length (ehdr_bytes order h)) (offsets h ss) (parts order)) (order_read o)
+    ∙ ap (λ (places : List ℕ). ehdr_bytes o.order h ++ spread (0 + length (ehdr_bytes o.order h)) places (parts o.order)) (places_are o layout laid)
+    ∙ ap (λ (n : ℕ). ehdr_bytes o.order h ++ spread n q (parts o.order)) long
+
+parts_fit : (o : ObjectValue) (layout : LayoutValue) → IsLayoutOf o layout → Fits (map unaligned (laid_parts o layout.places)) 64 layout.places
+unfolding header_table
+parts_fit o layout laid =
+    let q = layout.places in
+    let h = header_at o q in
+    let ss = headers_at o q in
+    let parts : Order → List (List ℕ) = λ order. contents_of o ++ (flat_map (shdr_bytes order) (all_headers ss (name_table_at o)) ∷ []) in
+    subst (λ (places : List ℕ). Fits (map unaligned (parts o.order)) 64 places) (places_are o layout laid)
+    (subst (λ (order : Order). Fits (map unaligned (parts order)) 64 (offsets h ss)) (order_read o) (layout_order o q laid.least.fits))
+
+-- ---- the layout as it goes out
+
+pub header_sent : (p : PlacedValue) (a b : Option (List ℕ)) → IsPlaced p → Appends a b (header_bytes p.object p.layout.places) →
+    IsGoing a b (layout_bytes p.object p.layout.places) 64 p.layout.places (laid_parts p.object p.layout.places)
+header_sent p a b placed went = record {
+  out = header_bytes p.object p.layout.places;
+  long = length-header_bytes p.object p.layout.places;
+  sent = went;
+  rest = layout_is p.object p.layout placed.layout;
+  fits = parts_fit p.object p.layout placed.layout;
+}
+
+pub header_cut : (p : PlacedValue) (a b : Option (List ℕ)) (n : ℕ) → IsPlaced p →
+    (n < length (header_bytes p.object p.layout.places)) × Appends a b (take n (header_bytes p.object p.layout.places)) →
+    (n < length (layout_bytes p.object p.layout.places)) × Appends a b (take n (layout_bytes p.object p.layout.places))
+header_cut p a b n placed failed =
+    let front = header_bytes p.object p.layout.places in
+    let rest = spread 64 p.layout.places (laid_parts p.object p.layout.places) in
+    let below = failed.0 in
+    let both = length-append front rest in
+    let first : take n (front ++ rest) ≡ take n front = take-append-le n front rest (omega arith) in
+    subst (λ (s : List ℕ). (n < length s) × Appends a b (take n s)) (sym (layout_is p.object p.layout placed.layout))
+    (omega arith, subst (Appends a b) (sym first) failed.1)
+
+-- so much is out of the object's layout, and the parts from this position on are to come
+abbrev pub IsGoingAt : PlacedValue → Option (List ℕ) → Option (List ℕ) → ℕ → ℕ → Type 0
+IsGoingAt p a b at k =
+    IsGoing a b (layout_bytes p.object p.layout.places) at (drop k p.layout.places) (drop k (laid_parts p.object p.layout.places))
+
+-- the content at a position as it goes out
+content_goes : (p : PlacedValue) (k at : ℕ) → k < length (plain_sections p.object) → (b c : Option (List ℕ)) (result : Result ℕ WriteFault) →
+    ((d : PlainSection) → WritesBehind at b c (replicate (get_or p.layout.places k 0 - at) 0 ++ (get_or (plain_sections p.object) k d).content) result) →
+    WritesBehind at b c (replicate (get_or p.layout.places k 0 - at) 0 ++ get_or (laid_parts p.object p.layout.places) k []) result
+content_goes p k at lt b c result went =
+    let d = plain_section p.object Names in
+    let zeros : List ℕ = replicate (get_or p.layout.places k 0 - at) 0 in
+    subst (λ (s : List ℕ). WritesBehind at b c (zeros ++ s) result) (sym (content_at p.object p.layout.places k d lt)) (went d)
+
+pub content_place : (p : PlacedValue) (a b : Option (List ℕ)) (at k : ℕ) → IsPlaced p → k ≤ length (plain_sections p.object) → IsGoingAt p a b at k → at ≤ get_or p.layout.places k 0
+content_place p a b at k placed le going =
+    let count = placed.layout.count in
+    let parts = length-parts p.object p.layout.places in
+    part_place a b _ at p.layout.places (laid_parts p.object p.layout.places) k (omega arith) (omega arith) going
+
+pub content_sent : (p : PlacedValue) (a b c : Option (List ℕ)) (at end k : ℕ) → IsPlaced p → k < length (plain_sections p.object) → IsGoingAt p a b at k →
+    ((d : PlainSection) → WritesBehind at b c (replicate (get_or p.layout.places k 0 - at) 0 ++ (get_or (plain_sections p.object) k d).content) (Ok end)) →
+    IsGoingAt p a c end (k + 1)
+content_sent p a b c at end k placed lt going went =
+    let count = placed.layout.count in
+    let parts = length-parts p.object p.layout.places in
+    part_sent a b c _ at end p.layout.places (laid_parts p.object p.layout.places) k (omega arith) (omega arith) going (content_goes p k at lt b c (Ok end) went)
+
+pub content_cut : (p : PlacedValue) (a b c : Option (List ℕ)) (at k : ℕ) (fault : WriteFault) → IsPlaced p → k < length (plain_sections p.object) → IsGoingAt p a b at k →
+    ((d : PlainSection) → WritesBehind at b c (replicate (get_or p.layout.places k 0 - at) 0 ++ (get_or (plain_sections p.object) k d).content) (Err fault)) →
+    (fault.written < length (layout_bytes p.object p.layout.places)) × Appends a c (take fault.written (layout_bytes p.object p.layout.places))
+content_cut p a b c at k fault placed lt going failed =
+    let count = placed.layout.count in
+    let parts = length-parts p.object p.layout.places in
+    part_cut a b c _ at fault p.layout.places (laid_parts p.object p.layout.places) k (omega arith) (omega arith) going (content_goes p k at lt b c (Err fault) failed)
+
+-- the section header table is the last part
+table_goes : (p : PlacedValue) (k at : ℕ) → k ≡ length (plain_sections p.object) → (b c : Option (List ℕ)) (result : Result ℕ WriteFault) →
+    WritesBehind at b c (replicate (get_or p.layout.places (length (plain_sections p.object)) 0 - at) 0 ++ header_table p.object p.layout.places) result →
+    WritesBehind at b c (replicate (get_or p.layout.places k 0 - at) 0 ++ get_or (laid_parts p.object p.layout.places) k []) result
+table_goes p k at last b c result went =
+    let Q : ℕ → List ℕ → Type 0 = λ n s. WritesBehind at b c (replicate (get_or p.layout.places n 0 - at) 0 ++ s) result in
+    subst (λ (n : ℕ). Q n (get_or (laid_parts p.object p.layout.places) n [])) (sym last)
+    (subst (Q (length (plain_sections p.object))) (sym (table_at p.object p.layout.places)) went)
+
+pub table_place : (p : PlacedValue) (a b : Option (List ℕ)) (at k : ℕ) → IsPlaced p → k ≡ length (plain_sections p.object) → IsGoingAt p a b at k →
+    at ≤ get_or p.layout.places (length (plain_sections p.object)) 0
+table_place p a b at k placed last going =
+    subst (λ (n : ℕ). at ≤ get_or p.layout.places n 0) last (content_place p a b at k placed (omega arith) going)
+
+pub table_sent : (p : PlacedValue) (a b c : Option (List ℕ)) (at end k : ℕ) → IsPlaced p → k ≡ length (plain_sections p.object) → IsGoingAt p a b at k →
+    WritesBehind at b c (replicate (get_or p.layout.places (length (plain_sections p.object)) 0 - at) 0 ++ header_table p.object p.layout.places) (Ok end) →
+    Appends a c (layout_bytes p.object p.layout.places)
+table_sent p a b c at end k placed last going went =
+    let q = p.layout.places in
+    let ps = laid_parts p.object q in
+    let count = placed.layout.count in
+    let parts = length-parts p.object q in
+    let behind = part_sent a b c _ at end q ps k (omega arith) (omega arith) going (table_goes p k at last b c (Ok end) went) in
+    all_sent a c _ end (drop (k + 1) q) (subst (λ (rs : List (List ℕ)). IsGoing a c (layout_bytes p.object q) end (drop (k + 1) q) rs) (drop_of_length-le ps {i = k + 1} (omega arith)) behind)
+
+pub table_cut : (p : PlacedValue) (a b c : Option (List ℕ)) (at k : ℕ) (fault : WriteFault) → IsPlaced p → k ≡ length (plain_sections p.object) → IsGoingAt p a b at k →
+    WritesBehind at b c (replicate (get_or p.layout.places (length (plain_sections p.object)) 0 - at) 0 ++ header_table p.object p.layout.places) (Err fault) →
+    (fault.written < length (layout_bytes p.object p.layout.places)) × Appends a c (take fault.written (layout_bytes p.object p.layout.places))
+table_cut p a b c at k fault placed last going failed =
+    let count = placed.layout.count in
+    let parts = length-parts p.object p.layout.places in
+    part_cut a b c _ at fault p.layout.places (laid_parts p.object p.layout.places) k (omega arith) (omega arith) going (table_goes p k at last b c (Err fault) failed)
+
+-- ---- how far the parts reach
+
+pub length-header_table : (p : PlacedValue) → IsPlaced p → length (header_table p.object p.layout.places) ≡ 64 * (length (plain_sections p.object) + 1)
+unfolding header_table
+length-header_table p placed =
+    let o = p.object in
+    let headers = section_headers (name_place (section_names o)) (plain_sections o) p.layout.places in
+    let all = length-table shdr_laws o.order (all_headers headers (name_table_at o)) in
+    let same = length-headers (name_place (section_names o)) (plain_sections o) p.layout.places placed.layout.count in
+    omega arith
+
+pub part_end : (p : PlacedValue) (k : ℕ) (s : PlacedSection) → IsPlaced p → k < length (plain_sections p.object) → IsSectionAt p.object k s →
+    get_or p.layout.places k 0 + length (plain_section p.object s).content ≤ 2 ^ 30
+part_end p k s placed lt at =
+    let end = content_end p.object p.layout k (plain_section p.object s) placed.layout lt in
+    let same = ap (λ (q : PlainSection). length q.content) at.is in
+    omega arith

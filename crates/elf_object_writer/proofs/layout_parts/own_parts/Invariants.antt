@@ -1,0 +1,11 @@
+use Rattle.std.proofs.Common.{◌≡◌, map, take}
+use Rattle.elf_object.specs.declared.section.Section.{Section}
+use Rattle.elf_object_writer.specs.Laid.{content_part}
+use Rattle.elf_object_writer.specs.LayoutParts.{saturated}
+use Rattle.elf_object.specs.ObjectView.{section_value}
+use Rattle.elf_object_writer.specs.PlainSections.{own_section}
+use Rattle.elf_object_writer.proofs.layout_parts.own_parts.Given as goal
+
+abbrev pub invariant-loop-section : goal.invariant-loop-section
+invariant-loop-section l =
+    l.parts.items ≡ map (λ (s : Section). saturated (content_part (own_section l.object (section_value s)))) (take l.section-index l.section-items)

@@ -1,0 +1,141 @@
+//! The content of each section of an object's canonical layout, onto a writer (gABI chapter 4, Sections).
+ghost use Rattle.std.specs.Prelude.{◌≡◌, ◌<◌, ◌≤◌, ◌^◌, All, length};
+ghost use Rattle.elf_image.specs.Output.{Writes};
+ghost use Rattle.elf_object.specs.Object.{section_at};
+ghost use Rattle.elf_object.specs.ObjectView.{body_value, section_value};
+ghost use Rattle.elf_object_writer.specs.PlacedObject.{HasShortIndexes, HasShortNumbers, IsThere, plain_section};
+ghost use Rattle.elf_object_writer.specs.PlainSections.{body_bytes, index_of, index_table_section, own_section, relocation_bytes, symbol_table_section};
+ghost use Rattle.elf_rules.specs.HeaderRules.{MAX_LEN};
+
+use crate::body_entries::{GroupWords, RelEntries, RelaEntries};
+use crate::layout_parts::content_part;
+use crate::placed_object::PlacedObject;
+use crate::placed_section::PlacedSection;
+use crate::symbol_entries::{IndexWords, SymbolEntries, symbol_count};
+use elf_field::Order;
+use elf_field::abi::*;
+use elf_image::entries::write_entries;
+use elf_image::{WriteFault, write_whole};
+use elf_object::{Body, Relocation, Section};
+use std::io::Write;
+
+/// Writes the content of a section, or exactly the first `written` bytes of it, fewer than all, and a fault.
+pub(crate) fn write_content<W: Write>(
+    placed: &PlacedObject<'_, '_>,
+    section: PlacedSection,
+    writer: &mut W,
+) -> Result<(), WriteFault>
+    requires { IsThere placed.now.object section }
+    ensures { Writes (W.contents writer.old) (W.contents writer.new)
+        (plain_section placed.now.object section).content result }
+{
+    match section {
+        PlacedSection::Own(position) => write_own_content(placed, position, writer),
+        PlacedSection::SymbolTable => write_symbols(placed, writer),
+        PlacedSection::IndexTable => write_index_table(placed, writer),
+        PlacedSection::Strings => write_whole(writer, placed.strings()),
+        PlacedSection::Names => write_whole(writer, placed.names()),
+    }
+}
+
+fn write_symbols<W: Write>(placed: &PlacedObject<'_, '_>, writer: &mut W) -> Result<(), WriteFault>
+    ensures { Writes (W.contents writer.old) (W.contents writer.new) (symbol_table_section placed.now.object).content result }
+{
+    let _few = symbol_count(placed);
+    write_entries(writer, placed.object().order(), &SymbolEntries { placed })
+}
+
+fn write_index_table<W: Write>(
+    placed: &PlacedObject<'_, '_>,
+    writer: &mut W,
+) -> Result<(), WriteFault>
+    ensures { Writes (W.contents writer.old) (W.contents writer.new) (index_table_section placed.now.object).content result }
+{
+    let _few = symbol_count(placed);
+    write_entries(writer, placed.object().order(), &IndexWords { placed })
+}
+
+/// One of the object's own sections, whose numbers fit the fields that hold them.
+pub(crate) fn own_section<'o, 'a>(placed: &PlacedObject<'o, 'a>, position: usize) -> &'o Section<'a>
+    requires { position < length placed.now.object.sections }
+    ensures value { section_value result.now ≡ section_at placed.now.object position }
+    ensures fits { HasShortNumbers placed.now.object (section_value result.now) }
+{
+    placed.is_placed();
+    &placed.object().sections()[position]
+}
+
+/// The content of one of the object's own sections.
+fn write_own_content<W: Write>(
+    placed: &PlacedObject<'_, '_>,
+    position: usize,
+    writer: &mut W,
+) -> Result<(), WriteFault>
+    requires { position < length placed.now.object.sections }
+    ensures { let o = placed.now.object in Writes (W.contents writer.old) (W.contents writer.new)
+        (body_bytes o.order (section_at o position).body) result }
+{
+    let section = own_section(placed, position);
+    write_body(placed.object().order(), &section.body, writer)
+}
+
+fn write_body<W: Write>(order: Order, body: &Body<'_>, writer: &mut W) -> Result<(), WriteFault>
+    requires indexes { HasShortIndexes (body_value body.now) }
+    requires short { length (body_bytes order (body_value body.now)) ≤ MAX_LEN }
+    ensures { Writes (W.contents writer.old) (W.contents writer.new) (body_bytes order (body_value body.now)) result }
+{
+    match body {
+        Body::Bits(_, content) => write_whole(writer, content),
+        Body::NoBits(_) => Ok(()),
+        Body::Relocs { rela, entries, .. } => write_relocations(order, *rela, entries, writer),
+        Body::Group {
+            comdat,
+            members,
+            ..
+        } => {
+            let words = GroupWords {
+                comdat: *comdat,
+                members,
+            };
+            write_entries(writer, order, &words)
+        }
+    }
+}
+
+fn write_relocations<W: Write>(
+    order: Order,
+    rela: bool,
+    entries: &[Relocation],
+    writer: &mut W,
+) -> Result<(), WriteFault>
+    requires indexes { All (λ entry. index_of entry.symbol < 2 ^ 32) entries.now }
+    requires short { length (relocation_bytes order rela entries.now) ≤ MAX_LEN }
+    ensures { Writes (W.contents writer.old) (W.contents writer.new) (relocation_bytes order rela entries.now) result }
+{
+    if rela {
+        write_entries(writer, order, &RelaEntries { entries })
+    } else {
+        write_entries(writer, order, &RelEntries { entries })
+    }
+}
+
+/// The size of a section's content in the file.
+pub(crate) fn content_size(placed: &PlacedObject<'_, '_>, section: PlacedSection) -> u64
+    requires { IsThere placed.now.object section }
+    ensures { result ≡ length (plain_section placed.now.object section).content }
+{
+    match section {
+        PlacedSection::Own(position) => own_content_size(placed, position),
+        PlacedSection::SymbolTable => SYM_SIZE * (symbol_count(placed) as u64 + 1),
+        PlacedSection::IndexTable => WORD_SIZE * (symbol_count(placed) as u64 + 1),
+        PlacedSection::Strings => placed.strings().len() as u64,
+        PlacedSection::Names => placed.names().len() as u64,
+    }
+}
+
+fn own_content_size(placed: &PlacedObject<'_, '_>, position: usize) -> u64
+    requires { position < length placed.now.object.sections }
+    ensures { let o = placed.now.object in result ≡ length (own_section o (section_at o position)).content }
+{
+    content_part(own_section(placed, position)).0
+}

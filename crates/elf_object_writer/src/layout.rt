@@ -1,0 +1,143 @@
+//! Where the parts of an object stand in its canonical layout (gABI chapter 4, ELF Header, Sections).
+ghost use Rattle.std.specs.Prelude.{◌≡◌, ◌<◌, ℕ, ◌-◌, ◌∷◌, IfErr, IfOk, length, slice_index};
+ghost use Rattle.elf_extent.specs.Place.{EndsFit, Least};
+ghost use Rattle.elf_object_writer.specs.LayoutView.{ArePartsFault, ArePlacedParts, IsLayoutFault, IsLayoutOf};
+ghost use Rattle.elf_object_writer.specs.NameTables.{AreNameTables};
+
+use crate::layout_parts::layout_parts;
+use crate::name_tables::NameTables;
+use elf_extent::{PlaceFault, place};
+use elf_field::abi::*;
+use elf_object::Object;
+use elf_rules::MAX_LEN;
+use std::alloc::{AllocError, Global};
+use std::marker::Model;
+
+/// Why an object has no layout.
+#[derive(Clone, Copy, Debug, PartialEq, Eq)]
+pub enum LayoutFault {
+    /// Its canonical layout is longer than the longest file, 2^30 bytes.
+    TooLong,
+    /// A growth was refused.
+    OutOfMemory,
+}
+
+impl From<AllocError> for LayoutFault {
+    ghost use Rattle.std.specs.Prelude.{◌≡◌};
+    ghost use Rattle.elf_object_writer.specs.declared.layout.LayoutFault.TheVariants.{OutOfMemory};
+
+    ghost from_gives = { λ _ fault. fault ≡ OutOfMemory };
+
+    fn from(_refused: AllocError) -> LayoutFault {
+        LayoutFault::OutOfMemory
+    }
+}
+
+/// The canonical layout of an object: where the content of each section begins, and the section header
+/// table, all in bytes from the file's beginning. It takes no memory of its own but the places.
+#[derive(Debug, Drop)]
+pub struct Layout {
+    places: Vec<u64>,
+    file_len: u64,
+}
+
+impl Model for Layout {
+    ghost use Rattle.std.specs.Prelude.{◌<◌, length};
+    ghost use Rattle.elf_object_writer.specs.LayoutView.{LayoutValue};
+
+    ghost Value = { LayoutValue };
+
+    ghost view = { λ a. record { places = a.places.items; file_len = a.file_len } };
+
+    ghost invariant = { λ a. 0 < length a.places.items };
+}
+
+impl Layout {
+    /// `sh_offset` of the section with this section index; 0 for section header 0.
+    pub fn offset(&self, index: usize) -> u64
+        requires { index < length self.now.places }
+        ensures { result ≡ slice_index (0 ∷ self.now.places) index }
+    {
+        if index == 0 {
+            0
+        } else {
+            self.places[index - 1]
+        }
+    }
+
+    /// `e_shoff`: where the section header table begins.
+    pub fn table(&self) -> u64
+        ensures { result ≡ slice_index self.now.places (length self.now.places - 1) }
+    {
+        self.places[self.places.len() - 1]
+    }
+
+    /// The length of the file.
+    pub fn length(&self) -> u64
+        ensures { result ≡ self.now.file_len }
+    {
+        self.file_len
+    }
+
+    /// How many section headers there are, with section header 0.
+    pub fn section_count(&self) -> usize
+        ensures { result ≡ length self.now.places }
+    {
+        self.places.len()
+    }
+}
+
+/// The canonical layout of an object.
+///
+/// [`LayoutFault::TooLong`] comes exactly where it is longer than the longest file, 2^30 bytes, and
+/// [`LayoutFault::OutOfMemory`] only where memory is refused.
+pub fn lay_out(alloc: Global, object: &Object<'_>) -> Result<Layout, LayoutFault>
+    ensures ok { IfOk result (IsLayoutOf object.now) }
+    ensures err { IfErr result (IsLayoutFault object.now) }
+{
+    let tables = NameTables::new(alloc, object)?;
+    lay_out_with(alloc, object, &tables)
+}
+
+/// The canonical layout of an object whose string tables are made already.
+pub(crate) fn lay_out_with(
+    alloc: Global,
+    object: &Object<'_>,
+    tables: &NameTables,
+) -> Result<Layout, LayoutFault>
+    requires { AreNameTables object.now tables.now }
+    ensures ok { IfOk result (IsLayoutOf object.now) }
+    ensures err { IfErr result (IsLayoutFault object.now) }
+{
+    let parts = layout_parts(alloc, object, tables)?;
+    place_parts(alloc, &parts)
+}
+
+// The parts (size, alignment) behind the header, of which there is one at least, at their least places.
+fn place_parts(alloc: Global, parts: &[(u64, u64)]) -> Result<Layout, LayoutFault>
+    requires { 0 < length parts.now }
+    ensures ok { IfOk result (ArePlacedParts parts.now) }
+    ensures err { IfErr result (ArePartsFault parts.now) }
+{
+    match place(alloc, parts, EHDR_SIZE) {
+        Ok(places) => layout_of(parts, places),
+        Err(PlaceFault::Overflow { .. }) => Err(LayoutFault::TooLong),
+        Err(PlaceFault::OutOfMemory) => Err(LayoutFault::OutOfMemory),
+    }
+}
+
+// The layout of parts at their least places.
+fn layout_of(parts: &[(u64, u64)], places: Vec<u64>) -> Result<Layout, LayoutFault>
+    requires some { 0 < length parts.now }
+    requires least { Least parts.now EHDR_SIZE places.items }
+    requires fit { EndsFit parts.now places.items (length parts.now) }
+    ensures ok { IfOk result (ArePlacedParts parts.now) }
+    ensures err { IfErr result (ArePartsFault parts.now) }
+{
+    let last = parts.len() - 1;
+    let file_len = places[last] + parts[last].0;
+    if file_len > MAX_LEN {
+        return Err(LayoutFault::TooLong);
+    }
+    Ok(Layout { places, file_len })
+}

@@ -1,0 +1,25 @@
+//! The canonical layout of an object, the one list of bytes that it is written as (gABI chapter 4): [`lay_out`] answers where each
+//! part stands, and [`write_object`] writes it. The object without sections and symbols is 376 bytes long:
+//!
+//! ```
+//! let layout = lay_out(alloc, &object)?;
+//! assert_eq!(layout.length(), 376);
+//! ```
+#![tactic(auto)]
+
+mod body_entries;
+mod contents;
+mod file_header;
+mod indexes;
+mod layout;
+mod layout_parts;
+mod name_tables;
+mod object_writing;
+mod placed_object;
+mod placed_section;
+mod placed_writing;
+mod section_headers;
+mod symbol_entries;
+
+pub use layout::{Layout, LayoutFault, lay_out};
+pub use object_writing::{ObjectWriteFault, write_object};

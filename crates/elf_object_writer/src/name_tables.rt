@@ -1,0 +1,78 @@
+//! The names of an object's symbols and sections, as string tables (gABI chapter 4, String Table).
+ghost use Rattle.std.specs.Prelude.{◌≡◌, IfOk, map};
+ghost use Rattle.std.specs.List.{list_any};
+ghost use Rattle.elf_object_writer.specs.PlainSections.{has_index_table, is_far, section_names};
+ghost use Rattle.elf_object_writer.specs.NameTables.{AreNameTables};
+
+use elf_field::abi::*;
+use elf_object::{Object, Place, Section, Symbol};
+use elf_string_table::StringTable;
+use std::alloc::{AllocError, Global};
+
+/// The string table of the symbols, and the section name string table.
+#[derive(Debug, Drop)]
+pub(crate) struct NameTables {
+    pub(crate) strings: StringTable,
+    pub(crate) names: StringTable,
+}
+
+impl NameTables {
+    /// The tables of an object.
+    pub(crate) fn new(alloc: Global, object: &Object<'_>) -> Result<NameTables, AllocError>
+        ensures { IfOk result (AreNameTables object.now) }
+    {
+        let strings = StringTable::new(alloc, &symbol_names(alloc, object.symbols())?)?;
+        let names = StringTable::new(alloc, &section_names(alloc, object)?)?;
+        Ok(NameTables { strings, names })
+    }
+}
+
+/// The names of the symbols.
+fn symbol_names<'a>(alloc: Global, symbols: &[Symbol<'a>]) -> Result<Vec<&'a [u8]>, AllocError>
+    ensures { IfOk result (λ names. names.items ≡ map (λ symbol. symbol.name) symbols.now) }
+{
+    symbols.iter().map(|symbol| symbol.name).collect(alloc)
+}
+
+/// The names of the object's own sections.
+fn own_names<'a>(alloc: Global, sections: &[Section<'a>]) -> Result<Vec<&'a [u8]>, AllocError>
+    ensures { IfOk result (λ names. names.items ≡ map (λ section. section.name) sections.now) }
+{
+    sections.iter().map(|section| section.name).collect(alloc)
+}
+
+/// The names of the sections from section index 1 on, those of the last four behind the object's own.
+fn section_names<'a>(alloc: Global, object: &Object<'a>) -> Result<Vec<&'a [u8]>, AllocError>
+    ensures { IfOk result (λ names. map (λ name. name.now) names.items ≡ section_names object.now) }
+{
+    let mut names = own_names(alloc, object.sections())?;
+    names.push(b".symtab")?;
+    if has_index_table(object) {
+        names.push(b".symtab_shndx")?;
+    }
+    names.push(b".strtab")?;
+    names.push(b".shstrtab")?;
+    Ok(names)
+}
+
+/// Whether a symbol lies in a section whose index its `st_shndx` can't hold.
+pub(crate) fn has_index_table(object: &Object<'_>) -> bool
+    ensures { result ≡ has_index_table object.now }
+{
+    has_far_symbol(object.symbols())
+}
+
+fn has_far_symbol(symbols: &[Symbol<'_>]) -> bool
+    ensures { result ≡ list_any (λ symbol. is_far symbol.place) symbols.now }
+{
+    symbols.iter().any(|symbol| is_far(symbol.place))
+}
+
+fn is_far(place: Place) -> bool
+    ensures { result ≡ is_far place }
+{
+    match place {
+        Place::In(position) => position >= SHN_LORESERVE as usize - 1,
+        _ => false,
+    }
+}

@@ -1,0 +1,52 @@
+//! An object onto a writer.
+ghost use Rattle.elf_object_writer.specs.ObjectWriting.{IsObjectWritten};
+
+use crate::layout::LayoutFault;
+use crate::placed_object::PlacedObject;
+use crate::placed_writing::write_placed;
+use elf_object::Object;
+use std::alloc::Global;
+use std::io::Write;
+
+/// Why an object is not written.
+#[derive(Clone, Copy, Debug, PartialEq, Eq)]
+pub enum ObjectWriteFault {
+    /// Its canonical layout is longer than the longest file, 2^30 bytes. Nothing is written.
+    TooLong,
+    /// A growth was refused. Nothing is written.
+    OutOfMemory,
+    /// A call of the writer failed, or took none of the bytes that it was offered, after exactly the first `written` bytes
+    /// of the canonical layout.
+    Io { written: u64 },
+}
+
+/// Writes an object as its canonical layout (gABI chapter 4): the header, the contents of the sections in the order of their
+/// indexes, each at the least place that its alignment allows, and the section header table; with zeros between. The sections
+/// are the object's own and behind them `.symtab`, `.symtab_shndx` where a symbol needs it, `.strtab` and `.shstrtab`.
+///
+/// [`ObjectWriteFault::TooLong`] comes exactly where the layout is longer than the longest file, 2^30 bytes, and
+/// [`ObjectWriteFault::OutOfMemory`] only where memory is refused; both before the first byte is out. Any error of the writer, an
+/// interruption too, is [`ObjectWriteFault::Io`], and so is a write that takes 0 bytes of a rest that is not empty. Nothing is
+/// tried again and nothing is flushed.
+///
+/// Memory is taken for the string tables and the places of the parts alone. Contents are offered as they stand in the object,
+/// and the entries of tables are made as they go out.
+pub fn write_object<W: Write>(
+    alloc: Global,
+    object: &Object<'_>,
+    writer: &mut W,
+) -> Result<(), ObjectWriteFault>
+    ensures { IsObjectWritten object.now (W.contents writer.old) (W.contents writer.new) result }
+{
+    let placed = match PlacedObject::new(alloc, object) {
+        Ok(placed) => placed,
+        Err(LayoutFault::TooLong) => return Err(ObjectWriteFault::TooLong),
+        Err(LayoutFault::OutOfMemory) => return Err(ObjectWriteFault::OutOfMemory),
+    };
+    match write_placed(&placed, writer) {
+        Ok(()) => Ok(()),
+        Err(fault) => Err(ObjectWriteFault::Io {
+            written: fault.written,
+        }),
+    }
+}

@@ -1,0 +1,181 @@
+//! An object with all that its canonical layout takes memory for (gABI chapter 4, ELF Header, Sections, String Table).
+ghost use Rattle.std.specs.Prelude.{◌≡◌, ◌<◌, ℕ, ◌+◌, ◌^◌, [], get_or, length, slice_index, IfErr, IfOk};
+ghost use Rattle.elf_object_writer.specs.LayoutView.{IsLayoutFault};
+ghost use Rattle.elf_object_writer.specs.PlacedObject.{IsPlaced, IsSectionAt};
+ghost use Rattle.elf_object_writer.specs.PlainSections.{name_table_at, plain_sections, section_names, strings_at, symbol_names, symbol_table_at};
+ghost use Rattle.elf_string_table.specs.StringTable.{name_place, string_table};
+
+use crate::layout::{Layout, LayoutFault, lay_out_with};
+use crate::name_tables::NameTables;
+use crate::placed_section::PlacedSection;
+use elf_object::Object;
+use std::alloc::Global;
+use std::marker::Model;
+
+/// An object, its string tables and its layout.
+#[derive(Debug, Drop)]
+pub(crate) struct PlacedObject<'o, 'a> {
+    object: &'o Object<'a>,
+    tables: NameTables,
+    layout: Layout,
+}
+
+impl<'o, 'a> Model for PlacedObject<'o, 'a> {
+    ghost use Rattle.elf_object_writer.specs.PlacedObject.{IsPlacedWith, PlacedValue};
+
+    ghost Value = { PlacedValue };
+
+    ghost view = { λ a. record { object = a.object.now; layout = a.layout } };
+
+    ghost invariant = { λ a. IsPlacedWith a.tables (record { object = a.object.now; layout = a.layout }) };
+}
+
+impl<'o, 'a> PlacedObject<'o, 'a> {
+    /// The object in its layout. All the memory that is needed is taken here.
+    pub(crate) fn new(
+        alloc: Global,
+        object: &'o Object<'a>,
+    ) -> Result<PlacedObject<'o, 'a>, LayoutFault>
+        ensures ok { IfOk result (λ placed. placed.object ≡ object.now) }
+        ensures err { IfErr result (IsLayoutFault object.now) }
+    {
+        object.keeps_rules();
+        let tables = NameTables::new(alloc, object)?;
+        match lay_out_with(alloc, object, &tables) {
+            Ok(layout) => Ok(PlacedObject {
+                object,
+                tables,
+                layout,
+            }),
+            Err(fault) => Err(fault),
+        }
+    }
+
+    /// Promises that the layout is the object's. It does nothing.
+    pub(crate) fn is_placed(&self)
+        ensures { IsPlaced self.now }
+    {
+        let _ = &self.layout;
+    }
+
+    pub(crate) fn object(&self) -> &'o Object<'a>
+        ensures { result.now ≡ self.now.object }
+    {
+        self.object
+    }
+
+    /// The bytes of `.strtab`.
+    pub(crate) fn strings(&self) -> &[u8]
+        ensures { result.now ≡ string_table (symbol_names self.now.object) }
+    {
+        &self.tables.strings.bytes
+    }
+
+    /// The bytes of `.shstrtab`.
+    pub(crate) fn names(&self) -> &[u8]
+        ensures { result.now ≡ string_table (section_names self.now.object) }
+    {
+        &self.tables.names.bytes
+    }
+
+    /// `st_name` of the symbol of this position.
+    pub(crate) fn symbol_name(&self, position: usize) -> u32
+        requires { position < length self.now.object.symbols }
+        ensures { let names = symbol_names self.now.object in result ≡ name_place names (get_or names position []) }
+    {
+        self.tables.strings.places[position] as u32
+    }
+
+    /// `sh_name` of the section of this position in the layout.
+    pub(crate) fn section_name(&self, position: usize) -> u32
+        requires { position < length (plain_sections self.now.object) }
+        ensures { let names = section_names self.now.object in result ≡ name_place names (get_or names position []) }
+    {
+        self.tables.names.places[position] as u32
+    }
+
+    /// How many of the sections are the object's own, which come first.
+    pub(crate) fn own_count(&self) -> usize
+        ensures { result ≡ length self.now.object.sections }
+    {
+        self.object.sections().len()
+    }
+
+    /// How many sections there are, from section index 1 on.
+    pub(crate) fn section_count(&self) -> usize
+        ensures value { result ≡ length (plain_sections self.now.object) }
+        ensures few { result < 2 ^ 24 }
+    {
+        self.is_placed();
+        self.layout.section_count() - 1
+    }
+
+    /// How many section headers there are.
+    pub(crate) fn header_count(&self) -> usize
+        ensures value { result ≡ length (plain_sections self.now.object) + 1 }
+        ensures few { result < 2 ^ 31 }
+    {
+        self.section_count() + 1
+    }
+
+    /// The section index of `.symtab`.
+    pub(crate) fn symbol_table_index(&self) -> usize
+        ensures value { result ≡ symbol_table_at self.now.object }
+        ensures few { result < 2 ^ 31 }
+    {
+        let _count = self.section_count();
+        self.own_count() + 1
+    }
+
+    /// The section index of `.strtab`.
+    pub(crate) fn strings_index(&self) -> usize
+        ensures value { result ≡ strings_at self.now.object }
+        ensures few { result < 2 ^ 31 }
+    {
+        self.names_index() - 1
+    }
+
+    /// The section index of `.shstrtab`, which is the last one.
+    pub(crate) fn names_index(&self) -> usize
+        ensures value { result ≡ name_table_at self.now.object }
+        ensures few { result < 2 ^ 31 }
+    {
+        self.section_count()
+    }
+
+    /// Where the content of the section of this position in the layout begins.
+    pub(crate) fn place(&self, position: usize) -> u64
+        requires { position < length (plain_sections self.now.object) }
+        ensures { result ≡ slice_index self.now.layout.places position }
+    {
+        let _count = self.section_count();
+        self.layout.offset(position + 1)
+    }
+
+    /// Where the section header table begins.
+    pub(crate) fn table(&self) -> u64
+        ensures { result ≡ slice_index self.now.layout.places (length (plain_sections self.now.object)) }
+    {
+        self.layout.table()
+    }
+
+    /// The section of this position in the layout.
+    pub(crate) fn section(&self, position: usize) -> PlacedSection
+        requires { position < length (plain_sections self.now.object) }
+        ensures { IsSectionAt self.now.object position result }
+    {
+        let own = self.own_count();
+        let count = self.section_count();
+        if position < own {
+            PlacedSection::Own(position)
+        } else if position == own {
+            PlacedSection::SymbolTable
+        } else if position + 1 == count {
+            PlacedSection::Names
+        } else if position + 2 == count {
+            PlacedSection::Strings
+        } else {
+            PlacedSection::IndexTable
+        }
+    }
+}

@@ -1,0 +1,172 @@
+//! The parts of an object's canonical layout onto a writer, each at its place, with zeros between (gABI chapter 4, ELF Header,
+//! Sections).
+ghost use Rattle.std.specs.Prelude.{◌≡◌, ◌<◌, ◌≤◌, ℕ, ◌+◌, ◌-◌, ◌^◌, ◌++◌, IfErr, List, Option, get_or, length, replicate, slice_index};
+ghost use Rattle.elf_field.specs.Ehdr.{ehdr_bytes};
+ghost use Rattle.elf_image.specs.Output.{Writes};
+ghost use Rattle.elf_object_writer.specs.Laid.{file_header, layout_bytes};
+ghost use Rattle.elf_object_writer.specs.ObjectWriting.{WritesBehind, header_table};
+ghost use Rattle.elf_object_writer.specs.PlacedObject.{IsThere, plain_section};
+ghost use Rattle.elf_object_writer.specs.PlainSections.{PlainSection, plain_sections};
+ghost use Rattle.elf_rules.specs.HeaderRules.{MAX_LEN};
+
+use crate::contents::{content_size, write_content};
+use crate::file_header::file_header;
+use crate::placed_object::PlacedObject;
+use crate::placed_section::PlacedSection;
+use crate::section_headers::SectionHeaders;
+use elf_field::abi::*;
+use elf_image::WriteFault;
+use elf_image::entries::write_entries;
+use elf_image::output::{write_records, write_zeros};
+use std::io::Write;
+
+/// Writes the bytes of the layout, or exactly the first `written` of them, fewer than all, and a fault.
+pub(crate) fn write_placed<W: Write>(
+    placed: &PlacedObject<'_, '_>,
+    writer: &mut W,
+) -> Result<(), WriteFault>
+    ensures { Writes (W.contents writer.old) (W.contents writer.new)
+        (layout_bytes placed.now.object placed.now.layout.places) result }
+{
+    placed.is_placed();
+    match write_header(placed, writer) {
+        Ok(()) => {}
+        Err(fault) => return Err(fault),
+    }
+    let mut out = EHDR_SIZE;
+    for position in 0..placed.section_count() {
+        match write_part(placed, position, out, writer) {
+            Ok(end) => out = end,
+            Err(fault) => return Err(fault),
+        }
+    }
+    match write_table(placed, out, writer) {
+        Ok(_) => Ok(()),
+        Err(fault) => Err(fault),
+    }
+}
+
+fn write_header<W: Write>(placed: &PlacedObject<'_, '_>, writer: &mut W) -> Result<(), WriteFault>
+    ensures { let o = placed.now.object in let count = length (plain_sections o) in
+        Writes (W.contents writer.old) (W.contents writer.new)
+        (ehdr_bytes o.order (file_header o (count + 1) (slice_index placed.now.layout.places count))) result }
+{
+    write_records(writer, placed.object().order(), &[file_header(placed)])
+}
+
+/// The content of the section of this position, at its place, where so many bytes are out before it. The answer is where it ends.
+fn write_part<W: Write>(
+    placed: &PlacedObject<'_, '_>,
+    position: usize,
+    out: u64,
+    writer: &mut W,
+) -> Result<u64, WriteFault>
+    requires there { position < length (plain_sections placed.now.object) }
+    requires before { out ≤ slice_index placed.now.layout.places position }
+    ensures { let p = placed.now in (d : PlainSection) → WritesBehind out (W.contents writer.old) (W.contents writer.new)
+        (replicate (slice_index p.layout.places position - out) 0 ++ (get_or (plain_sections p.object) position d).content) result }
+{
+    placed.is_placed();
+    let section = placed.section(position);
+    let padding = placed.place(position) - out;
+    let size = content_size(placed, section);
+    let sent = write_padded_content(placed, section, padding, writer);
+    behind(out, padding + size, sent)
+}
+
+/// Zeros, and the content of a section.
+fn write_padded_content<W: Write>(
+    placed: &PlacedObject<'_, '_>,
+    section: PlacedSection,
+    padding: u64,
+    writer: &mut W,
+) -> Result<(), WriteFault>
+    requires there { IsThere placed.now.object section }
+    requires short { padding + length (plain_section placed.now.object section).content < 2 ^ 64 }
+    ensures { Writes (W.contents writer.old) (W.contents writer.new)
+        (replicate padding 0 ++ (plain_section placed.now.object section).content) result }
+{
+    match write_zeros(writer, padding) {
+        Ok(()) => {}
+        Err(fault) => return Err(fault),
+    }
+    match write_content(placed, section, writer) {
+        Ok(()) => Ok(()),
+        Err(fault) => Err(WriteFault {
+            written: padding + fault.written,
+        }),
+    }
+}
+
+/// The section header table at its place, where so many bytes are out before it.
+fn write_table<W: Write>(
+    placed: &PlacedObject<'_, '_>,
+    out: u64,
+    writer: &mut W,
+) -> Result<u64, WriteFault>
+    requires { out ≤ slice_index placed.now.layout.places (length (plain_sections placed.now.object)) }
+    ensures { let o = placed.now.object in let places = placed.now.layout.places in
+        WritesBehind out (W.contents writer.old) (W.contents writer.new)
+        (replicate (slice_index places (length (plain_sections o)) - out) 0 ++ header_table o places) result }
+{
+    let padding = placed.table() - out;
+    let size = table_size(placed);
+    let sent = write_padded_table(placed, padding, writer);
+    behind(out, padding + size, sent)
+}
+
+/// The size of the section header table, which ends in time.
+fn table_size(placed: &PlacedObject<'_, '_>) -> u64
+    ensures value { result ≡ length (header_table placed.now.object placed.now.layout.places) }
+    ensures within { slice_index placed.now.layout.places (length (plain_sections placed.now.object)) + result ≤ MAX_LEN }
+{
+    placed.is_placed();
+    SHDR_SIZE * placed.header_count() as u64
+}
+
+/// Zeros, and the section header table.
+fn write_padded_table<W: Write>(
+    placed: &PlacedObject<'_, '_>,
+    padding: u64,
+    writer: &mut W,
+) -> Result<(), WriteFault>
+    requires { padding + length (header_table placed.now.object placed.now.layout.places) < 2 ^ 64 }
+    ensures { Writes (W.contents writer.old) (W.contents writer.new)
+        (replicate padding 0 ++ header_table placed.now.object placed.now.layout.places) result }
+{
+    match write_zeros(writer, padding) {
+        Ok(()) => {}
+        Err(fault) => return Err(fault),
+    }
+    match write_headers(placed, writer) {
+        Ok(()) => Ok(()),
+        Err(fault) => Err(WriteFault {
+            written: padding + fault.written,
+        }),
+    }
+}
+
+#[tactic(auto, unfolding(crate::specs::ObjectWriting::header_table))]
+fn write_headers<W: Write>(placed: &PlacedObject<'_, '_>, writer: &mut W) -> Result<(), WriteFault>
+    ensures { Writes (W.contents writer.old) (W.contents writer.new)
+        (header_table placed.now.object placed.now.layout.places) result }
+{
+    placed.is_placed();
+    let order = placed.object().order();
+    write_entries(writer, order, &SectionHeaders { placed })
+}
+
+/// How many bytes are out when so many more are sent behind others; a fault counts all of them.
+fn behind(out: u64, size: u64, sent: Result<(), WriteFault>) -> Result<u64, WriteFault>
+    requires fits { out + size < 2 ^ 64 }
+    requires below { IfErr sent (λ fault. fault.written < size) }
+    ensures { (before after : Option (List ℕ)) (bytes : List ℕ) → length bytes ≡ size → Writes before after bytes sent →
+        WritesBehind out before after bytes result }
+{
+    match sent {
+        Ok(()) => Ok(out + size),
+        Err(fault) => Err(WriteFault {
+            written: out + fault.written,
+        }),
+    }
+}

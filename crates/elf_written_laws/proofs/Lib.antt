@@ -1,0 +1,26 @@
+-- `Public` is for the proofs of the crates above, the others are for those of this one.
+pub mod LaidObjects
+pub mod WrittenSections
+pub mod KeptFront
+pub mod WrittenKept
+pub mod WrittenLengths
+pub mod WrittenFields
+pub mod WrittenAccepted
+pub mod WrittenObjects
+pub mod DenotedWidths
+pub mod WrittenEntries
+pub mod WrittenFile
+pub mod WrittenSymbols
+pub mod WrittenParts
+pub mod ReadLists
+pub mod WrittenReferences
+pub mod WrittenBodies
+pub mod WrittenTypes
+pub mod WrittenSymbolRules
+pub mod WrittenRelocationRules
+pub mod WrittenGroupRules
+pub mod WrittenOwn
+pub mod WrittenSymbolValues
+pub mod WrittenDenotes
+pub mod WrittenReferenceRules
+pub mod WrittenRules
