@@ -8,17 +8,18 @@ use Rattle.clap.specs.Walk.{Rule, Text}
 abbrev pub file : Rule
 file = record (new_rule (codes "FILE")) { required = true }
 
--- `check FILE`
+-- `NAME FILE`
+abbrev pub file_command : Text → Shape
+file_command name = record (new_shape name) { rules = file ∷ [] }
+
 unfoldable pub check : Shape
-check = record (new_shape (codes "check")) { rules = file ∷ [] }
+check = file_command (codes "check")
 
--- `show FILE`
 unfoldable pub show : Shape
-show = record (new_shape (codes "show")) { rules = file ∷ [] }
+show = file_command (codes "show")
 
--- `rewrite FILE`
 unfoldable pub rewrite : Shape
-rewrite = record (new_shape (codes "rewrite")) { rules = file ∷ [] }
+rewrite = file_command (codes "rewrite")
 
 -- `--base B` and `--page P`
 abbrev pub base : Rule

@@ -1,10 +1,11 @@
-//! The program's command line, defined once. A further command is one more function here and one
-//! more entry of `elfmap`, here and in `specs/Command.antt`.
+//! The program's command line, defined once. A further command is one more entry of `elfmap`, here
+//! and in `specs/Command.antt`, and a function for its arguments where it takes more than one file.
 ghost use Rattle.std.specs.Prelude.{◌≡◌, false, IfOk};
+ghost use Rattle.clap.specs.Simple.{with_subcommand};
 ghost use Rattle.clap.specs.Words.{app_of, shape_of};
 ghost use Rattle.clap.specs.declared.builder.command.Command.TheViews.{out-Command as fields_of};
 ghost use Rattle.clap.specs.Walk.{rule_of};
-ghost use Rattle.elf_command_line.specs.Command.{base as base_rule, check, elfmap as elfmap_app, files as files_rule, map_command as map_shape, page as page_rule, rewrite, rules_file as rules_rule, show};
+ghost use Rattle.elf_command_line.specs.Command.{base as base_rule, elfmap as elfmap_app, file_command as file_shape, files as files_rule, map_command as map_shape, page as page_rule, rules_file as rules_rule};
 
 use clap::{Arg, ArgAction, Command};
 use std::alloc::{AllocError, Global};
@@ -13,50 +14,58 @@ use std::alloc::{AllocError, Global};
 pub(crate) fn elfmap<'a>(alloc: Global) -> Result<Command<'a>, AllocError>
     ensures { IfOk result (λ command. app_of command ≡ elfmap_app) }
 {
-    Command::new(alloc, "elfmap")
+    let command = Command::new(alloc, "elfmap")
         .about("Checks, shows, rewrites and links ELF-64 object files")
         .subcommand_required(true)
-        .disable_help_subcommand(true)
-        .subcommand(check_command(alloc)?)?
-        .subcommand(show_command(alloc)?)?
-        .subcommand(rewrite_command(alloc)?)?
-        .subcommand(map_command(alloc)?)
+        .disable_help_subcommand(true);
+    let command = with_file_command(
+        alloc,
+        command,
+        "check",
+        "Tells whether FILE is an ELF-64 file, or the first rule that it breaks and where",
+        "The file to check",
+    )?;
+    let command = with_file_command(
+        alloc,
+        command,
+        "show",
+        "Shows the header, the parts, the sections, the segments and the tables of FILE",
+        "The file to show",
+    )?;
+    let command = with_file_command(
+        alloc,
+        command,
+        "rewrite",
+        "Writes the object of FILE in canonical layout on standard output",
+        "The relocatable file to rewrite",
+    )?;
+    command.subcommand(map_command(alloc)?)
 }
 
-fn check_command<'a>(alloc: Global) -> Result<Command<'a>, AllocError>
-    ensures shape { IfOk result (λ command. shape_of command ≡ check) }
-    ensures local { IfOk result (λ command. (fields_of command).has_globals ≡ false) }
+// The command with one more subcommand, whose one argument is a file.
+fn with_file_command<'a>(
+    alloc: Global,
+    command: Command<'a>,
+    name: &'a str,
+    about: &'a str,
+    help: &'a str,
+) -> Result<Command<'a>, AllocError>
+    ensures { IfOk result (λ more. app_of more ≡ with_subcommand (app_of command.entry) (file_shape name.entry.now)) }
 {
-    let file = Arg::new(alloc, "FILE")
-        .help("The file to check")
-        .required(true);
-    Command::new(alloc, "check")
-        .about("Tells whether FILE is an ELF-64 file, or the first rule that it breaks and where")
-        .arg(file)
+    command.subcommand(file_command(alloc, name, about, help)?)
 }
 
-fn show_command<'a>(alloc: Global) -> Result<Command<'a>, AllocError>
-    ensures shape { IfOk result (λ command. shape_of command ≡ show) }
+fn file_command<'a>(
+    alloc: Global,
+    name: &'a str,
+    about: &'a str,
+    help: &'a str,
+) -> Result<Command<'a>, AllocError>
+    ensures shape { IfOk result (λ command. shape_of command ≡ file_shape name.entry.now) }
     ensures local { IfOk result (λ command. (fields_of command).has_globals ≡ false) }
 {
-    let file = Arg::new(alloc, "FILE")
-        .help("The file to show")
-        .required(true);
-    Command::new(alloc, "show")
-        .about("Shows the header, the parts, the sections, the segments and the tables of FILE")
-        .arg(file)
-}
-
-fn rewrite_command<'a>(alloc: Global) -> Result<Command<'a>, AllocError>
-    ensures shape { IfOk result (λ command. shape_of command ≡ rewrite) }
-    ensures local { IfOk result (λ command. (fields_of command).has_globals ≡ false) }
-{
-    let file = Arg::new(alloc, "FILE")
-        .help("The relocatable file to rewrite")
-        .required(true);
-    Command::new(alloc, "rewrite")
-        .about("Writes the object of FILE in canonical layout on standard output")
-        .arg(file)
+    let file = Arg::new(alloc, "FILE").help(help).required(true);
+    Command::new(alloc, name).about(about).arg(file)
 }
 
 fn map_command<'a>(alloc: Global) -> Result<Command<'a>, AllocError>

@@ -15,7 +15,7 @@ use Rattle.elf_object.specs.Object.{ObjectValue}
 use Rattle.elf_link.specs.declared.outputs.OutputKey.{OutputKey}
 use Rattle.elf_link.specs.declared.site.Site.{Site}
 use Rattle.elf_link.specs.Listing.{Lists, site, site_at}
-use Rattle.elf_link.specs.OutputGroups.{AreGrouped, AreGroups, AreHeaded, AreInOrder, IsHead, IsKeyOf, no_key}
+use Rattle.elf_link.specs.OutputGroups.{AreGrouped, AreGroups, AreGroupsOfKind, AreHeaded, AreInOrder, IsHead, IsKeyOf, no_key}
 use Rattle.elf_link.specs.Outputs.{HaveOneKey, Picks, members, of_kind, openers}
 use Rattle.elf_link.specs.Plan.{AreEach, AreMembers, AreOpeners}
 use Rattle.elf_link.specs.Rows.{Before}
@@ -343,8 +343,7 @@ outputs_are fs ps qs gs hs with without (heads, are) (others, rest) =
           (record { count = rest.grouped.count; each = λ r lt. kind_members fs true qs hs others r without rest lt }),
     )
 
-pub outputs_all : (fs : List ObjectValue) (ps qs xs ys : List Site) (gs hs oss : List (List Site)) → xs ≡ ps → ys ≡ qs → Lists (of_kind fs false) ps →
-    Lists (of_kind fs true) qs → AreGroups fs xs gs → AreGroups fs ys hs → oss ≡ gs ++ hs → (zs : List Site) × AreOpeners fs zs × AreMembers fs zs (length zs) oss
-outputs_all fs ps qs xs ys gs hs oss same equal with without one other all =
-    subst (λ os. (zs : List Site) × AreOpeners fs zs × AreMembers fs zs (length zs) os) (sym all)
-    (outputs_are fs ps qs gs hs with without (subst (λ zs. AreGroups fs zs gs) same one) (subst (λ zs. AreGroups fs zs hs) equal other))
+pub outputs_all : (fs : List ObjectValue) (gs hs oss : List (List Site)) → AreGroupsOfKind fs false gs → AreGroupsOfKind fs true hs → oss ≡ gs ++ hs →
+    (zs : List Site) × AreOpeners fs zs × AreMembers fs zs (length zs) oss
+outputs_all fs gs hs oss (ps, with, one) (qs, without, other) all =
+    subst (λ os. (zs : List Site) × AreOpeners fs zs × AreMembers fs zs (length zs) os) (sym all) (outputs_are fs ps qs gs hs with without one other)

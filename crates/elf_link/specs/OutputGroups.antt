@@ -1,10 +1,10 @@
 -- Sections grouped by the output that they go to, in the order of the first one of each.
-use Rattle.std.specs.Prelude.{◌≡◌, ℕ, ◌<◌, false, List, [], length}
+use Rattle.std.specs.Prelude.{◌≡◌, ℕ, ◌<◌, Bool, false, List, [], length}
 use Rattle.elf_object.specs.Object.{ObjectValue}
 use Rattle.elf_link.specs.declared.outputs.OutputKey.{OutputKey}
 use Rattle.elf_link.specs.declared.site.Site.{Site}
-use Rattle.elf_link.specs.Listing.{site_at}
-use Rattle.elf_link.specs.Outputs.{HaveOneKey, Picks, is_no_bits, output_flags, section_of}
+use Rattle.elf_link.specs.Listing.{Lists, site_at}
+use Rattle.elf_link.specs.Outputs.{HaveOneKey, Picks, is_no_bits, of_kind, output_flags, section_of}
 use Rattle.elf_link.specs.Plan.{AreEach}
 use Rattle.elf_link.specs.Planning.{Pairs}
 use Rattle.elf_link.specs.Rows.{Before}
@@ -38,3 +38,7 @@ AreGrouped fs ps k keys groups =
 
 abbrev pub AreGroups : List ObjectValue → List Site → List (List Site) → Type 0
 AreGroups fs ps groups = (heads : List Site) × AreHeaded fs ps (length ps) heads groups
+
+-- the groups of the live sections with bits, or without
+abbrev pub AreGroupsOfKind : List ObjectValue → Bool → List (List Site) → Type 0
+AreGroupsOfKind fs without groups = (ps : List Site) × Lists (of_kind fs without) ps × AreGroups fs ps groups

@@ -12,7 +12,7 @@ use elf_extent::{PlaceFault, next_place, place};
 use std::alloc::Global;
 
 /// What the entry symbol's value is made of.
-#[derive(Clone, Copy, Debug, PartialEq, Eq)]
+#[derive(Clone, Copy)]
 pub(crate) enum Target {
     /// It has none: not bound, zero, or in a section that is not live.
     Lost,
@@ -55,7 +55,7 @@ fn entry_value(parts: &[(u64, u64)], base: u64, target: Target) -> Option<u64>
 }
 
 /// Where everything stands.
-#[derive(Debug, Drop)]
+#[derive(Drop)]
 pub(crate) struct Addressed {
     /// The address of each part.
     pub places: Vec<u64>,

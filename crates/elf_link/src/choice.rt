@@ -1,7 +1,7 @@
 //! What a name is bound to, before anything has an address.
 
 /// The binding of a name.
-#[derive(Clone, Copy, Debug, PartialEq, Eq)]
+#[derive(Clone, Copy)]
 pub(crate) enum Choice {
     /// A global definition.
     Strong { file: usize, symbol: usize },

@@ -20,7 +20,7 @@ use elf_object::Object;
 use std::alloc::{AllocError, Global};
 
 /// A common that is placed.
-#[derive(Clone, Copy, Debug, PartialEq, Eq)]
+#[derive(Clone, Copy)]
 pub(crate) struct Chosen {
     /// The first common of its name.
     pub site: Site,

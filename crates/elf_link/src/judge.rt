@@ -17,7 +17,7 @@ use elf_object::Object;
 use std::alloc::Global;
 
 /// What is known of files that break none of rules 1 to 9.
-#[derive(Debug, Drop)]
+#[derive(Drop)]
 pub(crate) struct Judged<'a> {
     /// A mark for each section of each file, whether it is discarded.
     pub marks: Vec<Vec<bool>>,

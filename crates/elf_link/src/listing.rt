@@ -16,7 +16,7 @@ use elf_object::Object;
 use std::alloc::{AllocError, Global};
 
 /// What is listed.
-#[derive(Clone, Copy, Debug, PartialEq, Eq)]
+#[derive(Clone, Copy)]
 pub(crate) enum Listed {
     /// The live sections.
     LiveSections,

@@ -20,7 +20,7 @@ use elf_field::abi::*;
 use elf_object::{Object, Place};
 
 /// A rule on the entries of a name.
-#[derive(Clone, Copy, Debug, PartialEq, Eq)]
+#[derive(Clone, Copy)]
 enum NameRule {
     /// Rule 8, [`TWO_DEFINITIONS`].
     TwoDefinitions,

@@ -20,14 +20,14 @@ use std::alloc::{AllocError, Global};
 use std::collections::BTreeMap;
 
 /// A symbol, by file and position.
-#[derive(Clone, Copy, Debug, PartialEq, Eq)]
+#[derive(Clone, Copy)]
 pub(crate) struct Spot {
     pub file: usize,
     pub index: usize,
 }
 
 /// The commons of a name: the first one, and the largest size and alignment of all.
-#[derive(Clone, Copy, Debug, PartialEq, Eq)]
+#[derive(Clone, Copy)]
 pub(crate) struct Block {
     pub first: Spot,
     pub size: u64,
@@ -35,7 +35,7 @@ pub(crate) struct Block {
 }
 
 /// What is known of a name.
-#[derive(Clone, Copy, Debug, PartialEq, Eq)]
+#[derive(Clone, Copy)]
 pub(crate) struct Known {
     /// Its first entry.
     pub first: Spot,
@@ -50,7 +50,7 @@ pub(crate) struct Known {
 }
 
 /// What is known of each name, in the order of the first entries, and the position of each there.
-#[derive(Debug, Drop)]
+#[derive(Drop)]
 pub(crate) struct NameTable<'a> {
     pub positions: BTreeMap<&'a [u8], usize>,
     pub known: Vec<Known>,

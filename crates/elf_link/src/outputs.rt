@@ -2,7 +2,7 @@
 ghost use Rattle.std.specs.Prelude.{◌≡◌, ◌↔◌, ◌+◌, ◌<◌, [], ◌∷◌, ◌++◌, IfOk, IsTrue, OnOk, get_or, length, map, set};
 ghost use Rattle.elf_link.specs.Files.{object_at};
 ghost use Rattle.elf_link.specs.Listing.{AreIn, Lists, site_at};
-ghost use Rattle.elf_link.specs.OutputGroups.{AreGrouped, AreGroups, AreInOrder, IsKeyOf};
+ghost use Rattle.elf_link.specs.OutputGroups.{AreGrouped, AreGroups, AreGroupsOfKind, AreInOrder, IsKeyOf};
 ghost use Rattle.elf_link.specs.Outputs.{Picks, is_no_bits as is_no_bits_of, live as live_row, of_kind, output_flags as output_flags_of, section_of as section_value_of};
 ghost use Rattle.elf_link.specs.Plan.{AreOutputs, flat};
 ghost use Rattle.elf_link.specs.Planning.{AreAllIn, AreLive, AreSome};
@@ -17,7 +17,7 @@ use std::alloc::{AllocError, Global};
 use std::hash::BuildHasher;
 
 /// What the sections of one output section have in common.
-#[derive(Clone, Copy, Debug, PartialEq, Eq, Hash)]
+#[derive(Clone, Copy, PartialEq, Eq, Hash)]
 pub(crate) struct OutputKey<'a> {
     /// The name.
     name: &'a [u8],
@@ -155,6 +155,21 @@ fn groups_of<'a, S: BuildHasher + Drop>(
     Ok(groups)
 }
 
+/// The groups of the live sections with bits or without. What the set had before is forgotten.
+fn groups_of_kind<'a, S: BuildHasher + Drop>(
+    alloc: Global,
+    without: bool,
+    objects: &[Object<'a>],
+    live: &[Site],
+    seen: &mut IndexSet<OutputKey<'a>, S>,
+) -> Result<Vec<Vec<Site>>, AllocError>
+    requires { Lists (live_row objects.now) live.now }
+    ensures { IfOk result (λ groups. AreGroupsOfKind objects.now without (map (λ ms. ms.items) groups.items)) }
+{
+    let sites = all_of_kind(alloc, without, objects, live)?;
+    groups_of(alloc, objects, &sites, seen)
+}
+
 /// The members of each output, in order of placement: of those with bits, and behind them of those without.
 pub(crate) fn outputs_of<'a, S: BuildHasher + Drop>(
     alloc: Global,
@@ -169,10 +184,8 @@ pub(crate) fn outputs_of<'a, S: BuildHasher + Drop>(
     ensures live { IfOk result (λ outputs. AreLive objects.now (flat (map (λ ms. ms.items) outputs.items))) }
 {
     let mut seen = IndexSet::with_hasher(alloc, hasher);
-    let with = all_of_kind(alloc, false, objects, live)?;
-    let mut outputs = groups_of(alloc, objects, &with, &mut seen)?;
-    let without = all_of_kind(alloc, true, objects, live)?;
-    let mut behind = groups_of(alloc, objects, &without, &mut seen)?;
+    let mut outputs = groups_of_kind(alloc, false, objects, live, &mut seen)?;
+    let mut behind = groups_of_kind(alloc, true, objects, live, &mut seen)?;
     outputs.append(&mut behind)?;
     Ok(outputs)
 }

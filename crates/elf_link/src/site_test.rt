@@ -13,7 +13,7 @@ use elf_field::abi::*;
 use elf_object::Object;
 
 /// A rule of the link that looks at one section or one symbol by itself.
-#[derive(Clone, Copy, Debug, PartialEq, Eq)]
+#[derive(Clone, Copy)]
 pub(crate) enum SiteTest {
     /// Rule 3, [`TLS`](crate::rules::TLS).
     Tls,

@@ -3,7 +3,7 @@ use elf_link::Site;
 use elf_relocation::RelocRule;
 
 /// An entry that has a field, and the rule of its kind.
-#[derive(Clone, Copy, Debug, PartialEq, Eq)]
+#[derive(Clone, Copy)]
 pub(crate) struct Field {
     /// Where the entry stands.
     pub site: Site,

@@ -10,7 +10,7 @@ use crate::numbers::{is_field_out_of_range, is_unplaced, is_value_out_of_range};
 use crate::rules::{FIELD_OUT_OF_RANGE, UNPLACED, VALUE_OUT_OF_RANGE};
 
 /// A rule of relocation that looks at one field by itself.
-#[derive(Clone, Copy, Debug, PartialEq, Eq)]
+#[derive(Clone, Copy)]
 pub(crate) enum FieldTest {
     /// Rule 13: its symbol has no value.
     Unplaced,

@@ -17,17 +17,15 @@ abbrev with_settings : App → App
 with_settings = on_top (λ s. record s { subcommand_required = true; disable_help_subcommand = true })
 
 pub returns : goal.returns
-unfolding elfmap
+unfolding elfmap check show rewrite
 returns c =
     let named : app_of c.about.result ≡ new_app (codes "elfmap") = ap app_of_fields c.about.ensures ∙ c.new.ensures.app in
-    let settings : app_of c.disable_help_subcommand.result ≡ with_settings (app_of c.about.result) =
-    ap app_of_fields c.disable_help_subcommand.ensures ∙ ap with_no_help c.subcommand_required.ensures in
-    let checked : app_of c.in_ok-subcommand.field-0 ≡ with_subcommand (with_settings (new_app (codes "elfmap"))) check =
-    c.in_ok-subcommand.ensures.shape c.in_ok-check_command.ensures.local ∙ ap₂ with_subcommand (settings ∙ ap with_settings named) c.in_ok-check_command.ensures.shape in
-    let shown : app_of c.in_ok-subcommand-2.field-0 ≡ with_subcommand (with_subcommand (with_settings (new_app (codes "elfmap"))) check) show =
-    c.in_ok-subcommand-2.ensures.shape c.in_ok-show_command.ensures.local ∙ ap₂ with_subcommand checked c.in_ok-show_command.ensures.shape in
-    let rewritten : app_of c.in_ok-subcommand-3.field-0 ≡ with_subcommand (with_subcommand (with_subcommand (with_settings (new_app (codes "elfmap"))) check) show) rewrite =
-    c.in_ok-subcommand-3.ensures.shape c.in_ok-rewrite_command.ensures.local ∙ ap₂ with_subcommand shown c.in_ok-rewrite_command.ensures.shape in
-    IfOk-weaker c.subcommand-4.result _ _
+    let settings : app_of c.disable_help_subcommand-command.result ≡ with_settings (app_of c.about.result) =
+    ap app_of_fields c.disable_help_subcommand-command.ensures ∙ ap with_no_help c.subcommand_required.ensures in
+    let start = settings ∙ ap with_settings named in
+    let checked = c.in_ok-command.ensures ∙ ap (λ (a : App). with_subcommand a check) start in
+    let shown = c.in_ok-command-2.ensures ∙ ap (λ (a : App). with_subcommand a show) checked in
+    let rewritten = c.in_ok-command-3.ensures ∙ ap (λ (a : App). with_subcommand a rewrite) shown in
+    IfOk-weaker c.subcommand.result _ _
     (λ r added. added.shape c.in_ok-map_command.ensures.local ∙ ap₂ with_subcommand rewritten c.in_ok-map_command.ensures.shape)
-    c.subcommand-4.ensures
+    c.subcommand.ensures

@@ -1,40 +1,36 @@
-use Rattle.std.proofs.Common.{map, ap, sym, ◌∙◌, subst}
+use Rattle.std.proofs.Common.{map, ap, ◌∙◌}
 use Rattle.std.proofs.lemmas.List.{map-append}
-use Rattle.elf_link.specs.OutputGroups.{AreInOrder}
 use Rattle.elf_link.proofs.Grouped.{outputs_all}
 use Rattle.elf_link.proofs.Openers.{members_in, outputs_live, outputs_some}
 use Rattle.elf_link.proofs.outputs.outputs_of.Goals as goal
 
-pub groups_of-requires-clause-order : goal.groups_of-requires-clause-order
-groups_of-requires-clause-order g c = subst AreInOrder (sym c.deref.ensures.value) c.in_ok-with.ensures.order
-
 pub returns-clause-outputs : goal.returns-clause-outputs
 returns-clause-outputs g c =
-    outputs_all c.args.objects.now c.in_ok-with.with.items c.in_ok-without.without.items c.deref.result.now c.deref-2.result.now
+    outputs_all c.args.objects.now
     (map (λ ms. ms.items) c.in_ok-outputs.outputs.items) (map (λ ms. ms.items) c.in_ok-behind.behind.items) (map (λ ms. ms.items) c.append.new.self.items)
-    c.deref.ensures.value c.deref-2.ensures.value c.in_ok-with.ensures c.in_ok-without.ensures c.in_ok-outputs.ensures c.in_ok-behind.ensures
+    c.in_ok-outputs.ensures c.in_ok-behind.ensures
     (ap (map (λ ms. ms.items)) c.in_ok-append.ensures.items ∙ map-append _ c.in_ok-outputs.outputs.items c.in_ok-behind.behind.items)
 
 pub returns-clause-within : goal.returns-clause-within
 returns-clause-within g c =
-    let (xs, openers, members) = outputs_all c.args.objects.now c.in_ok-with.with.items c.in_ok-without.without.items c.deref.result.now c.deref-2.result.now
+    let (xs, openers, members) = outputs_all c.args.objects.now
     (map (λ ms. ms.items) c.in_ok-outputs.outputs.items) (map (λ ms. ms.items) c.in_ok-behind.behind.items) (map (λ ms. ms.items) c.append.new.self.items)
-    c.deref.ensures.value c.deref-2.ensures.value c.in_ok-with.ensures c.in_ok-without.ensures c.in_ok-outputs.ensures c.in_ok-behind.ensures
+    c.in_ok-outputs.ensures c.in_ok-behind.ensures
     (ap (map (λ ms. ms.items)) c.in_ok-append.ensures.items ∙ map-append _ c.in_ok-outputs.outputs.items c.in_ok-behind.behind.items) in
     members_in c.args.objects.now xs (map (λ ms. ms.items) c.append.new.self.items) members
 
 pub returns-clause-some : goal.returns-clause-some
 returns-clause-some g c =
-    let (xs, openers, members) = outputs_all c.args.objects.now c.in_ok-with.with.items c.in_ok-without.without.items c.deref.result.now c.deref-2.result.now
+    let (xs, openers, members) = outputs_all c.args.objects.now
     (map (λ ms. ms.items) c.in_ok-outputs.outputs.items) (map (λ ms. ms.items) c.in_ok-behind.behind.items) (map (λ ms. ms.items) c.append.new.self.items)
-    c.deref.ensures.value c.deref-2.ensures.value c.in_ok-with.ensures c.in_ok-without.ensures c.in_ok-outputs.ensures c.in_ok-behind.ensures
+    c.in_ok-outputs.ensures c.in_ok-behind.ensures
     (ap (map (λ ms. ms.items)) c.in_ok-append.ensures.items ∙ map-append _ c.in_ok-outputs.outputs.items c.in_ok-behind.behind.items) in
     outputs_some c.args.objects.now xs (map (λ ms. ms.items) c.append.new.self.items) openers members
 
 pub returns-clause-live : goal.returns-clause-live
 returns-clause-live g c =
-    let (xs, openers, members) = outputs_all c.args.objects.now c.in_ok-with.with.items c.in_ok-without.without.items c.deref.result.now c.deref-2.result.now
+    let (xs, openers, members) = outputs_all c.args.objects.now
     (map (λ ms. ms.items) c.in_ok-outputs.outputs.items) (map (λ ms. ms.items) c.in_ok-behind.behind.items) (map (λ ms. ms.items) c.append.new.self.items)
-    c.deref.ensures.value c.deref-2.ensures.value c.in_ok-with.ensures c.in_ok-without.ensures c.in_ok-outputs.ensures c.in_ok-behind.ensures
+    c.in_ok-outputs.ensures c.in_ok-behind.ensures
     (ap (map (λ ms. ms.items)) c.in_ok-append.ensures.items ∙ map-append _ c.in_ok-outputs.outputs.items c.in_ok-behind.behind.items) in
     outputs_live c.args.objects.now c.args.live.now xs (map (λ ms. ms.items) c.append.new.self.items) c.requires.live openers members

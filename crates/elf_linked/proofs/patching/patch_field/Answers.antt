@@ -1,6 +1,7 @@
 use Rattle.std.proofs.Common.{FitsSigned, ap, sym, ◌∙◌, arith, rules}
 use Rattle.std.specs.Int.{w128}
 use Rattle.std.proofs.Math.Facts.{to_z-of_z}
+use Rattle.std.proofs.lemmas.List.{length-map}
 use Rattle.elf_object.specs.Object.{ObjectValue}
 use Rattle.elf_link.specs.Files.{object_at}
 use Rattle.elf_link.proofs.Public.{object_is}
@@ -12,6 +13,19 @@ use Rattle.elf_linked.specs.Entries.{target_at}
 use Rattle.elf_linked.specs.Fields.{field_start}
 use Rattle.elf_linked.proofs.Patches.{copy_long, relocated_more, target_live}
 use Rattle.elf_linked.proofs.patching.patch_field.Goals as goal
+
+pub patch_in-requires-clause-file : goal.patch_in-requires-clause-file
+patch_in-requires-clause-file c =
+    let file = (c.requires.fields.fields.each c.args.k c.requires.below).applied.0.file in
+    let rows = simp length-map at c.requires.before.grid.files in
+    rw rows file
+
+pub patch_in-requires-clause-section : goal.patch_in-requires-clause-section
+patch_in-requires-clause-section c =
+    let fs = files_of c.args.linking.now in
+    let d = field_at c.args.fields.now c.args.k in
+    let live = target_live fs (rules_of c.args.linking.now) d.site d.rule (c.requires.fields.fields.each c.args.k c.requires.below) c.keeps_rules.ensures in
+    rw (c.target_of-target.ensures, c.requires.before.grid.sections d.site.file live.0.0) live.0.1
 
 pub patch_in-requires-clause-room : goal.patch_in-requires-clause-room
 patch_in-requires-clause-room c =

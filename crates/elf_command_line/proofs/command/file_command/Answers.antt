@@ -2,11 +2,10 @@ use Rattle.std.proofs.Common.{◌≡◌, ◌∙◌, ap, ap₂, rules}
 use Rattle.std.proofs.lemmas.Result.{IfOk-weaker}
 use Rattle.clap.specs.Walk.{rule_of}
 use Rattle.clap.specs.Simple.{App, app_of_fields, with_rule}
-use Rattle.elf_command_line.specs.Command.{check, file}
-use Rattle.elf_command_line.proofs.command.check_command.Goals as goal
+use Rattle.elf_command_line.specs.Command.{file}
+use Rattle.elf_command_line.proofs.command.file_command.Goals as goal
 
 pub returns-clause-shape : goal.returns-clause-shape
-unfolding check
 returns-clause-shape c =
     let file_is : rule_of c.required-file.result ≡ file = search rules in
     IfOk-weaker c.arg.result _ _
