@@ -203,23 +203,18 @@ fn tells_the_parts_of_a_program_table_alone(rt: HostRuntime) -> Result<(), Fault
     assert_parts(&rt, rt.alloc(), &one_segment(LITTLE), &parts)
 }
 
-#[test]
-fn tells_the_header(rt: HostRuntime) -> Result<(), Fault> {
-    let file = one_section(LITTLE);
-    let image = parse(rt.alloc(), &file)?;
+/// The header and counts of the file with one section.
+fn assert_header(rt: &impl Abort, image: &Image<'_>) {
     let counts = (image.section_count(), image.segment_count());
     let numbers = (image.len(), image.header().e_shoff, image.name_table());
     assert_eq!(rt;
         (image.order(), counts, numbers),
         (LITTLE, (5, 0), (456, 136, 4))
     );
-    Ok(())
 }
 
-#[test]
-fn tells_names(rt: HostRuntime) -> Result<(), Fault> {
-    let file = one_section(LITTLE);
-    let image = parse(rt.alloc(), &file)?;
+/// The names of its sections.
+fn assert_names(rt: &impl Abort, image: &Image<'_>) {
     let expected: [Option<&[u8]>; 5] = [
         Some(b""),
         Some(b".text"),
@@ -227,14 +222,11 @@ fn tells_names(rt: HostRuntime) -> Result<(), Fault> {
         Some(b".strtab"),
         Some(b".shstrtab"),
     ];
-    assert_eq!(rt; (image.section_count(), names_of(&image)), (5, expected));
-    Ok(())
+    assert_eq!(rt; names_of(image), expected);
 }
 
-#[test]
-fn tells_contents(rt: HostRuntime) -> Result<(), Fault> {
-    let file = one_section(LITTLE);
-    let image = parse(rt.alloc(), &file)?;
+/// Their contents.
+fn assert_contents(rt: &impl Abort, image: &Image<'_>) {
     let expected = [
         Some((0, 0)),
         Some((1, 64)),
@@ -243,20 +235,13 @@ fn tells_contents(rt: HostRuntime) -> Result<(), Fault> {
         Some((33, 97)),
     ];
     assert_eq!(rt;
-        (
-            image.section_count(),
-            places_of(&image),
-            content_of(&image, 1)
-        ),
-        (5, expected, Some([0xc3].as_slice()))
+        (places_of(image), content_of(image, 1)),
+        (expected, Some([0xc3].as_slice()))
     );
-    Ok(())
 }
 
-#[test]
-fn tells_section_headers(rt: HostRuntime) -> Result<(), Fault> {
-    let file = one_section(LITTLE);
-    let image = parse(rt.alloc(), &file)?;
+/// Their headers.
+fn assert_section_headers(rt: &impl Abort, image: &Image<'_>) {
     let expected = [
         Some((0, 0, 136)),
         Some((1, 0, 200)),
@@ -264,7 +249,17 @@ fn tells_section_headers(rt: HostRuntime) -> Result<(), Fault> {
         Some((1, 0, 328)),
         Some((33, 0, 392)),
     ];
-    assert_eq!(rt; (image.section_count(), sections_of(&image)), (5, expected));
+    assert_eq!(rt; sections_of(image), expected);
+}
+
+#[test]
+fn tells_all_of_a_file_with_one_section(rt: HostRuntime) -> Result<(), Fault> {
+    let file = one_section(LITTLE);
+    let image = parse(rt.alloc(), &file)?;
+    assert_header(&rt, &image);
+    assert_names(&rt, &image);
+    assert_contents(&rt, &image);
+    assert_section_headers(&rt, &image);
     Ok(())
 }
 
@@ -295,31 +290,20 @@ fn tells_a_program_header(rt: HostRuntime) -> Result<(), Fault> {
     Ok(())
 }
 
-/// A name outlives the image that told it.
-fn first_name<'a>(alloc: Global, file: &'a [u8]) -> Result<Option<&'a [u8]>, Fault> {
+/// A name and a content outlive the image that told them.
+fn first_name_and_content<'a>(
+    alloc: Global,
+    file: &'a [u8],
+) -> Result<(Option<&'a [u8]>, Option<&'a [u8]>), Fault> {
     let image = parse(alloc, file)?;
-    Ok(name_of(&image, 1))
+    Ok((name_of(&image, 1), content_of(&image, 1)))
 }
 
 #[test]
-fn a_name_outlives_the_image(rt: HostRuntime) -> Result<(), Fault> {
+fn a_name_and_a_content_outlive_the_image(rt: HostRuntime) -> Result<(), Fault> {
     let file = one_section(LITTLE);
-    let name = first_name(rt.alloc(), &file)?;
-    assert_eq!(rt; name, Some(b".text".as_slice()));
-    Ok(())
-}
-
-/// So does a content.
-fn first_content<'a>(alloc: Global, file: &'a [u8]) -> Result<Option<&'a [u8]>, Fault> {
-    let image = parse(alloc, file)?;
-    Ok(content_of(&image, 1))
-}
-
-#[test]
-fn a_content_outlives_the_image(rt: HostRuntime) -> Result<(), Fault> {
-    let file = one_section(LITTLE);
-    let content = first_content(rt.alloc(), &file)?;
-    assert_eq!(rt; content, Some([0xc3].as_slice()));
+    let told = first_name_and_content(rt.alloc(), &file)?;
+    assert_eq!(rt; told, (Some(b".text".as_slice()), Some([0xc3].as_slice())));
     Ok(())
 }
 

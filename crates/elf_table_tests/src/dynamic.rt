@@ -1,10 +1,10 @@
 //! Dynamic sections: a file that names one library.
-use crate::verdicts::{Table, verdict_of};
+use crate::verdicts::{Table, assert_breaks};
 use elf_field::{Dyn, Order};
 use elf_image::{Fault, parse};
 use elf_table::Dynamic;
 use elf_test_files::{Field, set, set_header};
-use std::test::Fail;
+use std::process::Abort;
 
 /// A dynamic section of two entries at 64, its string table at 96, and the section headers at 104.
 const DYNAMIC: [Field; 16] = [
@@ -32,20 +32,24 @@ fn dynamic() -> [u8; 296] {
     file
 }
 
+/// The entries are one, which names the library.
+fn assert_names_one_library(rt: &impl Abort, dynamic: &Dynamic<'_>) {
+    assert_eq!(rt; dynamic.len(), 1);
+    let library = Dyn { d_tag: 1, d_un: 1 };
+    assert_eq!(rt; (dynamic.entry(0), dynamic.iter().count()), (library, 1));
+}
+
 #[test]
-fn tells_the_entries_before_the_end(rt: HostRuntime) -> Result<(), Fail> {
+fn tells_the_entries_before_the_end(rt: HostRuntime) -> Result<(), Fault> {
     let file = dynamic();
     let image = parse(rt.alloc(), &file)?;
     assert!(rt; image.section_count() > 1);
-    let dynamic = Dynamic::new(&image, 1)?;
-    assert_eq!(rt; dynamic.len(), 1);
-    assert_eq!(rt; dynamic.entry(0), Dyn { d_tag: 1, d_un: 1 });
-    assert_eq!(rt; dynamic.iter().count(), 1);
+    assert_names_one_library(&rt, &Dynamic::new(&image, 1)?);
     Ok(())
 }
 
 #[test]
-fn tells_the_first_rule_that_a_dynamic_section_breaks(rt: HostRuntime) -> Result<(), Fail> {
+fn tells_the_first_rule_that_a_dynamic_section_breaks(rt: HostRuntime) {
     let broken = [
         ((172, 4, 1), 40, 172),
         ((224, 8, 8), 42, 224),
@@ -59,14 +63,6 @@ fn tells_the_first_rule_that_a_dynamic_section_breaks(rt: HostRuntime) -> Result
     for (field, rule, at) in &broken {
         let mut file = dynamic();
         set(&mut file, Order::Little, &[*field]);
-        let fault = Fault::Rule {
-            rule: *rule,
-            at: *at,
-        };
-        assert_eq!(rt;
-            verdict_of(rt.alloc(), &file, 1, Table::Dynamic),
-            Err(fault)
-        );
+        assert_breaks(&rt, rt.alloc(), &file, 1, Table::Dynamic, *rule, *at);
     }
-    Ok(())
 }

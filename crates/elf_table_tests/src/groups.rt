@@ -1,10 +1,11 @@
 //! Section groups: a file of one group.
-use crate::verdicts::{Table, verdict_of};
+use crate::verdicts::{Table, assert_breaks};
 use elf_field::Order;
 use elf_image::{Fault, parse};
 use elf_table::{Group, Tables};
 use elf_test_files::{Field, set, set_header};
-use std::test::Fail;
+use std::alloc::Global;
+use std::process::Abort;
 
 /// A group of one section, at 64 with room for a further member; that section at 76; two symbols at 80 and their names at 128; and
 /// the section headers at 136.
@@ -51,37 +52,46 @@ fn group() -> [u8; 456] {
     file
 }
 
+/// The group has section 2 alone, and symbol 1 signs it.
+fn assert_one_member(rt: &impl Abort, group: &Group<'_>) {
+    assert_eq!(rt; group.len(), 1);
+    assert_eq!(rt;
+        [group.flags(), group.signature(), group.entry(0)],
+        [1, 1, 2]
+    );
+    assert_eq!(rt; group.iter().count(), 1);
+}
+
 #[test]
-fn tells_a_group_and_its_members(rt: HostRuntime) -> Result<(), Fail> {
+fn tells_a_group_and_its_members(rt: HostRuntime) -> Result<(), Fault> {
     let file = group();
     let image = parse(rt.alloc(), &file)?;
     assert!(rt; image.section_count() > 1);
-    let group = Group::new(rt.alloc(), &image, 1)?;
-    assert_eq!(rt; group.flags(), 1);
-    assert_eq!(rt; group.signature(), 1);
-    assert_eq!(rt; group.len(), 1);
-    assert_eq!(rt; group.entry(0), 2);
-    assert_eq!(rt; group.iter().count(), 1);
+    assert_one_member(&rt, &Group::new(rt.alloc(), &image, 1)?);
     Ok(())
 }
 
+/// Whether section 1 of the file is refused when all tables are judged.
+fn is_refused_with_the_other_tables(alloc: Global, file: &[u8]) -> Result<bool, Fault> {
+    let image = parse(alloc, file)?;
+    if image.section_count() < 2 {
+        return Ok(false);
+    }
+    let tables = Tables::new(alloc, &image)?;
+    Ok(tables.verdict(1).is_err())
+}
+
 #[test]
-fn judges_a_group_with_the_other_tables(rt: HostRuntime) -> Result<(), Fail> {
+fn judges_a_group_with_the_other_tables(rt: HostRuntime) -> Result<(), Fault> {
     let mut file = group();
     file[424] = 2;
-    let image = parse(rt.alloc(), &file)?;
-    assert!(rt; image.section_count() > 1);
-    let tables = Tables::new(rt.alloc(), &image)?;
-    assert_eq!(rt; tables.verdict(1).is_err(), true);
-    assert_eq!(rt;
-        verdict_of(rt.alloc(), &file, 1, Table::Group),
-        Err(Fault::Rule { rule: 41, at: 129 })
-    );
+    assert_eq!(rt; is_refused_with_the_other_tables(rt.alloc(), &file)?, true);
+    assert_breaks(&rt, rt.alloc(), &file, 1, Table::Group, 41, 129);
     Ok(())
 }
 
 #[test]
-fn tells_the_first_rule_that_a_group_breaks(rt: HostRuntime) -> Result<(), Fail> {
+fn tells_the_first_rule_that_a_group_breaks(rt: HostRuntime) {
     let broken = [
         ((204, 4, 1), 40, 204),
         ((256, 8, 8), 42, 256),
@@ -100,11 +110,6 @@ fn tells_the_first_rule_that_a_group_breaks(rt: HostRuntime) -> Result<(), Fail>
     for (field, rule, at) in &broken {
         let mut file = group();
         set(&mut file, Order::Little, &[*field]);
-        let fault = Fault::Rule {
-            rule: *rule,
-            at: *at,
-        };
-        assert_eq!(rt; verdict_of(rt.alloc(), &file, 1, Table::Group), Err(fault));
+        assert_breaks(&rt, rt.alloc(), &file, 1, Table::Group, *rule, *at);
     }
-    Ok(())
 }

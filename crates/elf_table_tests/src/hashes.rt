@@ -1,9 +1,10 @@
 //! Hash tables: of three names.
-use crate::verdicts::{Table, verdict_of};
+use crate::verdicts::{Table, assert_breaks};
 use elf_field::Order;
 use elf_image::{Fault, parse};
 use elf_table::{Hash, HashFault, build_hash, elf_hash};
 use elf_test_files::{Field, set, set_header};
+use std::process::Abort;
 use std::test::Fail;
 
 /// A hash table of two buckets at 64, four symbols at 96, their names at 192, and the section headers at 208.
@@ -51,46 +52,46 @@ fn hash() -> [u8; 464] {
 }
 
 #[test]
-fn hashes_names(rt: HostRuntime) -> Result<(), Fail> {
-    assert_eq!(rt; elf_hash(b""), 0);
-    assert_eq!(rt; elf_hash(b"printf"), 0x0779_05a6);
-    assert_eq!(rt; elf_hash(b"exit"), 0x0006_cf04);
-    assert_eq!(rt; elf_hash(b"syscall"), 0x0b09_985c);
-    Ok(())
+fn hashes_names(rt: HostRuntime) {
+    let hashes = [
+        elf_hash(b""),
+        elf_hash(b"printf"),
+        elf_hash(b"exit"),
+        elf_hash(b"syscall"),
+    ];
+    assert_eq!(rt; hashes, [0, 0x0779_05a6, 0x0006_cf04, 0x0b09_985c]);
+}
+
+fn assert_finds_each_name(rt: &impl Abort, hash: &Hash<'_>) {
+    let found = [
+        hash.find(b"printf"),
+        hash.find(b"exit"),
+        hash.find(b"b"),
+        hash.find(b""),
+    ];
+    assert_eq!(rt; found, [Some(1), Some(2), None, None]);
+    let probed = [hash.probe(b"exit"), hash.probe(b"a"), hash.probe(b"b")];
+    assert_eq!(rt; probed, [(Some(2), 2), (Some(3), 1), (None, 2)]);
+}
+
+fn assert_words(rt: &impl Abort, hash: &Hash<'_>) {
+    assert_eq!(rt; (hash.nbucket(), hash.nchain(), hash.len()), (2, 4, 8));
+    assert_eq!(rt; (hash.entry(3), hash.iter().count()), (3, 8));
 }
 
 #[test]
-fn finds_each_name(rt: HostRuntime) -> Result<(), Fail> {
+fn finds_each_name_and_tells_the_words(rt: HostRuntime) -> Result<(), Fault> {
     let file = hash();
     let image = parse(rt.alloc(), &file)?;
     assert!(rt; image.section_count() > 1);
     let hash = Hash::new(rt.alloc(), &image, 1)?;
-    assert_eq!(rt; hash.find(b"printf"), Some(1));
-    assert_eq!(rt; hash.find(b"exit"), Some(2));
-    assert_eq!(rt; hash.find(b"b"), None);
-    assert_eq!(rt; hash.find(b""), None);
-    assert_eq!(rt; hash.probe(b"exit"), (Some(2), 2));
-    assert_eq!(rt; hash.probe(b"a"), (Some(3), 1));
-    assert_eq!(rt; hash.probe(b"b"), (None, 2));
+    assert_finds_each_name(&rt, &hash);
+    assert_words(&rt, &hash);
     Ok(())
 }
 
 #[test]
-fn tells_the_words(rt: HostRuntime) -> Result<(), Fail> {
-    let file = hash();
-    let image = parse(rt.alloc(), &file)?;
-    assert!(rt; image.section_count() > 1);
-    let hash = Hash::new(rt.alloc(), &image, 1)?;
-    assert_eq!(rt; hash.nbucket(), 2);
-    assert_eq!(rt; hash.nchain(), 4);
-    assert_eq!(rt; hash.len(), 8);
-    assert_eq!(rt; hash.entry(3), 3);
-    assert_eq!(rt; hash.iter().count(), 8);
-    Ok(())
-}
-
-#[test]
-fn tells_the_first_rule_that_a_hash_table_breaks(rt: HostRuntime) -> Result<(), Fail> {
+fn tells_the_first_rule_that_a_hash_table_breaks(rt: HostRuntime) {
     let broken = [
         ((276, 4, 1), 40, 276),
         ((328, 8, 8), 42, 328),
@@ -108,13 +109,8 @@ fn tells_the_first_rule_that_a_hash_table_breaks(rt: HostRuntime) -> Result<(), 
     for (field, rule, at) in &broken {
         let mut file = hash();
         set(&mut file, Order::Little, &[*field]);
-        let fault = Fault::Rule {
-            rule: *rule,
-            at: *at,
-        };
-        assert_eq!(rt; verdict_of(rt.alloc(), &file, 1, Table::Hash), Err(fault));
+        assert_breaks(&rt, rt.alloc(), &file, 1, Table::Hash, *rule, *at);
     }
-    Ok(())
 }
 
 #[test]
@@ -131,7 +127,7 @@ fn builds_a_hash_table(rt: HostRuntime) -> Result<(), Fail> {
 }
 
 #[test]
-fn builds_none_without_a_bucket_or_of_too_many(rt: HostRuntime) -> Result<(), Fail> {
+fn builds_none_without_a_bucket_or_of_too_many(rt: HostRuntime) {
     let none: [&[u8]; 1] = [b""];
     assert_eq!(rt;
         build_hash(rt.alloc(), &none, 0).err(),
@@ -142,5 +138,4 @@ fn builds_none_without_a_bucket_or_of_too_many(rt: HostRuntime) -> Result<(), Fa
         build_hash(rt.alloc(), &none, many).err(),
         Some(HashFault::TooMany)
     );
-    Ok(())
 }

@@ -1,10 +1,10 @@
 //! Note sections: a file of one note.
-use crate::verdicts::{Table, verdict_of};
+use crate::verdicts::{Table, assert_breaks};
 use elf_field::Order;
 use elf_image::{Fault, parse};
 use elf_table::{Note, Notes};
 use elf_test_files::{Field, set, set_header};
-use std::test::Fail;
+use std::process::Abort;
 
 /// A note section of one note, whose 20 bytes stand at 64, and the section headers at 88.
 const NOTE: [Field; 12] = [
@@ -28,25 +28,27 @@ fn note() -> [u8; 216] {
     file
 }
 
-#[test]
-fn tells_each_note(rt: HostRuntime) -> Result<(), Fail> {
-    let file = note();
-    let image = parse(rt.alloc(), &file)?;
-    assert!(rt; image.section_count() > 1);
-    let notes = Notes::new(&image, 1)?;
-    let first = Note {
+fn assert_one_note(rt: &impl Abort, notes: &Notes<'_>) {
+    let note = Note {
         note_type: 1,
         name: b"GNU",
         desc: b"\xaa\xbb\xcc",
     };
     let mut iter = notes.iter();
-    assert_eq!(rt; iter.next(), Some(first));
-    assert_eq!(rt; iter.next(), None);
+    assert_eq!(rt; [iter.next(), iter.next()], [Some(note), None]);
+}
+
+#[test]
+fn tells_each_note(rt: HostRuntime) -> Result<(), Fault> {
+    let file = note();
+    let image = parse(rt.alloc(), &file)?;
+    assert!(rt; image.section_count() > 1);
+    assert_one_note(&rt, &Notes::new(&image, 1)?);
     Ok(())
 }
 
 #[test]
-fn tells_the_first_rule_that_notes_break(rt: HostRuntime) -> Result<(), Fail> {
+fn tells_the_first_rule_that_notes_break(rt: HostRuntime) {
     let broken = [
         ((156, 4, 1), 40, 156),
         ((184, 8, 19), 61, 68),
@@ -58,11 +60,6 @@ fn tells_the_first_rule_that_notes_break(rt: HostRuntime) -> Result<(), Fail> {
     for (field, rule, at) in &broken {
         let mut file = note();
         set(&mut file, Order::Little, &[*field]);
-        let fault = Fault::Rule {
-            rule: *rule,
-            at: *at,
-        };
-        assert_eq!(rt; verdict_of(rt.alloc(), &file, 1, Table::Notes), Err(fault));
+        assert_breaks(&rt, rt.alloc(), &file, 1, Table::Notes, *rule, *at);
     }
-    Ok(())
 }

@@ -1,11 +1,11 @@
 //! String tables and symbol tables: of an object of a call, and of a file that has every part of a symbol table.
-use crate::verdicts::{Table, verdict_of};
+use crate::verdicts::{Table, assert_breaks, verdict_of};
 use elf_field::Order;
 use elf_image::{Fault, parse};
 use elf_table::{Place, Relocation, Relocs, Strings, Symbol, Symbols, Tables};
 use elf_test_files::{Field, set, set_header};
 use std::alloc::Global;
-use std::test::Fail;
+use std::process::Abort;
 
 /// The object of one function that calls another one: `.text`, its relocations, two symbols and their names, as laid out by
 /// the offsets and sizes of its sections.
@@ -154,83 +154,101 @@ fn main_symbol() -> Symbol<'static> {
     }
 }
 
-#[test]
-fn tells_the_strings_of_a_string_table(rt: HostRuntime) -> Result<(), Fail> {
-    let file = call();
-    let image = parse(rt.alloc(), &file)?;
-    assert!(rt; image.section_count() > 4);
-    let strings = Strings::new(&image, 4)?;
-    assert_eq!(rt; strings.get(1), Some(b"main".as_slice()));
-    assert_eq!(rt; strings.get(6), Some(b"callee".as_slice()));
-    assert_eq!(rt; strings.get(8), Some(b"llee".as_slice()));
-    assert_eq!(rt; strings.get(12), Some(b"".as_slice()));
-    assert_eq!(rt; strings.get(13), None);
-    Ok(())
+fn assert_strings(rt: &impl Abort, strings: &Strings<'_>) {
+    let told = [
+        strings.get(1),
+        strings.get(6),
+        strings.get(8),
+        strings.get(12),
+        strings.get(13),
+    ];
+    let expected: [Option<&[u8]>; 5] = [
+        Some(b"main"),
+        Some(b"callee"),
+        Some(b"llee"),
+        Some(b""),
+        None,
+    ];
+    assert_eq!(rt; told, expected);
 }
 
 #[test]
-fn tells_each_symbol(rt: HostRuntime) -> Result<(), Fail> {
+fn tells_the_strings_of_a_string_table(rt: HostRuntime) -> Result<(), Fault> {
+    let file = call();
+    let image = parse(rt.alloc(), &file)?;
+    assert!(rt; image.section_count() > 4);
+    assert_strings(&rt, &Strings::new(&image, 4)?);
+    Ok(())
+}
+
+fn assert_symbols(rt: &impl Abort, symbols: &Symbols<'_>) {
+    assert_eq!(rt; symbols.len(), 3);
+    assert_eq!(rt; symbols.entry(1), main_symbol());
+    let callee = symbols.entry(2);
+    assert_eq!(rt;
+        (callee.name, callee.place, symbols.iter().count()),
+        (b"callee".as_slice(), Place::Undefined, 3)
+    );
+}
+
+#[test]
+fn tells_each_symbol(rt: HostRuntime) -> Result<(), Fault> {
     let file = call();
     let image = parse(rt.alloc(), &file)?;
     assert!(rt; image.section_count() > 3);
-    let symbols = Symbols::new(&image, 3)?;
-    assert_eq!(rt; symbols.len(), 3);
-    assert_eq!(rt; symbols.entry(1), main_symbol());
-    assert_eq!(rt; symbols.entry(2).name, b"callee".as_slice());
-    assert_eq!(rt; symbols.entry(2).place, Place::Undefined);
-    assert_eq!(rt; symbols.iter().count(), 3);
+    assert_symbols(&rt, &Symbols::new(&image, 3)?);
     Ok(())
 }
 
+/// Whether sections 0 and 3 of the file are kept when all tables are judged, None where they are not there.
+fn are_kept_with_the_other_tables(alloc: Global, file: &[u8]) -> Result<Option<[bool; 2]>, Fault> {
+    let image = parse(alloc, file)?;
+    if image.section_count() < 4 {
+        return Ok(None);
+    }
+    let tables = Tables::new(alloc, &image)?;
+    Ok(Some([tables.verdict(0).is_ok(), tables.verdict(3).is_ok()]))
+}
+
 #[test]
-fn judges_every_table_of_an_image(rt: HostRuntime) -> Result<(), Fail> {
+fn judges_every_table_of_an_image(rt: HostRuntime) -> Result<(), Fault> {
     let file = call();
-    let image = parse(rt.alloc(), &file)?;
-    assert!(rt; image.section_count() > 4);
-    let tables = Tables::new(rt.alloc(), &image)?;
-    assert_eq!(rt; tables.verdict(0), Ok(()));
-    assert_eq!(rt; tables.verdict(3), Ok(()));
-    assert_eq!(rt; Symbols::new(&image, 4).is_err(), true);
+    let kept = are_kept_with_the_other_tables(rt.alloc(), &file)?;
+    let of_other_type = verdict_of(rt.alloc(), &file, 4, Table::Symbols);
+    assert_eq!(rt; (kept, of_other_type.is_err()), (Some([true; 2]), true));
     Ok(())
 }
 
 #[test]
-fn tells_the_first_rule_that_a_string_table_breaks(rt: HostRuntime) -> Result<(), Fail> {
+fn tells_the_first_rule_that_a_string_table_breaks(rt: HostRuntime) {
     let mut file = symbols(Order::Big);
-    let of_type = Fault::Rule { rule: 40, at: 352 };
-    assert_eq!(rt;
-        verdict_of(rt.alloc(), &file, 3, Table::Strings),
-        Err(of_type)
-    );
+    assert_breaks(&rt, rt.alloc(), &file, 3, Table::Strings, 40, 352);
     file[139] = 1;
-    let unclosed = Fault::Rule { rule: 41, at: 139 };
-    assert_eq!(rt;
-        verdict_of(rt.alloc(), &file, 2, Table::Strings),
-        Err(unclosed)
-    );
-    Ok(())
+    assert_breaks(&rt, rt.alloc(), &file, 2, Table::Strings, 41, 139);
 }
 
-#[test]
-fn tells_each_relocation(rt: HostRuntime) -> Result<(), Fail> {
-    let file = call();
-    let image = parse(rt.alloc(), &file)?;
-    assert!(rt; image.section_count() > 2);
-    let relocs = Relocs::new(&image, 2)?;
+fn assert_one_relocation(rt: &impl Abort, relocs: &Relocs<'_>) {
+    assert_eq!(rt; relocs.len(), 1);
     let relocation = Relocation {
         offset: 1,
         symbol: 2,
         relocation_type: 2,
         addend: Some(-4),
     };
-    assert_eq!(rt; relocs.len(), 1);
-    assert_eq!(rt; relocs.entry(0), relocation);
-    assert_eq!(rt; relocs.iter().count(), 1);
+    assert_eq!(rt; (relocs.entry(0), relocs.iter().count()), (relocation, 1));
+}
+
+#[test]
+fn tells_each_relocation(rt: HostRuntime) -> Result<(), Fault> {
+    let file = call();
+    let image = parse(rt.alloc(), &file)?;
+    assert!(rt; image.section_count() > 2);
+    assert_one_relocation(&rt, &Relocs::new(&image, 2)?);
     Ok(())
 }
 
 #[test]
-fn tells_the_first_rule_that_relocations_break(rt: HostRuntime) -> Result<(), Fail> {
+fn tells_the_first_rule_that_relocations_break(rt: HostRuntime) {
     let broken = [
         ((364, 4, 2), 40, 364),
         ((416, 8, 16), 42, 416),
@@ -243,13 +261,8 @@ fn tells_the_first_rule_that_relocations_break(rt: HostRuntime) -> Result<(), Fa
     for (field, rule, at) in &broken {
         let mut file = call();
         set(&mut file, Order::Little, &[*field]);
-        let fault = Fault::Rule {
-            rule: *rule,
-            at: *at,
-        };
-        assert_eq!(rt; verdict_of(rt.alloc(), &file, 2, Table::Relocs), Err(fault));
+        assert_breaks(&rt, rt.alloc(), &file, 2, Table::Relocs, *rule, *at);
     }
-    Ok(())
 }
 
 /// What a table tells lives as long as the file's bytes: longer than the image and the table.
@@ -275,53 +288,35 @@ fn string_behind(alloc: Global, file: &[u8]) -> Result<Option<&[u8]>, Fault> {
 }
 
 #[test]
-fn names_outlive_the_image(rt: HostRuntime) -> Result<(), Fail> {
+fn names_outlive_the_image(rt: HostRuntime) {
     let file = symbols(Order::Little);
     assert_eq!(rt; name_of_symbol_2(rt.alloc(), &file), Ok(b"b".as_slice()));
     assert_eq!(rt;
         string_behind(rt.alloc(), &file),
         Ok(Some(b"ab".as_slice()))
     );
-    Ok(())
 }
 
 #[test]
-fn tells_the_first_rule_that_a_symbol_table_breaks(rt: HostRuntime) -> Result<(), Fail> {
+fn tells_the_first_rule_that_a_symbol_table_breaks(rt: HostRuntime) {
     for (fields, rule, at) in &BROKEN {
         let mut file = symbols(Order::Little);
         set(&mut file, Order::Little, fields);
-        let fault = Fault::Rule {
-            rule: *rule,
-            at: *at,
-        };
-        assert_eq!(rt;
-            verdict_of(rt.alloc(), &file, 1, Table::Symbols),
-            Err(fault)
-        );
+        assert_breaks(&rt, rt.alloc(), &file, 1, Table::Symbols, *rule, *at);
     }
-    Ok(())
 }
 
 #[test]
-fn tells_it_in_big_order_too(rt: HostRuntime) -> Result<(), Fail> {
+fn tells_it_in_big_order_too(rt: HostRuntime) {
     for (fields, rule, at) in &BROKEN {
         let mut file = symbols(Order::Big);
         set(&mut file, Order::Big, fields);
-        let fault = Fault::Rule {
-            rule: *rule,
-            at: *at,
-        };
-        assert_eq!(rt;
-            verdict_of(rt.alloc(), &file, 1, Table::Symbols),
-            Err(fault)
-        );
+        assert_breaks(&rt, rt.alloc(), &file, 1, Table::Symbols, *rule, *at);
     }
-    Ok(())
 }
 
 #[test]
-fn accepts_the_file_unbroken(rt: HostRuntime) -> Result<(), Fail> {
+fn accepts_the_file_unbroken(rt: HostRuntime) {
     let file = symbols(Order::Big);
     assert_eq!(rt; verdict_of(rt.alloc(), &file, 1, Table::Symbols), Ok(()));
-    Ok(())
 }

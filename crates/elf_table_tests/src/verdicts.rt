@@ -2,6 +2,7 @@
 use elf_image::{Fault, parse};
 use elf_table::{Dynamic, Group, Hash, Notes, Relocs, Strings, Symbols};
 use std::alloc::Global;
+use std::process::Abort;
 
 /// The table that a section is taken for.
 #[derive(Clone, Copy)]
@@ -26,28 +27,28 @@ pub(crate) fn verdict_of(
     if image.section_count() <= index {
         return Ok(());
     }
-    match table {
-        Table::Dynamic => {
-            Dynamic::new(&image, index)?;
-        }
-        Table::Group => {
-            Group::new(alloc, &image, index)?;
-        }
-        Table::Hash => {
-            Hash::new(alloc, &image, index)?;
-        }
-        Table::Notes => {
-            Notes::new(&image, index)?;
-        }
-        Table::Relocs => {
-            Relocs::new(&image, index)?;
-        }
-        Table::Strings => {
-            Strings::new(&image, index)?;
-        }
-        Table::Symbols => {
-            Symbols::new(&image, index)?;
-        }
-    }
-    Ok(())
+    let fault = match table {
+        Table::Dynamic => Dynamic::new(&image, index).err(),
+        Table::Group => Group::new(alloc, &image, index).err(),
+        Table::Hash => Hash::new(alloc, &image, index).err(),
+        Table::Notes => Notes::new(&image, index).err(),
+        Table::Relocs => Relocs::new(&image, index).err(),
+        Table::Strings => Strings::new(&image, index).err(),
+        Table::Symbols => Symbols::new(&image, index).err(),
+    };
+    fault.map_or(Ok(()), Err)
+}
+
+/// Section `index` of the file is no such table: it breaks this rule first, at this offset.
+pub(crate) fn assert_breaks(
+    rt: &impl Abort,
+    alloc: Global,
+    file: &[u8],
+    index: usize,
+    table: Table,
+    rule: u16,
+    at: u64,
+) {
+    let verdict = verdict_of(alloc, file, index, table);
+    assert_eq!(rt; verdict, Err(Fault::Rule { rule, at }));
 }

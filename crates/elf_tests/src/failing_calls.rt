@@ -3,10 +3,12 @@
 use crate::program::HEADER;
 use elf_test_files::{PIECE, Sink, Source};
 use elf_tool::{ToolFault, Verdict, check, show};
+use std::alloc::Global;
 use std::io::ErrorKind;
+use std::process::Abort;
 
 /// What `show` prints of it.
-const HEADER_TEXT: &[u8; 49] = b"file little 1 62 0x0 0x0\npart 0x0 0x40 header\n\0\0\0";
+const HEADER_TEXT: &[u8; 46] = b"file little 1 62 0x0 0x0\npart 0x0 0x40 header\n";
 
 /// How a call fails.
 const FAILURES: [ErrorKind; 3] = [
@@ -29,18 +31,32 @@ fn failure_of(k: usize) -> Option<ErrorKind> {
 fn a_read_that_fails_once_is_not_tried_again(rt: HostRuntime) {
     for k in 0..27 {
         let call = k / 3;
-        let mut reader = Source::new(&HEADER, call, Some(FAILURES[k % 3]));
+        let mut reader = Source::new(HEADER, call, Some(FAILURES[k % 3]));
         let mut writer = Sink::new(100, None);
         let answer = check(rt.alloc(), &mut reader, &mut writer);
         let at = (call * PIECE) as u64;
         assert_eq!(rt; answer, Err(ToolFault::Read { at }), "call {k}");
-        assert_eq!(rt;
-            (reader.calls, reader.empty_calls),
-            (call + 1, 0),
-            "call {k}"
-        );
-        assert_eq!(rt; (writer.calls, writer.flushes), (0, 0), "call {k}");
+        let calls = [
+            reader.calls,
+            reader.empty_calls,
+            writer.calls,
+            writer.flushes,
+        ];
+        assert_eq!(rt; calls, [call + 1, 0, 0, 0], "call {k}");
     }
+}
+
+/// The check of a header whose read of this number gives no bytes says this, and reads no more.
+fn assert_ends(rt: &impl Abort, alloc: Global, call: usize, line: &str) {
+    let mut reader = Source::new(HEADER, call, None);
+    let mut writer = Sink::new(100, None);
+    let is_done = check(alloc, &mut reader, &mut writer) == Ok(Verdict::Done);
+    let calls = (reader.calls, reader.empty_calls);
+    assert_eq!(rt;
+        (is_done, writer.text(), calls),
+        (call == 8, line.as_bytes(), (call.saturating_add(1), 0)),
+        "call {call}"
+    );
 }
 
 #[test]
@@ -57,21 +73,29 @@ fn a_read_of_no_bytes_is_the_end(rt: HostRuntime) {
         "ok 64 0 0\n",
     ];
     for (call, line) in lines.iter().enumerate() {
-        let mut reader = Source::new(&HEADER, call, None);
-        let mut writer = Sink::new(100, None);
-        let answer = check(rt.alloc(), &mut reader, &mut writer);
-        assert_eq!(rt;
-            matches!(answer, Ok(Verdict::Done)),
-            call == 8,
-            "call {call}"
-        );
-        assert_eq!(rt; writer.text(), line.as_bytes(), "call {call}");
-        assert_eq!(rt;
-            (reader.calls, reader.empty_calls),
-            (call.saturating_add(1), 0),
-            "call {call}"
-        );
+        assert_ends(&rt, rt.alloc(), call, *line);
     }
+}
+
+/// The writer's call of this number was the last one: what it took before is out, and the answer tells it.
+fn assert_stopped(
+    rt: &impl Abort,
+    answer: Result<Verdict, ToolFault>,
+    writer: &Sink,
+    call: usize,
+    text: &[u8],
+) {
+    let out = call.saturating_mul(PIECE);
+    let written = out as u64;
+    assert_eq!(rt;
+        (answer, Some(writer.text())),
+        (Err(ToolFault::Write { written }), text.get(..out))
+    );
+    let calls = [writer.calls, writer.empty_calls, writer.flushes];
+    assert_eq!(rt;
+        (calls, writer.longest),
+        ([call.saturating_add(1), 0, 0], text.len())
+    );
 }
 
 // The line of ten bytes goes out in two calls, after one offer of it whole.
@@ -79,20 +103,10 @@ fn a_read_of_no_bytes_is_the_end(rt: HostRuntime) {
 fn a_write_of_the_line_that_fails_once_is_not_tried_again(rt: HostRuntime) {
     for k in 0..8 {
         let call = k / 4;
-        let failure = failure_of(k);
-        let mut reader = Source::new(&HEADER, 100, None);
-        let mut writer = Sink::new(call, failure);
+        let mut reader = Source::new(HEADER, 100, None);
+        let mut writer = Sink::new(call, failure_of(k));
         let answer = check(rt.alloc(), &mut reader, &mut writer);
-        let out = call * PIECE;
-        let written = out as u64;
-        assert_eq!(rt; answer, Err(ToolFault::Write { written }), "case {k}");
-        assert_eq!(rt; writer.text(), &b"ok 64 0 0\n"[..out], "case {k}");
-        assert_eq!(rt;
-            (writer.calls, writer.empty_calls, writer.flushes),
-            (call + 1, 0, 0),
-            "case {k}"
-        );
-        assert_eq!(rt; writer.longest, 10, "case {k}");
+        assert_stopped(&rt, answer, &writer, call, b"ok 64 0 0\n");
     }
 }
 
@@ -101,33 +115,28 @@ fn a_write_of_the_line_that_fails_once_is_not_tried_again(rt: HostRuntime) {
 fn a_write_of_the_lines_that_fails_once_is_not_tried_again(rt: HostRuntime) {
     for k in 0..24 {
         let call = k / 4;
-        let failure = failure_of(k);
-        let mut reader = Source::new(&HEADER, 100, None);
-        let mut writer = Sink::new(call, failure);
+        let mut reader = Source::new(HEADER, 100, None);
+        let mut writer = Sink::new(call, failure_of(k));
         let answer = show(rt.alloc(), &mut reader, &mut writer);
-        let out = call * PIECE;
-        let written = out as u64;
-        assert_eq!(rt; answer, Err(ToolFault::Write { written }), "case {k}");
-        assert_eq!(rt; writer.text(), &HEADER_TEXT[..out], "case {k}");
-        assert_eq!(rt;
-            (writer.calls, writer.empty_calls, writer.flushes),
-            (call + 1, 0, 0),
-            "case {k}"
-        );
-        assert_eq!(rt; writer.longest, 46, "case {k}");
+        assert_stopped(&rt, answer, &writer, call, HEADER_TEXT);
     }
 }
 
 #[test]
 fn a_text_that_goes_out_is_not_flushed(rt: HostRuntime) {
-    let mut reader = Source::new(&HEADER, 100, None);
+    let mut reader = Source::new(HEADER, 100, None);
     let mut writer = Sink::new(100, None);
     let answer = show(rt.alloc(), &mut reader, &mut writer);
-    assert!(rt; matches!(answer, Ok(Verdict::Done)));
-    assert_eq!(rt; writer.text(), &HEADER_TEXT[..46]);
-    assert_eq!(rt; (reader.calls, reader.empty_calls), (9, 0));
     assert_eq!(rt;
-        (writer.calls, writer.empty_calls, writer.flushes),
-        (6, 0, 0)
+        (answer, writer.text()),
+        (Ok(Verdict::Done), HEADER_TEXT.as_slice())
     );
+    let calls = [
+        reader.calls,
+        reader.empty_calls,
+        writer.calls,
+        writer.empty_calls,
+        writer.flushes,
+    ];
+    assert_eq!(rt; calls, [9, 0, 6, 0, 0]);
 }

@@ -1,7 +1,9 @@
 //! The word for the file is the name that is opened, as it stands.
 use crate::program::HEADER;
 use elf_tool::{MachineFiles, OpenFault, Opener, run};
+use std::alloc::Global;
 use std::io::Read;
+use std::process::Abort;
 
 /// Has a header alone under one name, and answers a fault for every other.
 #[derive(Drop)]
@@ -17,11 +19,32 @@ impl<'a> Opener for OneName<'a> {
     fn reader(&mut self, name: &str) -> Result<&'static [u8], OpenFault> {
         self.asked = self.asked.saturating_add(1);
         if name == self.name {
-            Ok(&HEADER)
+            Ok(HEADER)
         } else {
             Err(self.fault)
         }
     }
+}
+
+/// What the program writes for these words, and says, and its status; and for how many names it asks.
+fn assert_runs(
+    rt: &impl Abort,
+    alloc: Global,
+    words: &[&str],
+    files: &mut OneName<'_>,
+    status: u8,
+    said: &str,
+    complained: &str,
+) {
+    let mut out = Vec::new(alloc);
+    let mut err = Vec::new(alloc);
+    let ended = run(alloc, words, files, &mut out, &mut err);
+    assert_eq!(rt; (ended, files.asked), (status, 1), "{words:?}");
+    assert_eq!(rt;
+        (out.as_slice(), err.as_slice()),
+        (said.as_bytes(), complained.as_bytes()),
+        "{words:?}"
+    );
 }
 
 #[test]
@@ -35,13 +58,8 @@ fn opens_the_name_as_it_stands(rt: HostRuntime) {
             fault: OpenFault::Refused,
             asked: 0,
         };
-        let mut out = Vec::new(rt.alloc());
-        let mut err = Vec::new(rt.alloc());
         let words = ["elfmap", "check", "--", name];
-        let status = run(rt.alloc(), &words, &mut files, &mut out, &mut err);
-        assert_eq!(rt; (status, files.asked), (0, 1), "{name}");
-        assert_eq!(rt; out.as_slice(), b"ok 64 0 0\n".as_slice(), "{name}");
-        assert!(rt; err.is_empty(), "{name}");
+        assert_runs(&rt, rt.alloc(), &words, &mut files, 0, "ok 64 0 0\n", "");
     }
 }
 
@@ -60,13 +78,8 @@ fn names_the_file_that_does_not_open(rt: HostRuntime) {
             fault: OpenFault::Refused,
             asked: 0,
         };
-        let mut out = Vec::new(rt.alloc());
-        let mut err = Vec::new(rt.alloc());
         let words = ["elfmap", "show", "--", name];
-        let status = run(rt.alloc(), &words, &mut files, &mut out, &mut err);
-        assert_eq!(rt; (status, files.asked), (3, 1), "{name}");
-        assert!(rt; out.is_empty(), "{name}");
-        assert_eq!(rt; err.as_slice(), told.as_bytes(), "{name}");
+        assert_runs(&rt, rt.alloc(), &words, &mut files, 3, "", told);
     }
 }
 
@@ -78,13 +91,16 @@ fn an_opener_that_wants_memory(rt: HostRuntime) {
             fault: OpenFault::OutOfMemory,
             asked: 0,
         };
-        let mut out = Vec::new(rt.alloc());
-        let mut err = Vec::new(rt.alloc());
         let words = ["elfmap", command, "b.o"];
-        let status = run(rt.alloc(), &words, &mut files, &mut out, &mut err);
-        assert_eq!(rt; (status, files.asked), (3, 1), "{command}");
-        assert!(rt; out.is_empty(), "{command}");
-        assert_eq!(rt; err.as_slice(), b"out of memory\n".as_slice(), "{command}");
+        assert_runs(
+            &rt,
+            rt.alloc(),
+            &words,
+            &mut files,
+            3,
+            "",
+            "out of memory\n",
+        );
     }
 }
 

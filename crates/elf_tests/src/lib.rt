@@ -15,6 +15,8 @@ mod many_segments;
 #[cfg(test)]
 mod program;
 #[cfg(test)]
+mod said;
+#[cfg(test)]
 mod two_of_each;
 
 pub use known_files::{KnownBytes, KnownFile, status_of_check};

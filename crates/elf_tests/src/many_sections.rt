@@ -2,9 +2,10 @@
 //! table too, stand in section header 0.
 ghost use Rattle.std.specs.Prelude.{◌<◌, ◌≡◌, length};
 
+use crate::said::{assert_accepts, assert_lines, assert_written_back};
 use elf_field::{Ehdr, Order, Record, Shdr};
-use elf_image::{parse, verdict, write};
-use elf_tool::{Verdict, check, show};
+use elf_image::{Fault, parse, verdict};
+use elf_tool::{Verdict, show};
 use std::alloc::{AllocError, Global};
 use std::io;
 use std::io::Write;
@@ -99,6 +100,12 @@ fn object(alloc: Global, count: u32) -> Result<Vec<u8>, AllocError>
     Ok(file)
 }
 
+/// How many sections the image of these bytes has, and the index of its name table.
+fn numbers_of(alloc: Global, bytes: &[u8]) -> Result<(u64, u32), Fault> {
+    let image = parse(alloc, bytes)?;
+    Ok((image.section_count() as u64, image.name_table()))
+}
+
 /// The object of `count` sections is accepted with this line, has its name table at this index, and
 /// is written back.
 fn assert_object(
@@ -112,20 +119,11 @@ fn assert_object(
     requires { count < 100000 }
 {
     let file = object(alloc, count)?;
-    assert_eq!(rt; file.len(), len);
-    assert_eq!(rt; verdict(&file), None);
-
-    let mut said = Vec::new(alloc);
-    let answer = check(alloc, &mut file.as_slice(), &mut said);
-    assert!(rt; matches!(answer, Ok(Verdict::Done)));
-    assert_eq!(rt; said.as_slice(), line.as_bytes());
-
-    let image = parse(alloc, &file).ok().ok_or("an image")?;
-    assert_eq!(rt; image.section_count() as u64, u64::from(count) + 4);
-    assert_eq!(rt; image.name_table(), names);
-    let mut written = Vec::new(alloc);
-    assert!(rt; write(&image, &mut written).is_ok());
-    assert!(rt; written.as_slice() == file.as_slice());
+    assert_eq!(rt; (file.len(), verdict(&file)), (len, None));
+    assert_accepts(rt, alloc, &file, line);
+    let numbers = numbers_of(alloc, &file)?;
+    assert_eq!(rt; numbers, (u64::from(count) + 4, names));
+    assert_written_back(rt, alloc, &file)?;
     Ok(())
 }
 
@@ -195,16 +193,12 @@ fn shows_each_section(rt: HostRuntime) -> Result<(), Fail> {
         longest: 0,
     };
     let answer = show(rt.alloc(), &mut file.as_slice(), &mut out);
-    assert!(rt; matches!(answer, Ok(Verdict::Done)));
-    assert!(rt; out.longest < 66_000);
-    let said = out.text;
+    assert_eq!(rt; (answer, out.longest < 66_000), (Ok(Verdict::Done), true));
     // The header's line, six parts, the sections, and a symbol.
-    let lines = said.iter().filter(|byte| **byte == b'\n').count();
-    assert_eq!(rt; lines, 1 + 6 + 65_279 + 1);
+    let lines = 1 + 6 + 65_279 + 1;
     let front = b"file little 1 62 0x0 0x0\npart 0x0 0x40 header\npart 0x40 0x18 content 65276\n";
-    assert!(rt; said.starts_with(front));
     let end =
         b"\nsection 65278 3 0x0 0x0 0x59 0x1b 0 0 0x1 0x0 .shstrtab\nsymbol 65276 0 0 0 0 undef 0x0 0x0 -\n";
-    assert!(rt; said.ends_with(end));
+    assert_lines(&rt, &out.text, lines, front, end);
     Ok(())
 }

@@ -8,12 +8,8 @@ use std::io::{ErrorKind, Write};
 use std::process::Abort;
 
 /// A header alone, of 64 bytes, in little order.
-pub(crate) const HEADER: [u8; 64] = [
-    0x7f, 0x45, 0x4c, 0x46, 2, 1, 1, 0, 0, 0, 0, 0, 0, 0, 0, 0, // identification
-    1, 0, 0x3e, 0, 1, 0, 0, 0, // e_type, e_machine, e_version
-    0, 0, 0, 0, 0, 0, 0, 0, 0, 0, 0, 0, 0, 0, 0, 0, 0, 0, 0, 0, 0, 0, 0, 0, 0, 0, 0, 0, 0x40, 0, 0,
-    0, 0, 0, 0, 0, 0, 0, 0, 0,
-];
+pub(crate) const HEADER: &[u8; 64] = b"\x7fELF\x02\x01\x01\0\0\0\0\0\0\0\0\0\x01\0\x3e\0\x01\0\0\0\
+    \0\0\0\0\0\0\0\0\0\0\0\0\0\0\0\0\0\0\0\0\0\0\0\0\0\0\0\0\x40\0\0\0\0\0\0\0\0\0\0\0";
 
 /// The words that ask for its check.
 const CHECK: [&str; 3] = ["elfmap", "check", "a.o"];
@@ -108,6 +104,14 @@ fn run_on(
     Ran { status, out, err }
 }
 
+/// It came to this status, and to these texts on the output and on standard error.
+fn assert_ran(rt: &impl Abort, ran: &Ran, status: u8, said: &str, complained: &str) {
+    assert_eq!(rt;
+        (ran.status, ran.out.text(), ran.err.text()),
+        (status, said.as_bytes(), complained.as_bytes())
+    );
+}
+
 /// The words, the bytes of `a.o`, the status, what stands on the output, and the text on standard
 /// error.
 type Row<'a> = (&'a [&'a str], &'a [u8], u8, &'a str, &'a str);
@@ -128,16 +132,13 @@ fn assert_end(rt: &impl Abort, alloc: Global, row: &Row<'_>, err_room: usize) {
         failure: None,
     };
     let ran = run_on(alloc, words, &mut files, Shelf::new(ROOM, None), err_room);
-    assert_eq!(rt; ran.status, *status, "{words:?}");
-    assert_eq!(rt; ran.out.text(), said.as_bytes(), "{words:?}");
-    if err_room > 0 {
-        assert_eq!(rt; ran.err.text(), complained.as_bytes(), "{words:?}");
-    }
+    let told = if err_room > 0 { *complained } else { "" };
+    assert_ran(rt, &ran, *status, said, told);
 }
 
 #[test]
 fn ends_as_the_file_has_it(rt: HostRuntime) {
-    let mut wrong = HEADER;
+    let mut wrong = *HEADER;
     wrong[3] = 0x47;
     wrong[4] = 1;
     let check: &[&str] = &["elfmap", "check", "a.o"];
@@ -146,13 +147,13 @@ fn ends_as_the_file_has_it(rt: HostRuntime) {
     let other: &[&str] = &["elfmap", "check", "b.o"];
     let shown = "file little 1 62 0x0 0x0\npart 0x0 0x40 header\n";
     let rows: [Row<'_>; 8] = [
-        (check, &HEADER, 0, "ok 64 0 0\n", ""),
-        (after_dashes, &HEADER, 0, "ok 64 0 0\n", ""),
+        (check, HEADER, 0, "ok 64 0 0\n", ""),
+        (after_dashes, HEADER, 0, "ok 64 0 0\n", ""),
         (check, &HEADER[..63], 1, "refused 2 63\n", ""),
         (check, &[], 1, "refused 2 0\n", ""),
         (check, &wrong, 1, "refused 3 3\n", ""),
-        (other, &HEADER, 3, "", "cannot open b.o\n"),
-        (show, &HEADER, 0, shown, ""),
+        (other, HEADER, 3, "", "cannot open b.o\n"),
+        (show, HEADER, 0, shown, ""),
         (show, &HEADER[..63], 1, "refused 2 63\n", ""),
     ];
     assert_ends(&rt, rt.alloc(), &rows);
@@ -171,7 +172,7 @@ fn refuses_other_words(rt: HostRuntime) {
     ];
     for words in rows {
         let mut files = Folder {
-            bytes: &HEADER,
+            bytes: HEADER,
             piece: 7,
             failure: None,
         };
@@ -205,7 +206,7 @@ fn calls_for_help(rt: HostRuntime) {
     assert_ends(
         &rt,
         rt.alloc(),
-        &[(&["elfmap", "--help"], &HEADER, 2, "", HELP)],
+        &[(&["elfmap", "--help"], HEADER, 2, "", HELP)],
     );
 }
 
@@ -227,8 +228,7 @@ fn a_failed_read_is_told_with_its_place(rt: HostRuntime) {
             failure,
         };
         let ran = run_on(rt.alloc(), &CHECK, &mut files, Shelf::new(ROOM, None), ROOM);
-        assert_eq!(rt; (ran.status, ran.out.text().is_empty()), (3, true));
-        assert_eq!(rt; ran.err.text(), b"read failed at 10\n".as_slice());
+        assert_ran(&rt, &ran, 3, "", "read failed at 10\n");
     }
 }
 
@@ -237,7 +237,7 @@ fn assert_write_fails(rt: &impl Abort, alloc: Global, failure: Option<ErrorKind>
     let line = b"ok 64 0 0\n".as_slice();
     for (room, digit) in b"0123456789".iter().enumerate() {
         let mut files = Folder {
-            bytes: &HEADER,
+            bytes: HEADER,
             piece: 1,
             failure: None,
         };
@@ -281,18 +281,16 @@ fn words_that_the_machine_does_not_give(rt: HostRuntime) {
 #[test]
 fn a_refused_growth_leaves_nothing_out(rt: HostRuntime) {
     let mut files = Folder {
-        bytes: &HEADER,
+        bytes: HEADER,
         piece: 64,
         failure: None,
     };
     let ran = run_on(rt.alloc(), &CHECK, &mut files, Shelf::new(ROOM, None), ROOM);
-    let (said, complained) = match ran.status {
-        0 => ("ok 64 0 0\n", ""),
-        _ => ("", "out of memory\n"),
+    let (status, said, complained) = match ran.status {
+        0 => (0, "ok 64 0 0\n", ""),
+        _ => (3, "", "out of memory\n"),
     };
-    assert!(rt; ran.status == 0 || ran.status == 3);
-    assert_eq!(rt; ran.out.text(), said.as_bytes());
-    assert_eq!(rt; ran.err.text(), complained.as_bytes());
+    assert_ran(&rt, &ran, status, said, complained);
 }
 
 /// The text on [`empty_object`].

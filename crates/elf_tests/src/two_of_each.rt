@@ -1,7 +1,6 @@
 //! A file with two sections and two segments, in both byte orders.
+use crate::said::{assert_accepts, assert_refuses, assert_shows, assert_written_back};
 use elf_field::{Ehdr, Order, Phdr, Record, Shdr};
-use elf_image::{parse, write};
-use elf_tool::{Verdict, check, show};
 use std::alloc::{AllocError, Global};
 use std::test::Fail;
 
@@ -131,10 +130,7 @@ segment 1 1 0x4 0xb0 0x20b0 0x20b0 0x4 0x10 0x1000
 fn checks_two_sections_and_two_segments(rt: HostRuntime) -> Result<(), Fail> {
     for order in [Order::Little, Order::Big] {
         let bytes = file(rt.alloc(), order)?;
-        let mut said = Vec::new(rt.alloc());
-        let answer = check(rt.alloc(), &mut bytes.as_slice(), &mut said);
-        assert!(rt; matches!(answer, Ok(Verdict::Done)));
-        assert_eq!(rt; said.as_slice(), b"ok 392 3 2\n".as_slice());
+        assert_accepts(&rt, rt.alloc(), &bytes, "ok 392 3 2\n");
     }
     Ok(())
 }
@@ -143,10 +139,7 @@ fn checks_two_sections_and_two_segments(rt: HostRuntime) -> Result<(), Fail> {
 fn shows_two_sections_and_two_segments(rt: HostRuntime) -> Result<(), Fail> {
     for (order, text) in [(Order::Little, LITTLE_TEXT), (Order::Big, BIG_TEXT)] {
         let bytes = file(rt.alloc(), order)?;
-        let mut said = Vec::new(rt.alloc());
-        let answer = show(rt.alloc(), &mut bytes.as_slice(), &mut said);
-        assert!(rt; matches!(answer, Ok(Verdict::Done)));
-        assert_eq!(rt; said.as_slice(), text.as_bytes());
+        assert_shows(&rt, rt.alloc(), &bytes, text);
     }
     Ok(())
 }
@@ -155,10 +148,7 @@ fn shows_two_sections_and_two_segments(rt: HostRuntime) -> Result<(), Fail> {
 fn writes_two_sections_and_two_segments_back(rt: HostRuntime) -> Result<(), Fail> {
     for order in [Order::Little, Order::Big] {
         let bytes = file(rt.alloc(), order)?;
-        let image = parse(rt.alloc(), &bytes).ok().ok_or("an image")?;
-        let mut written = Vec::new(rt.alloc());
-        assert!(rt; write(&image, &mut written).is_ok());
-        assert!(rt; written.as_slice() == bytes.as_slice());
+        assert_written_back(&rt, rt.alloc(), &bytes)?;
     }
     Ok(())
 }
@@ -178,10 +168,7 @@ fn refuses_it_with_one_byte_changed(rt: HostRuntime) -> Result<(), Fail> {
     for (at, byte, line) in rows {
         let mut bytes = file(rt.alloc(), Order::Little)?;
         *bytes.get_mut(at).ok_or("a byte of the file")? = byte;
-        let mut said = Vec::new(rt.alloc());
-        let answer = check(rt.alloc(), &mut bytes.as_slice(), &mut said);
-        assert!(rt; matches!(answer, Ok(Verdict::Refused(_))), "at {at}");
-        assert_eq!(rt; said.as_slice(), line.as_bytes(), "at {at}");
+        assert_refuses(&rt, rt.alloc(), &bytes, line);
     }
     Ok(())
 }
