@@ -33,6 +33,14 @@ fn number(file: &[u8], at: usize, width: u32) -> u64 {
     number
 }
 
+/// Tells whether a file is so long and has these numbers, each given by its offset, its width and its value.
+fn assert_file(rt: &impl Abort, file: &[u8], length: usize, fields: &[(usize, u32, u64)]) {
+    assert_eq!(rt; file.len(), length);
+    for (at, width, value) in fields {
+        assert_eq!(rt; number(file, *at, *width), *value);
+    }
+}
+
 // Section header 0 holds a count or an index that is a reserved one.
 #[test]
 fn counts_that_the_header_cannot_hold(rt: HostRuntime) -> Result<(), Fail> {
@@ -43,12 +51,14 @@ fn counts_that_the_header_cannot_hold(rt: HostRuntime) -> Result<(), Fail> {
     ];
     for (count, length, e_shnum, e_shstrndx, size, link) in expected {
         let file = file_of(rt.alloc(), count, Vec::new(rt.alloc()))?;
-        assert_eq!(rt; file.len(), length);
-        assert_eq!(rt; number(&file, 60, 2), e_shnum);
-        assert_eq!(rt; number(&file, 62, 2), e_shstrndx);
         let table = number(&file, 40, 8) as usize;
-        assert_eq!(rt; number(&file, table.saturating_add(32), 8), size);
-        assert_eq!(rt; number(&file, table.saturating_add(40), 4), link);
+        let fields = [
+            (60, 2, e_shnum),
+            (62, 2, e_shstrndx),
+            (table.saturating_add(32), 8, size),
+            (table.saturating_add(40), 4, link),
+        ];
+        assert_file(&rt, &file, length, &fields);
     }
     Ok(())
 }
@@ -63,16 +73,18 @@ fn file_of_symbol_in(alloc: Global, position: usize) -> Result<Vec<u8>, Fail> {
 #[test]
 fn a_symbol_below_the_reserved_indexes(rt: HostRuntime) -> Result<(), Fail> {
     let file = file_of_symbol_in(rt.alloc(), 65_278)?;
-    assert_eq!(rt; file.len(), 4_178_320);
-    assert_eq!(rt; number(&file, 94, 2), 0xfeff);
+    let symbols = 144 + 64 * 65_281;
+    let fields = [
+        (94, 2, 0xfeff),
+        (symbols + 4, 4, 2),
+        (symbols + 40, 4, 65_282),
+        (symbols + 64 + 4, 4, 3),
+    ];
+    assert_file(&rt, &file, 4_178_320, &fields);
     assert_eq!(rt;
         file.get(112..142),
         Some(b"\0f\0\0.symtab\0.strtab\0.shstrtab\0".as_slice())
     );
-    let symbols = 144 + 64 * 65_281;
-    assert_eq!(rt; number(&file, symbols + 4, 4), 2);
-    assert_eq!(rt; number(&file, symbols + 40, 4), 65_282);
-    assert_eq!(rt; number(&file, symbols + 64 + 4, 4), 3);
     Ok(())
 }
 
@@ -80,20 +92,23 @@ fn a_symbol_below_the_reserved_indexes(rt: HostRuntime) -> Result<(), Fail> {
 #[test]
 fn a_symbol_among_the_reserved_indexes(rt: HostRuntime) -> Result<(), Fail> {
     let file = file_of_symbol_in(rt.alloc(), 65_279)?;
-    assert_eq!(rt; file.len(), 4_178_408);
-    assert_eq!(rt; number(&file, 94, 2), 0xffff);
-    assert_eq!(rt; (number(&file, 112, 4), number(&file, 116, 4)), (0, 0xff00));
+    let symbols = 168 + 64 * 65_281;
+    let index_table = symbols + 64;
+    let fields = [
+        (94, 2, 0xffff),
+        (112, 4, 0),
+        (116, 4, 0xff00),
+        (symbols + 4, 4, 2),
+        (symbols + 40, 4, 65_283),
+        (index_table + 4, 4, 18),
+        (index_table + 24, 8, 112),
+        (index_table + 32, 8, 8),
+        (index_table + 40, 4, 65_281),
+        (index_table + 48, 8, 4),
+        (index_table + 56, 8, 4),
+    ];
+    assert_file(&rt, &file, 4_178_408, &fields);
     let names = b"\0f\0\0.symtab\0.symtab_shndx\0.strtab\0.shstrtab\0".as_slice();
     assert_eq!(rt; file.get(120..164), Some(names));
-    let symbols = 168 + 64 * 65_281;
-    assert_eq!(rt; number(&file, symbols + 4, 4), 2);
-    assert_eq!(rt; number(&file, symbols + 40, 4), 65_283);
-    let index_table = symbols + 64;
-    assert_eq!(rt; number(&file, index_table + 4, 4), 18);
-    assert_eq!(rt; number(&file, index_table + 24, 8), 112);
-    assert_eq!(rt; number(&file, index_table + 32, 8), 8);
-    assert_eq!(rt; number(&file, index_table + 40, 4), 65_281);
-    assert_eq!(rt; number(&file, index_table + 48, 8), 4);
-    assert_eq!(rt; number(&file, index_table + 56, 8), 4);
     Ok(())
 }

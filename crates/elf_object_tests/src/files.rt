@@ -1,7 +1,7 @@
 //! An object file of a group with one member, a section beside it, relocations and a symbol table.
 use elf_field::Order;
 use elf_image::{Fault, parse};
-use elf_object::{Body, Place, Relocation};
+use elf_object::{Body, Place, Relocation, Section, Symbol};
 use elf_object_file::object_of;
 use elf_test_files::{Field, set, set_header};
 use std::alloc::Global;
@@ -88,41 +88,56 @@ fn counts_of(alloc: Global, file: &[u8]) -> Result<(usize, usize), Fault> {
     Ok((object.sections().len(), object.symbols().len()))
 }
 
+/// Whether it is the COMDAT group of symbol 0 whose one member is section 1.
+fn is_the_group(section: &Section<'_>) -> bool {
+    match &section.body {
+        Body::Group {
+            comdat: true,
+            signature: 0,
+            members,
+        } => matches!(members.as_slice(), [1]),
+        _ => false,
+    }
+}
+
+/// Whether they are the relocations of section 1: one of kind 2, of symbol 0 less 4.
+fn are_the_relocations(section: &Section<'_>) -> bool {
+    let expected = Relocation {
+        offset: 0,
+        symbol: Some(0),
+        kind: 2,
+        addend: -4,
+    };
+    match &section.body {
+        Body::Relocs {
+            rela: true,
+            target: 1,
+            entries,
+        } => matches!(entries.as_slice(), [entry] if *entry == expected),
+        _ => false,
+    }
+}
+
+/// Whether they are the four sections of the file: the group, its member, the section beside it and the relocations.
+fn are_the_sections(sections: &[Section<'_>]) -> bool {
+    match sections {
+        [group, member, _, relocations] => {
+            is_the_group(group)
+                && member.name == b"t".as_slice()
+                && member.flags == 0x206
+                && are_the_relocations(relocations)
+        }
+        _ => false,
+    }
+}
+
 #[test]
 fn tells_a_group_and_the_relocations_of_its_member(rt: HostRuntime) -> Result<(), Fail> {
     let file = object(Order::Little);
     let image = parse(rt.alloc(), &file)?;
     let object = object_of(rt.alloc(), &image)?;
-    assert_eq!(rt; object.machine(), 62);
-    assert_eq!(rt; object.sections().len(), 4);
-    if let Some(section) = object.sections().get(0)
-        && let Body::Group {
-            comdat,
-            signature,
-            members,
-        } = &section.body
-    {
-        assert_eq!(rt; (*comdat, *signature, members.get(0)), (true, 0, Some(&1)));
-    }
-    if let Some(section) = object.sections().get(1) {
-        assert_eq!(rt; section.name, b"t".as_slice());
-        assert_eq!(rt; section.flags, 0x206);
-    }
-    if let Some(section) = object.sections().get(3)
-        && let Body::Relocs {
-            rela,
-            target,
-            entries,
-        } = &section.body
-    {
-        let entry = Relocation {
-            offset: 0,
-            symbol: Some(0),
-            kind: 2,
-            addend: -4,
-        };
-        assert_eq!(rt; (*rela, *target, entries.get(0)), (true, 1, Some(&entry)));
-    }
+    let found = (object.machine(), are_the_sections(object.sections()));
+    assert_eq!(rt; found, (62, true));
     Ok(())
 }
 
@@ -131,13 +146,15 @@ fn tells_the_symbols_but_symbol_0(rt: HostRuntime) -> Result<(), Fail> {
     let file = object(Order::Big);
     let image = parse(rt.alloc(), &file)?;
     let object = object_of(rt.alloc(), &image)?;
-    assert_eq!(rt; object.symbols().len(), 1);
-    if let Some(symbol) = object.symbols().get(0) {
-        assert_eq!(rt; symbol.name, b"f".as_slice());
-        assert_eq!(rt; symbol.info, 0x12);
-        assert_eq!(rt; symbol.place, Place::In(1));
-        assert_eq!(rt; symbol.size, 4);
-    }
+    let symbol = Symbol {
+        name: b"f",
+        info: 0x12,
+        other: 0,
+        place: Place::In(1),
+        value: 0,
+        size: 4,
+    };
+    assert_eq!(rt; object.symbols(), [symbol].as_slice());
     Ok(())
 }
 
