@@ -5,32 +5,24 @@ use elf_field::{Dyn, Ehdr, Order, Phdr, Record, Rel, Rela, Shdr, Sym, abi, get_a
 use std::process::Abort;
 
 // The header of an empty relocatable file, little-endian, and the same in big-endian.
-const LITTLE_HEADER: [u8; 64] = [
-    0x7f, 0x45, 0x4c, 0x46, 2, 1, 1, 0, 0, 0, 0, 0, 0, 0, 0, 0, 1, 0, 0x3e, 0, 1, 0, 0, 0, 0, 0, 0,
-    0, 0, 0, 0, 0, 0, 0, 0, 0, 0, 0, 0, 0, 0, 0, 0, 0, 0, 0, 0, 0, 0, 0, 0, 0, 0x40, 0, 0, 0, 0, 0,
-    0, 0, 0, 0, 0, 0,
-];
+const LITTLE_HEADER: &[u8; 64] = b"\x7fELF\x02\x01\x01\0\0\0\0\0\0\0\0\0\
+    \x01\0\x3e\0\x01\0\0\0\0\0\0\0\0\0\0\0\0\0\0\0\0\0\0\0\0\0\0\0\0\0\0\0\
+    \0\0\0\0\x40\0\0\0\0\0\0\0\0\0\0\0";
 
-const BIG_HEADER: [u8; 64] = [
-    0x7f, 0x45, 0x4c, 0x46, 2, 2, 1, 0, 0, 0, 0, 0, 0, 0, 0, 0, 0, 1, 0, 0x3e, 0, 0, 0, 1, 0, 0, 0,
-    0, 0, 0, 0, 0, 0, 0, 0, 0, 0, 0, 0, 0, 0, 0, 0, 0, 0, 0, 0, 0, 0, 0, 0, 0, 0, 0x40, 0, 0, 0, 0,
-    0, 0, 0, 0, 0, 0,
-];
+const BIG_HEADER: &[u8; 64] = b"\x7fELF\x02\x02\x01\0\0\0\0\0\0\0\0\0\
+    \0\x01\0\x3e\0\0\0\x01\0\0\0\0\0\0\0\0\0\0\0\0\0\0\0\0\0\0\0\0\0\0\0\0\
+    \0\0\0\0\0\x40\0\0\0\0\0\0\0\0\0\0";
 
-const LITTLE_RELA: [u8; 24] = [
-    1, 0, 0, 0, 0, 0, 0, 0, 2, 0, 0, 0, 1, 0, 0, 0, 0xfc, 0xff, 0xff, 0xff, 0xff, 0xff, 0xff, 0xff,
-];
+const LITTLE_RELA: &[u8; 24] = b"\x01\0\0\0\0\0\0\0\x02\0\0\0\x01\0\0\0\
+    \xfc\xff\xff\xff\xff\xff\xff\xff";
 
-const BIG_RELA: [u8; 24] = [
-    0, 0, 0, 0, 0, 0, 0, 1, 0, 0, 0, 1, 0, 0, 0, 2, 0xff, 0xff, 0xff, 0xff, 0xff, 0xff, 0xff, 0xfc,
-];
+const BIG_RELA: &[u8; 24] = b"\0\0\0\0\0\0\0\x01\0\0\0\x01\0\0\0\x02\
+    \xff\xff\xff\xff\xff\xff\xff\xfc";
 
 // Each byte tells its offset, so a number tells where it was read.
-const RULER: [u8; 64] = [
-    0, 1, 2, 3, 4, 5, 6, 7, 8, 9, 10, 11, 12, 13, 14, 15, 16, 17, 18, 19, 20, 21, 22, 23, 24, 25,
-    26, 27, 28, 29, 30, 31, 32, 33, 34, 35, 36, 37, 38, 39, 40, 41, 42, 43, 44, 45, 46, 47, 48, 49,
-    50, 51, 52, 53, 54, 55, 56, 57, 58, 59, 60, 61, 62, 63,
-];
+const RULER: &[u8; 64] = b"\x00\x01\x02\x03\x04\x05\x06\x07\x08\x09\x0a\x0b\x0c\x0d\x0e\x0f\
+    \x10\x11\x12\x13\x14\x15\x16\x17\x18\x19\x1a\x1b\x1c\x1d\x1e\x1f\
+    \x20!\"#$%&'()*+,-./0123456789:;<=>?";
 
 // What the ruler has at an offset, by its definition: offset, offset + 1, .. in the order asked for.
 fn ruled(order: Order, offset: u64, width: u64) -> u64 {
@@ -96,8 +88,8 @@ fn assert_header(rt: &impl Abort, order: Order, bytes: &[u8; 64]) {
 
 #[test]
 fn headers_in_both_orders(rt: HostRuntime) {
-    assert_header(&rt, Order::Little, &LITTLE_HEADER);
-    assert_header(&rt, Order::Big, &BIG_HEADER);
+    assert_header(&rt, Order::Little, LITTLE_HEADER);
+    assert_header(&rt, Order::Big, BIG_HEADER);
 }
 
 /// A relocation at 1 by symbol 1, of type 2, stands in these bytes, which are what it is put back as.
@@ -114,8 +106,8 @@ fn assert_relocation(rt: &impl Abort, order: Order, bytes: &[u8; 24]) {
 
 #[test]
 fn relocations_in_both_orders(rt: HostRuntime) {
-    assert_relocation(&rt, Order::Little, &LITTLE_RELA);
-    assert_relocation(&rt, Order::Big, &BIG_RELA);
+    assert_relocation(&rt, Order::Little, LITTLE_RELA);
+    assert_relocation(&rt, Order::Big, BIG_RELA);
 }
 
 #[test]
@@ -159,7 +151,7 @@ fn header_fields(record: &Ehdr) -> [(u64, u64, u64); 13] {
 /// A header has its fields where the ruler says.
 fn assert_header_layout(rt: &impl Abort, order: Order) {
     let mut copy = [0; 64];
-    let record: Ehdr = through_bound(order, &RULER, &mut copy);
+    let record: Ehdr = through_bound(order, RULER, &mut copy);
     let wrong = first_wrong(order, &header_fields(&record));
     let read = (Ehdr::get(order, &RULER[..64]), record.e_ident.as_slice());
     assert_eq!(rt;
@@ -194,7 +186,7 @@ fn section_fields(record: &Shdr) -> [(u64, u64, u64); 10] {
 /// A section header has its fields where the ruler says.
 fn assert_section_layout(rt: &impl Abort, order: Order) {
     let mut copy = [0; 64];
-    let record: Shdr = through_bound(order, &RULER, &mut copy);
+    let record: Shdr = through_bound(order, RULER, &mut copy);
     let wrong = first_wrong(order, &section_fields(&record));
     let read = Shdr::get(order, &RULER[..64]);
     assert_eq!(rt;
@@ -227,7 +219,7 @@ fn segment_fields(record: &Phdr) -> [(u64, u64, u64); 8] {
 /// A program header has its fields where the ruler says.
 fn assert_segment_layout(rt: &impl Abort, order: Order) {
     let mut copy = [0; 56];
-    let record: Phdr = through_bound(order, &RULER, &mut copy);
+    let record: Phdr = through_bound(order, RULER, &mut copy);
     let wrong = first_wrong(order, &segment_fields(&record));
     let read = Phdr::get(order, &RULER[..56]);
     assert_eq!(rt;
@@ -258,7 +250,7 @@ fn symbol_fields(record: &Sym) -> [(u64, u64, u64); 6] {
 /// A symbol has its fields where the ruler says.
 fn assert_symbol_layout(rt: &impl Abort, order: Order) {
     let mut copy = [0; 24];
-    let record: Sym = through_bound(order, &RULER, &mut copy);
+    let record: Sym = through_bound(order, RULER, &mut copy);
     let wrong = first_wrong(order, &symbol_fields(&record));
     let read = Sym::get(order, &RULER[..24]);
     assert_eq!(rt;
@@ -282,7 +274,7 @@ fn rel_fields(record: &Rel) -> [(u64, u64, u64); 2] {
 /// A relocation has its fields where the ruler says.
 fn assert_rel_layout(rt: &impl Abort, order: Order) {
     let mut copy = [0; 16];
-    let record: Rel = through_bound(order, &RULER, &mut copy);
+    let record: Rel = through_bound(order, RULER, &mut copy);
     let wrong = first_wrong(order, &rel_fields(&record));
     let read = Rel::get(order, &RULER[..16]);
     assert_eq!(rt;
@@ -310,7 +302,7 @@ fn rela_fields(record: &Rela) -> [(u64, u64, u64); 3] {
 /// A relocation with an addend has its fields where the ruler says.
 fn assert_rela_layout(rt: &impl Abort, order: Order) {
     let mut copy = [0; 24];
-    let record: Rela = through_bound(order, &RULER, &mut copy);
+    let record: Rela = through_bound(order, RULER, &mut copy);
     let wrong = first_wrong(order, &rela_fields(&record));
     let read = Rela::get(order, &RULER[..24]);
     assert_eq!(rt;
@@ -334,7 +326,7 @@ fn entry_fields(record: &Dyn) -> [(u64, u64, u64); 2] {
 /// An entry of the dynamic array has its fields where the ruler says.
 fn assert_entry_layout(rt: &impl Abort, order: Order) {
     let mut copy = [0; 16];
-    let record: Dyn = through_bound(order, &RULER, &mut copy);
+    let record: Dyn = through_bound(order, RULER, &mut copy);
     let wrong = first_wrong(order, &entry_fields(&record));
     let read = Dyn::get(order, &RULER[..16]);
     assert_eq!(rt;
@@ -353,9 +345,9 @@ fn dynamic_entry_layout(rt: HostRuntime) {
 #[test]
 fn words(rt: HostRuntime) {
     let mut copy = [0; 4];
-    let word: u32 = through_bound(Order::Little, &RULER, &mut copy);
+    let word: u32 = through_bound(Order::Little, RULER, &mut copy);
     let read = <u32 as Record>::get(Order::Little, &RULER[..4]);
-    let other = get_at::<u32>(Order::Big, &RULER, 5);
+    let other = get_at::<u32>(Order::Big, RULER, 5);
     assert_eq!(rt;
         (read, word, copy, other),
         (word, 0x0302_0100, [0, 1, 2, 3], 0x0506_0708)

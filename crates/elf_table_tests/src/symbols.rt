@@ -297,22 +297,23 @@ fn names_outlive_the_image(rt: HostRuntime) {
     );
 }
 
-#[test]
-fn tells_the_first_rule_that_a_symbol_table_breaks(rt: HostRuntime) {
+/// In this order each row breaks its rule first.
+fn assert_all_broken(rt: &impl Abort, alloc: Global, order: Order) {
     for (fields, rule, at) in &BROKEN {
-        let mut file = symbols(Order::Little);
-        set(&mut file, Order::Little, fields);
-        assert_breaks(&rt, rt.alloc(), &file, 1, Table::Symbols, *rule, *at);
+        let mut file = symbols(order);
+        set(&mut file, order, fields);
+        assert_breaks(rt, alloc, &file, 1, Table::Symbols, *rule, *at);
     }
 }
 
 #[test]
+fn tells_the_first_rule_that_a_symbol_table_breaks(rt: HostRuntime) {
+    assert_all_broken(&rt, rt.alloc(), Order::Little);
+}
+
+#[test]
 fn tells_it_in_big_order_too(rt: HostRuntime) {
-    for (fields, rule, at) in &BROKEN {
-        let mut file = symbols(Order::Big);
-        set(&mut file, Order::Big, fields);
-        assert_breaks(&rt, rt.alloc(), &file, 1, Table::Symbols, *rule, *at);
-    }
+    assert_all_broken(&rt, rt.alloc(), Order::Big);
 }
 
 #[test]
