@@ -8,7 +8,7 @@ use elf_object_file::object_of;
 use std::alloc::Global;
 
 /// Why files are not all objects.
-#[derive(Clone, Copy, Debug, PartialEq, Eq)]
+#[derive(Clone, Copy)]
 pub(crate) enum FileFault {
     /// This file breaks the refusal rule of this number, first at this offset in it, and all before it are objects.
     Refused { file: usize, rule: u16, at: u64 },
