@@ -1,5 +1,5 @@
 //! `map`: where the sections and names of files stand in their link.
-ghost use Rattle.std.specs.Prelude.{◌≡◌, IfErr, IfOk, Some, option_copied, map as map_list};
+ghost use Rattle.std.specs.Prelude.{Some, option_copied, map as map_list};
 ghost use Rattle.elf_stream.specs.Engine.{IsSaid};
 ghost use Rattle.elf_map_engine.specs.Map.{FilesRefuse, IsMapped, IsThis, LinkSays, MapSays, RelocationSays};
 ghost use Rattle.elf_linked.specs.MapFacts.{IsMapOfSome};
@@ -18,13 +18,6 @@ use elf_stream::{Refusal, ToolFault, Verdict, read_inputs};
 use std::alloc::{AllocError, Global};
 use std::hash::{BuildHasherDefault, FoldHasher};
 use std::io::{Read, Write};
-
-/// A verdict, and the text that says it.
-#[derive(Drop)]
-struct Said {
-    verdict: Verdict,
-    text: Vec<u8>,
-}
 
 /// Reads files whole, in order, links the objects that they denote, and writes the lines of their link map; with rules for
 /// relocations the lines of the relocated bytes behind them, `bytes FILE SECTION HEX`, in order of placement.
@@ -60,10 +53,7 @@ fn answer_files<W: Write>(
 {
     match objects_of(alloc, files) {
         Ok(objects) => answer_objects(alloc, &objects, options, rules, writer),
-        Err(FileFault::Refused { file, rule, at }) => tell(
-            said_of_file(alloc, file, rule, at)?,
-            writer,
-        ),
+        Err(FileFault::Refused { file, rule, at }) => tell_of_file(alloc, file, rule, at, writer),
         Err(FileFault::OutOfMemory) => Err(ToolFault::OutOfMemory),
     }
 }
@@ -87,7 +77,7 @@ fn answer_objects<W: Write>(
                 index,
                 entry,
             },
-        ) => tell(said_of_link(alloc, rule, file, index, entry)?, writer),
+        ) => tell_of_link(alloc, rule, file, index, entry, writer),
         Err(LinkFault::OutOfMemory) => Err(ToolFault::OutOfMemory),
     }
 }
@@ -106,8 +96,7 @@ fn answer_map<'a, W: Write>(
         Some(rules) => answer_relocations(alloc, objects, link, rules, writer),
         None => {
             let text = map_text(alloc, objects, link)?;
-            let verdict = Verdict::Done;
-            tell(Said { verdict, text }, writer)
+            tell(Verdict::Done, &text, writer)
         }
     }
 }
@@ -135,38 +124,45 @@ fn answer_relocations<'a, W: Write>(
                 index,
                 entry,
             },
-        ) => tell(said_of_link(alloc, rule, file, index, entry)?, writer),
+        ) => tell_of_link(alloc, rule, file, index, entry, writer),
         Err(LinkFault::OutOfMemory) => Err(ToolFault::OutOfMemory),
     }
 }
 
 // Writes what is said, and answers its verdict.
-fn tell<W: Write>(said: Said, writer: &mut W) -> Result<Verdict, ToolFault>
-    ensures { IsSaid (IsThis said.verdict said.text.items) (W.contents writer.old) (W.contents writer.new) result }
+fn tell<W: Write>(verdict: Verdict, text: &[u8], writer: &mut W) -> Result<Verdict, ToolFault>
+    ensures { IsSaid (IsThis verdict text.now) (W.contents writer.old) (W.contents writer.new) result }
 {
-    write_whole(writer, said.text.as_slice())?;
-    Ok(said.verdict)
+    write_whole(writer, text)?;
+    Ok(verdict)
 }
 
-fn said_of_file(alloc: Global, file: usize, rule: u16, at: u64) -> Result<Said, ToolFault>
-    ensures ok { IfOk result (λ said. (said.verdict ≡ Verdict.Refused (Refusal.File file rule at)) × (said.text.items ≡ file_refused_line file rule at)) }
-    ensures err { IfErr result (λ fault. fault ≡ ToolFault.OutOfMemory) }
+// Says by which rule a file is refused, and where.
+fn tell_of_file<W: Write>(
+    alloc: Global,
+    file: usize,
+    rule: u16,
+    at: u64,
+    writer: &mut W,
+) -> Result<Verdict, ToolFault>
+    ensures { IsSaid (IsThis (Verdict.Refused (Refusal.File file rule at)) (file_refused_line file rule at)) (W.contents writer.old) (W.contents writer.new) result }
 {
     let mut text = Vec::new(alloc);
     push_file_refused_line(&mut text, file, rule, at)?;
     let verdict = Verdict::Refused(Refusal::File { file, rule, at });
-    Ok(Said { verdict, text })
+    tell(verdict, &text, writer)
 }
 
-fn said_of_link(
+// Says which rule of the link stands, and where.
+fn tell_of_link<W: Write>(
     alloc: Global,
     rule: u16,
     file: usize,
     index: usize,
     entry: usize,
-) -> Result<Said, ToolFault>
-    ensures ok { IfOk result (λ said. (said.verdict ≡ Verdict.Refused (Refusal.Link rule file index entry)) × (said.text.items ≡ link_refused_line rule file index entry)) }
-    ensures err { IfErr result (λ fault. fault ≡ ToolFault.OutOfMemory) }
+    writer: &mut W,
+) -> Result<Verdict, ToolFault>
+    ensures { IsSaid (IsThis (Verdict.Refused (Refusal.Link rule file index entry)) (link_refused_line rule file index entry)) (W.contents writer.old) (W.contents writer.new) result }
 {
     let mut text = Vec::new(alloc);
     push_link_refused_line(&mut text, rule, file, index, entry)?;
@@ -176,5 +172,5 @@ fn said_of_link(
         index,
         entry,
     });
-    Ok(Said { verdict, text })
+    tell(verdict, &text, writer)
 }
