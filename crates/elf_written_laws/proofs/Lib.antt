@@ -1,4 +1,4 @@
--- `Public` is for the proofs of the crates above, the others are for those of this one.
+-- The lemmas of the laws. No other crate cites them.
 pub mod LaidObjects
 pub mod WrittenSections
 pub mod KeptFront
