@@ -1,13 +1,7 @@
--- What an opener of files answers.
-use Rattle.std.specs.Prelude.{◌≡◌, ℕ, ◌<◌, Bool, false, List, [], get_or, length, None, Option, Some, IfSome}
-use Rattle.elf_tool.specs.declared.opener.OpenFault.{OpenFault}
-use Rattle.elf_tool.specs.declared.opener.OpenFault.TheVariants.{Refused, OutOfMemory}
+-- Several files that are opened by their names.
+use Rattle.std.specs.Prelude.{◌≡◌, ℕ, ◌<◌, Bool, List, [], get_or, length, None, Option, Some, IfSome}
+use Rattle.elf_check.specs.Opener.{IsOpenFault}
 use Rattle.elf_tool.specs.declared.opening.Unopened.{Unopened}
-
--- why a file gave no reader: it is not known to open, or memory was refused
-abbrev pub IsOpenFault : Bool → OpenFault → Type 0
-IsOpenFault opens Refused = opens ≡ false
-IsOpenFault opens OutOfMemory = Unit {0}
 
 -- the files of these names were opened in order: each reader has the bytes of its file, where these are known
 pub record AreOpened (holds : List ℕ → Option (List ℕ)) (names : List (List ℕ)) (inputs : List (Option (List ℕ))) : Type 0 where

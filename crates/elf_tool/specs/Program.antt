@@ -1,54 +1,27 @@
 -- How the program ends, and what is out then.
-use Rattle.std.specs.Prelude.{◌≡◌, ◌⊎◌, ℕ, Bool, List, map, Option, None, Some, Result, Ok, Err, IfSome, option_copied}
+use Rattle.std.specs.Prelude.{◌≡◌, ◌⊎◌, ℕ, Bool, List, map, Option, None, Some, Result, option_copied}
 use Rattle.std.specs.Io.KnownBytes.{Keeps}
 use Rattle.clap.specs.Walk.{Text}
-use Rattle.elf_engine.specs.Check.{IsChecked}
+use Rattle.elf_check.specs.Check.{IsChecked}
+use Rattle.elf_check.specs.Ending.{EndsFile, EndsWords, ending_of}
 use Rattle.elf_map_engine.specs.Map.{IsMapped}
 use Rattle.elf_engine.specs.Rewrite.{IsRewritten}
 use Rattle.elf_engine.specs.Show.{IsShown}
 use Rattle.elf_link.specs.declared.options.Options.{Options}
 use Rattle.elf_relocation.specs.declared.rule.RelocRule.{RelocRule}
-use Rattle.elf_tool.specs.Opener.{AreOpened, IsOpenFault, IsUnopened}
+use Rattle.elf_tool.specs.Opener.{AreOpened, IsUnopened}
 use Rattle.elf_tool.specs.Rules.{GivesNoRules, GivesRules}
 use Rattle.elf_command_line.specs.Words.{IsAskedBy, IsRefusedBy}
 use Rattle.elf_stream.specs.declared.fault.ToolFault.{ToolFault}
 use Rattle.elf_stream.specs.declared.fault.Verdict.{Verdict}
-use Rattle.elf_stream.specs.declared.fault.Verdict.TheVariants as verdict
-use Rattle.elf_tool.specs.declared.opener.OpenFault.{OpenFault}
 use Rattle.elf_tool.specs.declared.opening.Unopened.{Unopened}
-use Rattle.elf_tool.specs.declared.program.Status.{Status}
-use Rattle.elf_tool.specs.declared.program.Status.TheVariants.{Done, Refused, Usage, Failed}
+use Rattle.elf_check.specs.declared.ending.Status.{Status}
+use Rattle.elf_check.specs.declared.ending.Status.TheVariants.{Usage, Failed}
 use Rattle.elf_tool.specs.declared.rules.NoRules.{NoRules}
 use Rattle.elf_tool.specs.declared.rules.NoRules.TheVariants as no_rules
 use Rattle.elf_command_line.specs.declared.words.Request.{Request}
 use Rattle.elf_command_line.specs.declared.words.Request.TheVariants.{Check, Show, Rewrite, Map}
 use Rattle.elf_command_line.specs.declared.words.WordsFault.{WordsFault}
-use Rattle.elf_command_line.specs.declared.words.WordsFault.TheVariants.{Words, TooManyFiles, BadNumber, OutOfMemory}
-
--- the exit status, as a number
-abbrev pub code_of : Status → ℕ
-code_of Done = 0
-code_of Refused = 1
-code_of Usage = 2
-code_of Failed = 3
-
--- how the program ends where an engine answers so
-abbrev pub ending_of : Result Verdict ToolFault → Status
-ending_of (Ok verdict.Done) = Done
-ending_of (Ok (verdict.Refused refusal)) = Refused
-ending_of (Err fault) = Failed
-
--- a call of an engine: what its reader had and has left, what its writer held and holds, and its answer
-abbrev pub Call : Type 1
-Call = Option (List ℕ) → Option (List ℕ) → Option (List ℕ) → Option (List ℕ) → Result Verdict ToolFault → Type 0
-
--- a file was opened, and an engine was called on a reader of its bytes, where these are known; or it gave no reader, and
--- nothing is out. A writer that held `old` holds `new`
-abbrev pub EndsFile : Call → Option (List ℕ) → Bool → Option (List ℕ) → Option (List ℕ) → Status → Type 0
-EndsFile call known opens old new status =
-    ((input rest : Option (List ℕ)) × (answer : Result Verdict ToolFault) × IfSome known (λ bytes. input ≡ Some bytes)
-    × call input rest old new answer × (status ≡ ending_of answer))
-    ⊎ ((fault : OpenFault) × IsOpenFault opens fault × (status ≡ Failed) × Keeps old new)
 
 -- files were opened, and `map` was called on their readers; or one of them gave no reader, and nothing is out
 abbrev pub EndsFiles : Options → Option (List RelocRule) → (Text → Option (List ℕ)) → (Text → Bool) → List Text → Option (List ℕ) → Option (List ℕ) → Status → Type 0
@@ -79,13 +52,6 @@ EndsRequest holds opens old new (Show file) status = EndsFile IsShown (holds fil
 EndsRequest holds opens old new (Rewrite file) status = EndsFile IsRewritten (holds file.now) (opens file.now) old new status
 EndsRequest holds opens old new (Map base page rules files) status =
     EndsMap (record { base = base; page = page; entry = None }) holds opens (option_copied rules) (map (λ f. f.now) files.items) old new status
-
--- words that ask for nothing: nothing is out
-abbrev pub EndsWords : Option (List ℕ) → Option (List ℕ) → WordsFault → Status → Type 0
-EndsWords old new (Words error) status = (status ≡ Usage) × Keeps old new
-EndsWords old new TooManyFiles status = (status ≡ Usage) × Keeps old new
-EndsWords old new BadNumber status = (status ≡ Usage) × Keeps old new
-EndsWords old new OutOfMemory status = (status ≡ Failed) × Keeps old new
 
 -- the whole program
 abbrev pub EndsRun : List Text → (Text → Option (List ℕ)) → (Text → Bool) → Option (List ℕ) → Option (List ℕ) → Status → Type 0

@@ -9,17 +9,16 @@
 #![tactic(auto)]
 
 mod machine;
-mod opener;
 mod opening;
 mod program;
 mod rules;
 
+pub use elf_check::{MachineFiles, OpenFault, Opener, Status, check, refuse_words};
 pub use elf_command_line::{Request, WordsFault, read_words};
-pub use elf_engine::{check, rewrite, show};
+pub use elf_engine::{rewrite, show};
 pub use elf_map_engine::{Options, map};
 pub use elf_relocation::{Form, Range, RelocRule, Width};
 pub use elf_rule_file::{RulesFault, read_rules};
 pub use elf_stream::{Refusal, ToolFault, Verdict};
 pub use machine::run_on_machine;
-pub use opener::{MachineFiles, OpenFault, Opener};
-pub use program::{Status, refuse_words, run};
+pub use program::run;

@@ -1,11 +1,10 @@
 //! The program on the machine.
 ghost use Rattle.std.specs.Prelude.{◌≡◌};
-ghost use Rattle.elf_tool.specs.Program.{code_of};
-ghost use Rattle.elf_tool.specs.declared.program.Status.{Status as Ending};
+ghost use Rattle.elf_check.specs.Ending.{code_of};
+ghost use Rattle.elf_check.specs.declared.ending.Status.{Status as Ending};
 
-use crate::opener::MachineFiles;
-use crate::program::{refuse_words, run};
-use std::{env, io};
+use crate::program::run;
+use elf_check::{MachineFiles, refuse_words, words_of};
 
 /// Runs the program over the machine's words and files, standard output and standard error. Answers
 /// the exit status, as [`run`] does.
@@ -26,8 +25,4 @@ pub fn run_on_machine(rt: &HostRuntime) -> u8
         }
         Err(error) => refuse_words(&error, &mut err),
     }
-}
-
-fn words_of(rt: &HostRuntime) -> io::Result<Vec<String>> {
-    Ok(env::args(rt)?.collect(rt.alloc())?)
 }

@@ -1,40 +1,25 @@
 //! The whole program: from the words of its command line to its exit status.
-ghost use Rattle.std.specs.Prelude.{◌≡◌, ◌≢◌, Some, map as map_list, option_copied};
-ghost use Rattle.std.specs.IoError.{error_kind};
-ghost use Rattle.std.specs.declared.io.ErrorKind.TheVariants.{InvalidData};
-ghost use Rattle.elf_engine.specs.Check.{IsChecked};
+ghost use Rattle.std.specs.Prelude.{◌≡◌, Some, map as map_list, option_copied};
+ghost use Rattle.elf_check.specs.Ending.{EndsFile, code_of, ending_of};
+ghost use Rattle.elf_check.specs.declared.ending.Status.{Status as Ending};
 ghost use Rattle.elf_engine.specs.Rewrite.{IsRewritten};
 ghost use Rattle.elf_engine.specs.Show.{IsShown};
-ghost use Rattle.elf_tool.specs.Program.{EndsFile, EndsFiles, EndsMap, EndsRun, code_of, ending_of, unruled};
-ghost use Rattle.elf_tool.specs.declared.program.Status.{Status as Ending};
+ghost use Rattle.elf_tool.specs.Program.{EndsFiles, EndsMap, EndsRun, unruled};
 
-use crate::opener::{OpenFault, Opener};
 use crate::opening::open_all;
 use crate::rules::{NoRules, rules_of};
-use elf_command_line::{Request, WordsFault, read_words};
-use elf_engine::{check, rewrite, show};
+use elf_check::{
+    OpenFault, Opener, Status, check_file, fail, misused, no_request, status_of, unopened,
+};
+use elf_command_line::{Request, read_words};
+use elf_engine::{rewrite, show};
 use elf_map_engine::{Options, map};
 use elf_relocation::RelocRule;
 use elf_rule_file::RulesFault;
 use elf_stream::{ToolFault, Verdict};
 use std::alloc::Global;
 use std::convert::AsStr;
-use std::fmt::Display;
-use std::io;
 use std::io::Write;
-
-/// How the program ends. Its exit status is the place in this list, from 0.
-#[derive(Clone, Copy, Debug, PartialEq, Eq)]
-pub enum Status {
-    /// All that was asked is done.
-    Done,
-    /// A file is refused, and the output says why.
-    Refused,
-    /// The words are not as the command takes them, or call for help.
-    Usage,
-    /// A file could not be opened or read, the output could not be written, or memory was refused.
-    Failed,
-}
 
 /// Runs the program: `words` is its command line, whose first word is its own name, `files` opens
 /// the files that the words name, `out` takes what is said of them, and `err` takes the text of
@@ -86,48 +71,7 @@ fn ending<S: AsStr, O: Opener, W: Write, E: Write>(
                 Some(file) => map_by_rules(alloc, &options, file, &names, files, out, err),
             }
         }
-        Err(WordsFault::Words(error)) => {
-            // This text ends with a line feed of its own.
-            let _ = write!(err, "{error}");
-            Status::Usage
-        }
-        Err(WordsFault::TooManyFiles) => misused("too many files", err),
-        Err(WordsFault::BadNumber) => misused("bad number", err),
-        Err(WordsFault::OutOfMemory) => fail(&ToolFault::OutOfMemory, err),
-    }
-}
-
-/// The exit status where the machine gives no words: 2, wrong usage, where a word is not UTF-8, and
-/// else 3.
-pub fn refuse_words<E: Write>(error: &io::Error, err: &mut E) -> u8
-    ensures status { (status : Ending) × (result ≡ code_of status) }
-    ensures usage { error_kind error.now ≡ InvalidData → result ≡ code_of Status.Usage }
-    ensures failed { error_kind error.now ≢ InvalidData → result ≡ code_of Status.Failed }
-{
-    let status = match error.kind() {
-        io::ErrorKind::InvalidData => {
-            let _ = writeln!(err, "error: the words of the command line are not UTF-8");
-            Status::Usage
-        }
-        io::ErrorKind::OutOfMemory => fail(&ToolFault::OutOfMemory, err),
-        _ => fail(error, err),
-    };
-    status as u8
-}
-
-fn check_file<O: Opener, W: Write, E: Write>(
-    alloc: Global,
-    file: &str,
-    files: &mut O,
-    out: &mut W,
-    err: &mut E,
-) -> Status
-    ensures { EndsFile IsChecked (O.holds files.old file.now) (O.opens files.old file.now)
-        (W.contents out.old) (W.contents out.new) result }
-{
-    match files.reader(file) {
-        Ok(mut input) => status_of(check(alloc, &mut input, out), err),
-        Err(fault) => unopened(fault, file, err),
+        Err(fault) => no_request(&fault, err),
     }
 }
 
@@ -199,14 +143,6 @@ fn map_by_rules<O: Opener, W: Write, E: Write>(
     }
 }
 
-// How the program ends where the words ask for nothing, or the file of rules is none, with this text.
-fn misused<T: Display + Copy, E: Write>(text: T, err: &mut E) -> Status
-    ensures { result ≡ Status.Usage }
-{
-    let _ = writeln!(err, "{text}");
-    Status::Usage
-}
-
 // How the program ends where the file of this name gave no rules.
 fn no_rules<E: Write>(fault: NoRules, file: &str, err: &mut E) -> Status
     ensures { result ≡ unruled fault }
@@ -219,30 +155,7 @@ fn no_rules<E: Write>(fault: NoRules, file: &str, err: &mut E) -> Status
     }
 }
 
-// How the program ends where the file of this name gave no reader.
-fn unopened<E: Write>(fault: OpenFault, file: &str, err: &mut E) -> Status
-    ensures { result ≡ Status.Failed }
-{
-    match fault {
-        OpenFault::Refused => {
-            let _ = writeln!(err, "cannot open {file}");
-            Status::Failed
-        }
-        OpenFault::OutOfMemory => fail(&ToolFault::OutOfMemory, err),
-    }
-}
-
-fn status_of<E: Write>(answer: Result<Verdict, ToolFault>, err: &mut E) -> Status
-    ensures { result ≡ ending_of answer }
-{
-    match answer {
-        Ok(Verdict::Done) => Status::Done,
-        Ok(Verdict::Refused(_)) => Status::Refused,
-        Err(fault) => fail(&fault, err),
-    }
-}
-
-// The same of an engine that writes no line on what it refuses: the line goes to standard error.
+// How it ends after an engine that writes no line on what it refuses: the line goes to standard error.
 fn told_status<E: Write>(answer: Result<Verdict, ToolFault>, err: &mut E) -> Status
     ensures { result ≡ ending_of answer }
 {
@@ -250,11 +163,4 @@ fn told_status<E: Write>(answer: Result<Verdict, ToolFault>, err: &mut E) -> Sta
         let _ = writeln!(err, "{refusal}");
     }
     status_of(answer, err)
-}
-
-fn fail<F: Display, E: Write>(fault: &F, err: &mut E) -> Status
-    ensures { result ≡ Status.Failed }
-{
-    let _ = writeln!(err, "{fault}");
-    Status::Failed
 }

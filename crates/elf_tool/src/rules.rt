@@ -2,7 +2,7 @@
 ghost use Rattle.std.specs.Prelude.{◌≡◌, IfErr, IfOk};
 ghost use Rattle.elf_tool.specs.Rules.{GivesNoRules, GivesRules, ReadsNoRules, ReadsRules};
 
-use crate::opener::{OpenFault, Opener};
+use elf_check::{OpenFault, Opener};
 use elf_image::{Fault, read_to_end};
 use elf_relocation::RelocRule;
 use elf_rule_file::{RulesFault, read_rules};

@@ -1,6 +1,6 @@
 //! Files by name, of the machine or of a test.
 ghost use Rattle.std.specs.Prelude.{◌≡◌, ℕ, Bool, false, List, None, Option, Some, IfErr, IfOk, IfSome};
-ghost use Rattle.elf_tool.specs.Opener.{IsOpenFault};
+ghost use Rattle.elf_check.specs.Opener.{IsOpenFault};
 
 use std::fs::Files;
 use std::io::Read;

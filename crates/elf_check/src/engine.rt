@@ -3,7 +3,7 @@ ghost use Rattle.std.specs.Prelude.{◌≡◌, length, IfOk, string_bytes};
 ghost use Rattle.elf_rules.specs.Broken.{fault_of};
 ghost use Rattle.elf_rules.specs.ImageRules.{IsFault};
 ghost use Rattle.elf_rules.specs.JudgedRecords.{file_of};
-ghost use Rattle.elf_engine.specs.Check.{CheckSays, IsChecked, file_sections, file_segments, verdict_of};
+ghost use Rattle.elf_check.specs.Check.{CheckSays, IsChecked, file_sections, file_segments, verdict_of};
 ghost use Rattle.elf_stream.specs.Line.{ok_line as ok_line_of};
 
 use elf_image::write_whole;

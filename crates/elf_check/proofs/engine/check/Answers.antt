@@ -1,9 +1,9 @@
 use Rattle.std.proofs.Common.{arith, vec_len}
 use Rattle.std.proofs.lemmas.Result.{err_from_is_err_and}
-use Rattle.elf_engine.specs.Check.{CheckSays}
+use Rattle.elf_check.specs.Check.{CheckSays}
 use Rattle.elf_stream.specs.declared.fault.ToolFault.TheVariants.{OutOfMemory}
 use Rattle.elf_stream.proofs.Public.{kept_early, given_up}
-use Rattle.elf_engine.proofs.engine.check.check.Goals as goal
+use Rattle.elf_check.proofs.engine.check.Goals as goal
 
 pub returns-in_err-line : goal.returns-in_err-line
 returns-in_err-line g c =

@@ -1,0 +1,5 @@
+-- The words of this crate's contracts.
+pub mod Check
+pub mod Ending
+pub mod Opener
+pub mod Program
