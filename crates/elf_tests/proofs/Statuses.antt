@@ -6,7 +6,9 @@ use Rattle.std.specs.Io.KnownBytes.{Consumes}
 use Rattle.clap.specs.Simple.{subcommand_of}
 use Rattle.clap.specs.Walk.{Row, Text, walked}
 use Rattle.elf_rules.specs.ImageRules.{IsFault}
-use Rattle.elf_engine.specs.Check.{CheckSays}
+use Rattle.elf_check.specs.Check.{CheckSays}
+use Rattle.elf_check.specs.Ending.{code_of, ending_of}
+use Rattle.elf_check.specs.declared.ending.Status.{Status}
 use Rattle.elf_stream.specs.Engine.{IsAnswered, IsReadWhole, Report}
 use Rattle.elf_engine.specs.Show.{ShowSays}
 use Rattle.elf_stream.specs.declared.fault.Refusal.TheVariants.{File, Link, TooLong}
@@ -14,8 +16,7 @@ use Rattle.elf_stream.specs.declared.fault.ToolFault.{ToolFault}
 use Rattle.elf_stream.specs.declared.fault.Verdict.{Verdict}
 use Rattle.elf_stream.specs.declared.fault.Verdict.TheVariants.{Done, Refused}
 use Rattle.elf_command_line.specs.Command.{check, elfmap, map_command, rewrite, show}
-use Rattle.elf_tool.specs.Program.{EndsRun, code_of, ending_of}
-use Rattle.elf_tool.specs.declared.program.Status.{Status}
+use Rattle.elf_tool.specs.Program.{EndsRun}
 use Rattle.elf_command_line.specs.declared.words.Request.TheVariants.{Check, Show, Rewrite, Map}
 use Rattle.elf_command_line.specs.declared.words.WordsFault.TheVariants as words_fault
 

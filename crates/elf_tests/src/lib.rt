@@ -2,6 +2,8 @@
 #![tactic(auto)]
 
 #[cfg(test)]
+mod check_alone;
+#[cfg(test)]
 mod failing_calls;
 #[cfg(test)]
 mod file_names;

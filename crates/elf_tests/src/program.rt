@@ -15,14 +15,14 @@ pub(crate) const HEADER: &[u8; 64] = b"\x7fELF\x02\x01\x01\0\0\0\0\0\0\0\0\0\x01
 const CHECK: [&str; 3] = ["elfmap", "check", "a.o"];
 
 /// More than the program ever writes here.
-const ROOM: usize = 800;
+pub(crate) const ROOM: usize = 800;
 
 /// Has one file, `a.o`.
 #[derive(Drop)]
-struct Folder<'a> {
-    bytes: &'a [u8],
-    piece: usize,
-    failure: Option<ErrorKind>,
+pub(crate) struct Folder<'a> {
+    pub bytes: &'a [u8],
+    pub piece: usize,
+    pub failure: Option<ErrorKind>,
 }
 
 impl<'a> Opener for Folder<'a> {
@@ -42,7 +42,7 @@ impl<'a> Opener for Folder<'a> {
 
 /// Takes a byte at a time, up to `room` of them, and then fails, or takes none. It needs no memory.
 #[derive(Drop)]
-struct Shelf {
+pub(crate) struct Shelf {
     bytes: [u8; ROOM],
     len: usize,
     room: usize,
@@ -50,7 +50,7 @@ struct Shelf {
 }
 
 impl Shelf {
-    fn new(room: usize, failure: Option<ErrorKind>) -> Shelf {
+    pub(crate) fn new(room: usize, failure: Option<ErrorKind>) -> Shelf {
         Shelf {
             bytes: [0; ROOM],
             len: 0,
@@ -86,10 +86,10 @@ impl Write for Shelf {
 
 /// What a whole run came to.
 #[derive(Drop)]
-struct Ran {
-    status: u8,
-    out: Shelf,
-    err: Shelf,
+pub(crate) struct Ran {
+    pub status: u8,
+    pub out: Shelf,
+    pub err: Shelf,
 }
 
 fn run_on(
@@ -105,7 +105,7 @@ fn run_on(
 }
 
 /// It came to this status, and to these texts on the output and on standard error.
-fn assert_ran(rt: &impl Abort, ran: &Ran, status: u8, said: &str, complained: &str) {
+pub(crate) fn assert_ran(rt: &impl Abort, ran: &Ran, status: u8, said: &str, complained: &str) {
     assert_eq!(rt;
         (ran.status, ran.out.text(), ran.err.text()),
         (status, said.as_bytes(), complained.as_bytes())
