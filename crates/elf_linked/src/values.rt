@@ -93,7 +93,7 @@ fn symbol_value(
     ensures small { IsSmall result }
 {
     let symbol = symbol_of(objects, file, index);
-    if symbol.info / 16 == STB_LOCAL {
+    if symbol.binding() == STB_LOCAL {
         definition_value(objects, map, file, index)
     } else {
         name_value(objects, map, symbol.name)

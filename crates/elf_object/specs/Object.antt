@@ -1,6 +1,6 @@
 -- An object as a value: what contracts see of it. (gABI chapter 4: ELF Header, Sections, Symbol Table, Relocation.)
 -- A position is an index in the list of sections or of symbols, from 0.
-use Rattle.std.specs.Prelude.{ℕ, Bool, Option, None, List, [], get_or, pos}
+use Rattle.std.specs.Prelude.{ℕ, ◌/◌, ◌%◌, Bool, Option, None, List, [], get_or, pos}
 use Rattle.elf_field.specs.declared.order.Order.{Order}
 use Rattle.elf_object.specs.declared.relocation.Relocation.{Relocation}
 use Rattle.elf_object.specs.declared.section.Info.{Info}
@@ -52,6 +52,13 @@ no_section = record { name = []; flags = 0; addr = 0; align = 0; entsize = 0; li
 
 abbrev pub no_symbol : SymbolValue
 no_symbol = record { name = []; info = 0; other = 0; place = Undef; value = 0; size = 0 }
+
+-- a symbol's binding is the upper half of its info, its type the lower one
+abbrev pub binding : SymbolValue → ℕ
+binding s = s.info / 16
+
+abbrev pub symbol_type : SymbolValue → ℕ
+symbol_type s = s.info % 16
 
 -- the section and the symbol at a position
 abbrev pub section_at : ObjectValue → ℕ → SectionValue

@@ -1,12 +1,12 @@
 -- Rules 7 to 9 of an object: its symbols. (gABI chapter 4, Symbol Table: st_name, st_shndx, st_info; Sections: sh_info.)
-use Rattle.std.specs.Prelude.{◌≡◌, ℕ, ◌/◌, ◌<◌, Option, None, Some, List, [], ◌∷◌, length}
+use Rattle.std.specs.Prelude.{◌≡◌, ℕ, ◌<◌, Option, None, Some, List, [], ◌∷◌, length}
 use Rattle.elf_field.specs.Abi.{STB_LOCAL}
 use Rattle.elf_rules.specs.Rows.{AtEntry, Row, Ruled, rule}
 use Rattle.elf_object.specs.declared.symbol.Place.{Place}
 use Rattle.elf_object.specs.declared.symbol.Place.TheVariants.{Undef, Abs, Common, In}
 use Rattle.elf_object.specs.declared.symbol_rules.SymbolRule.{SymbolRule}
 use Rattle.elf_object.specs.declared.symbol_rules.SymbolRule.TheVariants.{ZeroInSymbolName, WrongPlace}
-use Rattle.elf_object.specs.Object.{ObjectValue, SymbolValue, symbol_at}
+use Rattle.elf_object.specs.Object.{ObjectValue, SymbolValue, binding, symbol_at}
 use Rattle.elf_object.specs.Positions.{HasZero, IsPast}
 
 -- the position of the section that a symbol is defined in, where it is in one
@@ -16,9 +16,9 @@ place_position Abs = None
 place_position Common = None
 place_position (In position) = Some position
 
--- the binding of a symbol is local; the binding is the upper half of its info
+-- the binding of a symbol is local
 abbrev pub IsLocal : SymbolValue → Type 0
-IsLocal s = s.info / 16 ≡ STB_LOCAL
+IsLocal s = binding s ≡ STB_LOCAL
 
 -- what breaks the rules on a symbol by itself
 abbrev pub BreaksSymbol : SymbolRule → ObjectValue → SymbolValue → Type 0

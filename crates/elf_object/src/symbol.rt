@@ -1,4 +1,8 @@
 //! A symbol of an object (gABI chapter 4, Symbol Table).
+ghost use Rattle.std.specs.Prelude.{◌≡◌};
+ghost use Rattle.elf_object.specs.Object.{binding as binding_of, symbol_type as symbol_type_of};
+ghost use Rattle.elf_object.specs.ObjectView.{symbol_value};
+
 /// Where a symbol is defined.
 #[derive(Clone, Copy, Debug, PartialEq, Eq)]
 pub enum Place {
@@ -27,4 +31,20 @@ pub struct Symbol<'a> {
     pub value: u64,
     /// Size in bytes, 0 where it is unknown or there is none.
     pub size: u64,
+}
+
+impl Symbol<'_> {
+    /// Its binding (`ELF64_ST_BIND`): 0 local, 1 global, 2 weak.
+    pub fn binding(&self) -> u8
+        ensures { result ≡ binding_of (symbol_value self.now) }
+    {
+        self.info / 16
+    }
+
+    /// Its type (`ELF64_ST_TYPE`).
+    pub fn symbol_type(&self) -> u8
+        ensures { result ≡ symbol_type_of (symbol_value self.now) }
+    {
+        self.info % 16
+    }
 }

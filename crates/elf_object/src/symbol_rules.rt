@@ -48,7 +48,7 @@ fn place_position(place: Place) -> Option<usize>
 fn is_local(symbol: &Symbol<'_>) -> bool
     ensures { IsTrue result ↔ IsLocal (symbol_value symbol.now) }
 {
-    symbol.info / 16 == STB_LOCAL
+    symbol.binding() == STB_LOCAL
 }
 
 /// The least position of a symbol that breaks the rule.

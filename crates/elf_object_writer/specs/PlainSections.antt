@@ -1,7 +1,7 @@
 -- The sections of an object as their section headers have them, in the order of the canonical layout: the object's own, and
 -- behind them the symbol table, its index table where there is one, its string table, and the section name string table.
 -- (gABI chapter 4: Sections, Symbol Table, Relocation, Section Groups. Position p has section index p + 1.)
-use Rattle.std.specs.Prelude.{ℕ, ◌+◌, ◌*◌, ◌/◌, ◌^◌, ◌==◌, nat_le, if◌then◌else◌, Bool, false, Option, None, Some, List, [], ◌∷◌, ◌++◌, codes, length, map}
+use Rattle.std.specs.Prelude.{ℕ, ◌+◌, ◌*◌, ◌^◌, ◌==◌, nat_le, if◌then◌else◌, Bool, false, Option, None, Some, List, [], ◌∷◌, ◌++◌, codes, length, map}
 use Rattle.std.specs.List.{filter, flat_map, list_any}
 use Rattle.elf_field.specs.Abi.{GRP_COMDAT, SHN_ABS, SHN_COMMON, SHN_LORESERVE, SHN_UNDEF, SHT_GROUP, SHT_NOBITS, SHT_REL, SHT_RELA, SHT_STRTAB, SHT_SYMTAB, SHT_SYMTAB_SHNDX, STB_LOCAL, SYM_SIZE, WORD_SIZE}
 use Rattle.elf_field.specs.declared.order.Order.{Order}
@@ -19,7 +19,7 @@ use Rattle.elf_object.specs.declared.section.Info.{Info}
 use Rattle.elf_object.specs.declared.section.Info.TheVariants as info
 use Rattle.elf_object.specs.declared.symbol.Place.{Place}
 use Rattle.elf_object.specs.declared.symbol.Place.TheVariants.{Undef, Abs, Common, In}
-use Rattle.elf_object.specs.Object.{BodyValue, bits, no_bits, relocs, group, ObjectValue, SectionValue, SymbolValue}
+use Rattle.elf_object.specs.Object.{BodyValue, bits, no_bits, relocs, group, ObjectValue, SectionValue, SymbolValue, binding}
 
 -- a section header's fields but for sh_name, sh_offset and sh_size, with the name and the content; of a section that takes no
 -- bytes in the file `space` is the size
@@ -95,7 +95,7 @@ abbrev pub null_symbol : Sym
 null_symbol = record { st_name = 0; st_info = 0; st_other = 0; st_shndx = SHN_UNDEF; st_value = 0; st_size = 0 }
 
 abbrev pub is_local : SymbolValue → Bool
-is_local s = s.info / 16 == STB_LOCAL
+is_local s = binding s == STB_LOCAL
 
 abbrev pub symbol_table_section : ObjectValue → PlainSection
 symbol_table_section o = record {

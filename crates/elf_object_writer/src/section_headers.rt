@@ -142,7 +142,7 @@ fn local_count(symbols: &[Symbol<'_>]) -> usize
 {
     symbols
         .iter()
-        .filter(|symbol| symbol.info / 16 == STB_LOCAL)
+        .filter(|symbol| symbol.binding() == STB_LOCAL)
         .count()
 }
 
