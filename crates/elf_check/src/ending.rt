@@ -17,9 +17,9 @@ use std::io::Write;
 pub enum Status {
     /// All that was asked is done.
     Done,
-    /// A file is refused, and the output says why.
+    /// What was read is refused, and standard output says why, for `rewrite` standard error.
     Refused,
-    /// The words are not as the command takes them, or call for help.
+    /// The words are not as the command takes them, or call for help, or a line of a file of rules is bad.
     Usage,
     /// A file could not be opened or read, the output could not be written, or memory was refused.
     Failed,

@@ -1,5 +1,5 @@
 //! The command `check` by itself, from the words of a command line to an exit status: its engine, [`check`], the files that a
-//! program opens, and how a program ends. The other commands stand on it too.
+//! program opens, and how a program ends. `elf_tool`, the program with all commands, takes these files and endings from here.
 //!
 //! ```
 //! // A header alone is a file of 64 bytes without sections and segments.

@@ -27,7 +27,8 @@ pub trait Opener {
     ghost opens: { Self → List ℕ → Bool } = { λ _ _. false };
 
     /// A reader of the file's bytes from its beginning on. [`OpenFault::Refused`] comes only for a
-    /// file that is not known to open. What is known of the files stays, so that one that is opened twice gives its bytes twice.
+    /// file that is not known to open, [`OpenFault::OutOfMemory`] only where memory is refused. What is known of the files stays, so that
+    /// one that is opened twice gives its bytes twice.
     fn reader(&mut self, name: &str) -> Result<Self::Input, OpenFault>
         ensures bytes { IfSome (holds self.old name.now) (λ bytes.
             IfOk result (λ input. Self.Input.remaining input ≡ Some bytes)) }

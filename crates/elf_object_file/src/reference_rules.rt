@@ -66,7 +66,7 @@ fn is_plain(image: &Image<'_>, left: &LeftOut, i: usize) -> bool
     left.is_kept(image, i) && (kind == BodyKind::Bits || kind == BodyKind::NoBits)
 }
 
-/// Whether section `i` is plain and links to one that is left out.
+/// Whether section `i` is plain and links to one that is left out, or isn't there.
 fn has_wrong_kept_link(image: &Image<'_>, left: &LeftOut, i: usize) -> bool
     requires { i < length image.now.sections }
     ensures { IsTrue result ↔ HasWrongKeptLink left.now (sections_of image.now) i }
@@ -75,7 +75,8 @@ fn has_wrong_kept_link(image: &Image<'_>, left: &LeftOut, i: usize) -> bool
     is_plain(image, left, i) && (link != 0 && !left.is_kept(image, link))
 }
 
-/// Whether section `i` is plain and has the flag `SHF_INFO_LINK`, and its info is the index of one that is left out.
+/// Whether section `i` is plain and has the flag `SHF_INFO_LINK`, and its info is the index of one that is left out,
+/// or isn't there.
 fn has_wrong_kept_info(image: &Image<'_>, left: &LeftOut, i: usize) -> bool
     requires { i < length image.now.sections }
     ensures { IsTrue result ↔ HasWrongKeptInfo left.now (sections_of image.now) i }

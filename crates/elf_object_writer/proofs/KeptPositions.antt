@@ -2,27 +2,16 @@
 use Rattle.std.proofs.Common.{◌≡◌, ◌<◌, ◌≤◌, ◌+◌, ◌*◌, ◌^◌, ℕ, Option, None, Some, List, length, map, get_or, inl, inr, refl, sym, ap, subst, ◌∙◌, arith}
 use Rattle.std.proofs.lemmas.Bool.{cases_lt}
 use Rattle.std.proofs.lemmas.List.{get_or-map, length-map}
-use Rattle.elf_rules.proofs.Public.{FirstIn-front}
+use Rattle.elf_object.proofs.Public.{no_wrong_place}
 use Rattle.elf_object.specs.declared.symbol.Symbol.{Symbol}
-use Rattle.elf_object.specs.GroupRule.{group_rules}
-use Rattle.elf_object.specs.Object.{ObjectValue, SymbolValue, no_symbol, section_at, symbol_at}
-use Rattle.elf_object.specs.ObjectRules.{IsObject, object_rules}
+use Rattle.elf_object.specs.Object.{ObjectValue, SymbolValue, no_symbol, symbol_at}
 use Rattle.elf_object.specs.ObjectView.{symbol_value}
 use Rattle.elf_object_writer.specs.PlacedObject.{IsPlaced, PlacedValue}
 use Rattle.elf_object_writer.specs.PlainSections.{index_of}
 use Rattle.elf_object.specs.Positions.{IsPast}
-use Rattle.elf_object.specs.SectionRules.{HasWrongPosition, section_rules}
-use Rattle.elf_object.specs.SymbolRules.{place_position, symbol_rules}
+use Rattle.elf_object.specs.SymbolRules.{place_position}
 use Rattle.elf_object_writer.proofs.PlainSections.{own_below}
 use Rattle.elf_object_writer.proofs.ShortLayout.{few_sections, few_symbols}
-
-pub position_kept : (o : ObjectValue) → IsObject o → (i : ℕ) → i < length o.sections → HasWrongPosition o (section_at o i) → ⊥
-unfolding object_rules section_rules
-position_kept o kept i lt wrong = (FirstIn-front (section_rules o) _ kept).1.1.1.0 i (i, lt, wrong, refl)
-
-pub place_kept : (o : ObjectValue) → IsObject o → (i : ℕ) → i < length o.symbols → IsPast (length o.sections) (place_position (symbol_at o i).place) → ⊥
-unfolding object_rules section_rules group_rules symbol_rules
-place_kept o kept i lt wrong = kept.1.1.1.1.1.1.1.0 i (i, lt, wrong, refl)
 
 -- an index of one of so few fits
 pub near_index : (p : Option ℕ) (n : ℕ) → n < 2 ^ 31 → (IsPast n p → ⊥) → index_of p < 2 ^ 32
@@ -47,7 +36,7 @@ near_place p symbols i d placed values lt =
     let few = few_sections o p.layout placed.layout in
     let below = own_below o in
     subst (λ (s : SymbolValue). index_of (place_position s.place) < 2 ^ 32) (sym (symbol_read o symbols i d values lt))
-    (near_index (place_position (symbol_at o i).place) (length o.sections) (omega arith) (place_kept o placed.rules i lt))
+    (near_index (place_position (symbol_at o i).place) (length o.sections) (omega arith) (no_wrong_place o placed.rules i lt))
 
 pub counted_symbols : (p : PlacedValue) (symbols : List Symbol) → IsPlaced p → map symbol_value symbols ≡ p.object.symbols → 24 * (length symbols + 1) ≤ 2 ^ 30
 counted_symbols p symbols placed values =

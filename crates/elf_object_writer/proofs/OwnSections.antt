@@ -11,7 +11,8 @@ use Rattle.elf_object_writer.specs.PlacedObject.{HasShortIndexes, HasShortNumber
 use Rattle.elf_object_writer.specs.PlainSections.{index_of}
 use Rattle.elf_object.specs.Positions.{IsPast, info_position}
 use Rattle.elf_object.specs.SectionRules.{HasWrongReference}
-use Rattle.elf_object_writer.proofs.KeptPositions.{near_index, position_kept}
+use Rattle.elf_object_writer.proofs.KeptPositions.{near_index}
+use Rattle.elf_object.proofs.Public.{no_wrong_position}
 use Rattle.elf_object.proofs.Public.{no_wrong_bits_type}
 use Rattle.elf_object_writer.proofs.PlacedSections.{own_at}
 use Rattle.elf_object_writer.proofs.PlainSections.{own_below}
@@ -51,7 +52,7 @@ short_numbers p i placed lt =
     let few = few_sections o p.layout placed.layout in
     let below = own_below o in
     let symbols = few_symbols o p.layout placed.layout in
-    let right = position_kept o placed.rules i lt in
+    let right = no_wrong_position o placed.rules i lt in
     record {
       right = no_wrong_bits_type o placed.rules i lt;
       link = near_index s.link (length o.sections) (omega arith) (λ past. right (inl past));

@@ -18,7 +18,7 @@ use Rattle.elf_object_writer.specs.Laid.{content_part}
 use Rattle.elf_object_writer.specs.LayoutParts.{LARGEST, saturated}
 use Rattle.elf_object.specs.Object.{BodyValue, bits, relocs, group, ObjectValue, SectionValue, no_section, section_at}
 use Rattle.elf_object.specs.ObjectView.{section_value}
-use Rattle.elf_object_writer.specs.PlainSections.{group_words, own_section, rel_entry, rela_entry, relocation_bytes, relocation_type}
+use Rattle.elf_object_writer.specs.PlainSections.{group_words, own_section, rel_entry, rela_entry, relocation_bytes, relocation_section_type}
 use Rattle.elf_object.specs.SectionRules.{IsWrongBitsType}
 
 -- ---- bits have no type of another body
@@ -50,7 +50,7 @@ pub length-relocations : (order : Order) (rela : Bool) (entries : List Relocatio
 length-relocations order true entries = length-relas order entries
 length-relocations order false entries = length-rels order entries
 
-in_file : (rela : Bool) → (relocation_type rela == SHT_NOBITS) ≡ false
+in_file : (rela : Bool) → (relocation_section_type rela == SHT_NOBITS) ≡ false
 in_file true = refl
 in_file false = refl
 

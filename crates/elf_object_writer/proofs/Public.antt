@@ -4,4 +4,4 @@ unfoldable pub use Rattle.elf_object_writer.proofs.AllParts.{last_sections}
 pub use Rattle.elf_object_writer.proofs.CanonicalLayout.{contents_of, header_at, headers_at, identification_kept, layout_order, length-headers_at, length-layout_parts, one_layout, some_layout}
 pub use Rattle.elf_object_writer.proofs.PartSizes.{length-relas, length-relocations, length-rels}
 pub use Rattle.elf_object_writer.proofs.PlainSections.{last_count, length-plain, no_plain, own_below, plain_at, plain_last, plain_own}
-pub use Rattle.elf_object_writer.proofs.ShortLayout.{content_end, few_sections, few_symbols, short_names, short_strings, table_end}
+pub use Rattle.elf_object_writer.proofs.ShortLayout.{content_end, few_sections, few_symbols, length-index_table_section, length-symbol_table_section, short_names, short_strings, table_end}

@@ -10,7 +10,7 @@ use Rattle.elf_extent.specs.Place.{Least}
 use Rattle.elf_image.specs.RelocatableFile.{relocatable_bytes, short_count, short_index}
 use Rattle.elf_string_table.specs.StringTable.{name_place}
 use Rattle.elf_object.specs.Object.{ObjectValue}
-use Rattle.elf_object_writer.specs.PlainSections.{PlainSection, name_table_at, plain_sections, section_names}
+use Rattle.elf_object_writer.specs.PlainSections.{RECORD_ALIGNMENT, PlainSection, name_table_at, plain_sections, section_names}
 
 -- ---- the parts behind the header: each content, and the section header table at a multiple of 8
 
@@ -23,7 +23,7 @@ abbrev pub content_part : PlainSection → ℕ × ℕ
 content_part s = (length s.content, if s.type == SHT_NOBITS then 1 else s.align)
 
 unfoldable pub layout_parts : List PlainSection → List (ℕ × ℕ)
-layout_parts sections = map content_part sections ++ ((SHDR_SIZE * (length sections + 1), 8) ∷ [])
+layout_parts sections = map content_part sections ++ ((SHDR_SIZE * (length sections + 1), RECORD_ALIGNMENT) ∷ [])
 
 -- ---- the records
 

@@ -97,6 +97,10 @@ null_symbol = record { st_name = 0; st_info = 0; st_other = 0; st_shndx = SHN_UN
 abbrev pub is_local : SymbolValue → Bool
 is_local s = binding s == STB_LOCAL
 
+-- the alignment of the symbol table and of the section header table, whose records have fields of eight bytes
+abbrev pub RECORD_ALIGNMENT : ℕ
+RECORD_ALIGNMENT = 8
+
 abbrev pub symbol_table_section : ObjectValue → PlainSection
 symbol_table_section o = record {
   name = codes ".symtab";
@@ -105,7 +109,7 @@ symbol_table_section o = record {
   addr = 0;
   link = strings_at o;
   info = 1 + length (filter is_local o.symbols);
-  align = 8;
+  align = RECORD_ALIGNMENT;
   entsize = SYM_SIZE;
   space = 0;
   content = flat_map (sym_bytes o.order) (null_symbol ∷ map (symbol_entry o) o.symbols);
@@ -119,7 +123,7 @@ index_table_section o = record {
   addr = 0;
   link = symbol_table_at o;
   info = 0;
-  align = 4;
+  align = WORD_SIZE;
   entsize = WORD_SIZE;
   space = 0;
   content = flat_map (word_bytes o.order) (0 ∷ map (λ s. index_word s.place) o.symbols);
@@ -142,8 +146,8 @@ strings name names = record {
 
 -- ---- the object's own sections
 
-abbrev pub relocation_type : Bool → ℕ
-relocation_type rela = if rela then SHT_RELA else SHT_REL
+abbrev pub relocation_section_type : Bool → ℕ
+relocation_section_type rela = if rela then SHT_RELA else SHT_REL
 
 -- r_info: the symbol's index above the type
 abbrev pub relocation_info : Relocation → ℕ
@@ -165,7 +169,7 @@ group_words comdat members = (if comdat then GRP_COMDAT else 0) ∷ map (λ memb
 abbrev pub body_type : BodyValue → ℕ
 body_type (bits type content) = type
 body_type (no_bits size) = SHT_NOBITS
-body_type (relocs rela target entries) = relocation_type rela
+body_type (relocs rela target entries) = relocation_section_type rela
 body_type (group comdat signature members) = SHT_GROUP
 
 abbrev pub body_bytes : Order → BodyValue → List ℕ

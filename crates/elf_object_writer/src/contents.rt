@@ -56,7 +56,7 @@ fn write_index_table<W: Write>(
 }
 
 /// One of the object's own sections, whose numbers fit the fields that hold them.
-pub(crate) fn own_section<'o, 'a>(placed: &PlacedObject<'o, 'a>, position: usize) -> &'o Section<'a>
+pub(crate) fn object_section<'o, 'a>(placed: &PlacedObject<'o, 'a>, position: usize) -> &'o Section<'a>
     requires { position < length placed.now.object.sections }
     ensures value { section_value result.now ≡ section_at placed.now.object position }
     ensures fits { HasShortNumbers placed.now.object (section_value result.now) }
@@ -75,7 +75,7 @@ fn write_own_content<W: Write>(
     ensures { let o = placed.now.object in Writes (W.contents writer.old) (W.contents writer.new)
         (body_bytes o.order (section_at o position).body) result }
 {
-    let section = own_section(placed, position);
+    let section = object_section(placed, position);
     write_body(placed.object().order(), &section.body, writer)
 }
 
@@ -137,5 +137,5 @@ fn own_content_size(placed: &PlacedObject<'_, '_>, position: usize) -> u64
     requires { position < length placed.now.object.sections }
     ensures { let o = placed.now.object in result ≡ length (own_section o (section_at o position)).content }
 {
-    content_part(own_section(placed, position)).0
+    content_part(object_section(placed, position)).0
 }

@@ -53,7 +53,7 @@ impl Model for Layout {
 }
 
 impl Layout {
-    /// `sh_offset` of the section with this section index; 0 for section header 0.
+    /// `sh_offset` of the section with this section index, which is below [`section_count`](Self::section_count); 0 for section header 0.
     pub fn offset(&self, index: usize) -> u64
         requires { index < length self.now.places }
         ensures { result ≡ slice_index (0 ∷ self.now.places) index }

@@ -16,7 +16,7 @@ use elf_object::{Body, Object, Section};
 use std::alloc::{AllocError, Global};
 
 /// Alignment of the symbol table and of the section header table, whose records have fields of eight bytes.
-const RECORD_ALIGNMENT: u64 = 8;
+pub(crate) const RECORD_ALIGNMENT: u64 = 8;
 
 /// The parts behind the header. A size that passes 64 bits is the largest that doesn't, so it has no place.
 pub(crate) fn layout_parts(

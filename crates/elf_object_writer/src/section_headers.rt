@@ -10,7 +10,8 @@ ghost use Rattle.elf_object_writer.specs.PlainSections.{PlainSection, body_type,
 ghost use Rattle.elf_object.specs.Positions.{info_position};
 ghost use Rattle.elf_rules.specs.Tables.{no_section};
 
-use crate::contents::{content_size, own_section};
+use crate::contents::{content_size, object_section};
+use crate::layout_parts::RECORD_ALIGNMENT;
 use crate::indexes::{index_of, long_number};
 use crate::placed_object::PlacedObject;
 use crate::placed_section::PlacedSection;
@@ -108,7 +109,7 @@ fn header_of(
             sh_type: SHT_SYMTAB,
             sh_link: placed.strings_index() as u32,
             sh_info: local_info(placed),
-            sh_addralign: 8,
+            sh_addralign: RECORD_ALIGNMENT,
             sh_entsize: SYM_SIZE,
             ..header
         },
@@ -153,7 +154,7 @@ fn own_header(placed: &PlacedObject<'_, '_>, position: usize, header: Shdr) -> S
         (name_at : List ℕ → ℕ) → header ≡ record no_section { sh_name = name_at s.name; sh_offset = header.sh_offset; sh_size = length s.content } →
         result ≡ section_header name_at s header.sh_offset }
 {
-    let section = own_section(placed, position);
+    let section = object_section(placed, position);
     let symbol_table = placed.symbol_table_index() as u32;
     let header = Shdr {
         sh_type: section_type(&section.body),

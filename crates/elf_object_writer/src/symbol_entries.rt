@@ -1,5 +1,6 @@
 //! The symbol table of an object, and its index table, entry by entry (gABI chapter 4, Symbol Table).
 ghost use Rattle.std.specs.Prelude.{◌≡◌, ◌<◌, ◌≤◌, ◌+◌, ◌*◌, ◌^◌, ◌∷◌, length, map};
+ghost use Rattle.elf_field.specs.Abi.{SYM_SIZE};
 ghost use Rattle.elf_object.specs.Object.{symbol_at};
 ghost use Rattle.elf_object.specs.ObjectView.{symbol_value};
 ghost use Rattle.elf_object_writer.specs.PlainSections.{index_of, index_word, null_symbol, symbol_entry};
@@ -68,7 +69,7 @@ impl<'p, 'o, 'a> Entries for IndexWords<'p, 'o, 'a> {
 /// How many symbols there are.
 pub(crate) fn symbol_count(placed: &PlacedObject<'_, '_>) -> usize
     ensures value { result ≡ length placed.now.object.symbols }
-    ensures few { 24 * (result + 1) ≤ MAX_LEN }
+    ensures few { SYM_SIZE * (result + 1) ≤ MAX_LEN }
 {
     placed.is_placed();
     placed.object().symbols().len()

@@ -1,5 +1,5 @@
-//! The program `elfmap` without its surroundings: the files that it opens, and the whole of it as
-//! one call, [`run`], over its words and the engines.
+//! The program `elfmap` with all its commands, without its surroundings: one call, [`run`], over its words, an [`Opener`] of files
+//! and the engines.
 //!
 //! ```
 //! // The first word is the program's name; `files` opens names, `out` and `err` take what is written.

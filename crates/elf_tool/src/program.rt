@@ -25,8 +25,8 @@ use std::io::Write;
 /// the files that the words name, `out` takes what is said of them, and `err` takes the text of
 /// what goes wrong. A failed write to `err` changes nothing.
 ///
-/// Answers the exit status: 0 done, 1 refused, 2 wrong usage or a call for help, 3 a file that
-/// cannot be opened, a failed read or write, or want of memory.
+/// Answers the exit status: 0 done, 1 refused, 2 wrong usage, a call for help or a bad line in the file of rules, 3 a file
+/// that cannot be opened, a failed read or write, or want of memory.
 pub fn run<S: AsStr, O: Opener, W: Write, E: Write>(
     alloc: Global,
     words: &[S],

@@ -20,7 +20,7 @@ use Rattle.elf_string_table.proofs.Public.{holds_names}
 use Rattle.elf_object_writer.specs.Laid.{encoding, identification, section_header}
 use Rattle.elf_object.specs.Object.{ObjectValue, section_at}
 use Rattle.elf_object_writer.specs.PlainSections.{PlainSection, has_index_table, name_table_at, plain_sections, section_names, strings, strings_at, symbol_table_at}
-use Rattle.elf_written_laws.specs.WrittenObject.{IsWritten, written_sections}
+use Rattle.elf_written_laws.specs.WrittenObject.{IsWrittenAt, written_sections}
 use Rattle.elf_object_writer.proofs.Public.{contents_of, header_at, headers_at, identification_kept, last_sections, layout_order, length-headers_at, length-plain, no_plain, plain_at, plain_last}
 use Rattle.elf_object.proofs.Public.{all_of_each, no_wrong_alignment}
 use Rattle.elf_written_laws.proofs.WrittenFields.{EachKind, IsBytes-all, PlainFits, each_plain, plain_fits, section_names_are}
@@ -52,7 +52,7 @@ short_index_fits n = elim (cases_lt n 0xff00) [
   | inr le ↦ rw (le-ltb n 0xff00 le) (omega arith)
 ]
 
-module _ (o : ObjectValue) (places : List ℕ) (written : IsWritten o places) where
+module _ (o : ObjectValue) (places : List ℕ) (written : IsWrittenAt o places) where
   header_fits : IsEhdr (header_at o places)
   header_fits =
       let table = table_short o places written in

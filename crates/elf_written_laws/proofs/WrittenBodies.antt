@@ -13,7 +13,7 @@ use Rattle.elf_object.specs.declared.relocation.Relocation.{Relocation}
 use Rattle.elf_object_file.specs.Denotes.{body_denoted, relocation_denoted}
 use Rattle.elf_object_file.specs.Kept.{body_kind, position_of}
 use Rattle.elf_object.specs.Object.{BodyValue, bits, no_bits, relocs, group, ObjectValue, SectionValue, no_relocation}
-use Rattle.elf_object_writer.specs.PlainSections.{body_bytes, body_info, body_space, body_type, relocation_bytes, relocation_type}
+use Rattle.elf_object_writer.specs.PlainSections.{body_bytes, body_info, body_space, body_type, relocation_bytes, relocation_section_type}
 use Rattle.elf_object.specs.SectionRules.{HasWrongField, HasWrongReference, IsWrongBitsType, types_without_bits}
 use Rattle.elf_object.specs.Widths.{BodyFits}
 use Rattle.elf_object.proofs.Public.{none_of_any, zero_addend}
@@ -90,7 +90,7 @@ kind_back (relocs true target entries) right = refl
 kind_back (relocs false target entries) right = refl
 kind_back (group comdat signature members) right = refl
 
-addends_back : (rela : Bool) → has_addends (relocation_type rela) ≡ rela
+addends_back : (rela : Bool) → has_addends (relocation_section_type rela) ≡ rela
 addends_back true = refl
 addends_back false = refl
 

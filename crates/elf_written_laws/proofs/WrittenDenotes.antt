@@ -2,12 +2,12 @@
 use Rattle.std.proofs.Common.{ℕ, List, sym}
 use Rattle.elf_object_file.specs.Denotes.{Denotes}
 use Rattle.elf_object.specs.Object.{ObjectValue}
-use Rattle.elf_written_laws.specs.WrittenObject.{IsWritten, written_sections}
+use Rattle.elf_written_laws.specs.WrittenObject.{IsWrittenAt, written_sections}
 use Rattle.elf_written_laws.proofs.WrittenOwn.{sections_back}
 use Rattle.elf_written_laws.proofs.WrittenParts.{written_abi, written_flags, written_machine, written_order, written_osabi}
 use Rattle.elf_written_laws.proofs.WrittenSymbolValues.{symbols_back}
 
-pub written_denotes : (o : ObjectValue) (places : List ℕ) → IsWritten o places → Denotes (written_sections o places) o
+pub written_denotes : (o : ObjectValue) (places : List ℕ) → IsWrittenAt o places → Denotes (written_sections o places) o
 written_denotes o places written = record {
   order = sym (written_order o places);
   osabi = sym (written_osabi o places);

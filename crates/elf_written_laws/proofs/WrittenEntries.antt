@@ -35,7 +35,7 @@ use Rattle.elf_object.specs.Positions.{IsPast}
 use Rattle.elf_object.specs.SymbolRules.{place_position}
 use Rattle.elf_object.specs.Widths.{ObjectFits, RelocationFits, SymbolFits}
 use Rattle.elf_object.proofs.Public.{all_of_map, each_of_all, no_wrong_place, none_of_any}
-use Rattle.elf_object_writer.proofs.Public.{length-relas, length-rels}
+use Rattle.elf_object_writer.proofs.Public.{length-relas, length-rels, length-symbol_table_section}
 
 -- ---- numbers that fit
 
@@ -109,12 +109,6 @@ module _ (o : ObjectValue) (widths : ObjectFits o) (strings_short : length (stri
   pub symbol_entry_read : (k : ℕ) → k < length o.symbols → entry o.order (symbol_table_section o).content (suc k) ≡ symbol_entry o (symbol_at o k)
   symbol_entry_read k lt = entry_read (suc k) (omega arith) ∙ get_or-map (symbol_entry o) o.symbols k no_symbol null_symbol lt
 
-pub length-symbol_table_section : (o : ObjectValue) → length (symbol_table_section o).content ≡ 24 * (length o.symbols + 1)
-length-symbol_table_section o =
-    let long = length-table sym_laws o.order (null_symbol ∷ map (symbol_entry o) o.symbols) in
-    let many = length-map o.symbols (symbol_entry o) in
-    omega arith
-
 pub symbol_entry_count : (o : ObjectValue) → entry_count (symbol_table_section o).content ≡ length o.symbols + 1
 symbol_entry_count o = let long = length-symbol_table_section o in omega arith
 
@@ -138,12 +132,6 @@ module _ (o : ObjectValue) (sound : IsObject o) (few : length o.sections < 2 ^ 3
 
   pub symbol_word : (k : ℕ) → k < length o.symbols → word o.order (index_table_section o).content (suc k) ≡ index_word (symbol_at o k).place
   symbol_word k lt = word_read (suc k) (omega arith) ∙ get_or-map (λ (s : SymbolValue). index_word s.place) o.symbols k no_symbol 0 lt
-
-pub length-index_table_section : (o : ObjectValue) → length (index_table_section o).content ≡ 4 * (length o.symbols + 1)
-length-index_table_section o =
-    let long = length-table word_laws o.order (0 ∷ map (λ s. index_word s.place) o.symbols) in
-    let many = length-map o.symbols (λ s. index_word s.place) in
-    omega arith
 
 -- ---- relocations
 

@@ -24,7 +24,7 @@ use Rattle.elf_object_writer.specs.PlainSections.{PlainSection, body_bytes, body
 use Rattle.elf_object.specs.Widths.{BodyFits, InfoFits, SectionFits, SymbolFits}
 use Rattle.elf_object.specs.Positions.{IsPast, info_position}
 use Rattle.elf_object.specs.SectionRules.{HasWrongReference, IsWrongBitsType}
-use Rattle.elf_written_laws.specs.WrittenObject.{IsWritten}
+use Rattle.elf_written_laws.specs.WrittenObject.{IsWrittenAt}
 use Rattle.elf_rules.proofs.Public.{above}
 use Rattle.elf_object.proofs.Public.{all_of_each, each_of_all, no_wrong_bits_type, no_wrong_position}
 use Rattle.elf_object_writer.proofs.Public.{last_sections, length-plain, no_plain, plain_at, plain_last, plain_own}
@@ -99,7 +99,7 @@ pub section_names_are : (o : ObjectValue) → section_names o ≡ map (λ (s : P
 unfolding section_names plain_sections
 section_names_are o = sym (map-append (λ (s : PlainSection). s.name) (sections_before_names o) (strings (codes ".shstrtab") (section_names o) ∷ []))
 
-names_are_bytes : (o : ObjectValue) (places : List ℕ) → IsWritten o places → EachKind o (λ s. IsBytes s.name)
+names_are_bytes : (o : ObjectValue) (places : List ℕ) → IsWrittenAt o places → EachKind o (λ s. IsBytes s.name)
 names_are_bytes o places written = record {
   own = λ p lt. (each_of_all SectionFits o.sections no_section written.widths.sections p lt).name;
   symbols = IsBytes-symtab;
@@ -108,7 +108,7 @@ names_are_bytes o places written = record {
   section_strings = IsBytes-shstrtab;
 }
 
-IsBytes-section_names : (o : ObjectValue) (places : List ℕ) → IsWritten o places → IsBytes (string_table (section_names o))
+IsBytes-section_names : (o : ObjectValue) (places : List ℕ) → IsWrittenAt o places → IsBytes (string_table (section_names o))
 IsBytes-section_names o places written =
     let each = each_plain o (λ s. IsBytes s.name) (names_are_bytes o places written) in
     let names = all_of_each (λ (s : PlainSection). IsBytes s.name) (plain_sections o) no_plain each in
@@ -118,7 +118,7 @@ IsBytes-section_names o places written =
     map_all [] all = tt
     map_all (s ∷ sections) all = (all.0, map_all sections all.1)
 
-IsBytes-symbol_names : (o : ObjectValue) (places : List ℕ) → IsWritten o places → IsBytes (string_table (symbol_names o))
+IsBytes-symbol_names : (o : ObjectValue) (places : List ℕ) → IsWrittenAt o places → IsBytes (string_table (symbol_names o))
 IsBytes-symbol_names o places written = (holds_names (symbol_names o)).bytes (map_all o.symbols written.widths.symbols)
   where
     map_all : (symbols : List SymbolValue) → AllByRecursion SymbolFits symbols → AllByRecursion IsBytes (map (λ (s : SymbolValue). s.name) symbols)
@@ -143,7 +143,7 @@ pub record PlainFits (s : PlainSection) : Type 0 where
   -- what the file holds of it is its content
   pub taken : taken s ≡ length s.content
 
-index_short : (n : ℕ) (r : Option ℕ) → (IsPast n r → ⊥) → index_of r ≤ n
+pub index_short : (n : ℕ) (r : Option ℕ) → (IsPast n r → ⊥) → index_of r ≤ n
 index_short n None near = omega arith
 index_short n (Some p) near = let below = above p n near in omega arith
 
@@ -257,7 +257,7 @@ locals_short (s ∷ symbols) = by_one (is_local s) (locals_short symbols)
     by_one true le = omega arith
     by_one false le = omega arith
 
-pub plain_fits : (o : ObjectValue) (places : List ℕ) → IsWritten o places → EachKind o PlainFits
+pub plain_fits : (o : ObjectValue) (places : List ℕ) → IsWrittenAt o places → EachKind o PlainFits
 plain_fits o places written =
     let few = own_short o places written in
     let some = symbols_short o places written in

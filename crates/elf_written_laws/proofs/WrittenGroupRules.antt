@@ -21,10 +21,10 @@ use Rattle.elf_object.specs.Object.{BodyValue, group, ObjectValue, SectionValue,
 use Rattle.elf_object_writer.specs.PlainSections.{body_bytes, body_info, body_link, body_space, body_type, group_words, own_section, symbol_table_at}
 use Rattle.elf_object.specs.Positions.{members_of}
 use Rattle.elf_object.specs.SectionRules.{HasWrongField, HasWrongReference}
-use Rattle.elf_written_laws.specs.WrittenObject.{IsWritten, written_sections}
+use Rattle.elf_written_laws.specs.WrittenObject.{IsWrittenAt, written_sections}
 use Rattle.elf_object.proofs.Public.{no_wrong_field, no_wrong_membership, no_wrong_position}
 use Rattle.elf_written_laws.proofs.WrittenEntries.{flags_word, group_flags_read, length-group_words, member_below, member_count_is, member_read, symbol_entry_count}
-use Rattle.elf_written_laws.proofs.WrittenFile.{IsSectionAt, own_at, symbols_at}
+use Rattle.elf_written_laws.proofs.WrittenFile.{HasSectionAt, own_at, symbols_at}
 use Rattle.elf_written_laws.proofs.WrittenLengths.{own_short}
 use Rattle.elf_written_laws.proofs.WrittenParts.{written_order}
 use Rattle.elf_written_laws.proofs.WrittenSymbolRules.{symbol_rules_kept}
@@ -46,9 +46,9 @@ flags_right false flags is some other = some is
 
 -- ---- the section
 
-module _ (o : ObjectValue) (places : List ℕ) (written : IsWritten o places) (p : ℕ) (below : p < length o.sections)
+module _ (o : ObjectValue) (places : List ℕ) (written : IsWrittenAt o places) (p : ℕ) (below : p < length o.sections)
     (comdat : Bool) (signature : ℕ) (members : List ℕ) (is : (section_at o p).body ≡ group comdat signature members) where
-  at : IsSectionAt (written_sections o places) (suc p) (own_section o (section_at o p))
+  at : HasSectionAt (written_sections o places) (suc p) (own_section o (section_at o p))
   at = own_at o places written p below
 
   group_type : (section (written_sections o places) (suc p)).sh_type ≡ SHT_GROUP

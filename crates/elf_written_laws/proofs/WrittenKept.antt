@@ -18,7 +18,7 @@ use Rattle.elf_object_writer.specs.Laid.{section_header}
 use Rattle.elf_object.specs.Object.{BodyValue, bits, no_bits, relocs, group, ObjectValue, section_at}
 use Rattle.elf_object_writer.specs.PlainSections.{PlainSection, body_type, has_index_table, name_table_at, own_section, section_names, strings_at, symbol_table_at}
 use Rattle.elf_object.specs.SectionRules.{IsWrongBitsType, types_without_bits}
-use Rattle.elf_written_laws.specs.WrittenObject.{IsWritten, written_sections}
+use Rattle.elf_written_laws.specs.WrittenObject.{IsWrittenAt, written_sections}
 use Rattle.elf_object_writer.proofs.Public.{last_count, last_sections, length-plain, no_plain, plain_last, plain_own}
 use Rattle.elf_object_file.proofs.Public.{and_true, first_found, first_missing, not_kept_past}
 use Rattle.elf_written_laws.proofs.KeptFront.{filter_own, none_left_out, one_left_out}
@@ -31,7 +31,7 @@ pub last_some : (far : Bool) → 2 < last_count far
 last_some true = omega arith
 last_some false = omega arith
 
-pub written_own : (o : ObjectValue) (places : List ℕ) → IsWritten o places → (p : ℕ) → p < length o.sections →
+pub written_own : (o : ObjectValue) (places : List ℕ) → IsWrittenAt o places → (p : ℕ) → p < length o.sections →
     section (written_sections o places) (suc p) ≡ section_header (name_place (section_names o)) (own_section o (section_at o p)) (get_or places p 0)
 written_own o places written p lt =
     let many = length-plain o (has_index_table o) refl in
@@ -39,7 +39,7 @@ written_own o places written p lt =
     written_section o places written p (omega arith)
     ∙ ap (λ (s : PlainSection). section_header (name_place (section_names o)) s (get_or places p 0)) (plain_own o p lt)
 
-pub written_last : (o : ObjectValue) (places : List ℕ) → IsWritten o places → (far : Bool) → has_index_table o ≡ far → (k : ℕ) → k < last_count far →
+pub written_last : (o : ObjectValue) (places : List ℕ) → IsWrittenAt o places → (far : Bool) → has_index_table o ≡ far → (k : ℕ) → k < last_count far →
     section (written_sections o places) (symbol_table_at o + k) ≡
     section_header (name_place (section_names o)) (get_or (last_sections o far) k no_plain) (get_or places (length o.sections + k) 0)
 written_last o places written far is k lt =
@@ -48,7 +48,7 @@ written_last o places written far is k lt =
     ap (section (written_sections o places)) next ∙ written_section o places written (length o.sections + k) (omega arith)
     ∙ ap (λ (s : PlainSection). section_header (name_place (section_names o)) s (get_or places (length o.sections + k) 0)) (plain_last o far is k)
 
-pub count_of_written : (o : ObjectValue) (places : List ℕ) → IsWritten o places → (far : Bool) → has_index_table o ≡ far →
+pub count_of_written : (o : ObjectValue) (places : List ℕ) → IsWrittenAt o places → (far : Bool) → has_index_table o ≡ far →
     count (written_sections o places) ≡ symbol_table_at o + last_count far
 count_of_written o places written far is =
     let many = length-plain o far is in
@@ -81,24 +81,24 @@ other_body type (relocs true target entries) bodyless right = bodyless.not_rela
 other_body type (relocs false target entries) bodyless right = bodyless.not_rel
 other_body type (group comdat signature members) bodyless right = bodyless.not_group
 
-pub own_type : (o : ObjectValue) (places : List ℕ) (type : ℕ) → IsWritten o places → IsNoBody type → (p : ℕ) → p < length o.sections →
+pub own_type : (o : ObjectValue) (places : List ℕ) (type : ℕ) → IsWrittenAt o places → IsNoBody type → (p : ℕ) → p < length o.sections →
     (section (written_sections o places) (suc p)).sh_type ≢ type
 own_type o places type written bodyless p lt = λ same.
     let is = ap (λ (s : Shdr). s.sh_type) (written_own o places written p lt) in
     other_body type (section_at o p).body bodyless (no_wrong_bits_type o written.object p lt) (sym is ∙ same)
 
 -- every own section has a type
-pub own_typed : (o : ObjectValue) (places : List ℕ) → IsWritten o places → (p : ℕ) → p < length o.sections →
+pub own_typed : (o : ObjectValue) (places : List ℕ) → IsWrittenAt o places → (p : ℕ) → p < length o.sections →
     (section (written_sections o places) (suc p)).sh_type ≢ SHT_NULL
 own_typed o places written p lt = own_type o places SHT_NULL written null_no_body p lt
 
 -- no section before the symbol table has this type
-before_symbols : (o : ObjectValue) (places : List ℕ) (type : ℕ) → IsWritten o places → IsNoBody type → SHT_NULL ≢ type → (k : ℕ) → k < symbol_table_at o →
+before_symbols : (o : ObjectValue) (places : List ℕ) (type : ℕ) → IsWrittenAt o places → IsNoBody type → SHT_NULL ≢ type → (k : ℕ) → k < symbol_table_at o →
     (section (written_sections o places) k).sh_type ≢ type
 before_symbols o places type written bodyless typed zero lt = λ same. typed (sym (ap (λ (s : Shdr). s.sh_type) (written_first o places written)) ∙ same)
 before_symbols o places type written bodyless typed (suc p) lt = own_type o places type written bodyless p (omega arith)
 
-type_at : (o : ObjectValue) (places : List ℕ) → IsWritten o places → (far : Bool) → has_index_table o ≡ far → (k : ℕ) → k < last_count far →
+type_at : (o : ObjectValue) (places : List ℕ) → IsWrittenAt o places → (far : Bool) → has_index_table o ≡ far → (k : ℕ) → k < last_count far →
     (section (written_sections o places) (symbol_table_at o + k)).sh_type ≡ (get_or (last_sections o far) k no_plain).type
 type_at o places written far is k lt = ap (λ (s : Shdr). s.sh_type) (written_last o places written far is k lt)
 
@@ -109,20 +109,20 @@ unfolding last_sections
 first_last o true = refl
 first_last o false = refl
 
-symbols_typed : (o : ObjectValue) (places : List ℕ) → IsWritten o places → (section (written_sections o places) (symbol_table_at o)).sh_type ≡ SHT_SYMTAB
+symbols_typed : (o : ObjectValue) (places : List ℕ) → IsWrittenAt o places → (section (written_sections o places) (symbol_table_at o)).sh_type ≡ SHT_SYMTAB
 symbols_typed o places written =
     let more = last_some (has_index_table o) in
     let at : symbol_table_at o ≡ symbol_table_at o + 0 = omega arith in
     ap (λ (k : ℕ). (section (written_sections o places) k).sh_type) at
     ∙ type_at o places written (has_index_table o) refl 0 (omega arith) ∙ first_last o (has_index_table o)
 
-symbols_there : (o : ObjectValue) (places : List ℕ) → IsWritten o places → symbol_table_at o < count (written_sections o places)
+symbols_there : (o : ObjectValue) (places : List ℕ) → IsWrittenAt o places → symbol_table_at o < count (written_sections o places)
 symbols_there o places written =
     let more = last_some (has_index_table o) in
     let all = count_of_written o places written (has_index_table o) refl in
     omega arith
 
-pub written_symbol_table : (o : ObjectValue) (places : List ℕ) → IsWritten o places → symbol_table (written_sections o places) ≡ Some (symbol_table_at o)
+pub written_symbol_table : (o : ObjectValue) (places : List ℕ) → IsWrittenAt o places → symbol_table (written_sections o places) ≡ Some (symbol_table_at o)
 unfolding symbol_table
 written_symbol_table o places written =
     let f = written_sections o places in
@@ -139,14 +139,14 @@ second_linked : (o : ObjectValue) → (get_or (last_sections o true) 1 no_plain)
 unfolding last_sections
 second_linked o = refl
 
-is_index_table : (o : ObjectValue) (places : List ℕ) → IsWritten o places → has_index_table o ≡ true →
+is_index_table : (o : ObjectValue) (places : List ℕ) → IsWrittenAt o places → has_index_table o ≡ true →
     IsIndexTable (written_sections o places) (symbol_table_at o) (symbol_table_at o + 1)
 is_index_table o places written is = (
   type_at o places written true is 1 (omega arith) ∙ second_last o,
   ap (λ (s : Shdr). s.sh_link) (written_last o places written true is 1 (omega arith)) ∙ second_linked o,
 )
 
-none_before : (o : ObjectValue) (places : List ℕ) → IsWritten o places → (k : ℕ) → k < symbol_table_at o + 1 →
+none_before : (o : ObjectValue) (places : List ℕ) → IsWrittenAt o places → (k : ℕ) → k < symbol_table_at o + 1 →
     IsIndexTable (written_sections o places) (symbol_table_at o) k → ⊥
 none_before o places written k lt is = elim (cases_lt k (symbol_table_at o)) [
   | inl below ↦ before_symbols o places SHT_SYMTAB_SHNDX written indexes_no_body (λ same. omega arith) k below is.0
@@ -164,7 +164,7 @@ strings_type o (suc zero) above lt = refl
 strings_type o (suc (suc zero)) above lt = refl
 strings_type o (suc (suc (suc k))) above lt = absurd (omega arith)
 
-none_at_all : (o : ObjectValue) (places : List ℕ) → IsWritten o places → has_index_table o ≡ false → (k : ℕ) → k < count (written_sections o places) →
+none_at_all : (o : ObjectValue) (places : List ℕ) → IsWrittenAt o places → has_index_table o ≡ false → (k : ℕ) → k < count (written_sections o places) →
     IsIndexTable (written_sections o places) (symbol_table_at o) k → ⊥
 none_at_all o places written is k lt found = elim (cases_lt k (symbol_table_at o + 1)) [
   | inl below ↦ none_before o places written k below found
@@ -177,7 +177,7 @@ none_at_all o places written is k lt found = elim (cases_lt k (symbol_table_at o
       absurd (omega arith))
 ]
 
-index_table_is : (o : ObjectValue) (places : List ℕ) → IsWritten o places → (far : Bool) → has_index_table o ≡ far →
+index_table_is : (o : ObjectValue) (places : List ℕ) → IsWrittenAt o places → (far : Bool) → has_index_table o ≡ far →
     index_table (written_sections o places) (symbol_table_at o) ≡ (if far then Some (symbol_table_at o + 1) else None)
 unfolding index_table
 index_table_is o places written true is =
@@ -194,7 +194,7 @@ index_table_is o places written false is =
     (λ k has. both_true (eq-eqb _ _ has.0) (eq-eqb _ _ has.1)) (λ k test. (let parts = and_true _ _ test in (eqb-true _ _ parts.0, eqb-true _ _ parts.1)))
     (none_at_all o places written is))
 
-pub written_index_table : (o : ObjectValue) (places : List ℕ) → IsWritten o places →
+pub written_index_table : (o : ObjectValue) (places : List ℕ) → IsWrittenAt o places →
     index_table (written_sections o places) (symbol_table_at o) ≡ (if has_index_table o then Some (symbol_table_at o + 1) else None)
 written_index_table o places written = index_table_is o places written (has_index_table o) refl
 
@@ -205,7 +205,7 @@ index_read index = elim (cases_lt index SHN_LORESERVE) [
   | inr above ↦ rw (le-ltb index SHN_LORESERVE above) refl
 ]
 
-pub written_name_table : (o : ObjectValue) (places : List ℕ) → IsWritten o places →
+pub written_name_table : (o : ObjectValue) (places : List ℕ) → IsWrittenAt o places →
     (let f = written_sections o places in name_table f.header (section f 0) ≡ name_table_at o)
 unfolding written_sections
 written_name_table o places written = index_read (name_table_at o)
@@ -216,7 +216,7 @@ unfolding last_sections
 first_link o true = refl
 first_link o false = refl
 
-pub written_strings : (o : ObjectValue) (places : List ℕ) → IsWritten o places → (section (written_sections o places) (symbol_table_at o)).sh_link ≡ strings_at o
+pub written_strings : (o : ObjectValue) (places : List ℕ) → IsWrittenAt o places → (section (written_sections o places) (symbol_table_at o)).sh_link ≡ strings_at o
 written_strings o places written =
     let more = last_some (has_index_table o) in
     let at : symbol_table_at o ≡ symbol_table_at o + 0 = omega arith in
@@ -232,7 +232,7 @@ left_of o = record {
   names = name_table_at o;
 }
 
-pub written_left_out : (o : ObjectValue) (places : List ℕ) → IsWritten o places → left_out (written_sections o places) ≡ left_of o
+pub written_left_out : (o : ObjectValue) (places : List ℕ) → IsWrittenAt o places → left_out (written_sections o places) ≡ left_of o
 written_left_out o places written =
     let f = written_sections o places in
     let t = symbol_table_at o in
@@ -253,7 +253,7 @@ strings_behind : (far : Bool) → 0 < (if far then 2 else 1)
 strings_behind true = omega arith
 strings_behind false = omega arith
 
-own_kept : (o : ObjectValue) (places : List ℕ) → IsWritten o places → (p : ℕ) → p < length o.sections → is_kept (left_of o) (written_sections o places) (suc p) ≡ true
+own_kept : (o : ObjectValue) (places : List ℕ) → IsWrittenAt o places → (p : ℕ) → p < length o.sections → is_kept (left_of o) (written_sections o places) (suc p) ≡ true
 unfolding is_kept
 own_kept o places written p lt =
     let behind = strings_behind (has_index_table o) in
@@ -265,7 +265,7 @@ own_kept o places written p lt =
     (no_index_table_at (has_index_table o) (symbol_table_at o + 1) (suc p) (omega arith))
     (ne_eqb (name_table_at o) (suc p) (λ same. omega arith))
 
-first_left_out : (o : ObjectValue) (places : List ℕ) → IsWritten o places → is_kept (left_of o) (written_sections o places) 0 ≡ false
+first_left_out : (o : ObjectValue) (places : List ℕ) → IsWrittenAt o places → is_kept (left_of o) (written_sections o places) 0 ≡ false
 unfolding is_kept
 first_left_out o places written = rw (ap (λ (s : Shdr). s.sh_type) (written_first o places written)) refl
 
@@ -290,7 +290,7 @@ last_left_out o places k lt =
     one_left_out ((section (written_sections o places) i).sh_type == SHT_NULL) (i == 0) (symbol_table_at o == i) (strings_at o == i) _ (name_table_at o == i)
     (inr (which_last (symbol_table_at o) (has_index_table o) k lt))
 
-behind_left_out : (o : ObjectValue) (places : List ℕ) → IsWritten o places → (i : ℕ) → length o.sections < i → is_kept (left_of o) (written_sections o places) i ≡ false
+behind_left_out : (o : ObjectValue) (places : List ℕ) → IsWrittenAt o places → (i : ℕ) → length o.sections < i → is_kept (left_of o) (written_sections o places) i ≡ false
 behind_left_out o places written i above = elim (cases_lt i (count (written_sections o places))) [
   | inl below ↦ (
       let all = count_of_written o places written (has_index_table o) refl in
@@ -301,22 +301,22 @@ behind_left_out o places written i above = elim (cases_lt i (count (written_sect
 ]
 
 -- the own sections are kept, and no other
-pub own_is_kept : (o : ObjectValue) (places : List ℕ) → IsWritten o places → (p : ℕ) → p < length o.sections →
+pub own_is_kept : (o : ObjectValue) (places : List ℕ) → IsWrittenAt o places → (p : ℕ) → p < length o.sections →
     (let f = written_sections o places in is_kept (left_out f) f (suc p) ≡ true)
 own_is_kept o places written p lt =
     ap (λ (left : LeftOut). is_kept left (written_sections o places) (suc p)) (written_left_out o places written) ∙ own_kept o places written p lt
 
-pub first_not_kept : (o : ObjectValue) (places : List ℕ) → IsWritten o places → (let f = written_sections o places in is_kept (left_out f) f 0 ≡ false)
+pub first_not_kept : (o : ObjectValue) (places : List ℕ) → IsWrittenAt o places → (let f = written_sections o places in is_kept (left_out f) f 0 ≡ false)
 first_not_kept o places written =
     ap (λ (left : LeftOut). is_kept left (written_sections o places) 0) (written_left_out o places written) ∙ first_left_out o places written
 
-pub behind_not_kept : (o : ObjectValue) (places : List ℕ) → IsWritten o places → (i : ℕ) → length o.sections < i →
+pub behind_not_kept : (o : ObjectValue) (places : List ℕ) → IsWrittenAt o places → (i : ℕ) → length o.sections < i →
     (let f = written_sections o places in is_kept (left_out f) f i ≡ false)
 behind_not_kept o places written i above =
     ap (λ (left : LeftOut). is_kept left (written_sections o places) i) (written_left_out o places written) ∙ behind_left_out o places written i above
 
 -- a section that is kept is the own section at some position
-pub own_of_kept : (o : ObjectValue) (places : List ℕ) → IsWritten o places → (i : ℕ) → (let f = written_sections o places in is_kept (left_out f) f i ≡ true) →
+pub own_of_kept : (o : ObjectValue) (places : List ℕ) → IsWrittenAt o places → (i : ℕ) → (let f = written_sections o places in is_kept (left_out f) f i ≡ true) →
     (p : ℕ) × (p < length o.sections) × (i ≡ suc p)
 own_of_kept o places written zero is = absurd (let both : true ≡ false = sym is ∙ first_not_kept o places written in true≢false both)
 own_of_kept o places written (suc p) is = elim (cases_lt p (length o.sections)) [
@@ -327,7 +327,7 @@ own_of_kept o places written (suc p) is = elim (cases_lt p (length o.sections)) 
 -- ---- positions
 
 -- the sections that are kept have the indexes 1 to the number of own sections
-pub written_kept : (o : ObjectValue) (places : List ℕ) → IsWritten o places → (let f = written_sections o places in kept (left_out f) f ≡ range_with_len 1 (length o.sections))
+pub written_kept : (o : ObjectValue) (places : List ℕ) → IsWrittenAt o places → (let f = written_sections o places in kept (left_out f) f ≡ range_with_len 1 (length o.sections))
 written_kept o places written =
     let f = written_sections o places in
     let test = is_kept (left_out f) f in
@@ -338,7 +338,7 @@ written_kept o places written =
     ∙ filter_own test n (last_count (has_index_table o)) (first_not_kept o places written) (own_is_kept o places written) (λ i above below. behind_not_kept o places written i above)
 
 -- section p + 1 is at position p
-pub written_position : (o : ObjectValue) (places : List ℕ) → IsWritten o places → (p : ℕ) → p ≤ length o.sections →
+pub written_position : (o : ObjectValue) (places : List ℕ) → IsWrittenAt o places → (p : ℕ) → p ≤ length o.sections →
     (let f = written_sections o places in position_of (left_out f) f (suc p) ≡ p)
 written_position o places written p le =
     let f = written_sections o places in

@@ -15,7 +15,7 @@ use Rattle.elf_object_file.specs.FileRules.{file_rules}
 use Rattle.elf_object_writer.specs.Laid.{Laid, layout_bytes}
 use Rattle.elf_object.specs.Object.{ObjectValue}
 use Rattle.elf_object_writer.specs.PlainSections.{name_table_at}
-use Rattle.elf_written_laws.specs.WrittenObject.{IsWritten, IsWrittenAs, written_sections}
+use Rattle.elf_written_laws.specs.WrittenObject.{IsWrittenAt, IsWrittenAs, written_sections}
 use Rattle.elf_object_writer.proofs.Public.{contents_of, header_at, headers_at}
 use Rattle.elf_written_laws.proofs.DenotedWidths.{denoted_fits}
 use Rattle.elf_object_file.proofs.Public.{object_kept, one_object}
@@ -28,7 +28,7 @@ sections_same : {h k : Ehdr} {ss ts : List Shdr} {cs ds : List (List ℕ)} → h
     let g : Sections = record { header = k; headers = ts; contents = ds } in f ≡ g
 sections_same header headers contents = cc
 
-pub by_places : (o : ObjectValue) (b : List ℕ) (written : IsWrittenAs o b) → IsWritten o written.laid.places
+pub by_places : (o : ObjectValue) (b : List ℕ) (written : IsWrittenAs o b) → IsWrittenAt o written.laid.places
 by_places o b written = record {
   object = written.object;
   widths = written.widths;

@@ -7,7 +7,7 @@ use Rattle.elf_object_file.specs.Denotes.{section_denoted}
 use Rattle.elf_object_file.specs.Kept.{body_kind, kept, left_out}
 use Rattle.elf_object.specs.Object.{BodyValue, ObjectValue, SectionValue, no_section, section_at}
 use Rattle.elf_object.specs.Widths.{SectionFits}
-use Rattle.elf_written_laws.specs.WrittenObject.{IsWritten, written_sections}
+use Rattle.elf_written_laws.specs.WrittenObject.{IsWrittenAt, written_sections}
 use Rattle.elf_object_file.proofs.Public.{denoted_with, section_with}
 use Rattle.elf_object.proofs.Public.{each_of_all, no_wrong_bits_type, no_wrong_field, no_wrong_position}
 use Rattle.elf_written_laws.proofs.ReadLists.{read_list}
@@ -35,7 +35,7 @@ same_section a b name flags addr align entsize link info body =
     ∙ ap (λ (x : Info). made b.name b.flags b.addr b.align b.entsize b.link x a.body) info
     ∙ ap (λ (x : BodyValue). made b.name b.flags b.addr b.align b.entsize b.link b.info x) body
 
-module _ (o : ObjectValue) (places : List ℕ) (written : IsWritten o places) where
+module _ (o : ObjectValue) (places : List ℕ) (written : IsWrittenAt o places) where
   positions : HasPositions o (left_out (written_sections o places)) (written_sections o places)
   positions p lt = written_position o places written p (omega arith)
 

@@ -18,7 +18,7 @@ use Rattle.elf_object_file.specs.Denotes.{section_name_of}
 use Rattle.elf_object_writer.specs.Laid.{encoding}
 use Rattle.elf_object.specs.Object.{ObjectValue, section_at}
 use Rattle.elf_object_writer.specs.PlainSections.{PlainSection, body_bytes, has_index_table, index_table_section, name_table_at, plain_sections, section_names, strings_at, symbol_names, symbol_table_at, symbol_table_section}
-use Rattle.elf_written_laws.specs.WrittenObject.{IsWritten, written_sections}
+use Rattle.elf_written_laws.specs.WrittenObject.{IsWrittenAt, written_sections}
 use Rattle.elf_object_writer.proofs.Public.{last_count, last_sections, length-plain, no_plain, plain_at, plain_last, plain_own}
 use Rattle.elf_object.proofs.Public.{no_zero_in_section_name}
 use Rattle.elf_written_laws.proofs.WrittenFields.{section_names_are}
@@ -118,7 +118,7 @@ pub section_name_at : (o : ObjectValue) (p : ℕ) → p < length (plain_sections
 section_name_at o p lt =
     ap (λ (names : List (List ℕ)). get_or names p []) (section_names_are o) ∙ get_or-map (λ (s : PlainSection). s.name) (plain_sections o) p no_plain [] lt
 
-pub written_names : (o : ObjectValue) (places : List ℕ) → IsWritten o places →
+pub written_names : (o : ObjectValue) (places : List ℕ) → IsWrittenAt o places →
     (let f = written_sections o places in value_names f.header f.headers f.contents ≡ string_table (section_names o))
 written_names o places written =
     let f = written_sections o places in
@@ -134,7 +134,7 @@ own_name o p lt named =
     let same = section_name_at o p (omega arith) ∙ ap (λ (s : PlainSection). s.name) (plain_own o p lt) in
     name_read (section_names o) p (section_at o p).name (omega arith) same named
 
-pub written_name : (o : ObjectValue) (places : List ℕ) → IsWritten o places → (p : ℕ) → p < length o.sections → section_name_of (written_sections o places) (suc p) ≡ (section_at o p).name
+pub written_name : (o : ObjectValue) (places : List ℕ) → IsWrittenAt o places → (p : ℕ) → p < length o.sections → section_name_of (written_sections o places) (suc p) ≡ (section_at o p).name
 written_name o places written p lt =
     let names = section_names o in
     rw (ne_eqb (section (written_sections o places) (suc p)).sh_type SHT_NULL (own_typed o places written p lt))

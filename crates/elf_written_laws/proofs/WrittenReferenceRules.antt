@@ -30,7 +30,7 @@ use Rattle.elf_object_writer.specs.PlainSections.{body_info, body_link, body_typ
 use Rattle.elf_object.specs.Positions.{HasFlag, IsPast, info_position, is_bits, is_group, members_of}
 use Rattle.elf_object.specs.SectionRules.{HasWrongField, IsAgainstFlag, HasWrongReference, IsWrongBitsType}
 use Rattle.elf_object.specs.SymbolRules.{place_position}
-use Rattle.elf_written_laws.specs.WrittenObject.{IsWritten, written_sections}
+use Rattle.elf_written_laws.specs.WrittenObject.{IsWrittenAt, written_sections}
 use Rattle.elf_object_writer.proofs.Public.{last_count, last_sections, no_plain}
 use Rattle.elf_object.proofs.Public.{no_wrong_bits_type, no_wrong_field, no_wrong_place, no_wrong_position}
 use Rattle.elf_written_laws.proofs.WrittenBodies.{kind_back}
@@ -75,7 +75,7 @@ place_inside left f n (In p) extended own there word outside = elim (cases_lt p 
       true≢false (sym (own p below) ∙ ap (is_kept left f) next ∙ out))
 ]
 
-pub no_symbol_outside : (o : ObjectValue) (places : List ℕ) → IsWritten o places →
+pub no_symbol_outside : (o : ObjectValue) (places : List ℕ) → IsWrittenAt o places →
     Never (symbol_outside (left_out (written_sections o places)) (written_sections o places) (symbol_table_at o))
 unfolding symbols_of symbol_in
 no_symbol_outside o places written x (j, lt, outside, here) =
@@ -92,7 +92,7 @@ no_symbol_outside o places written x (j, lt, outside, here) =
 
 -- ---- bodies by their kinds
 
-pub own_kind : (o : ObjectValue) (places : List ℕ) → IsWritten o places → (p : ℕ) → p < length o.sections →
+pub own_kind : (o : ObjectValue) (places : List ℕ) → IsWrittenAt o places → (p : ℕ) → p < length o.sections →
     body_kind (section (written_sections o places) (suc p)).sh_type ≡ kind_of_body (section_at o p).body
 own_kind o places written p lt =
     ap (λ (type : ℕ). body_kind type) (own_at o places written p lt).sh_type ∙ kind_back (section_at o p).body (no_wrong_bits_type o written.object p lt)
@@ -129,7 +129,7 @@ last_is_bits o false (suc zero) lt = refl
 last_is_bits o false (suc (suc zero)) lt = refl
 last_is_bits o false (suc (suc (suc k))) lt = absurd (omega arith)
 
-module _ (o : ObjectValue) (places : List ℕ) (written : IsWritten o places) where
+module _ (o : ObjectValue) (places : List ℕ) (written : IsWrittenAt o places) where
   -- a section of another kind is one of the object's own
   own_of_kind : (kind : BodyKind) → (Bits ≡ kind → ⊥) → (i : ℕ) → i < count (written_sections o places) → body_kind (section (written_sections o places) i).sh_type ≡ kind →
       (p : ℕ) × (p < length o.sections) × (i ≡ suc p) × (kind_of_body (section_at o p).body ≡ kind)

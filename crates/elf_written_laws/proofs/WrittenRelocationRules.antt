@@ -16,34 +16,35 @@ use Rattle.elf_table.specs.SymbolRules.{entry_count, symbol_table_rules}
 use Rattle.elf_table.specs.TableKind.{entry_size, kind_of}
 use Rattle.elf_object.specs.declared.relocation.Relocation.{Relocation}
 use Rattle.elf_object.specs.Object.{BodyValue, relocs, ObjectValue, SectionValue, no_relocation, no_section, section_at}
-use Rattle.elf_object_writer.specs.PlainSections.{body_bytes, body_info, body_link, body_space, body_type, index_of, own_section, relocation_bytes, relocation_type, symbol_table_at}
+use Rattle.elf_object_writer.specs.PlainSections.{body_bytes, body_info, body_link, body_space, body_type, index_of, own_section, relocation_bytes, relocation_section_type, symbol_table_at}
 use Rattle.elf_object.specs.Positions.{IsPast}
 use Rattle.elf_object.specs.SectionRules.{HasWrongField, HasWrongReference}
 use Rattle.elf_object.specs.Widths.{BodyFits, SectionFits}
-use Rattle.elf_written_laws.specs.WrittenObject.{IsWritten, written_sections}
+use Rattle.elf_written_laws.specs.WrittenObject.{IsWrittenAt, written_sections}
 use Rattle.elf_object.proofs.Public.{each_of_all, no_wrong_field, no_wrong_position, none_of_any}
 use Rattle.elf_object_writer.proofs.Public.{length-relocations}
 use Rattle.elf_written_laws.proofs.WrittenEntries.{AreRelocations, relocation_count_is, relocation_read, symbol_entry_count}
-use Rattle.elf_written_laws.proofs.WrittenFile.{IsSectionAt, own_at, symbols_at}
+use Rattle.elf_written_laws.proofs.WrittenFields.{index_short}
+use Rattle.elf_written_laws.proofs.WrittenFile.{HasSectionAt, own_at, symbols_at}
 use Rattle.elf_written_laws.proofs.WrittenLengths.{symbols_short}
 use Rattle.elf_written_laws.proofs.WrittenParts.{written_order}
 use Rattle.elf_written_laws.proofs.WrittenSymbolRules.{symbol_rules_kept}
 
 -- ---- the two types of relocation sections
 
-kind_of_relocations : (rela : Bool) (type : ℕ) → type ≡ relocation_type rela → kind_of type ≡ Some RelocationTable
+kind_of_relocations : (rela : Bool) (type : ℕ) → type ≡ relocation_section_type rela → kind_of type ≡ Some RelocationTable
 kind_of_relocations true type is = rw is refl
 kind_of_relocations false type is = rw is refl
 
-size_of_relocations : (rela : Bool) (type : ℕ) → type ≡ relocation_type rela → entry_size RelocationTable type ≡ relocation_size rela
+size_of_relocations : (rela : Bool) (type : ℕ) → type ≡ relocation_section_type rela → entry_size RelocationTable type ≡ relocation_size rela
 size_of_relocations true type is = rw is refl
 size_of_relocations false type is = rw is refl
 
-addends_of_type : (rela : Bool) (type : ℕ) → type ≡ relocation_type rela → has_addends type ≡ rela
+addends_of_type : (rela : Bool) (type : ℕ) → type ≡ relocation_section_type rela → has_addends type ≡ rela
 addends_of_type true type is = rw is refl
 addends_of_type false type is = rw is refl
 
-in_file : (rela : Bool) → (relocation_type rela == 8) ≡ false
+in_file : (rela : Bool) → (relocation_section_type rela == 8) ≡ false
 in_file true = refl
 in_file false = refl
 
@@ -67,10 +68,6 @@ target_below o rela target entries right = elim (cases_lt target (length o.secti
   | inr past ↦ absurd (right (inl (inl past)))
 ]
 
-index_at_most : (n : ℕ) (symbol : Option ℕ) → (IsPast n symbol → ⊥) → index_of symbol ≤ n
-index_at_most n None right = omega arith
-index_at_most n (Some position) right = elim (cases_lt position n) [ inl below ↦ omega arith | inr past ↦ absurd (right past) ]
-
 -- a relocation that is read names no symbol behind the last one
 symbol_there : (n : ℕ) (rela : Bool) (byte_order : Order) (entries : List Relocation) → AreRelocations n entries → (j : ℕ) →
     j < relocation_count rela (relocation_bytes byte_order rela entries) →
@@ -79,17 +76,17 @@ symbol_there n rela byte_order entries are j lt =
     let many = relocation_count_is rela byte_order entries in
     let within : j < length entries = omega arith in
     let read = ap (λ (r : table.Relocation). r.symbol) (relocation_read n rela byte_order entries are j within) in
-    let named = index_at_most n (get_or entries j no_relocation).symbol (none_of_any (λ (entry : Relocation). IsPast n entry.symbol) entries no_relocation are.there j within) in
+    let named = index_short n (get_or entries j no_relocation).symbol (none_of_any (λ (entry : Relocation). IsPast n entry.symbol) entries no_relocation are.there j within) in
     omega arith
 
 -- ---- the section
 
-module _ (o : ObjectValue) (places : List ℕ) (written : IsWritten o places) (p : ℕ) (below : p < length o.sections)
+module _ (o : ObjectValue) (places : List ℕ) (written : IsWrittenAt o places) (p : ℕ) (below : p < length o.sections)
     (rela : Bool) (target : ℕ) (entries : List Relocation) (is : (section_at o p).body ≡ relocs rela target entries) where
-  at : IsSectionAt (written_sections o places) (suc p) (own_section o (section_at o p))
+  at : HasSectionAt (written_sections o places) (suc p) (own_section o (section_at o p))
   at = own_at o places written p below
 
-  type_is : (section (written_sections o places) (suc p)).sh_type ≡ relocation_type rela
+  type_is : (section (written_sections o places) (suc p)).sh_type ≡ relocation_section_type rela
   type_is = at.sh_type ∙ ap body_type is
 
   relocation_link : (section (written_sections o places) (suc p)).sh_link ≡ symbol_table_at o

@@ -10,7 +10,7 @@ use Rattle.elf_object_file.specs.FileRules.{file_rules, foreign_section, front_r
 use Rattle.elf_object_file.specs.Kept.{body_kind, kept, left_out, symbol_table}
 use Rattle.elf_object.specs.Object.{BodyValue, bits, no_bits, relocs, group, ObjectValue, section_at}
 use Rattle.elf_object_writer.specs.PlainSections.{symbol_table_at}
-use Rattle.elf_written_laws.specs.WrittenObject.{IsWritten, written_sections}
+use Rattle.elf_written_laws.specs.WrittenObject.{IsWrittenAt, written_sections}
 use Rattle.elf_object_file.proofs.Public.{symbols_kept}
 use Rattle.elf_written_laws.proofs.WrittenFile.{indexes_at}
 use Rattle.elf_written_laws.proofs.WrittenGroupRules.{group_rules_kept}
@@ -29,7 +29,7 @@ bodies_in f a (suc n) each =
     FirstIn-later (rules_of_body (body_kind (section f a).sh_type) f a) _ None (each a (omega arith) (omega arith))
     (bodies_in f (a + 1) n (λ i above below. each i (omega arith) (omega arith)))
 
-module _ (o : ObjectValue) (places : List ℕ) (written : IsWritten o places) where
+module _ (o : ObjectValue) (places : List ℕ) (written : IsWrittenAt o places) where
   -- ---- rules 70 to 74
 
   no_foreign_section : Never (foreign_section (written_sections o places))

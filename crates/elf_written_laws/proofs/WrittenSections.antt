@@ -9,7 +9,7 @@ use Rattle.elf_table.specs.Sections.{content, count, section}
 use Rattle.elf_object_writer.specs.Laid.{layout_parts, section_header, section_headers}
 use Rattle.elf_object.specs.Object.{ObjectValue}
 use Rattle.elf_object_writer.specs.PlainSections.{PlainSection, name_table_at, plain_sections, section_names}
-use Rattle.elf_written_laws.specs.WrittenObject.{IsWritten, written_sections}
+use Rattle.elf_written_laws.specs.WrittenObject.{IsWrittenAt, written_sections}
 use Rattle.elf_object_writer.proofs.Public.{length-headers_at, length-layout_parts, no_plain, plain_at}
 
 -- ---- by position: section p has index p + 1
@@ -21,20 +21,20 @@ header_in name_at (s ∷ sections) [] p lt long = absurd (omega arith)
 header_in name_at (s ∷ sections) (x ∷ places) zero lt long = refl
 header_in name_at (s ∷ sections) (x ∷ places) (suc p) lt long = header_in name_at sections places p (omega arith) (omega arith)
 
-pub length-places : (o : ObjectValue) (places : List ℕ) → IsWritten o places → length places ≡ length (plain_sections o) + 1
+pub length-places : (o : ObjectValue) (places : List ℕ) → IsWrittenAt o places → length places ≡ length (plain_sections o) + 1
 length-places o places written =
     let many = fits_length (layout_parts (plain_sections o)) 64 places written.least.fits in
     many ∙ length-layout_parts (plain_sections o)
 
-pub written_count : (o : ObjectValue) (places : List ℕ) → IsWritten o places → count (written_sections o places) ≡ length (plain_sections o) + 1
+pub written_count : (o : ObjectValue) (places : List ℕ) → IsWrittenAt o places → count (written_sections o places) ≡ length (plain_sections o) + 1
 unfolding written_sections
 written_count o places written = let long = length-headers_at o places written.least.fits in omega arith
 
-pub written_first : (o : ObjectValue) (places : List ℕ) → IsWritten o places → section (written_sections o places) 0 ≡ first_header (length (plain_sections o) + 1) (name_table_at o)
+pub written_first : (o : ObjectValue) (places : List ℕ) → IsWrittenAt o places → section (written_sections o places) 0 ≡ first_header (length (plain_sections o) + 1) (name_table_at o)
 unfolding written_sections
 written_first o places written = ap (λ (n : ℕ). first_header (n + 1) (name_table_at o)) (length-headers_at o places written.least.fits)
 
-pub written_section : (o : ObjectValue) (places : List ℕ) → IsWritten o places → (p : ℕ) → p < length (plain_sections o) →
+pub written_section : (o : ObjectValue) (places : List ℕ) → IsWrittenAt o places → (p : ℕ) → p < length (plain_sections o) →
     section (written_sections o places) (suc p) ≡ section_header (name_place (section_names o)) (plain_at o p) (get_or places p 0)
 unfolding written_sections
 written_section o places written p lt =

@@ -14,9 +14,10 @@ use Rattle.elf_table.specs.SymbolParts.{symbol_parts}
 use Rattle.elf_table.specs.SymbolRules.{entry_count, entry_rules, index_table_rules, rest_rules, second_index_table, symbol_table_rules, wrong_index_table_size}
 use Rattle.elf_object.specs.Object.{ObjectValue}
 use Rattle.elf_object_writer.specs.PlainSections.{has_index_table, index_table_section, symbol_table_at}
-use Rattle.elf_written_laws.specs.WrittenObject.{IsWritten, written_sections}
-use Rattle.elf_written_laws.proofs.WrittenEntries.{length-index_table_section, length-symbol_table_section, symbol_entry_count}
-use Rattle.elf_written_laws.proofs.WrittenFile.{IsSectionAt, indexes_at, symbol_strings_at, symbols_at}
+use Rattle.elf_written_laws.specs.WrittenObject.{IsWrittenAt, written_sections}
+use Rattle.elf_object_writer.proofs.Public.{length-index_table_section, length-symbol_table_section}
+use Rattle.elf_written_laws.proofs.WrittenEntries.{symbol_entry_count}
+use Rattle.elf_written_laws.proofs.WrittenFile.{HasSectionAt, indexes_at, symbol_strings_at, symbols_at}
 use Rattle.elf_written_laws.proofs.WrittenKept.{written_index_table}
 use Rattle.elf_written_laws.proofs.WrittenParts.{written_order}
 use Rattle.elf_written_laws.proofs.WrittenSymbols.{AreSymbolParts, entries_kept, places_kept, strings_closed}
@@ -29,17 +30,17 @@ which_index true t j is = (refl, (let same : t + 1 ≡ j = cc in same))
 which_index false t j is = cc
 
 -- the index table is the section behind the symbol table
-index_at : (o : ObjectValue) (places : List ℕ) → IsWritten o places → (j : ℕ) → index_table (written_sections o places) (symbol_table_at o) ≡ Some j →
-    IsSectionAt (written_sections o places) j (index_table_section o)
+index_at : (o : ObjectValue) (places : List ℕ) → IsWrittenAt o places → (j : ℕ) → index_table (written_sections o places) (symbol_table_at o) ≡ Some j →
+    HasSectionAt (written_sections o places) j (index_table_section o)
 index_at o places written j is =
     let which = which_index (has_index_table o) (symbol_table_at o) j (sym (written_index_table o places written) ∙ is) in
-    subst (λ (k : ℕ). IsSectionAt (written_sections o places) k (index_table_section o)) which.1 (indexes_at o places written which.0)
+    subst (λ (k : ℕ). HasSectionAt (written_sections o places) k (index_table_section o)) which.1 (indexes_at o places written which.0)
 
 some_index : (far : Bool) (t : ℕ) → far ≡ true → (if far then Some (t + 1) else None) ≡ None → ⊥
 some_index true t is none = cc
 some_index false t is none = true≢false (sym is)
 
-pub written_parts : (o : ObjectValue) (places : List ℕ) → IsWritten o places → AreSymbolParts o (symbol_parts (written_sections o places) (symbol_table_at o))
+pub written_parts : (o : ObjectValue) (places : List ℕ) → IsWrittenAt o places → AreSymbolParts o (symbol_parts (written_sections o places) (symbol_table_at o))
 written_parts o places written =
     let f = written_sections o places in
     let t = symbol_table_at o in
@@ -57,7 +58,7 @@ written_parts o places written =
 
 -- ---- the rules
 
-module _ (o : ObjectValue) (places : List ℕ) (written : IsWritten o places) where
+module _ (o : ObjectValue) (places : List ℕ) (written : IsWrittenAt o places) where
   -- the content is whole entries
   whole_entries : (section (written_sections o places) (symbol_table_at o)).sh_size % 24 ≡ 0
   whole_entries =

@@ -29,7 +29,7 @@ use Rattle.elf_object_writer.specs.PlainSections as plain
 use Rattle.elf_object_writer.specs.PlainSections.{has_index_table, index_word, is_far, shndx, symbol_entry, symbol_names, symbol_table_at}
 use Rattle.elf_object.specs.Positions.{IsPast}
 use Rattle.elf_object.specs.SymbolRules.{place_position}
-use Rattle.elf_written_laws.specs.WrittenObject.{IsWritten, written_sections}
+use Rattle.elf_written_laws.specs.WrittenObject.{IsWrittenAt, written_sections}
 use Rattle.elf_written_laws.proofs.ReadLists.{map_twice, read_list}
 use Rattle.elf_object.proofs.Public.{no_wrong_place, no_zero_in_symbol_name}
 use Rattle.elf_object_file.proofs.Public.{halves, same_symbol}
@@ -103,7 +103,7 @@ entry_back o left f k word sound lt positions extended =
 far_symbol : (o : ObjectValue) (k : ℕ) → k < length o.symbols → is_far (symbol_at o k).place ≡ true → has_index_table o ≡ true
 far_symbol o k lt is = list_any_at (λ (s : SymbolValue). is_far s.place) o.symbols k no_symbol lt is
 
-module _ (o : ObjectValue) (places : List ℕ) (written : IsWritten o places) where
+module _ (o : ObjectValue) (places : List ℕ) (written : IsWrittenAt o places) where
   words : List ℕ
   words = index_words (written_sections o places) (index_table (written_sections o places) (symbol_table_at o))
 

@@ -26,7 +26,7 @@ use Rattle.elf_object.specs.Object.{ObjectValue, SymbolValue, no_symbol, symbol_
 use Rattle.elf_object_writer.specs.PlainSections.{has_index_table, index_table_section, index_word, is_far, is_local, null_symbol, shndx, symbol_entry, symbol_names, symbol_table_section}
 use Rattle.elf_object.specs.Positions.{IsPast}
 use Rattle.elf_object.specs.SymbolRules.{place_position}
-use Rattle.elf_written_laws.specs.WrittenObject.{IsWritten}
+use Rattle.elf_written_laws.specs.WrittenObject.{IsWrittenAt}
 use Rattle.elf_object.proofs.Public.{no_misplaced_local, no_wrong_place}
 use Rattle.elf_written_laws.proofs.WrittenEntries.{name_within, null_entry, null_word, symbol_entry_count, symbol_entry_read, symbol_word}
 use Rattle.elf_written_laws.proofs.WrittenLengths.{own_short, strings_short}
@@ -73,7 +73,7 @@ passing_first test (x ∷ xs) d first (suc k) lt = elim (cases_Bool (test x)) [
       ((λ below. absurd (omega arith)), (λ past. none_behind test x xs d first fails k (omega arith))))
 ]
 
-locals_first : (o : ObjectValue) (places : List ℕ) → IsWritten o places → ArePassingFirst is_local o.symbols no_symbol
+locals_first : (o : ObjectValue) (places : List ℕ) → IsWrittenAt o places → ArePassingFirst is_local o.symbols no_symbol
 locals_first o places written i k lt within is = elim (cases_Bool (is_local (symbol_at o k))) [
   | inl local ↦ local
   | inr other ↦ absurd (no_misplaced_local o written.object i within (eqb-true _ _ is, (k, lt, (λ bound. true≢false (sym (eq-eqb _ _ bound) ∙ other)))))
@@ -144,7 +144,7 @@ null_bytes o k lt =
     get_or_append_left (sym_bytes o.order null_symbol) (flat_map (sym_bytes o.order) (map (symbol_entry o) o.symbols)) 0 k (omega arith)
     ∙ ap (λ (b : List ℕ). get_or b k 0) zeros ∙ get_or-replicate 24 k 0 0 lt
 
-module _ (o : ObjectValue) (places : List ℕ) (written : IsWritten o places) (p : SymbolPartsValue) (are : AreSymbolParts o p) where
+module _ (o : ObjectValue) (places : List ℕ) (written : IsWrittenAt o places) (p : SymbolPartsValue) (are : AreSymbolParts o p) where
   strings_below : length (string_table (symbol_names o)) < 2 ^ 32
   strings_below = let short = strings_short o places written in omega arith
 

@@ -7,7 +7,7 @@ use Rattle.elf_object_file.specs.FileRules.{IsForeignType}
 use Rattle.elf_object.specs.Object.{BodyValue, bits, no_bits, relocs, group, ObjectValue, section_at}
 use Rattle.elf_object_writer.specs.PlainSections.{body_type, has_index_table, symbol_table_at}
 use Rattle.elf_object.specs.SectionRules.{IsWrongBitsType}
-use Rattle.elf_written_laws.specs.WrittenObject.{IsWritten, written_sections}
+use Rattle.elf_written_laws.specs.WrittenObject.{IsWrittenAt, written_sections}
 use Rattle.elf_object_writer.proofs.Public.{last_count, last_sections, no_plain}
 use Rattle.elf_object.proofs.Public.{no_wrong_bits_type}
 use Rattle.elf_written_laws.proofs.WrittenFile.{by_section, last_at, own_at}
@@ -67,7 +67,7 @@ last_tells o false (suc zero) is lt = strings_tell o _ _ refl
 last_tells o false (suc (suc zero)) is lt = strings_tell o _ _ refl
 last_tells o false (suc (suc (suc k))) is lt = absurd (omega arith)
 
-pub type_tells : (o : ObjectValue) (places : List ℕ) → IsWritten o places → (i : ℕ) → i < count (written_sections o places) →
+pub type_tells : (o : ObjectValue) (places : List ℕ) → IsWrittenAt o places → (i : ℕ) → i < count (written_sections o places) →
     TellsIndex o i (section (written_sections o places) i).sh_type
 type_tells o places written =
     let f = written_sections o places in

@@ -31,7 +31,7 @@ pub record IsWrittenAs (o : ObjectValue) (b : List ℕ) : Type 0 where
   pub short : length b ≤ MAX_LEN
 
 -- the same by the places of its parts
-pub record IsWritten (o : ObjectValue) (places : List ℕ) : Type 0 where
+pub record IsWrittenAt (o : ObjectValue) (places : List ℕ) : Type 0 where
   pub object : IsObject o
   pub widths : ObjectFits o
   pub least : Least (layout_parts (plain_sections o)) EHDR_SIZE places

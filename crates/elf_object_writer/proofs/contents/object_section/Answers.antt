@@ -3,7 +3,7 @@ use Rattle.elf_object.specs.Object.{section_at}
 use Rattle.elf_object.specs.ObjectView.{section_value}
 use Rattle.elf_object_writer.specs.PlacedObject.{HasShortNumbers}
 use Rattle.elf_object_writer.proofs.OwnSections.{section_read, short_numbers}
-use Rattle.elf_object_writer.proofs.contents.own_section.Goals as goal
+use Rattle.elf_object_writer.proofs.contents.object_section.Goals as goal
 
 pub returns : goal.returns
 returns c =
