@@ -56,7 +56,10 @@ fn write_index_table<W: Write>(
 }
 
 /// One of the object's own sections, whose numbers fit the fields that hold them.
-pub(crate) fn object_section<'o, 'a>(placed: &PlacedObject<'o, 'a>, position: usize) -> &'o Section<'a>
+pub(crate) fn object_section<'o, 'a>(
+    placed: &PlacedObject<'o, 'a>,
+    position: usize,
+) -> &'o Section<'a>
     requires { position < length placed.now.object.sections }
     ensures value { section_value result.now ≡ section_at placed.now.object position }
     ensures fits { HasShortNumbers placed.now.object (section_value result.now) }

@@ -11,8 +11,8 @@ ghost use Rattle.elf_object.specs.Positions.{info_position};
 ghost use Rattle.elf_rules.specs.Tables.{no_section};
 
 use crate::contents::{content_size, object_section};
-use crate::layout_parts::RECORD_ALIGNMENT;
 use crate::indexes::{index_of, long_number};
+use crate::layout_parts::RECORD_ALIGNMENT;
 use crate::placed_object::PlacedObject;
 use crate::placed_section::PlacedSection;
 use crate::symbol_entries::symbol_count;
