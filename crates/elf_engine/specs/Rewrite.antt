@@ -8,7 +8,7 @@ use Rattle.elf_object.specs.Object.{ObjectValue}
 use Rattle.elf_rules.specs.HeaderRules.{MAX_LEN}
 use Rattle.elf_rules.specs.ImageRules.{IsFault}
 use Rattle.elf_rules.specs.Rows.{FirstIn}
-use Rattle.elf_table.specs.Sections.{Sections, sections_of}
+use Rattle.elf_symbol_table.specs.Sections.{Sections, sections_of}
 use Rattle.elf_stream.specs.Engine.{IsAnsweredWithMemory}
 use Rattle.elf_stream.specs.declared.fault.Refusal.TheVariants.{File, Link, TooLong}
 use Rattle.elf_stream.specs.declared.fault.ToolFault.{ToolFault}

@@ -4,7 +4,7 @@ use Rattle.std.specs.List.{flat_map, range_with_len}
 use Rattle.elf_rules.specs.ImageRules.{IsFault}
 use Rattle.elf_image.specs.Image.{ImageValue, IsImage, section_of, segment_of}
 use Rattle.elf_image.specs.Strings.{section_name}
-use Rattle.elf_table.specs.Sections.{sections_of}
+use Rattle.elf_symbol_table.specs.Sections.{sections_of}
 use Rattle.elf_table.specs.TableVerdicts.{AreVerdicts, TablesValue}
 use Rattle.elf_stream.specs.Engine.{IsAnswered}
 use Rattle.elf_stream.specs.Line.{refused_line}

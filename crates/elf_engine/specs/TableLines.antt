@@ -6,23 +6,23 @@ use Rattle.std.specs.List.{flat_map, range_with_len}
 use Rattle.hex.specs.Hex.{encode_lower}
 use Rattle.elf_field.specs.declared.dynamic.Dyn.{Dyn}
 use Rattle.elf_image.specs.Strings.{string}
-use Rattle.elf_table.specs.declared.symbol.Place.{Place}
-use Rattle.elf_table.specs.declared.symbol.Place.TheVariants.{Undefined, Absolute, Common, Reserved, Section}
-use Rattle.elf_table.specs.declared.relocation.Relocation.{Relocation}
-use Rattle.elf_table.specs.declared.table_kind.TableKind.{TableKind}
-use Rattle.elf_table.specs.declared.table_kind.TableKind.TheVariants.{SymbolTable, RelocationTable, SectionGroup, NoteSection, DynamicArray, HashTable}
-use Rattle.elf_table.specs.DynamicArray.{dynamic_array_of, is_string_tag, no_dynamic_entry}
+use Rattle.elf_symbol_table.specs.declared.symbol.Place.{Place}
+use Rattle.elf_symbol_table.specs.declared.symbol.Place.TheVariants.{Undefined, Absolute, Common, Reserved, Section}
+use Rattle.elf_symbol_table.specs.declared.table_kind.TableKind.{TableKind}
+use Rattle.elf_symbol_table.specs.declared.table_kind.TableKind.TheVariants.{SymbolTable, RelocationTable, SectionGroup, NoteSection, DynamicArray, HashTable}
+use Rattle.elf_symbol_table.specs.Sections.{Sections, section, sections_of}
+use Rattle.elf_symbol_table.specs.Symbols.{SymbolValue, symbols_of}
+use Rattle.elf_symbol_table.specs.SymbolView.{no_symbol}
+use Rattle.elf_symbol_table.specs.TableKind.{kind_of}
+use Rattle.elf_hash_table.specs.HashTable.{nbucket, nchain}
+use Rattle.elf_hash_table.specs.HashView.{hash_of_section}
+use Rattle.elf_list_table.specs.declared.relocation.Relocation.{Relocation}
+use Rattle.elf_list_table.specs.DynamicArray.{dynamic_array_of, is_string_tag, no_dynamic_entry}
+use Rattle.elf_list_table.specs.Groups.{GroupValue, group_of}
+use Rattle.elf_list_table.specs.Notes.{NoteValue, notes_of}
+use Rattle.elf_list_table.specs.Relocations.{no_relocation, relocations_of}
 use Rattle.elf_table.specs.DynamicStrings.{dynamic_strings}
-use Rattle.elf_table.specs.Groups.{GroupValue, group_of}
-use Rattle.elf_table.specs.HashTable.{nbucket, nchain}
-use Rattle.elf_table.specs.HashView.{hash_of_section}
-use Rattle.elf_table.specs.Notes.{NoteValue, notes_of}
-use Rattle.elf_table.specs.Relocations.{no_relocation, relocations_of}
-use Rattle.elf_table.specs.Sections.{Sections, section, sections_of}
 use Rattle.elf_table.specs.Signature.{signature_name}
-use Rattle.elf_table.specs.Symbols.{SymbolValue, symbols_of}
-use Rattle.elf_table.specs.SymbolView.{no_symbol}
-use Rattle.elf_table.specs.TableKind.{kind_of}
 use Rattle.elf_table.specs.TableVerdicts.{TablesValue}
 use Rattle.elf_stream.specs.Line.{hexadecimal, line, name_text}
 

@@ -3,8 +3,8 @@ ghost use Rattle.std.specs.Prelude.{◌≡◌, ◌∷◌, ◌++◌, OnOk, map};
 ghost use Rattle.std.specs.Fmt.{decimal};
 ghost use Rattle.elf_stream.specs.Line.{blank, further_words};
 ghost use Rattle.elf_engine.specs.TableLines.{addend_text, bytes_text, dynamic_line, group_line, hash_line, note_line, place_text, relocation_line, string_words, symbol_line, table_refused_line};
-ghost use Rattle.elf_table.specs.NoteView.{note_value};
-ghost use Rattle.elf_table.specs.SymbolView.{symbol_value};
+ghost use Rattle.elf_symbol_table.specs.SymbolView.{symbol_value};
+ghost use Rattle.elf_list_table.specs.NoteView.{note_value};
 
 use elf_field::Dyn;
 use elf_image::strings::string_at;

@@ -8,7 +8,7 @@ use Rattle.elf_image.specs.declared.fault.Fault.{Fault}
 use Rattle.elf_image.specs.declared.fault.Fault.TheVariants as fault
 use Rattle.elf_rules.specs.ImageRules.{IsFault}
 use Rattle.elf_rules.specs.Rows.{FirstIn}
-use Rattle.elf_table.specs.Sections.{sections_of}
+use Rattle.elf_symbol_table.specs.Sections.{sections_of}
 use Rattle.elf_map_engine.specs.declared.object_files.FileFault.{FileFault}
 use Rattle.elf_map_engine.specs.declared.object_files.FileFault.TheVariants.{Refused, OutOfMemory}
 

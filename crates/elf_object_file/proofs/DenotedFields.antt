@@ -19,16 +19,16 @@ use Rattle.elf_object_file.specs.declared.body_kind.BodyKind.TheVariants.{Bits, 
 use Rattle.elf_object_file.specs.declared.left_out.LeftOut.{LeftOut}
 use Rattle.elf_object.specs.declared.relocation.Relocation.{Relocation}
 use Rattle.elf_object.specs.declared.section.Info.TheVariants as info
-use Rattle.elf_table.specs.declared.relocation.Relocation as table_relocation
-use Rattle.elf_table.specs.declared.table_kind.TableKind.{TableKind}
-use Rattle.elf_table.specs.declared.table_kind.TableKind.TheVariants.{RelocationTable, SectionGroup}
-use Rattle.elf_table.specs.GroupRules.{group_section_rules}
-use Rattle.elf_table.specs.OwnRules.{own_rules}
-use Rattle.elf_table.specs.RelocationRules.{relocation_section_rules}
-use Rattle.elf_table.specs.Relocations.{has_addends, no_relocation, relocation_count, relocation_in, relocations_of}
-use Rattle.elf_table.specs.Sections.{Sections, content, order, section, sections_of}
-use Rattle.elf_table.specs.TableKind.{entry_size}
-use Rattle.elf_table.proofs.Public.{length_relocations, relocation_get}
+use Rattle.elf_symbol_table.specs.declared.table_kind.TableKind.{TableKind}
+use Rattle.elf_symbol_table.specs.declared.table_kind.TableKind.TheVariants.{RelocationTable, SectionGroup}
+use Rattle.elf_symbol_table.specs.OwnRules.{own_rules}
+use Rattle.elf_symbol_table.specs.Sections.{Sections, content, order, section, sections_of}
+use Rattle.elf_symbol_table.specs.TableKind.{entry_size}
+use Rattle.elf_list_table.specs.declared.relocation.Relocation as table_relocation
+use Rattle.elf_list_table.specs.GroupRules.{group_section_rules}
+use Rattle.elf_list_table.specs.RelocationRules.{relocation_section_rules}
+use Rattle.elf_list_table.specs.Relocations.{has_addends, no_relocation, relocation_count, relocation_in, relocations_of}
+use Rattle.elf_list_table.proofs.Public.{length_relocations, relocation_get}
 use Rattle.elf_object.proofs.Public.{aligned}
 use Rattle.elf_object_file.proofs.DenotedObject.{section_at_position}
 use Rattle.elf_object_file.proofs.KeptTypes.{kept_section, table_sound}

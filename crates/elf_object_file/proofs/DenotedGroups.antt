@@ -14,10 +14,10 @@ use Rattle.elf_object.specs.Positions.{LacksFlag, is_group, members_of}
 use Rattle.elf_object_file.specs.declared.body_kind.BodyKind.{BodyKind}
 use Rattle.elf_object_file.specs.declared.body_kind.BodyKind.TheVariants.{Bits, NoBits, Relocs, Group}
 use Rattle.elf_object_file.specs.declared.left_out.LeftOut.{LeftOut}
-use Rattle.elf_table.specs.GroupRules.{group_section_rules}
-use Rattle.elf_table.specs.Groups.{member, member_count}
-use Rattle.elf_table.specs.Sections.{Sections, content, count, order, section}
-use Rattle.elf_table.proofs.Public.{sound_group}
+use Rattle.elf_symbol_table.specs.Sections.{Sections, content, count, order, section}
+use Rattle.elf_list_table.specs.GroupRules.{group_section_rules}
+use Rattle.elf_list_table.specs.Groups.{member, member_count}
+use Rattle.elf_list_table.proofs.Public.{sound_group}
 use Rattle.elf_object_file.proofs.DenotedFields.{denoted_with, section_with}
 use Rattle.elf_object_file.proofs.DenotedObject.{section_at_index, section_at_position}
 use Rattle.elf_object_file.proofs.DenotedSymbols.{kept_there}

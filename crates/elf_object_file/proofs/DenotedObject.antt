@@ -13,7 +13,7 @@ use Rattle.elf_object_file.specs.Denotes.{Denotes, section_denoted}
 use Rattle.elf_object_file.specs.Kept.{is_kept, kept, left_out, position_of}
 use Rattle.elf_object.specs.Object.{ObjectValue, SectionValue, no_section, section_at}
 use Rattle.elf_object.specs.SectionRules.{zero_in_section_name}
-use Rattle.elf_table.specs.Sections.{Sections, count, section}
+use Rattle.elf_symbol_table.specs.Sections.{Sections, count, section}
 use Rattle.elf_object_file.proofs.KeptIndex.{listed, stands_at}
 
 -- the section at a position is one of the file that is kept

@@ -17,16 +17,16 @@ use Rattle.elf_object_file.specs.declared.body_kind.BodyKind.{BodyKind}
 use Rattle.elf_object_file.specs.declared.body_kind.BodyKind.TheVariants.{Bits, NoBits, Relocs, Group}
 use Rattle.elf_object.specs.declared.relocation.Relocation.{Relocation}
 use Rattle.elf_object.specs.declared.section.Info.TheVariants as info
-use Rattle.elf_table.specs.declared.relocation.Relocation as table_relocation
-use Rattle.elf_table.specs.declared.table_kind.TableKind.TheVariants.{RelocationTable, SectionGroup}
-use Rattle.elf_table.specs.GroupRules.{group_front_rules, group_rules, group_section_rules, wrong_signature}
-use Rattle.elf_table.specs.Groups.{group_of, member, member_count}
-use Rattle.elf_table.specs.OwnRules.{own_rules}
-use Rattle.elf_table.specs.RelocationRules.{relocation_rules, relocation_section_rules, wrong_relocation_symbol}
-use Rattle.elf_table.specs.Relocations.{has_addends, no_relocation, relocation_count, relocation_in, relocations_of}
-use Rattle.elf_table.specs.Sections.{Sections, content, count, order, section}
-use Rattle.elf_table.specs.SymbolRules.{entry_count, symbol_table_rules}
-use Rattle.elf_table.proofs.Public.{length_relocations, relocation_get}
+use Rattle.elf_symbol_table.specs.declared.table_kind.TableKind.TheVariants.{RelocationTable, SectionGroup}
+use Rattle.elf_symbol_table.specs.OwnRules.{own_rules}
+use Rattle.elf_symbol_table.specs.Sections.{Sections, content, count, order, section}
+use Rattle.elf_symbol_table.specs.SymbolRules.{entry_count, symbol_table_rules}
+use Rattle.elf_list_table.specs.declared.relocation.Relocation as table_relocation
+use Rattle.elf_list_table.specs.GroupRules.{group_front_rules, group_rules, group_section_rules, wrong_signature}
+use Rattle.elf_list_table.specs.Groups.{group_of, member, member_count}
+use Rattle.elf_list_table.specs.RelocationRules.{relocation_rules, relocation_section_rules, wrong_relocation_symbol}
+use Rattle.elf_list_table.specs.Relocations.{has_addends, no_relocation, relocation_count, relocation_in, relocations_of}
+use Rattle.elf_list_table.proofs.Public.{length_relocations, relocation_get}
 use Rattle.elf_object_file.proofs.DenotedFields.{denoted_with, section_with}
 use Rattle.elf_object_file.proofs.DenotedObject.{position_there, section_at_index, section_at_position}
 use Rattle.elf_object_file.proofs.DenotedSymbols.{kept_there}

@@ -14,18 +14,18 @@ use Rattle.elf_object_file.specs.declared.left_out.LeftOut.{LeftOut}
 use Rattle.elf_object.specs.Positions.{IsPast}
 use Rattle.elf_object.specs.Object.{ObjectValue, SymbolValue, no_symbol, symbol_at}
 use Rattle.elf_object.specs.SymbolRules.{misplaced_local, place_position, wrong_place, zero_in_symbol_name}
-use Rattle.elf_table.specs.Sections.{Sections, content, count, order, section}
-use Rattle.elf_table.specs.declared.symbol.Place as table_place
-use Rattle.elf_table.specs.declared.symbol.Place.TheVariants.{Undefined, Absolute, Common, Reserved, Section}
-use Rattle.elf_table.specs.SymbolParts.{symbol_parts}
-use Rattle.elf_table.specs.declared.table_kind.TableKind.TheVariants.{SymbolTable}
-use Rattle.elf_table.specs.OwnRules.{own_rules}
-use Rattle.elf_table.specs.StringRules.{linked_string_rules}
-use Rattle.elf_table.specs.SymbolRules.{binding, entry, entry_count, entry_rules, misplaced_binding, rest_rules, symbol_table_rules}
-use Rattle.elf_table.specs.SymbolView as table_view
-use Rattle.elf_table.specs.Symbols as table_symbols
-use Rattle.elf_table.specs.Symbols.{symbol_in, symbols_of}
-use Rattle.elf_table.proofs.Public.{length_symbols, symbol_get}
+use Rattle.elf_symbol_table.specs.Sections.{Sections, content, count, order, section}
+use Rattle.elf_symbol_table.specs.declared.symbol.Place as table_place
+use Rattle.elf_symbol_table.specs.declared.symbol.Place.TheVariants.{Undefined, Absolute, Common, Reserved, Section}
+use Rattle.elf_symbol_table.specs.SymbolParts.{symbol_parts}
+use Rattle.elf_symbol_table.specs.declared.table_kind.TableKind.TheVariants.{SymbolTable}
+use Rattle.elf_symbol_table.specs.OwnRules.{own_rules}
+use Rattle.elf_symbol_table.specs.StringRules.{linked_string_rules}
+use Rattle.elf_symbol_table.specs.SymbolRules.{binding, entry, entry_count, entry_rules, misplaced_binding, rest_rules, symbol_table_rules}
+use Rattle.elf_symbol_table.specs.SymbolView as table_view
+use Rattle.elf_symbol_table.specs.Symbols as table_symbols
+use Rattle.elf_symbol_table.specs.Symbols.{symbol_in, symbols_of}
+use Rattle.elf_symbol_table.proofs.Public.{length_symbols, symbol_get}
 use Rattle.elf_object_file.proofs.DenotedObject.{no_zero_in_string, position_there}
 use Rattle.elf_object_file.proofs.FileRuns.{places_sound, symbols_sound}
 use Rattle.elf_object_file.proofs.KeptLists.{not_kept_past}

@@ -12,18 +12,19 @@ use Rattle.elf_object_file.specs.FileRules as file
 use Rattle.elf_object_file.specs.FileRules.{file_rules, reference_rules, wrong_group_member}
 use Rattle.elf_object_file.specs.Kept.{is_kept, left_out, position_of, symbol_table}
 use Rattle.elf_object.specs.Object.{ObjectValue, SymbolValue}
-use Rattle.elf_table.specs.declared.table_kind.TableKind.{TableKind}
-use Rattle.elf_table.specs.declared.table_kind.TableKind.TheVariants.{RelocationTable, SectionGroup}
-use Rattle.elf_table.specs.GroupRules as table
-use Rattle.elf_table.specs.GroupRules.{IsUnfit, group_front_rules, group_member_rules, group_rules, group_section_rules, wrong_member}
-use Rattle.elf_table.specs.Groups.{group_of, member, member_count, members_in}
-use Rattle.elf_table.specs.OwnRules.{own_rules}
-use Rattle.elf_table.specs.RelocationRules.{relocation_section_rules}
-use Rattle.elf_table.specs.Sections.{Sections, content, count, order, section}
-use Rattle.elf_table.specs.SymbolRules.{entry_count, symbol_table_rules}
-use Rattle.elf_table.specs.Symbols.{symbols_of}
-use Rattle.elf_table.specs.TableKind.{IsLinkOf, IsSymbolType}
-use Rattle.elf_table.proofs.Public.{length_members, link_there, member_get, sound_group}
+use Rattle.elf_symbol_table.specs.declared.table_kind.TableKind.{TableKind}
+use Rattle.elf_symbol_table.specs.declared.table_kind.TableKind.TheVariants.{RelocationTable, SectionGroup}
+use Rattle.elf_symbol_table.specs.OwnRules.{own_rules}
+use Rattle.elf_symbol_table.specs.Sections.{Sections, content, count, order, section}
+use Rattle.elf_symbol_table.specs.SymbolRules.{entry_count, symbol_table_rules}
+use Rattle.elf_symbol_table.specs.Symbols.{symbols_of}
+use Rattle.elf_symbol_table.specs.TableKind.{IsLinkOf, IsSymbolType}
+use Rattle.elf_list_table.specs.GroupRules as table
+use Rattle.elf_list_table.specs.GroupRules.{IsUnfit, group_front_rules, group_member_rules, group_rules, group_section_rules, wrong_member}
+use Rattle.elf_list_table.specs.Groups.{group_of, member, member_count, members_in}
+use Rattle.elf_list_table.specs.RelocationRules.{relocation_section_rules}
+use Rattle.elf_list_table.proofs.Public.{length_members, member_get, sound_group}
+use Rattle.elf_symbol_table.proofs.Public.{link_there}
 use Rattle.elf_object_file.proofs.FileRuns.{references_sound}
 use Rattle.elf_object_file.proofs.KeptTypes.{no_foreign_section, symbol_table_at}
 use Rattle.elf_object_file.proofs.SymbolCount.{length_symbols_of}

@@ -4,8 +4,8 @@ use Rattle.std.specs.Prelude.{◌&&◌, position}
 use Rattle.std.proofs.lemmas.Bool.{cases_lt}
 use Rattle.elf_field.specs.declared.shdr.Shdr.{Shdr}
 use Rattle.elf_image.specs.Image.{no_section}
-use Rattle.elf_table.specs.Sections.{Sections, count, section}
-use Rattle.elf_table.proofs.Public.{lowest_position}
+use Rattle.elf_symbol_table.specs.Sections.{Sections, count, section}
+use Rattle.elf_symbol_table.proofs.Public.{lowest_position}
 
 pub and_true : (s t : Bool) → (s && t) ≡ true → (s ≡ true) × (t ≡ true)
 and_true true t both = (refl, both)

@@ -7,7 +7,7 @@ use Rattle.elf_field.specs.Abi.{SHT_GROUP}
 use Rattle.elf_object_file.specs.FileRules.{IsMemberBefore, wrong_group_member_before, wrong_group_member_of}
 use Rattle.elf_object_file.specs.MemberMarks.{AreMarks}
 use Rattle.elf_object_file.specs.declared.left_out.LeftOut.{LeftOut}
-use Rattle.elf_table.specs.Sections.{Sections, section}
+use Rattle.elf_symbol_table.specs.Sections.{Sections, section}
 
 -- a section below i + 1 is below i, or i
 below_next : (i h : ℕ) → h < i + 1 → (h < i) ⊎ (h ≡ i)

@@ -11,14 +11,15 @@ use Rattle.elf_object_file.specs.Reading.{AreTablesOf}
 use Rattle.elf_object_file.specs.declared.body_kind.BodyKind.{BodyKind}
 use Rattle.elf_object_file.specs.declared.body_kind.BodyKind.TheVariants.{Bits, NoBits, Relocs, Group}
 use Rattle.elf_object_file.specs.declared.left_out.LeftOut.{LeftOut}
-use Rattle.elf_table.specs.declared.table_kind.TableKind.{TableKind}
-use Rattle.elf_table.specs.declared.table_kind.TableKind.TheVariants.{RelocationTable, SectionGroup, SymbolTable}
-use Rattle.elf_table.specs.Sections.{Sections, section, sections_of}
-use Rattle.elf_table.specs.SymbolRules.{symbol_table_rules}
-use Rattle.elf_table.specs.TableKind.{kind_of}
+use Rattle.elf_symbol_table.specs.declared.table_kind.TableKind.{TableKind}
+use Rattle.elf_symbol_table.specs.declared.table_kind.TableKind.TheVariants.{RelocationTable, SectionGroup, SymbolTable}
+use Rattle.elf_symbol_table.specs.Sections.{Sections, section, sections_of}
+use Rattle.elf_symbol_table.specs.SymbolRules.{symbol_table_rules}
+use Rattle.elf_symbol_table.specs.TableKind.{kind_of}
 use Rattle.elf_table.specs.TableRules.{rules_of, table_rules}
 use Rattle.elf_table.specs.TableVerdicts.{TablesValue}
-use Rattle.elf_table.proofs.Public.{kind_asked, none_kept, symbols_kind}
+use Rattle.elf_table.proofs.Public.{kind_asked, none_kept}
+use Rattle.elf_symbol_table.proofs.Public.{symbols_kind}
 use Rattle.elf_object_file.proofs.KeptLists.{symbol_table_there}
 
 -- ---- the kind of table in a section with such a body

@@ -12,7 +12,7 @@ use Rattle.elf_field.specs.declared.shdr.Shdr.{Shdr}
 use Rattle.elf_image.specs.Image.{no_section}
 use Rattle.elf_object_file.specs.Kept.{is_kept, position_of, symbol_table}
 use Rattle.elf_object_file.specs.declared.left_out.LeftOut.{LeftOut}
-use Rattle.elf_table.specs.Sections.{Sections, count, section}
+use Rattle.elf_symbol_table.specs.Sections.{Sections, count, section}
 
 -- the indexes from i on are i and those from i + 1 on
 range_from : (n i : ℕ) → i < n → range_with_len i (n - i) ≡ i ∷ range_with_len (i + 1) (n - (i + 1))

@@ -17,13 +17,13 @@ use Rattle.elf_object.specs.SectionRules.{IsWrongBitsType, types_without_bits, w
 use Rattle.elf_object_file.specs.declared.body_kind.BodyKind.{BodyKind}
 use Rattle.elf_object_file.specs.declared.body_kind.BodyKind.TheVariants.{Bits, NoBits, Relocs, Group}
 use Rattle.elf_object_file.specs.declared.left_out.LeftOut.{LeftOut}
-use Rattle.elf_table.specs.declared.table_kind.TableKind.TheVariants.{SymbolTable}
-use Rattle.elf_table.specs.IndexTable.{IsIndexTable, index_table}
-use Rattle.elf_table.specs.OwnRules.{own_rules}
-use Rattle.elf_table.specs.Sections.{Sections, count, section}
-use Rattle.elf_table.specs.StringRules.{linked_string_rules}
-use Rattle.elf_table.specs.SymbolParts.{symbol_parts}
-use Rattle.elf_table.specs.SymbolRules.{entry_count, entry_rules, index_table_rules, rest_rules, second_index_table, symbol_table_rules}
+use Rattle.elf_symbol_table.specs.declared.table_kind.TableKind.TheVariants.{SymbolTable}
+use Rattle.elf_symbol_table.specs.IndexTable.{IsIndexTable, index_table}
+use Rattle.elf_symbol_table.specs.OwnRules.{own_rules}
+use Rattle.elf_symbol_table.specs.Sections.{Sections, count, section}
+use Rattle.elf_symbol_table.specs.StringRules.{linked_string_rules}
+use Rattle.elf_symbol_table.specs.SymbolParts.{symbol_parts}
+use Rattle.elf_symbol_table.specs.SymbolRules.{entry_count, entry_rules, index_table_rules, rest_rules, second_index_table, symbol_table_rules}
 use Rattle.elf_object_file.proofs.DenotedObject.{section_at_position}
 use Rattle.elf_object_file.proofs.FileRuns.{all_bodies_sound, front_sound, symbols_sound}
 use Rattle.elf_object_file.proofs.FirstSection.{and_true, first_found}

@@ -8,7 +8,7 @@ use Rattle.elf_object.specs.Object.{ObjectValue}
 use Rattle.elf_object.specs.ObjectRules.{IsObject}
 use Rattle.elf_object.specs.SectionRules.{section_rules}
 use Rattle.elf_object.specs.SymbolRules.{symbol_rules}
-use Rattle.elf_table.specs.Sections.{sections_of}
+use Rattle.elf_symbol_table.specs.Sections.{sections_of}
 use Rattle.elf_object_file.proofs.DenotedFields.{no_wrong_alignment, no_wrong_field}
 use Rattle.elf_object_file.proofs.DenotedGroups.{no_wrong_membership}
 use Rattle.elf_object_file.proofs.DenotedObject.{no_zero_in_section_name}

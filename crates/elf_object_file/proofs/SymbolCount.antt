@@ -4,13 +4,13 @@ use Rattle.std.specs.Prelude.{◌/◌, ◌%◌}
 use Rattle.elf_field.specs.Sym.{sym_at}
 use Rattle.elf_object.specs.Object.{SymbolValue}
 use Rattle.elf_object.specs.declared.symbol.Place.{Place}
-use Rattle.elf_table.specs.Sections.{Sections, content, order}
-use Rattle.elf_table.specs.SymbolParts.{symbol_parts}
-use Rattle.elf_table.specs.SymbolRules.{entry, entry_count}
-use Rattle.elf_table.specs.Symbols as table_symbols
-use Rattle.elf_table.specs.Symbols.{symbol_in, symbols_of}
-use Rattle.elf_table.specs.SymbolView.{no_symbol}
-use Rattle.elf_table.proofs.Public.{length_symbols, symbol_get}
+use Rattle.elf_symbol_table.specs.Sections.{Sections, content, order}
+use Rattle.elf_symbol_table.specs.SymbolParts.{symbol_parts}
+use Rattle.elf_symbol_table.specs.SymbolRules.{entry, entry_count}
+use Rattle.elf_symbol_table.specs.Symbols as table_symbols
+use Rattle.elf_symbol_table.specs.Symbols.{symbol_in, symbols_of}
+use Rattle.elf_symbol_table.specs.SymbolView.{no_symbol}
+use Rattle.elf_symbol_table.proofs.Public.{length_symbols, symbol_get}
 
 pub length_symbols_of : (f : Sections) (t : ℕ) → length (symbols_of f t) ≡ entry_count (content f t)
 unfolding symbols_of

@@ -5,8 +5,8 @@ use Rattle.elf_rules.specs.Rows.{FirstIn}
 use Rattle.elf_rules.proofs.Public.{FirstIn-later, FirstIn-sooner}
 use Rattle.elf_object_file.specs.FileRules.{symbol_outside, symbol_outside_rules, symbol_rules_in}
 use Rattle.elf_object_file.specs.declared.left_out.LeftOut.{LeftOut}
-use Rattle.elf_table.specs.Sections.{Sections}
-use Rattle.elf_table.specs.SymbolRules.{symbol_table_rules}
+use Rattle.elf_symbol_table.specs.Sections.{Sections}
+use Rattle.elf_symbol_table.specs.SymbolRules.{symbol_table_rules}
 
 -- without a symbol table none is broken
 none_kept : (left : LeftOut) (f : Sections) → FirstIn (symbol_rules_in left f None) None

@@ -6,11 +6,11 @@ use Rattle.elf_image.specs.declared.fault.Fault.{Fault}
 use Rattle.elf_image.specs.declared.fault.Fault.TheVariants.{OutOfMemory, Io, Rule}
 use Rattle.elf_rules.specs.Rows.{FirstIn, Ruled}
 use Rattle.elf_rules.proofs.Public.{FirstIn-later, FirstIn-sooner}
-use Rattle.elf_table.specs.Judged.{IsJudgedBehind}
+use Rattle.elf_symbol_table.specs.Judged.{IsJudgedBehind}
 use Rattle.elf_object_file.specs.FileRules.{file_rules, front_rules, rules_behind}
 use Rattle.elf_object_file.specs.Kept.{left_out}
 use Rattle.elf_object_file.specs.declared.left_out.LeftOut.{LeftOut}
-use Rattle.elf_table.specs.Sections.{Sections}
+use Rattle.elf_symbol_table.specs.Sections.{Sections}
 use Rattle.elf_object_file.proofs.FileRuns.{front_sound}
 
 -- what a call answers that tests these rules and makes nothing

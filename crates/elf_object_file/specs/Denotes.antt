@@ -4,14 +4,14 @@ use Rattle.elf_field.specs.Abi.{EI_ABIVERSION, EI_OSABI, GRP_COMDAT, SHF_INFO_LI
 use Rattle.elf_field.specs.declared.shdr.Shdr.{Shdr}
 use Rattle.elf_image.specs.Image.{value_names}
 use Rattle.elf_image.specs.Strings.{string}
-use Rattle.elf_table.specs.declared.relocation.Relocation as table_relocation
-use Rattle.elf_table.specs.declared.symbol.Place as table_place
-use Rattle.elf_table.specs.declared.symbol.Place.TheVariants.{Undefined, Absolute, Common, Reserved, Section}
-use Rattle.elf_table.specs.Groups.{group_of}
-use Rattle.elf_table.specs.Relocations.{has_addends, relocations_of}
-use Rattle.elf_table.specs.Sections.{Sections, content, order, section}
-use Rattle.elf_table.specs.Symbols as table_symbols
-use Rattle.elf_table.specs.Symbols.{symbols_of}
+use Rattle.elf_symbol_table.specs.declared.symbol.Place as table_place
+use Rattle.elf_symbol_table.specs.declared.symbol.Place.TheVariants.{Undefined, Absolute, Common, Reserved, Section}
+use Rattle.elf_symbol_table.specs.Sections.{Sections, content, order, section}
+use Rattle.elf_symbol_table.specs.Symbols as table_symbols
+use Rattle.elf_symbol_table.specs.Symbols.{symbols_of}
+use Rattle.elf_list_table.specs.declared.relocation.Relocation as table_relocation
+use Rattle.elf_list_table.specs.Groups.{group_of}
+use Rattle.elf_list_table.specs.Relocations.{has_addends, relocations_of}
 use Rattle.elf_object_file.specs.declared.body_kind.BodyKind.{BodyKind}
 use Rattle.elf_object_file.specs.declared.body_kind.BodyKind.TheVariants.{Bits, NoBits, Relocs, Group}
 use Rattle.elf_object_file.specs.declared.left_out.LeftOut.{LeftOut}

@@ -4,15 +4,15 @@ use Rattle.std.specs.Prelude.{◌≡◌, ◌≢◌, ℕ, ◌+◌, ◌*◌, ◌<�
 use Rattle.elf_field.specs.Abi.{ET_REL, E_ENTRY_AT, E_PHNUM_AT, E_TYPE_AT, SHF_INFO_LINK, SHT_DYNAMIC, SHT_DYNSYM, SHT_GROUP, SHT_HASH, SHT_SHLIB, SHT_SYMTAB, SHT_SYMTAB_SHNDX, SH_INFO_AT, SH_LINK_AT, SH_TYPE_AT, ST_SHNDX_AT, SYM_SIZE, WORD_SIZE}
 use Rattle.elf_field.specs.declared.ehdr.Ehdr.{Ehdr}
 use Rattle.elf_rules.specs.Rows.{AtEntry, Either, OfSome, Row, Ruled, When, rule}
-use Rattle.elf_table.specs.declared.symbol.Place.{Place}
-use Rattle.elf_table.specs.declared.symbol.Place.TheVariants.{Undefined, Absolute, Common, Reserved, Section}
-use Rattle.elf_table.specs.GroupRules.{group_section_rules}
-use Rattle.elf_table.specs.Groups.{member, member_count}
-use Rattle.elf_table.specs.RelocationRules.{relocation_section_rules}
-use Rattle.elf_table.specs.Sections.{Sections, content, count, header_at, order, section}
-use Rattle.elf_table.specs.SymbolRules.{symbol_table_rules}
-use Rattle.elf_table.specs.Symbols.{symbols_of}
-use Rattle.elf_table.specs.SymbolView.{no_symbol}
+use Rattle.elf_symbol_table.specs.declared.symbol.Place.{Place}
+use Rattle.elf_symbol_table.specs.declared.symbol.Place.TheVariants.{Undefined, Absolute, Common, Reserved, Section}
+use Rattle.elf_symbol_table.specs.Sections.{Sections, content, count, header_at, order, section}
+use Rattle.elf_symbol_table.specs.SymbolRules.{symbol_table_rules}
+use Rattle.elf_symbol_table.specs.Symbols.{symbols_of}
+use Rattle.elf_symbol_table.specs.SymbolView.{no_symbol}
+use Rattle.elf_list_table.specs.GroupRules.{group_section_rules}
+use Rattle.elf_list_table.specs.Groups.{member, member_count}
+use Rattle.elf_list_table.specs.RelocationRules.{relocation_section_rules}
 use Rattle.elf_object_file.specs.declared.body_kind.BodyKind.{BodyKind}
 use Rattle.elf_object_file.specs.declared.body_kind.BodyKind.TheVariants.{Bits, NoBits, Relocs, Group}
 use Rattle.elf_object_file.specs.declared.left_out.LeftOut.{LeftOut}

@@ -4,7 +4,7 @@ use Rattle.std.specs.List.{range_with_len}
 use Rattle.elf_object_file.specs.Kept.{position_of}
 use Rattle.elf_object_file.specs.declared.left_out.LeftOut.{LeftOut}
 use Rattle.elf_image.specs.Image.{ImageValue}
-use Rattle.elf_table.specs.Sections.{Sections, count, sections_of}
+use Rattle.elf_symbol_table.specs.Sections.{Sections, count, sections_of}
 use Rattle.elf_table.specs.TableVerdicts.{AreVerdicts, TablesValue}
 
 -- for each section its position; the last one is that of any section that isn't there

@@ -7,9 +7,9 @@ ghost use Rattle.elf_object_file.specs.Kept.{body_kind, kept, left_out};
 ghost use Rattle.elf_object_file.specs.Reading.{AreTablesOf};
 ghost use Rattle.elf_rules.specs.Broken.{fault_of};
 ghost use Rattle.elf_rules.specs.Rows.{FirstIn};
-ghost use Rattle.elf_table.specs.Judged.{IsJudgedBehind};
-ghost use Rattle.elf_table.specs.Sections.{content, section, sections_of};
-ghost use Rattle.elf_table.specs.Symbols.{symbols_of};
+ghost use Rattle.elf_symbol_table.specs.Judged.{IsJudgedBehind};
+ghost use Rattle.elf_symbol_table.specs.Sections.{content, section, sections_of};
+ghost use Rattle.elf_symbol_table.specs.Symbols.{symbols_of};
 
 use crate::body_kind::BodyKind;
 use crate::left_out::LeftOut;

@@ -5,7 +5,7 @@ ghost use Rattle.elf_object_file.specs.FileRules.{IsForeignType, foreign_section
 ghost use Rattle.elf_object_file.specs.Kept.{symbol_table as symbol_table_of};
 ghost use Rattle.elf_rules.specs.Broken.{fault_of};
 ghost use Rattle.elf_rules.specs.Rows.{FirstIn};
-ghost use Rattle.elf_table.specs.Sections.{sections_of};
+ghost use Rattle.elf_symbol_table.specs.Sections.{sections_of};
 
 use crate::rules::*;
 use elf_field::abi::*;

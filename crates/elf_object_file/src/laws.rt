@@ -4,7 +4,7 @@ ghost use Rattle.elf_object.specs.Object.{ObjectValue};
 ghost use Rattle.elf_object_file.specs.Denotes.{Denotes};
 ghost use Rattle.elf_object_file.specs.FileRules.{file_rules};
 ghost use Rattle.elf_rules.specs.Rows.{FirstIn};
-ghost use Rattle.elf_table.specs.Sections.{Sections};
+ghost use Rattle.elf_symbol_table.specs.Sections.{Sections};
 
 /// A file that is read as an object has at most one fault.
 pub fn one_file_fault()

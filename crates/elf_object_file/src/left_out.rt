@@ -2,8 +2,8 @@
 ghost use Rattle.std.specs.Prelude.{◌≡◌, ◌==◌, ◌&&◌, ◌<◌, ◌≤◌, IfSome, length, position};
 ghost use Rattle.std.specs.Bool.{OnTrue};
 ghost use Rattle.elf_object_file.specs.Kept.{is_at as is_at_of, is_kept as is_kept_of, left_out, symbol_table as symbol_table_of};
-ghost use Rattle.elf_table.specs.IndexTable.{index_table as index_table_of};
-ghost use Rattle.elf_table.specs.Sections.{sections_of};
+ghost use Rattle.elf_symbol_table.specs.IndexTable.{index_table as index_table_of};
+ghost use Rattle.elf_symbol_table.specs.Sections.{sections_of};
 
 use elf_field::abi::*;
 use elf_image::Image;

@@ -7,9 +7,9 @@ ghost use Rattle.elf_object_file.specs.Kept.{body_kind, kept, position_of};
 ghost use Rattle.elf_object.specs.ObjectView.{body_value, section_value};
 ghost use Rattle.elf_object_file.specs.Reading.{ArePositions, AreTablesOf};
 ghost use Rattle.elf_rules.specs.Rows.{FirstIn};
-ghost use Rattle.elf_table.specs.Groups.{group_of};
-ghost use Rattle.elf_table.specs.Relocations.{relocations_of};
-ghost use Rattle.elf_table.specs.Sections.{section, sections_of};
+ghost use Rattle.elf_symbol_table.specs.Sections.{section, sections_of};
+ghost use Rattle.elf_list_table.specs.Groups.{group_of};
+ghost use Rattle.elf_list_table.specs.Relocations.{relocations_of};
 
 use crate::body_kind::BodyKind;
 use crate::left_out::LeftOut;

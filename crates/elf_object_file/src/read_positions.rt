@@ -3,7 +3,7 @@ ghost use Rattle.std.specs.Prelude.{◌≡◌, ◌+◌, IfOk};
 ghost use Rattle.elf_object_file.specs.Denotes.{section_reference};
 ghost use Rattle.elf_object_file.specs.Kept.{position_of};
 ghost use Rattle.elf_object_file.specs.Reading.{ArePositions};
-ghost use Rattle.elf_table.specs.Sections.{sections_of};
+ghost use Rattle.elf_symbol_table.specs.Sections.{sections_of};
 
 use crate::left_out::LeftOut;
 use elf_image::Image;

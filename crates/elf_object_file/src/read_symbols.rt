@@ -6,9 +6,9 @@ ghost use Rattle.elf_object_file.specs.Kept.{left_out};
 ghost use Rattle.elf_object.specs.ObjectView.{symbol_value};
 ghost use Rattle.elf_object_file.specs.Reading.{ArePositions, AreTablesOf};
 ghost use Rattle.elf_rules.specs.Rows.{FirstIn};
-ghost use Rattle.elf_table.specs.Sections.{sections_of};
-ghost use Rattle.elf_table.specs.Symbols.{symbols_of};
-ghost use Rattle.elf_table.specs.SymbolView.{no_symbol};
+ghost use Rattle.elf_symbol_table.specs.Sections.{sections_of};
+ghost use Rattle.elf_symbol_table.specs.Symbols.{symbols_of};
+ghost use Rattle.elf_symbol_table.specs.SymbolView.{no_symbol};
 
 use crate::left_out::LeftOut;
 use crate::read_positions::position_at;

@@ -7,8 +7,8 @@ ghost use Rattle.elf_object_file.specs.Kept.{left_out};
 ghost use Rattle.elf_object.specs.ObjectView.{value_of};
 ghost use Rattle.elf_object_file.specs.Reading.{AreTablesOf};
 ghost use Rattle.elf_rules.specs.Rows.{FirstIn};
-ghost use Rattle.elf_table.specs.Judged.{IsJudgedBehind};
-ghost use Rattle.elf_table.specs.Sections.{sections_of};
+ghost use Rattle.elf_symbol_table.specs.Judged.{IsJudgedBehind};
+ghost use Rattle.elf_symbol_table.specs.Sections.{sections_of};
 
 use crate::file_rules::judge_behind;
 use crate::front_rules::judge_front;

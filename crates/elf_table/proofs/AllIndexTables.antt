@@ -2,11 +2,11 @@
 use Rattle.std.proofs.Common.{ℕ, ◌+◌, ◌<◌, List, length, get_or, set, inl, inr, sym, ◌∙◌, arith, get_or-set_other, get_or-set_same}
 use Rattle.std.proofs.lemmas.Bool.{cases_eq}
 use Rattle.std.proofs.lemmas.List.{length-set}
-use Rattle.elf_table.specs.declared.index_tables.IndexTables.{IndexTables}
-use Rattle.elf_table.specs.IndexTable.{IsIndexTable, noted}
-use Rattle.elf_table.specs.Sections.{Sections, count}
+use Rattle.elf_symbol_table.specs.declared.index_tables.IndexTables.{IndexTables}
+use Rattle.elf_symbol_table.specs.IndexTable.{IsIndexTable, noted}
+use Rattle.elf_symbol_table.specs.Sections.{Sections, count}
+use Rattle.elf_symbol_table.proofs.Public.{index_tables_noted, index_tables_passed}
 use Rattle.elf_table.specs.TableVerdicts.{AreAllIndexTables, no_index_tables}
-use Rattle.elf_table.proofs.IndexTables.{index_tables_noted, index_tables_passed}
 
 -- a section that is an index table of none changes nothing
 pub all_passed : (f : Sections) (j : ℕ) (all : List IndexTables) → AreAllIndexTables f j all → ((i : ℕ) → i < count f → IsIndexTable f i j → ⊥) →

@@ -4,20 +4,18 @@ use Rattle.std.proofs.lemmas.Bool.{cases_eq, cases_lt}
 use Rattle.elf_field.specs.Abi.{SHT_SYMTAB}
 use Rattle.elf_rules.specs.Rows.{FirstIn}
 use Rattle.elf_rules.proofs.Public.{FirstIn-behind, FirstIn-front, one_fault}
-use Rattle.elf_table.specs.declared.table_kind.TableKind.{TableKind}
-use Rattle.elf_table.specs.declared.table_kind.TableKind.TheVariants.{DynamicArray, SectionGroup, SymbolTable}
-use Rattle.elf_table.specs.DynamicRules.{dynamic_section_rules}
-use Rattle.elf_table.specs.GroupRules.{group_front_rules, group_rules, group_section_rules}
-use Rattle.elf_table.specs.OwnRules.{own_rules}
-use Rattle.elf_table.specs.Sections.{Sections, content, count, order, section}
-use Rattle.elf_table.specs.SymbolRules.{entry_count, symbol_table_rules}
-use Rattle.elf_table.specs.Symbols.{symbols_of}
-use Rattle.elf_table.specs.TableKind.{kind_of}
+use Rattle.elf_symbol_table.specs.declared.table_kind.TableKind.{TableKind}
+use Rattle.elf_symbol_table.specs.declared.table_kind.TableKind.TheVariants.{DynamicArray, SectionGroup, SymbolTable}
+use Rattle.elf_symbol_table.specs.OwnRules.{own_rules}
+use Rattle.elf_symbol_table.specs.Sections.{Sections, content, count, order, section}
+use Rattle.elf_symbol_table.specs.SymbolRules.{entry_count, symbol_table_rules}
+use Rattle.elf_symbol_table.specs.Symbols.{symbols_of}
+use Rattle.elf_symbol_table.specs.TableKind.{kind_of}
+use Rattle.elf_symbol_table.proofs.Public.{length_symbols, link_there, symbols_kind}
+use Rattle.elf_list_table.specs.DynamicRules.{dynamic_section_rules}
+use Rattle.elf_list_table.specs.GroupRules.{group_front_rules, group_rules, group_section_rules}
 use Rattle.elf_table.specs.TableRules.{rules_of, table_rules}
 use Rattle.elf_table.specs.TableVerdicts.{AreVerdicts}
-use Rattle.elf_table.proofs.SymbolLists.{length_symbols}
-use Rattle.elf_table.proofs.TableKinds.{symbols_kind}
-use Rattle.elf_table.proofs.OwnRuleLemmas.{link_there}
 
 -- the verdict on a table that breaks no rule is None
 pub none_kept : (f : Sections) (i : ℕ) (kind : Option TableKind) (verdicts : List (Option (ℕ × ℕ))) → AreVerdicts f (count f) verdicts → i < count f →

@@ -1,8 +1,8 @@
 -- The name of a section group: its signature's. (gABI chapter 4, Section Groups.)
 use Rattle.std.specs.Prelude.{ℕ, List, get_or}
-use Rattle.elf_table.specs.Sections.{Sections, section}
-use Rattle.elf_table.specs.Symbols.{symbols_of}
-use Rattle.elf_table.specs.SymbolView.{no_symbol}
+use Rattle.elf_symbol_table.specs.Sections.{Sections, section}
+use Rattle.elf_symbol_table.specs.Symbols.{symbols_of}
+use Rattle.elf_symbol_table.specs.SymbolView.{no_symbol}
 
 -- the name of the symbol that the group in section i names, in the symbol table that it links to
 abbrev pub signature_name : Sections → ℕ → List ℕ

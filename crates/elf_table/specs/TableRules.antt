@@ -1,16 +1,16 @@
 -- The rules of the table that a section holds, by the kind of the table.
 use Rattle.std.specs.Prelude.{ℕ, Option, None, Some, List, []}
 use Rattle.elf_rules.specs.Rows.{Ruled}
-use Rattle.elf_table.specs.declared.table_kind.TableKind.{TableKind}
-use Rattle.elf_table.specs.declared.table_kind.TableKind.TheVariants.{SymbolTable, RelocationTable, SectionGroup, NoteSection, DynamicArray, HashTable}
-use Rattle.elf_table.specs.DynamicRules.{dynamic_section_rules}
-use Rattle.elf_table.specs.GroupRules.{group_section_rules}
-use Rattle.elf_table.specs.HashRules.{hash_table_rules}
-use Rattle.elf_table.specs.NoteRules.{note_section_rules}
-use Rattle.elf_table.specs.RelocationRules.{relocation_section_rules}
-use Rattle.elf_table.specs.Sections.{Sections, section}
-use Rattle.elf_table.specs.SymbolRules.{symbol_table_rules}
-use Rattle.elf_table.specs.TableKind.{kind_of}
+use Rattle.elf_symbol_table.specs.declared.table_kind.TableKind.{TableKind}
+use Rattle.elf_symbol_table.specs.declared.table_kind.TableKind.TheVariants.{SymbolTable, RelocationTable, SectionGroup, NoteSection, DynamicArray, HashTable}
+use Rattle.elf_symbol_table.specs.Sections.{Sections, section}
+use Rattle.elf_symbol_table.specs.SymbolRules.{symbol_table_rules}
+use Rattle.elf_symbol_table.specs.TableKind.{kind_of}
+use Rattle.elf_hash_table.specs.HashRules.{hash_table_rules}
+use Rattle.elf_list_table.specs.DynamicRules.{dynamic_section_rules}
+use Rattle.elf_list_table.specs.GroupRules.{group_section_rules}
+use Rattle.elf_list_table.specs.NoteRules.{note_section_rules}
+use Rattle.elf_list_table.specs.RelocationRules.{relocation_section_rules}
 
 -- those of a table of this kind in section i
 abbrev pub rules_of : Option TableKind → Sections → ℕ → List {1} Ruled

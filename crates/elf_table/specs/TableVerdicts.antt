@@ -1,13 +1,10 @@
 -- The verdicts on all tables of a file, and its index tables.
-use Rattle.std.specs.Prelude.{◌≡◌, ℕ, ◌<◌, Option, None, Some, List, length, get_or}
+use Rattle.std.specs.Prelude.{◌≡◌, ℕ, ◌<◌, Option, None, List, length, get_or}
 use Rattle.elf_rules.specs.Rows.{FirstIn}
 use Rattle.elf_image.specs.Image.{ImageValue}
-use Rattle.elf_table.specs.declared.index_tables.IndexTables.{IndexTables}
-use Rattle.elf_table.specs.IndexTable.{AreIndexTables}
-use Rattle.elf_table.specs.declared.table_kind.TableKind.TheVariants.{SymbolTable}
-use Rattle.elf_table.specs.Sections.{Sections, count, section}
-use Rattle.elf_table.specs.SymbolRules.{symbol_table_rules}
-use Rattle.elf_table.specs.TableKind.{kind_of}
+use Rattle.elf_symbol_table.specs.declared.index_tables.IndexTables.{IndexTables}
+use Rattle.elf_symbol_table.specs.IndexTable.{AreIndexTables}
+use Rattle.elf_symbol_table.specs.Sections.{Sections, count}
 use Rattle.elf_table.specs.TableRules.{table_rules}
 
 abbrev pub no_index_tables : IndexTables
@@ -17,11 +14,6 @@ no_index_tables = record { first = None; second = None }
 pub record AreAllIndexTables (f : Sections) (end : ℕ) (all : List IndexTables) : Type 0 where
   pub long : length all ≡ count f
   pub right : (i : ℕ) → i < count f → AreIndexTables f i end (get_or all i no_index_tables)
-
--- for each of the first `end` sections that holds a symbol table the first rule that it breaks, with its lowest offset
-pub record AreSymbolVerdicts (f : Sections) (end : ℕ) (verdicts : List (Option (ℕ × ℕ))) : Type 0 where
-  pub long : length verdicts ≡ end
-  pub right : (i : ℕ) → i < end → kind_of (section f i).sh_type ≡ Some SymbolTable → FirstIn (symbol_table_rules f i) (get_or verdicts i None)
 
 -- for each of the first `end` sections the first rule that the table in it breaks, with its lowest offset: None where it
 -- breaks none, or the section holds no table

@@ -1,8 +1,8 @@
 -- What contracts see of the tables of an image.
 use Rattle.std.specs.Prelude.{length, map}
 use Rattle.elf_rules.specs.Broken.{fault_of}
+use Rattle.elf_symbol_table.specs.Sections.{sections_of}
 use Rattle.elf_table.specs.declared.tables.Tables.TheInside.{Inside}
-use Rattle.elf_table.specs.Sections.{sections_of}
 use Rattle.elf_table.specs.TableVerdicts.{AreAllIndexTables, AreVerdicts, TablesValue}
 
 abbrev pub tables_view : Inside → TablesValue

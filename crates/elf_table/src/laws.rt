@@ -11,11 +11,11 @@ ghost use Rattle.elf_field.specs.Word.{word_at};
 ghost use Rattle.elf_image.specs.Image.{ImageValue, IsImage};
 ghost use Rattle.elf_rules.specs.Rows.{FirstIn};
 ghost use Rattle.elf_rules.specs.Tables.{bytes_in};
-ghost use Rattle.elf_table.specs.DynamicArray.{dynamic_entry};
-ghost use Rattle.elf_table.specs.Notes.{note_at, note_end, note_place, notes_in};
-ghost use Rattle.elf_table.specs.Sections.{Sections, sections_in, sections_of};
-ghost use Rattle.elf_table.specs.StringRules.{string_table_rules};
-ghost use Rattle.elf_table.specs.SymbolRules.{entry, symbol_table_rules, word};
+ghost use Rattle.elf_symbol_table.specs.Sections.{Sections, sections_in, sections_of};
+ghost use Rattle.elf_symbol_table.specs.StringRules.{string_table_rules};
+ghost use Rattle.elf_symbol_table.specs.SymbolRules.{entry, symbol_table_rules, word};
+ghost use Rattle.elf_list_table.specs.DynamicArray.{dynamic_entry};
+ghost use Rattle.elf_list_table.specs.Notes.{note_at, note_end, note_place, notes_in};
 ghost use Rattle.elf_table.specs.TableRules.{table_rules};
 
 /// The rules of a table look at the header, the section headers and the contents of an image; these are the ones that the

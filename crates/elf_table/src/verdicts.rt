@@ -2,26 +2,23 @@
 ghost use Rattle.std.specs.Prelude.{◌≡◌, ◌<◌, Some, IfOk, length, map};
 ghost use Rattle.elf_rules.specs.Broken.{fault_of};
 ghost use Rattle.elf_rules.specs.Rows.{FirstIn};
-ghost use Rattle.elf_table.specs.IndexTable.{AreIndexTables};
-ghost use Rattle.elf_table.specs.Sections.{section, sections_of};
-ghost use Rattle.elf_table.specs.SymbolRules.{symbol_table_rules};
-ghost use Rattle.elf_table.specs.TableKind.{kind_of};
-ghost use Rattle.elf_table.specs.declared.table_kind.TableKind.TheVariants as kind;
+ghost use Rattle.elf_symbol_table.specs.IndexTable.{AreIndexTables};
+ghost use Rattle.elf_symbol_table.specs.Sections.{section, sections_of};
+ghost use Rattle.elf_symbol_table.specs.SymbolRules.{symbol_table_rules};
+ghost use Rattle.elf_symbol_table.specs.TableKind.{kind_of};
+ghost use Rattle.elf_symbol_table.specs.declared.table_kind.TableKind.TheVariants as kind;
 ghost use Rattle.elf_table.specs.TableRules.{table_rules};
-ghost use Rattle.elf_table.specs.TableVerdicts.{AreAllIndexTables, AreSymbolVerdicts, AreVerdicts};
+ghost use Rattle.elf_symbol_table.specs.LinkedVerdicts.{AreSymbolVerdicts};
+ghost use Rattle.elf_table.specs.TableVerdicts.{AreAllIndexTables, AreVerdicts};
 ghost use Rattle.elf_table.specs.Verdict.{IsUnread, IsVerdictOf};
 
-use crate::dynamic_rules::judge_dynamic_section;
-use crate::group_rules::judge_group_section;
-use crate::hash_rules::judge_hash_table;
-use crate::index_tables::IndexTables;
-use crate::note_rules::judge_note_section;
-use crate::relocation_rules::judge_relocation_section;
-use crate::symbol_rules::judge_symbol_table;
-use crate::symbol_verdicts::SymbolVerdicts;
-use crate::table_kind::TableKind;
+use elf_hash_table::judge_hash_table;
 use elf_image::{Fault, Image};
+use elf_list_table::{
+    judge_dynamic_section, judge_group_section, judge_note_section, judge_relocation_section,
+};
 use elf_rules::Broken;
+use elf_symbol_table::{IndexTables, SymbolVerdicts, TableKind, judge_symbol_table};
 use std::alloc::{AllocError, Global};
 
 /// The verdict on the table in each section; `Ok` where there is none.

@@ -16,13 +16,13 @@ use Rattle.elf_field.specs.declared.order.Order.{Order}
 use Rattle.elf_image.specs.Image.{ImageValue, IsSound, value_names}
 use Rattle.elf_image.specs.Strings.{string}
 use Rattle.elf_rules.specs.Tables.{name_table, no_section}
-use Rattle.elf_table.specs.declared.relocation.Relocation as table_relocation
-use Rattle.elf_table.specs.Relocations.{has_addends, relocation_in, relocations_in, relocations_of}
-use Rattle.elf_table.specs.Sections.{content, order, section, sections_of}
-use Rattle.elf_table.specs.SymbolParts.{symbol_parts}
-use Rattle.elf_table.specs.SymbolRules.{entry}
-use Rattle.elf_table.specs.Symbols as table_symbols
-use Rattle.elf_table.specs.Symbols.{symbol_in, symbols_in, symbols_of}
+use Rattle.elf_symbol_table.specs.Sections.{content, order, section, sections_of}
+use Rattle.elf_symbol_table.specs.SymbolParts.{symbol_parts}
+use Rattle.elf_symbol_table.specs.SymbolRules.{entry}
+use Rattle.elf_symbol_table.specs.Symbols as table_symbols
+use Rattle.elf_symbol_table.specs.Symbols.{symbol_in, symbols_in, symbols_of}
+use Rattle.elf_list_table.specs.declared.relocation.Relocation as table_relocation
+use Rattle.elf_list_table.specs.Relocations.{has_addends, relocation_in, relocations_in, relocations_of}
 use Rattle.elf_object_file.specs.declared.body_kind.BodyKind.{BodyKind}
 use Rattle.elf_object_file.specs.declared.body_kind.BodyKind.TheVariants.{Bits, NoBits, Relocs, Group}
 use Rattle.elf_object_file.specs.declared.left_out.LeftOut.{LeftOut}

@@ -5,9 +5,9 @@ use Rattle.std.specs.List.{range_with_len}
 use Rattle.std.proofs.lemmas.Bool.{ne_eqb}
 use Rattle.elf_field.specs.Abi.{GRP_COMDAT, SHT_GROUP, SHT_NOBITS, SHT_REL, SHT_RELA}
 use Rattle.elf_field.specs.declared.order.Order.{Order}
-use Rattle.elf_table.specs.Groups.{GroupValue, group_in, group_of, member, member_count, members_in}
-use Rattle.elf_table.specs.Relocations.{has_addends, relocation_count, relocation_in, relocations_in, relocations_of}
-use Rattle.elf_table.specs.Sections.{Sections, content, order, section}
+use Rattle.elf_symbol_table.specs.Sections.{Sections, content, order, section}
+use Rattle.elf_list_table.specs.Groups.{GroupValue, group_in, group_of, member, member_count, members_in}
+use Rattle.elf_list_table.specs.Relocations.{has_addends, relocation_count, relocation_in, relocations_in, relocations_of}
 use Rattle.elf_object_file.specs.declared.left_out.LeftOut.{LeftOut}
 use Rattle.elf_object.specs.declared.relocation.Relocation.{Relocation}
 use Rattle.elf_object_file.specs.Denotes.{body_denoted, relocation_denoted}

@@ -21,10 +21,10 @@ use Rattle.elf_field.specs.WordLaws.{word_laws}
 use Rattle.elf_image.specs.RelocatableFile.{long_number, short_index}
 use Rattle.elf_string_table.specs.StringTable.{name_place, string_table}
 use Rattle.elf_string_table.proofs.Public.{holds_names}
-use Rattle.elf_table.specs.declared.relocation.Relocation as table
-use Rattle.elf_table.specs.Groups.{group_flags, member, member_count}
-use Rattle.elf_table.specs.Relocations.{relocation_count, relocation_in}
-use Rattle.elf_table.specs.SymbolRules.{entry, entry_count, word}
+use Rattle.elf_symbol_table.specs.SymbolRules.{entry, entry_count, word}
+use Rattle.elf_list_table.specs.declared.relocation.Relocation as table
+use Rattle.elf_list_table.specs.Groups.{group_flags, member, member_count}
+use Rattle.elf_list_table.specs.Relocations.{relocation_count, relocation_in}
 use Rattle.elf_object.specs.declared.relocation.Relocation.{Relocation}
 use Rattle.elf_object.specs.declared.symbol.Place.{Place}
 use Rattle.elf_object.specs.declared.symbol.Place.TheVariants.{Undef, Abs, Common, In}

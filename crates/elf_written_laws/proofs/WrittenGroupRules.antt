@@ -9,13 +9,13 @@ use Rattle.elf_field.specs.declared.order.Order.{Order}
 use Rattle.elf_field.specs.Word.{word_bytes}
 use Rattle.elf_rules.specs.Rows.{FirstIn}
 use Rattle.elf_rules.proofs.Public.{FirstIn-later}
-use Rattle.elf_table.specs.declared.table_kind.TableKind.TheVariants.{SectionGroup}
-use Rattle.elf_table.specs.GroupRules as table
-use Rattle.elf_table.specs.GroupRules.{group_front_rules, group_member_rules, group_rules, group_section_rules, wrong_member}
-use Rattle.elf_table.specs.Groups.{group_flags, member, member_count}
-use Rattle.elf_table.specs.OwnRules.{own_rules}
-use Rattle.elf_table.specs.Sections.{content, order, section}
-use Rattle.elf_table.specs.SymbolRules.{entry_count, symbol_table_rules}
+use Rattle.elf_symbol_table.specs.declared.table_kind.TableKind.TheVariants.{SectionGroup}
+use Rattle.elf_symbol_table.specs.OwnRules.{own_rules}
+use Rattle.elf_symbol_table.specs.Sections.{content, order, section}
+use Rattle.elf_symbol_table.specs.SymbolRules.{entry_count, symbol_table_rules}
+use Rattle.elf_list_table.specs.GroupRules as table
+use Rattle.elf_list_table.specs.GroupRules.{group_front_rules, group_member_rules, group_rules, group_section_rules, wrong_member}
+use Rattle.elf_list_table.specs.Groups.{group_flags, member, member_count}
 use Rattle.elf_object.specs.GroupRule.{IsWrongMembership}
 use Rattle.elf_object.specs.Object.{BodyValue, group, ObjectValue, SectionValue, section_at}
 use Rattle.elf_object_writer.specs.PlainSections.{body_bytes, body_info, body_link, body_space, body_type, group_words, own_section, symbol_table_at}

@@ -10,8 +10,8 @@ use Rattle.elf_field.specs.declared.shdr.Shdr.{Shdr}
 use Rattle.elf_image.specs.RelocatableFile.{long_number, short_index}
 use Rattle.elf_rules.specs.Tables.{name_table}
 use Rattle.elf_string_table.specs.StringTable.{name_place}
-use Rattle.elf_table.specs.IndexTable.{IsIndexTable, index_table}
-use Rattle.elf_table.specs.Sections.{count, section}
+use Rattle.elf_symbol_table.specs.IndexTable.{IsIndexTable, index_table}
+use Rattle.elf_symbol_table.specs.Sections.{count, section}
 use Rattle.elf_object_file.specs.declared.left_out.LeftOut.{LeftOut}
 use Rattle.elf_object_file.specs.Kept.{is_at, is_kept, kept, left_out, position_of, symbol_indexes, symbol_strings, symbol_table}
 use Rattle.elf_object_writer.specs.Laid.{section_header}

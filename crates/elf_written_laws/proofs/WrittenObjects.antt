@@ -9,7 +9,7 @@ use Rattle.elf_image.proofs.Public.{image_is_sound, relocatable_accepted, reloca
 use Rattle.elf_rules.specs.HeaderRules.{MAX_LEN}
 use Rattle.elf_rules.specs.ImageRules.{IsFault}
 use Rattle.elf_rules.specs.Rows.{FirstIn}
-use Rattle.elf_table.specs.Sections.{Sections, sections_of}
+use Rattle.elf_symbol_table.specs.Sections.{Sections, sections_of}
 use Rattle.elf_object_file.specs.Denotes.{Denotes}
 use Rattle.elf_object_file.specs.FileRules.{file_rules}
 use Rattle.elf_object_writer.specs.Laid.{Laid, layout_bytes}

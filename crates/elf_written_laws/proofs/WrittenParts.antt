@@ -13,7 +13,7 @@ use Rattle.elf_rules.specs.Tables.{order_of}
 use Rattle.elf_string_table.specs.Names.{HasNoZero}
 use Rattle.elf_string_table.specs.StringTable.{name_place, string_table}
 use Rattle.elf_string_table.proofs.Public.{holds_names}
-use Rattle.elf_table.specs.Sections.{content, order, section}
+use Rattle.elf_symbol_table.specs.Sections.{content, order, section}
 use Rattle.elf_object_file.specs.Denotes.{section_name_of}
 use Rattle.elf_object_writer.specs.Laid.{encoding}
 use Rattle.elf_object.specs.Object.{ObjectValue, section_at}

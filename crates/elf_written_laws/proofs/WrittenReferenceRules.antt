@@ -6,14 +6,14 @@ use Rattle.elf_field.specs.Abi.{SHF_INFO_LINK, SHN_ABS, SHN_COMMON, SHN_LORESERV
 use Rattle.elf_field.specs.declared.shdr.Shdr.{Shdr}
 use Rattle.elf_image.specs.RelocatableFile.{long_number, short_index}
 use Rattle.elf_rules.specs.Rows.{FirstIn}
-use Rattle.elf_table.specs.declared.symbol.Place.TheVariants as table_place
-use Rattle.elf_table.specs.Groups.{member, member_count}
-use Rattle.elf_table.specs.Sections.{Sections, content, count, order, section}
-use Rattle.elf_table.specs.SymbolParts.{symbol_parts}
-use Rattle.elf_table.specs.SymbolRules.{entry_count, word}
-use Rattle.elf_table.specs.Symbols as table_symbols
-use Rattle.elf_table.specs.Symbols.{place_of, symbol_in, symbols_of}
-use Rattle.elf_table.proofs.Public.{length_symbols, symbol_get}
+use Rattle.elf_symbol_table.specs.declared.symbol.Place.TheVariants as table_place
+use Rattle.elf_symbol_table.specs.Sections.{Sections, content, count, order, section}
+use Rattle.elf_symbol_table.specs.SymbolParts.{symbol_parts}
+use Rattle.elf_symbol_table.specs.SymbolRules.{entry_count, word}
+use Rattle.elf_symbol_table.specs.Symbols as table_symbols
+use Rattle.elf_symbol_table.specs.Symbols.{place_of, symbol_in, symbols_of}
+use Rattle.elf_list_table.specs.Groups.{member, member_count}
+use Rattle.elf_symbol_table.proofs.Public.{length_symbols, symbol_get}
 use Rattle.elf_object_file.specs.declared.body_kind.BodyKind.{BodyKind}
 use Rattle.elf_object_file.specs.declared.body_kind.BodyKind.TheVariants.{Bits, NoBits, Relocs, Group}
 use Rattle.elf_object_file.specs.declared.left_out.LeftOut.{LeftOut}

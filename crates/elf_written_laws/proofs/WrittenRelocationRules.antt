@@ -5,15 +5,15 @@ use Rattle.std.proofs.lemmas.Bool.{cases_eq, cases_lt}
 use Rattle.elf_field.specs.declared.order.Order.{Order}
 use Rattle.elf_rules.specs.Rows.{FirstIn}
 use Rattle.elf_rules.proofs.Public.{FirstIn-later}
-use Rattle.elf_table.specs.declared.relocation.Relocation as table
-use Rattle.elf_table.specs.declared.table_kind.TableKind.TheVariants.{RelocationTable}
-use Rattle.elf_table.specs.OwnRules.{own_rules}
-use Rattle.elf_table.specs.RelocationRules.{relocation_rules, relocation_section_rules}
+use Rattle.elf_symbol_table.specs.declared.table_kind.TableKind.TheVariants.{RelocationTable}
+use Rattle.elf_symbol_table.specs.OwnRules.{own_rules}
+use Rattle.elf_list_table.specs.declared.relocation.Relocation as table
+use Rattle.elf_list_table.specs.RelocationRules.{relocation_rules, relocation_section_rules}
 use Rattle.elf_field.specs.Abi.{relocation_size}
-use Rattle.elf_table.specs.Relocations.{has_addends, relocation_count, relocation_in}
-use Rattle.elf_table.specs.Sections.{content, order, section}
-use Rattle.elf_table.specs.SymbolRules.{entry_count, symbol_table_rules}
-use Rattle.elf_table.specs.TableKind.{entry_size, kind_of}
+use Rattle.elf_symbol_table.specs.Sections.{content, order, section}
+use Rattle.elf_symbol_table.specs.SymbolRules.{entry_count, symbol_table_rules}
+use Rattle.elf_symbol_table.specs.TableKind.{entry_size, kind_of}
+use Rattle.elf_list_table.specs.Relocations.{has_addends, relocation_count, relocation_in}
 use Rattle.elf_object.specs.declared.relocation.Relocation.{Relocation}
 use Rattle.elf_object.specs.Object.{BodyValue, relocs, ObjectValue, SectionValue, no_relocation, no_section, section_at}
 use Rattle.elf_object_writer.specs.PlainSections.{body_bytes, body_info, body_link, body_space, body_type, index_of, own_section, relocation_bytes, relocation_section_type, symbol_table_at}

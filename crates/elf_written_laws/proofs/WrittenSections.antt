@@ -5,7 +5,7 @@ use Rattle.elf_extent.proofs.Public.{fits_length}
 use Rattle.elf_image.specs.RelocatableFile.{first_header}
 use Rattle.elf_rules.specs.Tables.{section_of}
 use Rattle.elf_string_table.specs.StringTable.{name_place}
-use Rattle.elf_table.specs.Sections.{content, count, section}
+use Rattle.elf_symbol_table.specs.Sections.{content, count, section}
 use Rattle.elf_object_writer.specs.Laid.{layout_parts, section_header, section_headers}
 use Rattle.elf_object.specs.Object.{ObjectValue}
 use Rattle.elf_object_writer.specs.PlainSections.{PlainSection, name_table_at, plain_sections, section_names}

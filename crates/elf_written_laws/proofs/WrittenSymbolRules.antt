@@ -5,13 +5,13 @@ use Rattle.std.proofs.lemmas.Bool.{true≢false}
 use Rattle.elf_extent.specs.Least.{Never}
 use Rattle.elf_rules.specs.Rows.{FirstIn, OfSome}
 use Rattle.elf_rules.proofs.Public.{FirstIn-later}
-use Rattle.elf_table.specs.declared.table_kind.TableKind.TheVariants.{SymbolTable}
-use Rattle.elf_table.specs.IndexTable.{index_table, index_words}
-use Rattle.elf_table.specs.OwnRules.{own_rules}
-use Rattle.elf_table.specs.Sections.{content, section}
-use Rattle.elf_table.specs.StringRules.{linked_string_rules}
-use Rattle.elf_table.specs.SymbolParts.{symbol_parts}
-use Rattle.elf_table.specs.SymbolRules.{entry_count, entry_rules, index_table_rules, rest_rules, second_index_table, symbol_table_rules, wrong_index_table_size}
+use Rattle.elf_symbol_table.specs.declared.table_kind.TableKind.TheVariants.{SymbolTable}
+use Rattle.elf_symbol_table.specs.IndexTable.{index_table, index_words}
+use Rattle.elf_symbol_table.specs.OwnRules.{own_rules}
+use Rattle.elf_symbol_table.specs.Sections.{content, section}
+use Rattle.elf_symbol_table.specs.StringRules.{linked_string_rules}
+use Rattle.elf_symbol_table.specs.SymbolParts.{symbol_parts}
+use Rattle.elf_symbol_table.specs.SymbolRules.{entry_count, entry_rules, index_table_rules, rest_rules, second_index_table, symbol_table_rules, wrong_index_table_size}
 use Rattle.elf_object.specs.Object.{ObjectValue}
 use Rattle.elf_object_writer.specs.PlainSections.{has_index_table, index_table_section, symbol_table_at}
 use Rattle.elf_written_laws.specs.WrittenObject.{IsWrittenAt, written_sections}

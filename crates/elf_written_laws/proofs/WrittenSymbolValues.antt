@@ -12,11 +12,11 @@ use Rattle.elf_image.specs.RelocatableFile.{long_number, short_index}
 use Rattle.elf_image.specs.Strings.{string}
 use Rattle.elf_string_table.specs.Names.{HasNoZero}
 use Rattle.elf_string_table.specs.StringTable.{name_place, string_table}
-use Rattle.elf_table.specs.IndexTable.{index_table, index_words}
-use Rattle.elf_table.specs.Sections.{Sections, content, section}
-use Rattle.elf_table.specs.SymbolRules.{binding, entry_count, word}
-use Rattle.elf_table.specs.Symbols as table
-use Rattle.elf_table.specs.Symbols.{place_of, symbol_in, symbols_in, symbols_of}
+use Rattle.elf_symbol_table.specs.IndexTable.{index_table, index_words}
+use Rattle.elf_symbol_table.specs.Sections.{Sections, content, section}
+use Rattle.elf_symbol_table.specs.SymbolRules.{binding, entry_count, word}
+use Rattle.elf_symbol_table.specs.Symbols as table
+use Rattle.elf_symbol_table.specs.Symbols.{place_of, symbol_in, symbols_in, symbols_of}
 use Rattle.elf_object_file.specs.declared.left_out.LeftOut.{LeftOut}
 use Rattle.elf_object.specs.declared.symbol.Place.{Place}
 use Rattle.elf_object.specs.declared.symbol.Place.TheVariants.{Undef, Abs, Common, In}

@@ -17,9 +17,9 @@ use Rattle.elf_image.specs.RelocatableFile.{long_number, short_index}
 use Rattle.elf_rules.specs.Rows.{AtEntry, FirstIn, OfSome}
 use Rattle.elf_string_table.specs.StringTable.{string_table}
 use Rattle.elf_string_table.proofs.Public.{holds_names}
-use Rattle.elf_table.specs.StringRules.{linked_string_rules, unclosed_string_table}
-use Rattle.elf_table.specs.SymbolParts.{SymbolPartsValue}
-use Rattle.elf_table.specs.SymbolRules.{IsMisplacedBinding, IsSymbolNamePastEnd, IsWrongSymbolSection, IsWrongIndexWord, entry, entry_count, entry_rules, misplaced_binding, place_rules, symbol_0_not_null, symbol_name_past_end, word, wrong_local_count, wrong_symbol_section}
+use Rattle.elf_symbol_table.specs.StringRules.{linked_string_rules, unclosed_string_table}
+use Rattle.elf_symbol_table.specs.SymbolParts.{SymbolPartsValue}
+use Rattle.elf_symbol_table.specs.SymbolRules.{IsMisplacedBinding, IsSymbolNamePastEnd, IsWrongSymbolSection, IsWrongIndexWord, entry, entry_count, entry_rules, misplaced_binding, place_rules, symbol_0_not_null, symbol_name_past_end, word, wrong_local_count, wrong_symbol_section}
 use Rattle.elf_object.specs.declared.symbol.Place.{Place}
 use Rattle.elf_object.specs.declared.symbol.Place.TheVariants.{Undef, Abs, Common, In}
 use Rattle.elf_object.specs.Object.{ObjectValue, SymbolValue, no_symbol, symbol_at}

@@ -5,7 +5,7 @@ use Rattle.elf_extent.specs.Place.{Least}
 use Rattle.elf_image.specs.RelocatableFile.{all_headers}
 use Rattle.elf_rules.specs.HeaderRules.{MAX_LEN}
 use Rattle.elf_string_table.specs.StringTable.{name_place}
-use Rattle.elf_table.specs.Sections.{Sections}
+use Rattle.elf_symbol_table.specs.Sections.{Sections}
 use Rattle.elf_object_writer.specs.Laid.{Laid, file_header, layout_bytes, layout_parts, section_headers}
 use Rattle.elf_object.specs.Object.{ObjectValue}
 use Rattle.elf_object.specs.ObjectRules.{IsObject}

@@ -2,7 +2,7 @@
 ghost use Rattle.std.specs.Prelude.{◌≡◌};
 ghost use Rattle.elf_stream.specs.Engine.{IsSaid};
 ghost use Rattle.elf_engine.specs.Rewrite.{IsRewritten, ObjectSays, SectionsSay};
-ghost use Rattle.elf_table.specs.Sections.{sections_of};
+ghost use Rattle.elf_symbol_table.specs.Sections.{sections_of};
 
 use elf_image::{Fault, Image, parse};
 use elf_object::Object;

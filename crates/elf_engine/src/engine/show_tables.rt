@@ -2,11 +2,11 @@
 ghost use Rattle.std.specs.Prelude.{◌≡◌, ◌<◌, None, Some, get_or, length};
 ghost use Rattle.elf_stream.specs.Output.{IsBuffered};
 ghost use Rattle.elf_engine.specs.TableLines.{all_table_lines, group_line, hash_line, note_lines, table_refused_line, table_text};
-ghost use Rattle.elf_table.specs.declared.table_kind.TableKind.TheVariants as kind;
-ghost use Rattle.elf_table.specs.Groups.{group_of};
-ghost use Rattle.elf_table.specs.Sections.{section, sections_of};
+ghost use Rattle.elf_symbol_table.specs.declared.table_kind.TableKind.TheVariants as kind;
+ghost use Rattle.elf_symbol_table.specs.Sections.{section, sections_of};
+ghost use Rattle.elf_symbol_table.specs.TableKind.{kind_of};
+ghost use Rattle.elf_list_table.specs.Groups.{group_of};
 ghost use Rattle.elf_table.specs.Signature.{signature_name};
-ghost use Rattle.elf_table.specs.TableKind.{kind_of};
 
 use crate::table_lines::{
     push_dynamic_line, push_group_line, push_hash_line, push_note_line, push_relocation_line,

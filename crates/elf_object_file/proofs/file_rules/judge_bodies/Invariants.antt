@@ -4,7 +4,7 @@ use Rattle.std.specs.List.{range_with_len}
 use Rattle.elf_rules.specs.Rows.{FirstIn}
 use Rattle.elf_object_file.specs.FileRules.{rules_of_bodies}
 use Rattle.elf_object_file.specs.Kept.{is_kept, kept}
-use Rattle.elf_table.specs.Sections.{sections_of}
+use Rattle.elf_symbol_table.specs.Sections.{sections_of}
 use Rattle.elf_object_file.proofs.file_rules.judge_bodies.Given as goal
 
 -- what the tables of the sections that are left break is what all break

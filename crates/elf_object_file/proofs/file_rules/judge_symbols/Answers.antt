@@ -1,5 +1,5 @@
 use Rattle.elf_rules.proofs.Public.{FirstIn-handed}
-use Rattle.elf_table.specs.Sections.{sections_of}
+use Rattle.elf_symbol_table.specs.Sections.{sections_of}
 use Rattle.elf_object_file.proofs.JudgedTables.{symbols_there, symbols_told}
 use Rattle.elf_object_file.proofs.SymbolRuns.{no_symbols_kept, outside_found, symbols_fault, symbols_kept}
 use Rattle.elf_object_file.proofs.file_rules.judge_symbols.Goals as goal

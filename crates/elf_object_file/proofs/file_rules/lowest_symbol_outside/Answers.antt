@@ -1,5 +1,5 @@
 use Rattle.std.proofs.Common.{◌<◌, length, rules}
-use Rattle.elf_table.specs.Sections.{sections_of}
+use Rattle.elf_symbol_table.specs.Sections.{sections_of}
 use Rattle.elf_object_file.proofs.SymbolCount.{symbol_within}
 use Rattle.elf_object_file.proofs.file_rules.lowest_symbol_outside.Goals as goal
 

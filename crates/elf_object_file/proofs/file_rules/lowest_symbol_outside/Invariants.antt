@@ -1,7 +1,7 @@
 use Rattle.std.proofs.Common.{ℕ, ◌<◌, get_or}
 use Rattle.elf_object_file.specs.FileRules.{IsSymbolOutside}
-use Rattle.elf_table.specs.Sections.{sections_of}
-use Rattle.elf_table.specs.SymbolView.{no_symbol}
+use Rattle.elf_symbol_table.specs.Sections.{sections_of}
+use Rattle.elf_symbol_table.specs.SymbolView.{no_symbol}
 use Rattle.elf_object_file.proofs.file_rules.lowest_symbol_outside.Given as goal
 
 abbrev pub invariant-loop-j : goal.invariant-loop-j

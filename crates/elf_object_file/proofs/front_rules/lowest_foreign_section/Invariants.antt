@@ -1,6 +1,6 @@
 use Rattle.std.proofs.Common.{ℕ, ◌<◌}
 use Rattle.elf_object_file.specs.FileRules.{IsForeignType}
-use Rattle.elf_table.specs.Sections.{section, sections_of}
+use Rattle.elf_symbol_table.specs.Sections.{section, sections_of}
 use Rattle.elf_object_file.proofs.front_rules.lowest_foreign_section.Given as goal
 
 abbrev pub invariant-loop-i : goal.invariant-loop-i

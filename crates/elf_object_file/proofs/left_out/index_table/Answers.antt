@@ -4,8 +4,8 @@ use Rattle.std.specs.Cmp.Derive.{both_true}
 use Rattle.std.proofs.lemmas.Bool.{eq-eqb, eqb-true}
 use Rattle.elf_field.specs.Abi.{SHT_SYMTAB_SHNDX}
 use Rattle.elf_field.specs.declared.shdr.Shdr.{Shdr}
-use Rattle.elf_table.specs.IndexTable.{IsIndexTable, index_table}
-use Rattle.elf_table.specs.Sections.{sections_of}
+use Rattle.elf_symbol_table.specs.IndexTable.{IsIndexTable, index_table}
+use Rattle.elf_symbol_table.specs.Sections.{sections_of}
 use Rattle.elf_object_file.proofs.FirstSection.{and_true, first_found, first_missing}
 use Rattle.elf_object_file.proofs.left_out.index_table.Goals as goal
 

@@ -1,7 +1,7 @@
 use Rattle.std.proofs.Common.{ℕ, ◌⊎◌, length}
 use Rattle.elf_object_file.specs.FileRules.{IsMemberBefore, NamesFirst}
 use Rattle.elf_object_file.specs.MemberMarks.{AreMarks}
-use Rattle.elf_table.specs.Sections.{sections_of}
+use Rattle.elf_symbol_table.specs.Sections.{sections_of}
 use Rattle.elf_object_file.proofs.member_rule.mark_members.Given as goal
 
 -- the members so far are marked too

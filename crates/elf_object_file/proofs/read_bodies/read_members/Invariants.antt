@@ -1,6 +1,6 @@
 use Rattle.std.proofs.Common.{◌≡◌, map, take}
 use Rattle.elf_object_file.specs.Kept.{position_of}
-use Rattle.elf_table.specs.Sections.{sections_of}
+use Rattle.elf_symbol_table.specs.Sections.{sections_of}
 use Rattle.elf_object_file.proofs.read_bodies.read_members.Given as goal
 
 abbrev pub invariant-loop-j : goal.invariant-loop-j

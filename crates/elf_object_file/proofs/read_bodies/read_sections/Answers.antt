@@ -3,7 +3,7 @@ use Rattle.elf_object_file.specs.Denotes.{section_denoted}
 use Rattle.elf_object_file.specs.Kept.{is_kept}
 use Rattle.elf_object.specs.ObjectView.{section_value}
 use Rattle.elf_object.specs.declared.section.Section.{Section}
-use Rattle.elf_table.specs.Sections.{sections_of}
+use Rattle.elf_symbol_table.specs.Sections.{sections_of}
 use Rattle.elf_object_file.proofs.BodyRuns.{body_sound, passed_sound, rest_sound}
 use Rattle.elf_object_file.proofs.KeptLists.{mapped_next, mapped_passed}
 use Rattle.elf_object_file.proofs.read_bodies.read_sections.Goals as goal

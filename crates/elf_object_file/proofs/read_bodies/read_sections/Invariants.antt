@@ -6,7 +6,7 @@ use Rattle.elf_object_file.specs.Denotes.{section_denoted}
 use Rattle.elf_object_file.specs.FileRules.{rules_of_bodies}
 use Rattle.elf_object_file.specs.Kept.{is_kept}
 use Rattle.elf_object.specs.ObjectView.{section_value}
-use Rattle.elf_table.specs.Sections.{sections_of}
+use Rattle.elf_symbol_table.specs.Sections.{sections_of}
 use Rattle.elf_object_file.proofs.BodyRuns.{kept_from}
 use Rattle.elf_object_file.proofs.read_bodies.read_sections.Given as goal
 

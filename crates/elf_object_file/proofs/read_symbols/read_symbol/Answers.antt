@@ -3,9 +3,9 @@ use Rattle.elf_object_file.specs.Denotes.{place_denoted, symbol_denoted}
 use Rattle.elf_field.specs.Sym.{sym_at}
 use Rattle.elf_field.specs.declared.order.Order.{Order}
 use Rattle.elf_field.specs.declared.sym.Sym.{Sym}
-use Rattle.elf_table.specs.Sections.{content, order, sections_of}
-use Rattle.elf_table.specs.Symbols.{SymbolValue}
-use Rattle.elf_table.specs.SymbolView.{no_symbol}
+use Rattle.elf_symbol_table.specs.Sections.{content, order, sections_of}
+use Rattle.elf_symbol_table.specs.Symbols.{SymbolValue}
+use Rattle.elf_symbol_table.specs.SymbolView.{no_symbol}
 use Rattle.elf_object_file.proofs.SymbolCount.{same_symbol, symbol_info, symbol_within}
 use Rattle.elf_object_file.proofs.read_symbols.read_symbol.Goals as goal
 

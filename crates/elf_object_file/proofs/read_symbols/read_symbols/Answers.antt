@@ -1,7 +1,7 @@
 use Rattle.std.proofs.Common.{None, Option, ℕ, subst}
 use Rattle.elf_rules.specs.Rows.{FirstIn}
 use Rattle.elf_object_file.specs.FileRules.{rules_of_symbols}
-use Rattle.elf_table.specs.Sections.{sections_of}
+use Rattle.elf_symbol_table.specs.Sections.{sections_of}
 use Rattle.elf_object_file.proofs.JudgedTables.{symbols_ready, symbols_there}
 use Rattle.elf_object_file.proofs.read_symbols.read_symbols.Goals as goal
 

@@ -2,7 +2,7 @@ use Rattle.std.proofs.Common.{None}
 use Rattle.elf_object_file.specs.Denotes.{Denotes}
 use Rattle.elf_object.specs.ObjectView.{value_of}
 use Rattle.elf_object.specs.declared.parts.ObjectParts.{ObjectParts}
-use Rattle.elf_table.specs.Sections.{sections_of}
+use Rattle.elf_symbol_table.specs.Sections.{sections_of}
 use Rattle.elf_object_file.proofs.Verdicts.{fault_behind, found_behind, front_fault, read_judged}
 use Rattle.elf_object_file.proofs.reading.parts_of.Goals as goal
 

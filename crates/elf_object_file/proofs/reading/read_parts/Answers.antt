@@ -1,4 +1,4 @@
-use Rattle.elf_table.specs.Sections.{sections_of}
+use Rattle.elf_symbol_table.specs.Sections.{sections_of}
 use Rattle.elf_object_file.proofs.FileRuns.{bodies_of_file, symbols_of_file}
 use Rattle.elf_object_file.proofs.reading.read_parts.Goals as goal
 

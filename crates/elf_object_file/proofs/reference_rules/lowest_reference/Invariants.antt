@@ -1,6 +1,6 @@
 use Rattle.std.proofs.Common.{ℕ, ◌<◌}
 use Rattle.elf_object_file.specs.FileRules.{BreaksReference}
-use Rattle.elf_table.specs.Sections.{sections_of}
+use Rattle.elf_symbol_table.specs.Sections.{sections_of}
 use Rattle.elf_object_file.proofs.reference_rules.lowest_reference.Given as goal
 
 abbrev pub invariant-loop-i : goal.invariant-loop-i

@@ -6,10 +6,9 @@ use Rattle.elf_field.specs.RelLaws.{rel_laws}
 use Rattle.elf_field.specs.RelaLaws.{rela_laws}
 use Rattle.elf_field.specs.SymLaws.{sym_laws}
 use Rattle.elf_field.specs.WordLaws.{word_laws}
-use Rattle.elf_table.specs.DynamicArray.{dynamic_entry}
-use Rattle.elf_table.specs.SymbolRules.{entry, word}
-use Rattle.elf_table.proofs.NoteInFile.{note_in_file}
-use Rattle.elf_table.proofs.NotePlaces.{no_note_entry, note_entry}
+use Rattle.elf_symbol_table.specs.SymbolRules.{entry, word}
+use Rattle.elf_list_table.specs.DynamicArray.{dynamic_entry}
+use Rattle.elf_list_table.proofs.Public.{no_note_entry, note_entry, note_in_file}
 use Rattle.elf_table.proofs.laws.entries_in_file.Goals as goal
 
 pub returns-clause-symbols : goal.returns-clause-symbols

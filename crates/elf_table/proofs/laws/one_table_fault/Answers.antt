@@ -1,6 +1,6 @@
 use Rattle.elf_rules.proofs.Public.{one_fault}
-use Rattle.elf_table.specs.StringRules.{string_table_rules}
-use Rattle.elf_table.specs.SymbolRules.{symbol_table_rules}
+use Rattle.elf_symbol_table.specs.StringRules.{string_table_rules}
+use Rattle.elf_symbol_table.specs.SymbolRules.{symbol_table_rules}
 use Rattle.elf_table.specs.TableRules.{table_rules}
 use Rattle.elf_table.proofs.laws.one_table_fault.Goals as goal
 

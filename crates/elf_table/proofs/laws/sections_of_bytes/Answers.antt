@@ -3,7 +3,7 @@ use Rattle.std.specs.List.{range_with_len}
 use Rattle.elf_field.specs.declared.ehdr.Ehdr.{Ehdr}
 use Rattle.elf_field.specs.declared.shdr.Shdr.{Shdr}
 use Rattle.elf_rules.specs.Tables.{bytes_in, content_extent, section_count, sections}
-use Rattle.elf_table.specs.Sections.{Sections, sections_in}
+use Rattle.elf_symbol_table.specs.Sections.{Sections, sections_in}
 use Rattle.elf_table.proofs.laws.sections_of_bytes.Goals as goal
 
 -- the section headers of bytes with this header, and what follows from them

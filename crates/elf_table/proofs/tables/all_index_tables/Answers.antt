@@ -1,7 +1,7 @@
 use Rattle.std.proofs.Common.{◌<◌, length, ap, sym, ◌∙◌, arith}
 use Rattle.std.proofs.lemmas.List.{get_or_default}
-use Rattle.elf_table.specs.declared.index_tables.IndexTables.{IndexTables}
-use Rattle.elf_table.specs.IndexTable.{noted}
+use Rattle.elf_symbol_table.specs.declared.index_tables.IndexTables.{IndexTables}
+use Rattle.elf_symbol_table.specs.IndexTable.{noted}
 use Rattle.elf_table.specs.TableVerdicts.{no_index_tables}
 use Rattle.elf_table.proofs.AllIndexTables.{all_noted, all_passed}
 use Rattle.elf_table.proofs.tables.all_index_tables.Goals as goal

@@ -1,4 +1,4 @@
-use Rattle.elf_table.specs.Sections.{sections_of}
+use Rattle.elf_symbol_table.specs.Sections.{sections_of}
 use Rattle.elf_table.specs.TableVerdicts.{AreAllIndexTables}
 use Rattle.elf_table.proofs.tables.all_index_tables.Given as goal
 

@@ -1,6 +1,6 @@
 use Rattle.std.proofs.Common.{map}
 use Rattle.elf_rules.specs.Broken.{fault_of}
-use Rattle.elf_table.specs.Sections.{sections_of}
+use Rattle.elf_symbol_table.specs.Sections.{sections_of}
 use Rattle.elf_table.specs.TableVerdicts.{AreVerdicts}
 use Rattle.elf_table.proofs.verdicts.all_verdicts.Given as goal
 

@@ -1,6 +1,6 @@
 use Rattle.std.proofs.Common.{[], Ok, arith, inl, inr, refl, vec_len}
 use Rattle.std.proofs.KnownBytes.{Appends-nil}
-use Rattle.elf_table.specs.Sections.{sections_of}
+use Rattle.elf_symbol_table.specs.Sections.{sections_of}
 use Rattle.elf_engine.specs.Rewrite.{RewriteSays, SectionsSay}
 use Rattle.elf_stream.proofs.Public.{said, said_more}
 use Rattle.elf_engine.proofs.engine.rewrite.rewrite.Goals as goal

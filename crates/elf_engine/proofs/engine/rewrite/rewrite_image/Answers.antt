@@ -1,5 +1,5 @@
 use Rattle.std.proofs.Common.{inl}
-use Rattle.elf_table.specs.Sections.{sections_of}
+use Rattle.elf_symbol_table.specs.Sections.{sections_of}
 use Rattle.elf_engine.specs.Rewrite.{ObjectSays, SectionsSay}
 use Rattle.elf_stream.proofs.Public.{said_more}
 use Rattle.elf_engine.proofs.engine.rewrite.rewrite_image.Goals as goal

@@ -1,6 +1,6 @@
 use Rattle.std.proofs.Common.{◌+◌, ◌∙◌, ap, refl, sym}
 use Rattle.std.proofs.lemmas.Result.{err_from_is_err_and}
-use Rattle.elf_table.specs.NoteView.{note_value}
+use Rattle.elf_list_table.specs.NoteView.{note_value}
 use Rattle.elf_engine.specs.TableLines.{note_line, note_lines}
 use Rattle.elf_stream.proofs.Public.{all_lines_buffered, buffers_none, line_buffered, line_cut, line_refused}
 use Rattle.elf_engine.proofs.Left.{first_left, none_left, some_left, still_left}

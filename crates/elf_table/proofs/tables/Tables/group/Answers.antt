@@ -1,6 +1,6 @@
 use Rattle.std.proofs.Common.{None}
-use Rattle.elf_table.specs.Sections.{sections_of}
-use Rattle.elf_table.proofs.TableKinds.{kind_asked}
+use Rattle.elf_symbol_table.specs.Sections.{sections_of}
+use Rattle.elf_table.proofs.AskedRules.{kind_asked}
 use Rattle.elf_table.proofs.tables.Tables.group.Goals as goal
 
 pub of_sound-requires-clause-sound : goal.of_sound-requires-clause-sound

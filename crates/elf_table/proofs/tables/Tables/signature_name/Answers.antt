@@ -1,7 +1,7 @@
 use Rattle.std.proofs.Common.{None, Some}
-use Rattle.elf_table.specs.declared.table_kind.TableKind.TheVariants.{SymbolTable}
-use Rattle.elf_table.specs.Sections.{sections_of}
-use Rattle.elf_table.proofs.TableKinds.{kind_asked}
+use Rattle.elf_symbol_table.specs.declared.table_kind.TableKind.TheVariants.{SymbolTable}
+use Rattle.elf_symbol_table.specs.Sections.{sections_of}
+use Rattle.elf_table.proofs.AskedRules.{kind_asked}
 use Rattle.elf_table.proofs.TableLinks.{group_link, group_signature, group_symbols, group_symbols_sound, none_kept}
 use Rattle.elf_table.proofs.tables.Tables.signature_name.Goals as goal
 

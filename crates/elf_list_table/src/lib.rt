@@ -1,0 +1,35 @@
+//! The tables of an ELF-64 image that are lists of entries and no more: relocation sections and section groups (gABI chapter 4), note
+//! sections and dynamic arrays (chapter 5). The symbols that the relocations of section 5 name are read so:
+//!
+//! ```
+//! let image = parse(alloc, &bytes)?;
+//! let relocs = Relocs::new(&image, 5)?;
+//! for relocation in relocs.iter() {
+//!     symbols.push(relocation.symbol)?;
+//! }
+//! ```
+#![tactic(auto)]
+
+mod dynamic;
+mod dynamic_entries;
+mod dynamic_rules;
+mod group;
+mod group_rules;
+mod note;
+mod note_rules;
+mod notes;
+mod relocation;
+mod relocation_rules;
+mod relocs;
+
+pub use dynamic::{Dynamic, DynamicIter};
+pub use dynamic_entries::is_string_tag;
+pub use dynamic_rules::judge_dynamic_section;
+pub use group::{Group, GroupIter};
+pub use group_rules::{judge_group_section, member, member_count};
+pub use note::Note;
+pub use note_rules::judge_note_section;
+pub use notes::{NoteIter, Notes};
+pub use relocation::Relocation;
+pub use relocation_rules::judge_relocation_section;
+pub use relocs::{RelocIter, Relocs};
