@@ -9,18 +9,18 @@ use Rattle.std.proofs.Math.ListN.{get_or-append}
 use Rattle.elf_extent.specs.Place.{end_of}
 use Rattle.elf_extent.proofs.Public.{above_earlier}
 use Rattle.elf_object.specs.Object.{ObjectValue}
-use Rattle.elf_link.specs.declared.commons.Chosen.{Chosen}
-use Rattle.elf_link.specs.declared.options.Options.{Options}
-use Rattle.elf_link.specs.declared.site.Site.{Site}
+use Rattle.elf_link_files.specs.declared.chosen.Chosen.{Chosen}
+use Rattle.elf_link_files.specs.declared.options.Options.{Options}
+use Rattle.elf_link_files.specs.declared.site.Site.{Site}
+use Rattle.elf_link_files.specs.Listing.{site, site_at}
+use Rattle.elf_link_files.specs.Commons.{chosen_at, no_common}
+use Rattle.elf_link_files.proofs.Public.{site_is}
+use Rattle.elf_link_outputs.specs.Placed.{CommonValue, cell, common_at}
+use Rattle.elf_link_outputs.specs.Outputs.{live, part_of, raised}
+use Rattle.elf_link_outputs.specs.Plan.{AreOutputs, common_part, flat, output_parts, parts_of, placed}
+use Rattle.elf_link_outputs.proofs.Public.{members_live, parts_long, all_flat}
 use Rattle.elf_link.specs.Apart.{BeginsAt, StandApart, size_in}
-use Rattle.elf_link.specs.LinkMap.{CommonValue, IsLinkMap, IsMapOf, IsPlaced, LinkMapValue, LinkPlan, cell, common_at, link_parts}
-use Rattle.elf_link.specs.Listing.{site, site_at}
-use Rattle.elf_link.specs.Outputs.{live, part_of, raised}
-use Rattle.elf_link.specs.Plan.{AreOutputs, chosen_at, common_part, flat, no_common, output_parts, parts_of, placed}
-use Rattle.elf_link.proofs.Listings.{site_is}
-use Rattle.elf_link.proofs.Openers.{members_live}
-use Rattle.elf_link.proofs.Placings.{parts_long}
-use Rattle.elf_link.proofs.Plans.{all_flat}
+use Rattle.elf_link.specs.LinkMap.{IsLinkMap, IsMapOf, IsPlaced, LinkMapValue, LinkPlan, link_parts}
 
 -- ---- the sizes of the parts
 

@@ -1,25 +1,8 @@
--- Lemmas of this crate.
-pub mod ObjectFacts
-pub mod Seen
-pub mod Marked
-pub mod Listings
-pub mod Starts
-pub mod Picked
-pub mod Bound
-pub mod Earlier
-pub mod Plans
-pub mod Openers
-pub mod Grouped
-pub mod FirstSite
-pub mod ChosenCommons
-pub mod BoundNames
+-- `Public` is for the proofs of the crates above, the others are for those of this one.
+pub mod PlacedCommons
 pub mod Naming
-pub mod Tabled
-pub mod Placings
-pub mod Cells
 pub mod Maps
 pub mod Apart
-pub mod OneSite
 pub mod OnePlan
 pub mod OneLinkFault
 pub mod OneLinkMap

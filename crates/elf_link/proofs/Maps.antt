@@ -4,22 +4,23 @@ use Rattle.std.specs.Prelude.{None, IfErr, Result, Ok, Err}
 use Rattle.elf_extent.specs.Place.{Least}
 use Rattle.elf_extent.proofs.Public.{fits_length, least_places}
 use Rattle.elf_object.specs.Object.{ObjectValue}
-use Rattle.elf_link.specs.declared.addresses.Target.{Target}
-use Rattle.elf_link.specs.declared.commons.Chosen.{Chosen}
-use Rattle.elf_link.specs.declared.fault.LinkFault.{LinkFault}
-use Rattle.elf_link.specs.declared.fault.LinkFault.TheVariants.{Rule, OutOfMemory}
-use Rattle.elf_link.specs.declared.options.Options.{Options}
-use Rattle.elf_link.specs.declared.site.Site.{Site}
-use Rattle.elf_link.specs.AddressFault.{IsAddressFault}
-use Rattle.elf_link.specs.Addresses.{IsTarget, IsTargetBelow}
+use Rattle.elf_link_files.specs.declared.chosen.Chosen.{Chosen}
+use Rattle.elf_link_files.specs.declared.fault.LinkFault.{LinkFault}
+use Rattle.elf_link_files.specs.declared.fault.LinkFault.TheVariants.{Rule, OutOfMemory}
+use Rattle.elf_link_files.specs.declared.options.Options.{Options}
+use Rattle.elf_link_files.specs.declared.site.Site.{Site}
+use Rattle.elf_link_files.specs.FileRules.{option_rules}
+use Rattle.elf_link_files.specs.Rows.{FirstIn}
+use Rattle.elf_link_names.specs.LinkRules.{input_rules}
+use Rattle.elf_link_names.specs.ChosenCommons.{AreChosen}
+use Rattle.elf_link_outputs.specs.declared.addresses.Target.{Target}
+use Rattle.elf_link_outputs.specs.AddressFault.{IsAddressFault}
+use Rattle.elf_link_outputs.specs.Addresses.{IsTarget, IsTargetBelow}
+use Rattle.elf_link_outputs.specs.Plan.{AreOutputs, flat, parts_of}
+use Rattle.elf_link_outputs.proofs.Public.{parts_long}
 use Rattle.elf_link.specs.Entry.{IsEntryTarget}
-use Rattle.elf_link.specs.FileRules.{option_rules}
 use Rattle.elf_link.specs.LinkFaults.{IsLinkFault}
 use Rattle.elf_link.specs.LinkMap.{IsPlaced, LinkPlan}
-use Rattle.elf_link.specs.LinkRules.{input_rules}
-use Rattle.elf_link.specs.Plan.{AreChosen, AreOutputs, flat, parts_of}
-use Rattle.elf_link.specs.Rows.{FirstIn}
-use Rattle.elf_link.proofs.Placings.{parts_long}
 
 -- a plan with its target, and some places
 abbrev pub link_plan : List (List Site) → List Chosen → Target → List ℕ → LinkPlan

@@ -2,15 +2,15 @@
 use Rattle.std.proofs.Common.{◌≡◌, List, inl, inr, refl, subst}
 use Rattle.std.specs.Prelude.{Option, None, Some}
 use Rattle.elf_object.specs.Object.{ObjectValue}
-use Rattle.elf_link.specs.declared.options.Options.{Options}
-use Rattle.elf_link.specs.declared.site.Broken.{Broken}
-use Rattle.elf_link.specs.Addresses.{address_rules}
+use Rattle.elf_link_files.specs.declared.options.Options.{Options}
+use Rattle.elf_link_files.specs.declared.site.Broken.{Broken}
+use Rattle.elf_link_files.specs.Rows.{FirstIn}
+use Rattle.elf_link_files.proofs.Public.{one_found}
+use Rattle.elf_link_names.specs.LinkRules.{input_rules}
+use Rattle.elf_link_outputs.specs.Addresses.{address_rules}
 use Rattle.elf_link.specs.LinkFaults.{FirstOfAddresses, FirstOfLink}
 use Rattle.elf_link.specs.LinkMap.{LinkPlan, link_parts}
-use Rattle.elf_link.specs.LinkRules.{input_rules}
-use Rattle.elf_link.specs.Rows.{FirstIn}
 use Rattle.elf_link.proofs.OnePlan.{one_link_plan}
-use Rattle.elf_link.proofs.OneSite.{one_found}
 
 one_of_addresses : (opt : Options) (fs : List ObjectValue) (a b : Option Broken) → FirstOfAddresses opt fs a → FirstOfAddresses opt fs b → a ≡ b
 one_of_addresses opt fs a b (l, is, found) (k, are, other) =

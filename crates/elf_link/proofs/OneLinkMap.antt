@@ -4,27 +4,31 @@ use Rattle.std.specs.Prelude.{Option, None, Some, MatchOption}
 use Rattle.std.proofs.lemmas.List.{ext_get_or, get_or-map, length-map}
 use Rattle.elf_extent.proofs.Public.{same_least}
 use Rattle.elf_object.specs.Object.{ObjectValue}
-use Rattle.elf_link.specs.declared.addresses.Target.{Target}
+use Rattle.elf_link_files.specs.declared.chosen.Chosen.{Chosen}
+use Rattle.elf_link_files.specs.declared.options.Options.{Options}
+use Rattle.elf_link_files.specs.declared.site.Site.{Site}
+use Rattle.elf_link_files.specs.Discarded.{AreMarks, Discarded, mark}
+use Rattle.elf_link_files.specs.Files.{object_at}
+use Rattle.elf_link_files.specs.Listing.{Lists, site, site_at, name_at}
+use Rattle.elf_link_files.specs.Commons.{chosen_at}
+use Rattle.elf_link_files.specs.Rows.{Nowhere}
+use Rattle.elf_link_files.proofs.Public.{one_each, one_list}
+use Rattle.elf_link_names.specs.declared.choice.Choice.{Choice}
+use Rattle.elf_link_names.specs.declared.choice.Choice.TheVariants.{Strong as StrongChoice, Common as CommonChoice, Weak as WeakChoice, Zero as ZeroChoice}
+use Rattle.elf_link_names.specs.Binds.{Binds, entries}
+use Rattle.elf_link_names.specs.ChosenCommons.{IsCommonOf, AreChosen}
+use Rattle.elf_link_names.specs.Listing.{first_entries}
+use Rattle.elf_link_names.proofs.Public.{names_once, one_choice, one_common}
+use Rattle.elf_link_outputs.specs.declared.addresses.Target.{Target}
+use Rattle.elf_link_outputs.specs.declared.output.Member.{Member}
+use Rattle.elf_link_outputs.specs.Addresses.{HasValue, value_at}
+use Rattle.elf_link_outputs.specs.Placed.{AreAddresses, ArePlacedCommons, ArePlacedOutputs, CommonValue, IsOutput, OutputValue, cell, common_at, members_at, no_output, no_placed, placed_common, start_of}
+use Rattle.elf_link_outputs.specs.Plan.{placed}
 use Rattle.elf_link.specs.declared.bindings.Binding.{Binding}
 use Rattle.elf_link.specs.declared.bindings.Binding.TheVariants.{Strong, Common, Weak, Zero}
-use Rattle.elf_link.specs.declared.choice.Choice.{Choice}
-use Rattle.elf_link.specs.declared.choice.Choice.TheVariants.{Strong as StrongChoice, Common as CommonChoice, Weak as WeakChoice, Zero as ZeroChoice}
-use Rattle.elf_link.specs.declared.commons.Chosen.{Chosen}
-use Rattle.elf_link.specs.declared.link_map.Member.{Member}
-use Rattle.elf_link.specs.declared.options.Options.{Options}
-use Rattle.elf_link.specs.declared.site.Site.{Site}
-use Rattle.elf_link.specs.Addresses.{HasValue, value_at}
-use Rattle.elf_link.specs.Binds.{Binds, entries}
-use Rattle.elf_link.specs.Discarded.{AreMarks, Discarded, mark}
-use Rattle.elf_link.specs.Entry.{IsCommonOf}
-use Rattle.elf_link.specs.Files.{object_at}
-use Rattle.elf_link.specs.LinkMap.{AreAddresses, AreBindings, AreNames, ArePlacedCommons, ArePlacedOutputs, CommonValue, IsBinding, IsLinkMap, IsMapOf, IsNamed, IsOutput, IsPlaced, LinkMapValue, LinkPlan, OutputValue, cell, common_at, link_parts, members_at, no_name, no_output, no_placed, placed_common, start_of}
-use Rattle.elf_link.specs.Listing.{Lists, first_entries, site, site_at}
-use Rattle.elf_link.specs.Plan.{AreChosen, chosen_at, name_at, placed}
-use Rattle.elf_link.specs.Rows.{Nowhere}
-use Rattle.elf_link.proofs.Naming.{bound_first, names_once}
-use Rattle.elf_link.proofs.OnePlan.{one_choice, one_common, one_each, one_link_plan}
-use Rattle.elf_link.proofs.OneSite.{one_list}
+use Rattle.elf_link.specs.LinkMap.{AreBindings, AreNames, IsBinding, IsLinkMap, IsMapOf, IsNamed, IsPlaced, LinkMapValue, LinkPlan, link_parts, no_name}
+use Rattle.elf_link.proofs.Naming.{bound_first}
+use Rattle.elf_link.proofs.OnePlan.{one_link_plan}
 
 -- ---- addresses and marks
 

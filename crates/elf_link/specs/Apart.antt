@@ -2,10 +2,11 @@
 -- (Placement is this project's profile.)
 use Rattle.std.specs.Prelude.{◌≡◌, ◌↔◌, ℕ, ◌+◌, ◌^◌, ◌<◌, ◌≤◌, ◌⊎◌, Some, List, length}
 use Rattle.elf_object.specs.Object.{ObjectValue}
-use Rattle.elf_link.specs.Files.{section_in}
-use Rattle.elf_link.specs.LinkMap.{LinkMapValue, cell, common_at}
-use Rattle.elf_link.specs.Listing.{site}
-use Rattle.elf_link.specs.Outputs.{live, memory_size}
+use Rattle.elf_link_files.specs.Files.{section_in}
+use Rattle.elf_link_files.specs.Listing.{site}
+use Rattle.elf_link_outputs.specs.Placed.{cell, common_at}
+use Rattle.elf_link_outputs.specs.Outputs.{live, memory_size}
+use Rattle.elf_link.specs.LinkMap.{LinkMapValue}
 
 -- the size in memory of section s of file f
 abbrev pub size_in : List ObjectValue → ℕ → ℕ → ℕ

@@ -6,16 +6,16 @@ use Rattle.elf_object.specs.Object.{ObjectValue}
 use Rattle.elf_object.specs.declared.symbol.Place.{Place}
 use Rattle.elf_object.specs.declared.symbol.Place.TheVariants.{Undef, Abs, In}
 use Rattle.elf_object.specs.declared.symbol.Place.TheVariants.{Common as CommonPlace}
-use Rattle.elf_link.specs.declared.addresses.Target.{Target}
-use Rattle.elf_link.specs.declared.addresses.Target.TheVariants.{Lost, Fixed, Part}
-use Rattle.elf_link.specs.declared.choice.Choice.{Choice}
-use Rattle.elf_link.specs.declared.choice.Choice.TheVariants.{Strong, Common, Weak, Zero}
-use Rattle.elf_link.specs.declared.commons.Chosen.{Chosen}
-use Rattle.elf_link.specs.declared.site.Site.{Site}
-use Rattle.elf_link.specs.Binds.{Binds, IsUnbound}
-use Rattle.elf_link.specs.Files.{symbol_in}
-use Rattle.elf_link.specs.Listing.{site_at}
-use Rattle.elf_link.specs.Plan.{chosen_at, name_at}
+use Rattle.elf_link_files.specs.declared.chosen.Chosen.{Chosen}
+use Rattle.elf_link_files.specs.declared.site.Site.{Site}
+use Rattle.elf_link_files.specs.Files.{symbol_in}
+use Rattle.elf_link_files.specs.Listing.{site_at}
+use Rattle.elf_link_names.specs.declared.choice.Choice.{Choice}
+use Rattle.elf_link_names.specs.declared.choice.Choice.TheVariants.{Strong, Common, Weak, Zero}
+use Rattle.elf_link_names.specs.Binds.{Binds, IsUnbound}
+use Rattle.elf_link_names.specs.ChosenCommons.{IsCommonOf}
+use Rattle.elf_link_outputs.specs.declared.addresses.Target.{Target}
+use Rattle.elf_link_outputs.specs.declared.addresses.Target.TheVariants.{Lost, Fixed, Part}
 
 -- section s of file f is the one at position k of those that are placed
 abbrev pub HasSite : List Site → ℕ → ℕ → ℕ → Type 0
@@ -35,10 +35,6 @@ IsPlaceTarget ps f value (In s) t = IsSectionTarget ps f s value t
 
 abbrev pub IsSymbolTarget : List ObjectValue → List Site → ℕ → ℕ → Target → Type 0
 IsSymbolTarget fs ps f i t = IsPlaceTarget ps f (symbol_in fs f i).value (symbol_in fs f i).place t
-
--- the chosen common at position k is of this name
-abbrev pub IsCommonOf : List ObjectValue → List Chosen → List ℕ → ℕ → Type 0
-IsCommonOf fs cs name k = (k < length cs) × (name_at fs (chosen_at cs k).site ≡ name)
 
 -- the value of a name by its binding: that of its definition, or where its common stands, behind all sections
 abbrev pub IsChoiceTarget : List ObjectValue → List Site → List Chosen → List ℕ → Choice → Target → Type 0

@@ -1,15 +1,15 @@
 -- The fault of a link: the first of rules 1 to 11 that stands. Rules 10 and 11 are asked of the plan, where none before stands.
 use Rattle.std.specs.Prelude.{◌⊎◌, Option, None, Some, List}
 use Rattle.elf_object.specs.Object.{ObjectValue}
-use Rattle.elf_link.specs.declared.fault.LinkFault.{LinkFault}
-use Rattle.elf_link.specs.declared.fault.LinkFault.TheVariants.{Rule, OutOfMemory}
-use Rattle.elf_link.specs.declared.options.Options.{Options}
-use Rattle.elf_link.specs.declared.site.Broken.{Broken}
-use Rattle.elf_link.specs.Addresses.{address_rules}
-use Rattle.elf_link.specs.FileRules.{option_rules}
+use Rattle.elf_link_files.specs.declared.fault.LinkFault.{LinkFault}
+use Rattle.elf_link_files.specs.declared.fault.LinkFault.TheVariants.{Rule, OutOfMemory}
+use Rattle.elf_link_files.specs.declared.options.Options.{Options}
+use Rattle.elf_link_files.specs.declared.site.Broken.{Broken}
+use Rattle.elf_link_files.specs.FileRules.{option_rules}
+use Rattle.elf_link_files.specs.Rows.{FirstIn}
+use Rattle.elf_link_names.specs.LinkRules.{input_rules}
+use Rattle.elf_link_outputs.specs.Addresses.{address_rules}
 use Rattle.elf_link.specs.LinkMap.{IsPlaced, LinkPlan, link_parts}
-use Rattle.elf_link.specs.LinkRules.{input_rules}
-use Rattle.elf_link.specs.Rows.{FirstIn}
 
 -- rules 10 and 11 at the plan of the objects
 abbrev pub FirstOfAddresses : Options → List ObjectValue → Option Broken → Type 0

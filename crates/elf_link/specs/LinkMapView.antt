@@ -1,17 +1,10 @@
 -- What contracts see of a link map, its outputs and its commons.
 use Rattle.std.specs.Prelude.{ℕ, List, map}
+use Rattle.elf_link_outputs.specs.PlacedView.{output_value, common_value}
 use Rattle.elf_link.specs.declared.bindings.Binding.{Binding}
-use Rattle.elf_link.specs.declared.link_map.Common.{Common}
 use Rattle.elf_link.specs.declared.link_map.LinkMap.TheInside.{Inside}
-use Rattle.elf_link.specs.declared.link_map.Output.{Output}
 use Rattle.elf_link.specs.declared.names.Named.{Named}
-use Rattle.elf_link.specs.LinkMap.{CommonValue, LinkMapValue, OutputValue}
-
-abbrev pub output_value : Output → OutputValue
-output_value o = record { name = o.name.now; flags = o.flags; no_bits = o.no_bits; address = o.address; length = o.length; members = o.members.items }
-
-abbrev pub common_value : Common → CommonValue
-common_value c = record { name = c.name.now; address = c.address; size = c.size; align = c.align }
+use Rattle.elf_link.specs.LinkMap.{LinkMapValue}
 
 -- a name with its binding
 abbrev pub named_value : Named → List ℕ × Binding

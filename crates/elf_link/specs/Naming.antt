@@ -1,20 +1,14 @@
--- Names by position: what each is bound to, and where it stands.
+-- Names by position: what each is bound to, and where its common stands.
 use Rattle.std.specs.Prelude.{◌≡◌, ℕ, ◌<◌, Option, None, Some, MatchOption, List, get_or, length}
-use Rattle.std.specs.Borrow.{Bor}
-use Rattle.std.specs.BTreeMap.{BTreeMap}
-use Rattle.std.specs.Cmp.Lexicographic.{slice_cmp}
-use Rattle.std.specs.Map.{lookup}
-use Rattle.std.specs.Ordering.{is_eq, nat_cmp}
 use Rattle.elf_object.specs.Object.{ObjectValue}
+use Rattle.elf_link_files.specs.declared.site.Site.{Site}
+use Rattle.elf_link_files.specs.Listing.{site_at, name_at}
+use Rattle.elf_link_files.specs.Items.{AreEach}
+use Rattle.elf_link_names.specs.declared.choice.Choice.TheVariants.{Common}
+use Rattle.elf_link_names.specs.Binds.{Binds}
+use Rattle.elf_link_outputs.specs.Placed.{CommonValue}
 use Rattle.elf_link.specs.declared.bindings.Binding.{Binding}
-use Rattle.elf_link.specs.declared.site.Site.{Site}
-use Rattle.elf_link.specs.LinkMap.{CommonValue, IsBinding, IsNamed, bound_in, no_name}
-use Rattle.elf_link.specs.Listing.{site_at}
-use Rattle.elf_link.specs.Plan.{AreEach, name_at}
-
--- where a map says that a name stands
-abbrev pub position_by : BTreeMap (Bor (List ℕ)) ℕ → List ℕ → Option ℕ
-position_by positions name = lookup (λ (key : Bor (List ℕ)). is_eq (slice_cmp nat_cmp name key.now)) positions.entries
+use Rattle.elf_link.specs.LinkMap.{IsBinding, IsNamed, bound_in, no_name}
 
 -- the binding of each name stands at its position
 abbrev pub ArePositions : List (List ℕ × Binding) → (List ℕ → Option ℕ) → Type 0
@@ -29,14 +23,13 @@ IsNamedAt fs cs p named = (named.0 ≡ name_at fs p) × IsBinding fs cs (name_at
 abbrev pub AreNamedAt : List ObjectValue → List CommonValue → List Site → ℕ → List (List ℕ × Binding) → Type 0
 AreNamedAt fs cs ps = AreEach no_name (λ k. IsNamedAt fs cs (site_at ps k))
 
--- the position of each name among the first n of these sites
-abbrev pub ArePositionsOf : List ObjectValue → List Site → ℕ → (List ℕ → Option ℕ) → Type 0
-ArePositionsOf fs ps n position = (name : List ℕ) →
-    MatchOption (position name) ((k : ℕ) → k < n → name_at fs (site_at ps k) ≡ name → ⊥) (λ k. (k < n) × (name_at fs (site_at ps k) ≡ name))
-
 -- the position of the common of each name
 abbrev pub AreCommonPositionsBelow : List CommonValue → ℕ → (List ℕ → Option ℕ) → Type 0
 AreCommonPositionsBelow cs n position = (name : List ℕ) → MatchOption (position name) ((k : ℕ) → k < n → IsNamed cs name k → ⊥) (IsNamed cs name)
 
 abbrev pub AreCommonPositions : List CommonValue → (List ℕ → Option ℕ) → Type 0
 AreCommonPositions cs = AreCommonPositionsBelow cs (length cs)
+
+-- a common stands in the list for each name that is bound to one
+abbrev pub HaveCommons : List ObjectValue → List CommonValue → Type 0
+HaveCommons fs cs = (name : List ℕ) (size align : ℕ) → Binds fs name (Common size align) → (k : ℕ) × IsNamed cs name k

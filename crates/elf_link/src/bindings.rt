@@ -1,22 +1,24 @@
 //! What every name is bound to, with addresses (gABI chapter 4, Symbol Table: symbol binding).
 ghost use Rattle.std.specs.Prelude.{◌≡◌, ℕ, if◌then◌else◌, Some, List, IfOk, MatchOption, OnOk, length, map};
 ghost use Rattle.std.specs.Str.{bytes_eq};
-ghost use Rattle.elf_link.specs.declared.choice.Choice.TheVariants.{Common as CommonChoice};
-ghost use Rattle.elf_link.specs.Binds.{Binds, IsUnbound};
+ghost use Rattle.elf_link_files.specs.Listing.{name_at};
+ghost use Rattle.elf_link_names.specs.declared.choice.Choice.TheVariants.{Common as CommonChoice};
+ghost use Rattle.elf_link_names.specs.Binds.{Binds, IsUnbound};
+ghost use Rattle.elf_link_names.specs.Listing.{first_entries};
+ghost use Rattle.elf_link_names.specs.NameTable.{AreWhole, IsWhole, IsWholeTable, first_site};
+ghost use Rattle.elf_link_names.specs.Naming.{position_by};
+ghost use Rattle.elf_link_names.specs.Binds.{AllBound};
+ghost use Rattle.elf_link_outputs.specs.PlacedView.{common_value};
 ghost use Rattle.elf_link.specs.LinkMap.{AreBindings, AreNames, IsBinding, IsNamed};
-ghost use Rattle.elf_link.specs.LinkMapView.{common_value, named_value};
-ghost use Rattle.elf_link.specs.Listing.{first_entries};
-ghost use Rattle.elf_link.specs.NameTable.{AreWhole, IsWhole, IsWholeTable, first_site};
-ghost use Rattle.elf_link.specs.Naming.{AreCommonPositions, AreNamedAt, IsNamedAt, position_by};
-ghost use Rattle.elf_link.specs.Plan.{name_at};
-ghost use Rattle.elf_link.specs.Planning.{AllBound, HaveCommons};
+ghost use Rattle.elf_link.specs.LinkMapView.{named_value};
+ghost use Rattle.elf_link.specs.Naming.{AreCommonPositions, AreNamedAt, IsNamedAt};
+ghost use Rattle.elf_link.specs.Naming.{HaveCommons};
 
-use crate::bind::{choice_of, known_item};
-use crate::choice::Choice;
-use crate::files::symbol_of;
-use crate::link_map::Common;
-use crate::name_table::{Known, NameTable};
 use crate::names::{Named, Names};
+use elf_link_files::files::symbol_of;
+use elf_link_names::bind::{choice_of, known_item};
+use elf_link_names::{Choice, Known, NameTable};
+use elf_link_outputs::Common;
 use elf_object::Object;
 use std::alloc::{AllocError, Global};
 use std::collections::BTreeMap;

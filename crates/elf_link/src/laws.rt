@@ -1,10 +1,10 @@
 //! What the layers above may know of a link map.
 ghost use Rattle.std.specs.Prelude.{◌≡◌, List, Option};
+ghost use Rattle.elf_link_files.specs.declared.options.Options.{Options};
+ghost use Rattle.elf_link_files.specs.declared.site.Broken.{Broken};
 ghost use Rattle.elf_link.specs.Apart.{StandApart};
 ghost use Rattle.elf_link.specs.LinkFaults.{FirstOfLink};
 ghost use Rattle.elf_link.specs.LinkMap.{IsLinkMap, LinkMapValue};
-ghost use Rattle.elf_link.specs.declared.options.Options.{Options};
-ghost use Rattle.elf_link.specs.declared.site.Broken.{Broken};
 ghost use Rattle.elf_object.specs.Object.{ObjectValue};
 
 /// In the link map of some objects a section has an address exactly where it is live, the commons stand behind all sections, each

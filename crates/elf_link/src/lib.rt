@@ -16,42 +16,17 @@
 //! ```
 #![tactic(auto)]
 
-mod addresses;
-mod bind;
 mod bindings;
-mod choice;
-mod commons;
-mod discarded;
-mod fault;
-mod file_rules;
-pub mod files;
-mod judge;
 mod laws;
 mod link;
 mod link_map;
-mod listing;
-mod name_rules;
-mod name_table;
 mod names;
-mod options;
-mod outputs;
-mod parts;
-mod placing;
-mod plan;
-pub mod rules;
-mod section_tests;
-mod site;
-mod site_test;
-mod symbol_tests;
-mod table;
 mod target;
 
 pub use bindings::Binding;
-pub use fault::LinkFault;
+pub use elf_link_files::{Broken, LinkFault, Options, Site, files, rules};
+pub use elf_link_outputs::{Common, Member, Output, memory_size};
 pub use laws::{one_link_fault, one_link_map, parts_apart};
 pub use link::map;
-pub use link_map::{Common, LinkMap, Member, Output};
+pub use link_map::LinkMap;
 pub use names::Named;
-pub use options::Options;
-pub use parts::memory_size;
-pub use site::{Broken, Site};

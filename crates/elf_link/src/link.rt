@@ -1,30 +1,29 @@
 //! The link map of objects.
 ghost use Rattle.std.specs.Prelude.{◌≡◌, IfErr, IfOk, None, OnOk, map as map_list};
-ghost use Rattle.elf_link.specs.Discarded.{AreMarks};
-ghost use Rattle.elf_link.specs.FileRules.{option_rules};
+ghost use Rattle.elf_link_files.specs.Discarded.{AreMarks};
+ghost use Rattle.elf_link_files.specs.FileRules.{option_rules};
+ghost use Rattle.elf_link_files.specs.Commons.{AreSymbols};
+ghost use Rattle.elf_link_files.specs.Rows.{FirstIn};
+ghost use Rattle.elf_link_names.specs.LinkRules.{input_rules};
+ghost use Rattle.elf_link_names.specs.NameTable.{IsWholeTable};
+ghost use Rattle.elf_link_names.specs.Naming.{position_by};
+ghost use Rattle.elf_link_names.specs.ChosenCommons.{AreChosen};
+ghost use Rattle.elf_link_names.specs.ChosenCommons.{HaveChosen};
+ghost use Rattle.elf_link_outputs.specs.Plan.{AreOutputs, flat};
+ghost use Rattle.elf_link_outputs.specs.Planning.{AreAllIn, AreLive, AreSome};
 ghost use Rattle.elf_link.specs.LinkFaults.{FirstOfLink, IsLinkFault};
 ghost use Rattle.elf_link.specs.LinkMap.{IsLinkMap};
-ghost use Rattle.elf_link.specs.LinkRules.{input_rules};
-ghost use Rattle.elf_link.specs.NameTable.{IsWholeTable};
-ghost use Rattle.elf_link.specs.Naming.{position_by};
-ghost use Rattle.elf_link.specs.Plan.{AreChosen, AreOutputs, flat};
-ghost use Rattle.elf_link.specs.Planning.{AreAllIn, AreLive, AreSome, AreSymbols, HaveChosen};
-ghost use Rattle.elf_link.specs.Rows.{FirstIn};
 
-use crate::addresses::addresses;
 use crate::bindings::all_bindings;
-use crate::commons::{Chosen, chosen_commons};
-use crate::fault::LinkFault;
-use crate::judge::{Judged, judge};
 use crate::link_map::LinkMap;
-use crate::listing::{Listed, all_listed};
-use crate::options::Options;
-use crate::outputs::outputs_of;
-use crate::placing::{placed_commons, placed_outputs};
-use crate::plan::{all_parts, placed};
-use crate::site::Site;
-use crate::table::address_table;
 use crate::target::entry_target;
+use elf_link_files::{Chosen, LinkFault, Options, Site};
+use elf_link_names::judge::{Judged, judge};
+use elf_link_names::{Listed, all_listed, chosen_commons};
+use elf_link_outputs::addresses::addresses;
+use elf_link_outputs::{
+    address_table, all_parts, outputs_of, placed, placed_commons, placed_outputs,
+};
 use elf_object::Object;
 use std::alloc::Global;
 use std::hash::BuildHasher;

@@ -1,51 +1,15 @@
 //! The link map: where everything stands, and what each name is bound to (gABI chapter 4, Sections, Symbol Table).
 ghost use Rattle.std.specs.Prelude.{◌≡◌, map};
-ghost use Rattle.elf_link.specs.Discarded.{mark};
-ghost use Rattle.elf_link.specs.LinkMap.{bound_in, cell};
-ghost use Rattle.elf_link.specs.LinkMapView.{common_value, named_value, output_value};
+ghost use Rattle.elf_link_files.specs.Discarded.{mark};
+ghost use Rattle.elf_link_outputs.specs.Placed.{cell};
+ghost use Rattle.elf_link_outputs.specs.PlacedView.{common_value, output_value};
+ghost use Rattle.elf_link.specs.LinkMap.{bound_in};
+ghost use Rattle.elf_link.specs.LinkMapView.{named_value};
 
 use crate::bindings::Binding;
 use crate::names::{Named, Names};
+use elf_link_outputs::{Common, Output};
 use std::marker::Model;
-
-/// A section of an input file.
-#[derive(Clone, Copy, Debug, PartialEq, Eq)]
-pub struct Member {
-    /// The position of the file among the objects, from 0.
-    pub file: usize,
-    /// The position of the section in it.
-    pub section: usize,
-}
-
-/// An output section.
-#[derive(Debug, Drop)]
-pub struct Output<'a> {
-    /// The name of its members.
-    pub name: &'a [u8],
-    /// Their flags without `SHF_GROUP`.
-    pub flags: u64,
-    /// Whether they take memory without bits.
-    pub no_bits: bool,
-    /// Where the first member begins.
-    pub address: u64,
-    /// The bytes from there to the end of the last one.
-    pub length: u64,
-    /// The members, in order of placement.
-    pub members: Vec<Member>,
-}
-
-/// A common that has a place.
-#[derive(Clone, Copy, Debug, PartialEq, Eq)]
-pub struct Common<'a> {
-    /// Its name.
-    pub name: &'a [u8],
-    /// Where it begins.
-    pub address: u64,
-    /// The largest size of its name.
-    pub size: u64,
-    /// The largest alignment of its name.
-    pub align: u64,
-}
 
 /// Where the sections and commons of a link stand, and what each name is bound to. No accessor takes memory.
 #[derive(Debug, Drop)]

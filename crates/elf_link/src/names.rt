@@ -1,8 +1,9 @@
 //! The names of a link map, with what each is bound to (gABI chapter 4, Symbol Table).
 ghost use Rattle.std.specs.Prelude.{◌≡◌, map};
+ghost use Rattle.elf_link_names.specs.Naming.{position_by};
 ghost use Rattle.elf_link.specs.LinkMap.{bound_in};
 ghost use Rattle.elf_link.specs.LinkMapView.{named_value};
-ghost use Rattle.elf_link.specs.Naming.{ArePositions, position_by};
+ghost use Rattle.elf_link.specs.Naming.{ArePositions};
 
 use crate::bindings::Binding;
 use std::collections::BTreeMap;
@@ -30,8 +31,9 @@ impl<'a> Model for Names<'a> {
 
     ghost Value = { List (List ℕ × Binding) };
 
+    ghost use Rattle.elf_link_names.specs.Naming.{position_by};
     ghost use Rattle.elf_link.specs.LinkMapView.{named_value};
-    ghost use Rattle.elf_link.specs.Naming.{ArePositions, position_by};
+    ghost use Rattle.elf_link.specs.Naming.{ArePositions};
 
     ghost view = { λ a. map named_value a.list.items };
 

@@ -1,23 +1,22 @@
 //! What the entry symbol's value is made of (gABI chapter 4, ELF Header: `e_entry`; Symbol Table: `st_value`).
 ghost use Rattle.std.specs.Prelude.{◌≡◌, ◌↔◌, ℕ, ◌+◌, ◌^◌, ◌<◌, IsTrue, MatchOption, length};
-ghost use Rattle.elf_link.specs.declared.addresses.Target.TheVariants.{Part};
-ghost use Rattle.elf_link.specs.Addresses.{IsTargetBelow};
-ghost use Rattle.elf_link.specs.Binds.{Binds};
-ghost use Rattle.elf_link.specs.Entry.{HasSite, IsChoiceTarget, IsCommonOf, IsEntryTarget, IsNameTarget, IsSectionTarget, IsSymbolTarget};
-ghost use Rattle.elf_link.specs.Files.{object_at};
-ghost use Rattle.elf_link.specs.NameTable.{IsWholeTable};
-ghost use Rattle.elf_link.specs.Naming.{position_by};
-ghost use Rattle.elf_link.specs.Plan.{name_at};
-ghost use Rattle.elf_link.specs.Planning.{AreSymbols, HaveChosen};
+ghost use Rattle.elf_link_files.specs.Files.{object_at};
+ghost use Rattle.elf_link_files.specs.Listing.{name_at};
+ghost use Rattle.elf_link_files.specs.Commons.{AreSymbols};
+ghost use Rattle.elf_link_names.specs.Binds.{Binds};
+ghost use Rattle.elf_link_names.specs.ChosenCommons.{IsCommonOf};
+ghost use Rattle.elf_link_names.specs.NameTable.{IsWholeTable};
+ghost use Rattle.elf_link_names.specs.Naming.{position_by};
+ghost use Rattle.elf_link_names.specs.ChosenCommons.{HaveChosen};
+ghost use Rattle.elf_link_outputs.specs.declared.addresses.Target.TheVariants.{Part};
+ghost use Rattle.elf_link_outputs.specs.Addresses.{IsTargetBelow};
+ghost use Rattle.elf_link.specs.Entry.{HasSite, IsChoiceTarget, IsEntryTarget, IsNameTarget, IsSectionTarget, IsSymbolTarget};
 
-use crate::addresses::Target;
-use crate::bind::bind;
-use crate::choice::Choice;
-use crate::commons::Chosen;
-use crate::files::symbol_of;
-use crate::listing::is_at;
-use crate::name_table::NameTable;
-use crate::site::Site;
+use elf_link_files::files::symbol_of;
+use elf_link_files::{Chosen, Site, is_at};
+use elf_link_names::bind::bind;
+use elf_link_names::{Choice, NameTable};
+use elf_link_outputs::addresses::Target;
 use elf_object::{Object, Place};
 
 /// The position of a section among those that are placed.

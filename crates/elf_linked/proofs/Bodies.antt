@@ -7,8 +7,8 @@ use Rattle.elf_object.specs.declared.section.Body.TheVariants.{Bits, NoBits, Rel
 use Rattle.elf_object.specs.Object.{ObjectValue}
 use Rattle.elf_object.specs.ObjectView.{body_value}
 use Rattle.elf_relocation.specs.declared.rule.RelocRule.{RelocRule}
-use Rattle.elf_link.specs.declared.site.Site.{Site}
-use Rattle.elf_link.specs.Files.{section_in}
+use Rattle.elf_link_files.specs.declared.site.Site.{Site}
+use Rattle.elf_link_files.specs.Files.{section_in}
 use Rattle.elf_linked.specs.declared.field.Field.{Field}
 use Rattle.elf_linked.specs.Collecting.{AreFieldsBefore, entry_site}
 use Rattle.elf_linked.specs.Entries.{AreApplied, IsApplied, entries_of}

@@ -7,8 +7,8 @@ use Rattle.elf_object.specs.Object.{ObjectValue}
 use Rattle.elf_relocation.specs.declared.rule.Form.TheVariants.{None as NoForm}
 use Rattle.elf_relocation.specs.declared.rule.RelocRule.{RelocRule}
 use Rattle.elf_relocation.specs.Rule.{HasNoRule, IsFirstRule}
-use Rattle.elf_link.specs.declared.site.Site.{Site}
-use Rattle.elf_link.specs.Rows.{Before, IsFirstAt, Nowhere}
+use Rattle.elf_link_files.specs.declared.site.Site.{Site}
+use Rattle.elf_link_files.specs.Rows.{Before, IsFirstAt, Nowhere}
 use Rattle.elf_linked.specs.declared.field.Field.{Field}
 use Rattle.elf_linked.specs.Collecting.{AreFields, AreFieldsBefore, entry_site, field_at, no_field}
 use Rattle.elf_linked.specs.Entries.{IsApplied, entry_at}

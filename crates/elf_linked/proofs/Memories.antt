@@ -10,14 +10,15 @@ use Rattle.elf_relocation.specs.Rule.{size_of}
 use Rattle.elf_link.specs.Apart.{BeginsAt, StandApart}
 use Rattle.elf_field.specs.Abi.{SHF_ALLOC}
 use Rattle.elf_object.specs.Positions.{HasFlag}
-use Rattle.elf_link.specs.declared.options.Options.{Options}
-use Rattle.elf_link.specs.declared.site.Site.{Site}
-use Rattle.elf_link.specs.Files.{object_at, section_in}
-use Rattle.elf_link.specs.LinkMap.{IsLinkMap, LinkMapValue, cell}
-use Rattle.elf_link.specs.Listing.{site}
-use Rattle.elf_link.specs.Live.{Live}
-use Rattle.elf_link.specs.Outputs.{live, memory_size}
-use Rattle.elf_link.specs.Rows.{FirstIn}
+use Rattle.elf_link_files.specs.declared.options.Options.{Options}
+use Rattle.elf_link_files.specs.declared.site.Site.{Site}
+use Rattle.elf_link_files.specs.Files.{object_at, section_in}
+use Rattle.elf_link_files.specs.Listing.{site}
+use Rattle.elf_link_files.specs.Live.{Live}
+use Rattle.elf_link_files.specs.Rows.{FirstIn}
+use Rattle.elf_link_outputs.specs.Placed.{cell}
+use Rattle.elf_link_outputs.specs.Outputs.{live, memory_size}
+use Rattle.elf_link.specs.LinkMap.{IsLinkMap, LinkMapValue}
 use Rattle.elf_linked.specs.declared.field.Field.{Field}
 use Rattle.elf_linked.specs.Collecting.{field_at}
 use Rattle.elf_linked.specs.Entries.{target_at}

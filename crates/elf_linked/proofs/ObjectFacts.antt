@@ -7,8 +7,8 @@ use Rattle.elf_object.specs.Object.{BodyValue, bits, no_bits, relocs, group, Obj
 use Rattle.elf_object.specs.ObjectRules.{IsObject}
 use Rattle.elf_object.specs.Positions.{is_bits}
 use Rattle.elf_object.proofs.Public.{references_there, relocations_there}
-use Rattle.elf_link.specs.declared.site.Site.{Site}
-use Rattle.elf_link.specs.Files.{object_at}
+use Rattle.elf_link_files.specs.declared.site.Site.{Site}
+use Rattle.elf_link_files.specs.Files.{object_at}
 use Rattle.elf_linked.specs.Entries.{IsEntrySite, entries_of, target_at, target_of}
 use Rattle.elf_linked.specs.Grid.{IsSection}
 

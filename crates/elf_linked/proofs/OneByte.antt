@@ -5,11 +5,12 @@ use Rattle.std.proofs.lemmas.Bool.{cases_lt}
 use Rattle.elf_object.specs.Object.{ObjectValue}
 use Rattle.elf_relocation.specs.declared.rule.RelocRule.{RelocRule}
 use Rattle.elf_relocation.specs.Rule.{IsFirstRule, size_of}
+use Rattle.elf_link_files.specs.declared.site.Site.{Site}
+use Rattle.elf_link_files.specs.Files.{section_in}
+use Rattle.elf_link_files.specs.Rows.{FirstIn, Nowhere}
+use Rattle.elf_link_outputs.specs.Placed.{cell}
 use Rattle.elf_link.specs.Apart.{BeginsAt, StandApart, size_in}
-use Rattle.elf_link.specs.declared.site.Site.{Site}
-use Rattle.elf_link.specs.Files.{section_in}
-use Rattle.elf_link.specs.LinkMap.{LinkMapValue, cell}
-use Rattle.elf_link.specs.Rows.{FirstIn, Nowhere}
+use Rattle.elf_link.specs.LinkMap.{LinkMapValue}
 use Rattle.elf_link.proofs.Public.{parts_apart}
 use Rattle.elf_linked.specs.Entries.{entry_at, target_at}
 use Rattle.elf_linked.specs.Fields.{HasField, HasOffset, IsWithin, content_in, field_start}

@@ -7,8 +7,8 @@ use Rattle.elf_object.specs.ObjectRules.{IsObject}
 use Rattle.elf_relocation.specs.declared.rule.RelocRule.{RelocRule}
 use Rattle.elf_relocation.specs.Patch.{IsPatched}
 use Rattle.elf_relocation.specs.Rule.{size_of}
-use Rattle.elf_link.specs.declared.site.Site.{Site}
-use Rattle.elf_link.specs.Files.{object_at}
+use Rattle.elf_link_files.specs.declared.site.Site.{Site}
+use Rattle.elf_link_files.specs.Files.{object_at}
 use Rattle.elf_link.specs.LinkMap.{LinkMapValue}
 use Rattle.elf_linked.specs.Linked.{HasLiveBits}
 use Rattle.elf_linked.specs.declared.field.Field.{Field}

@@ -1,8 +1,8 @@
 -- The order of entries.
 use Rattle.std.proofs.Common.{◌≡◌, ℕ, ◌+◌, ◌<◌, ◌⊎◌, inl, inr, refl, ◌∙◌, ap, arith}
 use Rattle.std.proofs.lemmas.Bool.{cases_lt}
-use Rattle.elf_link.specs.declared.site.Site.{Site}
-use Rattle.elf_link.specs.Rows.{Before}
+use Rattle.elf_link_files.specs.declared.site.Site.{Site}
+use Rattle.elf_link_files.specs.Rows.{Before}
 use Rattle.elf_linked.specs.Collecting.{entry_site}
 
 pub site_is : (p : Site) (f s e : ℕ) → p.file ≡ f → p.index ≡ s → p.entry ≡ e → p ≡ entry_site f s e

@@ -5,8 +5,8 @@ use Rattle.elf_relocation.specs.declared.rule.Form.TheVariants.{Abs}
 use Rattle.elf_relocation.specs.declared.rule.Range.TheVariants.{Signed}
 use Rattle.elf_relocation.specs.declared.rule.RelocRule.{RelocRule}
 use Rattle.elf_relocation.specs.declared.rule.Width.TheVariants.{W1}
-use Rattle.elf_link.specs.declared.site.Site.{Site}
-use Rattle.elf_link.specs.Rows.{Before}
+use Rattle.elf_link_files.specs.declared.site.Site.{Site}
+use Rattle.elf_link_files.specs.Rows.{Before}
 use Rattle.elf_linked.specs.declared.field.Field.{Field}
 use Rattle.elf_linked.specs.Fields.{HasField}
 use Rattle.elf_linked.specs.RelocationRules.{no_rule}

@@ -3,10 +3,10 @@
 use Rattle.std.specs.Prelude.{ℕ, ◌<◌, Bool, false, List, [], get_or, length}
 use Rattle.elf_object.specs.declared.relocation.Relocation.{Relocation}
 use Rattle.elf_object.specs.Object.{BodyValue, bits, no_bits, relocs, group, ObjectValue, no_relocation}
-use Rattle.elf_link.specs.declared.site.Site.{Site}
-use Rattle.elf_link.specs.Discarded.{Discarded}
-use Rattle.elf_link.specs.Files.{object_at, section_in}
-use Rattle.elf_link.specs.Live.{Live}
+use Rattle.elf_link_files.specs.declared.site.Site.{Site}
+use Rattle.elf_link_files.specs.Discarded.{Discarded}
+use Rattle.elf_link_files.specs.Files.{object_at, section_in}
+use Rattle.elf_link_files.specs.Live.{Live}
 
 -- the entries of a section's body, the section that they relocate, and whether they have addends; another body has none
 abbrev pub entries_of : BodyValue → List Relocation

@@ -2,12 +2,12 @@
 use Rattle.std.specs.Prelude.{◌≡◌, ℕ, ◌<◌, List, length}
 use Rattle.elf_object.specs.Object.{ObjectValue}
 use Rattle.elf_relocation.specs.declared.rule.RelocRule.{RelocRule}
-use Rattle.elf_link.specs.declared.fault.LinkFault.{LinkFault}
-use Rattle.elf_link.specs.declared.fault.LinkFault.TheVariants.{Rule, OutOfMemory}
-use Rattle.elf_link.specs.declared.site.Broken.{Broken}
-use Rattle.elf_link.specs.declared.site.Site.{Site}
+use Rattle.elf_link_files.specs.declared.fault.LinkFault.{LinkFault}
+use Rattle.elf_link_files.specs.declared.fault.LinkFault.TheVariants.{Rule, OutOfMemory}
+use Rattle.elf_link_files.specs.declared.site.Broken.{Broken}
+use Rattle.elf_link_files.specs.declared.site.Site.{Site}
+use Rattle.elf_link_files.specs.Rows.{IsFirstAt, Nowhere, Row}
 use Rattle.elf_link.specs.LinkMap.{LinkMapValue}
-use Rattle.elf_link.specs.Rows.{IsFirstAt, Nowhere, Row}
 use Rattle.elf_linked.specs.declared.field.Field.{Field}
 use Rattle.elf_linked.specs.declared.field_test.FieldTest.{FieldTest}
 use Rattle.elf_linked.specs.declared.field_test.FieldTest.TheVariants.{FieldOutOfRange, Unplaced, ValueOutOfRange}

@@ -5,8 +5,8 @@ use Rattle.elf_object.specs.Object.{BodyValue, bits, no_bits, relocs, group, Obj
 use Rattle.elf_relocation.specs.declared.rule.Form.TheVariants.{None as NoForm}
 use Rattle.elf_relocation.specs.declared.rule.RelocRule.{RelocRule}
 use Rattle.elf_relocation.specs.Rule.{IsFirstRule, size_of}
-use Rattle.elf_link.specs.declared.site.Site.{Site}
-use Rattle.elf_link.specs.Files.{section_in}
+use Rattle.elf_link_files.specs.declared.site.Site.{Site}
+use Rattle.elf_link_files.specs.Files.{section_in}
 use Rattle.elf_linked.specs.Entries.{IsApplied, entry_at, target_at}
 
 -- an entry has a field by this rule: it is applied, and the rule is the first one of its kind and has a form

@@ -1,7 +1,7 @@
 -- Tables by file and section: rows of items.
 use Rattle.std.specs.Prelude.{◌≡◌, ℕ, ◌<◌, List, [], get_or, length, set}
 use Rattle.elf_object.specs.Object.{ObjectValue}
-use Rattle.elf_link.specs.Files.{object_at}
+use Rattle.elf_link_files.specs.Files.{object_at}
 
 -- the item of section s of file f, and the table with another one there
 abbrev pub item : {A : Type 0} → A → List (List A) → ℕ → ℕ → A

@@ -2,10 +2,10 @@
 use Rattle.std.specs.Prelude.{◌≡◌, List}
 use Rattle.elf_object.specs.Object.{ObjectValue}
 use Rattle.elf_relocation.specs.declared.rule.RelocRule.{RelocRule}
-use Rattle.elf_link.specs.declared.fault.LinkFault.{LinkFault}
-use Rattle.elf_link.specs.declared.fault.LinkFault.TheVariants.{Rule, OutOfMemory}
+use Rattle.elf_link_files.specs.declared.fault.LinkFault.{LinkFault}
+use Rattle.elf_link_files.specs.declared.fault.LinkFault.TheVariants.{Rule, OutOfMemory}
+use Rattle.elf_link_files.specs.Rows.{IsFirstAt}
 use Rattle.elf_link.specs.LinkMap.{LinkMapValue}
-use Rattle.elf_link.specs.Rows.{IsFirstAt}
 use Rattle.elf_linked.specs.declared.field.Field.{Field}
 use Rattle.elf_linked.specs.Collecting.{AreFields, entry_site}
 use Rattle.elf_linked.specs.FieldTests.{HasNone}

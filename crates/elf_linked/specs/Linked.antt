@@ -4,11 +4,11 @@ use Rattle.std.specs.Prelude.{◌≡◌, ℕ, ◌+◌, ◌<◌, true, MatchOptio
 use Rattle.elf_object.specs.Object.{ObjectValue}
 use Rattle.elf_object.specs.Positions.{is_bits}
 use Rattle.elf_relocation.specs.declared.rule.RelocRule.{RelocRule}
+use Rattle.elf_link_files.specs.Files.{object_at, section_in}
+use Rattle.elf_link_files.specs.Live.{Live}
+use Rattle.elf_link_files.specs.Rows.{FirstIn}
 use Rattle.elf_link.specs.Apart.{BeginsAt}
-use Rattle.elf_link.specs.Files.{object_at, section_in}
 use Rattle.elf_link.specs.LinkMap.{LinkMapValue}
-use Rattle.elf_link.specs.Live.{Live}
-use Rattle.elf_link.specs.Rows.{FirstIn}
 use Rattle.elf_linked.specs.declared.linked.Identity.{Identity}
 use Rattle.elf_linked.specs.Fields.{content_in}
 use Rattle.elf_linked.specs.Grid.{IsGrid, IsSection, item}

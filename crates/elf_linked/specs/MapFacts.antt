@@ -1,9 +1,9 @@
 -- What relocating needs to know of a link map.
 use Rattle.std.specs.Prelude.{List}
 use Rattle.elf_object.specs.Object.{ObjectValue}
-use Rattle.elf_link.specs.declared.options.Options.{Options}
+use Rattle.elf_link_files.specs.declared.options.Options.{Options}
+use Rattle.elf_link_files.specs.Discarded.{AreMarks}
 use Rattle.elf_link.specs.Apart.{StandApart}
-use Rattle.elf_link.specs.Discarded.{AreMarks}
 use Rattle.elf_link.specs.LinkMap.{IsLinkMap, LinkMapValue}
 
 -- the map is the one of these objects, for some options

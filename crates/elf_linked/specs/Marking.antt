@@ -2,8 +2,8 @@
 use Rattle.std.specs.Prelude.{◌≡◌, ◌↔◌, ℕ, ◌<◌, Bool, true, false, List, [], get_or, length, map, replicate}
 use Rattle.std.specs.Global.{Vec}
 use Rattle.elf_object.specs.Object.{ObjectValue}
-use Rattle.elf_link.specs.Files.{object_at}
-use Rattle.elf_link.specs.Plan.{AreEach}
+use Rattle.elf_link_files.specs.Files.{object_at}
+use Rattle.elf_link_files.specs.Items.{AreEach}
 use Rattle.elf_relocation.specs.Marks.{AreTaken, IsMarked}
 use Rattle.elf_linked.specs.declared.field.Field.{Field}
 use Rattle.elf_linked.specs.Collecting.{field_at}

@@ -7,9 +7,10 @@ use Rattle.elf_object.specs.Object.{ObjectValue}
 use Rattle.elf_relocation.specs.declared.rule.RelocRule.{RelocRule}
 use Rattle.elf_relocation.specs.Number.{modulo}
 use Rattle.elf_relocation.specs.Rule.{size_of}
-use Rattle.elf_link.specs.declared.site.Site.{Site}
-use Rattle.elf_link.specs.Files.{object_at}
-use Rattle.elf_link.specs.LinkMap.{LinkMapValue, cell, common_at, no_output}
+use Rattle.elf_link_files.specs.declared.site.Site.{Site}
+use Rattle.elf_link_files.specs.Files.{object_at}
+use Rattle.elf_link_outputs.specs.Placed.{cell, common_at, no_output}
+use Rattle.elf_link.specs.LinkMap.{LinkMapValue}
 use Rattle.elf_linked.specs.Fields.{HasField, content_in}
 use Rattle.elf_linked.specs.Numbers.{field_address, number_at}
 

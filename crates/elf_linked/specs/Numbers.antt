@@ -4,9 +4,10 @@ use Rattle.elf_object.specs.Object.{ObjectValue}
 use Rattle.elf_relocation.specs.declared.rule.RelocRule.{RelocRule}
 use Rattle.elf_relocation.specs.Number.{addend_at, number_of}
 use Rattle.elf_relocation.specs.Rule.{size_of}
-use Rattle.elf_link.specs.declared.site.Site.{Site}
-use Rattle.elf_link.specs.Files.{object_at}
-use Rattle.elf_link.specs.LinkMap.{LinkMapValue, cell}
+use Rattle.elf_link_files.specs.declared.site.Site.{Site}
+use Rattle.elf_link_files.specs.Files.{object_at}
+use Rattle.elf_link_outputs.specs.Placed.{cell}
+use Rattle.elf_link.specs.LinkMap.{LinkMapValue}
 use Rattle.elf_linked.specs.Entries.{body_at, entry_at, is_rela, target_at}
 use Rattle.elf_linked.specs.Fields.{content_at, field_start}
 use Rattle.elf_linked.specs.Values.{value_at}

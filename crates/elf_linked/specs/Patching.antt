@@ -4,9 +4,9 @@ use Rattle.elf_field.specs.declared.order.Order.{Order}
 use Rattle.elf_object.specs.Object.{ObjectValue}
 use Rattle.elf_relocation.specs.Patch.{patched}
 use Rattle.elf_relocation.specs.Rule.{size_of}
-use Rattle.elf_link.specs.Files.{object_at}
+use Rattle.elf_link_files.specs.Files.{object_at}
+use Rattle.elf_link_files.specs.Items.{AreEach}
 use Rattle.elf_link.specs.LinkMap.{LinkMapValue}
-use Rattle.elf_link.specs.Plan.{AreEach}
 use Rattle.elf_linked.specs.declared.field.Field.{Field}
 use Rattle.elf_linked.specs.Collecting.{field_at}
 use Rattle.elf_linked.specs.Fields.{content_in, field_start}

@@ -5,11 +5,11 @@ use Rattle.elf_object.specs.Object.{ObjectValue}
 use Rattle.elf_relocation.specs.declared.rule.RelocRule.{RelocRule}
 use Rattle.elf_relocation.specs.Number.{Admits}
 use Rattle.elf_relocation.specs.Rule.{HasNoRule, size_of}
-use Rattle.elf_link.specs.declared.fault.LinkFault.{LinkFault}
-use Rattle.elf_link.specs.declared.fault.LinkFault.TheVariants.{Rule, OutOfMemory}
-use Rattle.elf_link.specs.declared.site.Site.{Site}
+use Rattle.elf_link_files.specs.declared.fault.LinkFault.{LinkFault}
+use Rattle.elf_link_files.specs.declared.fault.LinkFault.TheVariants.{Rule, OutOfMemory}
+use Rattle.elf_link_files.specs.declared.site.Site.{Site}
+use Rattle.elf_link_files.specs.Rows.{Before, FirstIn, Row, Ruled, rule}
 use Rattle.elf_link.specs.LinkMap.{LinkMapValue}
-use Rattle.elf_link.specs.Rows.{Before, FirstIn, Row, Ruled, rule}
 use Rattle.elf_linked.specs.Entries.{IsApplied, entry_at}
 use Rattle.elf_linked.specs.Fields.{HasField, IsWithin, Share}
 use Rattle.elf_linked.specs.Numbers.{number_at}

@@ -1,9 +1,9 @@
 -- The values of all symbols, in rows by file.
 use Rattle.std.specs.Prelude.{◌≡◌, ℕ, Option, None, List, [], length}
 use Rattle.elf_object.specs.Object.{ObjectValue}
-use Rattle.elf_link.specs.Files.{object_at}
+use Rattle.elf_link_files.specs.Files.{object_at}
+use Rattle.elf_link_files.specs.Items.{AreEach}
 use Rattle.elf_link.specs.LinkMap.{LinkMapValue}
-use Rattle.elf_link.specs.Plan.{AreEach}
 use Rattle.elf_linked.specs.Values.{IsSmall, symbol_value}
 
 -- a row has the values of the first n symbols of file f

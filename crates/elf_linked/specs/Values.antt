@@ -6,12 +6,13 @@ use Rattle.elf_object.specs.Object.{ObjectValue}
 use Rattle.elf_object.specs.declared.symbol.Place.{Place}
 use Rattle.elf_object.specs.declared.symbol.Place.TheVariants.{Undef, Abs, In}
 use Rattle.elf_object.specs.declared.symbol.Place.TheVariants.{Common as CommonPlace}
+use Rattle.elf_link_files.specs.declared.site.Site.{Site}
+use Rattle.elf_link_files.specs.Files.{symbol_in}
+use Rattle.elf_link_files.specs.Symbols.{binding}
+use Rattle.elf_link_outputs.specs.Placed.{cell}
 use Rattle.elf_link.specs.declared.bindings.Binding.{Binding}
 use Rattle.elf_link.specs.declared.bindings.Binding.TheVariants.{Strong, Common, Weak, Zero}
-use Rattle.elf_link.specs.declared.site.Site.{Site}
-use Rattle.elf_link.specs.Files.{symbol_in}
-use Rattle.elf_link.specs.LinkMap.{LinkMapValue, bound_in, cell}
-use Rattle.elf_link.specs.Symbols.{binding}
+use Rattle.elf_link.specs.LinkMap.{LinkMapValue, bound_in}
 use Rattle.elf_linked.specs.Entries.{entry_at}
 
 -- of a symbol of file f at its place: absolute, or so far behind the start of a section that has an address

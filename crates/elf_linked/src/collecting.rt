@@ -1,6 +1,6 @@
 //! All fields of a link, in order.
 ghost use Rattle.std.specs.Prelude.{◌≡◌, ◌+◌, ◌^◌, ◌<◌, IfErr, IfOk, OnOk, length};
-ghost use Rattle.elf_link.specs.Files.{object_at};
+ghost use Rattle.elf_link_files.specs.Files.{object_at};
 ghost use Rattle.elf_linked.specs.Collecting.{AreFields, AreFieldsBefore, entry_site};
 ghost use Rattle.elf_linked.specs.Entries.{IsApplied};
 ghost use Rattle.elf_linked.specs.FieldTests.{IsRuleFault, NoneUnruled};

@@ -1,6 +1,6 @@
 //! Copies of the live sections with bits.
 ghost use Rattle.std.specs.Prelude.{◌≡◌, ◌<◌, IfOk, length, map as map_list};
-ghost use Rattle.elf_link.specs.Files.{object_at};
+ghost use Rattle.elf_link_files.specs.Files.{object_at};
 ghost use Rattle.elf_linked.specs.CopyView.{copies_view, copy_view};
 ghost use Rattle.elf_linked.specs.MapFacts.{IsSound};
 ghost use Rattle.elf_linked.specs.Patching.{AreAllCopies, AreCopies, IsCopy};

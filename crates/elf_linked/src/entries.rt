@@ -1,8 +1,8 @@
 //! The relocation entries of the files, by their sites (gABI chapter 4, Relocation).
 ghost use Rattle.std.specs.Prelude.{◌≡◌, ◌↔◌, ◌<◌, ◌≤◌, IsTrue, length};
-ghost use Rattle.elf_link.specs.Files.{object_at};
-ghost use Rattle.elf_link.specs.Live.{Live};
-ghost use Rattle.elf_link.specs.Discarded.{Discarded};
+ghost use Rattle.elf_link_files.specs.Files.{object_at};
+ghost use Rattle.elf_link_files.specs.Live.{Live};
+ghost use Rattle.elf_link_files.specs.Discarded.{Discarded};
 ghost use Rattle.elf_linked.specs.Entries.{IsEntrySite, body_at, entry_at, is_rela as is_rela_of, target_at, target_of as target_of_body};
 ghost use Rattle.elf_linked.specs.Fields.{content_in, content_of as content_of_body};
 ghost use Rattle.elf_linked.specs.MapFacts.{IsSound};

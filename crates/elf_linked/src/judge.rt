@@ -1,6 +1,6 @@
 //! Rules 12 to 16 of the link, in their order.
 ghost use Rattle.std.specs.Prelude.{◌≡◌, IfErr, IfOk, None, OnOk};
-ghost use Rattle.elf_link.specs.Rows.{FirstIn, Nowhere};
+ghost use Rattle.elf_link_files.specs.Rows.{FirstIn, Nowhere};
 ghost use Rattle.elf_linked.specs.Collecting.{AreFields};
 ghost use Rattle.elf_linked.specs.FieldTests.{Breaks, HasNone, IsTestFault, test_row};
 ghost use Rattle.elf_linked.specs.Judged.{AreJudged, IsOverlapFault};

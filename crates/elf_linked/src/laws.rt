@@ -1,7 +1,7 @@
 //! What the layers above may know of relocated bytes.
 ghost use Rattle.std.specs.Prelude.{◌≡◌, ℕ, List, None};
+ghost use Rattle.elf_link_files.specs.Rows.{FirstIn};
 ghost use Rattle.elf_link.specs.LinkMap.{LinkMapValue};
-ghost use Rattle.elf_link.specs.Rows.{FirstIn};
 ghost use Rattle.elf_linked.specs.MapFacts.{IsMapOfSome};
 ghost use Rattle.elf_linked.specs.Memory.{IsMemory};
 ghost use Rattle.elf_linked.specs.RelocationRules.{relocation_rules};

@@ -1,6 +1,6 @@
 //! The first field that shares a byte with one before it.
 ghost use Rattle.std.specs.Prelude.{◌≡◌, ◌↔◌, ◌+◌, ◌<◌, ◌≤◌, [], IfOk, IsTrue, MatchOption, get_or, length};
-ghost use Rattle.elf_link.specs.Files.{object_at};
+ghost use Rattle.elf_link_files.specs.Files.{object_at};
 ghost use Rattle.elf_linked.specs.Collecting.{AreFields};
 ghost use Rattle.elf_linked.specs.Grid.{item};
 ghost use Rattle.elf_linked.specs.LinkingFacts.{files_of, rules_of};

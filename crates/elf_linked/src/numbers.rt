@@ -1,6 +1,6 @@
 //! The numbers of fields (gABI chapter 4, Relocation).
 ghost use Rattle.std.specs.Prelude.{◌≡◌, ◌↔◌, ◌^◌, ◌<◌, IfSome, IsTrue, pos, neg_ℤ, ◌<ℤ◌, ◌≤ℤ◌, length};
-ghost use Rattle.elf_link.specs.Files.{object_at};
+ghost use Rattle.elf_link_files.specs.Files.{object_at};
 ghost use Rattle.elf_linked.specs.Fields.{IsWithin, content_at};
 ghost use Rattle.elf_linked.specs.LinkingFacts.{IsFieldOf, IsReady, files_of, map_of};
 ghost use Rattle.elf_linked.specs.Numbers.{addend_of as addend_at, field_address as field_address_of, number_at};

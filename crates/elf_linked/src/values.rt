@@ -1,6 +1,6 @@
 //! The values of symbols at the addresses of a link map (gABI chapter 4, Symbol Table: `st_value`).
 ghost use Rattle.std.specs.Prelude.{◌≡◌, ◌+◌, ◌<◌, IfOk, length, map as map_list};
-ghost use Rattle.elf_link.specs.Files.{object_at};
+ghost use Rattle.elf_link_files.specs.Files.{object_at};
 ghost use Rattle.elf_object.specs.declared.symbol.Place.TheVariants.{In as InSection};
 ghost use Rattle.elf_linked.specs.SymbolValues.{AreRow, AreRows};
 ghost use Rattle.elf_linked.specs.Values.{IsSmall, binding_value as binding_value_of, definition_value as definition_value_of, name_value as name_value_of, place_value as place_value_of, symbol_value as symbol_value_of};

@@ -2,10 +2,10 @@
 use Rattle.std.specs.Prelude.{◌≡◌, ◌⊎◌, ℕ, List, ◌++◌, None, Option, Some, Result, Ok, Err}
 use Rattle.std.specs.Io.KnownBytes.{Keeps}
 use Rattle.elf_object.specs.Object.{ObjectValue}
-use Rattle.elf_link.specs.declared.options.Options.{Options}
+use Rattle.elf_link_files.specs.declared.options.Options.{Options}
+use Rattle.elf_link_files.specs.Rows.{FirstIn}
 use Rattle.elf_link.specs.LinkFaults.{FirstOfLink}
 use Rattle.elf_link.specs.LinkMap.{IsLinkMap, LinkMapValue}
-use Rattle.elf_link.specs.Rows.{FirstIn}
 use Rattle.elf_linked.specs.Linked.{IsLinked, LinkedValue}
 use Rattle.elf_linked.specs.RelocationRules.{relocation_rules}
 use Rattle.elf_relocation.specs.declared.rule.RelocRule.{RelocRule}

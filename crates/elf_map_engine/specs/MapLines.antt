@@ -3,13 +3,14 @@ use Rattle.std.specs.Prelude.{ℕ, Bool, true, false, Option, None, Some, List, 
 use Rattle.std.specs.Fmt.{decimal}
 use Rattle.std.specs.List.{flat_map, range_with_len}
 use Rattle.elf_object.specs.Object.{ObjectValue}
+use Rattle.elf_link_files.specs.Discarded.{mark}
+use Rattle.elf_link_files.specs.Files.{object_at}
+use Rattle.elf_link_outputs.specs.declared.output.Member.{Member}
+use Rattle.elf_link_outputs.specs.Placed.{CommonValue, OutputValue, cell}
 use Rattle.elf_link.specs.declared.bindings.Binding.{Binding}
 use Rattle.elf_link.specs.declared.bindings.Binding.TheVariants.{Strong, Common, Weak, Zero}
-use Rattle.elf_link.specs.declared.link_map.Member.{Member}
-use Rattle.elf_link.specs.Discarded.{mark}
 use Rattle.elf_link.specs.Apart.{size_in}
-use Rattle.elf_link.specs.Files.{object_at}
-use Rattle.elf_link.specs.LinkMap.{CommonValue, LinkMapValue, OutputValue, cell}
+use Rattle.elf_link.specs.LinkMap.{LinkMapValue}
 use Rattle.elf_linked.specs.Linked.{LinkedValue, bytes_at}
 use Rattle.elf_linked.specs.Values.{binding_value}
 use Rattle.hex.specs.Hex.{encode_lower}

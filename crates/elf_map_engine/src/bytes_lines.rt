@@ -74,7 +74,7 @@ struct OutputBytes<'l, 'm, 'a> {
 impl<'l, 'm, 'a> Pieces for OutputBytes<'l, 'm, 'a> {
     ghost use Rattle.std.specs.Prelude.{get_or, length};
     ghost use Rattle.elf_map_engine.specs.MapLines.{output_bytes};
-    ghost use Rattle.elf_link.specs.LinkMap.{no_output};
+    ghost use Rattle.elf_link_outputs.specs.Placed.{no_output};
 
     ghost count = { λ pieces. length pieces.linked.now.map.outputs };
 

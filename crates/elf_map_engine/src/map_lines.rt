@@ -2,7 +2,7 @@
 ghost use Rattle.std.specs.Prelude.{◌≡◌, ◌++◌, ◌∷◌, OnOk};
 ghost use Rattle.elf_stream.specs.Line.{blank};
 ghost use Rattle.elf_map_engine.specs.MapLines.{binding_text, bits_text, common_line, discarded_line, file_refused_line, link_refused_line, member_line, name_line, output_line, value_text};
-ghost use Rattle.elf_link.specs.LinkMapView.{common_value, output_value};
+ghost use Rattle.elf_link_outputs.specs.PlacedView.{common_value, output_value};
 
 use elf_link::{Binding, Common, Member, Named, Output};
 use elf_stream::line::{

@@ -84,7 +84,7 @@ struct OutputLines<'l, 'a> {
 impl<'l, 'a> Lines for OutputLines<'l, 'a> {
     ghost use Rattle.std.specs.Prelude.{get_or, length};
     ghost use Rattle.elf_map_engine.specs.MapLines.{output_text};
-    ghost use Rattle.elf_link.specs.LinkMap.{no_output};
+    ghost use Rattle.elf_link_outputs.specs.Placed.{no_output};
 
     ghost count = { λ lines. length lines.link.now.outputs };
 
@@ -170,7 +170,7 @@ struct CommonLines<'l, 'a> {
 impl<'l, 'a> Lines for CommonLines<'l, 'a> {
     ghost use Rattle.std.specs.Prelude.{length};
     ghost use Rattle.elf_map_engine.specs.MapLines.{common_line};
-    ghost use Rattle.elf_link.specs.LinkMap.{common_at};
+    ghost use Rattle.elf_link_outputs.specs.Placed.{common_at};
 
     ghost count = { λ lines. length lines.link.now.commons };
 

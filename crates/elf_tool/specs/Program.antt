@@ -7,7 +7,7 @@ use Rattle.elf_check.specs.Ending.{EndsFile, EndsWords, ending_of}
 use Rattle.elf_map_engine.specs.Map.{IsMapped}
 use Rattle.elf_engine.specs.Rewrite.{IsRewritten}
 use Rattle.elf_engine.specs.Show.{IsShown}
-use Rattle.elf_link.specs.declared.options.Options.{Options}
+use Rattle.elf_link_files.specs.declared.options.Options.{Options}
 use Rattle.elf_relocation.specs.declared.rule.RelocRule.{RelocRule}
 use Rattle.elf_tool.specs.Opener.{AreOpened, IsUnopened}
 use Rattle.elf_tool.specs.Rules.{GivesNoRules, GivesRules}

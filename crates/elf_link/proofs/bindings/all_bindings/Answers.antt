@@ -1,12 +1,14 @@
 use Rattle.std.proofs.Common.{ℕ, List, length, map, sym, subst}
 use Rattle.std.proofs.lemmas.List.{length-map}
-use Rattle.elf_link.specs.declared.name_table.Known.{Known}
+use Rattle.elf_link_names.specs.declared.name_table.Known.{Known}
+use Rattle.elf_link_names.specs.NameTable.{AreWhole, first_site}
+use Rattle.elf_link_names.specs.Naming.{position_by}
+use Rattle.elf_link_names.proofs.Public.{whole_all, whole_firsts, whole_places}
+use Rattle.elf_link_outputs.specs.PlacedView.{common_value}
 use Rattle.elf_link.specs.LinkMap.{AreBindings, AreNames}
-use Rattle.elf_link.specs.LinkMapView.{common_value, named_value}
-use Rattle.elf_link.specs.NameTable.{AreWhole, first_site}
-use Rattle.elf_link.specs.Naming.{AreNamedAt, position_by}
+use Rattle.elf_link.specs.LinkMapView.{named_value}
+use Rattle.elf_link.specs.Naming.{AreNamedAt}
 use Rattle.elf_link.proofs.Naming.{bindings_are, names_are, positions_are}
-use Rattle.elf_link.proofs.Tabled.{whole_all, whole_firsts, whole_places}
 use Rattle.elf_link.proofs.bindings.all_bindings.Goals as goal
 
 pub names_of-requires-clause-known : goal.names_of-requires-clause-known

@@ -1,4 +1,4 @@
-use Rattle.elf_link.proofs.BoundNames.{address_at}
+use Rattle.elf_link.proofs.PlacedCommons.{address_at}
 use Rattle.elf_link.proofs.bindings.common_binding.Goals as goal
 
 pub returns-in-Some : goal.returns-in-Some

@@ -1,9 +1,9 @@
 use Rattle.std.proofs.Common.{◌≡◌, ℕ, map, rules, sym, subst}
 use Rattle.std.specs.Prelude.{Option, MatchOption}
+use Rattle.elf_link_files.proofs.Public.{match_map}
+use Rattle.elf_link_names.specs.Naming.{position_by}
+use Rattle.elf_link_outputs.specs.PlacedView.{common_value}
 use Rattle.elf_link.specs.LinkMap.{IsNamed}
-use Rattle.elf_link.specs.LinkMapView.{common_value}
-use Rattle.elf_link.specs.Naming.{position_by}
-use Rattle.elf_link.proofs.Naming.{match_map}
 use Rattle.elf_link.proofs.bindings.common_named.Goals as goal
 
 pub returns : goal.returns

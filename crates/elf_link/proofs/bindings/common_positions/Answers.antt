@@ -1,6 +1,6 @@
 use Rattle.std.proofs.Common.{map, refl}
-use Rattle.elf_link.specs.LinkMapView.{common_value}
-use Rattle.elf_link.proofs.BoundNames.{named_at}
+use Rattle.elf_link_outputs.specs.PlacedView.{common_value}
+use Rattle.elf_link.proofs.PlacedCommons.{named_at}
 use Rattle.elf_link.proofs.Naming.{commons_more}
 use Rattle.elf_link.proofs.bindings.common_positions.Goals as goal
 

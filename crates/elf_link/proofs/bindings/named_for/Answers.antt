@@ -1,9 +1,9 @@
 use Rattle.std.proofs.Common.{ap, subst}
 use Rattle.elf_object.specs.Object.{SymbolValue}
-use Rattle.elf_link.specs.Binds.{IsUnbound}
-use Rattle.elf_link.specs.NameTable.{first_site}
-use Rattle.elf_link.specs.Plan.{name_at}
-use Rattle.elf_link.proofs.Naming.{entry_there}
+use Rattle.elf_link_files.specs.Listing.{name_at}
+use Rattle.elf_link_names.specs.Binds.{IsUnbound}
+use Rattle.elf_link_names.specs.NameTable.{first_site}
+use Rattle.elf_link_names.proofs.Public.{entry_there}
 use Rattle.elf_link.proofs.bindings.named_for.Goals as goal
 
 pub unreachable-requires : goal.unreachable-requires

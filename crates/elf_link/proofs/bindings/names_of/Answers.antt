@@ -1,15 +1,16 @@
 use Rattle.std.proofs.Common.{map, ap, sym, ◌∙◌, subst}
 use Rattle.std.proofs.lemmas.List.{map-append}
-use Rattle.elf_link.specs.declared.name_table.Known.{Known}
-use Rattle.elf_link.specs.declared.site.Site.{Site}
+use Rattle.elf_link_files.specs.declared.site.Site.{Site}
+use Rattle.elf_link_files.specs.Listing.{site_at, name_at}
+use Rattle.elf_link_files.proofs.Public.{each_more}
+use Rattle.elf_link_names.specs.declared.name_table.Known.{Known}
+use Rattle.elf_link_names.specs.Listing.{first_entries}
+use Rattle.elf_link_names.specs.NameTable.{IsWhole, first_site}
+use Rattle.elf_link_names.proofs.Public.{site_known}
+use Rattle.elf_link_outputs.specs.PlacedView.{common_value}
 use Rattle.elf_link.specs.LinkMap.{no_name}
-use Rattle.elf_link.specs.LinkMapView.{common_value, named_value}
-use Rattle.elf_link.specs.Listing.{first_entries, site_at}
-use Rattle.elf_link.specs.NameTable.{IsWhole, first_site}
+use Rattle.elf_link.specs.LinkMapView.{named_value}
 use Rattle.elf_link.specs.Naming.{IsNamedAt}
-use Rattle.elf_link.specs.Plan.{name_at}
-use Rattle.elf_link.proofs.Plans.{each_more}
-use Rattle.elf_link.proofs.Tabled.{site_known}
 use Rattle.elf_link.proofs.bindings.names_of.Goals as goal
 
 pub named_for-requires-clause-site : goal.named_for-requires-clause-site

@@ -1,6 +1,7 @@
 use Rattle.std.proofs.Common.{map}
-use Rattle.elf_link.specs.LinkMapView.{common_value, named_value}
-use Rattle.elf_link.specs.NameTable.{first_site}
+use Rattle.elf_link_names.specs.NameTable.{first_site}
+use Rattle.elf_link_outputs.specs.PlacedView.{common_value}
+use Rattle.elf_link.specs.LinkMapView.{named_value}
 use Rattle.elf_link.specs.Naming.{AreNamedAt}
 use Rattle.elf_link.proofs.bindings.names_of.Given as goal
 

@@ -1,4 +1,4 @@
-use Rattle.elf_link.proofs.Naming.{position_updates}
+use Rattle.elf_link_names.proofs.Public.{position_updates}
 use Rattle.elf_link.proofs.bindings.note_position.Goals as goal
 
 pub returns : goal.returns

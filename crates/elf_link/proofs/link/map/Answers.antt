@@ -1,9 +1,9 @@
 use Rattle.std.proofs.Common.{List, sym, subst}
-use Rattle.elf_link.specs.declared.commons.Chosen.{Chosen}
-use Rattle.elf_link.specs.declared.site.Site.{Site}
-use Rattle.elf_link.specs.Listing.{Lists}
-use Rattle.elf_link.specs.Outputs.{live}
-use Rattle.elf_link.specs.Planning.{HaveChosen}
+use Rattle.elf_link_files.specs.declared.chosen.Chosen.{Chosen}
+use Rattle.elf_link_files.specs.declared.site.Site.{Site}
+use Rattle.elf_link_files.specs.Listing.{Lists}
+use Rattle.elf_link_names.specs.ChosenCommons.{HaveChosen}
+use Rattle.elf_link_outputs.specs.Outputs.{live}
 use Rattle.elf_link.proofs.link.map.Goals as goal
 
 pub outputs_of-requires : goal.outputs_of-requires

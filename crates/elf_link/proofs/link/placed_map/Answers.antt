@@ -2,20 +2,21 @@ use Rattle.std.proofs.Common.{◌≡◌, ℕ, ◌+◌, List, length, map, IfErr,
 use Rattle.std.specs.Prelude.{None}
 use Rattle.std.proofs.lemmas.List.{length-map}
 use Rattle.elf_extent.specs.Place.{EndsFit, Least}
-use Rattle.elf_link.specs.declared.link_map.Common.{Common}
-use Rattle.elf_link.specs.declared.site.Site.{Site}
-use Rattle.elf_link.specs.AddressFault.{IsAddressFault}
-use Rattle.elf_link.specs.Addresses.{HasValue, IsTarget, IsTargetBelow, address_rules}
+use Rattle.elf_link_files.specs.declared.site.Site.{Site}
+use Rattle.elf_link_files.specs.Rows.{FirstIn}
+use Rattle.elf_link_names.proofs.Public.{all_bound}
+use Rattle.elf_link_outputs.specs.declared.common.Common.{Common}
+use Rattle.elf_link_outputs.specs.AddressFault.{IsAddressFault}
+use Rattle.elf_link_outputs.specs.Addresses.{HasValue, IsTarget, IsTargetBelow, address_rules}
+use Rattle.elf_link_outputs.specs.Placed.{AreAddresses, ArePlacedCommons, ArePlacedOutputs}
+use Rattle.elf_link_outputs.specs.PlacedView.{common_value, output_value}
+use Rattle.elf_link_outputs.specs.Plan.{parts_of}
+use Rattle.elf_link_outputs.proofs.Public.{parts_long}
 use Rattle.elf_link.specs.Entry.{IsEntryTarget}
 use Rattle.elf_link.specs.LinkFaults.{IsLinkFault}
-use Rattle.elf_link.specs.LinkMap.{AreAddresses, AreBindings, ArePlacedCommons, ArePlacedOutputs}
-use Rattle.elf_link.specs.LinkMapView.{common_value, output_value}
-use Rattle.elf_link.specs.Plan.{parts_of}
-use Rattle.elf_link.specs.Planning.{HaveCommons}
-use Rattle.elf_link.specs.Rows.{FirstIn}
-use Rattle.elf_link.proofs.BoundNames.{all_bound}
-use Rattle.elf_link.proofs.ChosenCommons.{have_commons}
-use Rattle.elf_link.proofs.Placings.{parts_long}
+use Rattle.elf_link.specs.LinkMap.{AreBindings}
+use Rattle.elf_link.specs.Naming.{HaveCommons}
+use Rattle.elf_link.proofs.PlacedCommons.{have_commons}
 use Rattle.elf_link.proofs.Maps.{fault_of, if_err_map, is_placed, link_plan, places_cover, target_below}
 use Rattle.elf_link.proofs.link.placed_map.Goals as goal
 

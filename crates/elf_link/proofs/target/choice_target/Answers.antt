@@ -1,6 +1,6 @@
 use Rattle.std.proofs.Common.{subst}
-use Rattle.elf_link.specs.declared.choice.Choice.{Choice}
-use Rattle.elf_link.specs.Binds.{Binds}
+use Rattle.elf_link_names.specs.declared.choice.Choice.{Choice}
+use Rattle.elf_link_names.specs.Binds.{Binds}
 use Rattle.elf_link.proofs.target.choice_target.Goals as goal
 
 pub common_target-requires-clause-named : goal.common_target-requires-clause-named

@@ -1,5 +1,5 @@
 use Rattle.std.proofs.Common.{ℕ, ◌<◌}
-use Rattle.elf_link.specs.Entry.{IsCommonOf}
+use Rattle.elf_link_names.specs.ChosenCommons.{IsCommonOf}
 use Rattle.elf_link.proofs.target.common_of.Given as goal
 
 abbrev pub invariant-loop-k : goal.invariant-loop-k

@@ -1,7 +1,7 @@
 use Rattle.std.proofs.Common.{◌≡◌, ℕ, ◌+◌, ◌<◌, length, ap, subst, arith}
 use Rattle.elf_object.specs.Object.{ObjectValue}
-use Rattle.elf_link.specs.Files.{object_at}
-use Rattle.elf_link.proofs.Public.{object_is}
+use Rattle.elf_link_files.specs.Files.{object_at}
+use Rattle.elf_link_files.proofs.Public.{object_is}
 use Rattle.elf_linked.specs.Collecting.{AreFieldsBefore, entry_site}
 use Rattle.elf_linked.proofs.Collected.{fields_same}
 use Rattle.elf_linked.proofs.Sites.{in_file, next_file}

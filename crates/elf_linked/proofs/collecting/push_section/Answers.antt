@@ -2,7 +2,7 @@ use Rattle.std.proofs.Common.{◌≡◌, ap, false, length, sym, true, ◌∙◌
 use Rattle.elf_object.specs.declared.section.Body.{Body}
 use Rattle.elf_object.specs.Object.{BodyValue, SectionValue, relocs}
 use Rattle.elf_object.specs.ObjectView.{body_value}
-use Rattle.elf_link.specs.Files.{object_at, section_in}
+use Rattle.elf_link_files.specs.Files.{object_at, section_in}
 use Rattle.elf_linked.specs.Entries.{entries_of}
 use Rattle.elf_linked.proofs.Bodies.{no_relocations, not_applied, section_done}
 use Rattle.elf_linked.proofs.ObjectFacts.{target_there}

@@ -1,6 +1,6 @@
 use Rattle.std.proofs.Common.{None, map}
 use Rattle.std.proofs.lemmas.List.{map_push}
-use Rattle.elf_link.proofs.Public.{each_more}
+use Rattle.elf_link_files.proofs.Public.{each_more}
 use Rattle.elf_linked.specs.CopyView.{copy_view}
 use Rattle.elf_linked.proofs.copies.file_copies.Goals as goal
 

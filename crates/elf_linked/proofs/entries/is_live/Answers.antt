@@ -3,9 +3,10 @@ use Rattle.std.specs.Bool.{IsTrue}
 use Rattle.std.specs.Option.{is_some}
 use Rattle.std.specs.Prelude.{Bool, Option, None, Some}
 use Rattle.elf_object.specs.Object.{ObjectValue}
+use Rattle.elf_link_files.specs.Live.{Live}
+use Rattle.elf_link_outputs.specs.Placed.{cell}
 use Rattle.elf_link.specs.Apart.{StandApart}
-use Rattle.elf_link.specs.LinkMap.{LinkMapValue, cell}
-use Rattle.elf_link.specs.Live.{Live}
+use Rattle.elf_link.specs.LinkMap.{LinkMapValue}
 use Rattle.elf_linked.proofs.Memories.{live_in}
 use Rattle.elf_linked.proofs.entries.is_live.Goals as goal
 

@@ -1,4 +1,4 @@
-use Rattle.elf_link.specs.Files.{object_at}
+use Rattle.elf_link_files.specs.Files.{object_at}
 use Rattle.elf_linked.specs.LinkingFacts.{files_of}
 use Rattle.elf_linked.proofs.ObjectFacts.{symbol_there}
 use Rattle.elf_linked.proofs.numbers.value_of.Goals as goal

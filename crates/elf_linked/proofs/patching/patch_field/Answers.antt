@@ -3,8 +3,8 @@ use Rattle.std.specs.Int.{w128}
 use Rattle.std.proofs.Math.Facts.{to_z-of_z}
 use Rattle.std.proofs.lemmas.List.{length-map}
 use Rattle.elf_object.specs.Object.{ObjectValue}
-use Rattle.elf_link.specs.Files.{object_at}
-use Rattle.elf_link.proofs.Public.{object_is}
+use Rattle.elf_link_files.specs.Files.{object_at}
+use Rattle.elf_link_files.proofs.Public.{object_is}
 use Rattle.elf_linked.specs.CopyView.{copies_view}
 use Rattle.elf_linked.specs.LinkingFacts.{files_of, map_of, rules_of}
 use Rattle.elf_linked.specs.Collecting.{field_at}

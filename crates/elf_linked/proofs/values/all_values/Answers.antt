@@ -1,6 +1,6 @@
 use Rattle.std.proofs.Common.{[], map}
 use Rattle.std.proofs.lemmas.List.{map-append}
-use Rattle.elf_link.proofs.Public.{each_more}
+use Rattle.elf_link_files.proofs.Public.{each_more}
 use Rattle.elf_linked.proofs.values.all_values.Goals as goal
 
 pub loop-file-preserved : goal.loop-file-preserved

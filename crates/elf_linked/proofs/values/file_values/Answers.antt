@@ -1,5 +1,5 @@
 use Rattle.std.proofs.Common.{None}
-use Rattle.elf_link.proofs.Public.{each_more}
+use Rattle.elf_link_files.proofs.Public.{each_more}
 use Rattle.elf_linked.proofs.values.file_values.Goals as goal
 
 pub loop-index-preserved : goal.loop-index-preserved

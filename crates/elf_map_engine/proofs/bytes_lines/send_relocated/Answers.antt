@@ -1,5 +1,5 @@
 use Rattle.std.proofs.Common.{List, ℕ, subst}
-use Rattle.elf_link.specs.LinkMap.{no_output}
+use Rattle.elf_link_outputs.specs.Placed.{no_output}
 use Rattle.elf_map_engine.specs.MapLines.{bytes_lines, output_bytes}
 use Rattle.elf_stream.specs.Sending.{Sends}
 use Rattle.elf_map_engine.proofs.Items.{by_position}

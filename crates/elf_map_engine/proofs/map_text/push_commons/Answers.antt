@@ -1,6 +1,6 @@
 use Rattle.std.proofs.Common.{◌≡◌, ◌++◌, List, ℕ, subst}
 use Rattle.std.specs.Prelude.{OnOk}
-use Rattle.elf_link.specs.LinkMap.{no_placed}
+use Rattle.elf_link_outputs.specs.Placed.{no_placed}
 use Rattle.elf_map_engine.specs.MapLines.{common_line, common_lines}
 use Rattle.elf_map_engine.proofs.Items.{by_position}
 use Rattle.elf_map_engine.proofs.map_text.push_commons.Goals as goal

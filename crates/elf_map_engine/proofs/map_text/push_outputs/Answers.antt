@@ -1,6 +1,6 @@
 use Rattle.std.proofs.Common.{◌≡◌, ◌++◌, List, ℕ, subst}
 use Rattle.std.specs.Prelude.{OnOk}
-use Rattle.elf_link.specs.LinkMap.{no_output}
+use Rattle.elf_link_outputs.specs.Placed.{no_output}
 use Rattle.elf_map_engine.specs.MapLines.{output_lines, output_text}
 use Rattle.elf_map_engine.proofs.Items.{by_position}
 use Rattle.elf_map_engine.proofs.map_text.push_outputs.Goals as goal

@@ -1,8 +1,8 @@
 use Rattle.std.proofs.Common.{◌≡◌, length, map, rules, arith}
 use Rattle.std.specs.Prelude.{Some, vec_len}
 use Rattle.std.proofs.lemmas.List.{length-map}
+use Rattle.elf_link_names.specs.Naming.{position_by}
 use Rattle.elf_link.specs.LinkMapView.{named_value}
-use Rattle.elf_link.specs.Naming.{position_by}
 use Rattle.elf_link.proofs.Naming.{position_found}
 use Rattle.elf_link.proofs.names.Names.binding.Goals as goal
 

@@ -1,5 +1,0 @@
-use Rattle.elf_link.specs.Addresses.{IsCursor}
-use Rattle.elf_link.proofs.addresses.start_of.Given as goal
-
-abbrev pub invariant-loop-i : goal.invariant-loop-i
-invariant-loop-i l = IsCursor l.parts l.from l.i l.cursor

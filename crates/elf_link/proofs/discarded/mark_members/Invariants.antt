@@ -1,5 +1,0 @@
-use Rattle.elf_link.specs.Marking.{AreMarked}
-use Rattle.elf_link.proofs.discarded.mark_members.Given as goal
-
-abbrev pub invariant-loop-member : goal.invariant-loop-member
-invariant-loop-member l = AreMarked l.fn.marks.items l.member-items l.member-index l.marks.items

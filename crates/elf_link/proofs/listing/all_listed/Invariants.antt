@@ -1,5 +1,0 @@
-use Rattle.elf_link.specs.Listing.{Lists, UpTo, listed_row}
-use Rattle.elf_link.proofs.listing.all_listed.Given as goal
-
-abbrev pub invariant-loop-file : goal.invariant-loop-file
-invariant-loop-file l = Lists (UpTo (listed_row l.objects l.what) l.file 0) l.sites.items

@@ -1,6 +1,0 @@
-use Rattle.std.proofs.Common.{◌≡◌, map, take}
-use Rattle.elf_link.specs.LinkMap.{member_of}
-use Rattle.elf_link.proofs.placing.members_of.Given as goal
-
-abbrev pub invariant-loop-k : goal.invariant-loop-k
-invariant-loop-k l = l.members.items ≡ map member_of (take l.k l.sites)

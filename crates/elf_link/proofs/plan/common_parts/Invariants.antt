@@ -1,6 +1,0 @@
-use Rattle.std.proofs.Common.{◌≡◌, map, take}
-use Rattle.elf_link.specs.Plan.{common_part}
-use Rattle.elf_link.proofs.plan.common_parts.Given as goal
-
-abbrev pub invariant-loop-common : goal.invariant-loop-common
-invariant-loop-common l = l.parts.items ≡ map common_part (take l.common-index l.commons)

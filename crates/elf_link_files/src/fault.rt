@@ -1,0 +1,45 @@
+//! Why objects can't be linked.
+ghost use Rattle.std.specs.Prelude.{◌≡◌};
+
+use crate::site::Broken;
+use std::alloc::AllocError;
+
+/// The first of the link's rules ([`rules`](crate::rules)) that stands, or want of memory.
+#[derive(Clone, Copy, Debug, PartialEq, Eq)]
+pub enum LinkFault {
+    /// The rule of this number stands, and no lower one: at this file, this section or symbol of it, and this entry of a
+    /// relocation section; no earlier ones. What the rule does not look at is 0.
+    Rule {
+        rule: u16,
+        file: usize,
+        index: usize,
+        entry: usize,
+    },
+    /// A growth was refused.
+    OutOfMemory,
+}
+
+impl From<AllocError> for LinkFault {
+    ghost use Rattle.elf_link_files.specs.declared.fault.LinkFault.TheVariants.{OutOfMemory};
+
+    ghost from_gives = { λ _ fault. fault ≡ OutOfMemory };
+
+    fn from(_refused: AllocError) -> LinkFault {
+        LinkFault::OutOfMemory
+    }
+}
+
+impl From<Broken> for LinkFault {
+    ghost use Rattle.elf_link_files.specs.declared.fault.LinkFault.TheVariants.{Rule};
+
+    ghost from_gives = { λ broken fault. fault ≡ Rule broken.rule broken.site.file broken.site.index broken.site.entry };
+
+    fn from(broken: Broken) -> LinkFault {
+        LinkFault::Rule {
+            rule: broken.rule,
+            file: broken.site.file,
+            index: broken.site.index,
+            entry: broken.site.entry,
+        }
+    }
+}

@@ -1,0 +1,47 @@
+//! The sections and symbols of the files, by position.
+ghost use Rattle.std.specs.Prelude.{◌≡◌, ◌<◌, length};
+ghost use Rattle.elf_link_files.specs.Files.{object_at, section_in, symbol_in};
+ghost use Rattle.elf_object.specs.ObjectRules.{IsObject};
+ghost use Rattle.elf_object.specs.ObjectView.{section_value, symbol_value};
+
+use elf_object::{Object, Section, Symbol};
+
+/// Promises that a file breaks none of the object rules. It does nothing.
+pub fn keeps_rules(objects: &[Object<'_>], file: usize)
+    requires { file < length objects.now }
+    ensures { IsObject (object_at objects.now file) }
+{
+    objects[file].keeps_rules();
+}
+
+/// How many sections a file has.
+pub fn section_count(object: &Object<'_>) -> usize
+    ensures { result ≡ length object.now.sections }
+{
+    object.sections().len()
+}
+
+/// How many symbols a file has.
+pub fn symbol_count(object: &Object<'_>) -> usize
+    ensures { result ≡ length object.now.symbols }
+{
+    object.symbols().len()
+}
+
+/// The section at position `index` of a file. There has to be one.
+pub fn section_of<'o, 'a>(objects: &'o [Object<'a>], file: usize, index: usize) -> &'o Section<'a>
+    requires file { file < length objects.now }
+    requires index { index < length (object_at objects.now file).sections }
+    ensures { section_value result.now ≡ section_in objects.now file index }
+{
+    &objects[file].sections()[index]
+}
+
+/// The symbol at position `index` of a file. There has to be one.
+pub fn symbol_of<'a>(objects: &[Object<'a>], file: usize, index: usize) -> Symbol<'a>
+    requires file { file < length objects.now }
+    requires index { index < length (object_at objects.now file).symbols }
+    ensures { symbol_value result ≡ symbol_in objects.now file index }
+{
+    objects[file].symbols()[index]
+}

@@ -1,0 +1,128 @@
+//! What a symbol is to the link (gABI chapter 4, Symbol Table).
+ghost use Rattle.std.specs.Prelude.{◌≡◌, ◌↔◌, ◌<◌, IsTrue, length, map};
+ghost use Rattle.elf_link_files.specs.Discarded.{AreMarks};
+ghost use Rattle.elf_link_files.specs.FileRules.{IsBadCommon, IsBadSymbol, IsNoPower};
+ghost use Rattle.elf_link_files.specs.Files.{object_at, symbol_in};
+ghost use Rattle.elf_link_files.specs.Symbols.{IsCommon, IsDefinedAt, IsDefinition, IsEntry, IsNotWeak, binding as binding_of, is_common as is_common_of, symbol_type as symbol_type_of};
+ghost use Rattle.elf_object.specs.ObjectView.{symbol_value};
+ghost use Rattle.elf_link_files.specs.Symbols.{IsPlaceIn};
+
+use crate::files::{keeps_rules, symbol_of};
+use crate::section_tests::is_discarded;
+use elf_field::abi::*;
+use elf_object::{Object, Place, Symbol};
+use elf_rules::is_wrong_alignment;
+
+/// A symbol's binding, `STB_GLOBAL` and the like.
+pub fn binding(symbol: &Symbol<'_>) -> u8
+    ensures { result ≡ binding_of (symbol_value symbol.now) }
+{
+    symbol.info / 16
+}
+
+/// A symbol's type, `STT_TLS` and the like.
+fn symbol_type(symbol: &Symbol<'_>) -> u8
+    ensures { result ≡ symbol_type_of (symbol_value symbol.now) }
+{
+    symbol.info % 16
+}
+
+/// Whether a place is a common block.
+fn is_common(place: Place) -> bool
+    ensures { result ≡ is_common_of place }
+{
+    matches!(place, Place::Common)
+}
+
+/// Whether a number is no power of two.
+pub fn is_no_power(number: u64) -> bool
+    ensures { IsTrue result ↔ IsNoPower number }
+{
+    number == 0 || is_wrong_alignment(number)
+}
+
+/// Rule 6: whether a symbol has a binding above weak, the type of thread-local storage, or no name though it is not local.
+pub(crate) fn is_bad_symbol(objects: &[Object<'_>], file: usize, index: usize) -> bool
+    requires file { file < length objects.now }
+    requires index { index < length (object_at objects.now file).symbols }
+    ensures { IsTrue result ↔ IsBadSymbol (symbol_in objects.now file index) }
+{
+    let symbol = symbol_of(objects, file, index);
+    let bound = binding(&symbol);
+    bound > STB_WEAK
+        || symbol_type(&symbol) == STT_TLS
+        || (bound != STB_LOCAL && symbol.name.is_empty())
+}
+
+/// Rule 7: whether a symbol is a common that is not global, or whose alignment is no power of two.
+pub(crate) fn is_bad_common(objects: &[Object<'_>], file: usize, index: usize) -> bool
+    requires file { file < length objects.now }
+    requires index { index < length (object_at objects.now file).symbols }
+    ensures { IsTrue result ↔ IsBadCommon (symbol_in objects.now file index) }
+{
+    let symbol = symbol_of(objects, file, index);
+    is_common(symbol.place) && (binding(&symbol) != STB_GLOBAL || is_no_power(symbol.value))
+}
+
+/// Whether a symbol has the name and is not local.
+pub(crate) fn is_entry(name: &[u8], objects: &[Object<'_>], file: usize, index: usize) -> bool
+    requires file { file < length objects.now }
+    requires index { index < length (object_at objects.now file).symbols }
+    ensures { IsTrue result ↔ IsEntry objects.now name.now file index }
+{
+    let symbol = symbol_of(objects, file, index);
+    binding(&symbol) != STB_LOCAL && symbol.name == name
+}
+
+/// Whether a symbol is a common of the name.
+pub fn is_common_entry(name: &[u8], objects: &[Object<'_>], file: usize, index: usize) -> bool
+    requires file { file < length objects.now }
+    requires index { index < length (object_at objects.now file).symbols }
+    ensures { IsTrue result ↔ IsCommon objects.now name.now file index }
+{
+    is_entry(name, objects, file, index) && is_common(symbol_of(objects, file, index).place)
+}
+
+/// Whether a symbol is an entry of the name that is not weak.
+pub fn is_not_weak(name: &[u8], objects: &[Object<'_>], file: usize, index: usize) -> bool
+    requires file { file < length objects.now }
+    requires index { index < length (object_at objects.now file).symbols }
+    ensures { IsTrue result ↔ IsNotWeak objects.now name.now file index }
+{
+    is_entry(name, objects, file, index) && binding(&symbol_of(objects, file, index)) != STB_WEAK
+}
+
+/// Whether a place is a definition: absolute, or in a section that is not discarded.
+fn is_defined_at(objects: &[Object<'_>], marks: &[Vec<bool>], file: usize, place: Place) -> bool
+    requires file { file < length objects.now }
+    requires place { IsPlaceIn (object_at objects.now file) place }
+    requires marks { AreMarks objects.now (map (λ row. row.items) marks.now) }
+    ensures { IsTrue result ↔ IsDefinedAt objects.now file place }
+{
+    match place {
+        Place::Undef | Place::Common => false,
+        Place::Abs => true,
+        Place::In(section) => !is_discarded(objects, marks, file, section),
+    }
+}
+
+/// Whether a symbol is a definition of the name, of this binding.
+pub fn is_definition(
+    bound: u8,
+    name: &[u8],
+    objects: &[Object<'_>],
+    marks: &[Vec<bool>],
+    file: usize,
+    index: usize,
+) -> bool
+    requires file { file < length objects.now }
+    requires index { index < length (object_at objects.now file).symbols }
+    requires marks { AreMarks objects.now (map (λ row. row.items) marks.now) }
+    ensures { IsTrue result ↔ IsDefinition bound objects.now name.now file index }
+{
+    keeps_rules(objects, file);
+    let symbol = symbol_of(objects, file, index);
+    symbol.name == name
+        && binding(&symbol) == bound
+        && is_defined_at(objects, marks, file, symbol.place)
+}

@@ -1,0 +1,8 @@
+-- `Public` is for the proofs of the crates above, the others are for those of this one.
+pub mod Bound
+pub mod ChosenCommons
+pub mod BoundNames
+pub mod Naming
+pub mod Tabled
+pub mod OneChoice
+pub mod Public

@@ -1,0 +1,102 @@
+-- A name has at most one choice, and objects one list of chosen commons.
+use Rattle.std.proofs.Common.{◌≡◌, ℕ, ◌<◌, List, length, inl, inr, refl, sym, ◌∙◌, ap, ap₂, subst, arith}
+use Rattle.std.proofs.lemmas.Bool.{cases_lt}
+use Rattle.elf_object.specs.Object.{ObjectValue}
+use Rattle.elf_link_files.specs.declared.chosen.Chosen.{Chosen}
+use Rattle.elf_link_files.specs.declared.site.Site.{Site}
+use Rattle.elf_link_files.specs.Listing.{Lists, site, site_at, name_at}
+use Rattle.elf_link_files.specs.Commons.{no_common}
+use Rattle.elf_link_files.specs.Rows.{IsFirstAt, Row}
+use Rattle.elf_link_files.proofs.Public.{site_is, one_first, one_list, once_of, one_each}
+use Rattle.elf_link_names.specs.declared.choice.Choice.{Choice}
+use Rattle.elf_link_names.specs.declared.choice.Choice.TheVariants.{Strong, Common, Weak, Zero}
+use Rattle.elf_link_names.specs.declared.listing.Listed.TheVariants.{ChosenCommons}
+use Rattle.elf_link_names.specs.Binds.{Binds, IsLargest, align_at, commons, size_at, strong, weak}
+use Rattle.elf_link_names.specs.ChosenCommons.{IsCommonOf, AreChosen, AreChosenAt, IsOfLargest}
+use Rattle.elf_link_names.specs.Listing.{listed_row}
+
+-- ---- the choice of a name
+
+one_largest : (row : Row) (measure : ℕ → ℕ → ℕ) (m n : ℕ) → IsLargest row measure m → IsLargest row measure n → m ≡ n
+one_largest row measure m n one other =
+    let (p, p_row, p_at) = one.attained in
+    let (q, q_row, q_at) = other.attained in
+    let below = other.above p p_row in
+    let above = one.above q q_row in
+    omega arith
+
+one_strong : (f s g t : ℕ) → site f s ≡ site g t → Strong f s ≡ Strong g t
+one_strong f s g t same = ap (λ (p : Site). Strong p.file p.index) same
+
+one_weak : (f s g t : ℕ) → site f s ≡ site g t → Weak f s ≡ Weak g t
+one_weak f s g t same = ap (λ (p : Site). Weak p.file p.index) same
+
+pub one_choice : (fs : List ObjectValue) (name : List ℕ) (c d : Choice) → Binds fs name c → Binds fs name d → c ≡ d
+one_choice fs name (Strong f s) (Strong g t) one other = one_strong f s g t (one_first (strong fs name) (site f s) (site g t) one other)
+one_choice fs name (Strong f s) (Common size align) one other = absurd (other.0 (site f s) one.stands)
+one_choice fs name (Strong f s) (Weak g t) one other = absurd (other.0 (site f s) one.stands)
+one_choice fs name (Strong f s) Zero one other = absurd (other.0 (site f s) one.stands)
+one_choice fs name (Common size align) (Strong g t) one other = absurd (one.0 (site g t) other.stands)
+one_choice fs name (Common size align) (Common width step) (none, largest, aligned) (never, other, besides) =
+    ap₂ (λ (m n : ℕ). Common m n) (one_largest (commons fs name) (size_at fs) size width largest other)
+    (one_largest (commons fs name) (align_at fs) align step aligned besides)
+one_choice fs name (Common size align) (Weak g t) (none, largest, aligned) (never, nothing, first) = absurd (nothing _ largest.attained.1)
+one_choice fs name (Common size align) Zero (none, largest, aligned) (never, nothing, empty, alone, entry) = absurd (nothing _ largest.attained.1)
+one_choice fs name (Weak f s) (Strong g t) one other = absurd (one.0 (site g t) other.stands)
+one_choice fs name (Weak f s) (Common size align) (none, nothing, first) (never, largest, aligned) = absurd (nothing _ largest.attained.1)
+one_choice fs name (Weak f s) (Weak g t) (none, nothing, first) (never, neither, other) =
+    one_weak f s g t (one_first (weak fs name) (site f s) (site g t) first other)
+one_choice fs name (Weak f s) Zero (none, nothing, first) (never, neither, empty, alone, entry) = absurd (empty (site f s) first.stands)
+one_choice fs name Zero (Strong g t) one other = absurd (one.0 (site g t) other.stands)
+one_choice fs name Zero (Common size align) (none, nothing, empty, alone, entry) (never, largest, aligned) = absurd (nothing _ largest.attained.1)
+one_choice fs name Zero (Weak g t) (none, nothing, empty, alone, entry) (never, neither, first) = absurd (empty (site g t) first.stands)
+one_choice fs name Zero Zero one other = refl
+
+-- ---- the commons
+
+same_chosen : (c d : Chosen) → c.site ≡ d.site → c.size ≡ d.size → c.align ≡ d.align → c ≡ d
+same_chosen c d place size align =
+    ap (λ (p : Site). record { site = p; size = c.size; align = c.align }) place ∙ ap (λ (n : ℕ). record { site = d.site; size = n; align = c.align }) size
+    ∙ ap (λ (n : ℕ). record { site = d.site; size = d.size; align = n }) align
+
+one_of_largest : (fs : List ObjectValue) (p : Site) (c d : Chosen) → (c.site ≡ p) × IsOfLargest fs c → (d.site ≡ p) × IsOfLargest fs d → c ≡ d
+one_of_largest fs p c d (here, (size, align)) (there, (width, step)) =
+    let place = here ∙ sym there in
+    let name = ap (name_at fs) (sym place) in
+    same_chosen c d place
+    (one_largest (commons fs (name_at fs c.site)) (size_at fs) c.size d.size size (subst (λ (n : List ℕ). IsLargest (commons fs n) (size_at fs) d.size) name width))
+    (one_largest (commons fs (name_at fs c.site)) (align_at fs) c.align d.align align (subst (λ (n : List ℕ). IsLargest (commons fs n) (align_at fs) d.align) name step))
+
+pub one_chosen : (fs : List ObjectValue) (cs ds : List Chosen) → AreChosen fs cs → AreChosen fs ds → cs ≡ ds
+one_chosen fs cs ds (ps, lists, one) (qs, others, other) =
+    let same = one_list (listed_row fs ChosenCommons) qs ps others lists in
+    one_each no_common (λ k c. (c.site ≡ site_at ps k) × IsOfLargest fs c) (length ps) cs ds (λ k c d lt. one_of_largest fs (site_at ps k) c d) one
+    (subst (λ (rs : List Site). AreChosenAt fs rs (length rs) ds) same other)
+
+-- the first common of the name
+first_common : (fs : List ObjectValue) (cs : List Chosen) (ps : List Site) (name : List ℕ) (k : ℕ) → Lists (listed_row fs ChosenCommons) ps →
+    AreChosenAt fs ps (length ps) cs → IsCommonOf fs cs name k → (k < length ps) × IsFirstAt (commons fs name) (site_at ps k)
+first_common fs cs ps name k lists are (lt, named) =
+    let within : k < length ps = (let count = are.count in omega arith) in
+    let (file, index, (is, first, none), entry) = lists.each k within in
+    let at = site_is (site_at ps k) (site_at ps k).file (site_at ps k).index refl refl entry in
+    let called = ap (name_at fs) (sym (are.each k within).0) ∙ named in (
+      within,
+      subst (λ (n : List ℕ). IsFirstAt (commons fs n) (site_at ps k)) called
+          (subst (λ (p : Site). IsFirstAt (commons fs (name_at fs (site_at ps k))) p) (sym at) first),
+    )
+
+-- a name has one chosen common
+pub one_common : (fs : List ObjectValue) (cs : List Chosen) (name : List ℕ) (j k : ℕ) → AreChosen fs cs → IsCommonOf fs cs name j → IsCommonOf fs cs name k → j ≡ k
+one_common fs cs name j k (ps, lists, are) one other =
+    let (j_in, first) = first_common fs cs ps name j lists are one in
+    let (k_in, second) = first_common fs cs ps name k lists are other in
+    let same = one_first (commons fs name) (site_at ps j) (site_at ps k) first second in
+    let once = once_of (listed_row fs ChosenCommons) ps lists in
+    elim (cases_lt j k) [
+      | inl below ↦ absurd (once j k below k_in same)
+      | inr not_below ↦ elim (cases_lt k j) [
+        | inl above ↦ absurd (once k j above j_in (sym same))
+        | inr not_above ↦ omega arith
+      ]
+    ]

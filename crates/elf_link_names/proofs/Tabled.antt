@@ -1,0 +1,501 @@
+-- What is known of each name, symbol by symbol and file by file.
+use Rattle.std.proofs.Common.{◌≡◌, ◌≢◌, ◌↔◌, ℕ, ◌+◌, ◌<◌, ◌≤◌, ◌⊎◌, Bool, true, false, List, [], ◌∷◌, ◌++◌, length, map, set, inl, inr, refl, sym, ◌∙◌, ap, subst, arith, length-append}
+use Rattle.std.specs.Prelude.{cond, if◌then◌else◌, Option, None, Some, MatchOption}
+use Rattle.std.specs.Cmp.Lexicographic.{slice_cmp}
+use Rattle.std.specs.Option.{option_map}
+use Rattle.std.specs.Ordering.{is_eq, nat_cmp}
+use Rattle.std.specs.Str.{bytes_eq}
+use Rattle.std.proofs.lemmas.Bool.{cases_eq, cases_lt}
+use Rattle.std.proofs.lemmas.List.{get_or-map, get_or_push, get_or-set_other, get_or-set_same, length-map, length-set, map-append}
+use Rattle.std.proofs.lemmas.Map.Text.{is_eq-slice_cmp}
+use Rattle.std.proofs.lemmas.Slice.Eq.{bytes_eq-Decides}
+use Rattle.std.proofs.Math.ListN.{get_or-append}
+use Rattle.std.proofs.Math.Seq.{map-set_same}
+use Rattle.elf_field.specs.Abi.{STB_GLOBAL, STB_LOCAL, STB_WEAK}
+use Rattle.elf_object.specs.Object.{ObjectValue}
+use Rattle.elf_link_files.specs.declared.site.Site.{Site}
+use Rattle.elf_link_files.specs.Files.{IsEarlier, object_at, symbol_in}
+use Rattle.elf_link_files.specs.Listing.{Lists, UpTo, site, site_at, name_at}
+use Rattle.elf_link_files.specs.Rows.{AtSymbol, IsFirstAt, Nowhere, Row, symbol_count}
+use Rattle.elf_link_files.specs.Symbols.{IsCommon, IsEntry, IsNotWeak, IsStrong, IsWeak, binding}
+use Rattle.elf_link_files.proofs.Public.{first_earlier, first_in_row, lists_same, listed_more, listed_past, site_is, match_map, earlier_more, earlier_next, file_before}
+use Rattle.elf_link_names.specs.declared.name_table.Block.{Block}
+use Rattle.elf_link_names.specs.declared.name_table.Known.{Known}
+use Rattle.elf_link_names.specs.declared.name_table.Spot.{Spot}
+use Rattle.elf_link_names.specs.Binds.{IsLargest, IsUnbound, commons, entries, strong, weak}
+use Rattle.elf_link_names.specs.Listing.{IsFirstEntry, first_entries}
+use Rattle.elf_link_names.specs.NameTable.{AreWhole, IsBest, IsBlock, IsCommonBest, IsFirstBefore, IsKnown, IsLargerOf, IsTable, IsWhole, IsWholeBest, IsWholeBlock, IsWholeTable, NoneBefore, SomeBefore, first_or, first_site, known_at, no_known, spot_in, spot_site}
+use Rattle.elf_link_names.specs.Naming.{ArePositionsOf}
+use Rattle.elf_link_names.proofs.Naming.{apart_names, entry_there, entry_told, positions_more}
+
+-- ---- the sites of a row before a position
+
+at_here : (fs : List ObjectValue) (P : ℕ → ℕ → Type 0) (p : Site) (f i : ℕ) → AtSymbol fs P p → p.file ≡ f → p.index ≡ i → P f i
+at_here fs P p f i (file, index, here, entry) same at = subst (λ n. P f n) at (subst (λ n. P n p.index) same here)
+
+pub none_past : (fs : List ObjectValue) (P : ℕ → ℕ → Type 0) (f i : ℕ) → (P f i → ⊥) → NoneBefore (AtSymbol fs P) f i → NoneBefore (AtSymbol fs P) f (i + 1)
+none_past fs P f i other none p row earlier = elim (earlier_next p.file p.index f i earlier) [
+  | inl before ↦ none p row before
+  | inr same ↦ other (at_here fs P p f i row same.0 same.1)
+]
+
+-- a row that has this site and none before it
+first_here : (fs : List ObjectValue) (P : ℕ → ℕ → Type 0) (f i : ℕ) → f < length fs → i < length (object_at fs f).symbols → P f i →
+    NoneBefore (AtSymbol fs P) f i → IsFirstBefore (AtSymbol fs P) f (i + 1) (spot_in f i)
+first_here fs P f i file index here none = (
+  record {
+    stands = (file, index, here, refl);
+    first = λ q row before. none q row (elim before [
+      | inl below ↦ inl below
+      | inr (same, rest) ↦ elim rest [ inl below ↦ inr (same, below) | inr (again, never) ↦ absurd (omega arith) ]
+    ]);
+  },
+  inr (refl, omega arith),
+)
+
+first_past : (row : Row) (f i : ℕ) (s : Spot) → IsFirstBefore row f i s → IsFirstBefore row f (i + 1) s
+first_past row f i s (first, earlier) = (first, earlier_more s.file s.index f i earlier)
+
+pub best_past : (fs : List ObjectValue) (P : ℕ → ℕ → Type 0) (f i : ℕ) (best : Option Spot) → (P f i → ⊥) → IsBest (AtSymbol fs P) f i best →
+    IsBest (AtSymbol fs P) f (i + 1) best
+best_past fs P f i None other none = none_past fs P f i other none
+best_past fs P f i (Some s) other is = first_past (AtSymbol fs P) f i s is
+
+pub best_next : (fs : List ObjectValue) (P : ℕ → ℕ → Type 0) (f i : ℕ) (best now : Option Spot) (passes : Bool) → f < length fs →
+    i < length (object_at fs f).symbols → (passes ≡ true) ↔ P f i → now ≡ first_or best passes (spot_in f i) → IsBest (AtSymbol fs P) f i best →
+    IsBest (AtSymbol fs P) f (i + 1) now
+best_next fs P f i (Some s) now passes file index tells is best = subst (IsBest (AtSymbol fs P) f (i + 1)) (sym is) (first_past (AtSymbol fs P) f i s best)
+best_next fs P f i None now true file index tells is none =
+    subst (IsBest (AtSymbol fs P) f (i + 1)) (sym is) (first_here fs P f i file index (tells.0 refl) none)
+best_next fs P f i None now false file index tells is none =
+    subst (IsBest (AtSymbol fs P) f (i + 1)) (sym is) (none_past fs P f i (λ here. (let never : false ≡ true = tells.1 here in absurd (cc))) none)
+
+some_past : (row : Row) (f i : ℕ) → SomeBefore row f i → SomeBefore row f (i + 1)
+some_past row f i (p, there, earlier) = (p, there, earlier_more p.file p.index f i earlier)
+
+some_back : (fs : List ObjectValue) (P : ℕ → ℕ → Type 0) (f i : ℕ) → SomeBefore (AtSymbol fs P) f (i + 1) → SomeBefore (AtSymbol fs P) f i ⊎ P f i
+some_back fs P f i (p, there, earlier) = elim (earlier_next p.file p.index f i earlier) [
+  | inl before ↦ inl (p, there, before)
+  | inr same ↦ inr (at_here fs P p f i there same.0 same.1)
+]
+
+pub found_past : (fs : List ObjectValue) (P : ℕ → ℕ → Type 0) (f i : ℕ) (found : Bool) → (P f i → ⊥) → (found ≡ true) ↔ SomeBefore (AtSymbol fs P) f i →
+    (found ≡ true) ↔ SomeBefore (AtSymbol fs P) f (i + 1)
+found_past fs P f i found other tells =
+    ((λ yes. some_past (AtSymbol fs P) f i (tells.0 yes)), (λ some. elim (some_back fs P f i some) [ inl before ↦ tells.1 before | inr here ↦ absurd (other here) ]))
+
+pub found_here : (fs : List ObjectValue) (P : ℕ → ℕ → Type 0) (f i : ℕ) → f < length fs → i < length (object_at fs f).symbols → P f i →
+    (true ≡ true) ↔ SomeBefore (AtSymbol fs P) f (i + 1)
+found_here fs P f i file index here = ((λ is. (site f i, (file, index, here, refl), inr (refl, omega arith))), (λ some. refl))
+
+-- ---- the largest
+
+largest_past : (fs : List ObjectValue) (P : ℕ → ℕ → Type 0) (f i : ℕ) (measure : ℕ → ℕ → ℕ) (n : ℕ) → (P f i → ⊥) →
+    IsLargest (UpTo (AtSymbol fs P) f i) measure n → IsLargest (UpTo (AtSymbol fs P) f (i + 1)) measure n
+largest_past fs P f i measure n other is = record {
+  above = λ p (row, earlier). elim (earlier_next p.file p.index f i earlier) [
+    | inl before ↦ is.above p (row, before)
+    | inr same ↦ absurd (other (at_here fs P p f i row same.0 same.1))
+  ];
+  attained = (let (p, (row, earlier), at) = is.attained in (p, (row, earlier_more p.file p.index f i earlier), at));
+}
+
+here_measures : (p : Site) (f i : ℕ) (measure : ℕ → ℕ → ℕ) → p.file ≡ f → p.index ≡ i → measure p.file p.index ≡ measure f i
+here_measures p f i measure file index = ap (λ n. measure n p.index) file ∙ ap (λ n. measure f n) index
+
+largest_next : (fs : List ObjectValue) (P : ℕ → ℕ → Type 0) (f i : ℕ) (measure : ℕ → ℕ → ℕ) (most n : ℕ) → f < length fs →
+    i < length (object_at fs f).symbols → P f i → IsLargerOf most (measure f i) n → IsLargest (UpTo (AtSymbol fs P) f i) measure most →
+    IsLargest (UpTo (AtSymbol fs P) f (i + 1)) measure n
+largest_next fs P f i measure most n file index here (left, right, either) is = record {
+  above = λ p (row, earlier). elim (earlier_next p.file p.index f i earlier) [
+    | inl before ↦ (let below = is.above p (row, before) in omega arith)
+    | inr same ↦ subst (λ m. m ≤ n) (sym (here_measures p f i measure same.0 same.1)) right
+  ];
+  attained = elim either [
+    | inl old ↦ (let (p, (row, earlier), at) = is.attained in (p, (row, earlier_more p.file p.index f i earlier), at ∙ sym old))
+    | inr new ↦ (site f i, ((file, index, here, refl), inr (refl, omega arith)), sym new)
+  ];
+}
+
+largest_one : (fs : List ObjectValue) (P : ℕ → ℕ → Type 0) (f i : ℕ) (measure : ℕ → ℕ → ℕ) (n : ℕ) → f < length fs → i < length (object_at fs f).symbols →
+    P f i → n ≡ measure f i → NoneBefore (AtSymbol fs P) f i → IsLargest (UpTo (AtSymbol fs P) f (i + 1)) measure n
+largest_one fs P f i measure n file index here is none = record {
+  above = λ p (row, earlier). elim (earlier_next p.file p.index f i earlier) [
+    | inl before ↦ absurd (none p row before)
+    | inr same ↦ subst (λ m. m ≤ n) (sym (here_measures p f i measure same.0 same.1)) (subst (λ m. m ≤ n) is (omega arith))
+  ];
+  attained = (site f i, ((file, index, here, refl), inr (refl, omega arith)), sym is);
+}
+
+pub block_past : (fs : List ObjectValue) (name : List ℕ) (f i : ℕ) (best : Option Block) → (IsCommon fs name f i → ⊥) → IsCommonBest fs name f i best →
+    IsCommonBest fs name f (i + 1) best
+block_past fs name f i None other none = none_past fs (IsCommon fs name) f i other none
+block_past fs name f i (Some b) other is = record {
+  first = first_past (commons fs name) f i b.first is.first;
+  size = largest_past fs (IsCommon fs name) f i _ b.size other is.size;
+  align = largest_past fs (IsCommon fs name) f i _ b.align other is.align;
+}
+
+pub block_more : (fs : List ObjectValue) (name : List ℕ) (f i : ℕ) (b now : Block) → f < length fs → i < length (object_at fs f).symbols →
+    IsCommon fs name f i → now.first ≡ b.first → IsLargerOf b.size (symbol_in fs f i).size now.size → IsLargerOf b.align (symbol_in fs f i).value now.align →
+    IsBlock fs name f i b → IsBlock fs name f (i + 1) now
+block_more fs name f i b now file index here first size align is = record {
+  first = subst (IsFirstBefore (commons fs name) f (i + 1)) (sym first) (first_past (commons fs name) f i b.first is.first);
+  size = largest_next fs (IsCommon fs name) f i _ b.size now.size file index here size is.size;
+  align = largest_next fs (IsCommon fs name) f i _ b.align now.align file index here align is.align;
+}
+
+pub block_one : (fs : List ObjectValue) (name : List ℕ) (f i : ℕ) (now : Block) → f < length fs → i < length (object_at fs f).symbols →
+    IsCommon fs name f i → now.first ≡ spot_in f i → now.size ≡ (symbol_in fs f i).size → now.align ≡ (symbol_in fs f i).value →
+    NoneBefore (commons fs name) f i → IsBlock fs name f (i + 1) now
+block_one fs name f i now file index here first size align none = record {
+  first = subst (IsFirstBefore (commons fs name) f (i + 1)) (sym first) (first_here fs (IsCommon fs name) f i file index here none);
+  size = largest_one fs (IsCommon fs name) f i _ now.size file index here size none;
+  align = largest_one fs (IsCommon fs name) f i _ now.align file index here align none;
+}
+
+-- ---- what is known of a name
+
+local_apart : (n : ℕ) → n ≡ STB_GLOBAL → n ≡ STB_LOCAL → ⊥
+local_apart n global local = omega arith
+
+local_weak : (n : ℕ) → n ≡ STB_WEAK → n ≡ STB_LOCAL → ⊥
+local_weak n weak local = omega arith
+
+strong_entry : (fs : List ObjectValue) (name : List ℕ) (f i : ℕ) → IsStrong fs name f i → IsEntry fs name f i
+strong_entry fs name f i (is, global, defined) = ((λ local. local_apart (binding (symbol_in fs f i)) global local), is)
+
+weak_entry : (fs : List ObjectValue) (name : List ℕ) (f i : ℕ) → IsWeak fs name f i → IsEntry fs name f i
+weak_entry fs name f i (is, weak, defined) = ((λ local. local_weak (binding (symbol_in fs f i)) weak local), is)
+
+-- a symbol that is no entry of the name changes nothing
+pub known_other : (fs : List ObjectValue) (name : List ℕ) (f i : ℕ) (k : Known) → (IsEntry fs name f i → ⊥) → IsKnown fs name f i k →
+    IsKnown fs name f (i + 1) k
+known_other fs name f i k other is = record {
+  strong = best_past fs (IsStrong fs name) f i k.strong (λ here. other (strong_entry fs name f i here)) is.strong;
+  weak = best_past fs (IsWeak fs name) f i k.weak (λ here. other (weak_entry fs name f i here)) is.weak;
+  common = block_past fs name f i k.common (λ here. other here.0) is.common;
+  not_weak = found_past fs (IsNotWeak fs name) f i k.not_weak (λ here. other here.0) is.not_weak;
+}
+
+-- nothing is known of a name without entries
+pub known_none : (fs : List ObjectValue) (name : List ℕ) (f i : ℕ) → NoneBefore (entries fs name) f i →
+    IsKnown fs name f i (record { first = spot_in f i; strong = None; weak = None; common = None; not_weak = false })
+known_none fs name f i none = record {
+  strong = λ p (file, index, here, entry) earlier. none p (file, index, strong_entry fs name p.file p.index here, entry) earlier;
+  weak = λ p (file, index, here, entry) earlier. none p (file, index, weak_entry fs name p.file p.index here, entry) earlier;
+  common = λ p (file, index, here, entry) earlier. none p (file, index, here.0, entry) earlier;
+  not_weak = ((λ (yes : false ≡ true). absurd (cc)), (λ (p, (file, index, here, entry), earlier). absurd (none p (file, index, here.0, entry) earlier)));
+}
+
+-- ---- the table
+
+-- no entry of a name stands before, where none of the first entries has it
+none_listed : (fs : List ObjectValue) (f i : ℕ) (ps : List Site) (name : List ℕ) → Lists (UpTo (first_entries fs) f i) ps →
+    ((k : ℕ) → k < length ps → name_at fs (site_at ps k) ≡ name → ⊥) → NoneBefore (entries fs name) f i
+none_listed fs f i ps name are none p there earlier =
+    let (q, first) = first_in_row fs (IsEntry fs name) (entry_told fs name) p there in
+    let (file, index, is, entry) = first.stands in
+    let at = site_is q q.file q.index refl refl entry in
+    let p_at = site_is p p.file p.index refl refl there.3 in
+    let stands = subst (λ (n : List ℕ). IsEntry fs n q.file q.index × IsFirstAt (entries fs n) (site q.file q.index)) (sym is.1)
+    (is, subst (λ (r : Site). IsFirstAt (entries fs name) r) at first) in
+    let (k, lt, here) = are.all q ((file, index, stands, entry), first_earlier (entries fs name) q p.file p.index f i first (subst (entries fs name) p_at there) earlier) in
+    none k lt (ap (name_at fs) here ∙ is.1)
+
+-- where a table has a name
+pub placed_at : (fs : List ObjectValue) (f i : ℕ) (position : List ℕ → Option ℕ) (ks : List Known) (name : List ℕ) (k : ℕ) →
+    position name ≡ Some k → IsTable fs f i position ks → (k < length ks) × (name_at fs (site_at (map first_site ks) k) ≡ name)
+placed_at fs f i position ks name k at is =
+    subst (λ (o : Option ℕ). MatchOption o ((j : ℕ) → j < length ks → name_at fs (site_at (map first_site ks) j) ≡ name → ⊥)
+    (λ j. (j < length ks) × (name_at fs (site_at (map first_site ks) j) ≡ name))) at (is.places name)
+
+pub not_placed : (fs : List ObjectValue) (f i : ℕ) (position : List ℕ → Option ℕ) (ks : List Known) (name : List ℕ) →
+    position name ≡ None → IsTable fs f i position ks → (k : ℕ) → k < length ks → name_at fs (site_at (map first_site ks) k) ≡ name → ⊥
+not_placed fs f i position ks name at is =
+    subst (λ (o : Option ℕ). MatchOption o ((j : ℕ) → j < length ks → name_at fs (site_at (map first_site ks) j) ≡ name → ⊥)
+    (λ j. (j < length ks) × (name_at fs (site_at (map first_site ks) j) ≡ name))) at (is.places name)
+
+pub none_placed : (fs : List ObjectValue) (f i : ℕ) (position : List ℕ → Option ℕ) (ks : List Known) (name : List ℕ) →
+    position name ≡ None → IsTable fs f i position ks → NoneBefore (entries fs name) f i
+none_placed fs f i position ks name at is =
+    let many = length-map ks first_site in
+    none_listed fs f i (map first_site ks) name is.firsts (λ k lt. not_placed fs f i position ks name at is k (omega arith))
+
+pub known_placed : (fs : List ObjectValue) (f i : ℕ) (position : List ℕ → Option ℕ) (ks : List Known) (name : List ℕ) (k : ℕ) →
+    position name ≡ Some k → IsTable fs f i position ks → IsKnown fs name f i (known_at ks k)
+known_placed fs f i position ks name k at is =
+    let (lt, named) = placed_at fs f i position ks name k at is in
+    subst (λ n. IsKnown fs n f i (known_at ks k)) named (is.each k lt)
+
+table_none : (fs : List ObjectValue) (position : List ℕ → Option ℕ) → ((q : List ℕ) → position q ≡ None) → IsTable fs 0 0 position []
+table_none fs position empty = record {
+  places = λ name. subst (λ (o : Option ℕ). MatchOption o ((k : ℕ) → k < 0 → name_at fs (site_at [] k) ≡ name → ⊥) (λ k. (k < 0) × (name_at fs (site_at [] k) ≡ name)))
+      (sym (empty name)) (λ k lt is. omega arith);
+  firsts = record {
+    each = λ k lt. absurd (omega arith);
+    all = λ p (row, earlier). absurd (elim earlier [ inl below ↦ omega arith | inr (same, below) ↦ omega arith ]);
+    order = λ j k lt within. absurd (omega arith);
+  };
+  each = λ k lt. absurd (omega arith);
+}
+
+pub table_empty : (fs : List ObjectValue) (position : List ℕ → Option ℕ) (ks : List Known) → ks ≡ [] → ((q : List ℕ) → position q ≡ None) → IsTable fs 0 0 position ks
+table_empty fs position ks none empty = subst (IsTable fs 0 0 position) (sym none) (table_none fs position empty)
+
+pub table_local : (fs : List ObjectValue) (f i : ℕ) (position : List ℕ → Option ℕ) (ks : List Known) → binding (symbol_in fs f i) ≡ STB_LOCAL →
+    IsTable fs f i position ks → IsTable fs f (i + 1) position ks
+table_local fs f i position ks local is = record {
+  places = is.places;
+  firsts = listed_past symbol_count fs (IsFirstEntry fs) f i (map first_site ks) (λ first. first.0.0 local) is.firsts;
+  each = λ k lt. known_other fs (name_at fs (site_at (map first_site ks) k)) f i (known_at ks k) (λ entry. entry.0 local) (is.each k lt);
+}
+
+-- no two first entries before a position have one name
+names_once_before : (fs : List ObjectValue) (f i : ℕ) (ps : List Site) → Lists (UpTo (first_entries fs) f i) ps → (j k : ℕ) → j < k → k < length ps → (q : List ℕ) →
+    name_at fs (site_at ps j) ≡ q → name_at fs (site_at ps k) ≡ q → ⊥
+names_once_before fs f i ps are j k lt within q one other =
+    apart_names fs (site_at ps j) (site_at ps k) (are.each j (omega arith)).0 (are.each k within).0 (are.order j k lt within) q one other
+
+-- a name that the table has
+pub table_again : (fs : List ObjectValue) (f i : ℕ) (old now : List ℕ → Option ℕ) (ks : List Known) (k : ℕ) (known : Known) →
+    ((q : List ℕ) → now q ≡ old q) → old (symbol_in fs f i).name ≡ Some k → known.first ≡ (known_at ks k).first →
+    IsKnown fs (symbol_in fs f i).name f (i + 1) known → IsTable fs f i old ks → IsTable fs f (i + 1) now (set ks k known)
+table_again fs f i old now ks k known same at first next is =
+    let name = (symbol_in fs f i).name in
+    let (lt, named) = placed_at fs f i old ks name k at is in
+    let many = length-map ks first_site in
+    let sites : map first_site (set ks k known) ≡ map first_site ks = map-set_same first_site ks k known no_known (ap spot_site first) in
+    let long : length (set ks k known) ≡ length ks = length-set ks k known in
+    record {
+      places = λ q. rw (same q, sites, long) (is.places q);
+      firsts = rw sites (listed_past symbol_count fs (IsFirstEntry fs) f i (map first_site ks) (λ entry. (
+          let (row, earlier) = is.firsts.each k (omega arith) in
+          entry.1.first (site_at (map first_site ks) k)
+          (row.0, row.1, (row.2.0.0, named), row.3)
+          (elim earlier [ inl below ↦ inl below | inr (file, below) ↦ inr (file, inl below) ]))) is.firsts);
+      each = λ j j_in. elim (cases_eq j k) [
+        | inl equal ↦ rw (equal, sites, get_or-set_same ks k known no_known lt) (subst (λ n. IsKnown fs n f (i + 1) known) (sym named) next)
+        | inr differ ↦ rw (sites, get_or-set_other ks k j known no_known differ)
+            (known_other fs (name_at fs (site_at (map first_site ks) j)) f i (known_at ks j)
+            (λ entry. elim (cases_lt j k) [
+              | inl below ↦ names_once_before fs f i (map first_site ks) is.firsts j k below (omega arith) name (sym entry.1) named
+              | inr above ↦ names_once_before fs f i (map first_site ks) is.firsts k j (omega arith) (omega arith) name named (sym entry.1)
+            ]) (is.each j (omega arith)))
+      ];
+    }
+
+-- a further name
+pub table_new : (fs : List ObjectValue) (f i : ℕ) (old now : List ℕ → Option ℕ) (ks : List Known) (known : Known) → f < length fs →
+    i < length (object_at fs f).symbols → binding (symbol_in fs f i) ≢ STB_LOCAL →
+    ((q : List ℕ) → now q ≡ (if bytes_eq (symbol_in fs f i).name q then Some (length ks) else old q)) → old (symbol_in fs f i).name ≡ None →
+    known.first ≡ spot_in f i → IsKnown fs (symbol_in fs f i).name f (i + 1) known → IsTable fs f i old ks →
+    IsTable fs f (i + 1) now (ks ++ known ∷ [])
+table_new fs f i old now ks known file index not_local added missing first next is =
+    let name = (symbol_in fs f i).name in
+    let none = not_placed fs f i old ks name missing is in
+    let none_entry = none_placed fs f i old ks name missing is in
+    let many = length-map ks first_site in
+    let sites : map first_site (ks ++ known ∷ []) ≡ map first_site ks ++ site f i ∷ [] = map-append first_site ks (known ∷ []) ∙ ap (λ (s : Spot). map first_site ks ++ spot_site s ∷ []) first in
+    let long : length (ks ++ known ∷ []) ≡ length ks + 1 = simp length-append in
+    let last : site_at (map first_site ks ++ site f i ∷ []) (length ks) ≡ site f i = get_or_push (map first_site ks) (site f i) (site 0 0) (length ks) many in
+    let kept : (k : ℕ) → k < length ks → site_at (map first_site ks ++ site f i ∷ []) k ≡ site_at (map first_site ks) k =
+    (λ k lt. get_or-append (map first_site ks) (site f i ∷ []) (site 0 0) k (omega arith)) in
+    record {
+      places = rw (sites, long) (positions_more fs (map first_site ks ++ site f i ∷ []) (length ks) name old now (ap (name_at fs) (sym last)) added
+          (λ q. match_map (old q) _ ((k : ℕ) → k < length ks → name_at fs (site_at (map first_site ks ++ site f i ∷ []) k) ≡ q → ⊥) _
+          (λ k. (k < length ks) × (name_at fs (site_at (map first_site ks ++ site f i ∷ []) k) ≡ q))
+          (λ absent k lt at. absent k lt (ap (name_at fs) (sym (kept k lt)) ∙ at))
+          (λ k (lt, at). (lt, ap (name_at fs) (kept k lt) ∙ at)) (is.places q)));
+      firsts = rw sites (listed_more symbol_count fs (IsFirstEntry fs) f i (map first_site ks) file index
+          ((not_local, refl), (first_here fs (IsEntry fs name) f i file index (not_local, refl) none_entry).0) is.firsts);
+      each = λ k lt. elim (cases_lt k (length ks)) [
+        | inl below ↦ rw (sites, kept k below, get_or-append ks (known ∷ []) no_known k below)
+            (known_other fs (name_at fs (site_at (map first_site ks) k)) f i (known_at ks k) (λ entry. none k below (sym entry.1)) (is.each k below))
+        | inr above ↦ (
+            let end : k ≡ length ks = omega arith in
+            rw (end, sites, last, get_or_push ks known no_known (length ks) refl) next)
+      ];
+    }
+
+-- ---- the end of a file
+
+file_back : (fs : List ObjectValue) (P : ℕ → ℕ → Type 0) (f : ℕ) (p : Site) → AtSymbol fs P p → IsEarlier p.file p.index (f + 1) 0 →
+    IsEarlier p.file p.index f (length (object_at fs f).symbols)
+file_back fs P f p there (inr (same, never)) = absurd (omega arith)
+file_back fs P f p there (inl below) = elim (cases_lt p.file f) [
+  | inl first ↦ inl first
+  | inr above ↦ (
+      let same : p.file ≡ f = omega arith in
+      inr (same, subst (λ (n : ℕ). p.index < length (object_at fs n).symbols) same there.1))
+]
+
+best_file : (fs : List ObjectValue) (P : ℕ → ℕ → Type 0) (f : ℕ) (best : Option Spot) → IsBest (AtSymbol fs P) f (length (object_at fs f).symbols) best →
+    IsBest (AtSymbol fs P) (f + 1) 0 best
+best_file fs P f None none = λ p there earlier. none p there (file_back fs P f p there earlier)
+best_file fs P f (Some s) (first, earlier) = (first, file_before s.file s.index f (length (object_at fs f).symbols) earlier)
+
+largest_file : (fs : List ObjectValue) (P : ℕ → ℕ → Type 0) (f : ℕ) (measure : ℕ → ℕ → ℕ) (n : ℕ) →
+    IsLargest (UpTo (AtSymbol fs P) f (length (object_at fs f).symbols)) measure n → IsLargest (UpTo (AtSymbol fs P) (f + 1) 0) measure n
+largest_file fs P f measure n is = record {
+  above = λ p (row, earlier). is.above p (row, file_back fs P f p row earlier);
+  attained = (let (p, (row, earlier), at) = is.attained in (p, (row, file_before p.file p.index f (length (object_at fs f).symbols) earlier), at));
+}
+
+block_file : (fs : List ObjectValue) (name : List ℕ) (f : ℕ) (best : Option Block) → IsCommonBest fs name f (length (object_at fs f).symbols) best →
+    IsCommonBest fs name (f + 1) 0 best
+block_file fs name f None none = λ p there earlier. none p there (file_back fs (IsCommon fs name) f p there earlier)
+block_file fs name f (Some b) is = record {
+  first = (is.first.0, file_before b.first.file b.first.index f (length (object_at fs f).symbols) is.first.1);
+  size = largest_file fs (IsCommon fs name) f _ b.size is.size;
+  align = largest_file fs (IsCommon fs name) f _ b.align is.align;
+}
+
+found_file : (fs : List ObjectValue) (P : ℕ → ℕ → Type 0) (f : ℕ) (found : Bool) →
+    (found ≡ true) ↔ SomeBefore (AtSymbol fs P) f (length (object_at fs f).symbols) → (found ≡ true) ↔ SomeBefore (AtSymbol fs P) (f + 1) 0
+found_file fs P f found tells = (
+  (λ yes. (let (p, there, earlier) = tells.0 yes in (p, there, file_before p.file p.index f (length (object_at fs f).symbols) earlier))),
+  (λ (p, there, earlier). tells.1 (p, there, file_back fs P f p there earlier)),
+)
+
+known_file : (fs : List ObjectValue) (name : List ℕ) (f : ℕ) (k : Known) → IsKnown fs name f (length (object_at fs f).symbols) k → IsKnown fs name (f + 1) 0 k
+known_file fs name f k is = record {
+  strong = best_file fs (IsStrong fs name) f k.strong is.strong;
+  weak = best_file fs (IsWeak fs name) f k.weak is.weak;
+  common = block_file fs name f k.common is.common;
+  not_weak = found_file fs (IsNotWeak fs name) f k.not_weak is.not_weak;
+}
+
+pub table_file : (fs : List ObjectValue) (f : ℕ) (position : List ℕ → Option ℕ) (ks : List Known) →
+    IsTable fs f (length (object_at fs f).symbols) position ks → IsTable fs (f + 1) 0 position ks
+table_file fs f position ks is = record {
+  places = is.places;
+  firsts = lists_same (UpTo (first_entries fs) f (length (object_at fs f).symbols)) (UpTo (first_entries fs) (f + 1) 0) (map first_site ks)
+      (λ p (row, earlier). (row, file_before p.file p.index f (length (object_at fs f).symbols) earlier))
+      (λ p (row, earlier). (row, file_back fs (IsFirstEntry fs) f p row earlier)) is.firsts;
+  each = λ k lt. known_file fs (name_at fs (site_at (map first_site ks) k)) f (known_at ks k) (is.each k lt);
+}
+
+-- ---- a place that stands, or a new one
+
+pub as_looked : (r s : Option ℕ) (n q : List ℕ) (x : ℕ) → r ≡ cond (is_eq (slice_cmp nat_cmp n q)) (Some x) s → r ≡ cond (bytes_eq n q) (Some x) s
+as_looked r s n q x is = is ∙ ap (λ (e : Bool). cond e (Some x) s) (is_eq-slice_cmp n q)
+
+-- a name that has a place gets another one, and then its own again: every name is where it was
+pub stays_looked : (p : List ℕ → Option ℕ) (r s : Option ℕ) (n q : List ℕ) (other place : ℕ) → p n ≡ Some place → r ≡ cond (bytes_eq n q) (Some other) (p q) →
+    s ≡ cond (bytes_eq n q) (Some place) r → s ≡ p q
+stays_looked p r s n q other place found once again = by_name (bytes_eq n q) refl once again where
+  by_name : (same : Bool) → bytes_eq n q ≡ same → r ≡ cond same (Some other) (p q) → s ≡ cond same (Some place) r → s ≡ p q
+  by_name true is once again = again ∙ sym found ∙ ap p ((bytes_eq-Decides n q).0 is)
+  by_name false is once again = again ∙ once
+
+-- ---- all symbols
+
+best_whole : (fs : List ObjectValue) (P : ℕ → ℕ → Type 0) (best : Option Spot) → IsBest (AtSymbol fs P) (length fs) 0 best → IsWholeBest (AtSymbol fs P) best
+best_whole fs P None none = λ p there. none p there (inl there.0)
+best_whole fs P (Some s) is = is.0
+
+largest_whole : (fs : List ObjectValue) (P : ℕ → ℕ → Type 0) (measure : ℕ → ℕ → ℕ) (n : ℕ) →
+    IsLargest (UpTo (AtSymbol fs P) (length fs) 0) measure n → IsLargest (AtSymbol fs P) measure n
+largest_whole fs P measure n is = record {
+  above = λ p row. is.above p (row, inl row.0);
+  attained = (let (p, (row, earlier), at) = is.attained in (p, row, at));
+}
+
+block_whole : (fs : List ObjectValue) (name : List ℕ) (best : Option Block) → IsCommonBest fs name (length fs) 0 best →
+    MatchOption best (Nowhere (commons fs name)) (IsWholeBlock fs name)
+block_whole fs name None none = λ p there. none p there (inl there.0)
+block_whole fs name (Some b) is = record {
+  first = is.first.0;
+  size = largest_whole fs (IsCommon fs name) _ b.size is.size;
+  align = largest_whole fs (IsCommon fs name) _ b.align is.align;
+}
+
+whole : (fs : List ObjectValue) (name : List ℕ) (k : Known) → ((p : Site) × entries fs name p) → IsKnown fs name (length fs) 0 k → IsWhole fs name k
+whole fs name k entry is = record {
+  entry = entry;
+  strong = best_whole fs (IsStrong fs name) k.strong is.strong;
+  weak = best_whole fs (IsWeak fs name) k.weak is.weak;
+  common = block_whole fs name k.common is.common;
+  not_weak = (
+    (λ yes. (let (p, there, earlier) = is.not_weak.0 yes in (p, there))),
+    (λ (p, there). is.not_weak.1 (p, there, inl there.0)),
+  );
+}
+
+-- each name of the table is known as a whole
+pub whole_at : (fs : List ObjectValue) (position : List ℕ → Option ℕ) (ks : List Known) (k : ℕ) → k < length ks → IsWholeTable fs position ks →
+    IsWhole fs (name_at fs (site_at (map first_site ks) k)) (known_at ks k)
+whole_at fs position ks k lt is =
+    let many = length-map ks first_site in
+    let row = (is.firsts.each k (omega arith)).0 in
+    whole fs (name_at fs (site_at (map first_site ks) k)) (known_at ks k) (site_at (map first_site ks) k, entry_there fs (site_at (map first_site ks) k) row) (is.each k lt)
+
+pub found_whole : (fs : List ObjectValue) (position : List ℕ → Option ℕ) (ks : List Known) (name : List ℕ) (k : ℕ) → position name ≡ Some k →
+    IsWholeTable fs position ks → IsWhole fs name (known_at ks k)
+found_whole fs position ks name k at is =
+    let (lt, named) = placed_at fs (length fs) 0 position ks name k at is in
+    subst (λ n. IsWhole fs n (known_at ks k)) named (whole_at fs position ks k lt is)
+
+pub found_none : (fs : List ObjectValue) (position : List ℕ → Option ℕ) (ks : List Known) (name : List ℕ) → position name ≡ None →
+    IsWholeTable fs position ks → Nowhere (entries fs name)
+found_none fs position ks name at is p there = none_placed fs (length fs) 0 position ks name at is p there (inl there.0)
+
+pub whole_firsts : (fs : List ObjectValue) (position : List ℕ → Option ℕ) (ks : List Known) → IsWholeTable fs position ks → Lists (first_entries fs) (map first_site ks)
+whole_firsts fs position ks is =
+    lists_same (UpTo (first_entries fs) (length fs) 0) (first_entries fs) (map first_site ks) (λ p (row, earlier). row) (λ p row. (row, inl row.0)) is.firsts
+
+pub whole_places : (fs : List ObjectValue) (position : List ℕ → Option ℕ) (ks : List Known) → IsWholeTable fs position ks →
+    ArePositionsOf fs (map first_site ks) (length (map first_site ks)) position
+whole_places fs position ks is = subst (λ n. ArePositionsOf fs (map first_site ks) n position) (sym (length-map ks first_site)) is.places
+
+pub site_known : (ks : List Known) (k : ℕ) → k < length ks → site_at (map first_site ks) k ≡ first_site (known_at ks k)
+site_known ks k lt = get_or-map first_site ks k no_known (site 0 0) lt
+
+-- ---- what a name without entries is bound to
+
+pub no_strong : (fs : List ObjectValue) (name : List ℕ) → Nowhere (entries fs name) → Nowhere (strong fs name)
+no_strong fs name none p (file, index, here, entry) = none p (file, index, strong_entry fs name p.file p.index here, entry)
+
+pub no_commons : (fs : List ObjectValue) (name : List ℕ) → Nowhere (entries fs name) → Nowhere (commons fs name)
+no_commons fs name none p (file, index, here, entry) = none p (file, index, here.0, entry)
+
+pub unbound : (fs : List ObjectValue) (name : List ℕ) → Nowhere (entries fs name) → IsUnbound fs name
+unbound fs name none = (
+  no_strong fs name none,
+  no_commons fs name none,
+  (λ p (file, index, here, entry). none p (file, index, weak_entry fs name p.file p.index here, entry)),
+  inl none,
+)
+
+-- ---- by what is known
+
+pub strong_known : (fs : List ObjectValue) (name : List ℕ) (k : Known) (s : Spot) → k.strong ≡ Some s → IsWhole fs name k → IsFirstAt (strong fs name) (spot_site s)
+strong_known fs name k s at is = subst (IsWholeBest (strong fs name)) at is.strong
+
+pub strong_unknown : (fs : List ObjectValue) (name : List ℕ) (k : Known) → k.strong ≡ None → IsWhole fs name k → Nowhere (strong fs name)
+strong_unknown fs name k at is = subst (IsWholeBest (strong fs name)) at is.strong
+
+pub weak_known : (fs : List ObjectValue) (name : List ℕ) (k : Known) (s : Spot) → k.weak ≡ Some s → IsWhole fs name k → IsFirstAt (weak fs name) (spot_site s)
+weak_known fs name k s at is = subst (IsWholeBest (weak fs name)) at is.weak
+
+pub weak_unknown : (fs : List ObjectValue) (name : List ℕ) (k : Known) → k.weak ≡ None → IsWhole fs name k → Nowhere (weak fs name)
+weak_unknown fs name k at is = subst (IsWholeBest (weak fs name)) at is.weak
+
+pub common_known : (fs : List ObjectValue) (name : List ℕ) (k : Known) (b : Block) → k.common ≡ Some b → IsWhole fs name k → IsWholeBlock fs name b
+common_known fs name k b at is = subst (λ o. MatchOption o (Nowhere (commons fs name)) (IsWholeBlock fs name)) at is.common
+
+pub common_unknown : (fs : List ObjectValue) (name : List ℕ) (k : Known) → k.common ≡ None → IsWhole fs name k → Nowhere (commons fs name)
+common_unknown fs name k at is = subst (λ o. MatchOption o (Nowhere (commons fs name)) (IsWholeBlock fs name)) at is.common
+
+pub strong_site : (row : Row) (best : Option Spot) → IsWholeBest row best → MatchOption (option_map spot_site best) (Nowhere row) (IsFirstAt row)
+strong_site row None none = none
+strong_site row (Some s) is = is
+
+-- each name is known as a whole, by its first entry
+pub whole_all : (fs : List ObjectValue) (position : List ℕ → Option ℕ) (ks : List Known) → IsWholeTable fs position ks → AreWhole fs ks
+whole_all fs position ks is k lt =
+    let many = length-map ks first_site in (
+      subst (first_entries fs) (site_known ks k lt) ((whole_firsts fs position ks is).each k (omega arith)),
+      subst (λ p. IsWhole fs (name_at fs p) (known_at ks k)) (site_known ks k lt) (whole_at fs position ks k lt is),
+    )

@@ -1,0 +1,16 @@
+use Rattle.std.proofs.Common.{inl, inr, ap, sym, subst}
+use Rattle.elf_link_files.specs.declared.site.Broken.{Broken}
+use Rattle.elf_link_files.specs.Rows.{IsFirstAt}
+use Rattle.elf_link_names.specs.NameRules.{undefined}
+use Rattle.elf_link_names.proofs.name_rules.judge_names.Goals as goal
+
+pub returns-in-Some-first_name : goal.returns-in-Some-first_name
+returns-in-Some-first_name c =
+    let broken = c.new-in-Some-first_name.ensures in
+    inr (
+      c.in_default.ensures,
+      inl (
+        ap (λ (b : Broken). b.rule) broken,
+        subst (IsFirstAt (undefined c.args.objects.now)) (sym (ap (λ (b : Broken). b.site) broken)) c.in-Some-first_name.ensures,
+      ),
+    )

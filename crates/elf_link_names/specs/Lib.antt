@@ -1,0 +1,8 @@
+-- The words of this crate's contracts.
+pub mod Binds
+pub mod Listing
+pub mod NameRules
+pub mod LinkRules
+pub mod ChosenCommons
+pub mod Naming
+pub mod NameTable

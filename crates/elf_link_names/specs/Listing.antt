@@ -1,0 +1,35 @@
+-- What is listed: live sections, chosen commons and first entries.
+use Rattle.std.specs.Prelude.{ℕ, List}
+use Rattle.elf_object.specs.Object.{ObjectValue}
+use Rattle.elf_link_files.specs.Files.{symbol_in}
+use Rattle.elf_link_files.specs.Live.{Live}
+use Rattle.elf_link_files.specs.Rows.{AtEach, AtSymbol, IsFirstAt, Nowhere, Row, section_count, symbol_count}
+use Rattle.elf_link_files.specs.Symbols.{IsCommon, IsEntry}
+use Rattle.elf_link_files.specs.Listing.{site}
+use Rattle.elf_link_names.specs.declared.listing.Listed.{Listed}
+use Rattle.elf_link_names.specs.declared.listing.Listed.TheVariants.{LiveSections, ChosenCommons}
+use Rattle.elf_link_names.specs.Binds.{commons, entries, strong}
+
+-- a common is chosen where its name has no GLOBAL definition; it stands for the name where it is the first one
+abbrev pub IsChosen : List ObjectValue → ℕ → ℕ → Type 0
+IsChosen fs f i =
+    (let name = (symbol_in fs f i).name in IsCommon fs name f i × IsFirstAt (commons fs name) (site f i) × Nowhere (strong fs name))
+
+-- an entry stands for its name where it is the first one
+abbrev pub IsFirstEntry : List ObjectValue → ℕ → ℕ → Type 0
+IsFirstEntry fs f i = (let name = (symbol_in fs f i).name in IsEntry fs name f i × IsFirstAt (entries fs name) (site f i))
+
+abbrev pub first_entries : List ObjectValue → Row
+first_entries fs = AtSymbol fs (IsFirstEntry fs)
+
+-- what is listed
+abbrev pub listed_count : Listed → ObjectValue → ℕ
+listed_count LiveSections = section_count
+listed_count ChosenCommons = symbol_count
+
+abbrev pub IsListed : List ObjectValue → Listed → ℕ → ℕ → Type 0
+IsListed fs LiveSections f i = Live fs f i
+IsListed fs ChosenCommons f i = IsChosen fs f i
+
+abbrev pub listed_row : List ObjectValue → Listed → Row
+listed_row fs what = AtEach (listed_count what) fs (IsListed fs what)

@@ -1,0 +1,167 @@
+//! Lists of sites in order: live sections, and chosen commons.
+ghost use Rattle.std.specs.Prelude.{◌≡◌, ◌↔◌, ◌+◌, ◌<◌, IfOk, IsTrue, OnOk, length, map};
+ghost use Rattle.elf_link_files.specs.Discarded.{AreMarks};
+ghost use Rattle.elf_link_files.specs.Files.{object_at};
+ghost use Rattle.elf_link_files.specs.Listing.{Lists, UpTo};
+ghost use Rattle.elf_link_names.specs.Listing.{IsChosen, IsListed, listed_count, listed_row};
+ghost use Rattle.elf_link_names.specs.NameTable.{IsChosenOf, IsFirstCommonOf, IsWholeTable};
+ghost use Rattle.elf_link_names.specs.Naming.{position_by};
+
+use crate::bind::find;
+use crate::name_table::{Known, NameTable, Spot};
+use elf_link_files::files::{section_count, symbol_count, symbol_of};
+use elf_link_files::section_tests::is_live;
+use elf_link_files::symbol_tests::is_common_entry;
+use elf_link_files::{Site, site_in};
+use elf_object::Object;
+use std::alloc::{AllocError, Global};
+
+/// What is listed.
+#[derive(Clone, Copy)]
+pub enum Listed {
+    /// The live sections.
+    LiveSections,
+    /// The first common of each name that has no global definition.
+    ChosenCommons,
+}
+
+impl Listed {
+    /// How many sections or symbols of a file are looked at.
+    fn count(self, object: &Object<'_>) -> usize
+        ensures { result ≡ listed_count self object.now }
+    {
+        match self {
+            Listed::LiveSections => section_count(object),
+            _ => symbol_count(object),
+        }
+    }
+
+    /// Whether the section or symbol at `index` of a file is listed.
+    fn has(
+        self,
+        objects: &[Object<'_>],
+        marks: &[Vec<bool>],
+        table: &NameTable<'_>,
+        file: usize,
+        index: usize,
+    ) -> bool
+        requires file { file < length objects.now }
+        requires index { index < listed_count self (object_at objects.now file) }
+        requires marks { AreMarks objects.now (map (λ row. row.items) marks.now) }
+        requires table { IsWholeTable objects.now (position_by table.now.positions) table.now.known.items }
+        ensures { IsTrue result ↔ IsListed objects.now self file index }
+    {
+        match self {
+            Listed::LiveSections => is_live(objects, marks, file, index),
+            Listed::ChosenCommons => is_chosen(objects, table, file, index),
+        }
+    }
+}
+
+/// Whether a spot is the symbol at `index` of a file.
+fn is_spot(spot: Spot, file: usize, index: usize) -> bool
+    ensures { IsTrue result ↔ ((spot.file ≡ file) × (spot.index ≡ index)) }
+{
+    spot.file == file && spot.index == index
+}
+
+/// Whether the first common of a name is this symbol.
+fn is_first_common(known: Known, file: usize, index: usize) -> bool
+    ensures { IsFirstCommonOf known file index result }
+{
+    match known.common {
+        Some(block) => is_spot(block.first, file, index),
+        None => false,
+    }
+}
+
+/// Whether the first common of a name, which has no global definition, is this symbol.
+fn is_chosen_of(known: Known, file: usize, index: usize) -> bool
+    ensures { IsChosenOf known file index result }
+{
+    match known.strong {
+        Some(_) => false,
+        None => is_first_common(known, file, index),
+    }
+}
+
+/// Whether a symbol is the first common of its name, which has no global definition.
+fn is_chosen(objects: &[Object<'_>], table: &NameTable<'_>, file: usize, index: usize) -> bool
+    requires file { file < length objects.now }
+    requires index { index < length (object_at objects.now file).symbols }
+    requires table { IsWholeTable objects.now (position_by table.now.positions) table.now.known.items }
+    ensures { IsTrue result ↔ IsChosen objects.now file index }
+{
+    let name = symbol_of(objects, file, index).name;
+    if !is_common_entry(name, objects, file, index) {
+        return false;
+    }
+    match find(objects, table, name) {
+        Some(known) => is_chosen_of(known, file, index),
+        None => false,
+    }
+}
+
+/// Adds the section or symbol at `index` of a file to what is listed before it, where it is listed.
+fn push_site(
+    what: Listed,
+    objects: &[Object<'_>],
+    marks: &[Vec<bool>],
+    table: &NameTable<'_>,
+    file: usize,
+    index: usize,
+    sites: &mut Vec<Site>,
+) -> Result<(), AllocError>
+    requires file { file < length objects.now }
+    requires index { index < listed_count what (object_at objects.now file) }
+    requires marks { AreMarks objects.now (map (λ row. row.items) marks.now) }
+    requires table { IsWholeTable objects.now (position_by table.now.positions) table.now.known.items }
+    requires before { Lists (UpTo (listed_row objects.now what) file index) sites.old.items }
+    ensures { OnOk result (Lists (UpTo (listed_row objects.now what) file (index + 1)) sites.new.items) }
+{
+    if !what.has(objects, marks, table, file, index) {
+        return Ok(());
+    }
+    sites.push(site_in(file, index))?;
+    Ok(())
+}
+
+/// Adds what is listed of a file to what is listed of the files before it.
+fn push_file(
+    what: Listed,
+    objects: &[Object<'_>],
+    marks: &[Vec<bool>],
+    table: &NameTable<'_>,
+    file: usize,
+    sites: &mut Vec<Site>,
+) -> Result<(), AllocError>
+    requires file { file < length objects.now }
+    requires marks { AreMarks objects.now (map (λ row. row.items) marks.now) }
+    requires table { IsWholeTable objects.now (position_by table.now.positions) table.now.known.items }
+    requires before { Lists (UpTo (listed_row objects.now what) file 0) sites.old.items }
+    ensures { OnOk result (Lists (UpTo (listed_row objects.now what) file (listed_count what (object_at objects.now file))) sites.new.items) }
+{
+    for index in 0..what.count(&objects[file]) {
+        push_site(what, objects, marks, table, file, index, sites)?;
+    }
+    Ok(())
+}
+
+/// All that is listed, in order by file and position.
+pub fn all_listed(
+    alloc: Global,
+    what: Listed,
+    objects: &[Object<'_>],
+    marks: &[Vec<bool>],
+    table: &NameTable<'_>,
+) -> Result<Vec<Site>, AllocError>
+    requires marks { AreMarks objects.now (map (λ row. row.items) marks.now) }
+    requires table { IsWholeTable objects.now (position_by table.now.positions) table.now.known.items }
+    ensures { IfOk result (λ sites. Lists (listed_row objects.now what) sites.items) }
+{
+    let mut sites = Vec::new(alloc);
+    for file in 0..objects.len() {
+        push_file(what, objects, marks, table, file, &mut sites)?;
+    }
+    Ok(sites)
+}

@@ -1,0 +1,348 @@
+-- Sections grouped by key, site by site.
+use mathlib.Core.Bool.{beq}
+use Rattle.std.proofs.Common.{◌≡◌, ℕ, ◌+◌, ◌<◌, ◌⊎◌, ◌&&◌, Bool, true, false, List, [], ◌∷◌, ◌++◌, get_or, length, map, set, zero, suc, inl, inr, refl, sym, ◌∙◌, ap, subst, arith, length-append}
+use Rattle.std.specs.Global.{Vec}
+use Rattle.std.specs.List.{list_any, position_or_len}
+use Rattle.std.specs.Prelude.{◌==◌, if◌then◌else◌}
+use Rattle.std.specs.Str.{bytes_eq}
+use Rattle.std.proofs.lemmas.Bool.{cases_eq, cases_lt, eq-eqb, eqb-true, true≢false}
+use Rattle.std.proofs.lemmas.List.{get_or-map, get_or_push, get_or-set_other, get_or-set_same, length-set, map-set}
+use Rattle.std.proofs.lemmas.List.Folds.{list_any_at}
+use Rattle.std.proofs.lemmas.List.Sums.{fails_before_first, passes_at_first}
+use Rattle.std.proofs.lemmas.Slice.Eq.{bytes_eq-Decides}
+use Rattle.std.proofs.Math.ListN.{get_or-append}
+use Rattle.elf_object.specs.Object.{ObjectValue}
+use Rattle.elf_link_files.specs.declared.site.Site.{Site}
+use Rattle.elf_link_files.specs.Listing.{Lists, site, site_at}
+use Rattle.elf_link_files.specs.Items.{AreEach}
+use Rattle.elf_link_files.specs.Rows.{Before}
+use Rattle.elf_link_files.proofs.Public.{lists_more, lists_same, not_true, same_bool, one_before, each_more}
+use Rattle.elf_link_outputs.specs.declared.outputs.OutputKey.{OutputKey}
+use Rattle.elf_link_outputs.specs.OutputGroups.{AreGrouped, AreGroups, AreGroupsOfKind, AreHeaded, AreInOrder, IsHead, IsKeyOf, no_key}
+use Rattle.elf_link_outputs.specs.Outputs.{HaveOneKey, Picks, members, of_kind, openers}
+use Rattle.elf_link_outputs.specs.Plan.{AreMembers, AreOpeners}
+use Rattle.elf_link_outputs.proofs.Openers.{key_join, key_swap}
+use Rattle.elf_link_outputs.proofs.Picked.{picked_done, picked_past}
+
+-- ---- the position of a key
+
+-- a list has what passes at its first position, or not at all
+told : {A : Type 0} (p : A → Bool) (xs : List A) →
+    ((list_any p xs ≡ true) × (position_or_len p xs < length xs)) ⊎ ((list_any p xs ≡ false) × (position_or_len p xs ≡ length xs))
+told p [] = inr (refl, refl)
+told p (x ∷ xs) = elim (same_bool (p x) true) [
+  | inl passes ↦ inl (rw passes refl, rw passes (omega arith))
+  | inr fails ↦ (
+      let never = not_true (p x) fails in
+      elim (told p xs) [
+        | inl (any, lt) ↦ inl (rw never any, rw never (omega arith))
+        | inr (none, end) ↦ inr (rw never none, rw never (omega arith))
+      ])
+]
+
+-- ---- picks in order
+
+-- as `picked_more`, of a list in order
+picks_more : (ps : List Site) (k : ℕ) (P : Site → Type 0) (out : List Site) → AreInOrder ps → k < length ps → P (site_at ps k) → Picks ps k P out →
+    Picks ps (k + 1) P (out ++ site_at ps k ∷ [])
+picks_more ps k P out order lt here picks =
+    lists_more (λ p. P p × ((j : ℕ) × (j < k) × (site_at ps j ≡ p))) (λ p. P p × ((j : ℕ) × (j < k + 1) × (site_at ps j ≡ p))) out (site_at ps k)
+    (λ p (holds, earlier). (let (j, below, at) = earlier in (holds, (j, omega arith, at))))
+    (here, (k, omega arith, refl))
+    (λ p (holds, earlier). (let (j, below, at) = earlier in elim (cases_lt j k) [
+      | inl before ↦ inl (holds, (j, before, at))
+      | inr above ↦ (let same : j ≡ k = omega arith in inr (sym at ∙ subst (λ n. site_at ps j ≡ site_at ps n) same refl))
+    ]))
+    (λ p (holds, earlier). (let (j, below, at) = earlier in subst (λ q. Before q (site_at ps k)) at (order j k below lt)))
+    picks
+
+picks_none : (ps : List Site) (k : ℕ) (P : Site → Type 0) → ((j : ℕ) → j < k → P (site_at ps j) → ⊥) → Picks ps k P []
+picks_none ps k P none = record {
+  each = λ i lt. absurd (omega arith);
+  all = λ p (holds, (j, below, at)). absurd (none j below (subst P (sym at) holds));
+  order = λ i j lt within. absurd (omega arith);
+}
+
+-- ---- a section joins a group
+
+-- a head is a site of the list, before the next one
+head_before : (fs : List ObjectValue) (ps : List Site) (k : ℕ) (heads : List Site) (r : ℕ) → AreInOrder ps → k < length ps → Picks ps k (IsHead fs ps) heads →
+    r < length heads → Before (site_at heads r) (site_at ps k)
+head_before fs ps k heads r order lt picks within =
+    let (j, below, at) = (picks.each r within).1 in
+    subst (λ p. Before p (site_at ps k)) at (order j k below lt)
+
+not_head : (fs : List ObjectValue) (ps : List Site) (k : ℕ) (heads : List Site) (r : ℕ) → AreInOrder ps → k < length ps → Picks ps k (IsHead fs ps) heads →
+    r < length heads → HaveOneKey fs (site_at ps k) (site_at heads r) → IsHead fs ps (site_at ps k) → ⊥
+not_head fs ps k heads r order lt picks within key head =
+    let (j, below, at) = (picks.each r within).1 in
+    head j (omega arith) (order j k below lt) (subst (λ p. HaveOneKey fs p (site_at ps k)) (sym at) (key_swap fs (site_at ps k) (site_at heads r) key))
+
+-- two heads have two keys
+heads_apart : (fs : List ObjectValue) (ps : List Site) (k : ℕ) (heads : List Site) (q r : ℕ) → k < length ps + 1 → Picks ps k (IsHead fs ps) heads →
+    q < r → r < length heads → HaveOneKey fs (site_at heads q) (site_at heads r) → ⊥
+heads_apart fs ps k heads q r le picks lt within key =
+    let (j, below, at) = (picks.each q (omega arith)).1 in
+    (picks.each r within).0 j (omega arith) (subst (λ p. Before p (site_at heads r)) (sym at) (picks.order q r lt within))
+    (subst (λ p. HaveOneKey fs p (site_at heads r)) (sym at) key)
+
+other_head : (fs : List ObjectValue) (ps : List Site) (k : ℕ) (heads : List Site) (q r : ℕ) → k < length ps → Picks ps k (IsHead fs ps) heads →
+    (q ≡ r → ⊥) → q < length heads → r < length heads → HaveOneKey fs (site_at ps k) (site_at heads r) → HaveOneKey fs (site_at ps k) (site_at heads q) → ⊥
+other_head fs ps k heads q r lt picks differ q_in r_in one other = elim (cases_lt q r) [
+  | inl below ↦ heads_apart fs ps k heads q r (omega arith) picks below r_in
+      (key_join fs (site_at heads q) (site_at ps k) (site_at heads r) (key_swap fs (site_at ps k) (site_at heads q) other) one)
+  | inr above ↦ elim (cases_lt r q) [
+    | inl below ↦ heads_apart fs ps k heads r q (omega arith) picks below q_in
+        (key_join fs (site_at heads r) (site_at ps k) (site_at heads q) (key_swap fs (site_at ps k) (site_at heads r) one) other)
+    | inr same ↦ absurd (differ (omega arith))
+  ]
+]
+
+joins : (fs : List ObjectValue) (ps : List Site) (k : ℕ) (heads : List Site) (groups : List (List Site)) (r : ℕ) → AreInOrder ps → k < length ps →
+    r < length heads → HaveOneKey fs (site_at ps k) (site_at heads r) → AreHeaded fs ps k heads groups →
+    AreHeaded fs ps (k + 1) heads (set groups r (get_or groups r [] ++ site_at ps k ∷ []))
+joins fs ps k heads groups r order lt within key are = record {
+  opened = picked_past ps k (IsHead fs ps) heads (not_head fs ps k heads r order lt are.opened within key) are.opened;
+  covers = λ j below. elim (cases_lt j k) [
+    | inl before ↦ are.covers j before
+    | inr above ↦ (let same : k ≡ j = omega arith in (r, within, subst (λ n. HaveOneKey fs (site_at ps n) (site_at heads r)) same key))
+  ];
+  grouped = record {
+    count = length-set groups r (get_or groups r [] ++ site_at ps k ∷ []) ∙ are.grouped.count;
+    each = λ q q_in. (
+        let count = are.grouped.count in
+        elim (cases_eq q r) [
+          | inl same ↦ (
+              let here = get_or-set_same groups r (get_or groups r [] ++ site_at ps k ∷ []) [] (omega arith) in
+              rw same (subst (λ g. Picks ps (k + 1) (λ p. HaveOneKey fs p (site_at heads r)) g) (sym here)
+              (picks_more ps k (λ p. HaveOneKey fs p (site_at heads r)) (get_or groups r []) order lt key (are.grouped.each r within))))
+          | inr differ ↦ subst (λ g. Picks ps (k + 1) (λ p. HaveOneKey fs p (site_at heads q)) g)
+              (sym (get_or-set_other groups r q (get_or groups r [] ++ site_at ps k ∷ []) [] differ))
+              (picked_past ps k (λ p. HaveOneKey fs p (site_at heads q)) (get_or groups q [])
+              (λ other. other_head fs ps k heads q r lt are.opened differ q_in within key other) (are.grouped.each q q_in))
+        ]);
+  };
+}
+
+-- ---- a section opens a group
+
+is_head : (fs : List ObjectValue) (ps : List Site) (k : ℕ) (heads : List Site) (groups : List (List Site)) → AreInOrder ps → k < length ps →
+    ((r : ℕ) → r < length heads → HaveOneKey fs (site_at ps k) (site_at heads r) → ⊥) → AreHeaded fs ps k heads groups → IsHead fs ps (site_at ps k)
+is_head fs ps k heads groups order lt none are j j_in before key = elim (cases_lt j k) [
+  | inl below ↦ (
+      let (r, r_in, other) = are.covers j below in
+      none r r_in (key_join fs (site_at ps k) (site_at ps j) (site_at heads r) (key_swap fs (site_at ps j) (site_at ps k) key) other))
+  | inr above ↦ elim (cases_lt k j) [
+    | inl after ↦ one_before (site_at ps j) (site_at ps k) before (order k j after j_in)
+    | inr same ↦ (
+        let at : j ≡ k = omega arith in
+        let self = subst (λ n. Before (site_at ps n) (site_at ps k)) at before in
+        one_before (site_at ps k) (site_at ps k) self self)
+  ]
+]
+
+opens : (fs : List ObjectValue) (ps : List Site) (k : ℕ) (heads : List Site) (groups : List (List Site)) → AreInOrder ps → k < length ps →
+    ((r : ℕ) → r < length heads → HaveOneKey fs (site_at ps k) (site_at heads r) → ⊥) → AreHeaded fs ps k heads groups →
+    AreHeaded fs ps (k + 1) (heads ++ site_at ps k ∷ []) (groups ++ (site_at ps k ∷ []) ∷ [])
+opens fs ps k heads groups order lt none are =
+    let s = site_at ps k in
+    let long : length (heads ++ s ∷ []) ≡ length heads + 1 = simp length-append in
+    let last : site_at (heads ++ s ∷ []) (length heads) ≡ s = get_or_push heads s (site 0 0) (length heads) refl in
+    record {
+      opened = picks_more ps k (IsHead fs ps) heads order lt (is_head fs ps k heads groups order lt none are) are.opened;
+      covers = λ j below. elim (cases_lt j k) [
+        | inl before ↦ (
+            let (r, r_in, key) = are.covers j before in
+            (r, omega arith, subst (λ p. HaveOneKey fs (site_at ps j) p) (sym (get_or-append heads (s ∷ []) (site 0 0) r r_in)) key))
+        | inr above ↦ (
+            let same : k ≡ j = omega arith in (
+              length heads,
+              omega arith,
+              subst (λ n. HaveOneKey fs (site_at ps n) (site_at (heads ++ s ∷ []) (length heads))) same
+                  (subst (λ p. HaveOneKey fs s p) (sym last) (refl, refl, refl)),
+            ))
+      ];
+      grouped = subst (λ n. AreEach [] (λ r. Picks ps (k + 1) (λ p. HaveOneKey fs p (site_at (heads ++ s ∷ []) r))) n (groups ++ (s ∷ []) ∷ [])) (sym long)
+          (each_more [] (λ r. Picks ps (k + 1) (λ p. HaveOneKey fs p (site_at (heads ++ s ∷ []) r))) (length heads) groups (s ∷ [])
+          (subst (λ q. Picks ps (k + 1) (λ p. HaveOneKey fs p q) (s ∷ [])) (sym last)
+          (picks_more ps k (λ p. HaveOneKey fs p s) [] order lt (refl, refl, refl)
+          (picks_none ps k (λ p. HaveOneKey fs p s) (λ j below key. (
+          let (r, r_in, other) = are.covers j below in
+          none r r_in (key_join fs s (site_at ps j) (site_at heads r) (key_swap fs (site_at ps j) s key) other))))))
+          (record {
+            count = are.grouped.count;
+            each = λ r r_in. subst (λ q. Picks ps (k + 1) (λ p. HaveOneKey fs p q) (get_or groups r [])) (sym (get_or-append heads (s ∷ []) (site 0 0) r r_in))
+                (picked_past ps k (λ p. HaveOneKey fs p (site_at heads r)) (get_or groups r []) (none r r_in) (are.grouped.each r r_in));
+          }));
+    }
+
+-- ---- no section yet
+
+pub grouped_none : (fs : List ObjectValue) (ps : List Site) (keys : List OutputKey) (groups : List (List Site)) → keys ≡ [] → groups ≡ [] → AreGrouped fs ps 0 keys groups
+grouped_none fs ps keys groups empty none = subst (AreGrouped fs ps 0 keys) (sym none) (
+  [],
+  record { count = ap length empty; each = λ r lt. absurd (omega arith) },
+  record {
+    opened = picks_none ps 0 (IsHead fs ps) (λ j lt. absurd (omega arith));
+    covers = λ j lt. absurd (omega arith);
+    grouped = record { count = refl; each = λ r lt. absurd (omega arith) };
+  },
+)
+
+-- ---- the next section
+
+-- two keys that are equal, as the set tells
+abbrev same_key : OutputKey → OutputKey → Bool
+same_key a b = bytes_eq a.name.now b.name.now && (a.flags == b.flags && beq a.no_bits b.no_bits)
+
+and_left : (a b : Bool) → (a && b) ≡ true → a ≡ true
+and_left true b both = refl
+and_left false b both = both
+
+and_right : (a b : Bool) → (a && b) ≡ true → b ≡ true
+and_right true b both = both
+and_right false b both = absurd (cc)
+
+beq_is : (a b : Bool) → beq a b ≡ true → a ≡ b
+beq_is true true is = refl
+beq_is false false is = refl
+beq_is true false is = absurd (cc)
+beq_is false true is = absurd (cc)
+
+beq_of : (a b : Bool) → a ≡ b → beq a b ≡ true
+beq_of true b is = subst (λ c. beq true c ≡ true) is refl
+beq_of false b is = subst (λ c. beq false c ≡ true) is refl
+
+one_of : (fs : List ObjectValue) (p q : Site) (a b : OutputKey) → IsKeyOf fs p a → IsKeyOf fs q b → same_key a b ≡ true → HaveOneKey fs p q
+one_of fs p q a b (name, flags, kind) (name_2, flags_2, kind_2) same =
+    let rest = and_right (bytes_eq a.name.now b.name.now) (a.flags == b.flags && beq a.no_bits b.no_bits) same in (
+      sym name ∙ (bytes_eq-Decides a.name.now b.name.now).0 (and_left (bytes_eq a.name.now b.name.now) (a.flags == b.flags && beq a.no_bits b.no_bits) same) ∙ name_2,
+      sym flags ∙ eqb-true a.flags b.flags (and_left (a.flags == b.flags) (beq a.no_bits b.no_bits) rest) ∙ flags_2,
+      sym kind ∙ beq_is a.no_bits b.no_bits (and_right (a.flags == b.flags) (beq a.no_bits b.no_bits) rest) ∙ kind_2,
+    )
+
+of_one : (fs : List ObjectValue) (p q : Site) (a b : OutputKey) → IsKeyOf fs p a → IsKeyOf fs q b → HaveOneKey fs p q → same_key a b ≡ true
+of_one fs p q a b (name, flags, kind) (name_2, flags_2, kind_2) (one, two, three) =
+    rw ((bytes_eq-Decides a.name.now b.name.now).1 (name ∙ one ∙ sym name_2), eq-eqb a.flags b.flags (flags ∙ two ∙ sym flags_2), beq_of a.no_bits b.no_bits (kind ∙ three ∙ sym kind_2)) refl
+
+-- the section's key is that of the group at its rank
+pub grouped_again : (fs : List ObjectValue) (ps : List Site) (k rank : ℕ) (key : OutputKey) (keys now : List OutputKey) (groups : List (List Site)) →
+    AreInOrder ps → k < length ps → IsKeyOf fs (site_at ps k) key → rank ≡ position_or_len (same_key key) keys →
+    now ≡ (if list_any (same_key key) keys then keys else keys ++ key ∷ []) → rank < length groups → AreGrouped fs ps k keys groups →
+    AreGrouped fs ps (k + 1) now (set groups rank (get_or groups rank [] ++ site_at ps k ∷ []))
+grouped_again fs ps k rank key keys now groups order lt is at inserted within (heads, held, are) =
+    let many = held.count in
+    let count = are.grouped.count in
+    let r_in : rank < length heads = omega arith in
+    let found : position_or_len (same_key key) keys < length keys = omega arith in
+    let passes = passes_at_first (same_key key) keys no_key found in
+    let one = one_of fs (site_at ps k) (site_at heads rank) key (get_or keys rank no_key) is (held.each rank r_in)
+    (subst (λ n. same_key key (get_or keys n no_key) ≡ true) (sym at) passes) in (
+      heads,
+      subst (λ ks. AreEach no_key (λ r. IsKeyOf fs (site_at heads r)) (length heads) ks)
+          (sym (inserted ∙ ap (λ (t : Bool). if t then keys else keys ++ key ∷ []) (list_any_at (same_key key) keys (position_or_len (same_key key) keys) no_key found passes))) held,
+      joins fs ps k heads groups rank order lt r_in one are,
+    )
+
+-- no group has the section's key
+pub grouped_new : (fs : List ObjectValue) (ps : List Site) (k rank : ℕ) (key : OutputKey) (keys now : List OutputKey) (groups : List (List Site)) →
+    AreInOrder ps → k < length ps → IsKeyOf fs (site_at ps k) key → rank ≡ position_or_len (same_key key) keys →
+    now ≡ (if list_any (same_key key) keys then keys else keys ++ key ∷ []) → (rank < length groups → ⊥) → AreGrouped fs ps k keys groups →
+    AreGrouped fs ps (k + 1) now (groups ++ (site_at ps k ∷ []) ∷ [])
+grouped_new fs ps k rank key keys now groups order lt is at inserted past (heads, held, are) = elim (told (same_key key) keys) [
+  | inl (any, found) ↦ absurd (past (let many = held.count in let count = are.grouped.count in omega arith))
+  | inr (none, end) ↦ (
+      let s = site_at ps k in
+      let many = held.count in
+      let long : length (heads ++ s ∷ []) ≡ length heads + 1 = simp length-append in
+      let last : site_at (heads ++ s ∷ []) (length heads) ≡ s = get_or_push heads s (site 0 0) (length heads) refl in (
+        heads ++ s ∷ [],
+        subst (λ ks. AreEach no_key (λ r. IsKeyOf fs (site_at (heads ++ s ∷ []) r)) (length (heads ++ s ∷ [])) ks)
+            (sym (inserted ∙ ap (λ (t : Bool). if t then keys else keys ++ key ∷ []) none))
+            (subst (λ n. AreEach no_key (λ r. IsKeyOf fs (site_at (heads ++ s ∷ []) r)) n (keys ++ key ∷ [])) (sym long)
+            (each_more no_key (λ r. IsKeyOf fs (site_at (heads ++ s ∷ []) r)) (length heads) keys key
+            (subst (λ p. IsKeyOf fs p key) (sym last) is)
+            (record {
+              count = held.count;
+              each = λ r r_in. subst (λ p. IsKeyOf fs p (get_or keys r no_key)) (sym (get_or-append heads (s ∷ []) (site 0 0) r r_in)) (held.each r r_in);
+            }))),
+        opens fs ps k heads groups order lt
+            (λ r r_in one. true≢false (sym (of_one fs s (site_at heads r) key (get_or keys r no_key) is (held.each r r_in) one) ∙
+            fails_before_first (same_key key) keys r no_key (omega arith))) are,
+      ))
+]
+
+pub grouped_all : (fs : List ObjectValue) (ps : List Site) (keys : List OutputKey) (groups : List (List Site)) → AreGrouped fs ps (length ps) keys groups →
+    AreGroups fs ps groups
+grouped_all fs ps keys groups (heads, held, are) = (heads, are)
+
+-- ---- a site joins a group, as lists of lists
+
+pub member_added : (groups : List (Vec Site)) (group more : Vec Site) (rank : ℕ) (s : Site) → rank < length groups → group ≡ get_or groups rank group →
+    more.items ≡ group.items ++ s ∷ [] →
+    map (λ ms. ms.items) (set groups rank more) ≡ set (map (λ ms. ms.items) groups) rank (get_or (map (λ ms. ms.items) groups) rank [] ++ s ∷ [])
+member_added groups group more rank s lt at added =
+    let items : Vec Site → List Site = λ ms. ms.items in
+    map-set items groups rank more ∙
+    ap (λ ms. set (map items groups) rank ms) (added ∙ ap (λ ms. ms ++ s ∷ []) (ap items at ∙ sym (get_or-map items groups rank group [] lt)))
+
+-- ---- the outputs
+
+kind_heads : (fs : List ObjectValue) (without : Bool) (ps : List Site) (groups : List (List Site)) (heads : List Site) → Lists (of_kind fs without) ps →
+    AreHeaded fs ps (length ps) heads groups → Lists (openers fs without) heads
+kind_heads fs without ps groups heads is are =
+    lists_same (λ p. of_kind fs without p × IsHead fs ps p) (openers fs without) heads
+    (λ p (row, head). (
+      row.0,
+      (
+        (λ q there before key. (
+            let (j, j_in, at) = is.all q (there, key.2 ∙ row.1) in
+            head j j_in (subst (λ r. Before r p) (sym at) before) (subst (λ r. HaveOneKey fs r p) (sym at) key))),
+        row.1,
+      ),
+    ))
+    (λ p (there, (opener, kind)). ((there, kind), (λ j j_in before key. opener (site_at ps j) (is.each j j_in).0 before key)))
+    (picked_done (of_kind fs without) ps (IsHead fs ps) heads is are.opened)
+
+kind_members : (fs : List ObjectValue) (without : Bool) (ps : List Site) (groups : List (List Site)) (heads : List Site) (r : ℕ) → Lists (of_kind fs without) ps →
+    AreHeaded fs ps (length ps) heads groups → r < length heads → Lists (members fs (site_at heads r)) (get_or groups r [])
+kind_members fs without ps groups heads r is are r_in =
+    let kind = ((kind_heads fs without ps groups heads is are).each r r_in).1.1 in
+    lists_same (λ p. of_kind fs without p × HaveOneKey fs p (site_at heads r)) (members fs (site_at heads r)) (get_or groups r [])
+    (λ p (row, key). (row.0, key)) (λ p (there, key). ((there, key.2 ∙ kind), key))
+    (picked_done (of_kind fs without) ps (λ p. HaveOneKey fs p (site_at heads r)) (get_or groups r []) is (are.grouped.each r r_in))
+
+-- all numbers below n + 1, from 0 and the others
+first_or : (P : ℕ → Type 0) (n : ℕ) → P 0 → ((k : ℕ) → suc k < n → P (suc k)) → (k : ℕ) → k < n → P k
+first_or P n first rest zero lt = first
+first_or P n first rest (suc k) lt = rest k lt
+
+each_append : (fs : List ObjectValue) (xs ys : List Site) (gs hs : List (List Site)) → AreMembers fs xs (length xs) gs → AreMembers fs ys (length ys) hs →
+    AreMembers fs (xs ++ ys) (length (xs ++ ys)) (gs ++ hs)
+each_append fs [] ys [] hs front back = back
+each_append fs [] ys (g ∷ gs) hs front back = absurd (let count = front.count in omega arith)
+each_append fs (x ∷ xs) ys [] hs front back = absurd (let count = front.count in omega arith)
+each_append fs (x ∷ xs) ys (g ∷ gs) hs front back =
+    let rest = each_append fs xs ys gs hs (record { count = (let count = front.count in omega arith); each = λ k lt. front.each (suc k) (omega arith) }) back in
+    record {
+      count = ap suc rest.count;
+      each = first_or (λ k. Lists (members fs (site_at (x ∷ xs ++ ys) k)) (get_or (g ∷ gs ++ hs) k [])) (length (x ∷ xs ++ ys)) (front.each 0 (omega arith))
+          (λ k lt. rest.each k (omega arith));
+    }
+
+pub outputs_are : (fs : List ObjectValue) (ps qs : List Site) (gs hs : List (List Site)) → Lists (of_kind fs false) ps → Lists (of_kind fs true) qs →
+    AreGroups fs ps gs → AreGroups fs qs hs → (xs : List Site) × AreOpeners fs xs × AreMembers fs xs (length xs) (gs ++ hs)
+outputs_are fs ps qs gs hs with without (heads, are) (others, rest) =
+    let count = are.grouped.count in
+    let more = rest.grouped.count in (
+      heads ++ others,
+      (heads, others, kind_heads fs false ps gs heads with are, kind_heads fs true qs hs others without rest, refl),
+      each_append fs heads others gs hs
+          (record { count = are.grouped.count; each = λ r lt. kind_members fs false ps gs heads r with are lt })
+          (record { count = rest.grouped.count; each = λ r lt. kind_members fs true qs hs others r without rest lt }),
+    )
+
+pub outputs_all : (fs : List ObjectValue) (gs hs oss : List (List Site)) → AreGroupsOfKind fs false gs → AreGroupsOfKind fs true hs → oss ≡ gs ++ hs →
+    (zs : List Site) × AreOpeners fs zs × AreMembers fs zs (length zs) oss
+outputs_all fs gs hs oss (ps, with, one) (qs, without, other) all =
+    subst (λ os. (zs : List Site) × AreOpeners fs zs × AreMembers fs zs (length zs) os) (sym all) (outputs_are fs ps qs gs hs with without one other)

@@ -1,0 +1,151 @@
+-- The outputs of a plan have each live section once.
+use Rattle.std.proofs.Common.{◌≡◌, ℕ, ◌<◌, ◌⊎◌, Bool, true, false, List, [], ◌++◌, get_or, length, zero, suc, inl, inr, refl, sym, ◌∙◌, subst, arith}
+use Rattle.std.proofs.lemmas.Bool.{cases_eq, cases_lt}
+use Rattle.elf_object.specs.Object.{ObjectValue}
+use Rattle.elf_link_files.specs.declared.site.Site.{Site}
+use Rattle.elf_link_files.specs.Listing.{AreIn, Lists, site_at}
+use Rattle.elf_link_files.specs.Items.{AreOnce, IsIn, Pairs}
+use Rattle.elf_link_files.specs.Rows.{Before}
+use Rattle.elf_link_files.proofs.Public.{position_before, same_bool, same_name, once_of}
+use Rattle.elf_link_outputs.specs.Outputs.{HaveOneKey, IsOpener, is_no_bits, live, members, openers, output_flags, section_of}
+use Rattle.elf_link_outputs.specs.Plan.{AreMembers, AreOpeners, flat}
+use Rattle.elf_link_outputs.specs.Planning.{AreAllIn, AreLive, AreSome}
+use Rattle.elf_link_outputs.proofs.Plans.{all_append, all_flat, in_flat, in_left, in_right, pairs_append, pairs_flat}
+
+-- ---- keys
+
+one_key : (fs : List ObjectValue) (p q : Site) → HaveOneKey fs p q ⊎ (HaveOneKey fs p q → ⊥)
+one_key fs p q = elim (same_name (section_of fs p).name (section_of fs q).name) [
+  | inr other ↦ inr (λ key. other key.0)
+  | inl name ↦ elim (cases_eq (output_flags (section_of fs p).flags) (output_flags (section_of fs q).flags)) [
+    | inr other ↦ inr (λ key. other key.1)
+    | inl flags ↦ elim (same_bool (is_no_bits (section_of fs p).body) (is_no_bits (section_of fs q).body)) [
+      | inr other ↦ inr (λ key. other key.2)
+      | inl kind ↦ inl (name, flags, kind)
+    ]
+  ]
+]
+
+pub key_swap : (fs : List ObjectValue) (p q : Site) → HaveOneKey fs p q → HaveOneKey fs q p
+key_swap fs p q (name, flags, kind) = (sym name, sym flags, sym kind)
+
+pub key_join : (fs : List ObjectValue) (p q r : Site) → HaveOneKey fs p q → HaveOneKey fs q r → HaveOneKey fs p r
+key_join fs p q r (name, flags, kind) (name_2, flags_2, kind_2) = (name ∙ name_2, flags ∙ flags_2, kind ∙ kind_2)
+
+-- ---- each live section goes to an output
+
+earlier_key : (fs : List ObjectValue) (ps : List Site) (k n : ℕ) →
+    ((j : ℕ) × (j < n) × HaveOneKey fs (site_at ps j) (site_at ps k)) ⊎ ((j : ℕ) → j < n → HaveOneKey fs (site_at ps j) (site_at ps k) → ⊥)
+earlier_key fs ps k zero = inr (λ j lt key. omega arith)
+earlier_key fs ps k (suc n) = elim (earlier_key fs ps k n) [
+  | inl (j, lt, key) ↦ inl (j, omega arith, key)
+  | inr none ↦ elim (one_key fs (site_at ps n) (site_at ps k)) [
+    | inl key ↦ inl (n, omega arith, key)
+    | inr other ↦ inr (λ j lt key. elim (cases_lt j n) [
+      | inl below ↦ none j below key
+      | inr above ↦ (let same : j ≡ n = omega arith in other (subst (λ (m : ℕ). HaveOneKey fs (site_at ps m) (site_at ps k)) same key))
+    ])
+  ]
+]
+
+opener_of : (fs : List ObjectValue) (ps : List Site) → Lists (live fs) ps → (n k : ℕ) → k < n → k < length ps →
+    (q : Site) × live fs q × IsOpener fs q × HaveOneKey fs (site_at ps k) q
+opener_of fs ps is zero k lt within = absurd (omega arith)
+opener_of fs ps is (suc n) k lt within = elim (earlier_key fs ps k k) [
+  | inl (j, below, key) ↦ (
+      let (q, there, opener, other) = opener_of fs ps is n j (omega arith) (omega arith) in
+      (q, there, opener, key_join fs (site_at ps k) (site_at ps j) q (key_swap fs (site_at ps j) (site_at ps k) key) other))
+  | inr none ↦ (
+    site_at ps k,
+    is.each k within,
+    (λ q there before key. (
+        let (m, m_in, at) = is.all q there in
+        let first : m < k = position_before (live fs) ps m k is m_in within (subst (λ (p : Site). Before p (site_at ps k)) (sym at) before) in
+        none m first (subst (λ (p : Site). HaveOneKey fs p (site_at ps k)) (sym at) key))),
+    (refl, refl, refl),
+  )
+]
+
+neither : (b : Bool) → (b ≡ true → ⊥) → (b ≡ false → ⊥) → ⊥
+neither true a b = a refl
+neither false a b = b refl
+
+opener_in : (fs : List ObjectValue) (ps : List Site) (q : Site) → AreOpeners fs ps → live fs q → IsOpener fs q → IsIn ps q
+opener_in fs ps q (with, without, bits, rest, whole) there opener = subst (λ (xs : List Site). IsIn xs q) (sym whole) (elim (same_bool (is_no_bits (section_of fs q).body) true) [
+  | inl kind ↦ in_right with without q (rest.all q (there, (opener, kind)))
+  | inr other ↦ in_left with without q (bits.all q (
+    there,
+    (
+      opener,
+      elim (same_bool (is_no_bits (section_of fs q).body) false) [
+        | inl kind ↦ kind
+        | inr never ↦ absurd (neither (is_no_bits (section_of fs q).body) other never)
+      ],
+    ),
+  ))
+])
+
+pub all_placed : (fs : List ObjectValue) (ls ps : List Site) (oss : List (List Site)) → Lists (live fs) ls → AreOpeners fs ps → AreMembers fs ps (length ps) oss →
+    (p : Site) → live fs p → IsIn (flat oss) p
+all_placed fs ls ps oss is are mem p there =
+    let (k, k_in, at) = is.all p there in
+    let (q, q_there, opener, key) = opener_of fs ls is (suc k) k (omega arith) k_in in
+    let (i, i_in, here) = opener_in fs ps q are q_there opener in
+    let count = mem.count in
+    in_flat oss i p (omega arith) ((mem.each i i_in).all p
+    (there, subst (λ (r : Site). HaveOneKey fs p r) (sym here) (subst (λ (r : Site). HaveOneKey fs r q) at key)))
+
+-- ---- and once
+
+pub opener_live : (fs : List ObjectValue) (ps : List Site) → AreOpeners fs ps → (k : ℕ) → k < length ps → live fs (site_at ps k)
+opener_live fs ps (with, without, bits, rest, whole) k lt =
+    let at : k < length (with ++ without) = subst (λ (xs : List Site). k < length xs) whole lt in
+    subst (λ (xs : List Site). live fs (site_at xs k)) (sym whole) (all_append (live fs) with without (λ j below. (bits.each j below).0) (λ j below. (rest.each j below).0) k at)
+
+pub openers_in : (fs : List ObjectValue) (ps : List Site) → AreOpeners fs ps → AreIn fs ps
+openers_in fs ps are k lt = (let here = opener_live fs ps are k lt in (here.0, here.1))
+
+openers_apart : (fs : List ObjectValue) (without : Bool) (ps : List Site) → Lists (openers fs without) ps → Pairs (λ p q. HaveOneKey fs p q → ⊥) ps
+openers_apart fs without ps is j k lt within key =
+    (is.each k within).1.0 (site_at ps j) (is.each j (omega arith)).0 (is.order j k lt within) key
+
+differ : false ≡ true → ⊥
+differ e = cc
+
+all_apart : (fs : List ObjectValue) (ps : List Site) → AreOpeners fs ps → Pairs (λ p q. HaveOneKey fs p q → ⊥) ps
+all_apart fs ps (with, without, bits, rest, whole) =
+    subst (Pairs (λ p q. HaveOneKey fs p q → ⊥)) (sym whole)
+    (pairs_append (λ p q. HaveOneKey fs p q → ⊥) with without (openers_apart fs false with bits) (openers_apart fs true without rest)
+    (λ j k j_in k_in key. differ (sym (bits.each j j_in).1.1 ∙ key.2 ∙ (rest.each k k_in).1.1)))
+
+pub placed_once : (fs : List ObjectValue) (ps : List Site) (oss : List (List Site)) → AreOpeners fs ps → AreMembers fs ps (length ps) oss → AreOnce (flat oss)
+placed_once fs ps oss are mem =
+    let count = mem.count in
+    pairs_flat (λ p q. p ≡ q → ⊥) oss (λ i lt. once_of (members fs (site_at ps i)) (get_or oss i []) (mem.each i (omega arith)))
+    (λ i j lt within k l k_in l_in same. (
+    let one = ((mem.each i (omega arith)).each k k_in).1 in
+    let other = ((mem.each j (omega arith)).each l l_in).1 in
+    all_apart fs ps are i j lt (omega arith)
+    (key_join fs (site_at ps i) (site_at (get_or oss i []) k) (site_at ps j) (key_swap fs (site_at (get_or oss i []) k) (site_at ps i) one)
+    (subst (λ (p : Site). HaveOneKey fs p (site_at ps j)) (sym same) other))))
+
+pub members_live : (fs : List ObjectValue) (ps : List Site) (oss : List (List Site)) (i : ℕ) → AreMembers fs ps (length ps) oss → i < length oss →
+    (k : ℕ) → k < length (get_or oss i []) → live fs (site_at (get_or oss i []) k)
+members_live fs ps oss i mem lt k within = (let count = mem.count in ((mem.each i (omega arith)).each k within).0)
+
+pub members_in : (fs : List ObjectValue) (ps : List Site) (oss : List (List Site)) → AreMembers fs ps (length ps) oss → AreAllIn fs oss
+members_in fs ps oss mem i lt k within = (let here = members_live fs ps oss i mem lt k within in (here.0, here.1))
+
+pub outputs_live : (fs : List ObjectValue) (ls ps : List Site) (oss : List (List Site)) → Lists (live fs) ls → AreOpeners fs ps → AreMembers fs ps (length ps) oss →
+    AreLive fs (flat oss)
+outputs_live fs ls ps oss is are mem = record {
+  once = placed_once fs ps oss are mem;
+  each = all_flat (live fs) oss (λ i lt. members_live fs ps oss i mem lt);
+  all = all_placed fs ls ps oss is are mem;
+}
+
+pub outputs_some : (fs : List ObjectValue) (ps : List Site) (oss : List (List Site)) → AreOpeners fs ps → AreMembers fs ps (length ps) oss → AreSome oss
+outputs_some fs ps oss are mem i lt =
+    let count = mem.count in
+    let (k, k_in, at) = (mem.each i (omega arith)).all (site_at ps i) (opener_live fs ps are i (omega arith), (refl, refl, refl)) in
+    omega arith

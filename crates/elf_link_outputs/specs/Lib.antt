@@ -1,0 +1,9 @@
+-- The words of this crate's contracts.
+pub mod Outputs
+pub mod Plan
+pub mod Placed
+pub mod PlacedView
+pub mod Planning
+pub mod OutputGroups
+pub mod Addresses
+pub mod AddressFault

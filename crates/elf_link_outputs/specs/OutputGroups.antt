@@ -1,0 +1,43 @@
+-- Sections grouped by the output that they go to, in the order of the first one of each.
+use Rattle.std.specs.Prelude.{◌≡◌, ℕ, ◌<◌, Bool, false, List, [], length}
+use Rattle.elf_object.specs.Object.{ObjectValue}
+use Rattle.elf_link_files.specs.declared.site.Site.{Site}
+use Rattle.elf_link_files.specs.Listing.{Lists, site_at}
+use Rattle.elf_link_files.specs.Items.{AreEach, Pairs}
+use Rattle.elf_link_files.specs.Rows.{Before}
+use Rattle.elf_link_outputs.specs.declared.outputs.OutputKey.{OutputKey}
+use Rattle.elf_link_outputs.specs.Outputs.{HaveOneKey, Picks, is_no_bits, of_kind, output_flags, section_of}
+
+-- a section has this key
+abbrev pub IsKeyOf : List ObjectValue → Site → OutputKey → Type 0
+IsKeyOf fs p key =
+    (key.name.now ≡ (section_of fs p).name) × (key.flags ≡ output_flags (section_of fs p).flags) × (key.no_bits ≡ is_no_bits (section_of fs p).body)
+
+-- the key that stands for one that isn't there
+abbrev pub no_key : OutputKey
+no_key = record { name = record { ref_ptr = (0, 0); now = [] }; flags = 0; no_bits = false }
+
+abbrev pub AreInOrder : List Site → Type 0
+AreInOrder ps = Pairs Before ps
+
+-- no site of the list before p has its key
+abbrev pub IsHead : List ObjectValue → List Site → Site → Type 0
+IsHead fs ps p = (j : ℕ) → j < length ps → Before (site_at ps j) p → HaveOneKey fs (site_at ps j) p → ⊥
+
+-- the groups of the first k sites, by their heads
+pub record AreHeaded (fs : List ObjectValue) (ps : List Site) (k : ℕ) (heads : List Site) (groups : List (List Site)) : Type 0 where
+  pub opened : Picks ps k (IsHead fs ps) heads
+  pub covers : (j : ℕ) → j < k → (r : ℕ) × (r < length heads) × HaveOneKey fs (site_at ps j) (site_at heads r)
+  pub grouped : AreEach [] (λ r. Picks ps k (λ p. HaveOneKey fs p (site_at heads r))) (length heads) groups
+
+-- and their keys
+abbrev pub AreGrouped : List ObjectValue → List Site → ℕ → List OutputKey → List (List Site) → Type 0
+AreGrouped fs ps k keys groups =
+    (heads : List Site) × AreEach no_key (λ r. IsKeyOf fs (site_at heads r)) (length heads) keys × AreHeaded fs ps k heads groups
+
+abbrev pub AreGroups : List ObjectValue → List Site → List (List Site) → Type 0
+AreGroups fs ps groups = (heads : List Site) × AreHeaded fs ps (length ps) heads groups
+
+-- the groups of the live sections with bits, or without
+abbrev pub AreGroupsOfKind : List ObjectValue → Bool → List (List Site) → Type 0
+AreGroupsOfKind fs without groups = (ps : List Site) × Lists (of_kind fs without) ps × AreGroups fs ps groups
