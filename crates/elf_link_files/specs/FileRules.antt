@@ -2,7 +2,7 @@
 -- (gABI chapter 4: e_machine, e_flags; sh_flags; section groups; st_info, st_shndx, st_value.)
 use Rattle.std.specs.Prelude.{◌≡◌, ◌≢◌, ℕ, ◌%◌, ◌<◌, ◌⊎◌, true, List, [], ◌∷◌}
 use Rattle.elf_field.specs.Abi.{SHF_LINK_ORDER, SHF_TLS, STB_GLOBAL, STB_LOCAL, STB_WEAK, STT_TLS}
-use Rattle.elf_object.specs.Object.{ObjectValue, SymbolValue}
+use Rattle.elf_object.specs.Object.{ObjectValue, SymbolValue, binding, symbol_type}
 use Rattle.elf_object.specs.Positions.{HasFlag}
 use Rattle.elf_rules.specs.SectionRules.{IsWrongAlignment}
 use Rattle.elf_link_files.specs.declared.options.Options.{Options}
@@ -10,7 +10,7 @@ use Rattle.elf_link_files.specs.Discarded.{IsComdat, signature}
 use Rattle.elf_link_files.specs.Files.{object_at, section_in, symbol_in}
 use Rattle.elf_link_files.specs.Live.{Live}
 use Rattle.elf_link_files.specs.Rows.{AtFile, AtSection, AtSymbol, Once, Row, Ruled, rule}
-use Rattle.elf_link_files.specs.Symbols.{binding, is_common, symbol_type}
+use Rattle.elf_link_files.specs.Symbols.{is_common}
 
 -- a number is no power of two: it is 0, or wrong as an alignment
 abbrev pub IsNoPower : ℕ → Type 0

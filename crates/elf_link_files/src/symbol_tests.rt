@@ -3,8 +3,7 @@ ghost use Rattle.std.specs.Prelude.{◌≡◌, ◌↔◌, ◌<◌, IsTrue, lengt
 ghost use Rattle.elf_link_files.specs.Discarded.{AreMarks};
 ghost use Rattle.elf_link_files.specs.FileRules.{IsBadCommon, IsBadSymbol, IsNoPower};
 ghost use Rattle.elf_link_files.specs.Files.{object_at, symbol_in};
-ghost use Rattle.elf_link_files.specs.Symbols.{IsCommon, IsDefinedAt, IsDefinition, IsEntry, IsNotWeak, binding as binding_of, is_common as is_common_of, symbol_type as symbol_type_of};
-ghost use Rattle.elf_object.specs.ObjectView.{symbol_value};
+ghost use Rattle.elf_link_files.specs.Symbols.{IsCommon, IsDefinedAt, IsDefinition, IsEntry, IsNotWeak, is_common as is_common_of};
 ghost use Rattle.elf_link_files.specs.Symbols.{IsPlaceIn};
 
 use crate::files::{keeps_rules, symbol_of};
@@ -12,20 +11,6 @@ use crate::section_tests::is_discarded;
 use elf_field::abi::*;
 use elf_object::{Object, Place, Symbol};
 use elf_rules::is_wrong_alignment;
-
-/// A symbol's binding, `STB_GLOBAL` and the like.
-pub fn binding(symbol: &Symbol<'_>) -> u8
-    ensures { result ≡ binding_of (symbol_value symbol.now) }
-{
-    symbol.info / 16
-}
-
-/// A symbol's type, `STT_TLS` and the like.
-fn symbol_type(symbol: &Symbol<'_>) -> u8
-    ensures { result ≡ symbol_type_of (symbol_value symbol.now) }
-{
-    symbol.info % 16
-}
 
 /// Whether a place is a common block.
 fn is_common(place: Place) -> bool
@@ -48,9 +33,9 @@ pub(crate) fn is_bad_symbol(objects: &[Object<'_>], file: usize, index: usize) -
     ensures { IsTrue result ↔ IsBadSymbol (symbol_in objects.now file index) }
 {
     let symbol = symbol_of(objects, file, index);
-    let bound = binding(&symbol);
+    let bound = symbol.binding();
     bound > STB_WEAK
-        || symbol_type(&symbol) == STT_TLS
+        || symbol.symbol_type() == STT_TLS
         || (bound != STB_LOCAL && symbol.name.is_empty())
 }
 
@@ -61,7 +46,7 @@ pub(crate) fn is_bad_common(objects: &[Object<'_>], file: usize, index: usize) -
     ensures { IsTrue result ↔ IsBadCommon (symbol_in objects.now file index) }
 {
     let symbol = symbol_of(objects, file, index);
-    is_common(symbol.place) && (binding(&symbol) != STB_GLOBAL || is_no_power(symbol.value))
+    is_common(symbol.place) && (symbol.binding() != STB_GLOBAL || is_no_power(symbol.value))
 }
 
 /// Whether a symbol has the name and is not local.
@@ -71,7 +56,7 @@ pub(crate) fn is_entry(name: &[u8], objects: &[Object<'_>], file: usize, index: 
     ensures { IsTrue result ↔ IsEntry objects.now name.now file index }
 {
     let symbol = symbol_of(objects, file, index);
-    binding(&symbol) != STB_LOCAL && symbol.name == name
+    symbol.binding() != STB_LOCAL && symbol.name == name
 }
 
 /// Whether a symbol is a common of the name.
@@ -89,7 +74,7 @@ pub fn is_not_weak(name: &[u8], objects: &[Object<'_>], file: usize, index: usiz
     requires index { index < length (object_at objects.now file).symbols }
     ensures { IsTrue result ↔ IsNotWeak objects.now name.now file index }
 {
-    is_entry(name, objects, file, index) && binding(&symbol_of(objects, file, index)) != STB_WEAK
+    is_entry(name, objects, file, index) && symbol_of(objects, file, index).binding() != STB_WEAK
 }
 
 /// Whether a place is a definition: absolute, or in a section that is not discarded.
@@ -123,6 +108,6 @@ pub fn is_definition(
     keeps_rules(objects, file);
     let symbol = symbol_of(objects, file, index);
     symbol.name == name
-        && binding(&symbol) == bound
+        && symbol.binding() == bound
         && is_defined_at(objects, marks, file, symbol.place)
 }

@@ -3,13 +3,13 @@ use Rattle.std.proofs.Common.{◌≡◌, ◌≢◌, ℕ, ◌<◌, true, List, in
 use Rattle.std.specs.Prelude.{None}
 use Rattle.std.proofs.lemmas.Bool.{cases_lt}
 use Rattle.elf_field.specs.Abi.{STB_GLOBAL, STB_LOCAL, STB_WEAK}
-use Rattle.elf_object.specs.Object.{ObjectValue}
+use Rattle.elf_object.specs.Object.{ObjectValue, binding}
 use Rattle.elf_object.specs.declared.symbol.Place.{Place}
 use Rattle.elf_object.specs.declared.symbol.Place.TheVariants.{Undef, Abs, Common, In}
 use Rattle.elf_link_files.specs.declared.options.Options.{Options}
 use Rattle.elf_link_files.specs.Files.{symbol_in}
 use Rattle.elf_link_files.specs.Rows.{FirstIn}
-use Rattle.elf_link_files.specs.Symbols.{IsDefinedAt, IsUndefinedAt, binding, is_common}
+use Rattle.elf_link_files.specs.Symbols.{IsDefinedAt, IsUndefinedAt, is_common}
 use Rattle.elf_link_names.specs.Binds.{IsUnbound, AllBound}
 use Rattle.elf_link_names.specs.LinkRules.{input_rules}
 

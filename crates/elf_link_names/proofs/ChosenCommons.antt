@@ -2,14 +2,14 @@
 use Rattle.std.proofs.Common.{◌≡◌, ℕ, ◌<◌, ◌⊎◌, true, List, length, inl, inr, refl, sym, ◌∙◌, ap, subst, arith}
 use Rattle.std.proofs.lemmas.Bool.{cases_eq}
 use Rattle.elf_field.specs.Abi.{STB_LOCAL}
-use Rattle.elf_object.specs.Object.{ObjectValue}
+use Rattle.elf_object.specs.Object.{ObjectValue, binding}
 use Rattle.elf_link_files.specs.declared.chosen.Chosen.{Chosen}
 use Rattle.elf_link_files.specs.declared.site.Site.{Site}
 use Rattle.elf_link_files.specs.Files.{object_at, symbol_in}
 use Rattle.elf_link_files.specs.Listing.{Lists, site, name_at}
 use Rattle.elf_link_files.specs.Commons.{AreSymbols}
 use Rattle.elf_link_files.specs.Rows.{IsFirstAt, Nowhere}
-use Rattle.elf_link_files.specs.Symbols.{IsCommon, binding, is_common}
+use Rattle.elf_link_files.specs.Symbols.{IsCommon, is_common}
 use Rattle.elf_link_files.proofs.Public.{first_in_row, site_is, same_bool, same_name}
 use Rattle.elf_link_names.specs.declared.listing.Listed.TheVariants.{ChosenCommons}
 use Rattle.elf_link_names.specs.Binds.{commons, strong}

@@ -12,12 +12,12 @@ use Rattle.std.proofs.lemmas.Slice.Eq.{bytes_eq-Decides}
 use Rattle.std.proofs.Math.ListN.{get_or-append}
 use Rattle.std.proofs.Math.Seq.{map-set_same}
 use Rattle.elf_field.specs.Abi.{STB_GLOBAL, STB_LOCAL, STB_WEAK}
-use Rattle.elf_object.specs.Object.{ObjectValue}
+use Rattle.elf_object.specs.Object.{ObjectValue, binding}
 use Rattle.elf_link_files.specs.declared.site.Site.{Site}
 use Rattle.elf_link_files.specs.Files.{IsEarlier, object_at, symbol_in}
 use Rattle.elf_link_files.specs.Listing.{Lists, UpTo, site, site_at, name_at}
 use Rattle.elf_link_files.specs.Rows.{AtSymbol, IsFirstAt, Nowhere, Row, symbol_count}
-use Rattle.elf_link_files.specs.Symbols.{IsCommon, IsEntry, IsNotWeak, IsStrong, IsWeak, binding}
+use Rattle.elf_link_files.specs.Symbols.{IsCommon, IsEntry, IsNotWeak, IsStrong, IsWeak}
 use Rattle.elf_link_files.proofs.Public.{first_earlier, first_in_row, lists_same, listed_more, listed_past, site_is, match_map, earlier_more, earlier_next, file_before}
 use Rattle.elf_link_names.specs.declared.name_table.Block.{Block}
 use Rattle.elf_link_names.specs.declared.name_table.Known.{Known}

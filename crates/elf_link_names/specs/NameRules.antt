@@ -1,10 +1,10 @@
 -- Rules 8 and 9 of the link: the definitions of a name.
 use Rattle.std.specs.Prelude.{◌≡◌, ℕ, ◌<◌, List, [], ◌∷◌, length}
 use Rattle.elf_field.specs.Abi.{STB_GLOBAL}
-use Rattle.elf_object.specs.Object.{ObjectValue}
+use Rattle.elf_object.specs.Object.{ObjectValue, binding}
 use Rattle.elf_link_files.specs.Files.{IsEarlier, object_at, symbol_in}
 use Rattle.elf_link_files.specs.Rows.{AtSymbol, Row, Ruled, rule}
-use Rattle.elf_link_files.specs.Symbols.{IsStrong, IsUndefinedAt, binding}
+use Rattle.elf_link_files.specs.Symbols.{IsStrong, IsUndefinedAt}
 use Rattle.elf_link_names.specs.declared.name_rules.NameRule.{NameRule}
 use Rattle.elf_link_names.specs.declared.name_rules.NameRule.TheVariants.{TwoDefinitions, Undefined}
 use Rattle.elf_link_names.specs.Binds.{IsUnbound}

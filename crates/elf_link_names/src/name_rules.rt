@@ -15,7 +15,7 @@ use elf_field::abi::*;
 use elf_link_files::files::{keeps_rules, symbol_count, symbol_of};
 use elf_link_files::rules::*;
 use elf_link_files::section_tests::is_discarded;
-use elf_link_files::symbol_tests::{binding, is_definition};
+use elf_link_files::symbol_tests::is_definition;
 use elf_link_files::{Broken, Site, site_in};
 use elf_object::{Object, Place};
 
@@ -135,7 +135,7 @@ fn is_undefined(
 {
     keeps_rules(objects, file);
     let symbol = symbol_of(objects, file, index);
-    binding(&symbol) == STB_GLOBAL
+    symbol.binding() == STB_GLOBAL
         && is_undefined_at(objects, marks, file, symbol.place)
         && is_unbound(objects, table, symbol.name)
 }

@@ -9,12 +9,13 @@ ghost use Rattle.elf_link_names.specs.Binds.{not_weak as not_weak_row};
 ghost use Rattle.elf_link_names.specs.NameTable.{IsBlock, IsCommonBest, IsKnown, IsLargerOf, IsTable, IsWholeTable, SomeBefore, first_or, spot_in};
 ghost use Rattle.elf_link_names.specs.Naming.{position_by};
 ghost use Rattle.elf_field.specs.Abi.{STB_LOCAL};
-ghost use Rattle.elf_link_files.specs.Symbols.{IsCommon, binding as binding_of};
+ghost use Rattle.elf_link_files.specs.Symbols.{IsCommon};
+ghost use Rattle.elf_object.specs.Object.{binding as binding_of};
 
 use crate::bind::known_item;
 use elf_field::abi::*;
 use elf_link_files::files::{symbol_count, symbol_of};
-use elf_link_files::symbol_tests::{binding, is_common_entry, is_definition, is_not_weak};
+use elf_link_files::symbol_tests::{is_common_entry, is_definition, is_not_weak};
 use elf_object::{Object, Symbol};
 use std::alloc::{AllocError, Global};
 use std::collections::BTreeMap;
@@ -205,7 +206,7 @@ fn place_name<'a>(
 fn is_local(symbol: &Symbol<'_>) -> bool
     ensures { IsTrue result ↔ (binding_of (symbol_value symbol.now) ≡ STB_LOCAL) }
 {
-    binding(symbol) == STB_LOCAL
+    symbol.binding() == STB_LOCAL
 }
 
 /// Goes past the symbol at `index` of a file.

@@ -2,13 +2,12 @@
 -- (gABI chapter 4, Symbol Table: st_value; STB_LOCAL.)
 use Rattle.std.specs.Prelude.{ℕ, ◌+◌, ◌^◌, ◌<◌, if◌then◌else◌, nat_eq, Option, None, Some, List, option_map, IfSome}
 use Rattle.elf_field.specs.Abi.{STB_LOCAL}
-use Rattle.elf_object.specs.Object.{ObjectValue}
+use Rattle.elf_object.specs.Object.{ObjectValue, binding}
 use Rattle.elf_object.specs.declared.symbol.Place.{Place}
 use Rattle.elf_object.specs.declared.symbol.Place.TheVariants.{Undef, Abs, In}
 use Rattle.elf_object.specs.declared.symbol.Place.TheVariants.{Common as CommonPlace}
 use Rattle.elf_link_files.specs.declared.site.Site.{Site}
 use Rattle.elf_link_files.specs.Files.{symbol_in}
-use Rattle.elf_link_files.specs.Symbols.{binding}
 use Rattle.elf_link_outputs.specs.Placed.{cell}
 use Rattle.elf_link.specs.declared.bindings.Binding.{Binding}
 use Rattle.elf_link.specs.declared.bindings.Binding.TheVariants.{Strong, Common, Weak, Zero}

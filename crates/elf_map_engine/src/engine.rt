@@ -1,7 +1,7 @@
 //! `map`: where the sections and names of files stand in their link.
 ghost use Rattle.std.specs.Prelude.{Some, option_copied, map as map_list};
 ghost use Rattle.elf_stream.specs.Engine.{IsSaid};
-ghost use Rattle.elf_map_engine.specs.Map.{FilesRefuse, IsMapped, IsThis, LinkSays, MapSays, RelocationSays};
+ghost use Rattle.elf_map_engine.specs.Map.{IsMapped, IsThis, LinkSays, MapSays, RelocationSays};
 ghost use Rattle.elf_linked.specs.MapFacts.{IsMapOfSome};
 ghost use Rattle.elf_map_engine.specs.MapLines.{file_refused_line, link_refused_line};
 
@@ -15,7 +15,7 @@ use elf_linked::relocate;
 use elf_object::Object;
 use elf_relocation::RelocRule;
 use elf_stream::{Refusal, ToolFault, Verdict, read_inputs};
-use std::alloc::{AllocError, Global};
+use std::alloc::Global;
 use std::hash::{BuildHasherDefault, FoldHasher};
 use std::io::{Read, Write};
 
