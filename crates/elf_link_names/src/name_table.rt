@@ -23,15 +23,20 @@ use std::collections::BTreeMap;
 /// A symbol, by file and position.
 #[derive(Clone, Copy)]
 pub struct Spot {
+    /// The file's position among the objects, from 0.
     pub file: usize,
+    /// The symbol's position in the file, from 0.
     pub index: usize,
 }
 
 /// The commons of a name: the first one, and the largest size and alignment of all.
 #[derive(Clone, Copy)]
 pub struct Block {
+    /// The first one.
     pub first: Spot,
+    /// The largest size.
     pub size: u64,
+    /// The largest alignment.
     pub align: u64,
 }
 
@@ -53,7 +58,9 @@ pub struct Known {
 /// What is known of each name, in the order of the first entries, and the position of each there.
 #[derive(Drop)]
 pub struct NameTable<'a> {
+    /// The position of each name in `known`.
     pub positions: BTreeMap<&'a [u8], usize>,
+    /// What is known of each.
     pub known: Vec<Known>,
 }
 
