@@ -1,7 +1,7 @@
 -- A row that stands somewhere stands at a first site, where it can be told of each symbol.
 use Rattle.std.proofs.Common.{◌≡◌, ℕ, ◌<◌, ◌⊎◌, List, length, zero, suc, inl, inr, refl, subst, arith}
 use Rattle.std.proofs.lemmas.Bool.{cases_lt}
-use Rattle.elf_object.specs.Object.{ObjectValue}
+use Rattle.elf_object_type.specs.Object.{ObjectValue}
 use Rattle.elf_link_files.specs.declared.site.Site.{Site}
 use Rattle.elf_link_files.specs.Files.{object_at}
 use Rattle.elf_link_files.specs.Listing.{site}

@@ -3,8 +3,8 @@ use Rattle.std.proofs.Common.{◌≡◌, ℕ, ◌+◌, ◌<◌, ◌⊎◌, Bool,
 use Rattle.std.proofs.lemmas.Bool.{cases_eq, cases_lt}
 use Rattle.std.proofs.lemmas.List.{get_or_push, length-set}
 use Rattle.std.proofs.Math.ListN.{get_or-append}
-use Rattle.elf_object.specs.GroupRule.{NamesMember}
-use Rattle.elf_object.specs.Object.{ObjectValue}
+use Rattle.elf_object_type.specs.GroupRule.{NamesMember}
+use Rattle.elf_object_type.specs.Object.{ObjectValue}
 use Rattle.elf_link_files.specs.Files.{object_at}
 use Rattle.elf_link_files.specs.Marking.{AreMarked, AreMarksBefore, AreRows, IsDiscardedBefore}
 

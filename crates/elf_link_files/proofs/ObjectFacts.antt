@@ -2,13 +2,13 @@
 use Rattle.std.proofs.Common.{◌≡◌, ℕ, ◌<◌, true, length, List, get_or, sym, ◌∙◌}
 use Rattle.std.specs.Prelude.{IfSome}
 use Rattle.std.proofs.lemmas.List.{get_or_default}
-use Rattle.elf_object.specs.KeepsObjectRules.{HasReferences}
-use Rattle.elf_object.specs.Object.{BodyValue, bits, no_bits, relocs, group, ObjectValue, section_at, symbol_at}
-use Rattle.elf_object.specs.ObjectRules.{IsObject}
-use Rattle.elf_object.specs.SymbolRules.{place_position}
-use Rattle.elf_object.specs.declared.symbol.Place.{Place}
-use Rattle.elf_object.specs.declared.symbol.Place.TheVariants.{Undef, Abs, Common, In}
-use Rattle.elf_object.proofs.Public.{place_there, references_there}
+use Rattle.elf_object_type.specs.KeepsObjectRules.{HasReferences}
+use Rattle.elf_object_type.specs.Object.{BodyValue, bits, no_bits, relocs, group, ObjectValue, section_at, symbol_at}
+use Rattle.elf_object_type.specs.ObjectRules.{IsObject}
+use Rattle.elf_object_type.specs.SymbolRules.{place_position}
+use Rattle.elf_object_type.specs.declared.symbol.Place.{Place}
+use Rattle.elf_object_type.specs.declared.symbol.Place.TheVariants.{Undef, Abs, Common, In}
+use Rattle.elf_object_type.proofs.Public.{place_there, references_there}
 use Rattle.elf_link_files.specs.Discarded.{is_comdat, signature_position}
 use Rattle.elf_link_files.specs.Symbols.{IsPlaceIn}
 use Rattle.elf_link_files.specs.Files.{no_object, object_at}

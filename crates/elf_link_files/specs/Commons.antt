@@ -1,6 +1,6 @@
 -- The commons that are placed, by position.
 use Rattle.std.specs.Prelude.{ℕ, ◌<◌, List, get_or, length}
-use Rattle.elf_object.specs.Object.{ObjectValue}
+use Rattle.elf_object_type.specs.Object.{ObjectValue}
 use Rattle.elf_link_files.specs.declared.chosen.Chosen.{Chosen}
 use Rattle.elf_link_files.specs.Listing.{site}
 use Rattle.elf_link_files.specs.Files.{object_at}

@@ -1,9 +1,9 @@
 -- Which sections are discarded: the members of each COMDAT group whose signature an earlier one has.
 -- (gABI chapter 4, Section Groups: GRP_COMDAT.)
 use Rattle.std.specs.Prelude.{◌≡◌, ◌↔◌, ℕ, ◌<◌, Bool, true, false, List, [], length, get_or}
-use Rattle.elf_object.specs.GroupRule.{NamesMember}
-use Rattle.elf_object.specs.Object.{BodyValue, bits, no_bits, relocs, group, ObjectValue}
-use Rattle.elf_object.specs.Positions.{members_of}
+use Rattle.elf_object_type.specs.GroupRule.{NamesMember}
+use Rattle.elf_object_type.specs.Object.{BodyValue, bits, no_bits, relocs, group, ObjectValue}
+use Rattle.elf_object_type.specs.Positions.{members_of}
 use Rattle.elf_link_files.specs.Files.{IsEarlier, object_at, section_in, symbol_in}
 
 abbrev pub is_comdat : BodyValue → Bool

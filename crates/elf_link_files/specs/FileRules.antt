@@ -2,9 +2,9 @@
 -- (gABI chapter 4: e_machine, e_flags; sh_flags; section groups; st_info, st_shndx, st_value.)
 use Rattle.std.specs.Prelude.{◌≡◌, ◌≢◌, ℕ, ◌%◌, ◌<◌, ◌⊎◌, true, List, [], ◌∷◌}
 use Rattle.elf_field.specs.Abi.{SHF_LINK_ORDER, SHF_TLS, STB_GLOBAL, STB_LOCAL, STB_WEAK, STT_TLS}
-use Rattle.elf_object.specs.Object.{ObjectValue, SymbolValue, binding, symbol_type}
-use Rattle.elf_object.specs.Positions.{HasFlag}
-use Rattle.elf_rules.specs.SectionRules.{IsWrongAlignment}
+use Rattle.elf_object_type.specs.Object.{ObjectValue, SymbolValue, binding, symbol_type}
+use Rattle.elf_object_type.specs.Positions.{HasFlag}
+use Rattle.elf_image_rules.specs.SectionRules.{IsWrongAlignment}
 use Rattle.elf_link_files.specs.declared.options.Options.{Options}
 use Rattle.elf_link_files.specs.Discarded.{IsComdat, signature}
 use Rattle.elf_link_files.specs.Files.{object_at, section_in, symbol_in}

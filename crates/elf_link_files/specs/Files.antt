@@ -1,7 +1,7 @@
 -- The files of a link: objects in the order they are given, by position from 0.
 use Rattle.std.specs.Prelude.{ℕ, ◌≡◌, ◌<◌, ◌⊎◌, List, [], get_or}
 use Rattle.elf_field.specs.declared.order.Order.TheVariants.{Little}
-use Rattle.elf_object.specs.Object.{ObjectValue, SectionValue, SymbolValue, section_at, symbol_at}
+use Rattle.elf_object_type.specs.Object.{ObjectValue, SectionValue, SymbolValue, section_at, symbol_at}
 
 -- the one that stands for a file that isn't there
 abbrev pub no_object : ObjectValue

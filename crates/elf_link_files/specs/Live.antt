@@ -1,8 +1,8 @@
 -- Live sections: those that take memory while the program runs.
 use Rattle.std.specs.Prelude.{◌≡◌, ℕ, Bool, true, false, List}
 use Rattle.elf_field.specs.Abi.{SHF_ALLOC}
-use Rattle.elf_object.specs.Object.{BodyValue, bits, no_bits, relocs, group, ObjectValue}
-use Rattle.elf_object.specs.Positions.{HasFlag}
+use Rattle.elf_object_type.specs.Object.{BodyValue, bits, no_bits, relocs, group, ObjectValue}
+use Rattle.elf_object_type.specs.Positions.{HasFlag}
 use Rattle.elf_link_files.specs.Discarded.{Discarded}
 use Rattle.elf_link_files.specs.Files.{section_in}
 

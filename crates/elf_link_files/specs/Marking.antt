@@ -4,8 +4,8 @@ use Rattle.std.specs.BTreeSet.{BTreeSet, contains_by}
 use Rattle.std.specs.Cmp.Lexicographic.{slice_cmp}
 use Rattle.std.specs.Ordering.{nat_cmp}
 use denote.Ref.{Bor}
-use Rattle.elf_object.specs.GroupRule.{NamesMember}
-use Rattle.elf_object.specs.Object.{ObjectValue}
+use Rattle.elf_object_type.specs.GroupRule.{NamesMember}
+use Rattle.elf_object_type.specs.Object.{ObjectValue}
 use Rattle.elf_link_files.specs.Discarded.{IsComdat, IsMember, IsSeen, signature}
 use Rattle.elf_link_files.specs.Files.{object_at}
 

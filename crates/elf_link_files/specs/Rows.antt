@@ -1,6 +1,6 @@
 -- Where a rule of the link stands, and the first rule of a list that does, at its first site: by file, index and entry.
 use Rattle.std.specs.Prelude.{◌≡◌, ℕ, ◌<◌, ◌⊎◌, Option, None, Some, List, [], ◌∷◌, length, Result, Ok, Err}
-use Rattle.elf_object.specs.Object.{ObjectValue}
+use Rattle.elf_object_type.specs.Object.{ObjectValue}
 use Rattle.elf_link_files.specs.declared.site.Site.{Site}
 use Rattle.elf_link_files.specs.declared.site.Broken.{Broken}
 use Rattle.elf_link_files.specs.Files.{object_at}

@@ -1,7 +1,7 @@
 -- The tests that one search serves: rules 3 to 7.
 use Rattle.std.specs.Prelude.{ℕ, ◌<◌, List}
 use Rattle.elf_field.specs.Abi.{SHF_LINK_ORDER, SHF_TLS}
-use Rattle.elf_object.specs.Object.{ObjectValue}
+use Rattle.elf_object_type.specs.Object.{ObjectValue}
 use Rattle.elf_link_files.specs.declared.site_test.SiteTest.{SiteTest}
 use Rattle.elf_link_files.specs.declared.site_test.SiteTest.TheVariants.{Tls, LinkOrder, EmptySignature, BadSymbol, BadCommon}
 use Rattle.elf_link_files.specs.FileRules.{HasEmptySignature, IsBadCommon, IsBadSymbol, IsLiveWith}

@@ -1,9 +1,9 @@
 -- What a symbol is to the link. (gABI chapter 4, Symbol Table: st_info, st_shndx, st_value.)
 use Rattle.std.specs.Prelude.{◌≡◌, ◌≢◌, ℕ, ◌<◌, Bool, true, false, List, length}
 use Rattle.elf_field.specs.Abi.{STB_GLOBAL, STB_LOCAL, STB_WEAK}
-use Rattle.elf_object.specs.Object.{ObjectValue, binding}
-use Rattle.elf_object.specs.declared.symbol.Place.{Place}
-use Rattle.elf_object.specs.declared.symbol.Place.TheVariants.{Undef, Abs, Common, In}
+use Rattle.elf_object_type.specs.Object.{ObjectValue, binding}
+use Rattle.elf_object_type.specs.declared.symbol.Place.{Place}
+use Rattle.elf_object_type.specs.declared.symbol.Place.TheVariants.{Undef, Abs, Common, In}
 use Rattle.elf_link_files.specs.Discarded.{Discarded}
 use Rattle.elf_link_files.specs.Files.{symbol_in}
 

@@ -5,11 +5,11 @@ ghost use Rattle.std.specs.Str.{bytes_eq};
 ghost use Rattle.elf_link_files.specs.Discarded.{AreMarks};
 ghost use Rattle.elf_link_files.specs.Files.{object_at, section_in};
 ghost use Rattle.elf_link_files.specs.Marking.{AreMarked, AreMarksBefore, HasSeen, has_name};
-ghost use Rattle.elf_object.specs.Positions.{members_of};
+ghost use Rattle.elf_object_type.specs.Positions.{members_of};
 
 use crate::files::{keeps_rules, section_count, section_of};
 use crate::section_tests::comdat_signature;
-use elf_object::{Body, Object};
+use elf_object_type::{Body, Object};
 use std::alloc::{AllocError, Global};
 use std::collections::BTreeSet;
 

@@ -1,10 +1,10 @@
 //! The sections and symbols of the files, by position.
 ghost use Rattle.std.specs.Prelude.{◌≡◌, ◌<◌, length};
 ghost use Rattle.elf_link_files.specs.Files.{object_at, section_in, symbol_in};
-ghost use Rattle.elf_object.specs.ObjectRules.{IsObject};
-ghost use Rattle.elf_object.specs.ObjectView.{section_value, symbol_value};
+ghost use Rattle.elf_object_type.specs.ObjectRules.{IsObject};
+ghost use Rattle.elf_object_type.specs.ObjectView.{section_value, symbol_value};
 
-use elf_object::{Object, Section, Symbol};
+use elf_object_type::{Object, Section, Symbol};
 
 /// Promises that a file breaks none of the object rules. It does nothing.
 pub fn keeps_rules(objects: &[Object<'_>], file: usize)

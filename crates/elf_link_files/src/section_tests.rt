@@ -4,11 +4,11 @@ ghost use Rattle.elf_link_files.specs.Discarded.{AreMarks, Discarded, IsComdat, 
 ghost use Rattle.elf_link_files.specs.FileRules.{HasEmptySignature, IsLiveWith};
 ghost use Rattle.elf_link_files.specs.Files.{object_at};
 ghost use Rattle.elf_link_files.specs.Live.{Live, is_loadable as is_loadable_of};
-ghost use Rattle.elf_object.specs.ObjectView.{body_value};
+ghost use Rattle.elf_object_type.specs.ObjectView.{body_value};
 
 use crate::files::{keeps_rules, section_of, symbol_of};
 use elf_field::abi::*;
-use elf_object::{Body, Object};
+use elf_object_type::{Body, Object};
 
 /// Whether a body is bits, or takes memory without them.
 fn is_loadable(body: &Body<'_>) -> bool

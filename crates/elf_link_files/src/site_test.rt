@@ -10,7 +10,7 @@ use crate::section_tests::{has_empty_signature, is_live_with};
 use crate::site::{Site, site_in};
 use crate::symbol_tests::{is_bad_common, is_bad_symbol};
 use elf_field::abi::*;
-use elf_object::Object;
+use elf_object_type::Object;
 
 /// A rule of the link that looks at one section or one symbol by itself.
 #[derive(Clone, Copy)]

@@ -9,8 +9,8 @@ ghost use Rattle.elf_link_files.specs.Symbols.{IsPlaceIn};
 use crate::files::{keeps_rules, symbol_of};
 use crate::section_tests::is_discarded;
 use elf_field::abi::*;
-use elf_object::{Object, Place, Symbol};
-use elf_rules::is_wrong_alignment;
+use elf_image_rules::is_wrong_alignment;
+use elf_object_type::{Object, Place, Symbol};
 
 /// Whether a place is a common block.
 fn is_common(place: Place) -> bool

@@ -1,6 +1,6 @@
 -- A name that is bound is not unbound.
 use Rattle.std.proofs.Common.{ℕ, List, inl, inr}
-use Rattle.elf_object.specs.Object.{ObjectValue}
+use Rattle.elf_object_type.specs.Object.{ObjectValue}
 use Rattle.elf_link_names.specs.declared.choice.Choice.{Choice}
 use Rattle.elf_link_names.specs.declared.choice.Choice.TheVariants.{Strong, Common, Weak, Zero}
 use Rattle.elf_link_names.specs.Binds.{Binds, IsUnbound}

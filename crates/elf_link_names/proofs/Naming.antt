@@ -10,7 +10,7 @@ use Rattle.std.proofs.lemmas.Bool.{cases_eq, cases_lt}
 use Rattle.std.proofs.lemmas.Map.Text.{is_eq-slice_cmp}
 use Rattle.std.proofs.lemmas.Slice.Eq.{bytes_eq-Decides}
 use Rattle.elf_field.specs.Abi.{STB_LOCAL}
-use Rattle.elf_object.specs.Object.{ObjectValue, binding}
+use Rattle.elf_object_type.specs.Object.{ObjectValue, binding}
 use Rattle.elf_link_files.specs.declared.site.Site.{Site}
 use Rattle.elf_link_files.specs.Files.{symbol_in}
 use Rattle.elf_link_files.specs.Listing.{Lists, site, site_at, name_at}

@@ -12,7 +12,7 @@ use Rattle.std.proofs.lemmas.Slice.Eq.{bytes_eq-Decides}
 use Rattle.std.proofs.Math.ListN.{get_or-append}
 use Rattle.std.proofs.Math.Seq.{map-set_same}
 use Rattle.elf_field.specs.Abi.{STB_GLOBAL, STB_LOCAL, STB_WEAK}
-use Rattle.elf_object.specs.Object.{ObjectValue, binding}
+use Rattle.elf_object_type.specs.Object.{ObjectValue, binding}
 use Rattle.elf_link_files.specs.declared.site.Site.{Site}
 use Rattle.elf_link_files.specs.Files.{IsEarlier, object_at, symbol_in}
 use Rattle.elf_link_files.specs.Listing.{Lists, UpTo, site, site_at, name_at}

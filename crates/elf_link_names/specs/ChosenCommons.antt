@@ -1,7 +1,7 @@
 -- The commons that are placed: of each name without a GLOBAL definition one, of the largest size and the largest alignment.
 -- (gABI chapter 4, Symbol Table: SHN_COMMON.)
 use Rattle.std.specs.Prelude.{◌≡◌, ℕ, ◌<◌, List, length}
-use Rattle.elf_object.specs.Object.{ObjectValue}
+use Rattle.elf_object_type.specs.Object.{ObjectValue}
 use Rattle.elf_link_files.specs.declared.chosen.Chosen.{Chosen}
 use Rattle.elf_link_files.specs.declared.site.Site.{Site}
 use Rattle.elf_link_files.specs.Listing.{Lists, site_at, name_at}

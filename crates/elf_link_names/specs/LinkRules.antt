@@ -1,6 +1,6 @@
 -- Rules 1 to 9 of the link in the order of their numbers, and the fault of files that break one.
 use Rattle.std.specs.Prelude.{None, Some, List, ◌++◌}
-use Rattle.elf_object.specs.Object.{ObjectValue}
+use Rattle.elf_object_type.specs.Object.{ObjectValue}
 use Rattle.elf_link_files.specs.declared.fault.LinkFault.{LinkFault}
 use Rattle.elf_link_files.specs.declared.fault.LinkFault.TheVariants.{Rule, OutOfMemory}
 use Rattle.elf_link_files.specs.declared.options.Options.{Options}

@@ -1,6 +1,6 @@
 -- What is listed: live sections, chosen commons and first entries.
 use Rattle.std.specs.Prelude.{ℕ, List}
-use Rattle.elf_object.specs.Object.{ObjectValue}
+use Rattle.elf_object_type.specs.Object.{ObjectValue}
 use Rattle.elf_link_files.specs.Files.{symbol_in}
 use Rattle.elf_link_files.specs.Live.{Live}
 use Rattle.elf_link_files.specs.Rows.{AtEach, AtSymbol, IsFirstAt, Nowhere, Row, section_count, symbol_count}

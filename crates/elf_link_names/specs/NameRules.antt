@@ -1,7 +1,7 @@
 -- Rules 8 and 9 of the link: the definitions of a name.
 use Rattle.std.specs.Prelude.{◌≡◌, ℕ, ◌<◌, List, [], ◌∷◌, length}
 use Rattle.elf_field.specs.Abi.{STB_GLOBAL}
-use Rattle.elf_object.specs.Object.{ObjectValue, binding}
+use Rattle.elf_object_type.specs.Object.{ObjectValue, binding}
 use Rattle.elf_link_files.specs.Files.{IsEarlier, object_at, symbol_in}
 use Rattle.elf_link_files.specs.Rows.{AtSymbol, Row, Ruled, rule}
 use Rattle.elf_link_files.specs.Symbols.{IsStrong, IsUndefinedAt}

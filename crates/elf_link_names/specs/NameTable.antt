@@ -1,7 +1,7 @@
 -- What is known of each name on the way through all symbols: the first definition of each binding, the commons, and whether an
 -- entry that isn't WEAK stands.
 use Rattle.std.specs.Prelude.{◌≡◌, ◌↔◌, ℕ, ◌<◌, ◌≤◌, ◌⊎◌, if◌then◌else◌, Bool, true, false, Option, None, Some, MatchOption, List, get_or, length, map}
-use Rattle.elf_object.specs.Object.{ObjectValue}
+use Rattle.elf_object_type.specs.Object.{ObjectValue}
 use Rattle.elf_link_files.specs.declared.site.Site.{Site}
 use Rattle.elf_link_files.specs.Files.{IsEarlier}
 use Rattle.elf_link_files.specs.Listing.{Lists, UpTo, site, site_at, name_at}

@@ -9,7 +9,7 @@ ghost use Rattle.elf_link_names.specs.Naming.{position_by};
 use crate::choice::Choice;
 use crate::name_table::{Known, NameTable, Spot};
 use elf_link_files::{Site, site_in};
-use elf_object::Object;
+use elf_object_type::Object;
 
 /// What is known of the name at a position.
 pub fn known_item(known: &[Known], k: usize) -> Known

@@ -18,7 +18,7 @@ use crate::listing::{Listed, all_listed};
 use crate::name_table::{Block, NameTable};
 use elf_link_files::files::symbol_of;
 use elf_link_files::{Chosen, Site};
-use elf_object::Object;
+use elf_object_type::Object;
 use std::alloc::{AllocError, Global};
 
 /// The commons of a name; None where it has none.

@@ -8,7 +8,7 @@ use elf_link_files::rules::*;
 use elf_link_files::site_test::{SiteTest, first_site};
 use elf_link_files::symbol_tests::is_no_power;
 use elf_link_files::{Broken, Options, Site, site_in};
-use elf_object::Object;
+use elf_object_type::Object;
 
 /// Rule 1: whether the page is no power of two, or the base no multiple of it.
 fn are_bad_options(options: &Options<'_>) -> bool

@@ -12,7 +12,7 @@ use crate::name_rules::judge_names;
 use crate::name_table::{NameTable, name_table};
 use elf_link_files::discarded::discarded;
 use elf_link_files::{LinkFault, Options};
-use elf_object::Object;
+use elf_object_type::Object;
 use std::alloc::Global;
 
 /// What is known of files that break none of rules 1 to 9.

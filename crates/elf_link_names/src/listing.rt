@@ -13,7 +13,7 @@ use elf_link_files::files::{section_count, symbol_count, symbol_of};
 use elf_link_files::section_tests::is_live;
 use elf_link_files::symbol_tests::is_common_entry;
 use elf_link_files::{Site, site_in};
-use elf_object::Object;
+use elf_object_type::Object;
 use std::alloc::{AllocError, Global};
 
 /// What is listed.

@@ -17,7 +17,7 @@ use elf_link_files::rules::*;
 use elf_link_files::section_tests::is_discarded;
 use elf_link_files::symbol_tests::is_definition;
 use elf_link_files::{Broken, Site, site_in};
-use elf_object::{Object, Place};
+use elf_object_type::{Object, Place};
 
 /// A rule on the entries of a name.
 #[derive(Clone, Copy)]

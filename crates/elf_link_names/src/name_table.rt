@@ -2,7 +2,7 @@
 //! (gABI chapter 4, Symbol Table).
 ghost use Rattle.std.specs.Prelude.{◌≡◌, ◌↔◌, ◌+◌, ◌<◌, None, Some, false, ℕ, List, IfOk, IsTrue, MatchOption, OnOk, cond, is_some, length, map};
 ghost use Rattle.std.specs.Str.{bytes_eq};
-ghost use Rattle.elf_object.specs.ObjectView.{symbol_value};
+ghost use Rattle.elf_object_type.specs.ObjectView.{symbol_value};
 ghost use Rattle.elf_link_files.specs.Discarded.{AreMarks};
 ghost use Rattle.elf_link_files.specs.Files.{object_at, symbol_in};
 ghost use Rattle.elf_link_names.specs.Binds.{not_weak as not_weak_row};
@@ -10,13 +10,13 @@ ghost use Rattle.elf_link_names.specs.NameTable.{IsBlock, IsCommonBest, IsKnown,
 ghost use Rattle.elf_link_names.specs.Naming.{position_by};
 ghost use Rattle.elf_field.specs.Abi.{STB_LOCAL};
 ghost use Rattle.elf_link_files.specs.Symbols.{IsCommon};
-ghost use Rattle.elf_object.specs.Object.{binding as binding_of};
+ghost use Rattle.elf_object_type.specs.Object.{binding as binding_of};
 
 use crate::bind::known_item;
 use elf_field::abi::*;
 use elf_link_files::files::{symbol_count, symbol_of};
 use elf_link_files::symbol_tests::{is_common_entry, is_definition, is_not_weak};
-use elf_object::{Object, Symbol};
+use elf_object_type::{Object, Symbol};
 use std::alloc::{AllocError, Global};
 use std::collections::BTreeMap;
 

@@ -1,6 +1,6 @@
 -- Sections grouped by the output that they go to, in the order of the first one of each.
 use Rattle.std.specs.Prelude.{◌≡◌, ℕ, ◌<◌, Bool, false, List, [], length}
-use Rattle.elf_object.specs.Object.{ObjectValue}
+use Rattle.elf_object_type.specs.Object.{ObjectValue}
 use Rattle.elf_link_files.specs.declared.site.Site.{Site}
 use Rattle.elf_link_files.specs.Listing.{Lists, site_at}
 use Rattle.elf_link_files.specs.Items.{AreEach, Pairs}

@@ -2,7 +2,7 @@
 -- (gABI chapter 4, Sections: sh_flags; the placement is this project's profile.)
 use Rattle.std.specs.Prelude.{◌≡◌, ℕ, ◌-◌, ◌^◌, ◌<◌, Bool, true, false, List, [], ◌∷◌, bit_and, fold, length, max}
 use Rattle.elf_field.specs.Abi.{SHF_GROUP}
-use Rattle.elf_object.specs.Object.{BodyValue, bits, no_bits, relocs, group, ObjectValue, SectionValue}
+use Rattle.elf_object_type.specs.Object.{BodyValue, bits, no_bits, relocs, group, ObjectValue, SectionValue}
 use Rattle.elf_link_files.specs.declared.site.Site.{Site}
 use Rattle.elf_link_files.specs.Files.{section_in}
 use Rattle.elf_link_files.specs.Listing.{Lists, site_at}

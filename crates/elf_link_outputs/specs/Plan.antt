@@ -2,7 +2,7 @@
 -- (gABI chapter 4, Sections, Symbol Table: SHN_COMMON; the placement is this project's profile.)
 use Rattle.std.specs.Prelude.{◌≡◌, ℕ, false, true, List, [], ◌++◌, length, map}
 use Rattle.std.specs.List.{flat_map}
-use Rattle.elf_object.specs.Object.{ObjectValue}
+use Rattle.elf_object_type.specs.Object.{ObjectValue}
 use Rattle.elf_link_files.specs.declared.chosen.Chosen.{Chosen}
 use Rattle.elf_link_files.specs.declared.site.Site.{Site}
 use Rattle.elf_link_files.specs.Listing.{Lists, site_at}

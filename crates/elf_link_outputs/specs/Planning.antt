@@ -1,7 +1,7 @@
 -- What the code keeps while it plans.
 use Rattle.std.specs.Prelude.{◌≡◌, ℕ, ◌<◌, Option, None, Some, List, [], get_or, length, replicate, set, slice_index}
 use Rattle.elf_extent.specs.Place.{EndsFit, Least}
-use Rattle.elf_object.specs.Object.{ObjectValue}
+use Rattle.elf_object_type.specs.Object.{ObjectValue}
 use Rattle.elf_link_files.specs.declared.site.Site.{Site}
 use Rattle.elf_link_files.specs.Files.{object_at}
 use Rattle.elf_link_files.specs.Listing.{AreIn, site_at}

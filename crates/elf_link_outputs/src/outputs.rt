@@ -6,12 +6,12 @@ ghost use Rattle.elf_link_outputs.specs.OutputGroups.{AreGrouped, AreGroups, Are
 ghost use Rattle.elf_link_outputs.specs.Outputs.{Picks, is_no_bits as is_no_bits_of, live as live_row, of_kind, output_flags as output_flags_of, section_of as section_value_of};
 ghost use Rattle.elf_link_outputs.specs.Plan.{AreOutputs, flat};
 ghost use Rattle.elf_link_outputs.specs.Planning.{AreAllIn, AreLive, AreSome};
-ghost use Rattle.elf_object.specs.ObjectView.{body_value};
+ghost use Rattle.elf_object_type.specs.ObjectView.{body_value};
 
 use elf_field::abi::*;
 use elf_link_files::Site;
 use elf_link_files::files::section_of;
-use elf_object::{Body, Object};
+use elf_object_type::{Body, Object};
 use indexmap::IndexSet;
 use std::alloc::{AllocError, Global};
 use std::hash::BuildHasher;

@@ -3,11 +3,11 @@ ghost use Rattle.std.specs.Prelude.{◌≡◌, ◌<◌, IfOk, fold, length, map,
 ghost use Rattle.elf_link_files.specs.Files.{object_at};
 ghost use Rattle.elf_link_files.specs.Listing.{AreIn};
 ghost use Rattle.elf_link_outputs.specs.Outputs.{memory_size as memory_size_of, part_of as part_of_site, raised};
-ghost use Rattle.elf_object.specs.ObjectView.{body_value};
+ghost use Rattle.elf_object_type.specs.ObjectView.{body_value};
 
 use elf_link_files::Site;
 use elf_link_files::files::section_of;
-use elf_object::{Body, Object};
+use elf_object_type::{Body, Object};
 use std::alloc::{AllocError, Global};
 
 /// The size of a section in memory, in bytes; 0 of one that takes none there.

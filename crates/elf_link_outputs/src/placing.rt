@@ -15,7 +15,7 @@ use crate::output::{Member, Output};
 use crate::outputs::{is_no_bits, output_flags};
 use elf_link_files::files::{section_of, symbol_of};
 use elf_link_files::{Chosen, Site};
-use elf_object::Object;
+use elf_object_type::Object;
 use std::alloc::{AllocError, Global};
 
 /// A site as a member of an output.

@@ -7,7 +7,7 @@ ghost use Rattle.elf_link_outputs.specs.Planning.{AreAllIn};
 
 use crate::parts::{parts_of, raise};
 use elf_link_files::{Chosen, Site};
-use elf_object::Object;
+use elf_object_type::Object;
 use std::alloc::{AllocError, Global};
 
 /// The sections of all outputs, in order.

@@ -5,7 +5,7 @@ ghost use Rattle.elf_link_outputs.specs.Planning.{AreEmptyRows, AreFilled, AreLi
 
 use elf_link_files::Site;
 use elf_link_files::files::section_count;
-use elf_object::Object;
+use elf_object_type::Object;
 use std::alloc::{AllocError, Global};
 
 /// A table without addresses.

@@ -8,10 +8,10 @@ use Rattle.elf_field.specs.SymLaws.{sym_laws}
 use Rattle.elf_field.specs.Word.{word_bytes}
 use Rattle.elf_field.specs.WordLaws.{word_laws}
 use Rattle.elf_field.specs.RecordTableLaws.{length-table}
-use Rattle.elf_string_table.specs.StringTable.{string_table}
+use Rattle.elf_object_strings.specs.StringTable.{string_table}
 use Rattle.elf_object_writer.specs.Laid.{content_part, layout_parts}
 use Rattle.elf_object_writer.specs.LayoutParts.{LARGEST, saturated}
-use Rattle.elf_object.specs.Object.{ObjectValue, SymbolValue}
+use Rattle.elf_object_type.specs.Object.{ObjectValue, SymbolValue}
 use Rattle.elf_object_writer.specs.PlainSections.{PlainSection, has_index_table, index_table_section, index_word, null_symbol, own_section, plain_sections, section_names, sections_before_names, strings, symbol_entry, symbol_names, symbol_table_section}
 use Rattle.elf_object_writer.proofs.PartSizes.{fits_largest}
 

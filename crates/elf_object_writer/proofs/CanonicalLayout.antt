@@ -11,18 +11,18 @@ use Rattle.elf_field.specs.RecordTableLaws.{length-table}
 use Rattle.elf_field.specs.ShdrLaws.{shdr_laws}
 use Rattle.elf_extent.specs.Place.{Fits, end_of}
 use Rattle.elf_extent.proofs.Public.{fits_length, least_places, same_least}
-use Rattle.elf_image.specs.FileParts.{unaligned}
-use Rattle.elf_image.specs.RelocatableFile.{all_headers, behind_header, offsets, section_table}
-use Rattle.elf_image.proofs.Public.{length-relocatable_bytes}
-use Rattle.elf_rules.specs.KeepsRules.{KeepsIdentRules}
-use Rattle.elf_rules.specs.Tables.{order_of}
-use Rattle.elf_string_table.specs.StringTable.{name_place}
+use Rattle.elf_image_type.specs.FileParts.{unaligned}
+use Rattle.elf_image_type.specs.RelocatableFile.{all_headers, behind_header, offsets, section_table}
+use Rattle.elf_image_type.proofs.Public.{length-relocatable_bytes}
+use Rattle.elf_image_rules.specs.KeepsRules.{KeepsIdentRules}
+use Rattle.elf_image_rules.specs.Tables.{order_of}
+use Rattle.elf_object_strings.specs.StringTable.{name_place}
 use Rattle.elf_object_writer.specs.declared.layout.LayoutFault.{LayoutFault}
 use Rattle.elf_object_writer.specs.declared.layout.LayoutFault.TheVariants.{TooLong, OutOfMemory}
 use Rattle.elf_object_writer.specs.Laid.{Laid, content_part, encoding, file_header, identification, layout_bytes, layout_parts, section_headers}
 use Rattle.elf_object_writer.specs.LayoutParts.{saturated}
 use Rattle.elf_object_writer.specs.LayoutView.{ArePartsFault, ArePlacedParts, AreTooLong, IsLayoutFault, IsLayoutOf, LayoutValue}
-use Rattle.elf_object.specs.Object.{ObjectValue}
+use Rattle.elf_object_type.specs.Object.{ObjectValue}
 use Rattle.elf_object_writer.specs.PlainSections.{PlainSection, name_table_at, plain_sections, section_names}
 use Rattle.elf_object_writer.proofs.LayoutParts.{placed_parts, too_long_parts}
 

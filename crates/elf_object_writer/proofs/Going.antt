@@ -14,15 +14,15 @@ use Rattle.elf_field.specs.RecordTableLaws.{length-table}
 use Rattle.elf_field.specs.declared.order.Order.{Order}
 use Rattle.elf_field.specs.declared.order.Order.TheVariants.{Little, Big}
 use Rattle.elf_extent.specs.Place.{Fits}
-use Rattle.elf_image.specs.declared.fault.WriteFault.{WriteFault}
-use Rattle.elf_image.specs.FileParts.{spread, unaligned}
-use Rattle.elf_image.specs.RelocatableFile.{all_headers, offsets, relocatable_bytes}
-use Rattle.elf_image.proofs.Public.{went_err}
-use Rattle.elf_rules.specs.Tables.{order_of}
-use Rattle.elf_string_table.specs.StringTable.{name_place}
+use Rattle.elf_image_type.specs.declared.fault.WriteFault.{WriteFault}
+use Rattle.elf_image_type.specs.FileParts.{spread, unaligned}
+use Rattle.elf_image_type.specs.RelocatableFile.{all_headers, offsets, relocatable_bytes}
+use Rattle.elf_image_type.proofs.Public.{went_err}
+use Rattle.elf_image_rules.specs.Tables.{order_of}
+use Rattle.elf_object_strings.specs.StringTable.{name_place}
 use Rattle.elf_object_writer.specs.Laid.{identification, layout_bytes, section_headers}
 use Rattle.elf_object_writer.specs.LayoutView.{IsLayoutOf, LayoutValue}
-use Rattle.elf_object.specs.Object.{ObjectValue}
+use Rattle.elf_object_type.specs.Object.{ObjectValue}
 use Rattle.elf_object_writer.specs.ObjectWriting.{WritesBehind, header_table}
 use Rattle.elf_object_writer.specs.PlacedObject.{IsPlaced, IsSectionAt, PlacedValue, plain_section}
 use Rattle.elf_object_writer.specs.PlainSections.{PlainSection, name_table_at, plain_sections, section_names}

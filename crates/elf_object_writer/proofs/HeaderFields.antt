@@ -4,14 +4,14 @@ use Rattle.std.specs.Prelude.{filter}
 use Rattle.std.proofs.lemmas.Bool.{ne_eqb}
 use Rattle.elf_field.specs.Abi.{SHT_NOBITS}
 use Rattle.elf_field.specs.declared.shdr.Shdr.{Shdr}
-use Rattle.elf_rules.specs.Tables.{no_section}
+use Rattle.elf_image_rules.specs.Tables.{no_section}
 use Rattle.elf_object_writer.specs.declared.placed_section.PlacedSection.{PlacedSection}
 use Rattle.elf_object_writer.specs.declared.placed_section.PlacedSection.TheVariants.{Own, SymbolTable}
 use Rattle.elf_object_writer.specs.Laid.{section_header, section_size}
-use Rattle.elf_object.specs.Object.{BodyValue, bits, ObjectValue, SectionValue, section_at}
+use Rattle.elf_object_type.specs.Object.{BodyValue, bits, ObjectValue, SectionValue, section_at}
 use Rattle.elf_object_writer.specs.PlacedObject.{plain_section}
 use Rattle.elf_object_writer.specs.PlainSections.{body_type, index_of, is_local, own_info, own_section, strings_at}
-use Rattle.elf_object.specs.SectionRules.{IsWrongBitsType}
+use Rattle.elf_object_type.specs.SectionRules.{IsWrongBitsType}
 use Rattle.elf_object_writer.proofs.PartSizes.{bits_in_file}
 
 -- a header with a name, a place and a size, and nothing else

@@ -3,14 +3,14 @@ use Rattle.std.proofs.Common.{◌≡◌, ◌<◌, ◌+◌, ◌-◌, ℕ, zero, s
 use Rattle.std.specs.Prelude.{codes, cond, filter}
 use Rattle.std.proofs.lemmas.List.{get_or-map, map-append}
 use Rattle.elf_field.specs.declared.shdr.Shdr.{Shdr}
-use Rattle.elf_string_table.specs.StringTable.{name_place}
+use Rattle.elf_object_strings.specs.StringTable.{name_place}
 use Rattle.elf_object_writer.specs.declared.placed_section.PlacedSection.{PlacedSection}
 use Rattle.elf_object_writer.specs.declared.placed_section.PlacedSection.TheVariants.{Names}
-use Rattle.elf_object.specs.declared.symbol.Symbol.{Symbol}
+use Rattle.elf_object_type.specs.declared.symbol.Symbol.{Symbol}
 use Rattle.elf_object_writer.specs.Laid.{section_header, section_headers}
 use Rattle.elf_object_writer.specs.LayoutView.{LayoutValue}
-use Rattle.elf_object.specs.Object.{ObjectValue, SymbolValue}
-use Rattle.elf_object.specs.ObjectView.{symbol_value}
+use Rattle.elf_object_type.specs.Object.{ObjectValue, SymbolValue}
+use Rattle.elf_object_type.specs.ObjectView.{symbol_value}
 use Rattle.elf_object_writer.specs.PlacedObject.{IsSectionAt, plain_section}
 use Rattle.elf_object_writer.specs.PlainSections.{PlainSection, is_local, plain_sections, section_names, sections_before_names}
 use Rattle.elf_object_writer.proofs.OwnSections.{any_default}

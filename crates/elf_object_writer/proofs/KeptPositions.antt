@@ -2,14 +2,14 @@
 use Rattle.std.proofs.Common.{◌≡◌, ◌<◌, ◌≤◌, ◌+◌, ◌*◌, ◌^◌, ℕ, Option, None, Some, List, length, map, get_or, inl, inr, sym, ap, subst, ◌∙◌, arith}
 use Rattle.std.proofs.lemmas.Bool.{cases_lt}
 use Rattle.std.proofs.lemmas.List.{get_or-map, length-map}
-use Rattle.elf_object.proofs.Public.{no_wrong_place}
-use Rattle.elf_object.specs.declared.symbol.Symbol.{Symbol}
-use Rattle.elf_object.specs.Object.{ObjectValue, SymbolValue, no_symbol, symbol_at}
-use Rattle.elf_object.specs.ObjectView.{symbol_value}
+use Rattle.elf_object_type.proofs.Public.{no_wrong_place}
+use Rattle.elf_object_type.specs.declared.symbol.Symbol.{Symbol}
+use Rattle.elf_object_type.specs.Object.{ObjectValue, SymbolValue, no_symbol, symbol_at}
+use Rattle.elf_object_type.specs.ObjectView.{symbol_value}
 use Rattle.elf_object_writer.specs.PlacedObject.{IsPlaced, PlacedValue}
 use Rattle.elf_object_writer.specs.PlainSections.{index_of}
-use Rattle.elf_object.specs.Positions.{IsPast}
-use Rattle.elf_object.specs.SymbolRules.{place_position}
+use Rattle.elf_object_type.specs.Positions.{IsPast}
+use Rattle.elf_object_type.specs.SymbolRules.{place_position}
 use Rattle.elf_object_writer.proofs.PlainSections.{own_below}
 use Rattle.elf_object_writer.proofs.ShortLayout.{few_sections, few_symbols}
 

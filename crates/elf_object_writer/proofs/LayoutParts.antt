@@ -5,7 +5,7 @@ use Rattle.std.proofs.Math.Nat.{le-min, min-eq_left}
 use Rattle.elf_field.specs.Abi.{EHDR_SIZE}
 use Rattle.elf_extent.specs.Place.{Fits, IsOverflowAt, Least, end_of}
 use Rattle.elf_extent.proofs.Public.{above_earlier, fits_length, same_least}
-use Rattle.elf_rules.specs.HeaderRules.{MAX_LEN}
+use Rattle.elf_image_rules.specs.HeaderRules.{MAX_LEN}
 use Rattle.elf_object_writer.specs.LayoutParts.{LARGEST, saturated}
 use Rattle.elf_object_writer.specs.LayoutView.{AreTooLong, ArePlacedParts, LayoutValue}
 

@@ -4,10 +4,10 @@ use Rattle.std.specs.Prelude.{◌||◌, if◌then◌else◌, codes}
 use Rattle.std.specs.List.{list_any}
 use Rattle.std.specs.Borrow.{Bor}
 use Rattle.std.proofs.lemmas.List.{map-append}
-use Rattle.elf_object.specs.declared.section.Section.{Section}
-use Rattle.elf_object.specs.declared.symbol.Symbol.{Symbol}
-use Rattle.elf_object.specs.Object.{ObjectValue, SectionValue}
-use Rattle.elf_object.specs.ObjectView.{section_value, symbol_value}
+use Rattle.elf_object_type.specs.declared.section.Section.{Section}
+use Rattle.elf_object_type.specs.declared.symbol.Symbol.{Symbol}
+use Rattle.elf_object_type.specs.Object.{ObjectValue, SectionValue}
+use Rattle.elf_object_type.specs.ObjectView.{section_value, symbol_value}
 use Rattle.elf_object_writer.specs.PlainSections.{PlainSection, has_index_table, index_table_section, is_far, own_section, section_names, sections_before_names, strings, symbol_names, symbol_table_section}
 
 abbrev pub now_of : Bor (List ℕ) → List ℕ

@@ -3,17 +3,17 @@ use Rattle.std.proofs.Common.{◌≡◌, ◌<◌, ◌≤◌, ◌+◌, ◌^◌, �
 use Rattle.std.specs.Prelude.{All, Any}
 use Rattle.std.proofs.lemmas.List.{get_or-map, length-map}
 use Rattle.elf_object_writer.specs.declared.placed_section.PlacedSection.TheVariants.{Own}
-use Rattle.elf_object.specs.declared.relocation.Relocation.{Relocation}
-use Rattle.elf_object.specs.declared.section.Section.{Section}
-use Rattle.elf_object.specs.Object.{BodyValue, bits, no_bits, relocs, group, ObjectValue, SectionValue, no_section, section_at}
-use Rattle.elf_object.specs.ObjectView.{section_value}
+use Rattle.elf_object_type.specs.declared.relocation.Relocation.{Relocation}
+use Rattle.elf_object_type.specs.declared.section.Section.{Section}
+use Rattle.elf_object_type.specs.Object.{BodyValue, bits, no_bits, relocs, group, ObjectValue, SectionValue, no_section, section_at}
+use Rattle.elf_object_type.specs.ObjectView.{section_value}
 use Rattle.elf_object_writer.specs.PlacedObject.{HasShortIndexes, HasShortNumbers, IsPlaced, PlacedValue}
 use Rattle.elf_object_writer.specs.PlainSections.{index_of}
-use Rattle.elf_object.specs.Positions.{IsPast, info_position}
-use Rattle.elf_object.specs.SectionRules.{HasWrongReference}
+use Rattle.elf_object_type.specs.Positions.{IsPast, info_position}
+use Rattle.elf_object_type.specs.SectionRules.{HasWrongReference}
 use Rattle.elf_object_writer.proofs.KeptPositions.{near_index}
-use Rattle.elf_object.proofs.Public.{no_wrong_position}
-use Rattle.elf_object.proofs.Public.{no_wrong_bits_type}
+use Rattle.elf_object_type.proofs.Public.{no_wrong_position}
+use Rattle.elf_object_type.proofs.Public.{no_wrong_bits_type}
 use Rattle.elf_object_writer.proofs.PlacedSections.{own_at}
 use Rattle.elf_object_writer.proofs.PlainSections.{own_below}
 use Rattle.elf_object_writer.proofs.ShortLayout.{few_sections, few_symbols, short_content}

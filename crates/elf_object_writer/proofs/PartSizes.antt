@@ -12,14 +12,14 @@ use Rattle.elf_field.specs.RelLaws.{rel_laws}
 use Rattle.elf_field.specs.RelaLaws.{rela_laws}
 use Rattle.elf_field.specs.WordLaws.{word_laws}
 use Rattle.elf_field.specs.RecordTableLaws.{length-table}
-use Rattle.elf_object.specs.declared.relocation.Relocation.{Relocation}
-use Rattle.elf_object.specs.declared.section.Section.{Section}
+use Rattle.elf_object_type.specs.declared.relocation.Relocation.{Relocation}
+use Rattle.elf_object_type.specs.declared.section.Section.{Section}
 use Rattle.elf_object_writer.specs.Laid.{content_part}
 use Rattle.elf_object_writer.specs.LayoutParts.{LARGEST, saturated}
-use Rattle.elf_object.specs.Object.{BodyValue, bits, relocs, group, ObjectValue, SectionValue, no_section, section_at}
-use Rattle.elf_object.specs.ObjectView.{section_value}
+use Rattle.elf_object_type.specs.Object.{BodyValue, bits, relocs, group, ObjectValue, SectionValue, no_section, section_at}
+use Rattle.elf_object_type.specs.ObjectView.{section_value}
 use Rattle.elf_object_writer.specs.PlainSections.{group_words, own_section, rel_entry, rela_entry, relocation_bytes, relocation_section_type}
-use Rattle.elf_object.specs.SectionRules.{IsWrongBitsType}
+use Rattle.elf_object_type.specs.SectionRules.{IsWrongBitsType}
 
 -- ---- bits have no type of another body
 

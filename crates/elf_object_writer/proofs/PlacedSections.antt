@@ -1,7 +1,7 @@
 -- The section at each position of the canonical layout.
 use Rattle.std.proofs.Common.{◌≡◌, ◌<◌, ◌+◌, ℕ, Bool, true, false, length, get_or, inl, inr, sym, ap, ◌∙◌, arith}
 use Rattle.elf_object_writer.specs.declared.placed_section.PlacedSection.TheVariants.{Own, SymbolTable, IndexTable, Strings, Names}
-use Rattle.elf_object.specs.Object.{ObjectValue}
+use Rattle.elf_object_type.specs.Object.{ObjectValue}
 use Rattle.elf_object_writer.specs.PlacedObject.{IsSectionAt, plain_section}
 use Rattle.elf_object_writer.specs.PlainSections.{PlainSection, has_index_table, plain_sections}
 use Rattle.elf_object_writer.proofs.AllParts.{last_sections}

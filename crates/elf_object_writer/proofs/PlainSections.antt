@@ -2,7 +2,7 @@
 use Rattle.std.proofs.Common.{◌≡◌, ◌<◌, ◌≤◌, ◌+◌, ◌⊎◌, ℕ, Bool, true, false, List, [], ◌++◌, length, map, get_or, inl, inr, refl, sym, ap, ◌∙◌, arith, length-append}
 use Rattle.std.specs.Prelude.{if◌then◌else◌}
 use Rattle.std.proofs.lemmas.List.{get_or-append-add, get_or-map, get_or_append_left, length-map}
-use Rattle.elf_object.specs.Object.{ObjectValue, no_section, section_at}
+use Rattle.elf_object_type.specs.Object.{ObjectValue, no_section, section_at}
 use Rattle.elf_object_writer.specs.PlainSections.{PlainSection, has_index_table, own_section, plain_sections}
 use Rattle.elf_object_writer.proofs.AllParts.{last_sections, plain_sections_are}
 

@@ -7,14 +7,14 @@ use Rattle.elf_field.specs.SymLaws.{sym_laws}
 use Rattle.elf_field.specs.WordLaws.{word_laws}
 use Rattle.elf_field.specs.RecordTableLaws.{length-table}
 use Rattle.elf_extent.specs.Place.{end_of}
-use Rattle.elf_rules.specs.HeaderRules.{MAX_LEN}
-use Rattle.elf_string_table.specs.StringTable.{name_place, string_table}
-use Rattle.elf_string_table.proofs.Public.{holds_names}
+use Rattle.elf_image_rules.specs.HeaderRules.{MAX_LEN}
+use Rattle.elf_object_strings.specs.StringTable.{name_place, string_table}
+use Rattle.elf_object_strings.proofs.Public.{holds_names}
 use Rattle.elf_object_writer.specs.declared.placed_section.PlacedSection.{PlacedSection}
 use Rattle.elf_object_writer.specs.declared.placed_section.PlacedSection.TheVariants.{SymbolTable, Strings, Names}
 use Rattle.elf_object_writer.specs.Laid.{content_part, layout_parts}
 use Rattle.elf_object_writer.specs.LayoutView.{IsLayoutOf, LayoutValue}
-use Rattle.elf_object.specs.Object.{ObjectValue}
+use Rattle.elf_object_type.specs.Object.{ObjectValue}
 use Rattle.elf_object_writer.specs.PlacedObject.{IsSectionAt, plain_section}
 use Rattle.elf_object_writer.specs.PlainSections.{PlainSection, index_table_section, index_word, name_table_at, null_symbol, plain_sections, section_names, sections_before_names, symbol_entry, symbol_names, symbol_table_section}
 use Rattle.elf_object_writer.proofs.CanonicalLayout.{length-layout_bytes, length-layout_parts}

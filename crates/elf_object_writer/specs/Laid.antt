@@ -7,9 +7,9 @@ use Rattle.elf_field.specs.declared.order.Order.{Order}
 use Rattle.elf_field.specs.declared.order.Order.TheVariants.{Little, Big}
 use Rattle.elf_field.specs.declared.shdr.Shdr.{Shdr}
 use Rattle.elf_extent.specs.Place.{Least}
-use Rattle.elf_image.specs.RelocatableFile.{relocatable_bytes, short_count, short_index}
-use Rattle.elf_string_table.specs.StringTable.{name_place}
-use Rattle.elf_object.specs.Object.{ObjectValue}
+use Rattle.elf_image_type.specs.RelocatableFile.{relocatable_bytes, short_count, short_index}
+use Rattle.elf_object_strings.specs.StringTable.{name_place}
+use Rattle.elf_object_type.specs.Object.{ObjectValue}
 use Rattle.elf_object_writer.specs.PlainSections.{RECORD_ALIGNMENT, PlainSection, name_table_at, plain_sections, section_names}
 
 -- ---- the parts behind the header: each content, and the section header table at a multiple of 8

@@ -2,11 +2,11 @@
 use Rattle.std.specs.Prelude.{◌≡◌, ◌<◌, ◌≤◌, ℕ, ◌+◌, ◌-◌, List, length}
 use Rattle.elf_field.specs.Abi.{EHDR_SIZE}
 use Rattle.elf_extent.specs.Place.{Least, end_of}
-use Rattle.elf_rules.specs.HeaderRules.{MAX_LEN}
+use Rattle.elf_image_rules.specs.HeaderRules.{MAX_LEN}
 use Rattle.elf_object_writer.specs.declared.layout.LayoutFault.{LayoutFault}
 use Rattle.elf_object_writer.specs.declared.layout.LayoutFault.TheVariants.{TooLong, OutOfMemory}
 use Rattle.elf_object_writer.specs.Laid.{Laid, layout_bytes, layout_parts}
-use Rattle.elf_object.specs.Object.{ObjectValue}
+use Rattle.elf_object_type.specs.Object.{ObjectValue}
 use Rattle.elf_object_writer.specs.PlainSections.{plain_sections}
 
 -- where the contents from section index 1 on begin, and behind them the section header table; and the length of the file

@@ -1,9 +1,9 @@
 -- The string tables of an object, as the code has them.
 use Rattle.std.specs.Prelude.{◌≡◌, map}
 use Rattle.elf_object_writer.specs.declared.name_tables.NameTables.{NameTables}
-use Rattle.elf_object.specs.Object.{ObjectValue}
+use Rattle.elf_object_type.specs.Object.{ObjectValue}
 use Rattle.elf_object_writer.specs.PlainSections.{section_names, symbol_names}
-use Rattle.elf_string_table.specs.StringTable.{name_place, string_table}
+use Rattle.elf_object_strings.specs.StringTable.{name_place, string_table}
 
 -- their bytes, and where each name begins
 pub record AreNameTables (o : ObjectValue) (tables : NameTables) : Type 0 where

@@ -3,17 +3,17 @@ use Rattle.std.specs.Prelude.{◌≡◌, ◌<◌, ◌≤◌, ℕ, ◌+◌, ◌-�
 use Rattle.std.specs.Io.KnownBytes.{Appends}
 use Rattle.std.specs.List.{flat_map}
 use Rattle.elf_field.specs.Shdr.{shdr_bytes}
-use Rattle.elf_image.specs.declared.fault.WriteFault.{WriteFault}
-use Rattle.elf_image.specs.Output.{Writes}
-use Rattle.elf_image.specs.RelocatableFile.{all_headers}
-use Rattle.elf_rules.specs.HeaderRules.{MAX_LEN}
-use Rattle.elf_string_table.specs.StringTable.{name_place}
+use Rattle.elf_image_type.specs.declared.fault.WriteFault.{WriteFault}
+use Rattle.elf_image_type.specs.Output.{Writes}
+use Rattle.elf_image_type.specs.RelocatableFile.{all_headers}
+use Rattle.elf_image_rules.specs.HeaderRules.{MAX_LEN}
+use Rattle.elf_object_strings.specs.StringTable.{name_place}
 use Rattle.elf_object_writer.specs.declared.layout.LayoutFault.TheVariants as layout
 use Rattle.elf_object_writer.specs.declared.object_writing.ObjectWriteFault.{ObjectWriteFault}
 use Rattle.elf_object_writer.specs.declared.object_writing.ObjectWriteFault.TheVariants.{TooLong, OutOfMemory, Io}
 use Rattle.elf_object_writer.specs.Laid.{Laid, section_headers}
 use Rattle.elf_object_writer.specs.LayoutView.{IsLayoutFault}
-use Rattle.elf_object.specs.Object.{ObjectValue}
+use Rattle.elf_object_type.specs.Object.{ObjectValue}
 use Rattle.elf_object_writer.specs.PlainSections.{name_table_at, plain_sections, section_names}
 
 -- the bytes of the canonical layout go out, or exactly the first of them and then the writer fails

@@ -5,12 +5,12 @@ use Rattle.elf_object_writer.specs.declared.placed_section.PlacedSection.{Placed
 use Rattle.elf_object_writer.specs.declared.placed_section.PlacedSection.TheVariants.{Own, SymbolTable, IndexTable, Strings, Names}
 use Rattle.elf_object_writer.specs.LayoutView.{IsLayoutOf, LayoutValue}
 use Rattle.elf_object_writer.specs.NameTables.{AreNameTables}
-use Rattle.elf_object.specs.Object.{BodyValue, bits, no_bits, relocs, group, ObjectValue, SectionValue, section_at}
-use Rattle.elf_object.specs.ObjectRules.{IsObject}
+use Rattle.elf_object_type.specs.Object.{BodyValue, bits, no_bits, relocs, group, ObjectValue, SectionValue, section_at}
+use Rattle.elf_object_type.specs.ObjectRules.{IsObject}
 use Rattle.elf_object_writer.specs.PlainSections.{PlainSection, body_bytes, index_of, index_table_section, own_section, plain_sections, section_names, strings, symbol_names, symbol_table_section}
-use Rattle.elf_object.specs.Positions.{info_position}
-use Rattle.elf_object.specs.SectionRules.{IsWrongBitsType}
-use Rattle.elf_rules.specs.HeaderRules.{MAX_LEN}
+use Rattle.elf_object_type.specs.Positions.{info_position}
+use Rattle.elf_object_type.specs.SectionRules.{IsWrongBitsType}
+use Rattle.elf_image_rules.specs.HeaderRules.{MAX_LEN}
 
 pub record PlacedValue : Type 0 where
   pub object : ObjectValue

@@ -12,14 +12,14 @@ use Rattle.elf_field.specs.Rel.{rel_bytes}
 use Rattle.elf_field.specs.Rela.{rela_bytes}
 use Rattle.elf_field.specs.Sym.{sym_bytes}
 use Rattle.elf_field.specs.Word.{word_bytes}
-use Rattle.elf_image.specs.RelocatableFile.{long_number, short_index}
-use Rattle.elf_string_table.specs.StringTable.{name_place, string_table}
-use Rattle.elf_object.specs.declared.relocation.Relocation.{Relocation}
-use Rattle.elf_object.specs.declared.section.Info.{Info}
-use Rattle.elf_object.specs.declared.section.Info.TheVariants as info
-use Rattle.elf_object.specs.declared.symbol.Place.{Place}
-use Rattle.elf_object.specs.declared.symbol.Place.TheVariants.{Undef, Abs, Common, In}
-use Rattle.elf_object.specs.Object.{BodyValue, bits, no_bits, relocs, group, ObjectValue, SectionValue, SymbolValue, binding}
+use Rattle.elf_image_type.specs.RelocatableFile.{long_number, short_index}
+use Rattle.elf_object_strings.specs.StringTable.{name_place, string_table}
+use Rattle.elf_object_type.specs.declared.relocation.Relocation.{Relocation}
+use Rattle.elf_object_type.specs.declared.section.Info.{Info}
+use Rattle.elf_object_type.specs.declared.section.Info.TheVariants as info
+use Rattle.elf_object_type.specs.declared.symbol.Place.{Place}
+use Rattle.elf_object_type.specs.declared.symbol.Place.TheVariants.{Undef, Abs, Common, In}
+use Rattle.elf_object_type.specs.Object.{BodyValue, bits, no_bits, relocs, group, ObjectValue, SectionValue, SymbolValue, binding}
 
 -- a section header's fields but for sh_name, sh_offset and sh_size, with the name and the content; of a section that takes no
 -- bytes in the file `space` is the size

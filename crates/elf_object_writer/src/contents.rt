@@ -1,11 +1,11 @@
 //! The content of each section of an object's canonical layout, onto a writer (gABI chapter 4, Sections).
 ghost use Rattle.std.specs.Prelude.{◌≡◌, ◌<◌, ◌≤◌, ◌^◌, All, length};
-ghost use Rattle.elf_image.specs.Output.{Writes};
-ghost use Rattle.elf_object.specs.Object.{section_at};
-ghost use Rattle.elf_object.specs.ObjectView.{body_value, section_value};
+ghost use Rattle.elf_image_type.specs.Output.{Writes};
+ghost use Rattle.elf_object_type.specs.Object.{section_at};
+ghost use Rattle.elf_object_type.specs.ObjectView.{body_value, section_value};
 ghost use Rattle.elf_object_writer.specs.PlacedObject.{HasShortIndexes, HasShortNumbers, IsThere, plain_section};
 ghost use Rattle.elf_object_writer.specs.PlainSections.{body_bytes, index_of, index_table_section, own_section, relocation_bytes, symbol_table_section};
-ghost use Rattle.elf_rules.specs.HeaderRules.{MAX_LEN};
+ghost use Rattle.elf_image_rules.specs.HeaderRules.{MAX_LEN};
 
 use crate::body_entries::{GroupWords, RelEntries, RelaEntries};
 use crate::layout_parts::content_part;
@@ -14,9 +14,9 @@ use crate::placed_section::PlacedSection;
 use crate::symbol_entries::{IndexWords, SymbolEntries, symbol_count};
 use elf_field::Order;
 use elf_field::abi::*;
-use elf_image::entries::write_entries;
-use elf_image::{WriteFault, write_whole};
-use elf_object::{Body, Relocation, Section};
+use elf_image_type::entries::write_entries;
+use elf_image_type::{WriteFault, write_whole};
+use elf_object_type::{Body, Relocation, Section};
 use std::io::Write;
 
 /// Writes the content of a section, or exactly the first `written` bytes of it, fewer than all, and a fault.

@@ -7,7 +7,7 @@ use crate::indexes::{short_count, short_index};
 use crate::placed_object::PlacedObject;
 use elf_field::abi::*;
 use elf_field::{Ehdr, Order};
-use elf_object::Object;
+use elf_object_type::Object;
 
 /// The header of the file that the object is written as.
 pub(crate) fn file_header(placed: &PlacedObject<'_, '_>) -> Ehdr

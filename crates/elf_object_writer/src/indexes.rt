@@ -1,11 +1,11 @@
 //! Positions as the indexes that a file has for them (gABI chapter 4, Special Section Indexes, Symbol Table).
 ghost use Rattle.std.specs.Prelude.{◌≡◌, ◌<◌, ℕ, ◌^◌};
-ghost use Rattle.elf_image.specs.RelocatableFile.{long_number, short_count, short_index};
+ghost use Rattle.elf_image_type.specs.RelocatableFile.{long_number, short_count, short_index};
 ghost use Rattle.elf_object_writer.specs.PlainSections.{index_of, index_word, shndx};
-ghost use Rattle.elf_object.specs.SymbolRules.{place_position};
+ghost use Rattle.elf_object_type.specs.SymbolRules.{place_position};
 
 use elf_field::abi::*;
-use elf_object::Place;
+use elf_object_type::Place;
 
 /// The index of a position that may be missing.
 pub(crate) fn index_of(position: Option<usize>) -> u32

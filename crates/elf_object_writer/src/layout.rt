@@ -8,8 +8,8 @@ use crate::layout_parts::layout_parts;
 use crate::name_tables::NameTables;
 use elf_extent::{PlaceFault, place};
 use elf_field::abi::*;
-use elf_object::Object;
-use elf_rules::MAX_LEN;
+use elf_image_rules::MAX_LEN;
+use elf_object_type::Object;
 use std::alloc::{AllocError, Global};
 use std::marker::Model;
 

@@ -4,15 +4,15 @@ ghost use Rattle.std.specs.Prelude.{◌≡◌, ◌<◌, ℕ, ◌+◌, ◌*◌, �
 ghost use Rattle.elf_object_writer.specs.Laid.{content_part, layout_parts};
 ghost use Rattle.elf_object_writer.specs.LayoutParts.{LARGEST, saturated};
 ghost use Rattle.elf_object_writer.specs.NameTables.{AreNameTables};
-ghost use Rattle.elf_object.specs.Object.{ObjectValue};
-ghost use Rattle.elf_object.specs.ObjectView.{body_value, section_value};
+ghost use Rattle.elf_object_type.specs.Object.{ObjectValue};
+ghost use Rattle.elf_object_type.specs.ObjectView.{body_value, section_value};
 ghost use Rattle.elf_object_writer.specs.PlainSections.{own_section, plain_sections};
-ghost use Rattle.elf_object.specs.SectionRules.{IsWrongBitsType};
+ghost use Rattle.elf_object_type.specs.SectionRules.{IsWrongBitsType};
 ghost use Rattle.elf_field.specs.Abi.{relocation_size};
 
 use crate::name_tables::{NameTables, has_index_table};
 use elf_field::abi::*;
-use elf_object::{Body, Object, Section};
+use elf_object_type::{Body, Object, Section};
 use std::alloc::{AllocError, Global};
 
 /// Alignment of the symbol table and of the section header table, whose records have fields of eight bytes.

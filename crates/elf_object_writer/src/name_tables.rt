@@ -5,8 +5,8 @@ ghost use Rattle.elf_object_writer.specs.PlainSections.{has_index_table, is_far,
 ghost use Rattle.elf_object_writer.specs.NameTables.{AreNameTables};
 
 use elf_field::abi::*;
-use elf_object::{Object, Place, Section, Symbol};
-use elf_string_table::StringTable;
+use elf_object_strings::StringTable;
+use elf_object_type::{Object, Place, Section, Symbol};
 use std::alloc::{AllocError, Global};
 
 /// The string table of the symbols, and the section name string table.

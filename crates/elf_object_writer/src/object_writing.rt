@@ -4,7 +4,7 @@ ghost use Rattle.elf_object_writer.specs.ObjectWriting.{IsObjectWritten};
 use crate::layout::LayoutFault;
 use crate::placed_object::PlacedObject;
 use crate::placed_writing::write_placed;
-use elf_object::Object;
+use elf_object_type::Object;
 use std::alloc::Global;
 use std::io::Write;
 

@@ -3,12 +3,12 @@ ghost use Rattle.std.specs.Prelude.{◌≡◌, ◌<◌, ℕ, ◌+◌, ◌^◌, [
 ghost use Rattle.elf_object_writer.specs.LayoutView.{IsLayoutFault};
 ghost use Rattle.elf_object_writer.specs.PlacedObject.{IsPlaced, IsSectionAt};
 ghost use Rattle.elf_object_writer.specs.PlainSections.{name_table_at, plain_sections, section_names, strings_at, symbol_names, symbol_table_at};
-ghost use Rattle.elf_string_table.specs.StringTable.{name_place, string_table};
+ghost use Rattle.elf_object_strings.specs.StringTable.{name_place, string_table};
 
 use crate::layout::{Layout, LayoutFault, lay_out_with};
 use crate::name_tables::NameTables;
 use crate::placed_section::PlacedSection;
-use elf_object::Object;
+use elf_object_type::Object;
 use std::alloc::Global;
 use std::marker::Model;
 

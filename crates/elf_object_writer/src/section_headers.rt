@@ -1,14 +1,14 @@
 //! The section header table of an object's canonical layout, entry by entry (gABI chapter 4, Sections).
 ghost use Rattle.std.specs.Prelude.{◌≡◌, ◌<◌, ◌≤◌, ℕ, ◌+◌, ◌^◌, List, filter, get_or, length, slice_index};
-ghost use Rattle.elf_image.specs.RelocatableFile.{all_headers, first_header};
-ghost use Rattle.elf_string_table.specs.StringTable.{name_place};
+ghost use Rattle.elf_image_type.specs.RelocatableFile.{all_headers, first_header};
+ghost use Rattle.elf_object_strings.specs.StringTable.{name_place};
 ghost use Rattle.elf_object_writer.specs.Laid.{section_header, section_headers};
-ghost use Rattle.elf_object.specs.Object.{section_at};
-ghost use Rattle.elf_object.specs.ObjectView.{body_value, symbol_value};
+ghost use Rattle.elf_object_type.specs.Object.{section_at};
+ghost use Rattle.elf_object_type.specs.ObjectView.{body_value, symbol_value};
 ghost use Rattle.elf_object_writer.specs.PlacedObject.{IsThere, plain_section};
 ghost use Rattle.elf_object_writer.specs.PlainSections.{PlainSection, body_type, index_of, is_local, name_table_at, own_info, own_section, plain_sections, section_names};
-ghost use Rattle.elf_object.specs.Positions.{info_position};
-ghost use Rattle.elf_rules.specs.Tables.{no_section};
+ghost use Rattle.elf_object_type.specs.Positions.{info_position};
+ghost use Rattle.elf_image_rules.specs.Tables.{no_section};
 
 use crate::contents::{content_size, object_section};
 use crate::indexes::{index_of, long_number};
@@ -18,8 +18,8 @@ use crate::placed_section::PlacedSection;
 use crate::symbol_entries::symbol_count;
 use elf_field::Shdr;
 use elf_field::abi::*;
-use elf_image::entries::Entries;
-use elf_object::{Body, Info, Symbol};
+use elf_image_type::entries::Entries;
+use elf_object_type::{Body, Info, Symbol};
 
 /// A section header all of whose fields are 0.
 const NO_HEADER: Shdr = Shdr {

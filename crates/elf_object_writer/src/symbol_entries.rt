@@ -1,18 +1,18 @@
 //! The symbol table of an object, and its index table, entry by entry (gABI chapter 4, Symbol Table).
 ghost use Rattle.std.specs.Prelude.{◌≡◌, ◌<◌, ◌≤◌, ◌+◌, ◌*◌, ◌^◌, ◌∷◌, length, map};
 ghost use Rattle.elf_field.specs.Abi.{SYM_SIZE};
-ghost use Rattle.elf_object.specs.Object.{symbol_at};
-ghost use Rattle.elf_object.specs.ObjectView.{symbol_value};
+ghost use Rattle.elf_object_type.specs.Object.{symbol_at};
+ghost use Rattle.elf_object_type.specs.ObjectView.{symbol_value};
 ghost use Rattle.elf_object_writer.specs.PlainSections.{index_of, index_word, null_symbol, symbol_entry};
-ghost use Rattle.elf_object.specs.SymbolRules.{place_position};
-ghost use Rattle.elf_rules.specs.HeaderRules.{MAX_LEN};
+ghost use Rattle.elf_object_type.specs.SymbolRules.{place_position};
+ghost use Rattle.elf_image_rules.specs.HeaderRules.{MAX_LEN};
 
 use crate::indexes::{index_word, shndx};
 use crate::placed_object::PlacedObject;
 use elf_field::Sym;
 use elf_field::abi::*;
-use elf_image::entries::Entries;
-use elf_object::Symbol;
+use elf_image_type::entries::Entries;
+use elf_object_type::Symbol;
 
 /// The entries of `.symtab`.
 #[derive(Drop)]

@@ -1,7 +1,7 @@
 //! The program `elfmap` on the machine.
 #![tactic(auto)]
 
-use elf_tool::run_on_machine;
+use elf_tool_program::run_on_machine;
 use std::process::ExitCode;
 
 fn main(rt: HostRuntime) -> ExitCode {

@@ -1,7 +1,7 @@
 //! The program `elfmap` on the machine, with its command `check` alone.
 #![tactic(auto)]
 
-use elf_check::check_on_machine;
+use elf_tool_check::check_on_machine;
 use std::process::ExitCode;
 
 fn main(rt: HostRuntime) -> ExitCode {

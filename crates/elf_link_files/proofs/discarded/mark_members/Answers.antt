@@ -1,11 +1,11 @@
 use Rattle.std.proofs.Common.{◌≡◌, ℕ, ◌<◌, List, length, get_or, ap, sym, subst, ◌∙◌, arith, rules, vec_len}
-use Rattle.elf_object.specs.Object.{SectionValue}
-use Rattle.elf_object.specs.ObjectView.{body_value}
-use Rattle.elf_object.specs.Positions.{members_of}
-use Rattle.elf_object.specs.declared.section.Body.{Body}
+use Rattle.elf_object_type.specs.Object.{SectionValue}
+use Rattle.elf_object_type.specs.ObjectView.{body_value}
+use Rattle.elf_object_type.specs.Positions.{members_of}
+use Rattle.elf_object_type.specs.declared.section.Body.{Body}
 use Rattle.elf_link_files.specs.Files.{object_at, section_in}
 use Rattle.elf_link_files.specs.Marking.{AreMarked}
-use Rattle.elf_object.proofs.Public.{member_there}
+use Rattle.elf_object_type.proofs.Public.{member_there}
 use Rattle.elf_link_files.proofs.Marked.{marked_none, marked_next}
 use Rattle.elf_link_files.proofs.discarded.mark_members.Goals as goal
 

@@ -1,5 +1,5 @@
 use Rattle.std.proofs.Common.{◌≡◌, ◌<◌, ℕ, true, ap, sym, subst, ◌∙◌, length}
-use Rattle.elf_object.specs.Object.{SectionValue}
+use Rattle.elf_object_type.specs.Object.{SectionValue}
 use Rattle.elf_link_files.specs.Discarded.{is_comdat, signature_position}
 use Rattle.elf_link_files.specs.Files.{object_at, section_in}
 use Rattle.elf_link_files.proofs.ObjectFacts.{signature_there}

@@ -1,5 +1,5 @@
 use Rattle.std.proofs.Common.{◌≡◌, ℕ, List, true, false, refl, ap, sym, subst}
-use Rattle.elf_object.specs.Object.{SymbolValue}
+use Rattle.elf_object_type.specs.Object.{SymbolValue}
 use Rattle.elf_link_files.specs.Listing.{site}
 use Rattle.elf_link_files.specs.Rows.{IsFirstAt, Nowhere}
 use Rattle.elf_link_files.specs.Symbols.{IsCommon}

@@ -1,6 +1,6 @@
 use Rattle.std.proofs.Common.{ap, sym, subst}
-use Rattle.elf_object.specs.Object.{SymbolValue}
-use Rattle.elf_object.specs.declared.symbol.Place.{Place}
+use Rattle.elf_object_type.specs.Object.{SymbolValue}
+use Rattle.elf_object_type.specs.declared.symbol.Place.{Place}
 use Rattle.elf_link_files.specs.Files.{object_at}
 use Rattle.elf_link_files.specs.Symbols.{IsPlaceIn}
 use Rattle.elf_link_files.proofs.Public.{symbol_placed}

@@ -1,5 +1,5 @@
 use Rattle.std.proofs.Common.{ℕ, refl, ap, subst}
-use Rattle.elf_object.specs.Object.{SymbolValue}
+use Rattle.elf_object_type.specs.Object.{SymbolValue}
 use Rattle.elf_link_names.specs.NameTable.{IsCommonBest, IsLargerOf}
 use Rattle.elf_link_names.proofs.Tabled.{block_more, block_one}
 use Rattle.elf_link_names.proofs.name_table.joined.Goals as goal

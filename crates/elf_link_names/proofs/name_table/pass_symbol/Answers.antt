@@ -2,7 +2,7 @@ use Rattle.std.proofs.Common.{◌≡◌, ◌+◌, ℕ, List, true, false, length
 use Rattle.std.specs.Prelude.{cond, None, Some}
 use Rattle.std.specs.Str.{bytes_eq}
 use Rattle.elf_field.specs.Abi.{STB_LOCAL}
-use Rattle.elf_object.specs.Object.{SymbolValue, binding}
+use Rattle.elf_object_type.specs.Object.{SymbolValue, binding}
 use Rattle.elf_link_names.specs.declared.name_table.Known.{Known}
 use Rattle.elf_link_names.specs.NameTable.{IsKnown, known_at}
 use Rattle.elf_link_names.specs.Naming.{position_by}

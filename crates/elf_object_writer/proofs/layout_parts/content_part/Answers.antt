@@ -1,7 +1,7 @@
 use Rattle.std.proofs.Common.{◌≡◌, ◌*◌, ℕ, length, rules, refl, sym, ap, ◌∙◌, min}
 use Rattle.std.specs.Prelude.{vec_len}
 use Rattle.elf_object_writer.specs.LayoutParts.{LARGEST}
-use Rattle.elf_object.specs.ObjectView.{body_value, section_value}
+use Rattle.elf_object_type.specs.ObjectView.{body_value, section_value}
 use Rattle.elf_object_writer.proofs.PartSizes.{bits_part, group_part, relocs_part}
 use Rattle.elf_object_writer.proofs.layout_parts.content_part.Goals as goal
 

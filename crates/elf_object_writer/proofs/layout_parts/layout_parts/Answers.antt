@@ -1,7 +1,7 @@
 use Rattle.std.proofs.Common.{◌≡◌, length, rules, sym, ap, ◌∙◌, arith}
 use Rattle.std.specs.Prelude.{vec_len}
 use Rattle.std.proofs.lemmas.List.{length-map}
-use Rattle.elf_object.specs.ObjectView.{symbol_value}
+use Rattle.elf_object_type.specs.ObjectView.{symbol_value}
 use Rattle.elf_object_writer.proofs.AllParts.{parts_with_index_table, parts_without_index_table}
 use Rattle.elf_object_writer.proofs.layout_parts.layout_parts.Goals as goal
 use Rattle.elf_object_writer.proofs.layout_parts.layout_parts.Goals.{then-has_index_table+in_ok-push-2, else-has_index_table}

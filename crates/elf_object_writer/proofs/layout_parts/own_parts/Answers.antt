@@ -1,13 +1,13 @@
 use Rattle.std.proofs.Common.{List, map, take_all, ap, subst, ◌∙◌}
-use Rattle.elf_object.specs.declared.section.Section.{Section}
+use Rattle.elf_object_type.specs.declared.section.Section.{Section}
 use Rattle.elf_object_writer.specs.Laid.{content_part}
 use Rattle.elf_object_writer.specs.LayoutParts.{saturated}
-use Rattle.elf_object.specs.Object.{SectionValue}
-use Rattle.elf_object.specs.ObjectView.{section_value}
+use Rattle.elf_object_type.specs.Object.{SectionValue}
+use Rattle.elf_object_type.specs.ObjectView.{section_value}
 use Rattle.elf_object_writer.specs.PlainSections.{own_section}
-use Rattle.elf_object.specs.SectionRules.{IsWrongBitsType}
+use Rattle.elf_object_type.specs.SectionRules.{IsWrongBitsType}
 use Rattle.elf_object_writer.proofs.PartSizes.{own_parts_are, section_read}
-use Rattle.elf_object.proofs.Public.{no_wrong_bits_type}
+use Rattle.elf_object_type.proofs.Public.{no_wrong_bits_type}
 use Rattle.elf_object_writer.proofs.layout_parts.own_parts.Goals as goal
 
 pub content_part-requires : goal.content_part-requires

@@ -1,8 +1,8 @@
 use Rattle.std.proofs.Common.{◌≡◌, map, take}
-use Rattle.elf_object.specs.declared.section.Section.{Section}
+use Rattle.elf_object_type.specs.declared.section.Section.{Section}
 use Rattle.elf_object_writer.specs.Laid.{content_part}
 use Rattle.elf_object_writer.specs.LayoutParts.{saturated}
-use Rattle.elf_object.specs.ObjectView.{section_value}
+use Rattle.elf_object_type.specs.ObjectView.{section_value}
 use Rattle.elf_object_writer.specs.PlainSections.{own_section}
 use Rattle.elf_object_writer.proofs.layout_parts.own_parts.Given as goal
 

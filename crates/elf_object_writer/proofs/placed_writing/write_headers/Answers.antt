@@ -1,5 +1,5 @@
 use Rattle.std.proofs.Common.{arith}
-use Rattle.elf_string_table.specs.StringTable.{name_place}
+use Rattle.elf_object_strings.specs.StringTable.{name_place}
 use Rattle.elf_object_writer.specs.PlainSections.{plain_sections, section_names}
 use Rattle.elf_object_writer.proofs.HeaderTable.{length-headers}
 use Rattle.elf_object_writer.proofs.ShortLayout.{few_sections}

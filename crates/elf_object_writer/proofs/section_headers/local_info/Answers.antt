@@ -1,6 +1,6 @@
 use Rattle.std.proofs.Common.{List, ap, length, ◌+◌, ◌∙◌}
 use Rattle.std.specs.Prelude.{filter}
-use Rattle.elf_object.specs.Object.{ObjectValue, SymbolValue}
+use Rattle.elf_object_type.specs.Object.{ObjectValue, SymbolValue}
 use Rattle.elf_object_writer.specs.PlainSections.{is_local}
 use Rattle.elf_object_writer.proofs.HeaderTable.{local_symbols}
 use Rattle.elf_object_writer.proofs.section_headers.local_info.Goals as goal

@@ -1,6 +1,6 @@
 use Rattle.std.proofs.Common.{ap}
-use Rattle.elf_object.specs.Object.{section_at}
-use Rattle.elf_object.specs.ObjectView.{body_value, section_value}
+use Rattle.elf_object_type.specs.Object.{section_at}
+use Rattle.elf_object_type.specs.ObjectView.{body_value, section_value}
 use Rattle.elf_object_writer.proofs.HeaderFields.{bits_header}
 use Rattle.elf_object_writer.proofs.section_headers.own_header.Goals as goal
 

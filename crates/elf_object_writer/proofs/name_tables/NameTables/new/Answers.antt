@@ -1,7 +1,7 @@
 use Rattle.std.proofs.Common.{◌≡◌, ℕ, List, map, ap, ◌∙◌}
-use Rattle.elf_object.specs.Object.{SymbolValue}
+use Rattle.elf_object_type.specs.Object.{SymbolValue}
 use Rattle.elf_object_writer.specs.PlainSections.{section_names, symbol_names}
-use Rattle.elf_string_table.specs.StringTable.{name_place, string_table}
+use Rattle.elf_object_strings.specs.StringTable.{name_place, string_table}
 use Rattle.elf_object_writer.proofs.NamesOf.{names_of_symbols, now_of}
 use Rattle.elf_object_writer.proofs.name_tables.NameTables.new.Goals as goal
 

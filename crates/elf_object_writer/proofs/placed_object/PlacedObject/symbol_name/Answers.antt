@@ -1,6 +1,6 @@
 use Rattle.std.proofs.Common.{subst, arith}
 use Rattle.std.proofs.lemmas.List.{length-map}
-use Rattle.elf_object.specs.Object.{SymbolValue}
+use Rattle.elf_object_type.specs.Object.{SymbolValue}
 use Rattle.elf_object_writer.specs.PlacedObject.{IsPlacedWith}
 use Rattle.elf_object_writer.specs.PlainSections.{symbol_names}
 use Rattle.elf_object_writer.proofs.ShortLayout.{place_read, symbol_name_below}

@@ -1,6 +1,6 @@
 use Rattle.std.proofs.Common.{◌+◌, ◌-◌, ℕ, ap, arith, sym, ◌∙◌}
-use Rattle.elf_image.specs.RelocatableFile.{first_header}
-use Rattle.elf_string_table.specs.StringTable.{name_place}
+use Rattle.elf_image_type.specs.RelocatableFile.{first_header}
+use Rattle.elf_object_strings.specs.StringTable.{name_place}
 use Rattle.elf_object_writer.specs.PlacedObject.{plain_section}
 use Rattle.elf_object_writer.specs.PlainSections.{name_table_at, plain_sections, section_names}
 use Rattle.elf_object_writer.specs.declared.placed_section.PlacedSection.TheVariants.{Names}

@@ -1,8 +1,0 @@
-use Rattle.std.proofs.Common.{rules}
-use Rattle.elf_engine.specs.ShowLines.{section_line}
-use Rattle.elf_stream.proofs.Public.{line_ended}
-use Rattle.elf_engine.proofs.show_lines.push_section_line.Goals as goal
-
-pub returns : goal.returns
-unfolding section_line
-returns c = line_ended c.end_line.result _ _ _ _ _ c.end_line.ensures (search rules)

@@ -1,8 +1,0 @@
-use Rattle.std.proofs.Common.{rules}
-use Rattle.elf_engine.specs.ShowLines.{segment_line}
-use Rattle.elf_stream.proofs.Public.{line_ended}
-use Rattle.elf_engine.proofs.show_lines.push_segment_line.Goals as goal
-
-pub returns : goal.returns
-unfolding segment_line
-returns c = line_ended c.end_line.result _ _ _ _ _ c.end_line.ensures (search rules)

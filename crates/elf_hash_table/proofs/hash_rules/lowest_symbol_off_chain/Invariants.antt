@@ -1,7 +1,0 @@
-use Rattle.std.proofs.Common.{ℕ, ◌<◌}
-use Rattle.elf_hash_table.specs.Chains.{IsOn}
-use Rattle.elf_hash_table.specs.HashTable.{bucket_of, chain, name_of}
-use Rattle.elf_hash_table.proofs.hash_rules.lowest_symbol_off_chain.Given as goal
-
-abbrev pub invariant-loop-s : goal.invariant-loop-s
-invariant-loop-s l = (k : ℕ) → 0 < k → k < l.s → IsOn (chain l.parts.words) (bucket_of l.parts.words (name_of l.parts.names k)) k

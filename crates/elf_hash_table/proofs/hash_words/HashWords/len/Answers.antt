@@ -1,6 +1,0 @@
-use Rattle.std.proofs.Common.{sym}
-use Rattle.elf_hash_table.proofs.WordListLemmas.{length_words}
-use Rattle.elf_hash_table.proofs.hash_words.HashWords.len.Goals as goal
-
-pub returns : goal.returns
-returns c = rw (← c.self.view_is) (sym (length_words _ _))

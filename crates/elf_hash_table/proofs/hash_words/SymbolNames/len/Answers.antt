@@ -1,6 +1,0 @@
-use Rattle.std.proofs.Common.{sym}
-use Rattle.elf_hash_table.proofs.WordListLemmas.{length_names}
-use Rattle.elf_hash_table.proofs.hash_words.SymbolNames.len.Goals as goal
-
-pub returns : goal.returns
-returns c = rw (← c.self.view_is) (sym (length_names _ _ _))

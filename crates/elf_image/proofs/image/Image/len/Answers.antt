@@ -1,6 +1,0 @@
-use Rattle.elf_image.specs.View.{view_of}
-use Rattle.elf_image.proofs.Named.{len_short}
-use Rattle.elf_image.proofs.image.Image.len.Goals as goal
-
-pub returns-clause-short : goal.returns-clause-short
-returns-clause-short c = rw c.len.ensures (len_short (view_of c.self.inside) c.self.invariant)

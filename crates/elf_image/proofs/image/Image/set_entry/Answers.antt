@@ -1,6 +1,0 @@
-use Rattle.std.proofs.Common.{arith}
-use Rattle.elf_image.proofs.Edited.{sound-with_entry}
-use Rattle.elf_image.proofs.image.Image.set_entry.Goals as goal
-
-pub invariant_of-self : goal.invariant_of-self
-invariant_of-self c = rw c.set_entry.ensures (sound-with_entry _ c.args.entry c.self.invariant (omega arith))

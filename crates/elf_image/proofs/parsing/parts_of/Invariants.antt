@@ -1,6 +1,0 @@
-use Rattle.std.proofs.Common.{◌≡◌, map, take}
-use Rattle.elf_image.specs.Image.{part_piece}
-use Rattle.elf_image.proofs.parsing.parts_of.Given as goal
-
-abbrev pub invariant-loop-piece : goal.invariant-loop-piece
-invariant-loop-piece l = map part_piece l.parts.items ≡ take l.piece-index l.pieces

@@ -1,8 +1,0 @@
-use Rattle.std.proofs.Common.{rules}
-use Rattle.elf_image.proofs.Moved.{gives_first}
-use Rattle.elf_image.proofs.reading.read_to_end.Goals as goal
-
-pub returns-clause-whole : goal.returns-clause-whole
-returns-clause-whole g c =
-    gives_first (g.R.Read.remaining c.args.reader.now) (g.R.Read.remaining c.fill-filled.new.reader) c.fill-filled.result.1 c.truncate.new.self.items 1073741825 (search rules)
-    (search rules) (search rules)

@@ -1,0 +1,191 @@
+//! The extents of a file, read as they are asked for: no memory is taken.
+ghost use Rattle.std.specs.Prelude.{◌≡◌, ◌≤◌, ◌<◌, ◌+◌, ◌↔◌, IsTrue, IfOk, OnErr, Some, length, slice_get};
+ghost use Rattle.elf_extent.specs.Extent.{Doubly, Has};
+ghost use Rattle.elf_extent.specs.Least.{IsLowest, lower_of};
+ghost use Rattle.elf_image_rules.specs.ImageRules.{extents_of_file};
+ghost use Rattle.elf_image_rules.specs.JudgedRecords.{file_of};
+ghost use Rattle.elf_image_rules.specs.OverlapRule.{AreAscending, DoublyBelow, SharedBelow};
+
+use crate::content::extent_of_content;
+use crate::judged_records::JudgedRecords;
+use elf_extent::{Extent, OutOfMemory, first_double};
+use elf_field::abi::{EHDR_SIZE, PHDR_SIZE, SHDR_SIZE};
+use std::alloc::{AllocError, Global};
+
+/// The header, the section table, the program table, and then the content of each section.
+#[derive(Drop)]
+pub struct FileExtents<'a> {
+    records: JudgedRecords<'a>,
+}
+
+impl<'a> FileExtents<'a> {
+    ghost use Rattle.elf_image_rules.specs.FileExtents.{file_extents};
+
+    /// How many extents stand before the contents.
+    const BEFORE_CONTENTS: u64 = 3;
+
+    /// The extents of a judged file.
+    pub fn new(records: &JudgedRecords<'a>) -> FileExtents<'a>
+        ensures { file_extents result ≡ extents_of_file (file_of records.now) }
+    {
+        FileExtents { records: *records }
+    }
+
+    /// How many there are.
+    fn len(&self) -> u64
+        ensures { result ≡ length (file_extents self.now) }
+    {
+        FileExtents::BEFORE_CONTENTS + self.records.section_count()
+    }
+
+    /// The extent of this index.
+    fn at(&self, index: u64) -> Extent
+        requires { index < length (file_extents self.now) }
+        ensures { slice_get (file_extents self.now) index ≡ Some result }
+    {
+        match index {
+            0 => Extent {
+                start: 0,
+                len: EHDR_SIZE,
+            },
+            1 => Extent {
+                start: self.records.header().e_shoff,
+                len: SHDR_SIZE * self.records.section_count(),
+            },
+            2 => Extent {
+                start: self.records.header().e_phoff,
+                len: PHDR_SIZE * self.records.segment_count(),
+            },
+            _ => extent_of_content(&self.records.section(index - FileExtents::BEFORE_CONTENTS)),
+        }
+    }
+
+    /// The lowest byte that two of them hold. Where the contents stand in the order of their section
+    /// headers one pass settles it; else every two are compared.
+    pub fn lowest_shared_byte(&self) -> Option<u64>
+        ensures { IsLowest (Doubly (file_extents self.now)) result }
+    {
+        match self.lowest_of_ascending() {
+            Ok(lowest) => lowest,
+            Err(NotAscending) => self.lowest_double(self.len()),
+        }
+    }
+
+    /// The lowest byte that two of them hold. Where the contents stand in the order of their section
+    /// headers one pass settles it; else they are sorted, which takes memory. Assemblers don't keep
+    /// that order: they lay a table of relocations behind the tables of symbols and names, and give
+    /// it the index behind its section's.
+    pub fn lowest_shared_byte_by_sorting(&self, alloc: Global) -> Result<Option<u64>, OutOfMemory>
+        ensures { IfOk result (IsLowest (Doubly (file_extents self.now))) }
+    {
+        match self.lowest_of_ascending() {
+            Ok(lowest) => Ok(lowest),
+            Err(NotAscending) => match self.all(alloc) {
+                Ok(extents) => first_double(alloc, &extents),
+                Err(_) => Err(OutOfMemory),
+            },
+        }
+    }
+
+    /// All of them in a list.
+    fn all(&self, alloc: Global) -> Result<Vec<Extent>, AllocError>
+        ensures { IfOk result (λ es. es.items ≡ file_extents self.now) }
+    {
+        let mut extents = Vec::new(alloc);
+        for index in 0..self.len() {
+            extents.push(self.at(index))?;
+        }
+        Ok(extents)
+    }
+
+    /// The lowest byte that two of them hold, where the contents that are not empty stand in the order
+    /// of their section headers, each behind the ones before it: these share no byte with one another,
+    /// but may with the header and the tables.
+    fn lowest_of_ascending(&self) -> Result<Option<u64>, NotAscending>
+        ensures lowest { IfOk result (IsLowest (Doubly (file_extents self.now))) }
+        ensures otherwise { let es = file_extents self.now in OnErr result (¬ AreAscending es 3 (length es)) }
+    {
+        let mut lowest = self.lowest_double(FileExtents::BEFORE_CONTENTS);
+        let mut last = Extent { start: 0, len: 0 };
+        for index in FileExtents::BEFORE_CONTENTS..self.len() {
+            let extent = self.at(index);
+            if extent.len > 0 {
+                if begins_before_end(&extent, &last) {
+                    return Err(NotAscending);
+                }
+                lowest = lower(lowest, self.lowest_in_tables(index, &extent));
+                last = extent;
+            }
+        }
+        Ok(lowest)
+    }
+
+    /// The lowest byte that the content of this index shares with the header or a table.
+    fn lowest_in_tables(&self, index: u64, extent: &Extent) -> Option<u64>
+        requires { slice_get (file_extents self.now) index ≡ Some extent.now }
+        ensures { IsLowest (SharedBelow (file_extents self.now) 3 index) result }
+    {
+        let header = shared(&self.at(0), extent);
+        let section_table = shared(&self.at(1), extent);
+        let program_table = shared(&self.at(2), extent);
+        lower(lower(header, section_table), program_table)
+    }
+
+    /// The lowest byte that two of the first `end` extents hold.
+    fn lowest_double(&self, end: u64) -> Option<u64>
+        requires { end ≤ length (file_extents self.now) }
+        ensures { IsLowest (DoublyBelow (file_extents self.now) end end) result }
+    {
+        let mut lowest = None;
+        for index in 0..end {
+            lowest = lower(lowest, self.lowest_shared(index));
+        }
+        lowest
+    }
+
+    /// The lowest byte that extent `index` shares with one of a lower index.
+    fn lowest_shared(&self, index: u64) -> Option<u64>
+        requires { index < length (file_extents self.now) }
+        ensures { IsLowest (SharedBelow (file_extents self.now) index index) result }
+    {
+        let extent = self.at(index);
+        let mut lowest = None;
+        for other in 0..index {
+            lowest = lower(lowest, shared(&self.at(other), &extent));
+        }
+        lowest
+    }
+}
+
+/// A content stands before one of a lower index.
+struct NotAscending;
+
+/// Whether an extent begins before another one ends.
+fn begins_before_end(extent: &Extent, other: &Extent) -> bool
+    ensures { IsTrue result ↔ (extent.now.start < other.now.start + other.now.len) }
+{
+    extent.start < other.start || extent.start - other.start < other.len
+}
+
+/// The lowest byte that both extents hold.
+fn shared(a: &Extent, b: &Extent) -> Option<u64>
+    ensures { IsLowest (λ x. Has a.now x × Has b.now x) result }
+{
+    let start = a.start.max(b.start);
+    if start - a.start < a.len && start - b.start < b.len {
+        Some(start)
+    } else {
+        None
+    }
+}
+
+/// The lower one of two offsets, each of which may be missing.
+fn lower(a: Option<u64>, b: Option<u64>) -> Option<u64>
+    ensures { result ≡ lower_of a b }
+{
+    match (a, b) {
+        (Some(x), Some(y)) => Some(x.min(y)),
+        (None, b) => b,
+        (a, None) => a,
+    }
+}

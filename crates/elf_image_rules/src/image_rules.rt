@@ -1,0 +1,122 @@
+//! The first rule that a file breaks.
+ghost use Rattle.std.specs.Prelude.{◌≡◌, ◌+◌, ◌<◌, ◌≤◌, ◌^◌, ℕ, List, Some, IfErr, IfOk, OnOk, length};
+ghost use Rattle.elf_image_rules.specs.Broken.{fault_of};
+ghost use Rattle.elf_image_rules.specs.ImageRules.{IsFault, KeepsRecordRules, entry_rules, table_rules};
+ghost use Rattle.elf_image_rules.specs.JudgedRecords.{file_of};
+ghost use Rattle.elf_image_rules.specs.StringTable.{AreEnds};
+ghost use Rattle.elf_image_rules.specs.Rows.{FirstIn};
+ghost use Rattle.elf_image_rules.specs.Tables.{counts_in, names, names_at, phdr_offset, sections, segments, shdr_offset};
+
+use crate::broken::Broken;
+use crate::header_rules::{judge_header, judge_ident, judge_length};
+use crate::judged_records::JudgedRecords;
+use crate::name_rules::{judge_names, names_of};
+use crate::program_table_rules::judge_program_table;
+use crate::records::{FileRecords, Records};
+use crate::rules::SHARED_BYTE;
+use crate::section_rules::judge_sections;
+use crate::section_table_rules::judge_section_table;
+use crate::segment_rules::judge_segments;
+use crate::string_table::{TableEnds, ends_of};
+use crate::tables::{Counts, counts_of, header_of, section_at};
+use elf_extent::OutOfMemory;
+use elf_field::Ehdr;
+use elf_field::abi::SHDR_SIZE;
+use std::alloc::Global;
+
+/// The first rule of 1 to 33 that the file breaks, and its lowest offset in bytes; None where it
+/// breaks none. It takes no memory.
+pub fn verdict(bytes: &[u8]) -> Option<(u16, u64)>
+    ensures { IsFault bytes.now result }
+{
+    match judge(bytes) {
+        Ok(()) => None,
+        Err(broken) => Some((broken.rule, broken.at)),
+    }
+}
+
+/// Whether the file is an image: else the first rule that it breaks, and its lowest offset.
+pub(crate) fn judge(bytes: &[u8]) -> Result<(), Broken>
+    ensures { IsFault bytes.now (fault_of result) }
+{
+    match judge_records(bytes)?.shared_byte() {
+        Some(at) => Err(Broken::new(SHARED_BYTE, at)),
+        None => Ok(()),
+    }
+}
+
+/// Judges a file by all 33 rules, as [`verdict`] does, in n log n: where the contents don't stand in the order of their
+/// section headers they are sorted, and where memory for that is refused the answer is found without. A file that
+/// breaks no rule is answered with its header and counts; else the first rule broken and its lowest offset.
+pub fn judge_by_sorting<'a>(alloc: Global, bytes: &'a [u8]) -> Result<JudgedRecords<'a>, Broken>
+    ensures fault { IsFault bytes.entry.now (fault_of result) }
+    ensures file { IfOk result (λ records. file_of records ≡ bytes.entry.now) }
+{
+    let records = judge_records(bytes)?;
+    let found = match records.shared_byte_by_sorting(alloc) {
+        Ok(found) => found,
+        Err(OutOfMemory) => records.shared_byte(),
+    };
+    match found {
+        Some(at) => Err(Broken::new(SHARED_BYTE, at)),
+        None => Ok(records),
+    }
+}
+
+/// The file with its header and counts, where it keeps rules 1 to 32, which leave open only whether two
+/// of its parts share a byte: else the first rule that it breaks, and its lowest offset.
+pub fn judge_records<'a>(bytes: &'a [u8]) -> Result<JudgedRecords<'a>, Broken>
+    ensures broken { IfErr result (λ broken. IsFault bytes.entry.now (Some (broken.rule, broken.at))) }
+    ensures kept { OnOk result (KeepsRecordRules bytes.entry.now) }
+    ensures file { IfOk result (λ records. file_of records ≡ bytes.entry.now) }
+{
+    let len = bytes.len() as u64;
+    judge_length(len)?;
+    let header = header_of(bytes);
+    judge_ident(&header.e_ident)?;
+    judge_header(&header, len)?;
+    let counts = judge_tables(bytes, &header)?;
+    Ok(JudgedRecords::new(bytes, header, counts))
+}
+
+/// Rules 13 to 32, of the tables of a file with this header: its counts.
+fn judge_tables(bytes: &[u8], header: &Ehdr) -> Result<Counts, Broken>
+    requires { header.now.e_shoff + SHDR_SIZE ≤ length bytes.now }
+    ensures fault { let b = bytes.now in
+        let h = header.now in
+        FirstIn (table_rules (length b) h (sections b h) (segments b h) (names b h)) (fault_of result) }
+    ensures value { IfOk result (λ c. c ≡ counts_in header.now (sections bytes.now header.now 0)) }
+{
+    let len = bytes.len() as u64;
+    let first = section_at(bytes, header, 0);
+    judge_section_table(header, &first, len)?;
+    judge_program_table(header, &first, len)?;
+    let counts = counts_of(header, &first);
+    let ends = ends_of(names_of(bytes, header, counts.name_table));
+    judge_entries(&FileRecords { bytes, header }, header, counts, ends, len)?;
+    Ok(counts)
+}
+
+/// Rules 22 to 32, of a file of `len` bytes with these counts and this section name string table.
+pub fn judge_entries<T: Records>(
+    records: &T,
+    header: &Ehdr,
+    counts: Counts,
+    ends: TableEnds,
+    len: u64,
+) -> Result<(), Broken>
+    requires sections { (i : ℕ) → i < counts.sections → T.HasSection records.now i }
+    requires section_table { shdr_offset header.now counts.sections < 2 ^ 64 }
+    requires segments { (j : ℕ) → j < counts.segments → T.HasSegment records.now j }
+    requires program_table { 0 < counts.segments → phdr_offset header.now counts.segments < 2 ^ 64 }
+    requires name_table { T.HasSection records.now counts.name_table }
+    requires name_table_place { shdr_offset header.now counts.name_table + SHDR_SIZE < 2 ^ 64 }
+    requires names { 0 < ends.len → (T.sections records.now counts.name_table).sh_offset + ends.len < 2 ^ 64 }
+    ensures { (names : List ℕ) → AreEnds ends names →
+        FirstIn (entry_rules len header.now counts (T.sections records.now) (T.segments records.now) names)
+        (fault_of result) }
+{
+    judge_sections(records, header, counts.sections, len)?;
+    judge_segments(records, header, counts.segments, len)?;
+    judge_names(records, header, counts.sections, counts.name_table, ends)
+}

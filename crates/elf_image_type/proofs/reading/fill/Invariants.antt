@@ -1,0 +1,16 @@
+use Rattle.std.proofs.Common.{◌+◌, ◌-◌, ◌≤◌, vec_len, take}
+use Rattle.std.specs.Io.KnownBytes.{Consumes}
+use Rattle.elf_image_rules.specs.HeaderRules.{MAX_LEN}
+use Rattle.elf_image_type.proofs.reading.fill.Given as goal
+
+-- the front of the buffer is what the reader gave
+abbrev pub invariant-loop-filled : goal.invariant-loop-filled
+invariant-loop-filled g l = record {
+  within : l.filled ≤ vec_len l.buf;
+  limit : l.filled ≤ MAX_LEN + 1;
+  room : vec_len l.buf ≤ MAX_LEN + 1;
+  taken : Consumes (g.R.Read.remaining l.initial.reader) (g.R.Read.remaining l.reader) (take l.filled l.buf.items);
+}
+
+abbrev pub decreases-loop-filled : goal.decreases-loop-filled
+decreases-loop-filled g l = MAX_LEN + 1 - l.filled

@@ -1,0 +1,150 @@
+-- An image: a file as a value, and the byte list that it stands as.
+-- (gABI chapter 4, ELF Header, Sections; chapter 5, Program Header.)
+use Rattle.std.specs.Prelude.{◌≡◌, ◌<◌, ◌≤◌, ℕ, suc, ◌+◌, ◌*◌, ◌==◌, if◌then◌else◌, List, [], ◌∷◌, length, map, get_or, take, drop, Option, None, Some}
+use Rattle.std.specs.List.{AllByRecursion, flat_map, range_with_len}
+use Rattle.elf_field.specs.declared.ehdr.Ehdr.{Ehdr}
+use Rattle.elf_field.specs.declared.shdr.Shdr.{Shdr}
+use Rattle.elf_field.specs.declared.phdr.Phdr.{Phdr}
+use Rattle.elf_field.specs.Abi.{EHDR_SIZE, PHDR_SIZE, SHDR_SIZE}
+use Rattle.elf_field.specs.Bytes.{IsBytes}
+use Rattle.elf_field.specs.Ehdr.{IsEhdr, ehdr_bytes}
+use Rattle.elf_field.specs.Shdr.{IsShdr, shdr_bytes}
+use Rattle.elf_field.specs.Phdr.{IsPhdr, phdr_bytes}
+use Rattle.elf_extent.specs.declared.extent.Extent.{Extent}
+use Rattle.elf_extent.specs.declared.extent.Piece.{Piece}
+use Rattle.elf_extent.specs.Account.{Accounts}
+use Rattle.elf_image_rules.specs.Rows.{Ruled, FirstIn}
+use Rattle.elf_image_rules.specs.Tables.{bytes_in, content_extent, header, name_table, order_of, phdr_offset, section_count, sections, segment_count, segments, shdr_offset}
+pub use Rattle.elf_image_rules.specs.Tables.{no_section, no_segment, section_of, segment_of}
+use Rattle.elf_image_rules.specs.ImageRules.{image_rules, rules_in}
+use Rattle.elf_image_type.specs.declared.part.Owner.{Owner}
+use Rattle.elf_image_type.specs.declared.part.Owner.TheVariants.{Header, ProgramTable, SectionTable, Content, Gap}
+use Rattle.elf_image_type.specs.declared.part.Part.{Part}
+
+-- a part of the file, and its own bytes where it is a gap (none where it has an owner)
+pub record PlacedPart : Type 0 where
+  pub part : Part
+  pub gap : List ℕ
+
+-- an image value: the length, the records, the content of each section, and the parts with their gaps
+pub record ImageValue : Type 0 where
+  pub len : ℕ
+  pub header : Ehdr
+  pub sections : List Shdr
+  pub segments : List Phdr
+  pub contents : List (List ℕ)
+  pub parts : List PlacedPart
+
+-- ---- what the value says by itself
+
+-- the extents of the header, the section table, the program table, and from index 3 on of each section's content
+abbrev pub value_extents : Ehdr → List Shdr → List Phdr → List Extent
+value_extents h ss gs =
+    record { start = 0; len = EHDR_SIZE } ∷
+    record { start = h.e_shoff; len = SHDR_SIZE * length ss } ∷
+    record { start = h.e_phoff; len = PHDR_SIZE * length gs } ∷
+    map content_extent ss
+
+-- the content of the section name string table; none without one
+abbrev pub value_names : Ehdr → List Shdr → List (List ℕ) → List ℕ
+value_names h ss cs =
+    let k = name_table h (section_of ss 0) in
+    if k == 0 then [] else get_or cs k []
+
+-- the rules of the image, of what the value says
+abbrev pub value_rules : ImageValue → List {1} Ruled
+value_rules v = image_rules v.len v.header (section_of v.sections) (segment_of v.segments) (value_names v.header v.sections v.contents)
+
+-- an owner as an index in the list of extents
+abbrev pub index_of : Owner → Option ℕ
+index_of Header = Some 0
+index_of SectionTable = Some 1
+index_of ProgramTable = Some 2
+index_of (Content i) = Some (suc (suc (suc i)))
+index_of Gap = None
+
+-- the piece of a part
+abbrev pub part_piece : Part → Piece
+part_piece p = record { owner = index_of p.owner; start = p.start; len = p.len }
+
+abbrev pub piece_of : PlacedPart → Piece
+piece_of p = part_piece p.part
+
+-- ---- the byte list
+
+-- what only a gap has: x for a gap and d for any other
+abbrev pub if_gap : {X : Type 0} → Owner → X → X → X
+if_gap Gap x d = x
+if_gap Header x d = d
+if_gap SectionTable x d = d
+if_gap ProgramTable x d = d
+if_gap (Content i) x d = d
+
+-- the bytes of a gap in a byte list
+abbrev pub gap_in : List ℕ → Part → List ℕ
+gap_in b p = if_gap p.owner (take p.len (drop p.start b)) []
+
+-- the records are those that the byte list b has at their offsets
+pub record AreRecordsIn (b : List ℕ) (h : Ehdr) (ss : List Shdr) (gs : List Phdr) : Type 0 where
+  pub header : h ≡ header b
+  pub section_headers : ss ≡ map (sections b h) (range_with_len 0 (section_count h (sections b h 0)))
+  pub program_headers : gs ≡ map (segments b h) (range_with_len 0 (segment_count h (sections b h 0)))
+
+-- the header, each section header and each program header lie within the byte list
+pub record AreWithinBytes (b : List ℕ) (h : Ehdr) (ss : List Shdr) (gs : List Phdr) : Type 0 where
+  pub header : EHDR_SIZE ≤ length b
+  pub section_headers : (i : ℕ) → i < length ss → shdr_offset h i + SHDR_SIZE ≤ length b
+  pub program_headers : (j : ℕ) → j < length gs → phdr_offset h j + PHDR_SIZE ≤ length b
+
+-- the value stands as the byte list b
+pub record Stands (v : ImageValue) (b : List ℕ) : Type 0 where
+  pub bytes : IsBytes b
+  pub len : v.len ≡ length b
+  pub records : AreRecordsIn b v.header v.sections v.segments
+  pub within : AreWithinBytes b v.header v.sections v.segments
+  -- each content is the bytes at its offset
+  pub contents : v.contents ≡ map (λ s. bytes_in b (content_extent s)) v.sections
+  -- the parts are the extents, and the longest runs of offsets that lie in none
+  pub accounts : Accounts (value_extents v.header v.sections v.segments) v.len 0 (map piece_of v.parts)
+  -- each gap has its bytes
+  pub gaps : AllByRecursion (λ p. p.gap ≡ gap_in b p.part) v.parts
+
+-- the value stands as b, and b breaks no rule
+pub record IsImage (v : ImageValue) (b : List ℕ) : Type 0 where
+  pub stands : Stands v b
+  pub clean : FirstIn (rules_in b) None
+
+-- ---- an image value by itself, with no byte list in it
+
+-- how many bytes of its own a part has: a gap all of them, any other none
+abbrev pub gap_len : Part → ℕ
+gap_len p = if_gap p.owner p.len 0
+
+pub record IsSound (v : ImageValue) : Type 0 where
+  pub header : IsEhdr v.header
+  pub section_headers : AllByRecursion IsShdr v.sections
+  pub program_headers : AllByRecursion IsPhdr v.segments
+  pub section_count : length v.sections ≡ section_count v.header (section_of v.sections 0)
+  pub segment_count : length v.segments ≡ segment_count v.header (section_of v.sections 0)
+  pub lengths : map length v.contents ≡ map (λ s. (content_extent s).len) v.sections
+  pub bytes : AllByRecursion IsBytes v.contents
+  pub accounts : Accounts (value_extents v.header v.sections v.segments) v.len 0 (map piece_of v.parts)
+  pub gaps : AllByRecursion (λ p. IsBytes p.gap × (length p.gap ≡ gap_len p.part)) v.parts
+  pub clean : FirstIn (value_rules v) None
+
+-- ---- the one byte list
+
+-- the bytes of an owner's part
+abbrev pub owned_bytes : ImageValue → List ℕ → Owner → List ℕ
+owned_bytes v gap Header = ehdr_bytes (order_of v.header.e_ident) v.header
+owned_bytes v gap SectionTable = flat_map (shdr_bytes (order_of v.header.e_ident)) v.sections
+owned_bytes v gap ProgramTable = flat_map (phdr_bytes (order_of v.header.e_ident)) v.segments
+owned_bytes v gap (Content i) = get_or v.contents i []
+owned_bytes v gap Gap = gap
+
+abbrev pub part_bytes : ImageValue → PlacedPart → List ℕ
+part_bytes v p = owned_bytes v p.gap p.part.owner
+
+-- the parts' bytes, one part after the other
+unfoldable pub joined : ImageValue → List ℕ
+joined v = flat_map (part_bytes v) v.parts

@@ -1,0 +1,35 @@
+-- An outline: the records and the parts of a file, without contents, and the image that it is of, with them.
+use Rattle.std.specs.Prelude.{ℕ, Bool, false, if◌then◌else◌, List, map, replicate}
+use Rattle.elf_field.specs.declared.ehdr.Ehdr.{Ehdr}
+use Rattle.elf_field.specs.declared.shdr.Shdr.{Shdr}
+use Rattle.elf_field.specs.declared.phdr.Phdr.{Phdr}
+use Rattle.elf_image_type.specs.declared.part.Part.{Part}
+use Rattle.elf_image_type.specs.Image.{ImageValue, PlacedPart, gap_in, gap_len}
+
+pub record OutlineValue : Type 0 where
+  pub len : ℕ
+  pub header : Ehdr
+  pub sections : List Shdr
+  pub segments : List Phdr
+  pub parts : List Part
+  -- the gaps count as zeros, whatever the file has there
+  pub zeroed : Bool
+
+-- an outline as read
+abbrev pub outline_value : ℕ → Ehdr → List Shdr → List Phdr → List Part → OutlineValue
+outline_value len h ss gs ps = record { len = len; header = h; sections = ss; segments = gs; parts = ps; zeroed = false }
+
+-- a part with its own bytes: a gap's are the file's, or zeros
+abbrev pub placed : Bool → List ℕ → Part → PlacedPart
+placed zeroed file p = record { part = p; gap = if zeroed then replicate (gap_len p) 0 else gap_in file p }
+
+-- the image of an outline, with the contents and the file that the gaps' bytes stand in
+abbrev pub image_of : OutlineValue → List (List ℕ) → List ℕ → ImageValue
+image_of o contents file = record {
+  len = o.len;
+  header = o.header;
+  sections = o.sections;
+  segments = o.segments;
+  contents = contents;
+  parts = map (placed o.zeroed file) o.parts;
+}

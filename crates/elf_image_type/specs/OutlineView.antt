@@ -1,0 +1,13 @@
+-- What contracts see of an outline.
+use Rattle.elf_image_type.specs.declared.outline.Outline.TheInside.{Inside}
+use Rattle.elf_image_type.specs.Outline.{OutlineValue}
+
+abbrev pub outline_view : Inside → OutlineValue
+outline_view a = record {
+  len = a.len;
+  header = a.header;
+  sections = a.sections.items;
+  segments = a.segments.items;
+  parts = a.parts.items;
+  zeroed = a.zeroed;
+}

@@ -1,0 +1,101 @@
+-- A relocatable file as it is written: the header, the content of each section in the order of the section headers, and the
+-- section header table. It has no segments. (gABI chapter 4, ELF Header, Sections with Special Section Indexes.)
+use Rattle.std.specs.Prelude.{◌≡◌, ◌<◌, ◌≤◌, ℕ, suc, ◌+◌, ◌*◌, ◌%◌, nat_lt, if◌then◌else◌, List, [], ◌∷◌, ◌++◌, length, map, get_or}
+use Rattle.std.specs.List.{AllByRecursion, flat_map}
+use Rattle.elf_field.specs.Abi.{EHDR_SIZE, EV_CURRENT, SHDR_SIZE, SHN_LORESERVE, SHN_XINDEX}
+use Rattle.elf_field.specs.declared.ehdr.Ehdr.{Ehdr}
+use Rattle.elf_field.specs.declared.shdr.Shdr.{Shdr}
+use Rattle.elf_field.specs.Bytes.{IsBytes}
+use Rattle.elf_field.specs.Ehdr.{IsEhdr, ehdr_bytes}
+use Rattle.elf_field.specs.Shdr.{IsShdr, shdr_bytes}
+use Rattle.elf_extent.specs.Place.{Fits}
+use Rattle.elf_image_rules.specs.HeaderRules.{MAX_LEN}
+use Rattle.elf_image_rules.specs.KeepsRules.{EachSection, IsAlignment, KeepsIdentRules, KeepsNameRules}
+use Rattle.elf_image_rules.specs.Tables.{content_extent, no_section, order_of, section_of}
+use Rattle.elf_image_type.specs.declared.part.Owner.TheVariants.{Header, SectionTable, Content}
+use Rattle.elf_image_type.specs.FileParts.{FileContents, WrittenPart, spread, unaligned}
+
+-- ---- counts and indexes that the header may not hold
+
+-- e_shnum: 0 for a count that is a reserved index
+abbrev pub short_count : ℕ → ℕ
+short_count count = if nat_lt count SHN_LORESERVE then count else 0
+
+-- e_shstrndx: SHN_XINDEX for a name table whose index is a reserved one
+abbrev pub short_index : ℕ → ℕ
+short_index index = if nat_lt index SHN_LORESERVE then index else SHN_XINDEX
+
+-- what section header 0 holds of a number: only one that the header doesn't
+abbrev pub long_number : ℕ → ℕ
+long_number number = if nat_lt number SHN_LORESERVE then 0 else number
+
+-- section header 0 of a file with so many section headers and this name table
+abbrev pub first_header : ℕ → ℕ → Shdr
+first_header count names = record no_section { sh_size = long_number count; sh_link = long_number names }
+
+-- ---- the file, of a header, the section headers and contents from 1 on, and the name table's index
+
+abbrev pub all_headers : List Shdr → ℕ → List Shdr
+all_headers ss names = first_header (length ss + 1) names ∷ ss
+
+abbrev pub relocatable_file : Ehdr → List Shdr → List (List ℕ) → ℕ → FileContents
+relocatable_file h ss cs names = record {
+  header = h;
+  sections = all_headers ss names;
+  segments = [];
+  contents = [] ∷ cs;
+}
+
+-- the bytes of the section header table
+abbrev pub section_table : Ehdr → List Shdr → ℕ → List ℕ
+section_table h ss names = flat_map (shdr_bytes (order_of h.e_ident)) (all_headers ss names)
+
+-- the contents, and behind them the section header table
+abbrev pub behind_header : Ehdr → List Shdr → List (List ℕ) → ℕ → List (List ℕ)
+behind_header h ss cs names = cs ++ (section_table h ss names ∷ [])
+
+-- where they begin
+abbrev pub offsets : Ehdr → List Shdr → List ℕ
+offsets h ss = map (λ s. s.sh_offset) ss ++ (h.e_shoff ∷ [])
+
+-- the file's bytes
+unfoldable pub relocatable_bytes : Ehdr → List Shdr → List (List ℕ) → ℕ → List ℕ
+relocatable_bytes h ss cs names =
+    spread 0 (0 ∷ offsets h ss) (ehdr_bytes (order_of h.e_ident) h ∷ behind_header h ss cs names)
+
+-- ---- its parts
+
+-- contents by their owners, from an index on
+abbrev pub content_parts : ℕ → List (List ℕ) → List WrittenPart
+content_parts i [] = []
+content_parts i (c ∷ cs) = record { owner = Content i; bytes = c } ∷ content_parts (suc i) cs
+
+abbrev pub relocatable_parts : Ehdr → List Shdr → List (List ℕ) → ℕ → List WrittenPart
+relocatable_parts h ss cs names =
+    record { owner = Header; bytes = ehdr_bytes (order_of h.e_ident) h } ∷
+    (content_parts 1 cs ++ (record { owner = SectionTable; bytes = section_table h ss names } ∷ []))
+
+-- ---- what it has that keeps the rules
+
+pub record IsRelocatableFile (h : Ehdr) (ss : List Shdr) (cs : List (List ℕ)) (names : ℕ) : Type 0 where
+  pub header_fits : IsEhdr h
+  pub headers_fit : AllByRecursion IsShdr ss
+  pub bytes : AllByRecursion IsBytes cs
+  -- the header's own facts, with no program table
+  pub ident : KeepsIdentRules h.e_ident
+  pub version : h.e_version ≡ EV_CURRENT
+  pub header_size : h.e_ehsize ≡ EHDR_SIZE
+  pub section_header_size : h.e_shentsize ≡ SHDR_SIZE
+  pub section_count : h.e_shnum ≡ short_count (length ss + 1)
+  pub name_table : h.e_shstrndx ≡ short_index names
+  pub no_program_table : h.e_phoff ≡ 0
+  pub no_segments : h.e_phnum ≡ 0
+  -- each part begins behind the one before it, and the last one ends in time
+  pub lengths : map length cs ≡ map (λ s. (content_extent s).len) ss
+  pub order : Fits (map unaligned (behind_header h ss cs names)) EHDR_SIZE (offsets h ss)
+  pub short : h.e_shoff + SHDR_SIZE * (length ss + 1) ≤ MAX_LEN
+  -- alignments and names
+  pub alignment : EachSection (length ss + 1) (section_of (all_headers ss names)) (λ entry. IsAlignment entry.sh_addralign)
+  pub address : EachSection (length ss + 1) (section_of (all_headers ss names)) (λ entry. 1 < entry.sh_addralign → entry.sh_addr % entry.sh_addralign ≡ 0)
+  pub names_within : names < length ss + 1
+  pub section_names : KeepsNameRules (length ss + 1) names (section_of (all_headers ss names)) (get_or ([] ∷ cs) names [])

@@ -1,0 +1,95 @@
+//! What can stop a call that reads, judges, edits or writes a file.
+ghost use Rattle.std.specs.Prelude.{◌≡◌, ◌+◌, ◌^◌, ◌<◌};
+
+use elf_extent::OutOfMemory;
+use elf_image_rules::Broken;
+use std::alloc::{AllocError, AllocFailed};
+
+/// Why there is no answer from a file's bytes.
+#[derive(Clone, Copy, Debug, PartialEq, Eq)]
+pub enum Fault {
+    /// A growth was refused.
+    OutOfMemory,
+    /// A call of the reader failed, after it had given `at` bytes.
+    Io { at: u64 },
+    /// The bytes break the refusal rule of this number, first at this offset in the file.
+    Rule { rule: u16, at: u64 },
+}
+
+impl From<AllocError> for Fault {
+    ghost use Rattle.elf_image_type.specs.declared.fault.Fault.TheVariants.{OutOfMemory};
+
+    ghost from_gives = { λ _ fault. fault ≡ OutOfMemory };
+
+    fn from(_refused: AllocError) -> Fault {
+        Fault::OutOfMemory
+    }
+}
+
+impl<T: Drop> From<AllocFailed<T>> for Fault {
+    ghost use Rattle.elf_image_type.specs.declared.fault.Fault.TheVariants.{OutOfMemory};
+
+    ghost from_gives = { λ _ fault. fault ≡ OutOfMemory };
+
+    fn from(_refused: AllocFailed<T>) -> Fault {
+        Fault::OutOfMemory
+    }
+}
+
+impl From<Broken> for Fault {
+    ghost use Rattle.elf_image_type.specs.declared.fault.Fault.TheVariants.{Rule};
+
+    ghost from_gives = { λ broken fault. fault ≡ Rule broken.rule broken.at };
+
+    fn from(broken: Broken) -> Fault {
+        Fault::Rule {
+            rule: broken.rule,
+            at: broken.at,
+        }
+    }
+}
+
+impl From<OutOfMemory> for Fault {
+    ghost use Rattle.elf_image_type.specs.declared.fault.Fault.TheVariants.{OutOfMemory};
+
+    ghost from_gives = { λ _ fault. fault ≡ OutOfMemory };
+
+    fn from(_refused: OutOfMemory) -> Fault {
+        Fault::OutOfMemory
+    }
+}
+
+/// A call of the writer failed, or took none of the bytes that it was offered.
+#[derive(Clone, Copy, Debug, PartialEq, Eq)]
+pub struct WriteFault {
+    /// How many bytes are out: exactly the first ones of those that were to be written.
+    pub written: u64,
+}
+
+impl WriteFault {
+    // The fault, where so many other bytes went out before.
+    pub(crate) fn after(self, before: u64) -> WriteFault
+        requires { before + self.written < 2 ^ 64 }
+        ensures { result.written ≡ before + self.written }
+    {
+        WriteFault {
+            written: before + self.written,
+        }
+    }
+}
+
+/// No section has the index: it is 0, or not below the number of section headers.
+#[derive(Clone, Copy, Debug, PartialEq, Eq)]
+pub struct NoSection;
+
+/// Why a section's content can't be replaced; where several hold, the first of them.
+#[derive(Clone, Copy, Debug, PartialEq, Eq)]
+pub enum ReplaceFault {
+    /// The index is 0 or not below the number of section headers, or the section is of type `SHT_NULL`
+    /// or `SHT_NOBITS` and has no content.
+    NoSection,
+    /// The new content is not `sh_size` bytes long.
+    WrongLength,
+    /// The section is the section name string table, which every section's name depends on.
+    NameTable,
+}

@@ -1,0 +1,199 @@
+//! A file as a value: its records, contents and parts.
+ghost use Rattle.std.specs.Prelude.{◌≡◌, ◌<◌, ◌≤◌, ◌+◌, ℕ, [], List, get_or, length, map};
+ghost use Rattle.elf_image_rules.specs.HeaderRules.{MAX_LEN};
+ghost use Rattle.elf_image_rules.specs.Tables.{content_extent, name_table, order_of, shdr_offset};
+ghost use Rattle.elf_image_type.specs.Image.{IsImage, IsSound, section_of, segment_of, value_names};
+ghost use Rattle.elf_image_type.specs.Outline.{image_of};
+ghost use Rattle.elf_image_type.specs.Parts.{AreParts};
+ghost use Rattle.elf_image_type.specs.Strings.{section_name};
+
+use crate::outline::Outline;
+use crate::part::Part;
+use crate::strings::string_at;
+use elf_field::abi::{SHDR_SIZE, SHT_NULL};
+use elf_field::{Ehdr, Order, Phdr, Shdr};
+use std::marker::Model;
+
+/// An ELF-64 file that breaks no rule, as a value: what [`parse`](crate::parse) makes of the file's
+/// bytes, which it borrows, and what [`write`](crate::write) writes.
+///
+/// Any image, edited or as read, stands as exactly one list of bytes, which breaks no rule either.
+/// No accessor and no edit takes memory. Offsets and lengths are in bytes.
+#[derive(Drop)]
+pub struct Image<'a> {
+    pub(crate) outline: Outline,
+    // The bytes of the file, for the gaps.
+    pub(crate) file: &'a [u8],
+    // One for each section header, empty where the section has none in the file.
+    pub(crate) contents: Vec<&'a [u8]>,
+}
+
+impl<'a> Model for Image<'a> {
+    ghost use Rattle.elf_image_type.specs.Image.{ImageValue, IsSound};
+
+    ghost Value = { ImageValue };
+
+    ghost use Rattle.elf_image_type.specs.View.{view_of};
+
+    ghost view = { view_of };
+
+    ghost invariant = { λ a. IsSound (view_of a) };
+}
+
+impl<'a> Image<'a> {
+    /// The image of these records and parts, with the contents, and the file that the gaps' bytes
+    /// stand in.
+    pub(crate) fn new(outline: Outline, file: &'a [u8], contents: Vec<&'a [u8]>) -> Image<'a>
+        requires { IsSound (image_of outline (map (λ c. c.now) contents.items) file.now) }
+        ensures { result ≡ image_of outline (map (λ c. c.now) contents.entry.items) file.entry.now }
+    {
+        Image {
+            outline,
+            file,
+            contents,
+        }
+    }
+
+    /// Promises that the image stands as a list of bytes that breaks no rule. It does nothing.
+    pub fn stands(&self)
+        ensures { (b : List ℕ) × IsImage self.now b }
+    {
+        let _ = &self.outline;
+    }
+
+    /// The length of the file, in bytes; no edit changes it.
+    pub fn len(&self) -> u64
+        ensures value { result ≡ self.now.len }
+        ensures short { result ≤ MAX_LEN }
+    {
+        self.outline.len()
+    }
+
+    /// The byte order, as identification byte 5 says it (gABI chapter 4, Data Encoding).
+    pub fn order(&self) -> Order
+        ensures { result ≡ order_of self.now.header.e_ident }
+    {
+        self.outline.order()
+    }
+
+    /// The ELF header (gABI chapter 4, ELF Header).
+    pub fn header(&self) -> Ehdr
+        ensures { result ≡ self.now.header }
+    {
+        self.outline.header()
+    }
+
+    /// How many section headers there are, number 0 among them; 0 without a section header table.
+    pub fn section_count(&self) -> usize
+        ensures { result ≡ length self.now.sections }
+    {
+        self.outline.sections().len()
+    }
+
+    /// How many program headers there are.
+    pub fn segment_count(&self) -> usize
+        ensures { result ≡ length self.now.segments }
+    {
+        self.outline.segments().len()
+    }
+
+    /// The index of the section name string table, 0 for none (gABI chapter 4, ELF Header:
+    /// `e_shstrndx`).
+    pub fn name_table(&self) -> u32
+        ensures { result ≡ name_table self.now.header (section_of self.now.sections 0) }
+    {
+        self.outline.name_table()
+    }
+
+    /// Section header `i`, which is below [`section_count`](Image::section_count); number 0 as it
+    /// stands in the file.
+    pub fn section(&self, i: usize) -> Shdr
+        requires { i < length self.now.sections }
+        ensures value { result ≡ section_of self.now.sections i }
+        ensures inside { shdr_offset self.now.header i + SHDR_SIZE ≤ self.now.len }
+        ensures short { self.now.len ≤ MAX_LEN }
+    {
+        self.outline.section(i)
+    }
+
+    /// The offset in the file of section header `i`, which is below
+    /// [`section_count`](Image::section_count).
+    pub fn header_offset(&self, i: usize) -> u64
+        requires { i < length self.now.sections }
+        ensures value { result ≡ shdr_offset self.now.header i }
+        ensures inside { result + SHDR_SIZE ≤ self.now.len }
+        ensures short { self.now.len ≤ MAX_LEN }
+    {
+        // That header lies in the file, so that the sum is a number of 64 bits.
+        let _ = self.section(i);
+        self.header().e_shoff + SHDR_SIZE * i as u64
+    }
+
+    /// Program header `j`, which is below [`segment_count`](Image::segment_count).
+    pub fn segment(&self, j: usize) -> Phdr
+        requires { j < length self.now.segments }
+        ensures { result ≡ segment_of self.now.segments j }
+    {
+        self.outline.segment(j)
+    }
+
+    /// The name of section `i`, without its closing zero. It is empty for a section header of type
+    /// `SHT_NULL`, and where there is no section name string table or an empty one.
+    pub fn name(&self, i: usize) -> &'a [u8]
+        requires { i < length self.now.sections }
+        ensures { result.now ≡ section_name self.now i }
+    {
+        let section = self.section(i);
+        if section.sh_type == SHT_NULL {
+            return &[];
+        }
+        string_at(self.names(), section.sh_name as usize)
+    }
+
+    // The content of the section name string table, empty without one.
+    fn names(&self) -> &'a [u8]
+        ensures { result.now ≡ value_names self.now.header self.now.sections self.now.contents }
+    {
+        let index = self.name_table() as usize;
+        if index == 0 {
+            return &[];
+        }
+        self.contents[index]
+    }
+
+    /// The content of section `i`, as read or as replaced: `sh_size` bytes, but none for a section
+    /// header of type `SHT_NULL` or `SHT_NOBITS`.
+    pub fn content(&self, i: usize) -> &'a [u8]
+        requires { i < length self.now.sections }
+        ensures bytes { result.now ≡ get_or self.now.contents i [] }
+        ensures size { length result.now ≡ (content_extent (section_of self.now.sections i)).len }
+        ensures inside { 0 < length result.now →
+            (section_of self.now.sections i).sh_offset + length result.now ≤ self.now.len }
+        ensures short { self.now.len ≤ MAX_LEN }
+    {
+        self.contents[i]
+    }
+
+    /// The offset in the file of the content of section `i`: `sh_offset`, at which the section has
+    /// bytes only where its content is not empty.
+    pub fn content_offset(&self, i: usize) -> u64
+        requires { i < length self.now.sections }
+        ensures value { result ≡ (section_of self.now.sections i).sh_offset }
+        ensures inside { 0 < (content_extent (section_of self.now.sections i)).len →
+            result + (content_extent (section_of self.now.sections i)).len ≤ self.now.len }
+        ensures short { self.now.len ≤ MAX_LEN }
+    {
+        // That content lies in the file.
+        let _ = self.content(i);
+        self.section(i).sh_offset
+    }
+
+    /// What each byte of the file belongs to: the parts in ascending order, none of them empty, each
+    /// byte in just one.
+    pub fn parts(&self) -> &[Part]
+        ensures value { result.now ≡ map (λ p. p.part) self.now.parts }
+        ensures parts { AreParts self.now result.now }
+    {
+        self.outline.parts()
+    }
+}

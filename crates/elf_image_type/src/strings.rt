@@ -1,0 +1,17 @@
+//! Strings in a table of strings (gABI chapter 4, String Table).
+ghost use Rattle.std.specs.Prelude.{◌≡◌};
+ghost use Rattle.elf_image_type.specs.Strings.{string};
+
+use memchr::memchr;
+
+/// The string at an offset of a string table: its bytes up to the first zero, or to the end of the
+/// table where there is none. It is empty from the end of the table on. It takes no memory.
+pub fn string_at(table: &[u8], offset: usize) -> &[u8]
+    ensures { result.now ≡ string table.now offset }
+{
+    let rest = &table[offset.min(table.len())..];
+    match memchr(0, rest) {
+        Some(end) => &rest[..end],
+        None => rest,
+    }
+}

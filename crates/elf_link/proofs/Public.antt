@@ -1,4 +1,0 @@
--- What the proofs of the crates above may cite: the laws of src/laws.rt, each under its name there.
-pub use Rattle.elf_link.proofs.Apart.{parts_apart}
-pub use Rattle.elf_link.proofs.OneLinkFault.{one_link_fault}
-pub use Rattle.elf_link.proofs.OneLinkMap.{one_link_map}

@@ -1,8 +1,0 @@
-use Rattle.std.proofs.Common.{map}
-use Rattle.elf_link_names.specs.Naming.{position_by}
-use Rattle.elf_link_outputs.specs.PlacedView.{common_value}
-use Rattle.elf_link.specs.Naming.{AreCommonPositionsBelow}
-use Rattle.elf_link.proofs.bindings.common_positions.Given as goal
-
-abbrev pub invariant-loop-k : goal.invariant-loop-k
-invariant-loop-k l = AreCommonPositionsBelow (map common_value l.commons) l.k (position_by l.positions)

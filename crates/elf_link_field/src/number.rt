@@ -1,0 +1,107 @@
+//! The number of a relocation entry.
+ghost use Rattle.std.specs.Prelude.{◌≡◌, ◌+◌, ◌*◌, ◌^◌, ◌<◌, ◌≤◌, ℤ, pos, neg_ℤ, ◌<ℤ◌, ◌≤ℤ◌, MatchBool, length};
+ghost use Rattle.byteorder.specs.Endian.{twos_complement};
+ghost use Rattle.elf_field.specs.Bytes.{from};
+ghost use Rattle.elf_link_field.specs.Number.{Admits, addend_at, addend_from, modulo as modulo_of, number_of};
+ghost use Rattle.elf_link_field.specs.Rule.{size_of};
+
+use crate::rule::{Form, Range, Width};
+use byteorder::{BigEndian, ByteOrder, LittleEndian};
+use elf_field::Order;
+
+/// One more than the largest number that a field of this width holds.
+fn modulus(width: Width) -> i128
+    ensures { result ≡ pos (2 ^ (8 * size_of width)) }
+{
+    match width {
+        Width::W1 => 0x100,
+        Width::W2 => 0x1_0000,
+        Width::W4 => 0x1_0000_0000,
+        Width::W8 => 0x1_0000_0000_0000_0000,
+    }
+}
+
+/// The number modulo 2 to the bits of the width.
+pub(crate) fn modulo(width: Width, number: i128) -> u64
+    ensures value { result ≡ modulo_of (size_of width) number }
+    ensures fits { result < 256 ^ size_of width }
+{
+    number.rem_euclid(modulus(width)) as u64
+}
+
+impl Form {
+    /// The number of an entry of this form, exact: `value` is its symbol's value, which has to be below 2^126, the addend is from
+    /// -2^63 to 2^64 - 1, and `address` is that of the field. An entry of form [`Form::None`] has no field, and is answered as one of
+    /// [`Form::Abs`].
+    pub fn number(self, value: u128, addend: i128, address: u64) -> i128
+        requires value { value < 2 ^ 126 }
+        requires low { neg_ℤ (pos (2 ^ 63)) ≤ℤ addend }
+        requires high { addend <ℤ pos (2 ^ 64) }
+        ensures { result ≡ number_of self value addend address }
+    {
+        let sum = value as i128 + addend;
+        match self {
+            Form::Pc => sum - address as i128,
+            _ => sum,
+        }
+    }
+}
+
+impl Range {
+    /// Whether a field of this width admits the number.
+    pub fn admits(self, width: Width, number: i128) -> bool
+        ensures { MatchBool result (Admits self (size_of width) number) (¬ (Admits self (size_of width) number)) }
+    {
+        let modulus = modulus(width);
+        match self {
+            Range::Signed => -(modulus / 2) <= number && number < modulus / 2,
+            Range::Unsigned => 0 <= number && number < modulus,
+            Range::Wrap => true,
+        }
+    }
+}
+
+fn unsigned_in<O: ByteOrder>(width: Width, bytes: &[u8], offset: usize) -> i128
+    requires { offset + size_of width ≤ length bytes.now }
+    ensures value { result ≡ pos (from O.number_of bytes.now offset (size_of width)) }
+    ensures low { neg_ℤ (pos (2 ^ 63)) ≤ℤ result }
+    ensures high { result <ℤ pos (2 ^ 64) }
+{
+    O::read_uint(&bytes[offset..], width.size()) as i128
+}
+
+fn signed_in<O: ByteOrder>(width: Width, bytes: &[u8], offset: usize) -> i128
+    requires { offset + size_of width ≤ length bytes.now }
+    ensures value { result ≡ twos_complement (size_of width) (from O.number_of bytes.now offset (size_of width)) }
+    ensures low { neg_ℤ (pos (2 ^ 63)) ≤ℤ result }
+    ensures high { result <ℤ pos (2 ^ 64) }
+{
+    O::read_int(&bytes[offset..], width.size()) as i128
+}
+
+fn addend_by<O: ByteOrder>(range: Range, width: Width, bytes: &[u8], offset: usize) -> i128
+    requires { offset + size_of width ≤ length bytes.now }
+    ensures value { result ≡ addend_from O.number_of range bytes.now offset (size_of width) }
+    ensures low { neg_ℤ (pos (2 ^ 63)) ≤ℤ result }
+    ensures high { result <ℤ pos (2 ^ 64) }
+{
+    match range {
+        Range::Unsigned => unsigned_in::<O>(width, bytes, offset),
+        Range::Signed | Range::Wrap => signed_in::<O>(width, bytes, offset),
+    }
+}
+
+/// The addend that stands in the field of this width at an offset of the bytes, in which it has to lie whole (an entry of type
+/// `SHT_REL` has no other one): two's complement, but from 0 on where the range is [`Range::Unsigned`].
+#[tactic(auto, unfolding(elf_field::specs::Bytes::num))]
+pub fn addend_in(order: Order, range: Range, width: Width, bytes: &[u8], offset: usize) -> i128
+    requires { offset + size_of width ≤ length bytes.now }
+    ensures value { result ≡ addend_at order range bytes.now offset (size_of width) }
+    ensures low { neg_ℤ (pos (2 ^ 63)) ≤ℤ result }
+    ensures high { result <ℤ pos (2 ^ 64) }
+{
+    match order {
+        Order::Little => addend_by::<LittleEndian>(range, width, bytes, offset),
+        Order::Big => addend_by::<BigEndian>(range, width, bytes, offset),
+    }
+}

@@ -1,0 +1,96 @@
+-- The link map as a value, and when it is the one of some objects and options.
+-- (gABI chapter 4, Symbol Table; outputs and placement are this project's profile.)
+use Rattle.std.specs.Prelude.{◌≡◌, ℕ, ◌<◌, Bool, Option, MatchOption, List, [], length, map}
+use Rattle.std.specs.Map.{lookup}
+use Rattle.std.specs.Str.{bytes_eq}
+use Rattle.elf_extent.specs.Place.{EndsFit, Least}
+use Rattle.elf_object_type.specs.Object.{ObjectValue}
+use Rattle.elf_link_files.specs.declared.options.Options.{Options}
+use Rattle.elf_link_files.specs.declared.site.Site.{Site}
+use Rattle.elf_link_files.specs.Discarded.{AreMarks}
+use Rattle.elf_link_files.specs.Listing.{Lists, name_at}
+use Rattle.elf_link_files.specs.Rows.{Nowhere}
+use Rattle.elf_link_names.specs.declared.choice.Choice.TheVariants.{Strong as StrongChoice, Common as CommonChoice, Weak as WeakChoice, Zero as ZeroChoice}
+use Rattle.elf_link_names.specs.Binds.{Binds, entries}
+use Rattle.elf_link_names.specs.Listing.{first_entries}
+use Rattle.elf_link_names.specs.ChosenCommons.{AreChosen}
+use Rattle.elf_link_outputs.specs.declared.addresses.Target.{Target}
+use Rattle.elf_link_outputs.specs.Addresses.{HasValue}
+use Rattle.elf_link_outputs.specs.Plan.{Plan, parts_of, placed, AreOutputs}
+use Rattle.elf_link_outputs.specs.Placed.{OutputValue, CommonValue, common_at, AreAddresses, ArePlacedOutputs, ArePlacedCommons}
+use Rattle.elf_link_map.specs.declared.bindings.Binding.{Binding}
+use Rattle.elf_link_map.specs.declared.bindings.Binding.TheVariants.{Strong, Common, Weak, Zero}
+use Rattle.elf_link_map.specs.Entry.{IsEntryTarget}
+
+pub record LinkMapValue : Type 0 where
+  pub addresses : List (List (Option ℕ))
+  pub discarded : List (List Bool)
+  pub bindings : List (List ℕ × Binding)
+  pub outputs : List OutputValue
+  pub commons : List CommonValue
+  pub base : ℕ
+  pub page : ℕ
+  pub entry : ℕ
+
+-- the common at position k has this name
+abbrev pub IsNamed : List CommonValue → List ℕ → ℕ → Type 0
+IsNamed cs name k = (k < length cs) × ((common_at cs k).name ≡ name)
+
+-- what a name is bound to; a common has its address
+abbrev pub IsBinding : List ObjectValue → List CommonValue → List ℕ → Binding → Type 0
+IsBinding fs cs name (Strong file symbol) = Binds fs name (StrongChoice file symbol)
+IsBinding fs cs name (Common address size align) =
+    Binds fs name (CommonChoice size align) × ((k : ℕ) × IsNamed cs name k × ((common_at cs k).address ≡ address))
+IsBinding fs cs name (Weak file symbol) = Binds fs name (WeakChoice file symbol)
+IsBinding fs cs name Zero = Binds fs name ZeroChoice
+
+-- what a list of names with their bindings has of a name
+abbrev pub bound_in : List (List ℕ × Binding) → List ℕ → Option Binding
+bound_in bindings name = lookup (bytes_eq name) bindings
+
+-- the one that stands for a name that isn't there
+abbrev pub no_name : List ℕ × Binding
+no_name = ([], Zero)
+
+-- each name with an entry stands there once, in the order of the first entries
+abbrev pub AreNames : List ObjectValue → List (List ℕ × Binding) → Type 0
+AreNames fs bindings = (ps : List Site) × Lists (first_entries fs) ps × (map (λ e. e.0) bindings ≡ map (name_at fs) ps)
+
+-- each name with an entry is bound, and no other
+abbrev pub AreBindings : List ObjectValue → List CommonValue → List (List ℕ × Binding) → Type 0
+AreBindings fs cs bindings = (name : List ℕ) → MatchOption (bound_in bindings name) (Nowhere (entries fs name)) (IsBinding fs cs name)
+
+pub record IsPlan (fs : List ObjectValue) (plan : Plan) : Type 0 where
+  pub outputs : AreOutputs fs plan.outputs
+  pub commons : AreChosen fs plan.commons
+
+-- the plan of a link, the least places of its parts, and what the entry's value is made of
+pub record LinkPlan : Type 0 where
+  pub plan : Plan
+  pub places : List ℕ
+  pub target : Target
+
+abbrev pub link_parts : List ObjectValue → Options → LinkPlan → List (ℕ × ℕ)
+link_parts fs opt l = parts_of fs opt.page l.plan
+
+pub record IsPlaced (opt : Options) (fs : List ObjectValue) (l : LinkPlan) : Type 0 where
+  pub plan : IsPlan fs l.plan
+  pub target : IsEntryTarget fs (placed l.plan) l.plan.commons opt.entry l.target
+  pub least : Least (link_parts fs opt l) opt.base l.places
+
+-- the link map of this plan
+pub record IsMapOf (opt : Options) (fs : List ObjectValue) (l : LinkPlan) (m : LinkMapValue) : Type 0 where
+  pub fits : EndsFit (link_parts fs opt l) l.places (length (link_parts fs opt l))
+  pub addresses : AreAddresses fs (placed l.plan) l.places m.addresses
+  pub discarded : AreMarks fs m.discarded
+  pub bindings : AreBindings fs m.commons m.bindings
+  pub names : AreNames fs m.bindings
+  pub outputs : ArePlacedOutputs fs l.plan.outputs (link_parts fs opt l) l.places (length l.plan.outputs) m.outputs
+  pub commons : ArePlacedCommons fs l.plan.commons l.places (length (placed l.plan)) (length l.plan.commons) m.commons
+  pub base : m.base ≡ opt.base
+  pub page : m.page ≡ opt.page
+  pub entry : HasValue (link_parts fs opt l) opt.base l.target m.entry
+
+-- the link map of some objects and options
+abbrev pub IsLinkMap : Options → List ObjectValue → LinkMapValue → Type 0
+IsLinkMap opt fs m = (l : LinkPlan) × IsPlaced opt fs l × IsMapOf opt fs l m

@@ -1,0 +1,24 @@
+//! What the layers above may know of a link map.
+ghost use Rattle.std.specs.Prelude.{◌≡◌, List, Option};
+ghost use Rattle.elf_link_files.specs.declared.options.Options.{Options};
+ghost use Rattle.elf_link_files.specs.declared.site.Broken.{Broken};
+ghost use Rattle.elf_link_map.specs.Apart.{StandApart};
+ghost use Rattle.elf_link_map.specs.LinkFaults.{FirstOfLink};
+ghost use Rattle.elf_link_map.specs.LinkMap.{IsLinkMap, LinkMapValue};
+ghost use Rattle.elf_object_type.specs.Object.{ObjectValue};
+
+/// In the link map of some objects a section has an address exactly where it is live, the commons stand behind all sections, each
+/// of these parts ends below 2^64, and no address lies in two of them.
+pub fn parts_apart()
+    ensures { (opt : Options) (fs : List ObjectValue) (m : LinkMapValue) → IsLinkMap opt fs m → StandApart fs m }
+{}
+
+/// Some objects and options have at most one answer: that no rule of the link stands, or the first one that does, at its first site.
+pub fn one_link_fault()
+    ensures { (opt : Options) (fs : List ObjectValue) (a b : Option Broken) → FirstOfLink opt fs a → FirstOfLink opt fs b → a ≡ b }
+{}
+
+/// Some objects and options have at most one link map: no second value meets the definition.
+pub fn one_link_map()
+    ensures { (opt : Options) (fs : List ObjectValue) (m n : LinkMapValue) → IsLinkMap opt fs m → IsLinkMap opt fs n → m ≡ n }
+{}

@@ -1,0 +1,102 @@
+//! The link map of objects.
+ghost use Rattle.std.specs.Prelude.{◌≡◌, IfErr, IfOk, None, OnOk, map as map_list};
+ghost use Rattle.elf_link_files.specs.Discarded.{AreMarks};
+ghost use Rattle.elf_link_files.specs.FileRules.{option_rules};
+ghost use Rattle.elf_link_files.specs.Commons.{AreSymbols};
+ghost use Rattle.elf_link_files.specs.Rows.{FirstIn};
+ghost use Rattle.elf_link_names.specs.LinkRules.{input_rules};
+ghost use Rattle.elf_link_names.specs.NameTable.{IsWholeTable};
+ghost use Rattle.elf_link_names.specs.Naming.{position_by};
+ghost use Rattle.elf_link_names.specs.ChosenCommons.{AreChosen};
+ghost use Rattle.elf_link_names.specs.ChosenCommons.{HaveChosen};
+ghost use Rattle.elf_link_outputs.specs.Plan.{AreOutputs, flat};
+ghost use Rattle.elf_link_outputs.specs.Planning.{AreAllIn, AreLive, AreSome};
+ghost use Rattle.elf_link_map.specs.LinkFaults.{FirstOfLink, IsLinkFault};
+ghost use Rattle.elf_link_map.specs.LinkMap.{IsLinkMap};
+
+use crate::bindings::all_bindings;
+use crate::link_map::LinkMap;
+use crate::target::entry_target;
+use elf_link_files::{Chosen, LinkFault, Options, Site};
+use elf_link_names::judge::{Judged, judge};
+use elf_link_names::{Listed, all_listed, chosen_commons};
+use elf_link_outputs::addresses::addresses;
+use elf_link_outputs::{
+    address_table, all_parts, outputs_of, placed, placed_commons, placed_outputs,
+};
+use elf_object_type::Object;
+use std::alloc::Global;
+use std::hash::BuildHasher;
+
+/// The link map of objects that break none of rules 1 to 9, with these outputs and commons.
+fn placed_map<'a>(
+    alloc: Global,
+    objects: &[Object<'a>],
+    options: &Options<'_>,
+    judged: Judged<'a>,
+    outputs: &[Vec<Site>],
+    chosen: &[Chosen],
+) -> Result<LinkMap<'a>, LinkFault>
+    requires clean { FirstIn (input_rules options.now objects.now) None }
+    requires options { FirstIn (option_rules options.now objects.now) None }
+    requires marks { AreMarks objects.now (map_list (λ row. row.items) judged.marks.items) }
+    requires table { IsWholeTable objects.now (position_by judged.table.positions) judged.table.known.items }
+    requires outputs { AreOutputs objects.now (map_list (λ ms. ms.items) outputs.now) }
+    requires within { AreAllIn objects.now (map_list (λ ms. ms.items) outputs.now) }
+    requires some { AreSome (map_list (λ ms. ms.items) outputs.now) }
+    requires live { AreLive objects.now (flat (map_list (λ ms. ms.items) outputs.now)) }
+    requires chosen { AreChosen objects.now chosen.now }
+    requires symbols { AreSymbols objects.now chosen.now }
+    requires all { HaveChosen objects.now chosen.now }
+    ensures sound { OnOk result (FirstOfLink options.now objects.now None) }
+    ensures map { IfOk result (λ m. IsLinkMap options.now objects.now m) }
+    ensures err { IfErr result (IsLinkFault options.now objects.now) }
+{
+    let sites = placed(alloc, outputs)?;
+    let parts = all_parts(alloc, options.page, objects, outputs, chosen)?;
+    let target = entry_target(objects, &judged.table, &sites, chosen, options.entry);
+    let addressed = addresses(alloc, &parts, options.base, target)?;
+    let addresses = address_table(alloc, objects, &sites, &addressed.places)?;
+    let outputs = placed_outputs(alloc, objects, outputs, &parts, &addressed.places)?;
+    let commons = placed_commons(alloc, objects, chosen, &addressed.places, sites.len())?;
+    let names = all_bindings(alloc, objects, judged.table, &commons)?;
+    Ok(LinkMap {
+        addresses,
+        discarded: judged.marks,
+        names,
+        outputs,
+        commons,
+        base: options.base,
+        page: options.page,
+        entry: addressed.entry,
+    })
+}
+
+/// The link map of these objects: where each live section and each common stands, and what each name is bound to.
+///
+/// The hasher spreads the keys of the outputs; whichever it is, the map is the same.
+///
+/// Answers the first of the link's rules ([`rules`](crate::rules)) that stands, and [`LinkFault::OutOfMemory`] only where memory
+/// is refused, which is asked for only where rules 1 and 2 don't stand.
+pub fn map<'a, S: BuildHasher + Drop>(
+    alloc: Global,
+    objects: &[Object<'a>],
+    options: &Options<'_>,
+    hasher: S,
+) -> Result<LinkMap<'a>, LinkFault>
+    ensures sound { OnOk result (FirstOfLink options.now objects.now None) }
+    ensures map { IfOk result (λ m. IsLinkMap options.now objects.now m) }
+    ensures err { IfErr result (IsLinkFault options.now objects.now) }
+{
+    let judged = judge(alloc, objects, options)?;
+    let live = all_listed(
+        alloc,
+        Listed::LiveSections,
+        objects,
+        &judged.marks,
+        &judged.table,
+    )?;
+    let outputs = outputs_of(alloc, objects, &live, hasher)?;
+    let chosen = chosen_commons(alloc, objects, &judged.marks, &judged.table)?;
+    placed_map(alloc, objects, options, judged, &outputs, &chosen)
+}

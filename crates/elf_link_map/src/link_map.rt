@@ -1,0 +1,104 @@
+//! The link map: where everything stands, and what each name is bound to (gABI chapter 4, Sections, Symbol Table).
+ghost use Rattle.std.specs.Prelude.{◌≡◌, map};
+ghost use Rattle.elf_link_files.specs.Discarded.{mark};
+ghost use Rattle.elf_link_outputs.specs.Placed.{cell};
+ghost use Rattle.elf_link_outputs.specs.PlacedView.{common_value, output_value};
+ghost use Rattle.elf_link_map.specs.LinkMap.{bound_in};
+ghost use Rattle.elf_link_map.specs.LinkMapView.{named_value};
+
+use crate::bindings::Binding;
+use crate::names::{Named, Names};
+use elf_link_outputs::{Common, Output};
+use std::marker::Model;
+
+/// Where the sections and commons of a link stand, and what each name is bound to. No accessor takes memory.
+#[derive(Debug, Drop)]
+pub struct LinkMap<'a> {
+    pub(crate) addresses: Vec<Vec<Option<u64>>>,
+    pub(crate) discarded: Vec<Vec<bool>>,
+    pub(crate) names: Names<'a>,
+    pub(crate) outputs: Vec<Output<'a>>,
+    pub(crate) commons: Vec<Common<'a>>,
+    pub(crate) base: u64,
+    pub(crate) page: u64,
+    pub(crate) entry: u64,
+}
+
+impl<'a> Model for LinkMap<'a> {
+    ghost use Rattle.elf_link_map.specs.LinkMap.{LinkMapValue};
+
+    ghost Value = { LinkMapValue };
+
+    ghost use Rattle.elf_link_map.specs.LinkMapView.{link_map_value};
+
+    ghost view = { link_map_value };
+}
+
+impl<'a> LinkMap<'a> {
+    /// The address of a section; None where it is not live, or where there is none at that position.
+    pub fn address(&self, file: usize, section: usize) -> Option<u64>
+        ensures { result ≡ cell self.now.addresses file section }
+    {
+        *self.addresses.get(file)?.get(section)?
+    }
+
+    /// Whether a section is discarded: it is a member of a COMDAT group, and an earlier one has the same signature.
+    pub fn discarded(&self, file: usize, section: usize) -> bool
+        ensures { result ≡ mark self.now.discarded file section }
+    {
+        match self.discarded.get(file) {
+            Some(row) => row.get(section).copied().unwrap_or(false),
+            None => false,
+        }
+    }
+
+    /// What a name is bound to; None where no symbol that is not local has it. It takes log n comparisons of names.
+    pub fn binding(&self, name: &[u8]) -> Option<Binding>
+        ensures { result ≡ bound_in self.now.bindings name.now }
+    {
+        self.names.binding(name)
+    }
+
+    /// Every name that a symbol has that is not local, with what it is bound to, in the order of the first such symbol of each,
+    /// by file and position.
+    pub fn names(&self) -> &[Named<'a>]
+        ensures { map named_value result.now ≡ self.now.bindings }
+    {
+        self.names.list()
+    }
+
+    /// The output sections, in order of placement.
+    pub fn outputs(&self) -> &[Output<'a>]
+        ensures { map output_value result.now ≡ self.now.outputs }
+    {
+        &self.outputs
+    }
+
+    /// The commons that have a place, behind all output sections.
+    pub fn commons(&self) -> &[Common<'a>]
+        ensures { map common_value result.now ≡ self.now.commons }
+    {
+        &self.commons
+    }
+
+    /// Where placement begins.
+    pub fn base(&self) -> u64
+        ensures { result ≡ self.now.base }
+    {
+        self.base
+    }
+
+    /// What each output section begins at a multiple of.
+    pub fn page(&self) -> u64
+        ensures { result ≡ self.now.page }
+    {
+        self.page
+    }
+
+    /// The value of the entry symbol; 0 where none is named.
+    pub fn entry(&self) -> u64
+        ensures { result ≡ self.now.entry }
+    {
+        self.entry
+    }
+}

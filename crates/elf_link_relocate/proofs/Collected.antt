@@ -1,0 +1,137 @@
+-- Lists of fields that grow entry by entry.
+use Rattle.std.proofs.Common.{◌≡◌, ◌≢◌, ℕ, ◌+◌, ◌<◌, ◌⊎◌, List, [], ◌∷◌, ◌++◌, length, inl, inr, refl, sym, ◌∙◌, ap, subst, arith, length-append}
+use Rattle.std.proofs.lemmas.Bool.{cases_lt}
+use Rattle.std.proofs.lemmas.List.{get_or_push}
+use Rattle.std.proofs.Math.ListN.{get_or-append}
+use Rattle.elf_object_type.specs.Object.{ObjectValue}
+use Rattle.elf_link_field.specs.declared.rule.Form.TheVariants.{None as NoForm}
+use Rattle.elf_link_field.specs.declared.rule.RelocRule.{RelocRule}
+use Rattle.elf_link_field.specs.Rule.{HasNoRule, IsFirstRule}
+use Rattle.elf_link_files.specs.declared.site.Site.{Site}
+use Rattle.elf_link_files.specs.Rows.{Before, IsFirstAt, Nowhere}
+use Rattle.elf_link_relocate.specs.declared.field.Field.{Field}
+use Rattle.elf_link_relocate.specs.Collecting.{AreFields, AreFieldsBefore, entry_site, field_at, no_field}
+use Rattle.elf_link_relocate.specs.Entries.{IsApplied, entry_at}
+use Rattle.elf_link_relocate.specs.Fields.{HasField}
+use Rattle.elf_link_relocate.specs.RelocationRules.{no_rule}
+use Rattle.elf_link_relocate.proofs.FirstRule.{one_rule, ruled}
+use Rattle.elf_link_relocate.proofs.Sites.{none_before}
+
+pub fields_none : (fs : List ObjectValue) (rules : List RelocRule) → AreFieldsBefore fs rules (entry_site 0 0 0) []
+fields_none fs rules = record {
+  each = λ k lt. absurd (omega arith);
+  before = λ k lt. absurd (omega arith);
+  all = λ p r has before. absurd (none_before p before);
+  order = λ j k lt within. absurd (omega arith);
+  ruled = λ p row before. none_before p before;
+}
+
+-- another site with the same applied entries before it
+pub fields_same : (fs : List ObjectValue) (rules : List RelocRule) (stop next : Site) (ds : List Field) → ((p : Site) → Before p stop → Before p next) →
+    ((p : Site) → IsApplied fs p → Before p next → Before p stop) → AreFieldsBefore fs rules stop ds → AreFieldsBefore fs rules next ds
+fields_same fs rules stop next ds into back is = record {
+  each = is.each;
+  before = λ k lt. into (field_at ds k).site (is.before k lt);
+  all = λ p r has before. is.all p r has (back p has.applied before);
+  order = is.order;
+  ruled = λ p row before. is.ruled p row (back p row.0 before);
+}
+
+module _ (fs : List ObjectValue) (rules : List RelocRule) (p : Site) (next : Site) (r : RelocRule) (ds : List Field)
+    (into : (q : Site) → Before q p → Before q next) (split : (q : Site) → Before q next → Before q p ⊎ (q ≡ p))
+    (first : IsFirstRule (entry_at fs p).kind rules r) (is : AreFieldsBefore fs rules p ds) where
+  rule_at : (q : Site) (s : RelocRule) → q ≡ p → HasField fs rules q s → r ≡ s
+  rule_at q s same has = one_rule (entry_at fs p).kind rules r s first (subst (λ (u : Site). IsFirstRule (entry_at fs u).kind rules s) same has.rule)
+
+  rules_more : (q : Site) → no_rule fs rules q → Before q next → ⊥
+  rules_more q row before = elim (split q before) [
+    | inl earlier ↦ is.ruled q row earlier
+    | inr same ↦ ruled (entry_at fs p).kind rules r first (subst (λ (u : Site). HasNoRule (entry_at fs u).kind rules) same row.1)
+  ]
+
+  -- an entry without a field
+  pub fields_past : r.form ≡ NoForm → AreFieldsBefore fs rules next ds
+  fields_past none = record {
+    each = is.each;
+    before = λ k lt. into (field_at ds k).site (is.before k lt);
+    all = λ q s has before. elim (split q before) [
+      | inl earlier ↦ is.all q s has earlier
+      | inr same ↦ absurd (has.form (ap (λ (u : RelocRule). u.form) (sym (rule_at q s same has)) ∙ none))
+    ];
+    order = is.order;
+    ruled = rules_more;
+  }
+
+  abbrev new : Field
+  new = record { site = p; rule = r }
+
+  kept : (k : ℕ) → k < length ds → field_at (ds ++ new ∷ []) k ≡ field_at ds k
+  kept k lt = get_or-append ds (new ∷ []) no_field k lt
+
+  last : (k : ℕ) → length ds ≡ k → field_at (ds ++ new ∷ []) k ≡ new
+  last k end = get_or_push ds new no_field k end
+
+  longer : length (ds ++ new ∷ []) ≡ length ds + 1
+  longer = simp length-append
+
+  -- one more field
+  pub fields_more : IsApplied fs p → r.form ≢ NoForm → Before p next → AreFieldsBefore fs rules next (ds ++ new ∷ [])
+  fields_more applied form here = record {
+    each = λ k lt. (
+        let long = longer in
+        elim (cases_lt k (length ds)) [
+          | inl below ↦ subst (λ (d : Field). HasField fs rules d.site d.rule) (sym (kept k below)) (is.each k below)
+          | inr above ↦ (
+              let end : length ds ≡ k = omega arith in
+              subst (λ (d : Field). HasField fs rules d.site d.rule) (sym (last k end)) (record { applied = applied; rule = first; form = form }))
+        ]);
+    before = λ k lt. (
+        let long = longer in
+        elim (cases_lt k (length ds)) [
+          | inl below ↦ subst (λ (d : Field). Before d.site next) (sym (kept k below)) (into (field_at ds k).site (is.before k below))
+          | inr above ↦ (let end : length ds ≡ k = omega arith in subst (λ (d : Field). Before d.site next) (sym (last k end)) here)
+        ]);
+    all = λ q s has before. (
+        let long = longer in
+        elim (split q before) [
+          | inl earlier ↦ (let (k, lt, at) = is.all q s has earlier in (k, omega arith, ap (λ (d : Field). d.site) (kept k lt) ∙ at))
+          | inr same ↦ (length ds, omega arith, ap (λ (d : Field). d.site) (last (length ds) refl) ∙ sym same)
+        ]);
+    order = λ j k lt within. (
+        let long = longer in
+        elim (cases_lt k (length ds)) [
+          | inl below ↦ (
+              let j_below : j < length ds = omega arith in
+              subst (λ (d : Field). Before d.site (field_at (ds ++ new ∷ []) k).site) (sym (kept j j_below))
+              (subst (λ (d : Field). Before (field_at ds j).site d.site) (sym (kept k below)) (is.order j k lt below)))
+          | inr above ↦ (
+              let end : length ds ≡ k = omega arith in
+              let j_below : j < length ds = omega arith in
+              subst (λ (d : Field). Before d.site (field_at (ds ++ new ∷ []) k).site) (sym (kept j j_below))
+              (subst (λ (d : Field). Before (field_at ds j).site d.site) (sym (last k end)) (is.before j j_below)))
+        ]);
+    ruled = rules_more;
+  }
+
+-- rule 12 stands at an entry behind those that have rules
+pub first_unruled : (fs : List ObjectValue) (rules : List RelocRule) (p : Site) (ds : List Field) → IsApplied fs p → HasNoRule (entry_at fs p).kind rules →
+    AreFieldsBefore fs rules p ds → IsFirstAt (no_rule fs rules) p
+first_unruled fs rules p ds applied none is = record {
+  stands = (applied, none);
+  first = is.ruled;
+}
+
+-- all files are before the site behind the last one
+all_before : (fs : List ObjectValue) (p : Site) → p.file < length fs → Before p (entry_site (length fs) 0 0)
+all_before fs p lt = inl lt
+
+pub fields_all : (fs : List ObjectValue) (rules : List RelocRule) (ds : List Field) → AreFieldsBefore fs rules (entry_site (length fs) 0 0) ds → AreFields fs rules ds
+fields_all fs rules ds is = record {
+  each = is.each;
+  all = λ p r has. is.all p r has (all_before fs p has.applied.0.file);
+  order = is.order;
+}
+
+pub none_unruled : (fs : List ObjectValue) (rules : List RelocRule) (ds : List Field) → AreFieldsBefore fs rules (entry_site (length fs) 0 0) ds →
+    Nowhere (no_rule fs rules)
+none_unruled fs rules ds is p row = is.ruled p row (all_before fs p row.0.0.file)

@@ -1,0 +1,6 @@
+use Rattle.elf_link_relocate.specs.CopyView.{copies_view}
+use Rattle.elf_link_relocate.specs.Patching.{AreAllCopies}
+use Rattle.elf_link_relocate.proofs.copies.all_copies.Given as goal
+
+abbrev pub invariant-loop-file : goal.invariant-loop-file
+invariant-loop-file l = AreAllCopies l.objects l.file (copies_view l.rows.items)

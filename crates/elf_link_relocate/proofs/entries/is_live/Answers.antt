@@ -1,0 +1,30 @@
+use Rattle.std.proofs.Common.{◌≡◌, ◌↔◌, ℕ, ◌<◌, List, length, refl, sym, ◌∙◌, subst}
+use Rattle.std.specs.Bool.{IsTrue}
+use Rattle.std.specs.Option.{is_some}
+use Rattle.std.specs.Prelude.{Bool, Option, None, Some}
+use Rattle.elf_object_type.specs.Object.{ObjectValue}
+use Rattle.elf_link_files.specs.Live.{Live}
+use Rattle.elf_link_outputs.specs.Placed.{cell}
+use Rattle.elf_link_map.specs.Apart.{StandApart}
+use Rattle.elf_link_map.specs.LinkMap.{LinkMapValue}
+use Rattle.elf_link_relocate.proofs.Memories.{live_in}
+use Rattle.elf_link_relocate.proofs.entries.is_live.Goals as goal
+
+number_in : (o : Option ℕ) → IsTrue (is_some o) → (a : ℕ) × (o ≡ Some a)
+number_in None is = absurd (cc)
+number_in (Some a) is = (a, refl)
+
+-- a section is live where its cell has an address
+live_by_cell : (fs : List ObjectValue) (m : LinkMapValue) (f s : ℕ) (o : Option ℕ) → StandApart fs m → f < length fs → o ≡ cell m.addresses f s →
+    IsTrue (is_some o) ↔ Live fs f s
+live_by_cell fs m f s o stand file same = (
+  (λ is. (let (a, at) = number_in o is in ((stand.addressed f s).1 (a, sym same ∙ at)).2)),
+  (λ live. (
+      let (a, at) = (stand.addressed f s).0 (live_in fs f s file live) in
+      subst (λ (p : Option ℕ). IsTrue (is_some p)) (sym (same ∙ at)) refl)),
+)
+
+pub returns : goal.returns
+returns c =
+    subst (λ (b : Bool). IsTrue b ↔ Live c.args.objects.now c.args.file c.args.section) (sym c.is_some.ensures)
+    (live_by_cell c.args.objects.now c.args.map.now c.args.file c.args.section c.address.result c.requires.sound.places c.requires.file c.address.ensures)

@@ -1,0 +1,68 @@
+//! Rules 12 to 16 of the link, in their order.
+ghost use Rattle.std.specs.Prelude.{◌≡◌, IfErr, IfOk, None, OnOk};
+ghost use Rattle.elf_link_files.specs.Rows.{FirstIn, Nowhere};
+ghost use Rattle.elf_link_relocate.specs.Collecting.{AreFields};
+ghost use Rattle.elf_link_relocate.specs.FieldTests.{Breaks, HasNone, IsTestFault, test_row};
+ghost use Rattle.elf_link_relocate.specs.Judged.{AreJudged, IsOverlapFault};
+ghost use Rattle.elf_link_relocate.specs.LinkingFacts.{IsReady, files_of, map_of, rules_of};
+ghost use Rattle.elf_link_relocate.specs.Marking.{AllWithin, HasNoOverlap};
+ghost use Rattle.elf_link_relocate.specs.RelocationRules.{IsRelocationFault, fields_overlap, relocation_rules};
+
+use crate::collecting::all_fields;
+use crate::field::Field;
+use crate::field_test::{FieldTest, first_field};
+use crate::linking::Linking;
+use crate::marks::first_overlap;
+use crate::rules::FIELDS_OVERLAP;
+use elf_link_map::{Broken, LinkFault};
+use std::alloc::Global;
+
+/// Answers a rule at the first field that breaks it.
+fn refuse_first(test: FieldTest, linking: &Linking<'_, '_>, fields: &[Field]) -> Result<(), Broken>
+    requires ready { IsReady linking.now }
+    requires fields { AreFields (files_of linking.now) (rules_of linking.now) fields.now }
+    ensures ok { OnOk result (HasNone (Breaks (files_of linking.now) (map_of linking.now) test) fields.now) }
+    ensures nowhere { OnOk result (Nowhere (test_row (files_of linking.now) (map_of linking.now) (rules_of linking.now) test)) }
+    ensures err { IfErr result (IsTestFault (files_of linking.now) (map_of linking.now) (rules_of linking.now) test) }
+{
+    match first_field(test, linking, fields) {
+        Some(k) => Err(Broken::new(test.rule(), fields[k].site)),
+        None => Ok(()),
+    }
+}
+
+/// Answers rule 15 at the first field that shares a byte with one before it.
+fn refuse_overlap(
+    alloc: Global,
+    linking: &Linking<'_, '_>,
+    fields: &[Field],
+) -> Result<(), LinkFault>
+    requires fields { AreFields (files_of linking.now) (rules_of linking.now) fields.now }
+    requires within { AllWithin (files_of linking.now) fields.now }
+    ensures ok { OnOk result (HasNoOverlap (files_of linking.now) fields.now) }
+    ensures nowhere { OnOk result (Nowhere (fields_overlap (files_of linking.now) (rules_of linking.now))) }
+    ensures err { IfErr result (IsOverlapFault (files_of linking.now) (rules_of linking.now)) }
+{
+    match first_overlap(alloc, linking, fields)? {
+        Some(k) => Err(Broken::new(FIELDS_OVERLAP, fields[k].site).into()),
+        None => Ok(()),
+    }
+}
+
+/// The fields of a link, by file, section and entry. Answers the first of rules 12 to 16 that stands.
+pub(crate) fn judged_fields(
+    alloc: Global,
+    linking: &Linking<'_, '_>,
+) -> Result<Vec<Field>, LinkFault>
+    requires ready { IsReady linking.now }
+    ensures fields { IfOk result (λ fields. AreJudged (files_of linking.now) (map_of linking.now) (rules_of linking.now) fields.items) }
+    ensures sound { OnOk result (FirstIn (relocation_rules (files_of linking.now) (map_of linking.now) (rules_of linking.now)) None) }
+    ensures err { IfErr result (IsRelocationFault (files_of linking.now) (map_of linking.now) (rules_of linking.now)) }
+{
+    let fields = all_fields(alloc, linking.objects, linking.map, linking.rules)?;
+    refuse_first(FieldTest::Unplaced, linking, &fields)?;
+    refuse_first(FieldTest::FieldOutOfRange, linking, &fields)?;
+    refuse_overlap(alloc, linking, &fields)?;
+    refuse_first(FieldTest::ValueOutOfRange, linking, &fields)?;
+    Ok(fields)
+}

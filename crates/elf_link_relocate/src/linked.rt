@@ -1,0 +1,101 @@
+//! The relocated bytes of a link.
+ghost use Rattle.std.specs.Prelude.{◌≡◌, option_map};
+ghost use Rattle.elf_link_relocate.specs.Linked.{bytes_at, identity_of};
+
+use crate::copies::Copies;
+use elf_field::Order;
+use elf_link_field::RelocRule;
+use elf_link_map::LinkMap;
+use elf_object_type::Object;
+use std::marker::Model;
+
+/// What a file says of itself in its header (gABI chapter 4, ELF Header).
+#[derive(Clone, Copy, Debug, PartialEq, Eq)]
+pub struct Identity {
+    /// The byte order (`EI_DATA`).
+    pub order: Order,
+    /// The extensions that the file uses (`EI_OSABI`).
+    pub osabi: u8,
+    /// Their version (`EI_ABIVERSION`).
+    pub abi: u8,
+    /// The processor (`e_machine`).
+    pub machine: u16,
+    /// Flags of the processor (`e_flags`).
+    pub flags: u32,
+}
+
+/// The relocated bytes of each live section with bits. No accessor takes memory.
+#[derive(Debug, Drop)]
+pub struct Linked<'m, 'a> {
+    pub(crate) map: &'m LinkMap<'a>,
+    pub(crate) objects: &'m [Object<'a>],
+    pub(crate) rules: &'m [RelocRule],
+    pub(crate) copies: Copies,
+}
+
+impl<'m, 'a> Model for Linked<'m, 'a> {
+    ghost use Rattle.elf_link_relocate.specs.Linked.{LinkedValue};
+
+    ghost Value = { LinkedValue };
+
+    ghost use Rattle.elf_link_relocate.specs.LinkedView.{linked_value};
+
+    ghost view = { linked_value };
+}
+
+impl<'m, 'a> Linked<'m, 'a> {
+    /// The bytes of a section as the link leaves them, every field of an applied relocation with its number; None where the section
+    /// is not live or has no bits, or where there is none at that position.
+    pub fn bytes(&self, file: usize, section: usize) -> Option<&[u8]>
+        ensures { option_map (λ bytes. bytes.now) result ≡ bytes_at self.now file section }
+    {
+        match self.copies.get(file)?.get(section)? {
+            Some(copy) => Some(copy),
+            None => None,
+        }
+    }
+
+    /// The map that the sections stand by.
+    pub fn map(&self) -> &'m LinkMap<'a>
+        ensures { result.now ≡ self.now.map }
+    {
+        self.map
+    }
+
+    /// The objects that are linked.
+    pub fn objects(&self) -> &'m [Object<'a>]
+        ensures { result.now ≡ self.now.objects }
+    {
+        self.objects
+    }
+
+    /// The rules that the fields were relocated by.
+    pub fn rules(&self) -> &'m [RelocRule]
+        ensures { result.now ≡ self.now.rules }
+    {
+        self.rules
+    }
+
+    /// What file 0 says of itself, which all files of a link agree on but for the extensions; without files least significant
+    /// bytes first, and zeros.
+    pub fn identity(&self) -> Identity
+        ensures { result ≡ identity_of self.now.objects }
+    {
+        match self.objects.first() {
+            Some(object) => Identity {
+                order: object.order(),
+                osabi: object.osabi(),
+                abi: object.abi(),
+                machine: object.machine(),
+                flags: object.flags(),
+            },
+            None => Identity {
+                order: Order::Little,
+                osabi: 0,
+                abi: 0,
+                machine: 0,
+                flags: 0,
+            },
+        }
+    }
+}

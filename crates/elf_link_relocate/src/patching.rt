@@ -1,0 +1,77 @@
+//! Numbers in the fields of the copies.
+ghost use Rattle.std.specs.Prelude.{◌≡◌, ◌+◌, ◌<◌, [], get_or, length};
+ghost use Rattle.elf_link_relocate.specs.CopyView.{copies_view};
+ghost use Rattle.elf_link_relocate.specs.Judged.{AreJudged};
+ghost use Rattle.elf_link_relocate.specs.LinkingFacts.{IsReady, files_of, map_of, rules_of};
+ghost use Rattle.elf_link_relocate.specs.Patching.{AreRelocated, HasRoom, IsPatchedIn};
+ghost use Rattle.elf_link_field.specs.Rule.{size_of};
+
+use crate::copies::Copies;
+use crate::entries::{entry_of, target_of};
+use crate::field::Field;
+use crate::linking::Linking;
+use crate::numbers::number_of;
+use elf_field::Order;
+use elf_link_field::{Width, patch, patched_field};
+use elf_link_map::files::keeps_rules;
+
+/// Puts a number into the field of this width at an offset of a section's copy.
+fn patch_in(
+    order: Order,
+    copies: &mut Copies,
+    file: usize,
+    section: usize,
+    offset: usize,
+    width: Width,
+    number: i128,
+)
+    requires file { file < length copies.old.items }
+    requires section { section < length (get_or (copies_view copies.old.items) file []) }
+    requires room { HasRoom (copies_view copies.old.items) file section offset (size_of width) }
+    ensures { IsPatchedIn order (copies_view copies.old.items) file section offset (size_of width) number (copies_view copies.new.items) }
+{
+    match &mut copies[file][section] {
+        Some(copy) => patch(order, copy, offset, width, number),
+        None => {}
+    }
+}
+
+/// Puts the number of field `k` into it.
+fn patch_field(linking: &Linking<'_, '_>, fields: &[Field], k: usize, copies: &mut Copies)
+    requires ready { IsReady linking.now }
+    requires fields { AreJudged (files_of linking.now) (map_of linking.now) (rules_of linking.now) fields.now }
+    requires below { k < length fields.now }
+    requires before { AreRelocated (files_of linking.now) (map_of linking.now) fields.now k (copies_view copies.old.items) }
+    ensures { AreRelocated (files_of linking.now) (map_of linking.now) fields.now (k + 1) (copies_view copies.new.items) }
+{
+    let field = fields[k];
+    patched_field();
+    keeps_rules(linking.objects, field.site.file);
+    let target = target_of(linking.objects, field.site);
+    let offset = entry_of(linking.objects, field.site).offset as usize;
+    let order = linking.objects[field.site.file].order();
+    match number_of(linking, field) {
+        Some(number) => patch_in(
+            order,
+            copies,
+            field.site.file,
+            target,
+            offset,
+            field.rule.width,
+            number,
+        ),
+        None => unreachable!(),
+    }
+}
+
+/// Puts the number of each field into it, in one pass.
+pub(crate) fn patch_all(linking: &Linking<'_, '_>, fields: &[Field], copies: &mut Copies)
+    requires ready { IsReady linking.now }
+    requires fields { AreJudged (files_of linking.now) (map_of linking.now) (rules_of linking.now) fields.now }
+    requires before { AreRelocated (files_of linking.now) (map_of linking.now) fields.now 0 (copies_view copies.old.items) }
+    ensures { AreRelocated (files_of linking.now) (map_of linking.now) fields.now (length fields.now) (copies_view copies.new.items) }
+{
+    for k in 0..fields.len() {
+        patch_field(linking, fields, k, copies);
+    }
+}

@@ -1,0 +1,50 @@
+//! The relocation of a link.
+ghost use Rattle.std.specs.Prelude.{IfErr, IfOk};
+ghost use Rattle.elf_link_relocate.specs.Linked.{IsLinked};
+ghost use Rattle.elf_link_relocate.specs.MapFacts.{IsMapOfSome};
+ghost use Rattle.elf_link_relocate.specs.RelocationRules.{IsRelocationFault};
+
+use crate::copies::all_copies;
+use crate::judge::judged_fields;
+use crate::linked::Linked;
+use crate::linking::Linking;
+use crate::patching::patch_all;
+use crate::values::all_values;
+use elf_link_field::RelocRule;
+use elf_link_map::{LinkFault, LinkMap, parts_apart};
+use elf_object_type::Object;
+use std::alloc::Global;
+
+/// The relocated bytes of these objects, whose link map it is: the number of each applied relocation in its field, by the first of
+/// the rules that is of its kind.
+///
+/// Answers the first of rules 12 to 16 ([`rules`](crate::rules)) that stands, at its first entry by file, section and position; and
+/// [`LinkFault::OutOfMemory`] only where memory is refused: a value for each symbol, a mark for each byte, a copy of each live
+/// section with bits.
+pub fn relocate<'m, 'a>(
+    alloc: Global,
+    map: &'m LinkMap<'a>,
+    objects: &'m [Object<'a>],
+    rules: &'m [RelocRule],
+) -> Result<Linked<'m, 'a>, LinkFault>
+    requires { IsMapOfSome objects.now map.now }
+    ensures linked { IfOk result (λ linked. IsLinked objects.now map.now rules.now linked) }
+    ensures err { IfErr result (IsRelocationFault objects.now map.now rules.now) }
+{
+    parts_apart();
+    let linking = Linking {
+        objects,
+        map,
+        rules,
+        values: all_values(alloc, objects, map)?,
+    };
+    let fields = judged_fields(alloc, &linking)?;
+    let mut copies = all_copies(alloc, objects, map)?;
+    patch_all(&linking, &fields, &mut copies);
+    Ok(Linked {
+        map,
+        objects,
+        rules,
+        copies,
+    })
+}

@@ -1,5 +1,0 @@
-use Rattle.elf_linked.specs.Collecting.{AreFieldsBefore, entry_site}
-use Rattle.elf_linked.proofs.collecting.push_section.Given as goal
-
-abbrev pub invariant-loop-entry : goal.invariant-loop-entry
-invariant-loop-entry l = AreFieldsBefore l.objects l.rules (entry_site l.file l.index l.entry) l.fields.items

@@ -1,7 +1,0 @@
-use Rattle.std.proofs.Common.{map}
-use Rattle.elf_linked.specs.CopyView.{copy_view}
-use Rattle.elf_linked.specs.Patching.{AreCopies}
-use Rattle.elf_linked.proofs.copies.file_copies.Given as goal
-
-abbrev pub invariant-loop-section : goal.invariant-loop-section
-invariant-loop-section l = AreCopies l.objects l.file l.section (map copy_view l.row.items)

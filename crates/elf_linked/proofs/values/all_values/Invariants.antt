@@ -1,6 +1,0 @@
-use Rattle.std.proofs.Common.{map}
-use Rattle.elf_linked.specs.SymbolValues.{AreRows}
-use Rattle.elf_linked.proofs.values.all_values.Given as goal
-
-abbrev pub invariant-loop-file : goal.invariant-loop-file
-invariant-loop-file l = AreRows l.objects l.map l.file (map (λ row. row.items) l.rows.items)

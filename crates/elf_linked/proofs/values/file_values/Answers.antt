@@ -1,8 +1,0 @@
-use Rattle.std.proofs.Common.{None}
-use Rattle.elf_link_files.proofs.Public.{each_more}
-use Rattle.elf_linked.proofs.values.file_values.Goals as goal
-
-pub loop-index-preserved : goal.loop-index-preserved
-loop-index-preserved c =
-    rw c.in_ok-push.ensures.items
-    (each_more None _ c.loop-index.index c.loop-index.row.items c.symbol_value.result (c.symbol_value.ensures.value, c.symbol_value.ensures.small) c.loop-index.invariant)

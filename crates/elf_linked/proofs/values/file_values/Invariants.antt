@@ -1,5 +1,0 @@
-use Rattle.elf_linked.specs.SymbolValues.{AreRow}
-use Rattle.elf_linked.proofs.values.file_values.Given as goal
-
-abbrev pub invariant-loop-index : goal.invariant-loop-index
-invariant-loop-index l = AreRow l.objects l.map l.file l.index l.row.items

@@ -1,6 +1,0 @@
--- What the proofs of the crates above may cite: the entries of these tables as lists, what is known of a group that breaks no rule, and
--- where the notes stand in a file.
-pub use Rattle.elf_list_table.proofs.GroupLists.{length_members, member_get, sound_group}
-pub use Rattle.elf_list_table.proofs.NoteInFile.{note_in_file}
-pub use Rattle.elf_list_table.proofs.NotePlaces.{no_note_entry, note_entry}
-pub use Rattle.elf_list_table.proofs.RelocationLists.{length_relocations, relocation_get}

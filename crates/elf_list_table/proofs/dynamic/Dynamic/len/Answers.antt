@@ -1,6 +1,0 @@
-use Rattle.std.proofs.Common.{sym}
-use Rattle.elf_list_table.proofs.DynamicLists.{length_dynamic}
-use Rattle.elf_list_table.proofs.dynamic.Dynamic.len.Goals as goal
-
-pub returns : goal.returns
-returns c = rw (← c.self.view_is) (sym (length_dynamic _ _ _))

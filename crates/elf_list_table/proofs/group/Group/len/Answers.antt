@@ -1,6 +1,0 @@
-use Rattle.std.proofs.Common.{sym}
-use Rattle.elf_list_table.proofs.GroupLists.{length_members}
-use Rattle.elf_list_table.proofs.group.Group.len.Goals as goal
-
-pub returns : goal.returns
-returns c = rw (← c.self.view_is) (rw c.member_count.ensures (sym (length_members _ _)))

@@ -1,6 +1,0 @@
-use Rattle.elf_symbol_table.specs.Sections.{sections_of}
-use Rattle.elf_list_table.proofs.GroupMembers.{AreRight}
-use Rattle.elf_list_table.proofs.group_rules.lowest_unfit_or_repeated.Given as goal
-
-abbrev pub invariant-loop-j : goal.invariant-loop-j
-invariant-loop-j l = AreRight (sections_of l.image) l.i l.j l.seen

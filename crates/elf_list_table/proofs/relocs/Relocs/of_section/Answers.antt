@@ -1,7 +1,0 @@
-use Rattle.std.proofs.Common.{refl}
-use Rattle.elf_list_table.specs.Relocations.{relocations_of}
-use Rattle.elf_list_table.proofs.relocs.Relocs.of_section.Goals as goal
-
-pub returns : goal.returns
-unfolding relocations_of
-returns c = rw (c.order.ensures, c.section.ensures.value, c.content.ensures.bytes) refl

@@ -1,8 +1,0 @@
-use Rattle.std.proofs.Common.{ℕ, ◌<◌}
-use Rattle.elf_object.specs.Object.{section_at}
-use Rattle.elf_object.specs.ObjectView.{value_of}
-use Rattle.elf_object.specs.SectionRules.{BreaksSection}
-use Rattle.elf_object.proofs.section_rules.lowest_section.Given as goal
-
-abbrev pub invariant-loop-i : goal.invariant-loop-i
-invariant-loop-i l = let o = value_of l.parts in (k : ℕ) → k < l.i → BreaksSection l.rule o (section_at o k) → ⊥

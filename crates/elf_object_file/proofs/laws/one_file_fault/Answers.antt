@@ -1,6 +1,0 @@
-use Rattle.elf_rules.proofs.Public.{one_fault}
-use Rattle.elf_object_file.specs.FileRules.{file_rules}
-use Rattle.elf_object_file.proofs.laws.one_file_fault.Goals as goal
-
-pub returns : goal.returns
-returns c = λ f x y. one_fault (file_rules f) x y

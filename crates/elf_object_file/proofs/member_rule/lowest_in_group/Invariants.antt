@@ -1,9 +1,0 @@
-use Rattle.std.proofs.Common.{ℕ, ◌<◌}
-use Rattle.elf_object_file.specs.FileRules.{IsWrongGroupMember}
-use Rattle.elf_symbol_table.specs.Sections.{content, order, sections_of}
-use Rattle.elf_list_table.specs.Groups.{member}
-use Rattle.elf_object_file.proofs.member_rule.lowest_in_group.Given as goal
-
-abbrev pub invariant-loop-j : goal.invariant-loop-j
-invariant-loop-j l =
-    let f = sections_of l.image in (k : ℕ) → k < l.j → IsWrongGroupMember l.left f l.i (member (order f) (content f l.i) k) → ⊥

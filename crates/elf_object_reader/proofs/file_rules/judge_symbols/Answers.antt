@@ -1,0 +1,45 @@
+use Rattle.elf_image_rules.proofs.Public.{FirstIn-handed}
+use Rattle.elf_table_symbols.specs.Sections.{sections_of}
+use Rattle.elf_object_reader.proofs.JudgedTables.{symbols_there, symbols_told}
+use Rattle.elf_object_reader.proofs.SymbolRuns.{no_symbols_kept, outside_found, symbols_fault, symbols_kept}
+use Rattle.elf_object_reader.proofs.file_rules.judge_symbols.Goals as goal
+
+pub returns-in_default : goal.returns-in_default
+returns-in_default c = no_symbols_kept c.args.left.now (sections_of c.args.image.now) c.args.left.now.symbol_table c.in_default.not-Some
+
+pub verdict-requires : goal.verdict-requires
+verdict-requires c = (symbols_there c.args.image.now c.args.tables.now c.args.left.now c.in-Some.t c.requires.tables c.requires.left c.in-Some.is).there
+
+pub returns-in_err-verdict : goal.returns-in_err-verdict
+returns-in_err-verdict c =
+    let f = sections_of c.args.image.now in
+    let left = c.args.left.now in
+    let there = symbols_there c.args.image.now c.args.tables.now left c.in-Some.t c.requires.tables c.requires.left c.in-Some.is in
+    let told = symbols_told c.args.image.now c.args.tables.now c.in-Some.t _ c.requires.tables there c.in_err-verdict.ensures.fault in
+    FirstIn-handed _ _ _ (symbols_fault left f left.symbol_table c.in-Some.t _ c.in-Some.is told) c.from_residual.ensures.1
+
+pub symbols-requires-clause-there : goal.symbols-requires-clause-there
+symbols-requires-clause-there c = (symbols_there c.args.image.now c.args.tables.now c.args.left.now c.in-Some.t c.requires.tables c.requires.left c.in-Some.is).there
+
+pub symbols-requires-clause-typed : goal.symbols-requires-clause-typed
+symbols-requires-clause-typed c = (symbols_there c.args.image.now c.args.tables.now c.args.left.now c.in-Some.t c.requires.tables c.requires.left c.in-Some.is).typed
+
+pub lowest_symbol_outside-requires-clause-there : goal.lowest_symbol_outside-requires-clause-there
+lowest_symbol_outside-requires-clause-there c =
+    (symbols_there c.args.image.now c.args.tables.now c.args.left.now c.in-Some.t c.requires.tables c.requires.left c.in-Some.is).here
+
+pub returns-in-Some-lowest_symbol_outside : goal.returns-in-Some-lowest_symbol_outside
+returns-in-Some-lowest_symbol_outside c =
+    let f = sections_of c.args.image.now in
+    let left = c.args.left.now in
+    let there = symbols_there c.args.image.now c.args.tables.now left c.in-Some.t c.requires.tables c.requires.left c.in-Some.is in
+    let sound = symbols_told c.args.image.now c.args.tables.now c.in-Some.t _ c.requires.tables there c.in_ok-verdict.ensures.fault in
+    rw c.new.ensures (outside_found left f left.symbol_table c.in-Some.t _ c.in-Some.is sound c.in-Some-lowest_symbol_outside.ensures)
+
+pub returns-in-None : goal.returns-in-None
+returns-in-None c =
+    let f = sections_of c.args.image.now in
+    let left = c.args.left.now in
+    let there = symbols_there c.args.image.now c.args.tables.now left c.in-Some.t c.requires.tables c.requires.left c.in-Some.is in
+    let sound = symbols_told c.args.image.now c.args.tables.now c.in-Some.t _ c.requires.tables there c.in_ok-verdict.ensures.fault in
+    symbols_kept left f left.symbol_table c.in-Some.t c.in-Some.is sound c.in-None.ensures

@@ -1,0 +1,80 @@
+//! A relocatable file read as an object (gABI chapter 4).
+ghost use Rattle.std.specs.Prelude.{◌≡◌, IfErr, IfOk, None};
+ghost use Rattle.elf_image_type.specs.declared.fault.Fault.TheVariants.{OutOfMemory};
+ghost use Rattle.elf_object_reader.specs.Denotes.{Denotes};
+ghost use Rattle.elf_object_reader.specs.FileRules.{file_rules, front_rules};
+ghost use Rattle.elf_object_reader.specs.Kept.{left_out};
+ghost use Rattle.elf_object_type.specs.ObjectView.{value_of};
+ghost use Rattle.elf_object_reader.specs.Reading.{AreTablesOf};
+ghost use Rattle.elf_image_rules.specs.Rows.{FirstIn};
+ghost use Rattle.elf_table_symbols.specs.Judged.{IsJudgedBehind};
+ghost use Rattle.elf_table_symbols.specs.Sections.{sections_of};
+
+use crate::file_rules::judge_behind;
+use crate::front_rules::judge_front;
+use crate::left_out::LeftOut;
+use crate::read_bodies::read_sections;
+use crate::read_positions::positions_of;
+use crate::read_symbols::read_symbols;
+use elf_field::abi::*;
+use elf_image_type::{Fault, Image};
+use elf_object_type::{Object, ObjectParts};
+use elf_table_all::Tables;
+use std::alloc::Global;
+
+/// The object that the image denotes: the header's fields; the sections but those of type NULL, the symbol table with its string
+/// table and its index table, and the section name string table; and the symbols but symbol 0. Indexes have become positions.
+/// Names and bytes borrow from the file. A file without sections is the empty object.
+///
+/// [`Fault::Rule`] is the first rule that is broken, at its lowest offset: 70 to 74 ([`rules`](crate::rules)); then those of the
+/// symbol table, where there is one, and 75; then those of each relocation section and each group that is kept, in the order of
+/// their indexes; then 76 to 79. [`Fault::OutOfMemory`] comes only where memory was refused, and none of 70 to 74 is broken. No
+/// other fault comes. It takes memory for each section header, symbol, relocation and member.
+pub fn object_of<'a>(alloc: Global, image: &Image<'a>) -> Result<Object<'a>, Fault>
+    ensures { let f = sections_of image.now in
+        IsJudgedBehind (front_rules f) (file_rules f) (λ o. Denotes f o) result }
+{
+    image.stands();
+    let parts = parts_of(alloc, image)?;
+    Ok(Object::of_kept(parts))
+}
+
+/// The parts of the object that the image denotes.
+fn parts_of<'a>(alloc: Global, image: &Image<'a>) -> Result<ObjectParts<'a>, Fault>
+    ensures { let f = sections_of image.now in
+        IsJudgedBehind (front_rules f) (file_rules f) (λ parts. Denotes f (value_of parts)) result }
+{
+    let left = LeftOut::of(image);
+    judge_front(image, left.symbol_table)?;
+    let tables = Tables::new(alloc, image)?;
+    judge_behind(alloc, image, &left, &tables)?;
+    read_parts(alloc, image, &left, &tables)
+}
+
+/// The parts of the object that an image denotes which breaks no rule. [`Fault::OutOfMemory`] is the only error.
+fn read_parts<'a>(
+    alloc: Global,
+    image: &Image<'a>,
+    left: &LeftOut,
+    tables: &Tables<'_, 'a>,
+) -> Result<ObjectParts<'a>, Fault>
+    requires left { left.now ≡ left_out (sections_of image.now) }
+    requires tables { AreTablesOf image.now tables.now }
+    requires sound { FirstIn (file_rules (sections_of image.now)) None }
+    ensures ok { IfOk result (λ parts. Denotes (sections_of image.now) (value_of parts)) }
+    ensures err { IfErr result (λ fault. fault ≡ OutOfMemory) }
+{
+    let positions = positions_of(alloc, image, left)?;
+    let sections = read_sections(alloc, image, left, tables, &positions)?;
+    let symbols = read_symbols(alloc, image, left, tables, &positions)?;
+    let header = image.header();
+    Ok(ObjectParts {
+        order: image.order(),
+        osabi: header.e_ident[EI_OSABI],
+        abi: header.e_ident[EI_ABIVERSION],
+        machine: header.e_machine,
+        flags: header.e_flags,
+        sections,
+        symbols,
+    })
+}

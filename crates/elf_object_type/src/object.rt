@@ -1,0 +1,123 @@
+//! The object: parts that break no rule.
+ghost use Rattle.std.specs.Prelude.{◌≡◌, IfErr, IfOk, OnOk, map};
+ghost use Rattle.elf_object_type.specs.ObjectRules.{IsObject, IsObjectFault};
+ghost use Rattle.elf_object_type.specs.ObjectView.{section_value, symbol_value, value_of};
+ghost use Rattle.elf_object_type.specs.Widths.{ObjectFits};
+
+use crate::fault::ObjectFault;
+use crate::object_rules::judge;
+use crate::parts::ObjectParts;
+use crate::section::Section;
+use crate::symbol::Symbol;
+use crate::widths::parts_fit;
+use elf_field::Order;
+use std::alloc::Global;
+use std::marker::Model;
+
+/// A relocatable object: parts that break none of the nine object rules ([`rules`](crate::rules)), of which it makes sure.
+/// Names and bytes borrow from where they were read. No accessor takes memory.
+#[derive(Debug, Drop)]
+pub struct Object<'a> {
+    parts: ObjectParts<'a>,
+}
+
+impl<'a> Model for Object<'a> {
+    ghost use Rattle.elf_object_type.specs.Object.{ObjectValue};
+
+    ghost Value = { ObjectValue };
+
+    ghost use Rattle.elf_object_type.specs.ObjectRules.{IsObject};
+    ghost use Rattle.elf_object_type.specs.ObjectView.{value_of};
+
+    ghost view = { λ a. value_of a.parts };
+
+    ghost invariant = { λ a. IsObject (value_of a.parts) };
+}
+
+impl<'a> Object<'a> {
+    /// The object of these parts, which are dropped where they break a rule.
+    ///
+    /// [`ObjectFault::Section`] and [`ObjectFault::Symbol`] are the first rule that is broken, at its least position.
+    /// [`ObjectFault::OutOfMemory`] comes only where memory is refused, which is asked for only where none of rules 1 to 5
+    /// is broken: a mark for each section.
+    pub fn new(alloc: Global, parts: ObjectParts<'a>) -> Result<Object<'a>, ObjectFault>
+        ensures ok { IfOk result (λ o. o ≡ value_of parts.entry) }
+        ensures kept { OnOk result (IsObject (value_of parts.entry)) }
+        ensures err { IfErr result (IsObjectFault (value_of parts.entry)) }
+    {
+        judge(alloc, &parts)?;
+        Ok(Object { parts })
+    }
+
+    /// The object of these parts, of which the caller knows that they break no rule.
+    pub fn of_kept(parts: ObjectParts<'a>) -> Object<'a>
+        requires { IsObject (value_of parts) }
+        ensures { result ≡ value_of parts.entry }
+    {
+        Object { parts }
+    }
+
+    /// Promises that none of the object rules is broken. It does nothing.
+    pub fn keeps_rules(&self)
+        ensures { IsObject self.now }
+    {
+        let _ = &self.parts;
+    }
+
+    /// Promises that each number fits its field in a file, and that names and bits are bytes. It only looks, at each section,
+    /// entry and symbol.
+    pub fn fits_fields(&self)
+        ensures { ObjectFits self.now }
+    {
+        parts_fit(&self.parts);
+    }
+
+    /// The byte order of the file (gABI chapter 4, Data Encoding).
+    pub fn order(&self) -> Order
+        ensures { result ≡ self.now.order }
+    {
+        self.parts.order
+    }
+
+    /// `EI_OSABI`: the extensions that the file uses.
+    pub fn osabi(&self) -> u8
+        ensures { result ≡ self.now.osabi }
+    {
+        self.parts.osabi
+    }
+
+    /// `EI_ABIVERSION`: their version.
+    pub fn abi(&self) -> u8
+        ensures { result ≡ self.now.abi }
+    {
+        self.parts.abi
+    }
+
+    /// `e_machine`: the processor.
+    pub fn machine(&self) -> u16
+        ensures { result ≡ self.now.machine }
+    {
+        self.parts.machine
+    }
+
+    /// `e_flags`: flags of the processor.
+    pub fn flags(&self) -> u32
+        ensures { result ≡ self.now.flags }
+    {
+        self.parts.flags
+    }
+
+    /// The sections; a section's position is its index here, from 0.
+    pub fn sections(&self) -> &[Section<'a>]
+        ensures { map section_value result.now ≡ self.now.sections }
+    {
+        &self.parts.sections
+    }
+
+    /// The symbols; a symbol's position is its index here, from 0.
+    pub fn symbols(&self) -> &[Symbol<'a>]
+        ensures { map symbol_value result.now ≡ self.now.symbols }
+    {
+        &self.parts.symbols
+    }
+}

@@ -1,7 +1,0 @@
-use Rattle.std.proofs.Common.{ℕ, ◌<◌}
-use Rattle.elf_relocation.specs.declared.rule.RelocRule.{RelocRule}
-use Rattle.elf_relocation.specs.Rule.{IsOfKind}
-use Rattle.elf_relocation.proofs.rule.rule_of.Given as goal
-
-abbrev pub invariant-loop-rule : goal.invariant-loop-rule
-invariant-loop-rule l = (j : ℕ) (other : RelocRule) → j < l.rule-index → IsOfKind l.kind l.rules j other → ⊥

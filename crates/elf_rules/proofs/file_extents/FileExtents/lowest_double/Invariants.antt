@@ -1,7 +1,0 @@
-use Rattle.elf_extent.specs.Least.{IsLowest}
-use Rattle.elf_rules.specs.FileExtents.{file_extents}
-use Rattle.elf_rules.specs.OverlapRule.{DoublyBelow}
-use Rattle.elf_rules.proofs.file_extents.FileExtents.lowest_double.Given as goal
-
-abbrev pub invariant-loop-index : goal.invariant-loop-index
-invariant-loop-index l = IsLowest (DoublyBelow (file_extents l.self) l.end l.index) l.lowest

@@ -1,7 +1,0 @@
-use Rattle.elf_extent.specs.Least.{IsLowest}
-use Rattle.elf_rules.specs.FileExtents.{file_extents}
-use Rattle.elf_rules.specs.OverlapRule.{SharedBelow}
-use Rattle.elf_rules.proofs.file_extents.FileExtents.lowest_shared.Given as goal
-
-abbrev pub invariant-loop-other : goal.invariant-loop-other
-invariant-loop-other l = IsLowest (SharedBelow (file_extents l.self) l.other l.index) l.lowest

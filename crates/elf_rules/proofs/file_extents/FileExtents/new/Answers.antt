@@ -1,7 +1,0 @@
-use Rattle.std.proofs.Common.{refl}
-use Rattle.elf_rules.specs.FileExtents.{file_extents}
-use Rattle.elf_rules.proofs.file_extents.FileExtents.new.Goals as goal
-
-pub returns : goal.returns
-unfolding file_extents
-returns c = refl

@@ -1,9 +1,0 @@
-//! What the layers above may know of a string table.
-ghost use Rattle.std.specs.Prelude.{ℕ, List};
-ghost use Rattle.elf_string_table.specs.Names.{HoldsNames};
-ghost use Rattle.elf_string_table.specs.StringTable.{name_place, string_table};
-
-/// The table of a list of names holds each of them at its place.
-pub fn holds_names()
-    ensures { (names : List (List ℕ)) → HoldsNames names (string_table names) (name_place names) }
-{}

@@ -1,6 +1,0 @@
-use Rattle.elf_symbol_table.specs.IndexTable.{AreIndexTables}
-use Rattle.elf_symbol_table.specs.Sections.{sections_of}
-use Rattle.elf_symbol_table.proofs.index_tables.index_tables_of.Given as goal
-
-abbrev pub invariant-loop-j : goal.invariant-loop-j
-invariant-loop-j l = AreIndexTables (sections_of l.image) l.i l.j l.tables

@@ -1,7 +1,0 @@
--- The symbols that an iterator over them has left.
-use Rattle.std.specs.Prelude.{List, drop}
-use Rattle.elf_symbol_table.specs.declared.symbols.SymbolIter.{SymbolIter}
-use Rattle.elf_symbol_table.specs.Symbols.{SymbolValue}
-
-abbrev pub symbols_left : SymbolIter → List SymbolValue
-symbols_left it = drop it.next it.symbols.now

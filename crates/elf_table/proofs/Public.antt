@@ -1,4 +1,0 @@
--- What the proofs of the crates above may cite: the rules that a section's type asks for, and that the verdict on a table that breaks no
--- rule is none.
-pub use Rattle.elf_table.proofs.AskedRules.{kind_asked}
-pub use Rattle.elf_table.proofs.TableLinks.{none_kept}

@@ -1,0 +1,14 @@
+use Rattle.elf_image_rules.proofs.Public.{one_fault}
+use Rattle.elf_table_symbols.specs.StringRules.{string_table_rules}
+use Rattle.elf_table_symbols.specs.SymbolRules.{symbol_table_rules}
+use Rattle.elf_table_all.specs.TableRules.{table_rules}
+use Rattle.elf_table_all.proofs.laws.one_table_fault.Goals as goal
+
+pub returns-clause-strings : goal.returns-clause-strings
+returns-clause-strings c = λ f i x y. one_fault (string_table_rules f i) x y
+
+pub returns-clause-symbols : goal.returns-clause-symbols
+returns-clause-symbols c = λ f i x y. one_fault (symbol_table_rules f i) x y
+
+pub returns-clause-table : goal.returns-clause-table
+returns-clause-table c = λ f i x y. one_fault (table_rules f i) x y

@@ -1,0 +1,27 @@
+-- The verdicts on all tables of a file, and its index tables.
+use Rattle.std.specs.Prelude.{◌≡◌, ℕ, ◌<◌, Option, None, List, length, get_or}
+use Rattle.elf_image_rules.specs.Rows.{FirstIn}
+use Rattle.elf_image_type.specs.Image.{ImageValue}
+use Rattle.elf_table_symbols.specs.declared.index_tables.IndexTables.{IndexTables}
+use Rattle.elf_table_symbols.specs.IndexTable.{AreIndexTables}
+use Rattle.elf_table_symbols.specs.Sections.{Sections, count}
+use Rattle.elf_table_all.specs.TableRules.{table_rules}
+
+abbrev pub no_index_tables : IndexTables
+no_index_tables = record { first = None; second = None }
+
+-- for each section the first two index tables, of those below `end`, of a symbol table in it
+pub record AreAllIndexTables (f : Sections) (end : ℕ) (all : List IndexTables) : Type 0 where
+  pub long : length all ≡ count f
+  pub right : (i : ℕ) → i < count f → AreIndexTables f i end (get_or all i no_index_tables)
+
+-- for each of the first `end` sections the first rule that the table in it breaks, with its lowest offset: None where it
+-- breaks none, or the section holds no table
+pub record AreVerdicts (f : Sections) (end : ℕ) (verdicts : List (Option (ℕ × ℕ))) : Type 0 where
+  pub long : length verdicts ≡ end
+  pub right : (i : ℕ) → i < end → FirstIn (table_rules f i) (get_or verdicts i None)
+
+-- an image, and the verdicts on its tables
+pub record TablesValue : Type 0 where
+  pub image : ImageValue
+  pub verdicts : List (Option (ℕ × ℕ))

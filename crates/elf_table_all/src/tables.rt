@@ -1,0 +1,174 @@
+//! The tables of an image, each judged once (gABI chapter 4, Sections: sh_type).
+ghost use Rattle.std.specs.Prelude.{◌≡◌, ◌<◌, None, Some, IfOk, get_or, length};
+ghost use Rattle.elf_image_rules.specs.Broken.{fault_of};
+ghost use Rattle.elf_image_rules.specs.Rows.{FirstIn};
+ghost use Rattle.elf_table_symbols.specs.Sections.{section, sections_of};
+ghost use Rattle.elf_table_symbols.specs.Symbols.{symbols_of};
+ghost use Rattle.elf_table_symbols.specs.TableKind.{kind_of};
+ghost use Rattle.elf_table_symbols.specs.declared.table_kind.TableKind.TheVariants as kind;
+ghost use Rattle.elf_table_hash.specs.HashView.{hash_of_section};
+ghost use Rattle.elf_table_lists.specs.DynamicArray.{dynamic_array_of};
+ghost use Rattle.elf_table_lists.specs.Groups.{group_of};
+ghost use Rattle.elf_table_lists.specs.Notes.{notes_of};
+ghost use Rattle.elf_table_lists.specs.Relocations.{relocations_of};
+ghost use Rattle.elf_table_all.specs.DynamicStrings.{dynamic_strings};
+ghost use Rattle.elf_table_all.specs.Signature.{signature_name};
+ghost use Rattle.elf_table_all.specs.TableRules.{table_rules};
+ghost use Rattle.elf_table_all.specs.TableVerdicts.{AreAllIndexTables, AreVerdicts};
+
+use crate::verdicts::all_verdicts;
+use elf_field::abi::*;
+use elf_image_rules::Broken;
+use elf_image_type::Image;
+use elf_table_hash::Hash;
+use elf_table_lists::{Dynamic, Group, Notes, Relocs};
+use elf_table_symbols::{IndexTables, Symbols};
+use std::alloc::{AllocError, Global};
+use std::marker::Model;
+
+/// The tables of an image, with the verdict on each. Every symbol table is judged once, however many other tables link to it, and
+/// the index tables are found in one pass over the section headers. A string table is judged with the table that links to it, or
+/// by [`Strings::new`](crate::Strings::new).
+#[derive(Drop)]
+pub struct Tables<'i, 'a> {
+    image: &'i Image<'a>,
+    // For each section.
+    index_tables: Vec<IndexTables>,
+    verdicts: Vec<Result<(), Broken>>,
+}
+
+impl<'i, 'a> Model for Tables<'i, 'a> {
+    ghost use Rattle.elf_table_all.specs.TableVerdicts.{TablesValue};
+    ghost use Rattle.elf_table_all.specs.TablesView.{AreVerdictsKept, tables_view};
+
+    ghost Value = { TablesValue };
+
+    ghost view = { tables_view };
+
+    ghost invariant = { AreVerdictsKept };
+}
+
+impl<'i, 'a> Tables<'i, 'a> {
+    /// Those of this image, all of them judged. It takes memory for each section header; the error comes only where it is refused.
+    pub fn new(alloc: Global, image: &'i Image<'a>) -> Result<Tables<'i, 'a>, AllocError>
+        ensures image { IfOk result (λ tables. tables.image ≡ image.entry.now) }
+        ensures verdicts { IfOk result (λ tables. AreVerdicts (sections_of image.entry.now) (length image.entry.now.sections) tables.verdicts) }
+    {
+        let index_tables = all_index_tables(alloc, image)?;
+        let verdicts = all_verdicts(alloc, image, &index_tables)?;
+        Ok(Tables {
+            image,
+            index_tables,
+            verdicts,
+        })
+    }
+
+    /// The verdict on the table that section `i` holds, where `i` is below the image's count of section headers: the first of its
+    /// rules that is broken, at its lowest offset. `Ok` where none is, and where the section holds no table.
+    pub fn verdict(&self, i: usize) -> Result<(), Broken>
+        requires { i < length self.now.image.sections }
+        ensures kept { fault_of result ≡ get_or self.now.verdicts i None }
+        ensures fault { FirstIn (table_rules (sections_of self.now.image) i) (fault_of result) }
+    {
+        self.verdicts[i]
+    }
+
+    /// The symbol table that section `i` holds, where `i` is below the image's count of section headers, the section is of the
+    /// [kind](crate::TableKind::of) that holds one, and its [`verdict`](Tables::verdict) is `Ok`.
+    pub fn symbols(&self, i: usize) -> Symbols<'a>
+        requires there { i < length self.now.image.sections }
+        requires typed { kind_of (section (sections_of self.now.image) i).sh_type ≡ Some kind.SymbolTable }
+        requires sound { get_or self.now.verdicts i None ≡ None }
+        ensures { result ≡ symbols_of (sections_of self.now.image) i }
+    {
+        Symbols::of_sound(self.image, i, self.index_tables[i])
+    }
+
+    /// The relocation section `i`, under the same conditions.
+    pub fn relocs(&self, i: usize) -> Relocs<'a>
+        requires there { i < length self.now.image.sections }
+        requires typed { kind_of (section (sections_of self.now.image) i).sh_type ≡ Some kind.RelocationTable }
+        requires sound { get_or self.now.verdicts i None ≡ None }
+        ensures { result ≡ relocations_of (sections_of self.now.image) i }
+    {
+        Relocs::of_section(self.image, i)
+    }
+
+    /// The group in section `i`, under the same conditions.
+    pub fn group(&self, i: usize) -> Group<'a>
+        requires there { i < length self.now.image.sections }
+        requires typed { kind_of (section (sections_of self.now.image) i).sh_type ≡ Some kind.SectionGroup }
+        requires sound { get_or self.now.verdicts i None ≡ None }
+        ensures { result ≡ group_of (sections_of self.now.image) i }
+    {
+        Group::of_sound(self.image, i)
+    }
+
+    /// The name of the group in section `i`, under the same conditions: its signature's, in the symbol table that it links to.
+    pub fn signature_name(&self, i: usize) -> &'a [u8]
+        requires there { i < length self.now.image.sections }
+        requires typed { kind_of (section (sections_of self.now.image) i).sh_type ≡ Some kind.SectionGroup }
+        requires sound { get_or self.now.verdicts i None ≡ None }
+        ensures { result.now ≡ signature_name (sections_of self.now.image) i }
+    {
+        let section = self.image.section(i);
+        let symbols = self.symbols(section.sh_link as usize);
+        symbols.entry(section.sh_info as usize).name
+    }
+
+    /// The notes of section `i`, under the same conditions.
+    pub fn notes(&self, i: usize) -> Notes<'a>
+        requires there { i < length self.now.image.sections }
+        requires typed { kind_of (section (sections_of self.now.image) i).sh_type ≡ Some kind.NoteSection }
+        requires sound { get_or self.now.verdicts i None ≡ None }
+        ensures { result ≡ notes_of (sections_of self.now.image) i }
+    {
+        Notes::of_sound(self.image, i)
+    }
+
+    /// The dynamic array in section `i`, under the same conditions.
+    pub fn dynamic(&self, i: usize) -> Dynamic<'a>
+        requires there { i < length self.now.image.sections }
+        requires typed { kind_of (section (sections_of self.now.image) i).sh_type ≡ Some kind.DynamicArray }
+        requires sound { get_or self.now.verdicts i None ≡ None }
+        ensures { result ≡ dynamic_array_of (sections_of self.now.image) i }
+    {
+        Dynamic::of_sound(self.image, i)
+    }
+
+    /// The hash table in section `i`, under the same conditions.
+    pub fn hash(&self, i: usize) -> Hash<'a>
+        requires there { i < length self.now.image.sections }
+        requires typed { kind_of (section (sections_of self.now.image) i).sh_type ≡ Some kind.HashTable }
+        requires sound { get_or self.now.verdicts i None ≡ None }
+        ensures { result ≡ hash_of_section (sections_of self.now.image) i }
+    {
+        Hash::of_sound(self.image, i)
+    }
+
+    /// The string table of the dynamic array in section `i`, under the same conditions: the one that it links to.
+    pub fn dynamic_strings(&self, i: usize) -> &'a [u8]
+        requires there { i < length self.now.image.sections }
+        requires typed { kind_of (section (sections_of self.now.image) i).sh_type ≡ Some kind.DynamicArray }
+        requires sound { get_or self.now.verdicts i None ≡ None }
+        ensures { result.now ≡ dynamic_strings (sections_of self.now.image) i }
+    {
+        self.image.content(self.image.section(i).sh_link as usize)
+    }
+}
+
+// The first two index tables of a symbol table in each section.
+fn all_index_tables(alloc: Global, image: &Image<'_>) -> Result<Vec<IndexTables>, AllocError>
+    ensures { IfOk result (λ all. AreAllIndexTables (sections_of image.now) (length image.now.sections) all.items) }
+{
+    let mut all = Vec::new(alloc);
+    all.resize(image.section_count(), IndexTables::NONE)?;
+    for j in 0..image.section_count() {
+        let section = image.section(j);
+        let link = section.sh_link as usize;
+        if section.sh_type == SHT_SYMTAB_SHNDX && link < image.section_count() {
+            all[link] = all[link].with(j);
+        }
+    }
+    Ok(all)
+}

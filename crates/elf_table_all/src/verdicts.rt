@@ -1,0 +1,108 @@
+//! The verdicts on the tables of an image: each symbol table is judged once, and its verdict serves every table that links to it.
+ghost use Rattle.std.specs.Prelude.{◌≡◌, ◌<◌, Some, IfOk, length, map};
+ghost use Rattle.elf_image_rules.specs.Broken.{fault_of};
+ghost use Rattle.elf_image_rules.specs.Rows.{FirstIn};
+ghost use Rattle.elf_table_symbols.specs.IndexTable.{AreIndexTables};
+ghost use Rattle.elf_table_symbols.specs.Sections.{section, sections_of};
+ghost use Rattle.elf_table_symbols.specs.SymbolRules.{symbol_table_rules};
+ghost use Rattle.elf_table_symbols.specs.TableKind.{kind_of};
+ghost use Rattle.elf_table_symbols.specs.declared.table_kind.TableKind.TheVariants as kind;
+ghost use Rattle.elf_table_all.specs.TableRules.{table_rules};
+ghost use Rattle.elf_table_symbols.specs.LinkedVerdicts.{AreSymbolVerdicts};
+ghost use Rattle.elf_table_all.specs.TableVerdicts.{AreAllIndexTables, AreVerdicts};
+ghost use Rattle.elf_table_all.specs.Verdict.{IsUnread, IsVerdictOf};
+
+use elf_image_rules::Broken;
+use elf_image_type::{Fault, Image};
+use elf_table_hash::judge_hash_table;
+use elf_table_lists::{
+    judge_dynamic_section, judge_group_section, judge_note_section, judge_relocation_section,
+};
+use elf_table_symbols::{IndexTables, SymbolVerdicts, TableKind, judge_symbol_table};
+use std::alloc::{AllocError, Global};
+
+/// The verdict on the table in each section; `Ok` where there is none.
+pub(crate) fn all_verdicts(
+    alloc: Global,
+    image: &Image<'_>,
+    index_tables: &[IndexTables],
+) -> Result<Vec<Result<(), Broken>>, AllocError>
+    requires { AreAllIndexTables (sections_of image.now) (length image.now.sections) index_tables.now }
+    ensures { IfOk result (λ verdicts.
+        AreVerdicts (sections_of image.now) (length image.now.sections) (map fault_of verdicts.items)) }
+{
+    let symbols = symbol_verdicts(alloc, image, index_tables)?;
+    let mut verdicts = Vec::with_capacity(alloc, image.section_count())?;
+    for i in 0..image.section_count() {
+        verdicts.push(table_verdict(alloc, image, i, &symbols)?)?;
+    }
+    Ok(verdicts)
+}
+
+// The verdict on the symbol table in each section; `Ok` where there is none.
+fn symbol_verdicts(
+    alloc: Global,
+    image: &Image<'_>,
+    index_tables: &[IndexTables],
+) -> Result<Vec<Result<(), Broken>>, AllocError>
+    requires { AreAllIndexTables (sections_of image.now) (length image.now.sections) index_tables.now }
+    ensures { IfOk result (λ verdicts.
+        AreSymbolVerdicts (sections_of image.now) (length image.now.sections) (map fault_of verdicts.items)) }
+{
+    let mut verdicts = Vec::with_capacity(alloc, image.section_count())?;
+    for (i, tables) in index_tables.iter().enumerate() {
+        verdicts.push(symbol_verdict(image, i, *tables))?;
+    }
+    Ok(verdicts)
+}
+
+// The verdict on the symbol table in section `i`, which has these index tables; `Ok` where it holds none.
+fn symbol_verdict(image: &Image<'_>, i: usize, tables: IndexTables) -> Result<(), Broken>
+    requires there { i < length image.now.sections }
+    requires tables { AreIndexTables (sections_of image.now) i (length image.now.sections) tables }
+    ensures { kind_of (section (sections_of image.now) i).sh_type ≡ Some kind.SymbolTable →
+        FirstIn (symbol_table_rules (sections_of image.now) i) (fault_of result) }
+{
+    match TableKind::of(image.section(i).sh_type) {
+        Some(TableKind::SymbolTable) => judge_symbol_table(image, i, tables),
+        _ => Ok(()),
+    }
+}
+
+// The verdict on the table in section `i`, by those on the symbol tables; `Ok` where it holds none.
+#[tactic(auto, unfolding(crate::specs::TableRules::table_rules))]
+fn table_verdict(
+    alloc: Global,
+    image: &Image<'_>,
+    i: usize,
+    symbols: &[Result<(), Broken>],
+) -> Result<Result<(), Broken>, AllocError>
+    requires there { i < length image.now.sections }
+    requires symbols { AreSymbolVerdicts (sections_of image.now) (length image.now.sections) (map fault_of symbols.now) }
+    ensures { IfOk result (λ verdict. FirstIn (table_rules (sections_of image.now) i) (fault_of verdict)) }
+{
+    let known = SymbolVerdicts::All(symbols);
+    match TableKind::of(image.section(i).sh_type) {
+        Some(TableKind::SymbolTable) => Ok(symbols[i]),
+        Some(TableKind::RelocationTable) => Ok(judge_relocation_section(image, i, known)),
+        Some(TableKind::SectionGroup) => verdict_of(judge_group_section(alloc, image, i, known)),
+        Some(TableKind::NoteSection) => Ok(judge_note_section(image, i)),
+        Some(TableKind::DynamicArray) => Ok(judge_dynamic_section(image, i)),
+        Some(TableKind::HashTable) => verdict_of(judge_hash_table(alloc, image, i, known)),
+        None => Ok(Ok(())),
+    }
+}
+
+// A judgement as a verdict; want of memory apart.
+fn verdict_of(judged: Result<(), Fault>) -> Result<Result<(), Broken>, AllocError>
+    requires { IsUnread judged }
+    ensures { IfOk result (IsVerdictOf judged) }
+{
+    match judged {
+        Ok(()) => Ok(Ok(())),
+        Err(Fault::Rule { rule, at }) => Ok(Err(Broken::new(rule, at))),
+        Err(Fault::OutOfMemory) => Err(AllocError),
+        // Nothing is read.
+        Err(Fault::Io { .. }) => unreachable!(),
+    }
+}

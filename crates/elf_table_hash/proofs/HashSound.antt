@@ -1,0 +1,107 @@
+-- What the rules of a hash table say of one that breaks none of them.
+use Rattle.std.proofs.Common.{◌≡◌, ◌≢◌, ℕ, ◌+◌, ◌*◌, ◌%◌, ◌<◌, None, length, get_or, inl, inr, refl, sym, subst, arith}
+use Rattle.std.proofs.Math.Nat.{mod-lt}
+use Rattle.std.proofs.lemmas.Bool.{cases_eq, cases_lt}
+use Rattle.elf_extent.specs.Least.{Never}
+use Rattle.elf_field.specs.Abi.{SHT_HASH, WORD_SIZE}
+use Rattle.elf_field.specs.declared.shdr.Shdr.{Shdr}
+use Rattle.elf_image_rules.specs.Rows.{FirstIn}
+use Rattle.elf_image_rules.specs.Tables.{content_extent}
+use Rattle.elf_table_symbols.specs.declared.table_kind.TableKind.TheVariants.{HashTable}
+use Rattle.elf_table_symbols.specs.OwnRules.{own_rules}
+use Rattle.elf_table_symbols.specs.Sections.{Sections, content, order, section}
+use Rattle.elf_table_symbols.specs.Symbols.{symbols_of}
+use Rattle.elf_table_symbols.specs.SymbolParts.{symbol_parts}
+use Rattle.elf_table_symbols.proofs.Public.{type_of_hash}
+use Rattle.elf_table_hash.specs.declared.hash_parts.HashParts.{HashParts}
+use Rattle.elf_table_hash.specs.HashParts.{IsInside}
+use Rattle.elf_table_hash.specs.HashRules.{chain_rules, hash_word_past_end, word_rules}
+use Rattle.elf_table_hash.specs.HashTable.{IsLinked, Valid, bucket, bucket_of, chain, name_of, nbucket, nchain}
+use Rattle.elf_table_hash.specs.Chains.{Ends, IsOn}
+use Rattle.elf_table_hash.specs.ElfHash.{hash_of}
+use Rattle.elf_table_hash.specs.WordLists.{names_in, symbol_names_of}
+use Rattle.elf_table_hash.proofs.ChainsDecided.{ends_or_not, on_or_not}
+use Rattle.elf_table_hash.proofs.WordListLemmas.{names_are}
+
+-- it has as many bytes in the file as its section header says
+pub hash_type : (f : Sections) (i : ℕ) → FirstIn (own_rules HashTable f i) None → (section f i).sh_type ≡ SHT_HASH
+unfolding own_rules
+hash_type f i own =
+    elim (cases_eq (section f i).sh_type SHT_HASH) [
+      | inl same ↦ same
+      | inr other ↦ absurd (own.0 _ ((λ is. other (type_of_hash _ is)), refl))
+    ]
+
+pub hash_content : (s : Shdr) → s.sh_type ≡ SHT_HASH → (content_extent s).len ≡ s.sh_size
+hash_content s typed = rw typed refl
+
+-- the names of the symbols of a symbol table, by its content and that of its string table
+pub names_of_section : (f : Sections) (i : ℕ) → names_in (order f) (content f i) (content f (section f i).sh_link) ≡ symbol_names_of f i
+unfolding symbol_names_of symbols_of
+names_of_section f i = sym (names_are _ _ _ (symbol_parts f i).words)
+
+-- a table as long as its buckets and chains, each word of which is that of a symbol
+pub linked_words : (p : HashParts) → IsInside p → p.size ≡ WORD_SIZE * (2 + nbucket p.words + nchain p.words) → Never (hash_word_past_end p) →
+    IsLinked p.words
+unfolding bucket chain
+linked_words p inside whole never = record {
+  long = (let sized = inside.sized in omega arith);
+  buckets = λ b lt. below b (omega arith);
+  chains = λ s lt.
+      subst (λ k. get_or p.words k 0 < nchain p.words) (let e : 2 + (nbucket p.words + s) ≡ 2 + nbucket p.words + s = omega arith in e) (below (nbucket p.words + s) (omega arith));
+} where
+  below : (k : ℕ) → k < nbucket p.words + nchain p.words → get_or p.words (2 + k) 0 < nchain p.words
+  below k within =
+      elim (cases_lt (get_or p.words (2 + k) 0) (nchain p.words)) [
+        | inl less ↦ less
+        | inr past ↦ absurd (never _ (k, within, past, refl))
+      ]
+
+above_zero : (n : ℕ) → n ≢ 0 → 0 < n
+above_zero n some = omega arith
+
+-- a table of which rules 65 to 69 hold is one for its names
+pub valid_when : (p : HashParts) → IsInside p → FirstIn (word_rules p) None → FirstIn (chain_rules p) None → Valid p.words p.names
+unfolding word_rules chain_rules
+valid_when p inside words chains = record {
+  some_bucket = some;
+  one_each = counted;
+  linked = linked;
+  ends = ends;
+  found = λ s above lt. found s above lt;
+} where
+  some : nbucket p.words ≢ 0
+  some none = words.1.0 _ (inl (none, refl))
+
+  counted : nchain p.words ≡ length p.names
+  counted =
+      elim (cases_eq (nchain p.words) (length p.names)) [
+        | inl same ↦ same
+        | inr other ↦ absurd (words.1.0 _ (inr (inl (other, refl))))
+      ]
+
+  whole : p.size ≡ WORD_SIZE * (2 + nbucket p.words + nchain p.words)
+  whole =
+      elim (cases_eq p.size (WORD_SIZE * (2 + nbucket p.words + nchain p.words))) [
+        | inl same ↦ same
+        | inr other ↦ absurd (words.0 _ (inr other, refl))
+      ]
+
+  linked : IsLinked p.words
+  linked = linked_words p inside whole words.1.1.0
+
+  ends : (b : ℕ) → b < nbucket p.words → Ends (chain p.words) (bucket p.words b)
+  ends b lt =
+      elim (ends_or_not (chain p.words) (nchain p.words) (bucket p.words b) linked.chains (linked.buckets b lt)) [
+        | inl here ↦ here
+        | inr endless ↦ absurd (chains.0 _ (b, lt, endless, refl))
+      ]
+
+  found : (s : ℕ) → 0 < s → s < nchain p.words → IsOn (chain p.words) (bucket_of p.words (name_of p.names s)) s
+  found s above lt =
+      let hash = hash_of (name_of p.names s) in
+      let within : hash % nbucket p.words < nbucket p.words = mod-lt hash (above_zero (nbucket p.words) some) in
+      elim (on_or_not (chain p.words) (bucket_of p.words (name_of p.names s)) s (ends (hash % nbucket p.words) within)) [
+        | inl here ↦ here
+        | inr off ↦ absurd (chains.1.0 _ (s, lt, (above, off), refl))
+      ]

@@ -1,0 +1,34 @@
+use Rattle.std.proofs.Common.{None, sym, subst}
+use Rattle.elf_image_rules.proofs.Public.{FirstIn-behind, FirstIn-front}
+use Rattle.elf_image_rules.specs.Rows.{FirstIn}
+use Rattle.elf_table_symbols.specs.declared.table_kind.TableKind.TheVariants.{HashTable}
+use Rattle.elf_table_symbols.specs.OwnRules.{own_rules}
+use Rattle.elf_table_symbols.specs.Sections.{section, sections_of}
+use Rattle.elf_table_symbols.specs.SymbolRules.{symbol_table_rules}
+use Rattle.elf_table_hash.specs.declared.hash_parts.HashParts.{HashParts}
+use Rattle.elf_table_hash.specs.HashParts.{hash_parts}
+use Rattle.elf_table_hash.specs.HashRules.{chain_rules, hash_rules, hash_table_rules, word_rules}
+use Rattle.elf_table_hash.proofs.HashSound.{valid_when}
+use Rattle.elf_table_hash.proofs.hash.Hash.of_sound.Goals as goal
+
+pub new-parts-requires-clause-own : goal.new-parts-requires-clause-own
+unfolding hash_table_rules
+new-parts-requires-clause-own c = FirstIn-front (own_rules HashTable (sections_of c.args.image.now) c.args.i) _ c.requires.sound
+
+pub new-parts-requires-clause-linked : goal.new-parts-requires-clause-linked
+unfolding hash_table_rules
+new-parts-requires-clause-linked c =
+    let f = sections_of c.args.image.now in
+    FirstIn-front (symbol_table_rules f (section f c.args.i).sh_link) _ (FirstIn-behind (own_rules HashTable f c.args.i) _ c.requires.sound)
+
+pub invariant_of-result : goal.invariant_of-result
+unfolding hash_table_rules hash_rules
+invariant_of-result c =
+    let f = sections_of c.args.image.now in
+    let rest = FirstIn-behind (symbol_table_rules f (section f c.args.i).sh_link) _ (FirstIn-behind (own_rules HashTable f c.args.i) _ c.requires.sound) in
+    let words = FirstIn-front (word_rules (hash_parts f c.args.i)) _ rest in
+    let chains = FirstIn-behind (word_rules (hash_parts f c.args.i)) _ rest in
+    let same = sym c.new-parts.ensures.value in
+    valid_when c.new-parts.result c.new-parts.ensures.inside
+    (subst (λ (p : HashParts). FirstIn (word_rules p) None) same words)
+    (subst (λ (p : HashParts). FirstIn (chain_rules p) None) same chains)

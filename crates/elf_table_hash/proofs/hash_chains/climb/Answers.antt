@@ -1,0 +1,16 @@
+use Rattle.elf_table_hash.proofs.ChainDepthLemmas.{seen_more, seen_twice}
+use Rattle.elf_table_hash.proofs.ChainLemmas.{path_push}
+use Rattle.elf_table_hash.proofs.hash_chains.climb.Goals as goal
+
+pub returns-then-seen-s-clause-endless : goal.returns-then-seen-s-clause-endless
+returns-then-seen-s-clause-endless c =
+    seen_twice _ _ c.args.start c.steps.s _ _ _ c.steps.invariant.seen c.steps.invariant.path c.if-seen-s.true c.if-depth-s-eq0.true
+
+pub steps-preserved : goal.steps-preserved
+steps-preserved c =
+    let was = c.steps.invariant in
+    rw (c.in_ok-push.ensures.items, c.chain-s.ensures) (record {
+      seen = seen_more _ _ _ _ c.steps.s was.seen was.inside;
+      path = path_push _ c.args.start c.steps.s _ was.path c.steps-test.true;
+      inside = c.requires.linked.chains c.steps.s was.inside;
+    })

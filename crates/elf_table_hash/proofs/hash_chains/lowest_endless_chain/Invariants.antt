@@ -1,0 +1,14 @@
+use Rattle.std.proofs.Common.{◌≡◌, ℕ, ◌<◌, []}
+use Rattle.elf_table_hash.specs.ChainDepths.{AreDepths, AreJumps, AreSeen, AreStarts, IsKnown}
+use Rattle.elf_table_hash.specs.HashTable.{bucket, chain, nchain}
+use Rattle.elf_table_hash.proofs.hash_chains.lowest_endless_chain.Given as goal
+
+abbrev pub invariant-loop-b : goal.invariant-loop-b
+invariant-loop-b l = record {
+  depths : AreDepths (chain l.words) (nchain l.words) l.depth;
+  jumps : AreJumps (chain l.words) (nchain l.words) l.jump;
+  starts : AreStarts (chain l.words) (nchain l.words) l.depth l.starts;
+  seen : AreSeen (nchain l.words) l.depth [] l.seen;
+  known : (k : ℕ) → k < l.b → IsKnown l.depth (bucket l.words k);
+  empty : l.stack.items ≡ [];
+}

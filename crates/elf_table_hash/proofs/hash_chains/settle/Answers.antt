@@ -1,0 +1,68 @@
+use Rattle.std.proofs.Common.{◌≡◌, ◌≢◌, ℕ, ◌+◌, ◌<◌, ◌⊎◌, List, [], ◌∷◌, ◌++◌, length, get_or, set, inl, inr, refl, subst, arith, get_or-set_same}
+use Rattle.elf_table_hash.specs.ChainDepths.{IsIn}
+use Rattle.elf_table_hash.specs.Chains.{IsPath}
+use Rattle.elf_table_hash.specs.HashTable.{chain}
+use Rattle.elf_table_hash.proofs.ChainLemmas.{end_below, path_last}
+use Rattle.elf_table_hash.proofs.ChainDepthLemmas.{deep_more, depths_more, in_push, jumps_more, starts_more}
+use Rattle.elf_table_hash.proofs.hash_chains.settle.Goals as goal
+
+-- what the symbol popped leads to, and what leads to it
+last_of : (next : ℕ → ℕ) (start s above : ℕ) (stack rest : List ℕ) → stack ≡ rest ++ above ∷ [] → IsPath next start stack s →
+    (above ≢ 0) × IsPath next start rest above × (next above ≡ s)
+last_of next start s above stack rest is path = path_last next start s above rest (subst (λ ws. IsPath next start ws s) is path)
+
+-- the symbols that waited still do, or it is the one popped
+waiting : (stack rest : List ℕ) (above t : ℕ) → stack ≡ rest ++ above ∷ [] → IsIn stack t → (t ≡ above) ⊎ IsIn rest t
+waiting stack rest above t is waits = in_push rest above t (subst (λ ws. IsIn ws t) is waits)
+
+-- its depth is noted
+noted : (depth : List ℕ) (a d t : ℕ) → a < length depth → t ≡ a → 0 < get_or (set depth a (d + 1)) t 0
+noted depth a d t within same = rw same (rw get_or-set_same (omega arith))
+
+pub bounds-depth-above : goal.bounds-depth-above
+bounds-depth-above c =
+    let was = c.steps.invariant in
+    let last = last_of _ c.args.start c.steps.s c.in-Some.above _ c.pop.new.self.items c.in-Some.ensures.items was.path in
+    let below = end_below (chain c.args.words.now) _ c.args.start c.in-Some.above _ c.requires.linked.chains c.requires.start last.1 in
+    let long = was.depths.long in
+    omega arith
+
+pub bounds-jump-above : goal.bounds-jump-above
+bounds-jump-above c =
+    let was = c.steps.invariant in
+    let last = last_of _ c.args.start c.steps.s c.in-Some.above _ c.pop.new.self.items c.in-Some.ensures.items was.path in
+    let below = end_below (chain c.args.words.now) _ c.args.start c.in-Some.above _ c.requires.linked.chains c.requires.start last.1 in
+    let long = was.jumps.long in
+    omega arith
+
+pub bounds-starts-above : goal.bounds-starts-above
+bounds-starts-above c =
+    let was = c.steps.invariant in
+    let last = last_of _ c.args.start c.steps.s c.in-Some.above _ c.pop.new.self.items c.in-Some.ensures.items was.path in
+    let below = end_below (chain c.args.words.now) _ c.args.start c.in-Some.above _ c.requires.linked.chains c.requires.start last.1 in
+    let long = was.starts.long in
+    omega arith
+
+pub steps-preserved : goal.steps-preserved
+steps-preserved c =
+    let was = c.steps.invariant in
+    let last = last_of _ c.args.start c.steps.s c.in-Some.above _ c.pop.new.self.items c.in-Some.ensures.items was.path in
+    let below = end_below (chain c.args.words.now) _ c.args.start c.in-Some.above _ c.requires.linked.chains c.requires.start last.1 in
+    let long = was.depths.long in
+    let inside : c.in-Some.above < length c.steps.depth = omega arith in
+    rw c.one_more.ensures (record {
+      depths = depths_more _ _ _ c.in-Some.above c.steps.s was.depths was.known last.2 last.0 below;
+      jumps = jumps_more _ _ _ c.in-Some.above c.steps.s _ was.jumps c.far_of-far.ensures.leads c.far_of-far.ensures.inside last.2 last.0 below;
+      starts = starts_more _ _ _ _ c.in-Some.above _ c.args.start was.starts (c.pop.new.self.items, last.1) below;
+      path = last.1;
+      known = inr (noted c.steps.depth c.in-Some.above _ c.in-Some.above inside refl);
+      inside = below;
+      kept = λ s deep. deep_more c.steps.depth c.in-Some.above _ s inside (was.kept s deep);
+      settled = λ s first. elim (was.settled s first) [
+        | inl waits ↦ elim (waiting _ c.pop.new.self.items c.in-Some.above s c.in-Some.ensures.items waits) [
+          | inl same ↦ inr (noted c.steps.depth c.in-Some.above _ s inside same)
+          | inr still ↦ inl still
+        ]
+        | inr deep ↦ inr (deep_more c.steps.depth c.in-Some.above _ s inside deep)
+      ];
+    })

@@ -1,0 +1,180 @@
+//! Hash tables (gABI chapter 5, Hash Table).
+ghost use Rattle.std.specs.Prelude.{◌≡◌, ◌↔◌, ◌<◌, ◌≤◌, ℕ, None, IsSome, length, get_or};
+ghost use Rattle.elf_image_rules.specs.Rows.{FirstIn};
+ghost use Rattle.elf_table_symbols.specs.Judged.{IsJudgedBehind};
+ghost use Rattle.elf_table_symbols.specs.Sections.{sections_of};
+ghost use Rattle.elf_table_hash.specs.Chains.{Ends};
+ghost use Rattle.elf_table_hash.specs.HashLeft.{words_left};
+ghost use Rattle.elf_table_hash.specs.HashRules.{hash_table_front, hash_table_rules};
+ghost use Rattle.elf_table_hash.specs.HashTable.{Valid, chain, nbucket as nbucket_of, nchain as nchain_of};
+ghost use Rattle.elf_table_hash.specs.HashView.{hash_of_section};
+ghost use Rattle.elf_table_hash.specs.Probe.{IsFirstNamed, IsNamed, IsProbed};
+
+use crate::hash_parts::HashParts;
+use crate::hash_rules::judge_hash_table;
+use crate::hash_words::{HashWords, SymbolNames};
+use elf_image_type::{Fault, Image};
+use elf_table_symbols::SymbolVerdicts;
+use std::alloc::Global;
+use std::marker::Model;
+
+/// A hash table, which leads from a name to a symbol of the symbol table that it links to: its words, and the names of the
+/// symbols. It borrows from the bytes of the file.
+#[derive(Drop)]
+pub struct Hash<'a> {
+    words: HashWords<'a>,
+    names: SymbolNames<'a>,
+}
+
+impl<'a> Model for Hash<'a> {
+    ghost use Rattle.elf_table_hash.specs.HashTable.{Valid};
+    ghost use Rattle.elf_table_hash.specs.Probe.{HashValue};
+
+    ghost Value = { HashValue };
+
+    ghost view = { λ a. record { words = a.words; names = a.names } };
+
+    ghost invariant = { λ a. Valid a.words a.names };
+}
+
+impl<'a> Hash<'a> {
+    /// The hash table that section `i` holds, where `i` is below the image's count of section headers. It takes memory for
+    /// each symbol while it judges the chains.
+    ///
+    /// [`Fault::Rule`] is the first rule that is broken, at its lowest offset: 40, 42, 43, 44, then all rules of the symbol table
+    /// that the section links to, then 65 to 69. [`Fault::OutOfMemory`] comes only where memory is refused, and no rule from
+    /// 40 to 67 is broken. No other fault comes.
+    pub fn new(alloc: Global, image: &Image<'a>, i: usize) -> Result<Hash<'a>, Fault>
+        requires { i < length image.now.sections }
+        ensures { let f = sections_of image.now in
+            IsJudgedBehind (hash_table_front f i) (hash_table_rules f i) (λ hash. hash ≡ hash_of_section f i) result }
+    {
+        judge_hash_table(alloc, image, i, SymbolVerdicts::Unknown)?;
+        Ok(Hash::of_sound(image, i))
+    }
+
+    /// The hash table in section `i`, which breaks no rule.
+    pub fn of_sound(image: &Image<'a>, i: usize) -> Hash<'a>
+        requires there { i < length image.now.sections }
+        requires sound { FirstIn (hash_table_rules (sections_of image.now) i) None }
+        ensures { result ≡ hash_of_section (sections_of image.now) i }
+    {
+        let parts = HashParts::new(image, i);
+        Hash {
+            words: parts.words,
+            names: parts.names,
+        }
+    }
+
+    /// How many buckets there are: word 0.
+    pub fn nbucket(&self) -> u32
+        ensures { result ≡ nbucket_of self.now.words }
+    {
+        self.words.nbucket()
+    }
+
+    /// How many chain words there are, one for each symbol: word 1.
+    pub fn nchain(&self) -> u32
+        ensures { result ≡ nchain_of self.now.words }
+    {
+        self.words.nchain()
+    }
+
+    /// How many words there are, `nbucket` and `nchain` among them.
+    pub fn len(&self) -> usize
+        ensures { result ≡ length self.now.words }
+    {
+        self.words.len()
+    }
+
+    /// Word `j`, which is below [`len`](Hash::len): `nbucket`, `nchain`, then the word of each bucket, then that of each symbol.
+    pub fn entry(&self, j: usize) -> u32
+        requires { j < length self.now.words }
+        ensures { result ≡ get_or self.now.words j 0 }
+    {
+        self.words.get(j)
+    }
+
+    /// The words in order.
+    pub fn iter(&self) -> HashIter<'_, 'a>
+        ensures { words_left result ≡ self.now.words }
+    {
+        HashIter {
+            hash: self,
+            next: 0,
+        }
+    }
+
+    /// The first symbol of this name on the chain of the name's bucket: some symbol exactly where a symbol from 1 on has the
+    /// name. It takes no memory.
+    pub fn find(&self, name: &[u8]) -> Option<u32>
+        ensures found { (steps : ℕ) × IsProbed self.now name.now result steps }
+        ensures some { IsSome result ↔ IsNamed self.now name.now }
+    {
+        self.probe(name).0
+    }
+
+    /// What [`find`](Hash::find) answers, and how many symbols of the chain were looked at: the place of the symbol found,
+    /// counted from 1, or else the length of the chain. There are fewer of them than symbols. It takes no memory.
+    pub fn probe(&self, name: &[u8]) -> (Option<u32>, u32)
+        ensures found { IsProbed self.now name.now result.0 result.1 }
+        ensures some { IsSome result.0 ↔ IsNamed self.now name.now }
+        ensures few { result.1 < nchain_of self.now.words }
+    {
+        first_named(&self.words, &self.names, name, self.words.bucket_of(name))
+    }
+}
+
+// The first symbol of this name on the chain of `start`, with its place, or the length of the chain.
+fn first_named(
+    words: &HashWords<'_>,
+    names: &SymbolNames<'_>,
+    name: &[u8],
+    start: u32,
+) -> (Option<u32>, u32)
+    requires valid { Valid words.now names.now }
+    requires start { start < nchain_of words.now }
+    requires ends { Ends (chain words.now) start }
+    ensures found { IsFirstNamed (chain words.now) names.now name.now start result.0 result.1 }
+    ensures few { result.1 < nchain_of words.now }
+{
+    // A chain has fewer symbols than there are, and their number is one of 32 bits.
+    let _ = words.nchain();
+    let mut s = start;
+    let mut steps = 0;
+    'steps: while s != 0 {
+        steps += 1;
+        if names.get(s) == name {
+            return (Some(s), steps);
+        }
+        s = words.chain(s);
+    }
+    (None, steps)
+}
+
+/// The words of a hash table, in order.
+#[derive(Drop)]
+pub struct HashIter<'s, 'a> {
+    hash: &'s Hash<'a>,
+    next: usize,
+}
+
+impl<'s, 'a> Iterator for HashIter<'s, 'a> {
+    ghost use Rattle.std.specs.Iterator.{YieldsFirst, item_count};
+    ghost use Rattle.elf_table_hash.specs.HashLeft.{words_left};
+
+    type Item = u32;
+
+    ghost next_gives = { YieldsFirst words_left };
+
+    ghost remaining = { item_count words_left };
+
+    fn next(&mut self) -> Option<u32> {
+        if self.next >= self.hash.len() {
+            return None;
+        }
+        let word = self.hash.entry(self.next);
+        self.next += 1;
+        Some(word)
+    }
+}

@@ -1,0 +1,134 @@
+//! Rules 65 to 69 of a hash table, and all of its rules (gABI chapter 5, Hash Table).
+ghost use Rattle.std.specs.Prelude.{◌≡◌, ◌≢◌, ◌<◌, ◌≤◌, ◌+◌, ◌*◌, ⊤, ℕ, None, Some, List, IfOk, [], length, get_or};
+ghost use Rattle.elf_extent.specs.Least.{IsLowest};
+ghost use Rattle.elf_image_rules.specs.Broken.{fault_of};
+ghost use Rattle.elf_image_rules.specs.Rows.{FirstIn};
+ghost use Rattle.elf_table_symbols.specs.Judged.{IsJudgedBehind};
+ghost use Rattle.elf_table_symbols.specs.LinkedVerdicts.{AreKnown};
+ghost use Rattle.elf_table_symbols.specs.OwnRules.{own_rules};
+ghost use Rattle.elf_table_symbols.specs.Sections.{section, sections_of};
+ghost use Rattle.elf_table_symbols.specs.SymbolRules.{symbol_table_rules};
+ghost use Rattle.elf_table_hash.specs.ChainDepths.{AreDepths, AreJumps, AreStarts, IsKnown};
+ghost use Rattle.elf_table_hash.specs.HashParts.{IsInside, hash_parts};
+ghost use Rattle.elf_table_hash.specs.HashRules.{chain_rules, hash_rules, hash_table_front, hash_table_rules, symbol_off_chain, word_rules};
+ghost use Rattle.elf_table_hash.specs.HashTable.{IsLinked, bucket, chain, nbucket, nchain};
+
+use crate::hash_chains::{is_on, lowest_endless_chain};
+use crate::hash_parts::HashParts;
+use crate::hash_word_rules::judge_words;
+use elf_field::abi::*;
+use elf_image_rules::Broken;
+use elf_image_type::{Fault, Image};
+use elf_table_symbols::rules::*;
+use elf_table_symbols::{SymbolVerdicts, TableKind, judge_own_rules};
+use std::alloc::{AllocError, Global};
+
+/// All rules of the hash table in section `i`, by these verdicts on the symbol tables. [`Fault::OutOfMemory`] comes only where no rule from 40 to 67 is broken.
+#[tactic(auto, unfolding(crate::specs::HashRules::hash_table_rules, crate::specs::HashRules::hash_table_front))]
+pub fn judge_hash_table(
+    alloc: Global,
+    image: &Image<'_>,
+    i: usize,
+    symbols: SymbolVerdicts<'_>,
+) -> Result<(), Fault>
+    requires there { i < length image.now.sections }
+    requires known { AreKnown (sections_of image.now) symbols }
+    ensures { let f = sections_of image.now in
+        IsJudgedBehind (hash_table_front f i) (hash_table_rules f i) (λ _. ⊤) result }
+{
+    judge_own_rules(image, i, TableKind::HashTable)?;
+    symbols.of(image, image.section(i).sh_link as usize)?;
+    judge_hash(alloc, image, i)
+}
+
+/// Rules 65 to 69 of the hash table in section `i`, whose section header breaks no rule, as the symbol table that it links to.
+/// [`Fault::OutOfMemory`] comes only where none of 65 to 67 is broken.
+#[tactic(auto, unfolding(crate::specs::HashRules::hash_rules))]
+fn judge_hash(alloc: Global, image: &Image<'_>, i: usize) -> Result<(), Fault>
+    requires there { i < length image.now.sections }
+    requires own { FirstIn (own_rules TableKind.HashTable (sections_of image.now) i) None }
+    requires linked { let f = sections_of image.now in FirstIn (symbol_table_rules f (section f i).sh_link) None }
+    ensures { let f = sections_of image.now in
+        IsJudgedBehind (word_rules (hash_parts f i)) (hash_rules f i) (λ _. ⊤) result }
+{
+    let parts = HashParts::new(image, i);
+    judge_words(&parts)?;
+    let verdict = judge_chains(alloc, &parts)?;
+    Ok(verdict?)
+}
+
+// Rules 68 and 69.
+#[tactic(auto, unfolding(crate::specs::HashRules::chain_rules))]
+fn judge_chains(alloc: Global, parts: &HashParts<'_>) -> Result<Result<(), Broken>, AllocError>
+    requires inside { IsInside parts.now }
+    requires some_bucket { nbucket parts.now.words ≢ 0 }
+    requires one_each { nchain parts.now.words ≡ length parts.now.names }
+    requires linked { IsLinked parts.now.words }
+    ensures { IfOk result (λ verdict. FirstIn (chain_rules parts.now) (fault_of verdict)) }
+{
+    let words = &parts.words;
+    let symbols = words.nchain();
+    let mut depth = Vec::new(alloc);
+    depth.resize(symbols as usize, 0)?;
+    let mut jump = numbers(alloc, symbols)?;
+    let mut starts = Vec::new(alloc);
+    starts.resize(symbols as usize, 0)?;
+    let mut seen = Vec::new(alloc);
+    seen.resize(symbols as usize, false)?;
+    let mut stack = Vec::new(alloc);
+    if let Some(b) = lowest_endless_chain(
+        words,
+        &mut depth,
+        &mut jump,
+        &mut starts,
+        &mut seen,
+        &mut stack,
+    )? {
+        let at = parts.start + WORD_SIZE * (2 + b as u64);
+        return Ok(Err(Broken::new(ENDLESS_CHAIN, at)));
+    }
+    match lowest_symbol_off_chain(parts, &depth, &jump, &starts) {
+        Some(at) => Ok(Err(Broken::new(SYMBOL_OFF_CHAIN, at))),
+        None => Ok(Ok(())),
+    }
+}
+
+// The numbers below `n`: a jump of each symbol to itself.
+fn numbers(alloc: Global, n: u32) -> Result<Vec<u32>, AllocError>
+    ensures long { IfOk result (λ all. length all.items ≡ n) }
+    ensures each { IfOk result (λ all. (k : ℕ) → k < n → get_or all.items k 0 ≡ k) }
+{
+    let mut all = Vec::new(alloc);
+    for k in 0..n {
+        all.push(k)?;
+    }
+    Ok(all)
+}
+
+// The lowest offset in the file of the chain word of a symbol from 1 on that is not on the chain of its name's bucket.
+fn lowest_symbol_off_chain(
+    parts: &HashParts<'_>,
+    depth: &[u32],
+    jump: &[u32],
+    starts: &[u32],
+) -> Option<u64>
+    requires inside { IsInside parts.now }
+    requires some_bucket { nbucket parts.now.words ≢ 0 }
+    requires one_each { nchain parts.now.words ≡ length parts.now.names }
+    requires linked { IsLinked parts.now.words }
+    requires depths { AreDepths (chain parts.now.words) (nchain parts.now.words) depth.now }
+    requires jumps { AreJumps (chain parts.now.words) (nchain parts.now.words) jump.now }
+    requires starts { AreStarts (chain parts.now.words) (nchain parts.now.words) depth.now starts.now }
+    requires known { (b : ℕ) → b < nbucket parts.now.words → IsKnown depth.now (bucket parts.now.words b) }
+    ensures { IsLowest (symbol_off_chain parts.now) result }
+{
+    let words = &parts.words;
+    for s in 1..words.nchain() {
+        let start = words.bucket_of(parts.names.get(s));
+        if !is_on(words, depth, jump, starts, start, s) {
+            let before = 2 + words.nbucket() as u64 + s as u64;
+            return Some(parts.start + WORD_SIZE * before);
+        }
+    }
+    None
+}

@@ -1,0 +1,264 @@
+-- The notes of a content judged one by one, from the first on.
+use Rattle.std.proofs.Common.{◌≡◌, ℕ, suc, ◌+◌, ◌-◌, ◌<◌, ◌≤◌, Option, None, Some, List, length, inl, inr, refl, sym, ap, subst, ◌∙◌, arith}
+use Rattle.std.specs.Option.{option_map, option_or}
+use Rattle.std.proofs.lemmas.Bool.{cases_eq, cases_lt}
+use Rattle.std.specs.Prelude.{MatchOption, ◌⊎◌}
+use Rattle.elf_extent.specs.Least.{IsLeast, IsLowest, Never}
+use Rattle.elf_field.specs.Abi.{N_DESCSZ_AT, N_NAMESZ_AT, NHDR_SIZE}
+use Rattle.elf_field.specs.declared.order.Order.{Order}
+use Rattle.elf_image_rules.specs.declared.broken.Broken.{Broken}
+use Rattle.elf_image_rules.specs.Rows.{FirstIn}
+use Rattle.elf_table_lists.specs.NoteCut.{IsCut}
+use Rattle.elf_table_lists.specs.NoteRules.{AtNote, IsUnclosedNoteName, name_last, note_desc_past_end, note_name_past_end, note_rules, partial_note, unclosed_note_name}
+use Rattle.elf_table_lists.specs.Notes.{AreWhole, desc_start, note_end, note_place}
+use Rattle.elf_table_lists.proofs.NotePlaces.{end_above, place_next, place_rises}
+
+-- where one of the first n notes has a name that isn't closed, the last byte of it
+abbrev pub UnclosedBefore : Order → List ℕ → ℕ → ℕ → Type 0
+UnclosedBefore o table n = λ y. (k : ℕ) × (k < n) × IsUnclosedNoteName o table (note_place o table 0 k) × (y ≡ name_last o table (note_place o table 0 k))
+
+-- the notes before offset x are whole, and this is the lowest name of theirs that isn't closed
+pub record AreJudged (o : Order) (table : List ℕ) (x : ℕ) (unclosed : Option ℕ) : Type 0 where
+  pub count : ℕ
+  pub here : note_place o table 0 count ≡ x
+  pub inside : x ≤ length table
+  pub whole : (k : ℕ) → k < count → note_end o table (note_place o table 0 k) ≤ length table
+  pub lowest : IsLowest (UnclosedBefore o table count) unclosed
+
+pub none_judged : (o : Order) (table : List ℕ) → AreJudged o table 0 None
+unfolding note_place
+none_judged o table = record {
+  count = 0;
+  here = refl;
+  inside = omega arith;
+  whole = λ k lt. absurd (omega arith);
+  lowest = λ y here. (let lt = here.1 in omega arith);
+}
+
+-- ---- a note that is cut short
+
+-- a note is one of those before x, or begins at x or behind it
+behind : (o : Order) (table : List ℕ) (x : ℕ) (unclosed : Option ℕ) (are : AreJudged o table x unclosed) (k : ℕ) → are.count ≤ k → x ≤ note_place o table 0 k
+behind o table x unclosed are k le =
+    let rises = place_rises o table 0 are.count (k - are.count) in
+    let same : note_place o table 0 (are.count + (k - are.count)) ≡ note_place o table 0 k = ap (note_place o table 0) (omega arith) in
+    let here = are.here in
+    omega arith
+
+-- and where the one at x is cut short none begins behind it
+at_cut : (o : Order) (table : List ℕ) (x : ℕ) (unclosed : Option ℕ) (are : AreJudged o table x unclosed) → length table < note_end o table x →
+    (k : ℕ) → note_place o table 0 k < length table → are.count ≤ k → note_place o table 0 k ≡ x
+at_cut o table x unclosed are cut k begins le = elim (cases_eq are.count k) [
+  | inl same ↦ sym (ap (note_place o table 0) same) ∙ are.here
+  | inr other ↦
+      let rises = place_rises o table 0 (suc are.count) (k - suc are.count) in
+      let same : note_place o table 0 (suc are.count + (k - suc are.count)) ≡ note_place o table 0 k = ap (note_place o table 0) (omega arith) in
+      let next = place_next o table 0 are.count ∙ ap (note_end o table) are.here in
+      absurd (omega arith)
+]
+
+-- a rule that is broken at none of the notes before x, nor at x, is broken at none
+never_at : (o : Order) (table : List ℕ) (x : ℕ) (unclosed : Option ℕ) (P : ℕ → Type 0) (place : ℕ → ℕ) → AreJudged o table x unclosed →
+    length table < note_end o table x → ((y : ℕ) → note_end o table y ≤ length table → P y → ⊥) → (P x → ⊥) → Never (AtNote o table P place)
+never_at o table x unclosed P place are cut past other y broken = elim (cases_lt broken.0 are.count) [
+  | inl before ↦ past (note_place o table 0 broken.0) (are.whole broken.0 before) broken.2
+  | inr le ↦ other (subst P (at_cut o table x unclosed are cut broken.0 broken.1 le) broken.2)
+]
+
+-- and one that is broken at x is broken there first
+least_at : (o : Order) (table : List ℕ) (x : ℕ) (unclosed : Option ℕ) (P : ℕ → Type 0) (place : ℕ → ℕ) → AreJudged o table x unclosed → x < length table →
+    length table < note_end o table x → ((y : ℕ) → note_end o table y ≤ length table → P y → ⊥) → P x → IsLeast (AtNote o table P place) (place x)
+least_at o table x unclosed P place are within cut past holds = record {
+  holds = (are.count, rw are.here within, subst P (sym are.here) holds, ap place (sym are.here));
+  lowest = λ y broken. elim (cases_lt broken.0 are.count) [
+    | inl before ↦ absurd (past (note_place o table 0 broken.0) (are.whole broken.0 before) broken.2)
+    | inr le ↦
+        let same = broken.3 ∙ ap place (at_cut o table x unclosed are cut broken.0 broken.1 le) in
+        omega arith
+  ];
+}
+
+header_whole : (o : Order) (table : List ℕ) (y : ℕ) → note_end o table y ≤ length table → length table < y + NHDR_SIZE → ⊥
+header_whole o table y whole cut = let above = end_above o table y in omega arith
+
+desc_below : (o : Order) (table : List ℕ) (y : ℕ) → desc_start o table y ≤ note_end o table y
+unfolding note_end
+desc_below o table y = omega arith
+
+header_below : (o : Order) (table : List ℕ) (y : ℕ) → y + NHDR_SIZE ≤ desc_start o table y
+unfolding desc_start
+header_below o table y = omega arith
+
+name_whole : (o : Order) (table : List ℕ) (y : ℕ) → note_end o table y ≤ length table → length table < desc_start o table y → ⊥
+name_whole o table y whole cut = let below = desc_below o table y in omega arith
+
+note_whole : (o : Order) (table : List ℕ) (y : ℕ) → note_end o table y ≤ length table → length table < note_end o table y → ⊥
+note_whole o table y whole cut = omega arith
+
+pub cut_fault : (o : Order) (table : List ℕ) (start x : ℕ) (unclosed : Option ℕ) (broken : Broken) → AreJudged o table x unclosed → x < length table →
+    IsCut o table start x broken → FirstIn (note_rules o table start) (Some (broken.rule, broken.at))
+unfolding note_rules
+cut_fault o table start x unclosed broken are within (inl (short, rule, at)) =
+    let cut : length table < note_end o table x = (let above = end_above o table x in let d = desc_below o table x in omega arith) in
+    inl (rule, rw at (least_at o table x unclosed _ (λ y. start + y) are within cut (header_whole o table) short))
+cut_fault o table start x unclosed broken are within (inr (inl (header, short, rule, at))) =
+    let cut : length table < note_end o table x = (let d = desc_below o table x in omega arith) in
+    inr (
+      never_at o table x unclosed _ (λ y. start + y) are cut (header_whole o table) (λ other. omega arith),
+      inl (rule, rw at (least_at o table x unclosed _ (λ y. start + y + N_NAMESZ_AT) are within cut (name_whole o table) short)),
+    )
+cut_fault o table start x unclosed broken are within (inr (inr (name, cut, rule, at))) =
+    let header = header_below o table x in
+    inr (
+      never_at o table x unclosed _ (λ y. start + y) are cut (header_whole o table) (λ other. omega arith),
+      inr (
+        never_at o table x unclosed _ (λ y. start + y + N_NAMESZ_AT) are cut (name_whole o table) (λ other. omega arith),
+        inl (rule, rw at (least_at o table x unclosed _ (λ y. start + y + N_DESCSZ_AT) are within cut (note_whole o table) cut)),
+      ),
+    )
+
+-- ---- a note that is whole
+
+-- the last byte of a whole note's name is in it
+last_inside : (o : Order) (table : List ℕ) (y : ℕ) → IsUnclosedNoteName o table y → (y ≤ name_last o table y) × (name_last o table y < note_end o table y)
+unfolding name_last note_end desc_start
+last_inside o table y unclosed = let some = unclosed.0 in (omega arith, omega arith)
+
+-- the notes before x have their names before x
+last_before : (o : Order) (table : List ℕ) (x : ℕ) (unclosed : Option ℕ) (are : AreJudged o table x unclosed) (y : ℕ) → UnclosedBefore o table are.count y → y < x
+last_before o table x unclosed are y here =
+    let k = here.0 in
+    let inside = last_inside o table (note_place o table 0 k) here.2 in
+    let next = place_next o table 0 k in
+    let rises = place_rises o table 0 (suc k) (are.count - suc k) in
+    let lt = here.1 in
+    let same : note_place o table 0 (suc k + (are.count - suc k)) ≡ note_place o table 0 are.count = ap (note_place o table 0) (omega arith) in
+    let at = are.here in
+    let is = here.3 in
+    omega arith
+
+pub unclosed_within : (o : Order) (table : List ℕ) (x last : ℕ) → AreJudged o table x (Some last) → last < length table
+unclosed_within o table x last are =
+    let before = last_before o table x (Some last) are last are.lowest.holds in
+    let inside = are.inside in
+    omega arith
+
+-- of one note more
+one_further : (o : Order) (table : List ℕ) (n y : ℕ) → UnclosedBefore o table (suc n) y →
+    UnclosedBefore o table n y ⊎ (IsUnclosedNoteName o table (note_place o table 0 n) × (y ≡ name_last o table (note_place o table 0 n)))
+one_further o table n y here = elim (cases_lt here.0 n) [
+  | inl before ↦ inl (here.0, before, here.2, here.3)
+  | inr after ↦
+      let lt = here.1 in
+      let same : here.0 ≡ n = omega arith in
+      inr (subst (λ (k : ℕ). IsUnclosedNoteName o table (note_place o table 0 k) × (y ≡ name_last o table (note_place o table 0 k))) same (here.2, here.3))
+]
+
+wider : (o : Order) (table : List ℕ) (n y : ℕ) → UnclosedBefore o table n y → UnclosedBefore o table (suc n) y
+wider o table n y here = (here.0, (let lt = here.1 in omega arith), here.2, here.3)
+
+-- what the note at x tells
+abbrev pub FindsUnclosed : Order → List ℕ → ℕ → Option ℕ → Type 0
+FindsUnclosed o table x found = MatchOption found (IsUnclosedNoteName o table x → ⊥)
+    (λ last. IsUnclosedNoteName o table x × (last ≡ name_last o table x) × (last < length table))
+
+lowest_more : (o : Order) (table : List ℕ) (x : ℕ) (unclosed found : Option ℕ) (are : AreJudged o table x unclosed) → FindsUnclosed o table x found →
+    IsLowest (UnclosedBefore o table (suc are.count)) (option_or unclosed found)
+lowest_more o table x None None are told = λ y here. elim (one_further o table are.count y here) [
+  | inl before ↦ are.lowest y before
+  | inr last ↦ told (subst (IsUnclosedNoteName o table) are.here last.0)
+]
+lowest_more o table x None (Some last) are told = record {
+  holds = (are.count, omega arith, subst (IsUnclosedNoteName o table) (sym are.here) told.0, told.1 ∙ ap (name_last o table) (sym are.here));
+  lowest = λ y here. elim (one_further o table are.count y here) [
+    | inl before ↦ absurd (are.lowest y before)
+    | inr same ↦ (let e = same.1 ∙ ap (name_last o table) are.here in let f = told.1 in omega arith)
+  ];
+}
+lowest_more o table x (Some low) found are told = record {
+  holds = wider o table are.count low are.lowest.holds;
+  lowest = λ y here. elim (one_further o table are.count y here) [
+    | inl before ↦ are.lowest.lowest y before
+    | inr same ↦
+        let below = last_before o table x (Some low) are low are.lowest.holds in
+        let inside = last_inside o table x (subst (IsUnclosedNoteName o table) are.here same.0) in
+        let e = same.1 ∙ ap (name_last o table) are.here in
+        omega arith
+  ];
+}
+
+pub judged_more : (o : Order) (table : List ℕ) (x : ℕ) (unclosed found : Option ℕ) → AreJudged o table x unclosed →
+    note_end o table x ≤ length table → FindsUnclosed o table x found → AreJudged o table (note_end o table x) (option_or unclosed found)
+judged_more o table x unclosed found are whole told = record {
+  count = suc are.count;
+  here = place_next o table 0 are.count ∙ ap (note_end o table) are.here;
+  inside = whole;
+  whole = λ k lt. elim (cases_lt k are.count) [
+    | inl before ↦ are.whole k before
+    | inr after ↦ (let same : k ≡ are.count = omega arith in rw (same, are.here) whole)
+  ];
+  lowest = lowest_more o table x unclosed found are told;
+}
+
+-- ---- at the end
+
+-- all notes are among those judged
+all_judged : (o : Order) (table : List ℕ) (x : ℕ) (unclosed : Option ℕ) (are : AreJudged o table x unclosed) → length table ≤ x → (k : ℕ) →
+    note_place o table 0 k < length table → k < are.count
+all_judged o table x unclosed are end k begins = elim (cases_lt k are.count) [
+  | inl before ↦ before
+  | inr le ↦ (let at = behind o table x unclosed are k le in absurd (omega arith))
+]
+
+never_broken : (o : Order) (table : List ℕ) (x : ℕ) (unclosed : Option ℕ) (P : ℕ → Type 0) (place : ℕ → ℕ) → AreJudged o table x unclosed →
+    length table ≤ x → ((y : ℕ) → note_end o table y ≤ length table → P y → ⊥) → Never (AtNote o table P place)
+never_broken o table x unclosed P place are end past y broken =
+    past (note_place o table 0 broken.0) (are.whole broken.0 (all_judged o table x unclosed are end broken.0 broken.1)) broken.2
+
+begins_inside : (o : Order) (table : List ℕ) (x : ℕ) (unclosed : Option ℕ) (are : AreJudged o table x unclosed) (k : ℕ) → k < are.count →
+    note_place o table 0 k < length table
+begins_inside o table x unclosed are k lt =
+    let whole = are.whole k lt in let above = end_above o table (note_place o table 0 k) in omega arith
+
+unclosed_rule : (o : Order) (table : List ℕ) (start x : ℕ) (unclosed : Option ℕ) → AreJudged o table x unclosed → length table ≤ x →
+    IsLowest (unclosed_note_name o table start) (option_map (λ last. start + last) unclosed)
+unclosed_rule o table start x None are end = λ y broken.
+    are.lowest (name_last o table (note_place o table 0 broken.0)) (broken.0, all_judged o table x None are end broken.0 broken.1, broken.2, refl)
+unclosed_rule o table start x (Some low) are end = record {
+  holds =
+      (let here = are.lowest.holds in
+      (here.0, begins_inside o table x (Some low) are here.0 here.1, here.2, ap (λ (n : ℕ). start + n) here.3));
+  lowest = λ y broken.
+      (let le = are.lowest.lowest (name_last o table (note_place o table 0 broken.0)) (broken.0, all_judged o table x (Some low) are end broken.0 broken.1, broken.2, refl) in
+      let is = broken.3 in omega arith);
+}
+
+whole_rules : (o : Order) (table : List ℕ) (start x : ℕ) (unclosed : Option ℕ) → AreJudged o table x unclosed → length table ≤ x →
+    Never (partial_note o table start) × Never (note_name_past_end o table start) × Never (note_desc_past_end o table start)
+whole_rules o table start x unclosed are end = (
+  never_broken o table x unclosed _ (λ y. start + y) are end (header_whole o table),
+  never_broken o table x unclosed _ (λ y. start + y + N_NAMESZ_AT) are end (name_whole o table),
+  never_broken o table x unclosed _ (λ y. start + y + N_DESCSZ_AT) are end (note_whole o table),
+)
+
+pub closed_notes : (o : Order) (table : List ℕ) (start x : ℕ) → AreJudged o table x None → length table ≤ x → FirstIn (note_rules o table start) None
+unfolding note_rules
+closed_notes o table start x are end =
+    let whole = whole_rules o table start x None are end in
+    (whole.0, (whole.1, (whole.2, (unclosed_rule o table start x None are end, tt))))
+
+pub unclosed_fault : (o : Order) (table : List ℕ) (start x last : ℕ) → AreJudged o table x (Some last) → length table ≤ x →
+    FirstIn (note_rules o table start) (Some (62, start + last))
+unfolding note_rules
+unclosed_fault o table start x last are end =
+    let whole = whole_rules o table start x (Some last) are end in
+    inr (whole.0, inr (whole.1, inr (whole.2, inl (refl, unclosed_rule o table start x (Some last) are end))))
+
+-- ---- notes that break no rule
+
+pub sound_notes : (o : Order) (table : List ℕ) (start : ℕ) → FirstIn (note_rules o table start) None → AreWhole o table 0
+unfolding note_rules
+sound_notes o table start sound k begins = elim (cases_lt (length table) (note_end o table (note_place o table 0 k))) [
+  | inl cut ↦ absurd (sound.1.1.0 _ (k, begins, cut, refl))
+  | inr whole ↦ whole
+]

@@ -1,0 +1,22 @@
+use Rattle.elf_image_rules.proofs.Public.{FirstIn-later, FirstIn-sooner}
+use Rattle.elf_table_symbols.proofs.Public.{judged_handed, judged_later}
+use Rattle.elf_table_lists.specs.GroupRules.{group_section_front, group_section_rules}
+use Rattle.elf_table_lists.proofs.group_rules.judge_group_section.Goals as goal
+
+pub returns-in_err-judge_own_rules-clause-judged : goal.returns-in_err-judge_own_rules-clause-judged
+unfolding group_section_rules
+returns-in_err-judge_own_rules-clause-judged c =
+    judged_handed _ _ _ _ _ (FirstIn-sooner _ _ _ c.in_err-judge_own_rules.ensures.fault) c.from_residual.ensures.1
+
+pub returns-in_err-of-clause-judged : goal.returns-in_err-of-clause-judged
+unfolding group_section_rules
+returns-in_err-of-clause-judged c =
+    let run = rw c.section.ensures.value at c.in_err-of.ensures in
+    judged_handed _ _ _ _ _ (FirstIn-later _ _ _ c.in_ok-judge_own_rules.ensures.fault (FirstIn-sooner _ _ _ run))
+    c.from_residual-in_err-of.ensures.1
+
+pub returns-clause-judged : goal.returns-clause-judged
+unfolding group_section_front group_section_rules
+returns-clause-judged c =
+    let run = rw c.section.ensures.value at c.in_ok-of.ensures in
+    judged_later _ _ _ _ _ c.in_ok-judge_own_rules.ensures.fault (judged_later _ _ _ _ _ run c.judge_group.ensures.judged)

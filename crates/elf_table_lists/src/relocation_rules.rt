@@ -1,0 +1,83 @@
+//! Rules 53 and 54: the target and the symbols of a relocation section (gABI chapter 4, Relocation; Sections: sh_info).
+ghost use Rattle.std.specs.Prelude.{◌≡◌, ◌<◌, ◌≤◌, ◌+◌, ◌*◌, length};
+ghost use Rattle.elf_extent.specs.Least.{IsLowest};
+ghost use Rattle.elf_field.specs.Abi.{relocation_size};
+ghost use Rattle.elf_image_rules.specs.Broken.{fault_of};
+ghost use Rattle.elf_image_rules.specs.HeaderRules.{MAX_LEN};
+ghost use Rattle.elf_image_rules.specs.Rows.{AtEntry, FirstIn};
+ghost use Rattle.elf_table_symbols.specs.LinkedVerdicts.{AreKnown};
+ghost use Rattle.elf_table_symbols.specs.Sections.{section, sections_of};
+ghost use Rattle.elf_table_lists.specs.RelocationRules.{relocation_rules, relocation_section_rules};
+ghost use Rattle.elf_table_lists.specs.Relocations.{relocation_count as relocation_count_of, relocation_in};
+
+use crate::relocation::{relocation_at, relocation_count, relocation_offset};
+use elf_field::Order;
+use elf_field::abi::*;
+use elf_image_rules::Broken;
+use elf_image_type::Image;
+use elf_table_symbols::rules::*;
+use elf_table_symbols::{SymbolVerdicts, TableKind, judge_own_rules};
+
+/// All rules of the relocation section `i`, by these verdicts on the symbol tables.
+#[tactic(auto, unfolding(crate::specs::RelocationRules::relocation_section_rules))]
+pub fn judge_relocation_section(
+    image: &Image<'_>,
+    i: usize,
+    symbols: SymbolVerdicts<'_>,
+) -> Result<(), Broken>
+    requires there { i < length image.now.sections }
+    requires known { AreKnown (sections_of image.now) symbols }
+    ensures { FirstIn (relocation_section_rules (sections_of image.now) i) (fault_of result) }
+{
+    judge_own_rules(image, i, TableKind::RelocationTable)?;
+    symbols.of(image, image.section(i).sh_link as usize)?;
+    judge_relocations(image, i)
+}
+
+/// Rules 53 and 54 of the relocation section `i`, which links to a section.
+#[tactic(auto, unfolding(crate::specs::RelocationRules::relocation_rules))]
+fn judge_relocations(image: &Image<'_>, i: usize) -> Result<(), Broken>
+    requires there { i < length image.now.sections }
+    requires linked { (section (sections_of image.now) i).sh_link < length image.now.sections }
+    ensures { FirstIn (relocation_rules (sections_of image.now) i) (fault_of result) }
+{
+    let section = image.section(i);
+    if section.sh_info as usize >= image.section_count() {
+        let at = image.header_offset(i) + SH_INFO_AT;
+        return Err(Broken::new(WRONG_TARGET, at));
+    }
+    let symbols = image.content(section.sh_link as usize).len() / SYM_SIZE as usize;
+    let addends = section.sh_type == SHT_RELA;
+    let table = image.content(i);
+    match lowest_wrong_relocation_symbol(
+        image.order(),
+        addends,
+        table,
+        section.sh_offset,
+        symbols,
+    ) {
+        Some(at) => Err(Broken::new(WRONG_RELOCATION_SYMBOL, at)),
+        None => Ok(()),
+    }
+}
+
+/// The lowest offset in the file of a relocation, of a content at `start`, whose symbol is not below this number.
+fn lowest_wrong_relocation_symbol(
+    order: Order,
+    addends: bool,
+    table: &[u8],
+    start: u64,
+    symbols: usize,
+) -> Option<u64>
+    requires { 0 < length table.now → start + length table.now ≤ MAX_LEN }
+    ensures { IsLowest (AtEntry (relocation_count_of addends table.now)
+        (λ j. symbols ≤ (relocation_in addends order table.now j).symbol)
+        (λ j. start + relocation_size addends * j + R_INFO_AT)) result }
+{
+    for j in 0..relocation_count(addends, table) {
+        if relocation_at(order, addends, table, j).symbol as usize >= symbols {
+            return Some(relocation_offset(addends, start, j) + R_INFO_AT);
+        }
+    }
+    None
+}

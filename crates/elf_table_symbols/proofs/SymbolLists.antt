@@ -1,0 +1,81 @@
+-- The symbols of a symbol table, by index, and what its rules say of a table that breaks none.
+use Rattle.std.proofs.Common.{◌≡◌, ℕ, ◌*◌, ◌<◌, Option, None, Some, List, length, get_or, ◌++◌, inl, inr, refl, sym, subst, arith, zero-add}
+use Rattle.std.proofs.lemmas.Bool.{cases_eq}
+use Rattle.std.proofs.lemmas.List.FromFn.{get_or-map-range_with_len, length-map-range_with_len}
+use Rattle.elf_field.specs.Abi.{SHN_XINDEX, WORD_SIZE}
+use Rattle.elf_field.specs.declared.order.Order.{Order}
+use Rattle.elf_image_rules.specs.Rows.{FirstIn}
+use Rattle.elf_image_rules.proofs.Public.{FirstIn-behind, FirstIn-front}
+use Rattle.elf_table_symbols.specs.declared.table_kind.TableKind.TheVariants.{SymbolTable}
+use Rattle.elf_table_symbols.specs.IndexTable.{index_table}
+use Rattle.elf_table_symbols.specs.OwnRules.{own_rules}
+use Rattle.elf_table_symbols.specs.Sections.{Sections, count, section}
+use Rattle.elf_table_symbols.specs.StringRules.{linked_string_rules}
+use Rattle.elf_table_symbols.specs.SymbolParts.{SymbolPartsValue, symbol_parts}
+use Rattle.elf_table_symbols.specs.SymbolRules.{entry, entry_count, entry_rules, index_table_rules, place_rules, rest_rules, symbol_table_rules}
+use Rattle.elf_table_symbols.specs.Symbols.{IsReadable, symbol_in, symbols_in}
+use Rattle.elf_table_symbols.specs.SymbolView.{no_symbol}
+use Rattle.elf_table_symbols.proofs.OwnRuleLemmas.{link_there}
+
+pub length_symbols : (o : Order) (table names words : List ℕ) → length (symbols_in o table names words) ≡ entry_count table
+unfolding symbols_in
+length_symbols o table names words = length-map-range_with_len (symbol_in o table names words) 0 (entry_count table)
+
+pub symbol_get : (o : Order) (table names words : List ℕ) (j : ℕ) → j < entry_count table →
+    get_or (symbols_in o table names words) j no_symbol ≡ symbol_in o table names words j
+unfolding symbols_in
+symbol_get o table names words j within =
+    get_or-map-range_with_len (symbol_in o table names words) 0 (entry_count table) j j no_symbol within (zero-add j)
+
+-- ---- a table that breaks no rule
+
+-- the section that it links to is there
+pub sound_link : (f : Sections) (i : ℕ) → FirstIn (symbol_table_rules f i) None → (section f i).sh_link < count f
+unfolding symbol_table_rules
+sound_link f i sound = link_there SymbolTable f i (FirstIn-front (own_rules SymbolTable f i) _ sound)
+
+-- rules 49 and 50, and 51 and 52, are kept
+index_table_kept : (f : Sections) (i : ℕ) → FirstIn (symbol_table_rules f i) None →
+    FirstIn (index_table_rules f i (index_table f i) (entry_count (symbol_parts f i).table) ++ place_rules (symbol_parts f i)) None
+unfolding symbol_table_rules rest_rules
+index_table_kept f i sound =
+    let p = symbol_parts f i in
+    FirstIn-behind (entry_rules p) _ (FirstIn-behind (linked_string_rules p.names p.names_start) _ (FirstIn-behind (own_rules SymbolTable f i) _ sound))
+
+-- its index table has a word for each symbol
+pub sound_words : (f : Sections) (i j : ℕ) → FirstIn (symbol_table_rules f i) None → index_table f i ≡ Some j →
+    (section f j).sh_size ≡ WORD_SIZE * entry_count (symbol_parts f i).table
+unfolding index_table_rules
+sound_words f i j sound is =
+    let kept = FirstIn-front (index_table_rules f i (index_table f i) (entry_count (symbol_parts f i).table)) _ (index_table_kept f i sound) in
+    let size = rw is at kept.1.0 in
+    elim (cases_eq (section f j).sh_size (WORD_SIZE * entry_count (symbol_parts f i).table)) [
+      | inl same ↦ same
+      | inr other ↦ absurd (size _ (inl (other, refl)))
+    ]
+
+-- and is there where a symbol needs it
+pub sound_index_table : (f : Sections) (i j : ℕ) → FirstIn (symbol_table_rules f i) None →
+    let p = symbol_parts f i in j < entry_count p.table → (entry p.order p.table j).st_shndx ≡ SHN_XINDEX → (k : ℕ) × (index_table f i ≡ Some k)
+unfolding place_rules
+sound_index_table f i j sound within extended = some (index_table f i) refl where
+  places : FirstIn (place_rules (symbol_parts f i)) None
+  places = FirstIn-behind (index_table_rules f i (index_table f i) (entry_count (symbol_parts f i).table)) _ (index_table_kept f i sound)
+
+  some : (found : Option ℕ) → index_table f i ≡ found → (k : ℕ) × (index_table f i ≡ Some k)
+  some None is = absurd (places.0 _ (j, within, inl (extended, is), refl))
+  some (Some k) is = (k, is)
+
+-- so each symbol's word can be read, in parts that are those of the table
+abbrev pub ReadsWords : Sections → ℕ → SymbolPartsValue → Type 0
+ReadsWords f i p = ((k : ℕ) → index_table f i ≡ Some k → length p.words ≡ (section f k).sh_size) → IsReadable p.order p.table p.words
+
+reads_words : (f : Sections) (i : ℕ) → FirstIn (symbol_table_rules f i) None → ReadsWords f i (symbol_parts f i)
+reads_words f i sound sized j within extended =
+    let (k, is) = sound_index_table f i j sound within extended in
+    let size = sized k is in
+    let words = sound_words f i k sound is in
+    omega arith
+
+pub readable : (f : Sections) (i : ℕ) (p : SymbolPartsValue) → FirstIn (symbol_table_rules f i) None → p ≡ symbol_parts f i → ReadsWords f i p
+readable f i p sound same = subst (ReadsWords f i) (sym same) (reads_words f i sound)

@@ -1,0 +1,6 @@
+use Rattle.elf_table_symbols.specs.IndexTable.{AreIndexTables}
+use Rattle.elf_table_symbols.specs.Sections.{sections_of}
+use Rattle.elf_table_symbols.proofs.index_tables.index_tables_of.Given as goal
+
+abbrev pub invariant-loop-j : goal.invariant-loop-j
+invariant-loop-j l = AreIndexTables (sections_of l.image) l.i l.j l.tables

@@ -1,0 +1,19 @@
+use Rattle.std.proofs.Common.{subst}
+use Rattle.elf_image_rules.proofs.Public.{FirstIn-later, FirstIn-stop}
+use Rattle.elf_image_rules.specs.Broken.{fault_of}
+use Rattle.elf_image_rules.specs.Rows.{FirstIn}
+use Rattle.elf_table_symbols.specs.Sections.{sections_of}
+use Rattle.elf_table_symbols.specs.SymbolParts.{SymbolPartsValue}
+use Rattle.elf_table_symbols.specs.SymbolRules.{rest_rules, symbol_table_rules}
+use Rattle.elf_table_symbols.proofs.symbol_rules.judge_symbol_table.Goals as goal
+
+pub returns-in_err-judge_own_rules : goal.returns-in_err-judge_own_rules
+unfolding symbol_table_rules
+returns-in_err-judge_own_rules c = FirstIn-stop _ _ _ _ c.in_err-judge_own_rules.ensures.fault c.from_residual.ensures.1
+
+pub returns : goal.returns
+unfolding symbol_table_rules
+returns c =
+    let run = subst (λ (p : SymbolPartsValue). FirstIn (rest_rules (sections_of c.args.image.now) c.args.i p) (fault_of c.judge_rest.result))
+    c.new-parts.ensures.value c.judge_rest.ensures in
+    FirstIn-later _ _ _ c.in_ok-judge_own_rules.ensures.fault run

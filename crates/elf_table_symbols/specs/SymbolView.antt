@@ -1,0 +1,20 @@
+-- What contracts see of a symbol.
+use Rattle.std.specs.Prelude.{[]}
+use Rattle.elf_table_symbols.specs.declared.symbol.Symbol.{Symbol}
+use Rattle.elf_table_symbols.specs.declared.symbol.Place.TheVariants.{Undefined}
+use Rattle.elf_table_symbols.specs.Symbols.{SymbolValue}
+
+abbrev pub symbol_value : Symbol → SymbolValue
+symbol_value s = record {
+  name = s.name.now;
+  binding = s.binding;
+  symbol_type = s.symbol_type;
+  other = s.other;
+  place = s.place;
+  value = s.value;
+  size = s.size;
+}
+
+-- the symbol that stands for one that isn't there
+abbrev pub no_symbol : SymbolValue
+no_symbol = record { name = []; binding = 0; symbol_type = 0; other = 0; place = Undefined; value = 0; size = 0 }

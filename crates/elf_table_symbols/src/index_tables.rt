@@ -1,0 +1,56 @@
+//! Index tables: the section indexes that the symbols of a table cannot hold themselves (gABI chapter 4, Sections:
+//! SHT_SYMTAB_SHNDX).
+ghost use Rattle.std.specs.Prelude.{◌≡◌, ◌<◌, length};
+ghost use Rattle.elf_table_symbols.specs.IndexTable.{AreIndexTables, noted};
+ghost use Rattle.elf_table_symbols.specs.Sections.{sections_of};
+
+use elf_field::abi::*;
+use elf_image_type::Image;
+
+/// The first two index tables of a symbol table, by the indexes of their sections.
+#[derive(Clone, Copy, Debug, PartialEq, Eq)]
+pub struct IndexTables {
+    /// The first, None where there is none.
+    pub first: Option<usize>,
+    /// The second.
+    pub second: Option<usize>,
+}
+
+impl IndexTables {
+    /// None.
+    pub const NONE: IndexTables = IndexTables {
+        first: None,
+        second: None,
+    };
+
+    /// With section `j` too, whose index is above theirs.
+    pub fn with(self, j: usize) -> IndexTables
+        ensures { result ≡ noted self j }
+    {
+        match (self.first, self.second) {
+            (None, second) => IndexTables {
+                first: Some(j),
+                second,
+            },
+            (first, None) => IndexTables {
+                first,
+                second: Some(j),
+            },
+            _ => self,
+        }
+    }
+}
+
+/// The first two index tables of the symbol table in section `i`.
+pub(crate) fn index_tables_of(image: &Image<'_>, i: usize) -> IndexTables
+    ensures { AreIndexTables (sections_of image.now) i (length image.now.sections) result }
+{
+    let mut tables = IndexTables::NONE;
+    for j in 0..image.section_count() {
+        let section = image.section(j);
+        if section.sh_type == SHT_SYMTAB_SHNDX && section.sh_link as usize == i {
+            tables = tables.with(j);
+        }
+    }
+    tables
+}

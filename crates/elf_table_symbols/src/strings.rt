@@ -1,0 +1,85 @@
+//! String tables (gABI chapter 4, String Table).
+ghost use Rattle.std.specs.Prelude.{◌≡◌, ◌≢◌, ◌<◌, ◌≤◌, ◌⊎◌, ◌+◌, MatchOption, length};
+ghost use Rattle.elf_image_rules.specs.HeaderRules.{MAX_LEN};
+ghost use Rattle.elf_image_rules.specs.Broken.{fault_of};
+ghost use Rattle.elf_image_rules.specs.Rows.{FirstIn};
+ghost use Rattle.elf_image_type.specs.Strings.{string};
+ghost use Rattle.elf_table_symbols.specs.Judged.{IsJudged};
+ghost use Rattle.elf_table_symbols.specs.Sections.{content, sections_of};
+ghost use Rattle.elf_table_symbols.specs.StringRules.{linked_string_rules, string_table_rules};
+
+use crate::rules::*;
+use elf_field::abi::*;
+use elf_image_rules::{Broken, unclosed_at};
+use elf_image_type::strings::string_at;
+use elf_image_type::{Fault, Image};
+use std::marker::Model;
+
+/// A string table: strings one after the other, each ended by a zero. It is a list of bytes, and borrows from the bytes
+/// of the file, as its strings do: both may outlive the image.
+#[derive(Drop)]
+pub struct Strings<'a> {
+    table: &'a [u8],
+}
+
+impl<'a> Model for Strings<'a> {
+    ghost use Rattle.std.specs.Prelude.{ℕ, List};
+
+    ghost Value = { List ℕ };
+
+    ghost view = { λ strings. strings.table.now };
+}
+
+impl<'a> Strings<'a> {
+    /// The string table that section `i` holds, where `i` is below the image's count of section headers. It takes no memory.
+    ///
+    /// [`Fault::Rule`] is the first of rules 40 and 41 that the section breaks, at its lowest offset; no other fault comes.
+    pub fn new(image: &Image<'a>, i: usize) -> Result<Strings<'a>, Fault>
+        requires { i < length image.now.sections }
+        ensures { IsJudged (string_table_rules (sections_of image.now) i) (λ strings. strings ≡ content (sections_of image.now) i) result }
+    {
+        judge_string_table(image, i)?;
+        Ok(Strings {
+            table: image.content(i),
+        })
+    }
+
+    /// The bytes from `offset` to the first zero. None where `offset` is not below the table's size in bytes, but an empty
+    /// table has the empty string at offset 0.
+    pub fn get(&self, offset: u64) -> Option<&'a [u8]>
+        ensures { MatchOption result
+            ((length self.now ≤ offset) × ((offset ≢ 0) ⊎ (0 < length self.now)))
+            (λ found. (found.now ≡ string self.now offset) × ((offset < length self.now) ⊎ (offset ≡ 0))) }
+    {
+        if offset >= self.table.len() as u64 && (offset != 0 || !self.table.is_empty()) {
+            return None;
+        }
+        Some(string_at(self.table, offset as usize))
+    }
+}
+
+/// Rules 40 and 41 of a string table in section `i`.
+#[tactic(auto, unfolding(crate::specs::StringRules::string_table_rules))]
+fn judge_string_table(image: &Image<'_>, i: usize) -> Result<(), Broken>
+    requires { i < length image.now.sections }
+    ensures { FirstIn (string_table_rules (sections_of image.now) i) (fault_of result) }
+{
+    let section = image.section(i);
+    let at = image.header_offset(i);
+    if section.sh_type != SHT_STRTAB {
+        return Err(Broken::new(WRONG_TABLE_TYPE, at + SH_TYPE_AT));
+    }
+    judge_linked_strings(image.content(i), section.sh_offset)
+}
+
+/// Rule 41 of a string table at this offset in the file, which another table links to.
+#[tactic(auto, unfolding(crate::specs::StringRules::linked_string_rules))]
+pub fn judge_linked_strings(table: &[u8], start: u64) -> Result<(), Broken>
+    requires { 0 < length table.now → start + length table.now ≤ MAX_LEN }
+    ensures { FirstIn (linked_string_rules table.now start) (fault_of result) }
+{
+    match unclosed_at(table, start) {
+        Some(at) => Err(Broken::new(UNCLOSED_STRING_TABLE, at)),
+        None => Ok(()),
+    }
+}

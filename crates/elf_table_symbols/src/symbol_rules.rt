@@ -1,0 +1,228 @@
+//! Rules 45 to 52: the symbols of a symbol table, and its index table (gABI chapter 4, Symbol Table; Sections: sh_info,
+//! SHT_SYMTAB_SHNDX).
+ghost use Rattle.std.specs.Prelude.{◌≡◌, ◌↔◌, ◌<◌, ◌≤◌, ◌≢◌, ◌+◌, ◌*◌, ℕ, Some, IsTrue, MatchOption, OnOk, length};
+ghost use Rattle.elf_image_rules.specs.HeaderRules.{MAX_LEN};
+ghost use Rattle.elf_extent.specs.Least.{IsLowest};
+ghost use Rattle.elf_image_rules.specs.Broken.{fault_of};
+ghost use Rattle.elf_image_rules.specs.Rows.{AtEntry, FirstIn};
+ghost use Rattle.elf_table_symbols.specs.IndexTable.{AreIndexTables};
+ghost use Rattle.elf_table_symbols.specs.Sections.{content, sections_of};
+ghost use Rattle.elf_table_symbols.specs.SymbolParts.{AreInside, parts_value, symbol_parts};
+ghost use Rattle.elf_table_symbols.specs.SymbolRules.{BreaksSymbol, entry as entry_of, entry_count, entry_rules, index_table_rules, place_rules, rest_rules, symbol_0_not_null, symbol_field, symbol_table_rules, IsWrongIndexWord, wrong_index_word};
+
+use crate::index_tables::IndexTables;
+use crate::own_rules::judge_own_rules;
+use crate::rules::*;
+use crate::strings::judge_linked_strings;
+use crate::symbol_parts::{SymbolParts, entry, word};
+use crate::table_kind::TableKind;
+use elf_field::Sym;
+use elf_field::abi::*;
+use elf_image_rules::Broken;
+use elf_image_type::Image;
+
+/// A rule on one symbol by itself.
+#[derive(Clone, Copy, Debug, PartialEq, Eq)]
+pub(crate) enum SymbolRule {
+    /// Rule 47, [`MISPLACED_BINDING`].
+    MisplacedBinding,
+    /// Rule 48, [`SYMBOL_NAME_PAST_END`].
+    SymbolNamePastEnd,
+    /// Rule 51, [`WRONG_SYMBOL_SECTION`].
+    WrongSymbolSection,
+}
+
+impl SymbolRule {
+    /// Whether symbol `j` of the table breaks the rule.
+    fn is_broken_by(self, parts: &SymbolParts<'_>, symbol: &Sym, j: usize) -> bool
+        ensures { IsTrue result ↔ BreaksSymbol self (parts_value parts.now) symbol.now j }
+    {
+        match self {
+            SymbolRule::MisplacedBinding => {
+                (j < parts.info as usize) == (symbol.binding() != STB_LOCAL)
+            }
+            SymbolRule::SymbolNamePastEnd => {
+                symbol.st_name != 0 && symbol.st_name as usize >= parts.names.len()
+            }
+            SymbolRule::WrongSymbolSection => {
+                if symbol.st_shndx == SHN_XINDEX {
+                    parts.index_table.is_none()
+                } else {
+                    symbol.st_shndx < SHN_LORESERVE && symbol.st_shndx as usize >= parts.sections
+                }
+            }
+        }
+    }
+
+    /// The offset in the symbol of the field that the rule answers.
+    fn field(self) -> u64
+        ensures value { result ≡ symbol_field self }
+        ensures inside { result < SYM_SIZE }
+    {
+        match self {
+            SymbolRule::MisplacedBinding => ST_INFO_AT,
+            SymbolRule::SymbolNamePastEnd => ST_NAME_AT,
+            SymbolRule::WrongSymbolSection => ST_SHNDX_AT,
+        }
+    }
+}
+
+/// The lowest offset in the file at which a symbol breaks the rule.
+fn lowest_symbol(parts: &SymbolParts<'_>, rule: SymbolRule) -> Option<u64>
+    requires { AreInside (parts_value parts.now) }
+    ensures { let p = parts_value parts.now in
+        IsLowest (AtEntry (entry_count p.table) (λ j. BreaksSymbol rule p (entry_of p.order p.table j) j) (λ j. p.start + SYM_SIZE * j + symbol_field rule)) result }
+{
+    for j in 0..parts.len() {
+        let symbol = entry(parts.order, parts.table, j);
+        if rule.is_broken_by(parts, &symbol, j) {
+            return Some(parts.start + SYM_SIZE * j as u64 + rule.field());
+        }
+    }
+    None
+}
+
+/// Rule 45: where there is no symbol 0, or the first byte of it that isn't 0.
+fn lowest_symbol_0_not_null(parts: &SymbolParts<'_>) -> Option<u64>
+    requires { AreInside (parts_value parts.now) }
+    ensures { IsLowest (symbol_0_not_null (parts_value parts.now)) result }
+{
+    if parts.len() == 0 {
+        return Some(parts.header + SH_SIZE_AT);
+    }
+    for k in 0..SYM_SIZE as usize {
+        if parts.table[k] != 0 {
+            return Some(parts.start + k as u64);
+        }
+    }
+    None
+}
+
+/// Rules 45 to 48.
+#[tactic(auto, unfolding(crate::specs::SymbolRules::entry_rules))]
+fn judge_entries(parts: &SymbolParts<'_>) -> Result<(), Broken>
+    requires { AreInside (parts_value parts.now) }
+    ensures { FirstIn (entry_rules (parts_value parts.now)) (fault_of result) }
+{
+    if let Some(at) = lowest_symbol_0_not_null(parts) {
+        return Err(Broken::new(SYMBOL_0_NOT_NULL, at));
+    }
+    if parts.info == 0 || parts.info as usize > parts.len() {
+        return Err(Broken::new(WRONG_LOCAL_COUNT, parts.header + SH_INFO_AT));
+    }
+    if let Some(at) = lowest_symbol(parts, SymbolRule::MisplacedBinding) {
+        return Err(Broken::new(MISPLACED_BINDING, at));
+    }
+    if let Some(at) = lowest_symbol(parts, SymbolRule::SymbolNamePastEnd) {
+        return Err(Broken::new(SYMBOL_NAME_PAST_END, at));
+    }
+    Ok(())
+}
+
+/// Rules 49 and 50, of the index tables of a table of so many symbols in section `i`.
+#[tactic(auto, unfolding(crate::specs::SymbolRules::index_table_rules))]
+fn judge_index_table(
+    image: &Image<'_>,
+    i: usize,
+    tables: IndexTables,
+    symbols: usize,
+) -> Result<(), Broken>
+    requires tables { AreIndexTables (sections_of image.now) i (length image.now.sections) tables }
+    requires few { symbols ≤ MAX_LEN }
+    ensures fault { FirstIn (index_table_rules (sections_of image.now) i tables.first symbols) (fault_of result) }
+    ensures sized { OnOk result ((j : ℕ) → tables.first ≡ Some j → length (content (sections_of image.now) j) ≡ WORD_SIZE * symbols) }
+{
+    if let Some(j) = tables.second {
+        return Err(Broken::new(SECOND_INDEX_TABLE, image.header_offset(j) + SH_LINK_AT));
+    }
+    let Some(j) = tables.first else {
+        return Ok(());
+    };
+    let section = image.section(j);
+    let at = image.header_offset(j);
+    if section.sh_size != WORD_SIZE * symbols as u64 {
+        return Err(Broken::new(WRONG_INDEX_TABLE_SIZE, at + SH_SIZE_AT));
+    }
+    if section.sh_entsize != WORD_SIZE {
+        return Err(Broken::new(WRONG_INDEX_TABLE_SIZE, at + SH_ENTSIZE_AT));
+    }
+    // For what it promises of the content's length.
+    let _ = image.content(j);
+    Ok(())
+}
+
+/// The lowest offset in the file of a wrong word of the index table, which has one for each symbol.
+fn lowest_wrong_index_word(parts: &SymbolParts<'_>) -> Option<u64>
+    requires inside { AreInside (parts_value parts.now) }
+    requires sized { (j : ℕ) → parts.now.index_table ≡ Some j → length parts.now.words.now ≡ WORD_SIZE * entry_count parts.now.table.now }
+    ensures { IsLowest (wrong_index_word (parts_value parts.now)) result }
+{
+    if parts.index_table.is_none() {
+        return None;
+    }
+    for j in 0..parts.len() {
+        let symbol = entry(parts.order, parts.table, j);
+        let index = word(parts.order, parts.words, j);
+        if is_wrong_index_word(&symbol, index, parts.sections) {
+            return Some(parts.words_start + WORD_SIZE * j as u64);
+        }
+    }
+    None
+}
+
+fn is_wrong_index_word(symbol: &Sym, index: u32, sections: usize) -> bool
+    ensures { IsTrue result ↔ IsWrongIndexWord sections symbol.now index }
+{
+    if symbol.st_shndx == SHN_XINDEX {
+        index < SHN_LORESERVE as u32 || index as usize >= sections
+    } else {
+        index != 0
+    }
+}
+
+/// Rules 51 and 52.
+#[tactic(auto, unfolding(crate::specs::SymbolRules::place_rules))]
+fn judge_places(parts: &SymbolParts<'_>) -> Result<(), Broken>
+    requires inside { AreInside (parts_value parts.now) }
+    requires sized { (j : ℕ) → parts.now.index_table ≡ Some j → length parts.now.words.now ≡ WORD_SIZE * entry_count parts.now.table.now }
+    ensures { FirstIn (place_rules (parts_value parts.now)) (fault_of result) }
+{
+    if let Some(at) = lowest_symbol(parts, SymbolRule::WrongSymbolSection) {
+        return Err(Broken::new(WRONG_SYMBOL_SECTION, at));
+    }
+    if let Some(at) = lowest_wrong_index_word(parts) {
+        return Err(Broken::new(WRONG_INDEX_WORD, at));
+    }
+    Ok(())
+}
+
+/// All rules of a symbol table behind its own, of the table in section `i` with these parts.
+#[tactic(auto, unfolding(crate::specs::SymbolRules::rest_rules))]
+fn judge_rest(
+    image: &Image<'_>,
+    i: usize,
+    tables: IndexTables,
+    parts: &SymbolParts<'_>,
+) -> Result<(), Broken>
+    requires tables { AreIndexTables (sections_of image.now) i (length image.now.sections) tables }
+    requires parts { parts_value parts.now ≡ symbol_parts (sections_of image.now) i }
+    requires inside { AreInside (parts_value parts.now) }
+    ensures { FirstIn (rest_rules (sections_of image.now) i (parts_value parts.now)) (fault_of result) }
+{
+    judge_linked_strings(parts.names, parts.names_start)?;
+    judge_entries(parts)?;
+    judge_index_table(image, i, tables, parts.len())?;
+    judge_places(parts)
+}
+
+/// All rules of the symbol table in section `i`, which has these index tables.
+#[tactic(auto, unfolding(crate::specs::SymbolRules::symbol_table_rules))]
+pub fn judge_symbol_table(image: &Image<'_>, i: usize, tables: IndexTables) -> Result<(), Broken>
+    requires there { i < length image.now.sections }
+    requires tables { AreIndexTables (sections_of image.now) i (length image.now.sections) tables }
+    ensures { FirstIn (symbol_table_rules (sections_of image.now) i) (fault_of result) }
+{
+    judge_own_rules(image, i, TableKind::SymbolTable)?;
+    let parts = SymbolParts::new(image, i, tables);
+    judge_rest(image, i, tables, &parts)
+}

@@ -1,0 +1,136 @@
+//! Symbol tables (gABI chapter 4, Symbol Table).
+ghost use Rattle.std.specs.Prelude.{◌≡◌, ◌<◌, None, OnOk, length, get_or};
+ghost use Rattle.elf_image_rules.specs.Broken.{fault_of};
+ghost use Rattle.elf_image_rules.specs.Rows.{FirstIn};
+ghost use Rattle.elf_table_symbols.specs.IndexTable.{AreIndexTables};
+ghost use Rattle.elf_table_symbols.specs.Judged.{IsJudged};
+ghost use Rattle.elf_table_symbols.specs.Sections.{sections_of};
+ghost use Rattle.elf_table_symbols.specs.SymbolRules.{symbol_table_rules};
+ghost use Rattle.elf_table_symbols.specs.Symbols.{symbols_of};
+ghost use Rattle.elf_table_symbols.specs.SymbolView.{no_symbol, symbol_value};
+ghost use Rattle.elf_table_symbols.specs.SymbolsLeft.{symbols_left};
+
+use crate::index_tables::{IndexTables, index_tables_of};
+use crate::symbol::{Symbol, place_at};
+use crate::symbol_parts::{SymbolParts, entry};
+use crate::symbol_rules::judge_symbol_table;
+use elf_field::Order;
+use elf_field::abi::*;
+use elf_image_type::strings::string_at;
+use elf_image_type::{Fault, Image};
+use std::marker::Model;
+
+/// A symbol table: the list of its symbols, symbol 0 among them. It borrows from the bytes of the file, as the names of its
+/// symbols do.
+#[derive(Drop)]
+pub struct Symbols<'a> {
+    order: Order,
+    table: &'a [u8],
+    names: &'a [u8],
+    // The index table's content, empty where there is none.
+    words: &'a [u8],
+}
+
+impl<'a> Model for Symbols<'a> {
+    ghost use Rattle.std.specs.Prelude.{List};
+    ghost use Rattle.elf_table_symbols.specs.Symbols.{IsReadable, SymbolValue, symbols_in};
+
+    ghost Value = { List SymbolValue };
+
+    ghost view = { λ a. symbols_in a.order a.table.now a.names.now a.words.now };
+
+    ghost invariant = { λ a. IsReadable a.order a.table.now a.words.now };
+}
+
+impl<'a> Symbols<'a> {
+    /// The symbol table that section `i` holds, where `i` is below the image's count of section headers. It takes no memory.
+    ///
+    /// [`Fault::Rule`] is the first of its rules that is broken, at its lowest offset: 40, 42, 43, 44, then 41 of the string
+    /// table that it links to, then 45 to 52. No other fault comes.
+    pub fn new(image: &Image<'a>, i: usize) -> Result<Symbols<'a>, Fault>
+        requires { i < length image.now.sections }
+        ensures { IsJudged (symbol_table_rules (sections_of image.now) i) (λ symbols. symbols ≡ symbols_of (sections_of image.now) i) result }
+    {
+        let tables = index_tables_of(image, i);
+        judge_symbol_table(image, i, tables)?;
+        Ok(Symbols::of_sound(image, i, tables))
+    }
+
+    /// The symbol table in section `i`, which breaks no rule and has these index tables.
+    pub fn of_sound(image: &Image<'a>, i: usize, tables: IndexTables) -> Symbols<'a>
+        requires there { i < length image.now.sections }
+        requires tables { AreIndexTables (sections_of image.now) i (length image.now.sections) tables }
+        requires sound { FirstIn (symbol_table_rules (sections_of image.now) i) None }
+        ensures { result ≡ symbols_of (sections_of image.now) i }
+    {
+        let parts = SymbolParts::new(image, i, tables);
+        Symbols {
+            order: parts.order,
+            table: parts.table,
+            names: parts.names,
+            words: parts.words,
+        }
+    }
+
+    /// How many symbols there are.
+    pub fn len(&self) -> usize
+        ensures { result ≡ length self.now }
+    {
+        self.table.len() / SYM_SIZE as usize
+    }
+
+    /// Symbol `j`, which is below [`len`](Symbols::len).
+    pub fn entry(&self, j: usize) -> Symbol<'a>
+        requires { j < length self.now }
+        ensures { symbol_value result ≡ get_or self.now j no_symbol }
+    {
+        let symbol = entry(self.order, self.table, j);
+        Symbol {
+            name: string_at(self.names, symbol.st_name as usize),
+            binding: symbol.binding(),
+            symbol_type: symbol.symbol_type(),
+            other: symbol.st_other,
+            place: place_at(self.order, self.words, symbol.st_shndx, j),
+            value: symbol.st_value,
+            size: symbol.st_size,
+        }
+    }
+
+    /// The symbols in order.
+    pub fn iter(&self) -> SymbolIter<'_, 'a>
+        ensures { symbols_left result ≡ self.now }
+    {
+        SymbolIter {
+            symbols: self,
+            next: 0,
+        }
+    }
+}
+
+/// The symbols of a table, in order.
+#[derive(Drop)]
+pub struct SymbolIter<'s, 'a> {
+    symbols: &'s Symbols<'a>,
+    next: usize,
+}
+
+impl<'s, 'a> Iterator for SymbolIter<'s, 'a> {
+    ghost use Rattle.std.specs.Iterator.{YieldsFirstBy, item_count};
+    ghost use Rattle.elf_table_symbols.specs.SymbolView.{symbol_value};
+    ghost use Rattle.elf_table_symbols.specs.SymbolsLeft.{symbols_left};
+
+    type Item = Symbol<'a>;
+
+    ghost next_gives = { YieldsFirstBy symbol_value symbols_left };
+
+    ghost remaining = { item_count symbols_left };
+
+    fn next(&mut self) -> Option<Symbol<'a>> {
+        if self.next >= self.symbols.len() {
+            return None;
+        }
+        let symbol = self.symbols.entry(self.next);
+        self.next += 1;
+        Some(symbol)
+    }
+}

@@ -1,0 +1,13 @@
+use Rattle.std.proofs.Common.{arith, vec_len}
+use Rattle.std.proofs.lemmas.Result.{err_from_is_err_and}
+use Rattle.elf_tool_check.specs.Check.{CheckSays}
+use Rattle.elf_tool_text.specs.declared.fault.ToolFault.TheVariants.{OutOfMemory}
+use Rattle.elf_tool_text.proofs.Public.{kept_early, given_up}
+use Rattle.elf_tool_check.proofs.engine.check.Goals as goal
+
+pub returns-in_err-line : goal.returns-in_err-line
+returns-in_err-line g c =
+    let q = err_from_is_err_and c.from_residual-in_err-line.result c.from_residual-in_err-line.ensures.1 in
+    rw (q.1, q.2) (kept_early (given_up CheckSays _ _ _ c.as_slice-bytes.result.now c.read_input.new.buf.items (vec_len c.read_input.new.buf)
+    c.as_slice-bytes.ensures.value (omega (arith, c.as_slice-bytes.ensures.len)) c.in_ok-read_input.ensures.taken c.in_ok-read_input.ensures.limit
+    OutOfMemory tt))

@@ -1,0 +1,71 @@
+//! `check`: is this an ELF-64 file, and if not, why and where.
+ghost use Rattle.std.specs.Prelude.{◌≡◌, length, IfOk, string_bytes};
+ghost use Rattle.elf_image_rules.specs.Broken.{fault_of};
+ghost use Rattle.elf_image_rules.specs.ImageRules.{IsFault};
+ghost use Rattle.elf_image_rules.specs.JudgedRecords.{file_of};
+ghost use Rattle.elf_tool_check.specs.Check.{CheckSays, IsChecked, file_sections, file_segments, verdict_of};
+ghost use Rattle.elf_tool_text.specs.Line.{ok_line as ok_line_of};
+
+use elf_image_rules::{Broken, JudgedRecords, judge_by_sorting};
+use elf_image_type::write_whole;
+use elf_tool_text::line::{ok_line, refused_line};
+use elf_tool_text::{Refusal, ToolFault, Verdict, read_input};
+use std::alloc::{AllocError, Global};
+use std::io::{Read, Write};
+
+/// Reads a whole file and writes one line on it: `ok L N M` with its length and its counts of
+/// sections and of segments, or `refused R A` with the first rule that it breaks and the lowest
+/// offset where it breaks it.
+///
+/// The verdict is what the line says. Nothing is out after [`ToolFault::Read`] and
+/// [`ToolFault::OutOfMemory`]; after [`ToolFault::Write`] exactly the first `written` bytes of the
+/// line are.
+pub fn check<R: Read, W: Write>(
+    alloc: Global,
+    reader: &mut R,
+    writer: &mut W,
+) -> Result<Verdict, ToolFault>
+    ensures { IsChecked (R.remaining reader.old) (R.remaining reader.new)
+        (W.contents writer.old) (W.contents writer.new) result }
+{
+    let mut buf = Vec::new(alloc);
+    read_input(reader, &mut buf)?;
+    let bytes = buf.as_slice();
+    let judged = judge_by_sorting(alloc, bytes);
+    let line = line_on(alloc, bytes, judged)?;
+    write_whole(writer, line.as_bytes())?;
+    Ok(verdict_on(judged))
+}
+
+fn line_on(
+    alloc: Global,
+    bytes: &[u8],
+    judged: Result<JudgedRecords<'_>, Broken>,
+) -> Result<String, AllocError>
+    requires fault { IsFault bytes.now (fault_of judged) }
+    requires file { IfOk judged (λ records. file_of records ≡ bytes.now) }
+    ensures { IfOk result (λ line. CheckSays bytes.now (verdict_of (fault_of judged.entry)) (string_bytes line)) }
+{
+    match judged {
+        Ok(records) => line_on_image(alloc, &records),
+        Err(Broken { rule, at }) => refused_line(alloc, rule, at),
+    }
+}
+
+fn line_on_image(alloc: Global, records: &JudgedRecords<'_>) -> Result<String, AllocError>
+    ensures { let b = file_of records.now in
+        IfOk result (λ line. string_bytes line ≡ ok_line_of (length b) (file_sections b) (file_segments b)) }
+{
+    let sections = records.section_count();
+    let segments = records.segment_count();
+    ok_line(alloc, records.bytes().len(), sections, segments)
+}
+
+fn verdict_on(judged: Result<JudgedRecords<'_>, Broken>) -> Verdict
+    ensures { result ≡ verdict_of (fault_of judged.entry) }
+{
+    match judged {
+        Ok(_) => Verdict::Done,
+        Err(Broken { rule, at }) => Verdict::Refused(Refusal::File { file: 0, rule, at }),
+    }
+}

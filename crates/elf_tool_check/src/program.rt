@@ -1,0 +1,66 @@
+//! The program that has the command `check` alone.
+ghost use Rattle.std.specs.Prelude.{◌≡◌, map as map_list};
+ghost use Rattle.elf_tool_check.specs.Check.{IsChecked};
+ghost use Rattle.elf_tool_check.specs.Ending.{EndsFile, code_of};
+ghost use Rattle.elf_tool_check.specs.Program.{EndsCheck};
+ghost use Rattle.elf_tool_check.specs.declared.ending.Status.{Status as Ending};
+
+use crate::ending::{Status, misused, no_request, status_of, unopened};
+use crate::engine::check;
+use crate::opener::Opener;
+use elf_tool_words::{Request, read_words};
+use std::alloc::Global;
+use std::convert::AsStr;
+use std::io::Write;
+
+/// Runs the program that has `check` alone: `words` is its command line, whose first word is its own name, `files` opens the file
+/// that the words name, `out` takes what is said of it, and `err` takes the text of what goes wrong. A failed write to `err` changes
+/// nothing. It reads the words as the program with all commands does; where they ask for another command, that is wrong usage.
+///
+/// Answers the exit status: 0 done, 1 refused, 2 wrong usage or a call for help, 3 a file that cannot be opened, a failed read or
+/// write, or want of memory.
+pub fn run_check<S: AsStr, O: Opener, W: Write, E: Write>(
+    alloc: Global,
+    words: &[S],
+    files: &mut O,
+    out: &mut W,
+    err: &mut E,
+) -> u8
+    ensures { (status : Ending) × (result ≡ code_of status)
+        × EndsCheck (map_list S.text words.now) (O.holds files.old) (O.opens files.old) (W.contents out.old) (W.contents out.new) status }
+{
+    ending(alloc, words, files, out, err) as u8
+}
+
+fn ending<S: AsStr, O: Opener, W: Write, E: Write>(
+    alloc: Global,
+    words: &[S],
+    files: &mut O,
+    out: &mut W,
+    err: &mut E,
+) -> Status
+    ensures { EndsCheck (map_list S.text words.now) (O.holds files.old) (O.opens files.old) (W.contents out.old) (W.contents out.new) result }
+{
+    match read_words(alloc, words) {
+        Ok(Request::Check { file }) => check_file(alloc, file, files, out, err),
+        Ok(_) => misused("this program has the command check alone", err),
+        Err(fault) => no_request(&fault, err),
+    }
+}
+
+/// Opens the file of this name and calls [`check`] on it. Answers how the program ends.
+pub fn check_file<O: Opener, W: Write, E: Write>(
+    alloc: Global,
+    file: &str,
+    files: &mut O,
+    out: &mut W,
+    err: &mut E,
+) -> Status
+    ensures { EndsFile IsChecked (O.holds files.old file.now) (O.opens files.old file.now)
+        (W.contents out.old) (W.contents out.new) result }
+{
+    match files.reader(file) {
+        Ok(mut input) => status_of(check(alloc, &mut input, out), err),
+        Err(fault) => unopened(fault, file, err),
+    }
+}

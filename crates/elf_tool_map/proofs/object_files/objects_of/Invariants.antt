@@ -1,0 +1,10 @@
+use Rattle.std.proofs.Common.{◌≡◌, length, map}
+use Rattle.elf_tool_map.specs.ObjectFiles.{BeginAsObjects}
+use Rattle.elf_tool_map.proofs.object_files.objects_of.Given as goal
+
+-- the first files are objects
+abbrev pub invariant-loop-file : goal.invariant-loop-file
+invariant-loop-file l = record {
+  count : length l.objects.items ≡ l.file;
+  begin : BeginAsObjects (map (λ f. f.items) l.files) l.objects.items;
+}

@@ -1,0 +1,47 @@
+//! The objects that files are.
+ghost use Rattle.std.specs.Prelude.{MatchResult, map};
+ghost use Rattle.elf_tool_map.specs.ObjectFiles.{AreObjectFiles, IsFileFault, IsObjectFile, IsObjectFault};
+
+use elf_image_type::{Fault, parse};
+use elf_object_reader::object_of;
+use elf_object_type::Object;
+use std::alloc::Global;
+
+/// Why files are not all objects.
+#[derive(Clone, Copy)]
+pub(crate) enum FileFault {
+    /// This file breaks the refusal rule of this number, first at this offset in it, and all before it are objects.
+    Refused { file: usize, rule: u16, at: u64 },
+    /// A growth was refused.
+    OutOfMemory,
+}
+
+/// The object of each file.
+pub(crate) fn objects_of<'a>(
+    alloc: Global,
+    files: &'a [Vec<u8>],
+) -> Result<Vec<Object<'a>>, FileFault>
+    ensures { MatchResult result (λ objects. AreObjectFiles (map (λ f. f.items) files.entry.now) objects.items)
+        (IsFileFault (map (λ f. f.items) files.entry.now)) }
+{
+    let mut objects = Vec::new(alloc);
+    for file in 0..files.len() {
+        let object = match object_in(alloc, &files[file]) {
+            Ok(object) => object,
+            Err(Fault::Rule { rule, at }) => return Err(FileFault::Refused { file, rule, at }),
+            Err(_) => return Err(FileFault::OutOfMemory),
+        };
+        let Ok(()) = objects.push(object) else {
+            return Err(FileFault::OutOfMemory);
+        };
+    }
+    Ok(objects)
+}
+
+// The object of one file.
+fn object_in<'a>(alloc: Global, bytes: &'a [u8]) -> Result<Object<'a>, Fault>
+    ensures { MatchResult result (IsObjectFile bytes.entry.now) (IsObjectFault bytes.entry.now) }
+{
+    let image = parse(alloc, bytes)?;
+    object_of(alloc, &image)
+}

@@ -1,0 +1,24 @@
+//! The program `elfmap` with all its commands, without its surroundings: one call, [`run`], over its words, an [`Opener`] of files
+//! and the engines.
+//!
+//! ```
+//! // The first word is the program's name; `files` opens names, `out` and `err` take what is written.
+//! let status = run(alloc, &["elfmap", "check", "header.elf"], &mut files, &mut out, &mut err);
+//! assert_eq!(status, Status::Done as u8);
+//! ```
+#![tactic(auto)]
+
+mod machine;
+mod opening;
+mod program;
+mod rules;
+
+pub use elf_link_field::{Form, Range, RelocRule, Width};
+pub use elf_tool_check::{MachineFiles, OpenFault, Opener, Status, check, refuse_words};
+pub use elf_tool_map::{Options, map};
+pub use elf_tool_rule_file::{RulesFault, read_rules};
+pub use elf_tool_show::{rewrite, show};
+pub use elf_tool_text::{Refusal, ToolFault, Verdict};
+pub use elf_tool_words::{Request, WordsFault, read_words};
+pub use machine::run_on_machine;
+pub use program::run;

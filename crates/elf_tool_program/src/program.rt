@@ -1,0 +1,166 @@
+//! The whole program: from the words of its command line to its exit status.
+ghost use Rattle.std.specs.Prelude.{◌≡◌, Some, map as map_list, option_copied};
+ghost use Rattle.elf_tool_check.specs.Ending.{EndsFile, code_of, ending_of};
+ghost use Rattle.elf_tool_check.specs.declared.ending.Status.{Status as Ending};
+ghost use Rattle.elf_tool_show.specs.Rewrite.{IsRewritten};
+ghost use Rattle.elf_tool_show.specs.Show.{IsShown};
+ghost use Rattle.elf_tool_program.specs.Program.{EndsFiles, EndsMap, EndsRun, unruled};
+
+use crate::opening::open_all;
+use crate::rules::{NoRules, rules_of};
+use elf_link_field::RelocRule;
+use elf_tool_check::{
+    OpenFault, Opener, Status, check_file, fail, misused, no_request, status_of, unopened,
+};
+use elf_tool_map::{Options, map};
+use elf_tool_rule_file::RulesFault;
+use elf_tool_show::{rewrite, show};
+use elf_tool_text::{ToolFault, Verdict};
+use elf_tool_words::{Request, read_words};
+use std::alloc::Global;
+use std::convert::AsStr;
+use std::io::Write;
+
+/// Runs the program: `words` is its command line, whose first word is its own name, `files` opens
+/// the files that the words name, `out` takes what is said of them, and `err` takes the text of
+/// what goes wrong. A failed write to `err` changes nothing.
+///
+/// Answers the exit status: 0 done, 1 refused, 2 wrong usage, a call for help or a bad line in the file of rules, 3 a file
+/// that cannot be opened, a failed read or write, or want of memory.
+pub fn run<S: AsStr, O: Opener, W: Write, E: Write>(
+    alloc: Global,
+    words: &[S],
+    files: &mut O,
+    out: &mut W,
+    err: &mut E,
+) -> u8
+    ensures { (status : Ending) × (result ≡ code_of status)
+        × EndsRun (map_list S.text words.now) (O.holds files.old) (O.opens files.old) (W.contents out.old) (W.contents out.new) status }
+{
+    ending(alloc, words, files, out, err) as u8
+}
+
+fn ending<S: AsStr, O: Opener, W: Write, E: Write>(
+    alloc: Global,
+    words: &[S],
+    files: &mut O,
+    out: &mut W,
+    err: &mut E,
+) -> Status
+    ensures { EndsRun (map_list S.text words.now) (O.holds files.old) (O.opens files.old) (W.contents out.old) (W.contents out.new) result }
+{
+    match read_words(alloc, words) {
+        Ok(Request::Check { file }) => check_file(alloc, file, files, out, err),
+        Ok(Request::Show { file }) => show_file(alloc, file, files, out, err),
+        Ok(Request::Rewrite { file }) => rewrite_file(alloc, file, files, out, err),
+        Ok(
+            Request::Map {
+                base,
+                page,
+                rules,
+                files: names,
+            },
+        ) => {
+            let options = Options {
+                base,
+                page,
+                entry: None,
+            };
+            match rules {
+                None => map_files(alloc, &options, None, &names, files, out, err),
+                Some(file) => map_by_rules(alloc, &options, file, &names, files, out, err),
+            }
+        }
+        Err(fault) => no_request(&fault, err),
+    }
+}
+
+fn show_file<O: Opener, W: Write, E: Write>(
+    alloc: Global,
+    file: &str,
+    files: &mut O,
+    out: &mut W,
+    err: &mut E,
+) -> Status
+    ensures { EndsFile IsShown (O.holds files.old file.now) (O.opens files.old file.now)
+        (W.contents out.old) (W.contents out.new) result }
+{
+    match files.reader(file) {
+        Ok(mut input) => status_of(show(alloc, &mut input, out), err),
+        Err(fault) => unopened(fault, file, err),
+    }
+}
+
+fn rewrite_file<O: Opener, W: Write, E: Write>(
+    alloc: Global,
+    file: &str,
+    files: &mut O,
+    out: &mut W,
+    err: &mut E,
+) -> Status
+    ensures { EndsFile IsRewritten (O.holds files.old file.now) (O.opens files.old file.now)
+        (W.contents out.old) (W.contents out.new) result }
+{
+    match files.reader(file) {
+        Ok(mut input) => told_status(rewrite(alloc, &mut input, out), err),
+        Err(fault) => unopened(fault, file, err),
+    }
+}
+
+fn map_files<O: Opener, W: Write, E: Write>(
+    alloc: Global,
+    options: &Options<'_>,
+    rules: Option<&[RelocRule]>,
+    names: &[&str],
+    files: &mut O,
+    out: &mut W,
+    err: &mut E,
+) -> Status
+    ensures { EndsFiles options.now (option_copied rules.entry) (O.holds files.old) (O.opens files.old) (map_list (λ name. name.now) names.now)
+        (W.contents out.old) (W.contents out.new) result }
+{
+    match open_all(alloc, names, files) {
+        Ok(mut inputs) => status_of(map(alloc, inputs.as_mut_slice(), options, rules, out), err),
+        Err(failed) => unopened(failed.fault, names[failed.position], err),
+    }
+}
+
+fn map_by_rules<O: Opener, W: Write, E: Write>(
+    alloc: Global,
+    options: &Options<'_>,
+    file: &str,
+    names: &[&str],
+    files: &mut O,
+    out: &mut W,
+    err: &mut E,
+) -> Status
+    ensures { EndsMap options.now (O.holds files.old) (O.opens files.old) (Some file.now) (map_list (λ name. name.now) names.now)
+        (W.contents out.old) (W.contents out.new) result }
+{
+    match rules_of(alloc, file, files) {
+        Ok(rules) => map_files(alloc, options, Some(&rules), names, files, out, err),
+        Err(fault) => no_rules(fault, file, err),
+    }
+}
+
+// How the program ends where the file of this name gave no rules.
+fn no_rules<E: Write>(fault: NoRules, file: &str, err: &mut E) -> Status
+    ensures { result ≡ unruled fault }
+{
+    match fault {
+        NoRules::Unopened => unopened(OpenFault::Refused, file, err),
+        NoRules::Unread { at } => fail(&ToolFault::Read { at }, err),
+        NoRules::BadLine { line } => misused(RulesFault::BadLine { line }, err),
+        NoRules::OutOfMemory => fail(&ToolFault::OutOfMemory, err),
+    }
+}
+
+// How it ends after an engine that writes no line on what it refuses: the line goes to standard error.
+fn told_status<E: Write>(answer: Result<Verdict, ToolFault>, err: &mut E) -> Status
+    ensures { result ≡ ending_of answer }
+{
+    if let Ok(Verdict::Refused(refusal)) = &answer {
+        let _ = writeln!(err, "{refusal}");
+    }
+    status_of(answer, err)
+}

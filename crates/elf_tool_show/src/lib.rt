@@ -1,0 +1,18 @@
+//! The engines `show` and `rewrite` of `elfmap`, over any reader and any writer: each reads a whole file, judges it, and writes what
+//! it says of it, in lines, or the file's object anew.
+//!
+//! ```
+//! // A header alone is a file of 64 bytes without sections and segments.
+//! let mut out = Vec::new(alloc);
+//! assert_eq!(show(alloc, &mut header.as_slice(), &mut out), Ok(Verdict::Done));
+//! assert_eq!(out.as_slice(), b"file little 1 62 0x0 0x0\npart 0x0 0x40 header\n");
+//! ```
+#![tactic(auto)]
+
+mod engine;
+mod show_lines;
+mod table_lines;
+
+pub use elf_tool_text::{Refusal, ToolFault, Verdict};
+pub use engine::rewrite::rewrite;
+pub use engine::show::show;

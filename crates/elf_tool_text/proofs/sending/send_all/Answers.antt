@@ -1,0 +1,20 @@
+use Rattle.std.proofs.lemmas.Result.{err_from_is_err_and}
+use Rattle.elf_tool_text.proofs.SentPieces.{piece_out, piece_stopped, pieces_out}
+use Rattle.elf_tool_text.proofs.sending.send_all.Goals as goal
+
+pub returns-in_err-all : goal.returns-in_err-all
+returns-in_err-all g c =
+    let n = g.P.Pieces.count c.args.pieces.now in
+    let p = err_from_is_err_and c.from_residual.result c.from_residual.ensures.1 in
+    rw (p.1, p.2)
+    (piece_stopped (g.P.Pieces.piece c.args.pieces.now) c.loop-j.j c.count-j-end.result n _ _ _ _ _ c.loop-j-test.true c.count-j-end.ensures c.loop-j.invariant _ c.in_err-all.ensures)
+
+pub loop-j-preserved : goal.loop-j-preserved
+loop-j-preserved g c =
+    let n = g.P.Pieces.count c.args.pieces.now in
+    piece_out (g.P.Pieces.piece c.args.pieces.now) c.loop-j.j c.count-j-end.result n _ _ _ _ _ c.loop-j-test.true c.count-j-end.ensures c.loop-j.invariant _ c.in_ok-all.ensures
+
+pub returns : goal.returns
+returns g c =
+    let n = g.P.Pieces.count c.args.pieces.now in
+    pieces_out (g.P.Pieces.piece c.args.pieces.now) c.loop-j.j c.count-j-end.result n _ _ _ _ c.loop-j-test.false c.count-j-end.ensures c.loop-j.invariant

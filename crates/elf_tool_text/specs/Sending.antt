@@ -1,0 +1,17 @@
+-- A text that goes out piece by piece, with the count of the bytes that are out.
+use Rattle.std.specs.Prelude.{◌≡◌, ℕ, ◌+◌, ◌<◌, List, length, take, Option, Result, MatchResult}
+use Rattle.std.specs.Io.KnownBytes.{Appends}
+use Rattle.elf_image_type.specs.declared.fault.WriteFault.{WriteFault}
+
+-- behind `out` bytes all of a text went out, which are `all` bytes then
+abbrev pub WentOut : Option (List ℕ) → Option (List ℕ) → ℕ → List ℕ → ℕ → Type 0
+WentOut old new out text all = (all ≡ out + length text) × Appends old new text
+
+-- behind `out` bytes only the first ones of a text went out, which are `written` bytes then
+abbrev pub StoppedIn : Option (List ℕ) → Option (List ℕ) → ℕ → List ℕ → ℕ → Type 0
+StoppedIn old new out text written = (n : ℕ) × (written ≡ out + n) × (n < length text) × Appends old new (take n text)
+
+-- all of a text goes out, or the first bytes of it, fewer than all, and the writer failed
+abbrev pub Sends : Option (List ℕ) → Option (List ℕ) → ℕ → List ℕ → Result ℕ WriteFault → Type 0
+Sends old new out text result =
+    MatchResult result (WentOut old new out text) (λ fault. StoppedIn old new out text fault.written)

@@ -1,0 +1,107 @@
+//! How an engine ends: with a verdict on what it read, or with a fault of its surroundings.
+ghost use Rattle.std.specs.Prelude.{◌≡◌, Some};
+
+use elf_image_type::WriteFault;
+use std::alloc::AllocError;
+use std::error::Error;
+use std::fmt;
+
+/// What an engine found, once all that it says is written.
+#[derive(Clone, Copy, Debug, PartialEq, Eq)]
+pub enum Verdict {
+    /// Nothing is refused.
+    Done,
+    /// This is refused.
+    Refused(Refusal),
+}
+
+/// What an engine refuses.
+#[derive(Clone, Copy, Debug, PartialEq, Eq)]
+pub enum Refusal {
+    /// A file breaks the refusal rule of this number, first at this offset in it. Files count from
+    /// 0, in the order of the command line.
+    File {
+        file: usize,
+        rule: u16,
+        at: u64,
+    },
+    /// Files that do not link: the rule of this number stands at this entry, which counts from 0
+    /// at that index of that file.
+    Link {
+        rule: u16,
+        file: usize,
+        index: usize,
+        entry: usize,
+    },
+    /// The file to be written would be longer than 2^30 bytes.
+    TooLong,
+}
+
+impl fmt::Display for Refusal {
+    ghost use Rattle.elf_tool_text.specs.Fault.{refusal_text};
+
+    ghost output = { λ refusal. Some (refusal_text refusal) };
+
+    fn fmt<W: fmt::Write>(&self, f: &mut fmt::Formatter<W>) -> fmt::Result {
+        match self {
+            Refusal::File { rule, at, .. } => write!(f, "refused {rule} {at}"),
+            Refusal::Link {
+                rule,
+                file,
+                index,
+                entry,
+            } => write!(f, "refused {rule} {file} {index} {entry}"),
+            Refusal::TooLong => write!(f, "too long"),
+        }
+    }
+}
+
+/// What can stop an engine.
+#[derive(Clone, Copy, Debug, PartialEq, Eq)]
+pub enum ToolFault {
+    /// A call of a reader failed, after it had given `at` bytes.
+    Read { at: u64 },
+    /// A call of the writer failed or took nothing, with exactly the first `written` bytes of the
+    /// text out.
+    Write { written: u64 },
+    /// A growth was refused.
+    OutOfMemory,
+}
+
+impl fmt::Display for ToolFault {
+    ghost use Rattle.elf_tool_text.specs.Fault.{fault_text};
+
+    ghost output = { λ fault. Some (fault_text fault) };
+
+    fn fmt<W: fmt::Write>(&self, f: &mut fmt::Formatter<W>) -> fmt::Result {
+        match self {
+            ToolFault::Read { at } => write!(f, "read failed at {at}"),
+            ToolFault::Write { written } => write!(f, "write failed after {written}"),
+            ToolFault::OutOfMemory => write!(f, "out of memory"),
+        }
+    }
+}
+
+impl Error for ToolFault {}
+
+impl From<AllocError> for ToolFault {
+    ghost use Rattle.elf_tool_text.specs.declared.fault.ToolFault.TheVariants.{OutOfMemory};
+
+    ghost from_gives = { λ _ fault. fault ≡ OutOfMemory };
+
+    fn from(_refused: AllocError) -> ToolFault {
+        ToolFault::OutOfMemory
+    }
+}
+
+impl From<WriteFault> for ToolFault {
+    ghost use Rattle.elf_tool_text.specs.declared.fault.ToolFault.TheVariants.{Write};
+
+    ghost from_gives = { λ failed fault. fault ≡ Write failed.written };
+
+    fn from(failed: WriteFault) -> ToolFault {
+        ToolFault::Write {
+            written: failed.written,
+        }
+    }
+}

@@ -1,0 +1,136 @@
+//! Lines, word by word, at the end of a text: [`begin_line`] with the first word, a call for each
+//! further one, [`end_line`]. And the lines that all engines share. Each call fails for want of memory alone;
+//! some of what it was to append may stand behind the text then.
+ghost use Rattle.std.specs.Prelude.{◌≡◌, ◌∷◌, ◌++◌, IfOk, OnOk, codes, string_bytes};
+ghost use Rattle.std.specs.Fmt.{decimal, signed_decimal};
+ghost use Rattle.std.specs.List.{list_all};
+ghost use Rattle.hex.specs.Hex.{encode_lower};
+ghost use Rattle.elf_tool_text.specs.Line.{blank, hexadecimal, is_graphic as is_graphic_byte, is_plain as is_plain_name, name_text, ok_line as ok_line_of, refused_line as refused_line_of};
+
+mod digits;
+
+use digits::put_wide_digits;
+pub(crate) use digits::{MOST_DIGITS, put_digits};
+use std::alloc::{AllocError, Global};
+
+/// Appends a line's first word.
+pub fn begin_line(text: &mut Vec<u8>, first: &[u8]) -> Result<(), AllocError>
+    ensures { OnOk result (text.new.items ≡ text.old.items ++ first.now) }
+{
+    text.extend_from_slice(first)
+}
+
+/// Appends a further word.
+pub fn push_word(text: &mut Vec<u8>, word: &[u8]) -> Result<(), AllocError>
+    ensures { OnOk result (text.new.items ≡ text.old.items ++ blank ∷ word.now) }
+{
+    text.extend_from_slice(b" ")?;
+    text.extend_from_slice(word)
+}
+
+/// Appends a number in decimal.
+pub fn push_decimal(text: &mut Vec<u8>, number: u64) -> Result<(), AllocError>
+    ensures { OnOk result (text.new.items ≡ text.old.items ++ blank ∷ decimal number) }
+{
+    let mut digits = [0; MOST_DIGITS];
+    let start = put_digits(number, 10, &mut digits);
+    text.extend_from_slice(b" ")?;
+    text.extend_from_slice(&digits[start..])
+}
+
+/// Appends a signed number in decimal.
+pub fn push_signed(text: &mut Vec<u8>, number: i64) -> Result<(), AllocError>
+    ensures { OnOk result (text.new.items ≡ text.old.items ++ blank ∷ signed_decimal number) }
+{
+    let mut digits = [0; MOST_DIGITS];
+    let start = put_digits(number.unsigned_abs(), 10, &mut digits);
+    text.extend_from_slice(if number < 0 { b" -" } else { b" " })?;
+    text.extend_from_slice(&digits[start..])
+}
+
+/// Appends a number in hexadecimal, in lower case behind `0x`.
+pub fn push_hexadecimal(text: &mut Vec<u8>, number: u64) -> Result<(), AllocError>
+    ensures { OnOk result (text.new.items ≡ text.old.items ++ blank ∷ hexadecimal number) }
+{
+    let mut digits = [0; MOST_DIGITS];
+    let start = put_digits(number, 16, &mut digits);
+    text.extend_from_slice(b" 0x")?;
+    text.extend_from_slice(&digits[start..])
+}
+
+/// Appends a number that may be above 64 bits in hexadecimal, in lower case behind `0x`.
+pub fn push_wide_hexadecimal(text: &mut Vec<u8>, number: u128) -> Result<(), AllocError>
+    ensures { OnOk result (text.new.items ≡ text.old.items ++ blank ∷ hexadecimal number) }
+{
+    let mut digits = [0; MOST_DIGITS];
+    let start = put_wide_digits(number, &mut digits);
+    text.extend_from_slice(b" 0x")?;
+    text.extend_from_slice(&digits[start..])
+}
+
+/// Appends bytes, each as two hexadecimal digits in lower case.
+pub fn push_bytes(alloc: Global, text: &mut Vec<u8>, bytes: &[u8]) -> Result<(), AllocError>
+    ensures { OnOk result (text.new.items ≡ text.old.items ++ blank ∷ encode_lower bytes.now) }
+{
+    let digits = hex::encode(alloc, bytes)?;
+    push_word(text, digits.as_bytes())
+}
+
+/// Appends a name: as it stands where it is plain, `-` where it is empty, and else in hexadecimal
+/// behind `#`.
+#[tactic(auto, unfolding(crate::specs::Line::name_text))]
+pub fn push_name(alloc: Global, text: &mut Vec<u8>, name: &[u8]) -> Result<(), AllocError>
+    ensures { OnOk result (text.new.items ≡ text.old.items ++ blank ∷ name_text name.now) }
+{
+    if name.is_empty() {
+        return push_word(text, b"-");
+    }
+    if is_plain(name) {
+        return push_word(text, name);
+    }
+    let digits = hex::encode(alloc, name)?;
+    text.extend_from_slice(b" #")?;
+    text.extend_from_slice(digits.as_bytes())
+}
+
+// A name that no other is printed as: it does not begin as the hexadecimal ones do, nor is it `-`.
+fn is_plain(name: &[u8]) -> bool
+    ensures { result ≡ is_plain_name name.now }
+{
+    match name {
+        [] => false,
+        [b, ..] => *b != b'#' && name != b"-".as_slice() && is_graphic(name),
+    }
+}
+
+fn is_graphic(name: &[u8]) -> bool
+    ensures { result ≡ list_all is_graphic_byte name.now }
+{
+    name.iter().all(|b| (b'!'..=b'~').contains(b))
+}
+
+/// Ends a line.
+pub fn end_line(text: &mut Vec<u8>) -> Result<(), AllocError>
+    ensures { OnOk result (text.new.items ≡ text.old.items ++ codes "\n") }
+{
+    text.extend_from_slice(b"\n")
+}
+
+/// The line on a file of this length, with so many sections and segments, that is accepted.
+pub fn ok_line(
+    alloc: Global,
+    length: usize,
+    sections: u64,
+    segments: u64,
+) -> Result<String, AllocError>
+    ensures { IfOk result (λ line. string_bytes line ≡ ok_line_of length sections segments) }
+{
+    format!(in alloc; "ok {length} {sections} {segments}\n")
+}
+
+/// The line on a file that is refused by this rule at this offset.
+pub fn refused_line(alloc: Global, rule: u16, at: u64) -> Result<String, AllocError>
+    ensures { IfOk result (λ line. string_bytes line ≡ refused_line_of rule at) }
+{
+    format!(in alloc; "refused {rule} {at}\n")
+}

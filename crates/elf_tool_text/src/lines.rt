@@ -1,0 +1,57 @@
+//! Lines of one kind, one after the other: of the sections of a file, of its segments, of the entries of a table.
+ghost use Rattle.std.specs.Prelude.{◌≡◌, ◌++◌, ◌<◌, OnOk};
+ghost use Rattle.std.specs.List.{flat_map, range_with_len};
+ghost use Rattle.elf_tool_text.specs.Output.{IsBuffered};
+
+use crate::fault::ToolFault;
+use crate::output::Output;
+use std::alloc::{AllocError, Global};
+use std::io::Write;
+
+/// Lines by their indexes.
+pub trait Lines {
+    ghost use Rattle.std.specs.Prelude.{ℕ, List};
+
+    // how many there are
+    ghost count: { Self → ℕ };
+
+    // the text of line j
+    ghost line: { Self → ℕ → List ℕ };
+
+    /// How many there are.
+    fn count(&self) -> usize
+        ensures { result ≡ count self.now };
+
+    /// Appends line `j`, which has to be one of them, to the text that is to go out. Fails for want of memory alone.
+    fn push(&self, alloc: Global, text: &mut Vec<u8>, j: usize) -> Result<(), AllocError>
+        requires { j < count self.now }
+        ensures { OnOk result (text.new.items ≡ text.old.items ++ line self.now j) };
+}
+
+/// Sends them all, in pieces. Fails where the writer does, with how many bytes of the whole text are out, or for want of memory.
+pub fn show_lines<L: Lines, W: Write>(
+    alloc: Global,
+    lines: &L,
+    output: &mut Output,
+    writer: &mut W,
+) -> Result<(), ToolFault>
+    ensures { IsBuffered (W.contents writer.old) (W.contents writer.new) output.old output.new
+        (flat_map (L.line lines.now) (range_with_len 0 (L.count lines.now))) result }
+{
+    for j in 0..lines.count() {
+        lines.push(alloc, &mut output.pending, j)?;
+        output.flush_piece(writer)?;
+    }
+    Ok(())
+}
+
+/// Appends them all to a text. Fails for want of memory alone.
+pub fn push_lines<L: Lines>(alloc: Global, lines: &L, text: &mut Vec<u8>) -> Result<(), AllocError>
+    ensures { OnOk result (text.new.items
+        ≡ text.old.items ++ flat_map (L.line lines.now) (range_with_len 0 (L.count lines.now))) }
+{
+    for j in 0..lines.count() {
+        lines.push(alloc, text, j)?;
+    }
+    Ok(())
+}

@@ -1,0 +1,65 @@
+//! A text that goes out in large pieces.
+ghost use Rattle.std.specs.Prelude.{◌≡◌, ◌<◌, [], OnOk, length};
+ghost use Rattle.elf_tool_text.specs.Output.{IsBuffered};
+
+use crate::fault::ToolFault;
+use elf_image_type::write_whole;
+use std::alloc::Global;
+use std::io::Write;
+
+/// How many bytes at least go out at once, but for the last.
+const PIECE: usize = 65536;
+
+/// The end of a text that is yet to go out, and how many bytes of the text went out before.
+#[derive(Drop)]
+pub struct Output {
+    /// What is yet to go out.
+    pub pending: Vec<u8>,
+    /// How many bytes are out.
+    pub written: u64,
+}
+
+impl Output {
+    /// Nothing is out, and nothing is pending.
+    pub fn new(alloc: Global) -> Output
+        ensures pending { result.pending.items ≡ [] }
+        ensures written { result.written ≡ 0 }
+    {
+        Output {
+            pending: Vec::new(alloc),
+            written: 0,
+        }
+    }
+
+    /// Lets what is pending go out where it is a large piece. Fails as [`flush`](Output::flush) does.
+    pub fn flush_piece<W: Write>(&mut self, writer: &mut W) -> Result<(), ToolFault>
+        ensures buffered { IsBuffered (W.contents writer.old) (W.contents writer.new) self.old self.new [] result }
+        ensures short { OnOk result (length self.new.pending.items < PIECE) }
+    {
+        if self.pending.len() < PIECE {
+            return Ok(());
+        }
+        self.flush(writer)
+    }
+
+    /// Lets all that is pending go out. Where the writer fails, [`ToolFault::Write`] has the count of all bytes that are out.
+    ///
+    /// A text of 2^64 bytes and more would end here, before the count of what is out no longer fits:
+    /// no file of at most 2^30 bytes has so long a text.
+    pub fn flush<W: Write>(&mut self, writer: &mut W) -> Result<(), ToolFault>
+        ensures buffered { IsBuffered (W.contents writer.old) (W.contents writer.new) self.old self.new [] result }
+        ensures empty { OnOk result (self.new.pending.items ≡ []) }
+    {
+        let written = self.written;
+        let Some(after) = written.checked_add(self.pending.len() as u64) else {
+            return Err(ToolFault::Write { written });
+        };
+        if let Err(fault) = write_whole(writer, self.pending.as_slice()) {
+            let written = written + fault.written;
+            return Err(ToolFault::Write { written });
+        }
+        self.pending.clear();
+        self.written = after;
+        Ok(())
+    }
+}

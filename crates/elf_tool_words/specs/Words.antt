@@ -1,0 +1,81 @@
+-- What the words of a command line ask for: clap's definition of their matches, read.
+use Rattle.std.specs.Prelude.{◌≡◌, ◌≢◌, ◌⊎◌, ◌<◌, ◌≤◌, ℕ, List, [], Option, None, Some, codes, length, map, option_copied, unwrap_or}
+use Rattle.clap.specs.Faults.{fault_of}
+use Rattle.clap.specs.Kinds.{IsAmong}
+use Rattle.clap.specs.Simple.{subcommand_of}
+use Rattle.clap.specs.Values.{kind_of}
+use Rattle.clap.specs.Walk.{Row, Text, all_of, first_of}
+use Rattle.clap.specs.declared.error.Error.{Error}
+use Rattle.clap.specs.declared.error.kind.ErrorKind.TheVariants as kind
+use Rattle.elf_tool_words.specs.Command.{elfmap}
+use Rattle.elf_tool_words.specs.Number.{number_of}
+use Rattle.elf_tool_words.specs.declared.words.Request.{Request}
+use Rattle.elf_tool_words.specs.declared.words.Request.TheVariants.{Check, Show, Rewrite, Map}
+use Rattle.elf_tool_words.specs.declared.words.WordsFault.{WordsFault}
+use Rattle.elf_tool_words.specs.declared.words.WordsFault.TheVariants.{Words, TooManyFiles, BadNumber, OutOfMemory}
+
+-- the value of an argument, empty where it has none
+abbrev pub text_of : Text → List Row → Text
+text_of id rows = unwrap_or (first_of id rows) []
+
+-- all values of an argument
+abbrev pub texts_of : Text → List Row → List Text
+texts_of id rows = unwrap_or (all_of id rows) []
+
+-- the files that a command names, and the numbers of `--base` and `--page`, where these are some
+abbrev pub files_of : List Row → List Text
+files_of = texts_of (codes "FILE")
+
+abbrev pub base_of : List Row → Option ℕ
+base_of rows = number_of (text_of (codes "B") rows)
+
+abbrev pub page_of : List Row → Option ℕ
+page_of rows = number_of (text_of (codes "P") rows)
+
+-- the file that `--rules` names, if it does
+abbrev pub rules_of : List Row → Option Text
+rules_of = first_of (codes "RULES")
+
+-- the command of this name, with these matches, is the request: one equation a command
+abbrev pub Asks : Text → List Row → Request → Type 0
+Asks name rows (Check file) = (name ≡ codes "check") × (file.now ≡ text_of (codes "FILE") rows)
+Asks name rows (Show file) = (name ≡ codes "show") × (file.now ≡ text_of (codes "FILE") rows)
+Asks name rows (Rewrite file) = (name ≡ codes "rewrite") × (file.now ≡ text_of (codes "FILE") rows)
+Asks name rows (Map base page rules files) =
+    (name ≡ codes "map") × (map (λ f. f.now) files.items ≡ files_of rows) × (length (files_of rows) ≤ 64)
+    × (base_of rows ≡ Some base) × (page_of rows ≡ Some page) × (option_copied rules ≡ rules_of rows)
+
+-- the command of this name, with these matches, is refused so: `map` with more than 64 files, or else with a number that is none
+abbrev pub Refuses : Text → List Row → WordsFault → Type 0
+Refuses name rows (Words error) = ⊥
+Refuses name rows TooManyFiles = (name ≡ codes "map") × (64 < length (files_of rows))
+Refuses name rows BadNumber =
+    (name ≡ codes "map") × (length (files_of rows) ≤ 64) × ((base_of rows ≡ None) ⊎ (page_of rows ≡ None))
+Refuses name rows OutOfMemory = Unit {0}
+
+-- clap's definition takes the words, and gives a command and matches of which this holds
+pub record Gives (words : List Text) (P : Text → List Row → Type 0) : Type 0 where
+  pub taken : fault_of elfmap words ≡ []
+  pub name : Text
+  pub rows : List Row
+  pub entered : subcommand_of elfmap words ≡ Some (name, rows)
+  pub holds : P name rows
+
+-- the words ask for this
+abbrev pub IsAskedBy : List Text → Request → Type 0
+IsAskedBy words request = Gives words (λ name rows. Asks name rows request)
+
+-- the words are refused so: clap's definition gives the error's kind, and so does not take them; or it takes them, and the
+-- command is refused; or memory was refused
+abbrev pub IsRefusedBy : List Text → WordsFault → Type 0
+IsRefusedBy words (Words error) = IsAmong (kind_of error) (fault_of elfmap words)
+IsRefusedBy words TooManyFiles = Gives words (λ name rows. Refuses name rows TooManyFiles)
+IsRefusedBy words BadNumber = Gives words (λ name rows. Refuses name rows BadNumber)
+IsRefusedBy words OutOfMemory = Unit {0}
+
+-- an error of clap as a fault: want of memory is a fault of its own
+abbrev pub Tells : Error → WordsFault → Type 0
+Tells error (Words e) = (e ≡ error) × (kind_of error ≢ kind.OutOfMemory)
+Tells error TooManyFiles = ⊥
+Tells error BadNumber = ⊥
+Tells error OutOfMemory = kind_of error ≡ kind.OutOfMemory

@@ -1,0 +1,120 @@
+//! The program's command line, defined once. A further command is one more entry of `elfmap`, here
+//! and in `specs/Command.antt`, and a function for its arguments where it takes more than one file.
+ghost use Rattle.std.specs.Prelude.{◌≡◌, false, IfOk};
+ghost use Rattle.clap.specs.Simple.{with_subcommand};
+ghost use Rattle.clap.specs.Words.{app_of, shape_of};
+ghost use Rattle.clap.specs.declared.builder.command.Command.TheViews.{out-Command as fields_of};
+ghost use Rattle.clap.specs.Walk.{rule_of};
+ghost use Rattle.elf_tool_words.specs.Command.{base as base_rule, elfmap as elfmap_app, file_command as file_shape, files as files_rule, map_command as map_shape, page as page_rule, rules_file as rules_rule};
+
+use clap::{Arg, ArgAction, Command};
+use std::alloc::{AllocError, Global};
+
+/// The whole command.
+pub(crate) fn elfmap<'a>(alloc: Global) -> Result<Command<'a>, AllocError>
+    ensures { IfOk result (λ command. app_of command ≡ elfmap_app) }
+{
+    let command = Command::new(alloc, "elfmap")
+        .about("Checks, shows, rewrites and links ELF-64 object files")
+        .subcommand_required(true)
+        .disable_help_subcommand(true);
+    let command = with_file_command(
+        alloc,
+        command,
+        "check",
+        "Tells whether FILE is an ELF-64 file, or the first rule that it breaks and where",
+        "The file to check",
+    )?;
+    let command = with_file_command(
+        alloc,
+        command,
+        "show",
+        "Shows the header, the parts, the sections, the segments and the tables of FILE",
+        "The file to show",
+    )?;
+    let command = with_file_command(
+        alloc,
+        command,
+        "rewrite",
+        "Writes the object of FILE in canonical layout on standard output",
+        "The relocatable file to rewrite",
+    )?;
+    command.subcommand(map_command(alloc)?)
+}
+
+// The command with one more subcommand, whose one argument is a file.
+fn with_file_command<'a>(
+    alloc: Global,
+    command: Command<'a>,
+    name: &'a str,
+    about: &'a str,
+    help: &'a str,
+) -> Result<Command<'a>, AllocError>
+    ensures { IfOk result (λ more. app_of more ≡ with_subcommand (app_of command.entry) (file_shape name.entry.now)) }
+{
+    command.subcommand(file_command(alloc, name, about, help)?)
+}
+
+fn file_command<'a>(
+    alloc: Global,
+    name: &'a str,
+    about: &'a str,
+    help: &'a str,
+) -> Result<Command<'a>, AllocError>
+    ensures shape { IfOk result (λ command. shape_of command ≡ file_shape name.entry.now) }
+    ensures local { IfOk result (λ command. (fields_of command).has_globals ≡ false) }
+{
+    let file = Arg::new(alloc, "FILE").help(help).required(true);
+    Command::new(alloc, name).about(about).arg(file)
+}
+
+fn map_command<'a>(alloc: Global) -> Result<Command<'a>, AllocError>
+    ensures shape { IfOk result (λ command. shape_of command ≡ map_shape) }
+    ensures local { IfOk result (λ command. (fields_of command).has_globals ≡ false) }
+{
+    Command::new(alloc, "map")
+        .about("Shows where the sections and names of the FILEs stand in their link")
+        .arg(base(alloc))?
+        .arg(page(alloc))?
+        .arg(rules(alloc))?
+        .arg(files(alloc))
+}
+
+fn base<'a>(alloc: Global) -> Arg<'a>
+    ensures rule { rule_of result ≡ base_rule }
+    ensures local { result.global ≡ false }
+{
+    Arg::new(alloc, "B")
+        .long("base")
+        .help("The address that placement begins at, a multiple of P")
+        .required(true)
+}
+
+fn page<'a>(alloc: Global) -> Arg<'a>
+    ensures rule { rule_of result ≡ page_rule }
+    ensures local { result.global ≡ false }
+{
+    Arg::new(alloc, "P")
+        .long("page")
+        .help("What each output section begins at a multiple of, a power of two")
+        .required(true)
+}
+
+fn rules<'a>(alloc: Global) -> Arg<'a>
+    ensures rule { rule_of result ≡ rules_rule }
+    ensures local { result.global ≡ false }
+{
+    Arg::new(alloc, "RULES").long("rules").help(
+        "The file of relocation rules, a line KIND abs|pc|none 1|2|4|8 signed|unsigned|wrap each",
+    )
+}
+
+fn files<'a>(alloc: Global) -> Arg<'a>
+    ensures rule { rule_of result ≡ files_rule }
+    ensures local { result.global ≡ false }
+{
+    Arg::new(alloc, "FILE")
+        .help("The relocatable files to link, at most 64")
+        .required(true)
+        .action(ArgAction::Append)
+}

@@ -1,0 +1,355 @@
+//! Objects as they are written, byte by byte: what stands in their files is given field by field.
+use crate::writers::taking;
+use elf_field::Order;
+use elf_object_type::{Body, Info, Object, ObjectParts, Place, Relocation, Section, Symbol};
+use elf_object_writer::write_object;
+use std::alloc::{AllocError, Global};
+use std::process::Abort;
+use std::test::Fail;
+use tests_files::{Field, set, set_header};
+
+const ORDERS: [Order; 2] = [Order::Little, Order::Big];
+
+/// An object of machine 62.
+pub(crate) fn object<'a>(
+    alloc: Global,
+    order: Order,
+    sections: Vec<Section<'a>>,
+    symbols: Vec<Symbol<'a>>,
+) -> Result<Object<'a>, Fail> {
+    let parts = ObjectParts {
+        order,
+        osabi: 0,
+        abi: 0,
+        machine: 62,
+        flags: 0,
+        sections,
+        symbols,
+    };
+    Ok(Object::new(alloc, parts)?)
+}
+
+/// A section without address and entries of its own.
+pub(crate) fn section(
+    name: &'static [u8],
+    flags: u64,
+    align: u64,
+    body: Body<'static>,
+) -> Section<'static> {
+    Section {
+        name,
+        flags,
+        addr: 0,
+        align,
+        entsize: 0,
+        link: None,
+        info: Info::Number(0),
+        body,
+    }
+}
+
+/// A global function of one byte.
+pub(crate) fn function<'a>(name: &'a [u8], place: Place) -> Symbol<'a> {
+    Symbol {
+        name,
+        info: 0x12,
+        other: 0,
+        place,
+        value: 0,
+        size: 1,
+    }
+}
+
+/// The header's fields that tell of the section header table.
+pub(crate) fn set_table(file: &mut [u8], order: Order, table: u64, count: u64, names: u64) {
+    let fields = [(40, 8, table), (58, 2, 64), (60, 2, count), (62, 2, names)];
+    set_header(file, order, &fields);
+}
+
+/// A section header: its name, type, flags, offset, size, link, info, alignment and size of entries.
+pub(crate) fn set_section(file: &mut [u8], order: Order, at: u32, fields: [u64; 9]) {
+    let at = at as usize;
+    let [
+        name,
+        section_type,
+        flags,
+        offset,
+        size,
+        link,
+        info,
+        align,
+        entsize,
+    ] = fields;
+    let fields: [Field; 9] = [
+        (at, 4, name),
+        (at + 4, 4, section_type),
+        (at + 8, 8, flags),
+        (at + 24, 8, offset),
+        (at + 32, 8, size),
+        (at + 40, 4, link),
+        (at + 44, 4, info),
+        (at + 48, 8, align),
+        (at + 56, 8, entsize),
+    ];
+    set(file, order, &fields);
+}
+
+pub(crate) fn set_bytes(file: &mut [u8], at: usize, bytes: &[u8]) {
+    let mut at = at;
+    for byte in bytes {
+        set(file, Order::Little, &[(at, 1, *byte as u64)]);
+        at = at.saturating_add(1);
+    }
+}
+
+/// Tells whether the object is written as these bytes.
+fn assert_written(
+    rt: &impl Abort,
+    alloc: Global,
+    object: &Object<'_>,
+    file: &[u8],
+) -> Result<(), Fail> {
+    let mut writer = taking(alloc, usize::MAX);
+    write_object(alloc, object, &mut writer)?;
+    assert_eq!(rt; writer.bytes.as_slice(), file);
+    Ok(())
+}
+
+// ---- an object without sections and symbols
+
+#[test]
+fn an_empty_object(rt: HostRuntime) -> Result<(), Fail> {
+    let alloc = rt.alloc();
+    for order in ORDERS {
+        let mut file = [0; 376];
+        set_table(&mut file, order, 120, 4, 3);
+        set_bytes(&mut file, 89, b"\0.symtab\0.strtab\0.shstrtab\0");
+        set_section(&mut file, order, 184, [1, 2, 0, 64, 24, 2, 1, 8, 24]);
+        set_section(&mut file, order, 248, [9, 3, 0, 88, 1, 0, 0, 1, 0]);
+        set_section(&mut file, order, 312, [17, 3, 0, 89, 27, 0, 0, 1, 0]);
+        let object = object(alloc, order, Vec::new(alloc), Vec::new(alloc))?;
+        assert_written(&rt, alloc, &object, &file)?;
+    }
+    Ok(())
+}
+
+// ---- one section
+
+pub(crate) fn one_section(alloc: Global, order: Order) -> Result<Object<'static>, Fail> {
+    let text = section(b".text", 6, 16, Body::Bits(1, b"\xc3"));
+    object(alloc, order, vec![in alloc; text]?, Vec::new(alloc))
+}
+
+pub(crate) fn one_section_file(order: Order) -> [u8; 456] {
+    let mut file = [0; 456];
+    set_table(&mut file, order, 136, 5, 4);
+    set_bytes(&mut file, 64, b"\xc3");
+    set_bytes(&mut file, 97, b"\0.text\0.symtab\0.strtab\0.shstrtab\0");
+    set_section(&mut file, order, 200, [1, 1, 6, 64, 1, 0, 0, 16, 0]);
+    set_section(&mut file, order, 264, [7, 2, 0, 72, 24, 3, 1, 8, 24]);
+    set_section(&mut file, order, 328, [15, 3, 0, 96, 1, 0, 0, 1, 0]);
+    set_section(&mut file, order, 392, [23, 3, 0, 97, 33, 0, 0, 1, 0]);
+    file
+}
+
+#[test]
+fn one_section_in_both_orders(rt: HostRuntime) -> Result<(), Fail> {
+    let alloc = rt.alloc();
+    for order in ORDERS {
+        let object = one_section(alloc, order)?;
+        assert_written(&rt, alloc, &object, &one_section_file(order))?;
+    }
+    Ok(())
+}
+
+// ---- all fields of the header, links, places of symbols, and relocations without addends
+
+/// Sections without bytes and with a link to another one, and relocations.
+fn many_sections(alloc: Global) -> Result<Vec<Section<'static>>, AllocError> {
+    let entry = Relocation {
+        offset: 0x10,
+        symbol: None,
+        kind: 7,
+        addend: 0,
+    };
+    let relocs = Body::Relocs {
+        rela: false,
+        target: 1,
+        entries: vec![in alloc; entry]?,
+    };
+    let space = Section {
+        addr: 0x1000,
+        link: Some(1),
+        ..section(b"a", 3, 0x1000, Body::NoBits(0x123456789))
+    };
+    let bits = Section {
+        info: Info::Section(0),
+        entsize: 8,
+        ..section(b"b", 0x40, 0, Body::Bits(7, b"123"))
+    };
+    let relocs = Section {
+        entsize: 16,
+        ..section(b"a", 0, 8, relocs)
+    };
+    Ok(vec![in alloc; space, bits, relocs]?)
+}
+
+/// A symbol of each place.
+fn many_symbols(alloc: Global) -> Result<Vec<Symbol<'static>>, AllocError> {
+    Ok(vec![in alloc;
+        Symbol {
+            info: 3,
+            other: 2,
+            ..function(b"", Place::In(0))
+        },
+        Symbol {
+            value: 5,
+            ..function(b"b", Place::Abs)
+        },
+        Symbol {
+            value: 16,
+            size: 0x87654321,
+            ..function(b"ab", Place::Common)
+        },
+        function(b"b", Place::Undef),
+    ]?)
+}
+
+fn many_fields(alloc: Global, order: Order) -> Result<Object<'static>, Fail> {
+    let parts = ObjectParts {
+        order,
+        osabi: 3,
+        abi: 4,
+        machine: 0x1234,
+        flags: 0x89abcdef,
+        sections: many_sections(alloc)?,
+        symbols: many_symbols(alloc)?,
+    };
+    Ok(Object::new(alloc, parts)?)
+}
+
+/// The symbol table of its file, behind the symbol of index 0.
+const MANY_SYMBOLS: [Field; 17] = [
+    (116, 1, 3),
+    (117, 1, 2),
+    (118, 2, 1),
+    (128, 8, 1),
+    (136, 4, 1),
+    (140, 1, 0x12),
+    (142, 2, 0xfff1),
+    (144, 8, 5),
+    (152, 8, 1),
+    (160, 4, 3),
+    (164, 1, 0x12),
+    (166, 2, 0xfff2),
+    (168, 8, 16),
+    (176, 8, 0x87654321),
+    (184, 4, 1),
+    (188, 1, 0x12),
+    (200, 8, 1),
+];
+
+fn many_fields_file(order: Order) -> [u8; 696] {
+    let mut file = [0; 696];
+    set_table(&mut file, order, 248, 7, 6);
+    let header = [(7, 1, 3), (8, 1, 4), (18, 2, 0x1234), (48, 4, 0x89abcdef)];
+    set(&mut file, order, &header);
+    set_bytes(&mut file, 64, b"123");
+    set(&mut file, order, &[(72, 8, 0x10), (80, 8, 7)]);
+    set(&mut file, order, &MANY_SYMBOLS);
+    set_bytes(&mut file, 208, b"\0b\0ab\0");
+    set_bytes(&mut file, 214, b"\0a\0b\0.symtab\0.strtab\0.shstrtab\0");
+    let space = [1, 8, 3, 64, 0x123456789, 2, 0, 0x1000, 0];
+    set_section(&mut file, order, 312, space);
+    set(&mut file, order, &[(328, 8, 0x1000)]);
+    set_section(&mut file, order, 376, [3, 7, 0x40, 64, 3, 0, 1, 0, 8]);
+    set_section(&mut file, order, 440, [1, 9, 0, 72, 16, 4, 2, 8, 16]);
+    set_section(&mut file, order, 504, [5, 2, 0, 88, 120, 5, 2, 8, 24]);
+    set_section(&mut file, order, 568, [13, 3, 0, 208, 6, 0, 0, 1, 0]);
+    set_section(&mut file, order, 632, [21, 3, 0, 214, 31, 0, 0, 1, 0]);
+    file
+}
+
+#[test]
+fn all_fields_of_an_object(rt: HostRuntime) -> Result<(), Fail> {
+    let alloc = rt.alloc();
+    for order in ORDERS {
+        let object = many_fields(alloc, order)?;
+        assert_written(&rt, alloc, &object, &many_fields_file(order))?;
+    }
+    Ok(())
+}
+
+// ---- a group of a section and its relocations
+
+/// A group of section 1, of one byte, and section 2, which has a relocation of it.
+fn group_of_two(alloc: Global, order: Order) -> Result<Object<'static>, Fail> {
+    let group = Body::Group {
+        comdat: true,
+        signature: 0,
+        members: vec![in alloc; 1, 2]?,
+    };
+    let entry = Relocation {
+        offset: 0,
+        symbol: Some(0),
+        kind: 2,
+        addend: -4,
+    };
+    let relocs = Body::Relocs {
+        rela: true,
+        target: 1,
+        entries: vec![in alloc; entry]?,
+    };
+    let sections = vec![in alloc;
+        Section {
+            entsize: 4,
+            ..section(b".group", 0, 4, group)
+        },
+        section(b".text", 0x206, 1, Body::Bits(1, b"\xc3")),
+        Section {
+            entsize: 24,
+            ..section(b".rela.text", 0x200, 8, relocs)
+        },
+    ]?;
+    object(
+        alloc,
+        order,
+        sections,
+        vec![in alloc; function(b"f", Place::In(1))]?,
+    )
+}
+
+#[test]
+fn a_group_and_relocations(rt: HostRuntime) -> Result<(), Fail> {
+    let alloc = rt.alloc();
+    for order in ORDERS {
+        let mut file = [0; 656];
+        set_table(&mut file, order, 208, 7, 6);
+        set(&mut file, order, &[(64, 4, 1), (68, 4, 2), (72, 4, 3)]);
+        set_bytes(&mut file, 76, b"\xc3");
+        set(
+            &mut file,
+            order,
+            &[(88, 8, 0x100000002), (96, 8, 0xfffffffffffffffc)],
+        );
+        set(
+            &mut file,
+            order,
+            &[(128, 4, 1), (132, 1, 0x12), (134, 2, 2), (144, 8, 1)],
+        );
+        set_bytes(&mut file, 152, b"\0f\0");
+        set_bytes(
+            &mut file,
+            155,
+            b"\0.group\0.text\0.rela.text\0.symtab\0.strtab\0.shstrtab\0",
+        );
+        set_section(&mut file, order, 272, [1, 17, 0, 64, 12, 4, 1, 4, 4]);
+        set_section(&mut file, order, 336, [8, 1, 0x206, 76, 1, 0, 0, 1, 0]);
+        set_section(&mut file, order, 400, [14, 4, 0x200, 80, 24, 4, 2, 8, 24]);
+        set_section(&mut file, order, 464, [25, 2, 0, 104, 48, 5, 1, 8, 24]);
+        set_section(&mut file, order, 528, [33, 3, 0, 152, 3, 0, 0, 1, 0]);
+        set_section(&mut file, order, 592, [41, 3, 0, 155, 51, 0, 0, 1, 0]);
+        assert_written(&rt, alloc, &group_of_two(alloc, order)?, &file)?;
+    }
+    Ok(())
+}

@@ -1,0 +1,135 @@
+-- What the program's exit status says of a file whose bytes are known.
+use Rattle.std.proofs.Common.{◌≡◌, ◌∙◌, ℕ, ◌^◌, ◌≤◌, inl, inr, true, List, [], ◌∷◌, ◌++◌, Option, Some, None, Result, Ok, Err, length, ap, sym, subst, arith, length-append}
+use Rattle.std.proofs.lemmas.List.{append-nil}
+use Rattle.std.specs.Prelude.{codes}
+use Rattle.std.specs.Io.KnownBytes.{Consumes}
+use Rattle.clap.specs.Simple.{subcommand_of}
+use Rattle.clap.specs.Walk.{Row, Text, walked}
+use Rattle.elf_image_rules.specs.ImageRules.{IsFault}
+use Rattle.elf_tool_check.specs.Check.{CheckSays}
+use Rattle.elf_tool_check.specs.Ending.{code_of, ending_of}
+use Rattle.elf_tool_check.specs.declared.ending.Status.{Status}
+use Rattle.elf_tool_text.specs.Engine.{IsAnswered, IsReadWhole, Report}
+use Rattle.elf_tool_show.specs.Show.{ShowSays}
+use Rattle.elf_tool_text.specs.declared.fault.Refusal.TheVariants.{File, Link, TooLong}
+use Rattle.elf_tool_text.specs.declared.fault.ToolFault.{ToolFault}
+use Rattle.elf_tool_text.specs.declared.fault.Verdict.{Verdict}
+use Rattle.elf_tool_text.specs.declared.fault.Verdict.TheVariants.{Done, Refused}
+use Rattle.elf_tool_words.specs.Command.{check, elfmap, map_command, rewrite, show}
+use Rattle.elf_tool_program.specs.Program.{EndsRun}
+use Rattle.elf_tool_words.specs.declared.words.Request.TheVariants.{Check, Show, Rewrite, Map}
+use Rattle.elf_tool_words.specs.declared.words.WordsFault.TheVariants as words_fault
+
+-- some rule is broken
+abbrev pub IsBroken : List ℕ → Type 0
+IsBroken b = (fault : ℕ × ℕ) × IsFault b (Some fault)
+
+-- what was read whole of known bytes within the limit is all of them
+read_is_all : (bytes given : List ℕ) (rest : Option (List ℕ)) → length bytes ≤ 2 ^ 30 → Consumes (Some bytes) rest given → IsReadWhole rest given → given ≡ bytes
+read_is_all bytes given None short taken whole = absurd taken
+read_is_all bytes given (Some left) short taken (inl end) = sym (append-nil given) ∙ ap (λ (s : List ℕ). given ++ s) (sym end) ∙ sym taken
+read_is_all bytes given (Some left) short taken (inr long) =
+    let whole = ap length taken in
+    let parts = length-append given left in
+    absurd (omega arith)
+
+-- what a status tells of the bytes
+pub record Tells (status : Status) (b : List ℕ) : Type 0 where
+  pub done : code_of status ≡ 0 → IsFault b None
+  pub refused : code_of status ≡ 1 → IsBroken b
+
+-- any other status tells nothing
+neither : (status : Status) (b : List ℕ) (code : ℕ) → (code ≡ 0 → ⊥) → (code ≡ 1 → ⊥) → code_of status ≡ code → Tells status b
+neither status b code some many is = record {
+  done = λ zero. absurd (some (sym is ∙ zero));
+  refused = λ one. absurd (many (sym is ∙ one));
+}
+
+-- what a verdict says of the bytes
+abbrev pub Says : Verdict → List ℕ → Type 0
+Says Done b = IsFault b None
+Says (Refused refusal) b = IsBroken b
+
+check_says : (b : List ℕ) (verdict : Verdict) (text : List ℕ) → CheckSays b verdict text → Says verdict b
+check_says b Done text says = says.0
+check_says b (Refused (File file rule at)) text says = ((rule, at), says.0)
+check_says b (Refused (Link rule file index entry)) text says = absurd says
+check_says b (Refused TooLong) text says = absurd says
+
+show_says : (b : List ℕ) (verdict : Verdict) (text : List ℕ) → ShowSays b verdict text → Says verdict b
+show_says b Done text (tables, are, is) = are.image.clean
+show_says b (Refused (File file rule at)) text says = ((rule, at), says.0)
+show_says b (Refused (Link rule file index entry)) text says = absurd says
+show_says b (Refused TooLong) text says = absurd says
+
+-- an engine that answers a verdict says it of the bytes
+module _ (report : Report) (means : (b : List ℕ) (verdict : Verdict) (text : List ℕ) → report b verdict text → Says verdict b) where
+  answered_says : (bytes : List ℕ) (input rest old new : Option (List ℕ)) (verdict : Verdict) → length bytes ≤ 2 ^ 30 → input ≡ Some bytes
+      → IsAnswered report input rest old new (Ok verdict) → Says verdict bytes
+  answered_says bytes input rest old new verdict short known call = elim call.answered [
+    | inl given_up ↦ absurd given_up
+    | inr (whole, reported) ↦
+        let all = read_is_all bytes call.bytes rest short (rw known at call.taken) whole in
+        rw (sym reported.answer) at (rw all at (means call.bytes reported.verdict reported.text reported.is))
+  ]
+
+  -- the statuses 0 and 1 say it
+  status_says : (bytes : List ℕ) (input rest old new : Option (List ℕ)) (answer : Result Verdict ToolFault) (status : Status) → length bytes ≤ 2 ^ 30
+      → input ≡ Some bytes → IsAnswered report input rest old new answer → status ≡ ending_of answer → Tells status bytes
+  status_says bytes input rest old new (Ok Done) status short known call is = record {
+    done = λ zero. answered_says bytes input rest old new Done short known call;
+    refused = λ one. let e : 0 ≡ 1 = sym (ap code_of is) ∙ one in absurd (omega arith);
+  }
+  status_says bytes input rest old new (Ok (Refused refusal)) status short known call is = record {
+    done = λ zero. let e : 1 ≡ 0 = sym (ap code_of is) ∙ zero in absurd (omega arith);
+    refused = λ one. answered_says bytes input rest old new (Refused refusal) short known call;
+  }
+  status_says bytes input rest old new (Err fault) status short known call is = neither status bytes 3 (λ e. omega arith) (λ e. omega arith) (ap code_of is)
+
+-- ---- the words of a check
+
+abbrev pub check_words : List Text
+check_words = codes "elfmap" ∷ codes "check" ∷ codes "a.o" ∷ []
+
+-- the name beside some matches
+abbrev name_of : Option (Text × List Row) → Text
+name_of None = []
+name_of (Some p) = p.0
+
+-- they ask for nothing else
+asks_check : (name : Text) (rows : List Row) → subcommand_of elfmap check_words ≡ Some (name, rows) → name ≡ codes "check"
+unfolding check show rewrite map_command elfmap walked
+asks_check name rows entered = sym (ap name_of entered)
+
+no_rewrite : (name : Text) → name ≡ codes "check" → name ≡ codes "rewrite" → ⊥
+no_rewrite name one other = let both : codes "check" ≡ codes "rewrite" = sym one ∙ other in cc
+
+no_map : (name : Text) → name ≡ codes "check" → name ≡ codes "map" → ⊥
+no_map name one other = let both : codes "check" ≡ codes "map" = sym one ∙ other in cc
+
+-- the whole program says it
+checked_says : (bytes : List ℕ) (old new : Option (List ℕ)) (status : Status) → length bytes ≤ 2 ^ 30
+    → EndsRun check_words (λ name. Some bytes) (λ name. true) old new status → Tells status bytes
+checked_says bytes old new status short (inl (Check file, asked, inl (input, rest, answer, known, call, is))) =
+    status_says CheckSays check_says bytes input rest old new answer status short known call.answered is
+checked_says bytes old new status short (inl (Show file, asked, inl (input, rest, answer, known, call, is))) =
+    status_says ShowSays show_says bytes input rest old new answer status short known call is
+checked_says bytes old new status short (inl (Rewrite file, asked, ends)) = absurd (no_rewrite asked.name (asks_check asked.name asked.rows asked.entered) asked.holds.0)
+checked_says bytes old new status short (inl (Map base page rules files, asked, ends)) = absurd (no_map asked.name (asks_check asked.name asked.rows asked.entered) asked.holds.0)
+checked_says bytes old new status short (inl (Check file, asked, inr (fault, why, is, kept))) =
+    neither status bytes 3 (λ e. omega arith) (λ e. omega arith) (ap code_of is)
+checked_says bytes old new status short (inl (Show file, asked, inr (fault, why, is, kept))) =
+    neither status bytes 3 (λ e. omega arith) (λ e. omega arith) (ap code_of is)
+checked_says bytes old new status short (inr (words_fault.Words error, refused, ends)) =
+    neither status bytes 2 (λ e. omega arith) (λ e. omega arith) (ap code_of ends.0)
+checked_says bytes old new status short (inr (words_fault.TooManyFiles, refused, ends)) =
+    neither status bytes 2 (λ e. omega arith) (λ e. omega arith) (ap code_of ends.0)
+checked_says bytes old new status short (inr (words_fault.BadNumber, refused, ends)) =
+    neither status bytes 2 (λ e. omega arith) (λ e. omega arith) (ap code_of ends.0)
+checked_says bytes old new status short (inr (words_fault.OutOfMemory, refused, ends)) =
+    neither status bytes 3 (λ e. omega arith) (λ e. omega arith) (ap code_of ends.0)
+
+pub run_says : (words : List Text) (bytes : List ℕ) (old new : Option (List ℕ)) (status : Status) → words ≡ check_words → length bytes ≤ 2 ^ 30
+    → EndsRun words (λ name. Some bytes) (λ name. true) old new status → Tells status bytes
+run_says words bytes old new status same short ends =
+    checked_says bytes old new status short (subst (λ (ws : List Text). EndsRun ws (λ name. Some bytes) (λ name. true) old new status) same ends)

@@ -1,0 +1,129 @@
+//! The word for the file is the name that is opened, as it stands.
+use crate::program::HEADER;
+use elf_tool_program::{MachineFiles, OpenFault, Opener, run};
+use std::alloc::Global;
+use std::io::Read;
+use std::process::Abort;
+
+/// Has a header alone under one name, and answers a fault for every other.
+#[derive(Drop)]
+struct OneName<'a> {
+    name: &'a str,
+    fault: OpenFault,
+    asked: usize,
+}
+
+impl<'a> Opener for OneName<'a> {
+    type Input = &'static [u8];
+
+    fn reader(&mut self, name: &str) -> Result<&'static [u8], OpenFault> {
+        self.asked = self.asked.saturating_add(1);
+        if name == self.name {
+            Ok(HEADER)
+        } else {
+            Err(self.fault)
+        }
+    }
+}
+
+/// What the program writes for these words, and says, and its status; and for how many names it asks.
+fn assert_runs(
+    rt: &impl Abort,
+    alloc: Global,
+    words: &[&str],
+    files: &mut OneName<'_>,
+    status: u8,
+    said: &str,
+    complained: &str,
+) {
+    let mut out = Vec::new(alloc);
+    let mut err = Vec::new(alloc);
+    let ended = run(alloc, words, files, &mut out, &mut err);
+    assert_eq!(rt; (ended, files.asked), (status, 1), "{words:?}");
+    assert_eq!(rt;
+        (out.as_slice(), err.as_slice()),
+        (said.as_bytes(), complained.as_bytes()),
+        "{words:?}"
+    );
+}
+
+#[test]
+fn opens_the_name_as_it_stands(rt: HostRuntime) {
+    let names = [
+        "dir/a.o", "/a.o", "./a.o", " a.o", "a.o ", "\u{e4}.o", "-a.o", "--", "",
+    ];
+    for name in names {
+        let mut files = OneName {
+            name,
+            fault: OpenFault::Refused,
+            asked: 0,
+        };
+        let words = ["elfmap", "check", "--", name];
+        assert_runs(&rt, rt.alloc(), &words, &mut files, 0, "ok 64 0 0\n", "");
+    }
+}
+
+#[test]
+fn names_the_file_that_does_not_open(rt: HostRuntime) {
+    let rows = [
+        ("dir/a.o", "cannot open dir/a.o\n"),
+        (" a.o", "cannot open  a.o\n"),
+        ("a.o ", "cannot open a.o \n"),
+        ("\u{e4}.o", "cannot open \u{e4}.o\n"),
+        ("-a.o", "cannot open -a.o\n"),
+    ];
+    for (name, told) in rows {
+        let mut files = OneName {
+            name: "a.o",
+            fault: OpenFault::Refused,
+            asked: 0,
+        };
+        let words = ["elfmap", "show", "--", name];
+        assert_runs(&rt, rt.alloc(), &words, &mut files, 3, "", told);
+    }
+}
+
+#[test]
+fn an_opener_that_wants_memory(rt: HostRuntime) {
+    for command in ["check", "show"] {
+        let mut files = OneName {
+            name: "a.o",
+            fault: OpenFault::OutOfMemory,
+            asked: 0,
+        };
+        let words = ["elfmap", command, "b.o"];
+        assert_runs(
+            &rt,
+            rt.alloc(),
+            &words,
+            &mut files,
+            3,
+            "",
+            "out of memory\n",
+        );
+    }
+}
+
+// No contract tells what the machine's files are: the null device is one, under just this name, and it
+// is no folder.
+#[test]
+fn the_files_of_the_machine(rt: HostRuntime) {
+    let rows = [
+        ("/dev/null", true),
+        ("/dev/../dev/null", true),
+        ("/dev/null ", false),
+        (" /dev/null", false),
+        ("/dev/null/x", false),
+        ("/dev/n\u{fc}ll", false),
+        ("-/dev/null", false),
+        ("no-such-file", false),
+        ("", false),
+    ];
+    for (name, opens) in rows {
+        let mut files = MachineFiles { files: &rt };
+        match files.reader(name) {
+            Ok(_) => assert!(rt; opens, "{name}"),
+            Err(fault) => assert_eq!(rt; (fault, opens), (OpenFault::Refused, false), "{name}"),
+        }
+    }
+}

@@ -1,0 +1,74 @@
+//! What the program's exit status says of a file whose bytes are known: over an opener that tells
+//! what it holds, and a reader that tells what remains.
+ghost use Rattle.std.specs.Prelude.{◌≡◌, ℕ, ◌≤◌, length, None, Some, true};
+ghost use Rattle.elf_image_rules.specs.HeaderRules.{MAX_LEN};
+ghost use Rattle.elf_image_rules.specs.ImageRules.{IsFault};
+
+use elf_tool_program::{OpenFault, Opener, run};
+use std::alloc::Global;
+use std::io;
+use std::io::Read;
+
+/// How many bytes a read gives at most.
+const PIECE: usize = 7;
+
+/// Gives its bytes a few at a time, and tells what is left of them.
+#[derive(Drop)]
+pub struct KnownBytes<'a> {
+    bytes: &'a [u8],
+}
+
+impl Read for KnownBytes<'_> {
+    ghost remaining = { λ reader. Some reader.bytes.now };
+
+    fn read(&mut self, buf: &mut [u8]) -> io::Result<usize> {
+        let count = self.bytes.len().min(buf.len()).min(PIECE);
+        self.bytes.read(&mut buf[..count])
+    }
+}
+
+/// Holds one file, under every name.
+#[derive(Drop)]
+pub struct KnownFile<'a> {
+    bytes: &'a [u8],
+}
+
+impl<'a> KnownFile<'a> {
+    /// One of these bytes.
+    pub fn new(bytes: &'a [u8]) -> KnownFile<'a>
+        ensures { result.bytes.now ≡ bytes.now }
+    {
+        KnownFile { bytes }
+    }
+}
+
+impl<'a> Opener for KnownFile<'a> {
+    type Input = KnownBytes<'a>;
+
+    ghost holds = { λ files _. Some files.bytes.now };
+
+    ghost opens = { λ _ _. true };
+
+    fn reader(&mut self, _name: &str) -> Result<KnownBytes<'a>, OpenFault> {
+        Ok(KnownBytes { bytes: self.bytes })
+    }
+}
+
+/// The exit status of `elfmap check` on a file of these bytes: it is done only if no rule is broken,
+/// and refused only if one is.
+pub fn status_of_check(alloc: Global, bytes: &[u8]) -> u8
+    requires { length bytes.now ≤ MAX_LEN }
+    ensures done { result ≡ 0 → IsFault bytes.now None }
+    ensures refused { result ≡ 1 → (fault : ℕ × ℕ) × IsFault bytes.now (Some fault) }
+{
+    let mut files = KnownFile { bytes };
+    let mut out = Vec::new(alloc);
+    let mut err = Vec::new(alloc);
+    run(
+        alloc,
+        &["elfmap", "check", "a.o"],
+        &mut files,
+        &mut out,
+        &mut err,
+    )
+}
