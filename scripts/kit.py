@@ -1,7 +1,9 @@
 """How the kit's checker reads a crate of this repository over built libraries: for the scripts that call it themselves."""
-import functools, os, subprocess
+import functools, hashlib, os, subprocess
 
 TOP = os.path.dirname(os.path.dirname(os.path.abspath(__file__)))
+# Where `scripts/prove` puts the libraries that it proved, each beside a sum of what it was made from.
+RLIBS = f"{TOP}/crates/elfmap/out/rlibs"
 
 
 def said_by(words, folder):
@@ -32,6 +34,62 @@ def deps(name):
 def below(name):
     """The crates of the repository below this one, each behind those that it stands on itself."""
     return list(dict.fromkeys(it for dep in deps(name) for it in [*below(dep), dep]))
+
+
+@functools.cache
+def texts_of(crate):
+    """The files of its code, definitions and proofs, in order."""
+    rooms = [room for part in ("src", "specs", "proofs") for room in os.walk(f"{TOP}/crates/{crate}/{part}")]
+    return sorted(f"{folder}/{name}" for folder, _, names in rooms for name in names)
+
+
+@functools.cache
+def version():
+    return said_by(["rt", "version"], TOP)
+
+
+@functools.cache
+def sum_of(crate):
+    """A sum of all that a library is built from: the kit, its texts, and those of the libraries below it."""
+    found = hashlib.sha256(f"{version()} {libraries()[crate]}".encode())
+    for path in texts_of(crate):
+        with open(path, "rb") as text:
+            found.update(f"{path[len(TOP):]} {os.path.getsize(path)} ".encode() + text.read())
+    for dep in deps(crate):
+        found.update(sum_of(dep).encode())
+    return found.hexdigest()
+
+
+def is_built_by_prove(crate):
+    """Whether `scripts/prove` built the library of these texts."""
+    made = f"{RLIBS}/{crate}.sum"
+    if not os.path.isfile(made):
+        return False
+    with open(made, encoding="ascii") as it:
+        return it.read() == sum_of(crate)
+
+
+def gate_folder(crate):
+    """Where `rt ci` puts the library of a crate."""
+    return f"{TOP}/crates/{crate}/out/rlib"
+
+
+def is_built_by_gate(crate):
+    """Whether `rt ci` built the library after its texts were last written."""
+    made = f"{gate_folder(crate)}/{crate}.rlib"
+    return os.path.isdir(made) and all(os.path.getmtime(it) <= os.path.getmtime(made) for it in texts_of(crate))
+
+
+def built_below(crates):
+    """Gives the folder of each library below these crates, all as `scripts/prove` built them or all as `rt ci` did: a mixture of both fits
+    nowhere. Where neither has them all, gives None and those that `scripts/prove` lacks."""
+    names = list(dict.fromkeys(it for crate in crates for it in below(crate)))
+    lacking = [it for it in names if not is_built_by_prove(it)]
+    if not lacking:
+        return lambda name: RLIBS, []
+    if all(map(is_built_by_gate, names)):
+        return gate_folder, []
+    return None, lacking
 
 
 def words(crate, root, folder_of):

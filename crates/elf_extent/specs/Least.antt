@@ -1,9 +1,9 @@
 -- The lowest offset at which a predicate holds, or that it holds at none.
 use Rattle.std.specs.Prelude.{ℕ, ◌≤◌, min, Option, None, Some}
 
--- the predicate holds at no offset
-abbrev pub Never : (ℕ → Type 0) → Type 0
-Never P = (x : ℕ) → P x → ⊥
+-- the predicate holds nowhere
+abbrev pub Never : {A : Type 0} → (A → Type 0) → Type 0
+Never {A} P = (x : A) → P x → ⊥
 
 -- the predicate holds at x, and at no offset below x
 pub record IsLeast (P : ℕ → Type 0) (x : ℕ) : Type 0 where

@@ -10,7 +10,6 @@ pub mod LayoutLaws
 pub mod Phdr
 pub mod PhdrLaws
 pub mod Record
-pub mod RecordTableLaws
 pub mod Rel
 pub mod RelLaws
 pub mod Rela

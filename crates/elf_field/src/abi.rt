@@ -215,6 +215,8 @@ pub const STT_TLS: u8 = 6;
 pub const REL_SIZE: u64 = 16;
 /// Size of a relocation with an addend.
 pub const RELA_SIZE: u64 = 24;
+/// Offset of `r_offset`, in either.
+pub const R_OFFSET_AT: u64 = 0;
 /// Offset of `r_info`, in either.
 pub const R_INFO_AT: u64 = 8;
 /// Offset of `r_addend`.
@@ -224,6 +226,8 @@ pub const R_ADDEND_AT: u64 = 16;
 
 /// Size of a program header.
 pub const PHDR_SIZE: u64 = 56;
+/// Offset of `p_type`.
+pub const P_TYPE_AT: u64 = 0;
 /// Offset of `p_flags`.
 pub const P_FLAGS_AT: u64 = 4;
 /// Offset of `p_offset`.
@@ -267,6 +271,8 @@ pub const PF_R: u32 = 0x4;
 
 /// Size of an entry.
 pub const DYN_SIZE: u64 = 16;
+/// Offset of `d_tag`.
+pub const D_TAG_AT: u64 = 0;
 /// Offset of `d_un`.
 pub const D_UN_AT: u64 = 8;
 

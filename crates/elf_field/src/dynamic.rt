@@ -4,7 +4,7 @@ ghost use Rattle.elf_field.specs.Layout.{spelled};
 ghost use Rattle.elf_field.specs.Dyn.{IsDyn, IsDynAt, dyn_at, dyn_bytes, dyn_in, dyn_values, dyn_widths};
 ghost use Rattle.elf_field.specs.DynLaws.{dyn_fields_at, dyn_laws};
 
-use crate::abi::DYN_SIZE;
+use crate::abi::{D_TAG_AT, D_UN_AT, DYN_SIZE};
 use crate::number::{i64_at, put_i64, put_u64, u64_at};
 use crate::order::Order;
 use crate::record::Record;
@@ -65,8 +65,8 @@ fn read<O: ByteOrder>(b: &[u8]) -> Dyn
     ensures { result ≡ dyn_in O.number_of b.now 0 }
 {
     Dyn {
-        d_tag: i64_at::<O>(b, 0),
-        d_un: u64_at::<O>(b, 8),
+        d_tag: i64_at::<O>(b, D_TAG_AT),
+        d_un: u64_at::<O>(b, D_UN_AT),
     }
 }
 
@@ -74,8 +74,8 @@ fn write<O: ByteOrder>(v: &Dyn, b: &mut [u8])
     requires { length b.old ≡ DYN_SIZE }
     ensures { b.new ≡ spelled O.bytes_of [] dyn_widths (dyn_values v.now) }
 {
-    put_i64::<O>(b, 0, v.d_tag);
-    put_u64::<O>(b, 8, v.d_un);
+    put_i64::<O>(b, D_TAG_AT, v.d_tag);
+    put_u64::<O>(b, D_UN_AT, v.d_un);
 }
 
 // A value's fields are within their widths because their types are.

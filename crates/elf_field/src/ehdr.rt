@@ -5,7 +5,11 @@ ghost use Rattle.elf_field.specs.Bytes.{first_bytes};
 ghost use Rattle.elf_field.specs.Ehdr.{IsEhdr, IsEhdrAt, ehdr_at, ehdr_bytes, ehdr_in, ehdr_values, ehdr_widths};
 ghost use Rattle.elf_field.specs.EhdrLaws.{ehdr_fields_at, ehdr_laws};
 
-use crate::abi::{EHDR_SIZE, EI_NIDENT};
+use crate::abi::{
+    E_EHSIZE_AT, E_ENTRY_AT, E_FLAGS_AT, E_MACHINE_AT, E_PHENTSIZE_AT, E_PHNUM_AT, E_PHOFF_AT,
+    E_SHENTSIZE_AT, E_SHNUM_AT, E_SHOFF_AT, E_SHSTRNDX_AT, E_TYPE_AT, E_VERSION_AT, EHDR_SIZE,
+    EI_NIDENT,
+};
 use crate::number::{put_u16, put_u32, put_u64, u16_at, u32_at, u64_at};
 use crate::order::Order;
 use crate::record::Record;
@@ -91,19 +95,19 @@ fn read<O: ByteOrder>(b: &[u8]) -> Ehdr
 {
     Ehdr {
         e_ident: ident_at(b),
-        e_type: u16_at::<O>(b, 16),
-        e_machine: u16_at::<O>(b, 18),
-        e_version: u32_at::<O>(b, 20),
-        e_entry: u64_at::<O>(b, 24),
-        e_phoff: u64_at::<O>(b, 32),
-        e_shoff: u64_at::<O>(b, 40),
-        e_flags: u32_at::<O>(b, 48),
-        e_ehsize: u16_at::<O>(b, 52),
-        e_phentsize: u16_at::<O>(b, 54),
-        e_phnum: u16_at::<O>(b, 56),
-        e_shentsize: u16_at::<O>(b, 58),
-        e_shnum: u16_at::<O>(b, 60),
-        e_shstrndx: u16_at::<O>(b, 62),
+        e_type: u16_at::<O>(b, E_TYPE_AT),
+        e_machine: u16_at::<O>(b, E_MACHINE_AT),
+        e_version: u32_at::<O>(b, E_VERSION_AT),
+        e_entry: u64_at::<O>(b, E_ENTRY_AT),
+        e_phoff: u64_at::<O>(b, E_PHOFF_AT),
+        e_shoff: u64_at::<O>(b, E_SHOFF_AT),
+        e_flags: u32_at::<O>(b, E_FLAGS_AT),
+        e_ehsize: u16_at::<O>(b, E_EHSIZE_AT),
+        e_phentsize: u16_at::<O>(b, E_PHENTSIZE_AT),
+        e_phnum: u16_at::<O>(b, E_PHNUM_AT),
+        e_shentsize: u16_at::<O>(b, E_SHENTSIZE_AT),
+        e_shnum: u16_at::<O>(b, E_SHNUM_AT),
+        e_shstrndx: u16_at::<O>(b, E_SHSTRNDX_AT),
     }
 }
 
@@ -129,19 +133,19 @@ fn write<O: ByteOrder>(v: &Ehdr, b: &mut [u8])
     ensures { b.new ≡ spelled O.bytes_of (first_bytes EI_NIDENT v.now.e_ident) ehdr_widths (ehdr_values v.now) }
 {
     put_ident(b, v.e_ident);
-    put_u16::<O>(b, 16, v.e_type);
-    put_u16::<O>(b, 18, v.e_machine);
-    put_u32::<O>(b, 20, v.e_version);
-    put_u64::<O>(b, 24, v.e_entry);
-    put_u64::<O>(b, 32, v.e_phoff);
-    put_u64::<O>(b, 40, v.e_shoff);
-    put_u32::<O>(b, 48, v.e_flags);
-    put_u16::<O>(b, 52, v.e_ehsize);
-    put_u16::<O>(b, 54, v.e_phentsize);
-    put_u16::<O>(b, 56, v.e_phnum);
-    put_u16::<O>(b, 58, v.e_shentsize);
-    put_u16::<O>(b, 60, v.e_shnum);
-    put_u16::<O>(b, 62, v.e_shstrndx);
+    put_u16::<O>(b, E_TYPE_AT, v.e_type);
+    put_u16::<O>(b, E_MACHINE_AT, v.e_machine);
+    put_u32::<O>(b, E_VERSION_AT, v.e_version);
+    put_u64::<O>(b, E_ENTRY_AT, v.e_entry);
+    put_u64::<O>(b, E_PHOFF_AT, v.e_phoff);
+    put_u64::<O>(b, E_SHOFF_AT, v.e_shoff);
+    put_u32::<O>(b, E_FLAGS_AT, v.e_flags);
+    put_u16::<O>(b, E_EHSIZE_AT, v.e_ehsize);
+    put_u16::<O>(b, E_PHENTSIZE_AT, v.e_phentsize);
+    put_u16::<O>(b, E_PHNUM_AT, v.e_phnum);
+    put_u16::<O>(b, E_SHENTSIZE_AT, v.e_shentsize);
+    put_u16::<O>(b, E_SHNUM_AT, v.e_shnum);
+    put_u16::<O>(b, E_SHSTRNDX_AT, v.e_shstrndx);
 }
 
 // A value's fields are within their widths because their types are.

@@ -4,7 +4,10 @@ ghost use Rattle.elf_field.specs.Layout.{spelled};
 ghost use Rattle.elf_field.specs.Phdr.{IsPhdr, IsPhdrAt, phdr_at, phdr_bytes, phdr_in, phdr_values, phdr_widths};
 ghost use Rattle.elf_field.specs.PhdrLaws.{phdr_fields_at, phdr_laws};
 
-use crate::abi::PHDR_SIZE;
+use crate::abi::{
+    P_ALIGN_AT, P_FILESZ_AT, P_FLAGS_AT, P_MEMSZ_AT, P_OFFSET_AT, P_PADDR_AT, P_TYPE_AT,
+    P_VADDR_AT, PHDR_SIZE,
+};
 use crate::number::{put_u32, put_u64, u32_at, u64_at};
 use crate::order::Order;
 use crate::record::Record;
@@ -77,14 +80,14 @@ fn read<O: ByteOrder>(b: &[u8]) -> Phdr
     ensures { result ≡ phdr_in O.number_of b.now 0 }
 {
     Phdr {
-        p_type: u32_at::<O>(b, 0),
-        p_flags: u32_at::<O>(b, 4),
-        p_offset: u64_at::<O>(b, 8),
-        p_vaddr: u64_at::<O>(b, 16),
-        p_paddr: u64_at::<O>(b, 24),
-        p_filesz: u64_at::<O>(b, 32),
-        p_memsz: u64_at::<O>(b, 40),
-        p_align: u64_at::<O>(b, 48),
+        p_type: u32_at::<O>(b, P_TYPE_AT),
+        p_flags: u32_at::<O>(b, P_FLAGS_AT),
+        p_offset: u64_at::<O>(b, P_OFFSET_AT),
+        p_vaddr: u64_at::<O>(b, P_VADDR_AT),
+        p_paddr: u64_at::<O>(b, P_PADDR_AT),
+        p_filesz: u64_at::<O>(b, P_FILESZ_AT),
+        p_memsz: u64_at::<O>(b, P_MEMSZ_AT),
+        p_align: u64_at::<O>(b, P_ALIGN_AT),
     }
 }
 
@@ -92,14 +95,14 @@ fn write<O: ByteOrder>(v: &Phdr, b: &mut [u8])
     requires { length b.old ≡ PHDR_SIZE }
     ensures { b.new ≡ spelled O.bytes_of [] phdr_widths (phdr_values v.now) }
 {
-    put_u32::<O>(b, 0, v.p_type);
-    put_u32::<O>(b, 4, v.p_flags);
-    put_u64::<O>(b, 8, v.p_offset);
-    put_u64::<O>(b, 16, v.p_vaddr);
-    put_u64::<O>(b, 24, v.p_paddr);
-    put_u64::<O>(b, 32, v.p_filesz);
-    put_u64::<O>(b, 40, v.p_memsz);
-    put_u64::<O>(b, 48, v.p_align);
+    put_u32::<O>(b, P_TYPE_AT, v.p_type);
+    put_u32::<O>(b, P_FLAGS_AT, v.p_flags);
+    put_u64::<O>(b, P_OFFSET_AT, v.p_offset);
+    put_u64::<O>(b, P_VADDR_AT, v.p_vaddr);
+    put_u64::<O>(b, P_PADDR_AT, v.p_paddr);
+    put_u64::<O>(b, P_FILESZ_AT, v.p_filesz);
+    put_u64::<O>(b, P_MEMSZ_AT, v.p_memsz);
+    put_u64::<O>(b, P_ALIGN_AT, v.p_align);
 }
 
 // A value's fields are within their widths because their types are.

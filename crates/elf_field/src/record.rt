@@ -11,13 +11,13 @@ pub trait Record {
 
     ghost SIZE: { ℕ };
 
-    // the record at a place of a list of bytes
+    // the record at an offset of a list of bytes
     ghost at: { Order → List ℕ → ℕ → Self };
 
     // the record's bytes
     ghost bytes: { Order → Self → List ℕ };
 
-    // the record's fields stand at their offsets from a place of a list of bytes
+    // the record's fields stand at their offsets from an offset of a list of bytes
     ghost IsAt: { Order → List ℕ → ℕ → Self → Type 0 };
 
     // each field fits its width
@@ -43,7 +43,7 @@ pub trait Record {
     // What is written is read back, what is read is written back, and the other laws of records.
     ghost laws: { IsRecord SIZE at bytes IsValid };
 
-    // Each field of the record at a place is at its offset.
+    // Each field of the record at an offset is at its own behind that.
     ghost fields_at: { (o : Order) (b : List ℕ) (x : ℕ) → x + SIZE ≤ length b → IsBytes b → IsAt o b x (at o b x) };
 }
 

@@ -4,7 +4,7 @@ ghost use Rattle.elf_field.specs.Layout.{spelled};
 ghost use Rattle.elf_field.specs.Rel.{IsRel, IsRelAt, rel_at, rel_bytes, rel_in, rel_values, rel_widths};
 ghost use Rattle.elf_field.specs.RelLaws.{rel_fields_at, rel_laws};
 
-use crate::abi::REL_SIZE;
+use crate::abi::{R_INFO_AT, R_OFFSET_AT, REL_SIZE};
 use crate::number::{put_u64, u64_at};
 use crate::order::Order;
 use crate::record::Record;
@@ -83,8 +83,8 @@ fn read<O: ByteOrder>(b: &[u8]) -> Rel
     ensures { result ≡ rel_in O.number_of b.now 0 }
 {
     Rel {
-        r_offset: u64_at::<O>(b, 0),
-        r_info: u64_at::<O>(b, 8),
+        r_offset: u64_at::<O>(b, R_OFFSET_AT),
+        r_info: u64_at::<O>(b, R_INFO_AT),
     }
 }
 
@@ -92,8 +92,8 @@ fn write<O: ByteOrder>(v: &Rel, b: &mut [u8])
     requires { length b.old ≡ REL_SIZE }
     ensures { b.new ≡ spelled O.bytes_of [] rel_widths (rel_values v.now) }
 {
-    put_u64::<O>(b, 0, v.r_offset);
-    put_u64::<O>(b, 8, v.r_info);
+    put_u64::<O>(b, R_OFFSET_AT, v.r_offset);
+    put_u64::<O>(b, R_INFO_AT, v.r_info);
 }
 
 // A value's fields are within their widths because their types are.

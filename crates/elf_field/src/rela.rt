@@ -4,7 +4,7 @@ ghost use Rattle.elf_field.specs.Layout.{spelled};
 ghost use Rattle.elf_field.specs.Rela.{IsRela, IsRelaAt, rela_at, rela_bytes, rela_in, rela_values, rela_widths};
 ghost use Rattle.elf_field.specs.RelaLaws.{rela_fields_at, rela_laws};
 
-use crate::abi::RELA_SIZE;
+use crate::abi::{R_ADDEND_AT, R_INFO_AT, R_OFFSET_AT, RELA_SIZE};
 use crate::number::{i64_at, put_i64, put_u64, u64_at};
 use crate::order::Order;
 use crate::record::Record;
@@ -85,9 +85,9 @@ fn read<O: ByteOrder>(b: &[u8]) -> Rela
     ensures { result ≡ rela_in O.number_of b.now 0 }
 {
     Rela {
-        r_offset: u64_at::<O>(b, 0),
-        r_info: u64_at::<O>(b, 8),
-        r_addend: i64_at::<O>(b, 16),
+        r_offset: u64_at::<O>(b, R_OFFSET_AT),
+        r_info: u64_at::<O>(b, R_INFO_AT),
+        r_addend: i64_at::<O>(b, R_ADDEND_AT),
     }
 }
 
@@ -95,9 +95,9 @@ fn write<O: ByteOrder>(v: &Rela, b: &mut [u8])
     requires { length b.old ≡ RELA_SIZE }
     ensures { b.new ≡ spelled O.bytes_of [] rela_widths (rela_values v.now) }
 {
-    put_u64::<O>(b, 0, v.r_offset);
-    put_u64::<O>(b, 8, v.r_info);
-    put_i64::<O>(b, 16, v.r_addend);
+    put_u64::<O>(b, R_OFFSET_AT, v.r_offset);
+    put_u64::<O>(b, R_INFO_AT, v.r_info);
+    put_i64::<O>(b, R_ADDEND_AT, v.r_addend);
 }
 
 // A value's fields are within their widths because their types are.

@@ -4,7 +4,10 @@ ghost use Rattle.elf_field.specs.Layout.{spelled};
 ghost use Rattle.elf_field.specs.Shdr.{IsShdr, IsShdrAt, shdr_at, shdr_bytes, shdr_in, shdr_values, shdr_widths};
 ghost use Rattle.elf_field.specs.ShdrLaws.{shdr_fields_at, shdr_laws};
 
-use crate::abi::SHDR_SIZE;
+use crate::abi::{
+    SH_ADDR_AT, SH_ADDRALIGN_AT, SH_ENTSIZE_AT, SH_FLAGS_AT, SH_INFO_AT, SH_LINK_AT, SH_NAME_AT,
+    SH_OFFSET_AT, SH_SIZE_AT, SH_TYPE_AT, SHDR_SIZE,
+};
 use crate::number::{put_u32, put_u64, u32_at, u64_at};
 use crate::order::Order;
 use crate::record::Record;
@@ -81,16 +84,16 @@ fn read<O: ByteOrder>(b: &[u8]) -> Shdr
     ensures { result ≡ shdr_in O.number_of b.now 0 }
 {
     Shdr {
-        sh_name: u32_at::<O>(b, 0),
-        sh_type: u32_at::<O>(b, 4),
-        sh_flags: u64_at::<O>(b, 8),
-        sh_addr: u64_at::<O>(b, 16),
-        sh_offset: u64_at::<O>(b, 24),
-        sh_size: u64_at::<O>(b, 32),
-        sh_link: u32_at::<O>(b, 40),
-        sh_info: u32_at::<O>(b, 44),
-        sh_addralign: u64_at::<O>(b, 48),
-        sh_entsize: u64_at::<O>(b, 56),
+        sh_name: u32_at::<O>(b, SH_NAME_AT),
+        sh_type: u32_at::<O>(b, SH_TYPE_AT),
+        sh_flags: u64_at::<O>(b, SH_FLAGS_AT),
+        sh_addr: u64_at::<O>(b, SH_ADDR_AT),
+        sh_offset: u64_at::<O>(b, SH_OFFSET_AT),
+        sh_size: u64_at::<O>(b, SH_SIZE_AT),
+        sh_link: u32_at::<O>(b, SH_LINK_AT),
+        sh_info: u32_at::<O>(b, SH_INFO_AT),
+        sh_addralign: u64_at::<O>(b, SH_ADDRALIGN_AT),
+        sh_entsize: u64_at::<O>(b, SH_ENTSIZE_AT),
     }
 }
 
@@ -98,16 +101,16 @@ fn write<O: ByteOrder>(v: &Shdr, b: &mut [u8])
     requires { length b.old ≡ SHDR_SIZE }
     ensures { b.new ≡ spelled O.bytes_of [] shdr_widths (shdr_values v.now) }
 {
-    put_u32::<O>(b, 0, v.sh_name);
-    put_u32::<O>(b, 4, v.sh_type);
-    put_u64::<O>(b, 8, v.sh_flags);
-    put_u64::<O>(b, 16, v.sh_addr);
-    put_u64::<O>(b, 24, v.sh_offset);
-    put_u64::<O>(b, 32, v.sh_size);
-    put_u32::<O>(b, 40, v.sh_link);
-    put_u32::<O>(b, 44, v.sh_info);
-    put_u64::<O>(b, 48, v.sh_addralign);
-    put_u64::<O>(b, 56, v.sh_entsize);
+    put_u32::<O>(b, SH_NAME_AT, v.sh_name);
+    put_u32::<O>(b, SH_TYPE_AT, v.sh_type);
+    put_u64::<O>(b, SH_FLAGS_AT, v.sh_flags);
+    put_u64::<O>(b, SH_ADDR_AT, v.sh_addr);
+    put_u64::<O>(b, SH_OFFSET_AT, v.sh_offset);
+    put_u64::<O>(b, SH_SIZE_AT, v.sh_size);
+    put_u32::<O>(b, SH_LINK_AT, v.sh_link);
+    put_u32::<O>(b, SH_INFO_AT, v.sh_info);
+    put_u64::<O>(b, SH_ADDRALIGN_AT, v.sh_addralign);
+    put_u64::<O>(b, SH_ENTSIZE_AT, v.sh_entsize);
 }
 
 // A value's fields are within their widths because their types are.

@@ -4,7 +4,9 @@ ghost use Rattle.elf_field.specs.Layout.{spelled};
 ghost use Rattle.elf_field.specs.Sym.{IsSym, IsSymAt, sym_at, sym_bytes, sym_in, sym_values, sym_widths};
 ghost use Rattle.elf_field.specs.SymLaws.{sym_fields_at, sym_laws};
 
-use crate::abi::SYM_SIZE;
+use crate::abi::{
+    ST_INFO_AT, ST_NAME_AT, ST_OTHER_AT, ST_SHNDX_AT, ST_SIZE_AT, ST_VALUE_AT, SYM_SIZE,
+};
 use crate::number::{put_u8, put_u16, put_u32, put_u64, u8_at, u16_at, u32_at, u64_at};
 use crate::order::Order;
 use crate::record::Record;
@@ -89,12 +91,12 @@ fn read<O: ByteOrder>(b: &[u8]) -> Sym
     ensures { result ≡ sym_in O.number_of b.now 0 }
 {
     Sym {
-        st_name: u32_at::<O>(b, 0),
-        st_info: u8_at::<O>(b, 4),
-        st_other: u8_at::<O>(b, 5),
-        st_shndx: u16_at::<O>(b, 6),
-        st_value: u64_at::<O>(b, 8),
-        st_size: u64_at::<O>(b, 16),
+        st_name: u32_at::<O>(b, ST_NAME_AT),
+        st_info: u8_at::<O>(b, ST_INFO_AT),
+        st_other: u8_at::<O>(b, ST_OTHER_AT),
+        st_shndx: u16_at::<O>(b, ST_SHNDX_AT),
+        st_value: u64_at::<O>(b, ST_VALUE_AT),
+        st_size: u64_at::<O>(b, ST_SIZE_AT),
     }
 }
 
@@ -102,12 +104,12 @@ fn write<O: ByteOrder>(v: &Sym, b: &mut [u8])
     requires { length b.old ≡ SYM_SIZE }
     ensures { b.new ≡ spelled O.bytes_of [] sym_widths (sym_values v.now) }
 {
-    put_u32::<O>(b, 0, v.st_name);
-    put_u8::<O>(b, 4, v.st_info);
-    put_u8::<O>(b, 5, v.st_other);
-    put_u16::<O>(b, 6, v.st_shndx);
-    put_u64::<O>(b, 8, v.st_value);
-    put_u64::<O>(b, 16, v.st_size);
+    put_u32::<O>(b, ST_NAME_AT, v.st_name);
+    put_u8::<O>(b, ST_INFO_AT, v.st_info);
+    put_u8::<O>(b, ST_OTHER_AT, v.st_other);
+    put_u16::<O>(b, ST_SHNDX_AT, v.st_shndx);
+    put_u64::<O>(b, ST_VALUE_AT, v.st_value);
+    put_u64::<O>(b, ST_SIZE_AT, v.st_size);
 }
 
 // A value's fields are within their widths because their types are.

@@ -13,7 +13,7 @@ use Rattle.elf_image_rules.specs.Rows.{FirstIn}
 use Rattle.elf_image_rules.specs.OverlapRule.{extents}
 use Rattle.elf_image_rules.specs.ImageRules.{IsFault, KeepsRecordRules, image_rules, record_rules, rules_in}
 use Rattle.elf_image_rules.specs.SoundTables.{HasSoundTables}
-use Rattle.elf_image_rules.specs.Tables.{content_extent, header, name_table, names, no_section, order_of, section_count, sections, segment_count, segments, shdr_offset}
+use Rattle.elf_image_rules.specs.Tables.{content_extent, header, name_table, names, no_section_header, order_of, program_header_count, section_header_count, sections, segments, shdr_offset}
 use Rattle.elf_image_rules.proofs.Extents.{content_extent_at, length-extents}
 use Rattle.elf_image_rules.proofs.KeepsRules.{records_kept, rules_kept}
 use Rattle.elf_image_rules.proofs.Rows.{FirstIn-front}
@@ -24,8 +24,8 @@ pub clean_records : (len : ℕ) (h : Ehdr) (s : ℕ → Shdr) (g : ℕ → Phdr)
 unfolding image_rules
 clean_records len h s g names clean = FirstIn-front (record_rules len h s g names) _ clean
 
--- a section table has entries, where its count is one that stands in the right place
-count_some : (h : Ehdr) (first : Shdr) → h.e_shoff ≢ 0 → (h.e_shnum ≡ 0 → SHN_LORESERVE ≤ first.sh_size) → 0 < section_count h first
+-- a section table has entries, where its count is one that stands in the right field
+count_some : (h : Ehdr) (first : Shdr) → h.e_shoff ≢ 0 → (h.e_shnum ≡ 0 → SHN_LORESERVE ≤ first.sh_size) → 0 < section_header_count h first
 count_some h first there large =
     rw (ne_eqb h.e_shoff 0 there) (elim (cases_eq h.e_shnum 0) [
       | inl none ↦ rw none (let l = large none in omega arith)
@@ -61,7 +61,7 @@ sound_tables len h s g names clean =
 -- no byte belongs to two of the extents
 pub extents_disjoint : (len : ℕ) (h : Ehdr) (s : ℕ → Shdr) (g : ℕ → Phdr) (names : List ℕ) →
     FirstIn (image_rules len h s g names) None →
-    AreDisjoint (extents h (section_count h (s 0)) (segment_count h (s 0)) s)
+    AreDisjoint (extents h (section_header_count h (s 0)) (program_header_count h (s 0)) s)
 extents_disjoint len h s g names clean = (rules_kept len h s g names clean).disjoint
 
 -- a content that is not empty is that of a section of a type that has one
@@ -77,14 +77,14 @@ content_some entry some =
     ]
 
 -- where there is a section header there is a section table
-pub table_some : (h : Ehdr) (first : Shdr) → 0 < section_count h first → h.e_shoff ≢ 0
+pub table_some : (h : Ehdr) (first : Shdr) → 0 < section_header_count h first → h.e_shoff ≢ 0
 table_some h first some none =
-    let zero_count : section_count h first ≡ 0 = rw none refl in
+    let zero_count : section_header_count h first ≡ 0 = rw none refl in
     omega arith
 
 -- each content that is not empty lies in the file
 pub content_inside : (len : ℕ) (h : Ehdr) (s : ℕ → Shdr) → HasSoundTables len h s →
-    (i : ℕ) → i < section_count h (s 0) → 0 < (content_extent (s i)).len →
+    (i : ℕ) → i < section_header_count h (s 0) → 0 < (content_extent (s i)).len →
     (s i).sh_offset + (content_extent (s i)).len ≤ len
 content_inside len h s sound zero lt some =
     absurd ((content_some (s 0) some).0 (sound.null (table_some h (s 0) (omega arith))))
@@ -102,22 +102,22 @@ inside_of len x e read inside =
 
 -- each extent that is not empty lies in the file
 pub extents_within : (len : ℕ) (h : Ehdr) (s : ℕ → Shdr) → HasSoundTables len h s →
-    AreWithin (extents h (section_count h (s 0)) (segment_count h (s 0)) s) len
+    AreWithin (extents h (section_header_count h (s 0)) (program_header_count h (s 0)) s) len
 unfolding extents
 extents_within len h s sound zero e read =
     let long = sound.header in
     inside_of len (record { start = 0; len = EHDR_SIZE }) e read (λ some. omega arith)
 extents_within len h s sound (suc zero) e read =
-    let n = section_count h (s 0) in
+    let n = section_header_count h (s 0) in
     inside_of len (record { start = h.e_shoff; len = SHDR_SIZE * n }) e read
     (λ some. sound.section_table (table_some h (s 0) (omega arith)))
 extents_within len h s sound (suc (suc zero)) e read =
-    let m = segment_count h (s 0) in
+    let m = program_header_count h (s 0) in
     inside_of len (record { start = h.e_phoff; len = PHDR_SIZE * m }) e read
     (λ some. sound.program_table (omega arith))
 extents_within len h s sound (suc (suc (suc k))) e read =
-    let n = section_count h (s 0) in
-    let m = segment_count h (s 0) in
+    let n = section_header_count h (s 0) in
+    let m = program_header_count h (s 0) in
     let long = length-extents h n m s in
     let below = slice_get_within (extents h n m s) (suc (suc (suc k))) e read in
     let lt : k < n = omega arith in
@@ -129,7 +129,7 @@ extents_within len h s sound (suc (suc (suc k))) e read =
 
 -- the section name string table is one of the sections, or there is none
 pub name_table_below : (len : ℕ) (h : Ehdr) (s : ℕ → Shdr) → HasSoundTables len h s →
-    (name_table h (s 0) ≡ 0) ⊎ (name_table h (s 0) < section_count h (s 0))
+    (name_table h (s 0) ≡ 0) ⊎ (name_table h (s 0) < section_header_count h (s 0))
 name_table_below len h s sound = elim (cases_eq h.e_shoff 0) [
   | inl none ↦ (let unnamed = sound.no_names none in inl (rw unnamed refl))
   | inr there ↦ inr (sound.name_table there)
@@ -147,10 +147,10 @@ sound_file b h same kept = subst (λ (k : Ehdr). HasSoundTables (length b) k (se
 
 -- all section headers lie in the file
 pub sections_there : (b : List ℕ) (h : Ehdr) → HasSoundTables (length b) h (sections b h) →
-    shdr_offset h (section_count h (sections b h 0)) ≤ length b
+    shdr_offset h (section_header_count h (sections b h 0)) ≤ length b
 sections_there b h sound = elim (cases_eq h.e_shoff 0) [
   | inl none ↦
-      (let no_sections : section_count h (sections b h 0) ≡ 0 = rw none refl in
+      (let no_sections : section_header_count h (sections b h 0) ≡ 0 = rw none refl in
       let long = sound.header in
       omega arith)
   | inr there ↦ sound.section_table there
@@ -164,6 +164,6 @@ sections_read_at b h there =
     let each : (i : ℕ) → sections b h i ≡ shdr_at (order_of h.e_ident) b (shdr_offset h i) = λ i. rw (ne_eqb h.e_shoff 0 there) refl in
     λ k i. each i k
 
-pub sections_none : (b : List ℕ) (h : Ehdr) → h.e_shoff ≡ 0 → sections b h ≡ (λ (i : ℕ). no_section)
+pub sections_none : (b : List ℕ) (h : Ehdr) → h.e_shoff ≡ 0 → sections b h ≡ (λ (i : ℕ). no_section_header)
 unfolding sections
 sections_none b h none = rw none refl

@@ -21,8 +21,8 @@ equal_to_either m a b never = elim (cases_eq m a) [
   | inr other ↦ inr (equal m b (λ different. never (other, different)))
 ]
 
-pub alignment : (align : ℕ) → (IsWrongAlignment align → ⊥) → IsAlignment align
-alignment align never = elim (cases_eq align 0) [
+pub is_alignment : (align : ℕ) → (IsWrongAlignment align → ⊥) → IsAlignment align
+is_alignment align never = elim (cases_eq align 0) [
   | inl none ↦ inl none
   | inr some ↦ elim (cases_eq (ones align) 1) [
     | inl one ↦ inr (is_power_of_two align one)

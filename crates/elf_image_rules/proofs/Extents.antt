@@ -11,7 +11,7 @@ use Rattle.elf_extent.specs.declared.extent.Extent.{Extent}
 use Rattle.elf_extent.specs.Extent.{Has, HasAt, Doubly}
 use Rattle.elf_extent.specs.Least.{IsLowest, lower_of}
 use Rattle.elf_extent.proofs.Public.{IsLowest-same, IsLowest-lower}
-use Rattle.elf_image_rules.specs.OverlapRule.{AreAscending, DoublyBelow, SharedBelow, contents, extents}
+use Rattle.elf_image_rules.specs.OverlapRule.{DoublyBelow, ExtentsAscend, SharedBelow, contents, extents}
 use Rattle.elf_image_rules.specs.declared.file_extents.FileExtents.{FileExtents}
 use Rattle.elf_image_rules.specs.FileExtents.{file_extents}
 use Rattle.elf_image_rules.specs.JudgedRecords.{file_of}
@@ -133,7 +133,7 @@ doubly_all es found lowest =
     doubly_below es (length es) found (λ i j x high lt within one other. absurd (omega arith)) lowest
 
 -- extents that ascend share no byte
-pub doubly_ascending : (es : List Extent) (limit : ℕ) (found : Option ℕ) → AreAscending es limit (length es) →
+pub doubly_ascending : (es : List Extent) (limit : ℕ) (found : Option ℕ) → ExtentsAscend es limit (length es) →
     IsLowest (DoublyBelow es limit (length es)) found → IsLowest (Doubly es) found
 doubly_ascending es limit found ascend lowest = doubly_below es limit found apart lowest where
   apart : (i j x : ℕ) → limit ≤ i → i < j → j < length es → HasAt es i x → HasAt es j x → ⊥
@@ -146,7 +146,7 @@ doubly_ascending es limit found ascend lowest = doubly_below es limit found apar
 -- the walk over the contents: those below index k ascend, none of them ends behind `last`, and `last` is one of them that is
 -- not empty, or holds no offset at all
 pub record HasAscended (es : List Extent) (from k : ℕ) (last : Extent) : Type 0 where
-  pub ascending : AreAscending es from k
+  pub ascending : ExtentsAscend es from k
   pub behind : (i : ℕ) (a : Extent) → from ≤ i → i < k → slice_get es i ≡ Some a → 0 < a.len →
       a.start + a.len ≤ last.start + last.len
   pub held : 0 < last.start + last.len → (i : ℕ) × (from ≤ i) × (i < k) × (slice_get es i ≡ Some last) × (0 < last.len)

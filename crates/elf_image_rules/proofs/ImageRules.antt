@@ -15,19 +15,19 @@ use Rattle.elf_image_rules.specs.declared.tables.Counts.{Counts}
 use Rattle.elf_image_rules.specs.HeaderRules.{length_rules, ident_rules, header_rules}
 use Rattle.elf_image_rules.specs.SectionTableRules.{section_table_rules}
 use Rattle.elf_image_rules.specs.ProgramTableRules.{program_table_rules}
-use Rattle.elf_image_rules.specs.SectionRules.{section_rules}
+use Rattle.elf_image_rules.specs.SectionRules.{section_header_rules}
 use Rattle.elf_image_rules.specs.SegmentRules.{segment_rules}
-use Rattle.elf_image_rules.specs.NameRules.{name_rules}
+use Rattle.elf_image_rules.specs.NameRules.{section_name_rules}
 use Rattle.elf_image_rules.specs.OverlapRule.{shared_fault}
-use Rattle.elf_image_rules.specs.ImageRules.{IsFault, KeepsRecordRules, entry_rules, extents_of_file, image_rules, record_rules, rules_in, table_rules}
+use Rattle.elf_image_rules.specs.ImageRules.{IsFault, KeepsRecordRules, extents_of_file, header_entry_rules, header_table_rules, image_rules, record_rules, rules_in}
 use Rattle.elf_image_rules.proofs.Rows.{FirstIn-later, FirstIn-rest, FirstIn-sooner}
 
 -- rules 13 to 32 of a file with this header
-abbrev table_rules_of : List ℕ → Ehdr → List {1} Ruled
-table_rules_of b h = table_rules (length b) h (sections b h) (segments b h) (names b h)
+abbrev table_rules_of : List ℕ → Ehdr → List {1} (Ruled ℕ)
+table_rules_of b h = header_table_rules (length b) h (sections b h) (segments b h) (names b h)
 
 -- rules 1 to 32 of a file
-abbrev record_rules_of : List ℕ → List {1} Ruled
+abbrev record_rules_of : List ℕ → List {1} (Ruled ℕ)
 record_rules_of b = let h = header b in record_rules (length b) h (sections b h) (segments b h) (names b h)
 
 -- what the run of rules 1 to 32 found is the file's fault
@@ -57,12 +57,12 @@ overlap_alone b rule at kept fault =
     elim (FirstIn-rest (record_rules_of b) _ (Some (rule, at)) kept fault) [ inl here ↦ here.0 | inr later ↦ absurd later.1 ]
 
 -- what a judge of rules 1 to 32 answers, by what its run found
-pub judged_broken : {T : Type 0} (b : List ℕ) (result : Result T Broken) → FirstIn (record_rules_of b) (fault_of result) →
+pub judged_broken : {T : Type 0} (b : List ℕ) (result : Result T (Broken ℕ)) → FirstIn (record_rules_of b) (fault_of result) →
     IfErr result (λ broken. IsFault b (Some (broken.rule, broken.at)))
 judged_broken b (Ok u) run = tt
 judged_broken b (Err e) run = fault_of_records b (e.rule, e.at) run
 
-pub judged_kept : {T : Type 0} (b : List ℕ) (result : Result T Broken) → FirstIn (record_rules_of b) (fault_of result) →
+pub judged_kept : {T : Type 0} (b : List ℕ) (result : Result T (Broken ℕ)) → FirstIn (record_rules_of b) (fault_of result) →
     OnOk result (KeepsRecordRules b)
 judged_kept b (Ok u) run = run
 judged_kept b (Err e) run = tt
@@ -100,14 +100,14 @@ from_tables b h found e lengths ident headers run =
     (FirstIn-later (header_rules (length b) h) _ found headers run)
 
 -- rules 22 to 32 of a file with this header and section header 0
-abbrev entry_rules_of : List ℕ → Ehdr → Shdr → List {1} Ruled
-entry_rules_of b h first = entry_rules (length b) h (counts_in h first) (sections b h) (segments b h) (names b h)
+abbrev entry_rules_of : List ℕ → Ehdr → Shdr → List {1} (Ruled ℕ)
+entry_rules_of b h first = header_entry_rules (length b) h (counts_in h first) (sections b h) (segments b h) (names b h)
 
 pub from_section_table : (b : List ℕ) (h : Ehdr) (first : Shdr) (found : Option (ℕ × ℕ)) →
     first ≡ sections b h 0 →
     FirstIn (section_table_rules (length b) h first ++ (program_table_rules (length b) h first ++ entry_rules_of b h first)) found →
     FirstIn (table_rules_of b h) found
-unfolding table_rules
+unfolding header_table_rules
 from_section_table b h first found e run =
     subst
     (λ (f : Shdr). FirstIn (section_table_rules (length b) h f ++ (program_table_rules (length b) h f ++ entry_rules_of b h f)) found)
@@ -126,34 +126,34 @@ pub from_entries : (b : List ℕ) (h : Ehdr) (first : Shdr) (c : Counts) (found 
     first ≡ sections b h 0 → c ≡ counts_in h first →
     FirstIn (section_table_rules (length b) h first) None →
     FirstIn (program_table_rules (length b) h first) None →
-    FirstIn (entry_rules (length b) h c (sections b h) (segments b h) (names_at b h c.name_table)) found →
+    FirstIn (header_entry_rules (length b) h c (sections b h) (segments b h) (names_at b h c.name_table)) found →
     FirstIn (table_rules_of b h) found
 unfolding program_table_rules names
 from_entries b h first c found e counts_e table programs run =
     let counted = subst
-    (λ (k : Counts). FirstIn (entry_rules (length b) h k (sections b h) (segments b h) (names_at b h k.name_table)) found) counts_e run in
+    (λ (k : Counts). FirstIn (header_entry_rules (length b) h k (sections b h) (segments b h) (names_at b h k.name_table)) found) counts_e run in
     let named = subst
-    (λ (f : Shdr). FirstIn (entry_rules (length b) h (counts_in h first) (sections b h) (segments b h) (names_at b h (name_table h f))) found) e counted in
+    (λ (f : Shdr). FirstIn (header_entry_rules (length b) h (counts_in h first) (sections b h) (segments b h) (names_at b h (name_table h f))) found) e counted in
     from_program_table b h first found e table
     (FirstIn-later (program_table_rules (length b) h first) _ found programs named)
 
 -- the runs of rules 22 to 32, of abstract tables
 pub from_sections : (len : ℕ) (h : Ehdr) (c : Counts) (s : ℕ → Shdr) (g : ℕ → Phdr) (t : List ℕ) (found : Option (ℕ × ℕ)) →
-    FirstIn (section_rules len h c.sections s ++ (segment_rules len h c.segments g ++ name_rules h c.sections c.name_table s t)) found →
-    FirstIn (entry_rules len h c s g t) found
-unfolding entry_rules
+    FirstIn (section_header_rules len h c.sections s ++ (segment_rules len h c.segments g ++ section_name_rules h c.sections c.name_table s t)) found →
+    FirstIn (header_entry_rules len h c s g t) found
+unfolding header_entry_rules
 from_sections len h c s g t found run = run
 
 pub from_segments : (len : ℕ) (h : Ehdr) (c : Counts) (s : ℕ → Shdr) (g : ℕ → Phdr) (t : List ℕ) (found : Option (ℕ × ℕ)) →
-    FirstIn (section_rules len h c.sections s) None →
-    FirstIn (segment_rules len h c.segments g ++ name_rules h c.sections c.name_table s t) found →
-    FirstIn (entry_rules len h c s g t) found
+    FirstIn (section_header_rules len h c.sections s) None →
+    FirstIn (segment_rules len h c.segments g ++ section_name_rules h c.sections c.name_table s t) found →
+    FirstIn (header_entry_rules len h c s g t) found
 from_segments len h c s g t found clean run =
-    from_sections len h c s g t found (FirstIn-later (section_rules len h c.sections s) _ found clean run)
+    from_sections len h c s g t found (FirstIn-later (section_header_rules len h c.sections s) _ found clean run)
 
 pub from_names : (len : ℕ) (h : Ehdr) (c : Counts) (s : ℕ → Shdr) (g : ℕ → Phdr) (t : List ℕ) (found : Option (ℕ × ℕ)) →
-    FirstIn (section_rules len h c.sections s) None → FirstIn (segment_rules len h c.segments g) None →
-    FirstIn (name_rules h c.sections c.name_table s t) found →
-    FirstIn (entry_rules len h c s g t) found
+    FirstIn (section_header_rules len h c.sections s) None → FirstIn (segment_rules len h c.segments g) None →
+    FirstIn (section_name_rules h c.sections c.name_table s t) found →
+    FirstIn (header_entry_rules len h c s g t) found
 from_names len h c s g t found clean loads run =
     from_segments len h c s g t found clean (FirstIn-later (segment_rules len h c.segments g) _ found loads run)

@@ -9,16 +9,16 @@ use Rattle.elf_extent.specs.Least.{Never}
 use Rattle.elf_extent.proofs.Public.{disjoint_from_never, never_from_disjoint}
 use Rattle.elf_image_rules.specs.Rows.{FirstIn}
 use Rattle.elf_image_rules.specs.HeaderRules.{MAX_LEN, count_without_section_table, header_rules, ident_rules, length_rules}
-use Rattle.elf_image_rules.specs.ImageRules.{entry_rules, image_rules, record_rules, table_rules}
+use Rattle.elf_image_rules.specs.ImageRules.{header_entry_rules, header_table_rules, image_rules, record_rules}
 use Rattle.elf_image_rules.specs.KeepsRules.{IsNullHeader, KeepsEachRecordRule, KeepsHeaderRules, KeepsIdentRules, KeepsLengthRules, KeepsNameRules, KeepsProgramTableRules, KeepsRules, KeepsSectionRules, KeepsSectionTableRules, KeepsSegmentRules}
-use Rattle.elf_image_rules.specs.NameRules.{name_rules}
+use Rattle.elf_image_rules.specs.NameRules.{section_name_rules}
 use Rattle.elf_image_rules.specs.ProgramTableRules.{program_table_rules, wrong_extended_segment_count, wrong_segment_count}
-use Rattle.elf_image_rules.specs.SectionRules.{IsMisalignedSection, IsNamePastEnd, HasWrongSectionAlignment, IsContentPastEnd, SomeSection, section_rules}
+use Rattle.elf_image_rules.specs.SectionRules.{IsMisalignedSection, IsNamePastEnd, HasWrongSectionAlignment, IsContentPastEnd, SomeSectionHeader, section_header_rules}
 use Rattle.elf_image_rules.specs.SectionTableRules.{first_section_header_not_null, section_table_rules, wrong_extended_name_table_index, wrong_extended_section_count, wrong_name_table_index}
 use Rattle.elf_image_rules.specs.SegmentRules.{IsIncongruentSegment, HasFileSizeAboveMemorySize, HasWrongSegmentAlignment, IsSegmentPastEnd, SomeSegment, segment_rules}
 use Rattle.elf_image_rules.specs.StringTable.{UnclosedAt}
-use Rattle.elf_image_rules.specs.Tables.{phdr_offset, section_count, segment_count, shdr_offset}
-use Rattle.elf_image_rules.proofs.Decided.{above, alignment, at_most, equal, equal_to_either, not_wrong}
+use Rattle.elf_image_rules.specs.Tables.{phdr_offset, program_header_count, section_header_count, shdr_offset}
+use Rattle.elf_image_rules.proofs.Decided.{above, at_most, equal, equal_to_either, is_alignment, not_wrong}
 use Rattle.elf_image_rules.proofs.RowKinds.{entry_kept, entry_never}
 use Rattle.elf_image_rules.proofs.Rows.{FirstIn-behind, FirstIn-front, FirstIn-later}
 
@@ -215,27 +215,27 @@ program_table_unbroken len h first kept = (
 
 -- ---- rules 22 to 24
 
-section_kept : (h : Ehdr) (n : ℕ) (s : ℕ → Shdr) (P : Shdr → Type 0) (field : ℕ) → Never (SomeSection h n s P field) →
+section_kept : (h : Ehdr) (n : ℕ) (s : ℕ → Shdr) (P : Shdr → Type 0) (field : ℕ) → Never (SomeSectionHeader h n s P field) →
     (i : ℕ) → 1 ≤ i → i < n → (s i).sh_type ≢ SHT_NULL → P (s i) → ⊥
 section_kept h n s P field never i above below typed broken =
     entry_kept n (λ k. (1 ≤ k) × ((s k).sh_type ≢ SHT_NULL) × P (s k)) (λ k. shdr_offset h k + field) never i below (above, typed, broken)
 
 section_never : (h : Ehdr) (n : ℕ) (s : ℕ → Shdr) (P : Shdr → Type 0) (field : ℕ) →
-    ((i : ℕ) → 1 ≤ i → i < n → (s i).sh_type ≢ SHT_NULL → P (s i) → ⊥) → Never (SomeSection h n s P field)
+    ((i : ℕ) → 1 ≤ i → i < n → (s i).sh_type ≢ SHT_NULL → P (s i) → ⊥) → Never (SomeSectionHeader h n s P field)
 section_never h n s P field kept =
     entry_never n (λ k. (1 ≤ k) × ((s k).sh_type ≢ SHT_NULL) × P (s k)) (λ k. shdr_offset h k + field)
     (λ i below (above, typed, broken). kept i above below typed broken)
 
-sections_kept : (len : ℕ) (h : Ehdr) (n : ℕ) (s : ℕ → Shdr) → FirstIn (section_rules len h n s) None → KeepsSectionRules len n s
-unfolding section_rules
+sections_kept : (len : ℕ) (h : Ehdr) (n : ℕ) (s : ℕ → Shdr) → FirstIn (section_header_rules len h n s) None → KeepsSectionRules len n s
+unfolding section_header_rules
 sections_kept len h n s clean = record {
-  alignment = λ i low high typed. alignment _ (section_kept h n s HasWrongSectionAlignment _ clean.0 i low high typed);
+  alignment = λ i low high typed. is_alignment _ (section_kept h n s HasWrongSectionAlignment _ clean.0 i low high typed);
   address = λ i low high typed some. equal _ _ (λ other. section_kept h n s IsMisalignedSection _ clean.1.0 i low high typed (some, other));
   content = λ i low high typed bits some. at_most _ _ (λ lt. section_kept h n s (IsContentPastEnd len) _ clean.1.1.0 i low high typed (bits, some, lt));
 }
 
-sections_unbroken : (len : ℕ) (h : Ehdr) (n : ℕ) (s : ℕ → Shdr) → KeepsSectionRules len n s → FirstIn (section_rules len h n s) None
-unfolding section_rules
+sections_unbroken : (len : ℕ) (h : Ehdr) (n : ℕ) (s : ℕ → Shdr) → KeepsSectionRules len n s → FirstIn (section_header_rules len h n s) None
+unfolding section_header_rules
 sections_unbroken len h n s kept = (
   section_never h n s HasWrongSectionAlignment _ (λ i low high typed. not_wrong _ (kept.alignment i low high typed)),
   (
@@ -261,7 +261,7 @@ unfolding segment_rules
 segments_kept len h m g clean = record {
   bytes = λ j below typed some. at_most _ _ (λ lt. segment_kept h m g (IsSegmentPastEnd len) _ clean.0 j below (typed, some, lt));
   sizes = λ j below load. at_most _ _ (λ lt. segment_kept h m g HasFileSizeAboveMemorySize _ clean.1.0 j below (load, lt));
-  alignment = λ j below load. alignment _ (λ wrong. segment_kept h m g HasWrongSegmentAlignment _ clean.1.1.0 j below (load, wrong));
+  alignment = λ j below load. is_alignment _ (λ wrong. segment_kept h m g HasWrongSegmentAlignment _ clean.1.1.0 j below (load, wrong));
   congruence = λ j below load some. equal _ _ (λ other. segment_kept h m g IsIncongruentSegment _ clean.1.1.1.0 j below (load, some, other));
   order = λ k j below load before. at_most _ _ (λ lt. clean.1.1.1.1.0 _ (k, j, below, load, before, lt, refl));
 }
@@ -284,8 +284,8 @@ segments_unbroken len h m g kept = (
 
 -- ---- rules 30 to 32
 
-names_kept : (h : Ehdr) (n k : ℕ) (s : ℕ → Shdr) (names : List ℕ) → FirstIn (name_rules h n k s names) None → KeepsNameRules n k s names
-unfolding name_rules
+names_kept : (h : Ehdr) (n k : ℕ) (s : ℕ → Shdr) (names : List ℕ) → FirstIn (section_name_rules h n k s names) None → KeepsNameRules n k s names
+unfolding section_name_rules
 names_kept h n k s names clean = record {
   name_table_type = λ some. equal _ _ (λ other. clean.0 _ ((some, other), refl));
   closed = λ some. (
@@ -301,8 +301,8 @@ closed_never names start kept x (inl ((some, other), at)) = other (kept some).0
 closed_never names start kept x (inr (inl ((some, other), at))) = other (kept some).1
 closed_never names start kept x (inr (inr none)) = none
 
-names_unbroken : (h : Ehdr) (n k : ℕ) (s : ℕ → Shdr) (names : List ℕ) → KeepsNameRules n k s names → FirstIn (name_rules h n k s names) None
-unfolding name_rules
+names_unbroken : (h : Ehdr) (n k : ℕ) (s : ℕ → Shdr) (names : List ℕ) → KeepsNameRules n k s names → FirstIn (section_name_rules h n k s names) None
+unfolding section_name_rules
 names_unbroken h n k s names kept = (
   (λ x ((some, other), at). other (kept.name_table_type some)),
   (
@@ -318,37 +318,37 @@ names_unbroken h n k s names kept = (
 
 pub records_kept : (len : ℕ) (h : Ehdr) (s : ℕ → Shdr) (g : ℕ → Phdr) (names : List ℕ) →
     FirstIn (record_rules len h s g names) None → KeepsEachRecordRule len h s g names
-unfolding record_rules table_rules entry_rules
+unfolding record_rules header_table_rules header_entry_rules
 records_kept len h s g names clean =
     let from_ident = FirstIn-behind (length_rules len) _ clean in
     let from_header = FirstIn-behind (ident_rules h.e_ident) _ from_ident in
     let from_section_table = FirstIn-behind (header_rules len h) _ from_header in
     let from_program_table = FirstIn-behind (section_table_rules len h (s 0)) _ from_section_table in
     let from_sections = FirstIn-behind (program_table_rules len h (s 0)) _ from_program_table in
-    let from_segments = FirstIn-behind (section_rules len h (section_count h (s 0)) s) _ from_sections in
-    let from_names = FirstIn-behind (segment_rules len h (segment_count h (s 0)) g) _ from_segments in
+    let from_segments = FirstIn-behind (section_header_rules len h (section_header_count h (s 0)) s) _ from_sections in
+    let from_names = FirstIn-behind (segment_rules len h (program_header_count h (s 0)) g) _ from_segments in
     record {
       file_length = length_kept len (FirstIn-front (length_rules len) _ clean);
       ident = ident_kept h.e_ident (FirstIn-front (ident_rules h.e_ident) _ from_ident);
       header = header_kept len h (FirstIn-front (header_rules len h) _ from_header);
       section_table = section_table_kept len h (s 0) (FirstIn-front (section_table_rules len h (s 0)) _ from_section_table);
       program_table = program_table_kept len h (s 0) (FirstIn-front (program_table_rules len h (s 0)) _ from_program_table);
-      sections = sections_kept len h _ s (FirstIn-front (section_rules len h (section_count h (s 0)) s) _ from_sections);
-      segments = segments_kept len h _ g (FirstIn-front (segment_rules len h (segment_count h (s 0)) g) _ from_segments);
+      sections = sections_kept len h _ s (FirstIn-front (section_header_rules len h (section_header_count h (s 0)) s) _ from_sections);
+      segments = segments_kept len h _ g (FirstIn-front (segment_rules len h (program_header_count h (s 0)) g) _ from_segments);
       section_names = names_kept h _ _ s names from_names;
     }
 
 pub records_unbroken : (len : ℕ) (h : Ehdr) (s : ℕ → Shdr) (g : ℕ → Phdr) (names : List ℕ) →
     KeepsEachRecordRule len h s g names → FirstIn (record_rules len h s g names) None
-unfolding record_rules table_rules entry_rules
+unfolding record_rules header_table_rules header_entry_rules
 records_unbroken len h s g names kept =
     FirstIn-later (length_rules len) _ None (length_unbroken len kept.file_length)
     (FirstIn-later (ident_rules h.e_ident) _ None (ident_unbroken h.e_ident kept.ident)
     (FirstIn-later (header_rules len h) _ None (header_unbroken len h kept.header)
     (FirstIn-later (section_table_rules len h (s 0)) _ None (section_table_unbroken len h (s 0) kept.section_table)
     (FirstIn-later (program_table_rules len h (s 0)) _ None (program_table_unbroken len h (s 0) kept.program_table)
-    (FirstIn-later (section_rules len h (section_count h (s 0)) s) _ None (sections_unbroken len h _ s kept.sections)
-    (FirstIn-later (segment_rules len h (segment_count h (s 0)) g) _ None (segments_unbroken len h _ g kept.segments)
+    (FirstIn-later (section_header_rules len h (section_header_count h (s 0)) s) _ None (sections_unbroken len h _ s kept.sections)
+    (FirstIn-later (segment_rules len h (program_header_count h (s 0)) g) _ None (segments_unbroken len h _ g kept.segments)
     (names_unbroken h _ _ s names kept.section_names)))))))
 
 -- ---- all rules

@@ -2,10 +2,10 @@
 -- rules, what is known of a file and of a value that break no rule, that equal entries have equal faults, and that what a test
 -- of numbers doesn't find broken is kept.
 pub use Rattle.elf_image_rules.proofs.Clean.{clean_records, content_some, extents_disjoint, extents_within, name_table_below, sections_none, sections_read_at, sections_there, sound_file, sound_tables, table_some}
-pub use Rattle.elf_image_rules.proofs.Decided.{above, alignment, at_most, equal}
+pub use Rattle.elf_image_rules.proofs.Decided.{above, at_most, equal, is_alignment}
 pub use Rattle.elf_image_rules.proofs.Extents.{content_extent_at, length-extents}
 pub use Rattle.elf_image_rules.proofs.ImageRules.{fault_of_extents, overlap_alone}
 pub use Rattle.elf_image_rules.proofs.KeepsRules.{records_kept, records_unbroken, rules_kept, rules_unbroken}
 pub use Rattle.elf_image_rules.proofs.Kept.{kept_sections, kept_segments, kept_short}
-pub use Rattle.elf_image_rules.proofs.Rows.{AreSame, AreSame-append, AreSame-refl, FirstIn-behind, FirstIn-front, FirstIn-handed, FirstIn-later, FirstIn-rest, FirstIn-same, FirstIn-sooner, FirstIn-stop, one_fault}
+pub use Rattle.elf_image_rules.proofs.Rows.{AreSame, AreSame-append, AreSame-refl, FirstIn-behind, FirstIn-front, FirstIn-handed, FirstIn-later, FirstIn-rest, FirstIn-same, FirstIn-sooner, FirstIn-stop, one_fault, one_fault_by}
 pub use Rattle.elf_image_rules.proofs.Same.{Agree, same_clean, same_entries, same_rules}

@@ -9,13 +9,13 @@ when_kept P at never holds = never at (holds, refl)
 pub when_never : (P : Type 0) (at : ℕ) → (P → ⊥) → Never (When P at)
 when_never P at kept x (holds, here) = kept holds
 
-pub either_first : (row : Row) (rows : List {1} Row) → Never (Either (row ∷ rows)) → Never row
+pub either_first : (row : Row ℕ) (rows : List {1} (Row ℕ)) → Never (Either (row ∷ rows)) → Never row
 either_first row rows never x broken = never x (inl broken)
 
-pub either_rest : (row : Row) (rows : List {1} Row) → Never (Either (row ∷ rows)) → Never (Either rows)
+pub either_rest : (row : Row ℕ) (rows : List {1} (Row ℕ)) → Never (Either (row ∷ rows)) → Never (Either rows)
 either_rest row rows never x broken = never x (inr broken)
 
-pub either_never : (row : Row) (rows : List {1} Row) → Never row → Never (Either rows) → Never (Either (row ∷ rows))
+pub either_never : (row : Row ℕ) (rows : List {1} (Row ℕ)) → Never row → Never (Either rows) → Never (Either (row ∷ rows))
 either_never row rows first rest x broken = elim broken [ inl here ↦ first x here | inr later ↦ rest x later ]
 
 pub entry_kept : (n : ℕ) (P : ℕ → Type 0) (place : ℕ → ℕ) → Never (AtEntry n P place) → (i : ℕ) → i < n → P i → ⊥

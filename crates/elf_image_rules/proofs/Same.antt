@@ -11,14 +11,14 @@ use Rattle.elf_extent.specs.Extent.{Doubly}
 use Rattle.elf_image_rules.specs.declared.tables.Counts.{Counts}
 use Rattle.elf_image_rules.specs.Rows.{FirstIn, Ruled, When}
 use Rattle.elf_image_rules.proofs.Rows.{AreSame, AreSame-append, AreSame-refl, FirstIn-same}
-use Rattle.elf_image_rules.specs.Tables.{content_extent, counts_in, name_table, section_count, segment_count, shdr_offset}
+use Rattle.elf_image_rules.specs.Tables.{content_extent, counts_in, name_table, program_header_count, section_header_count, shdr_offset}
 use Rattle.elf_image_rules.specs.HeaderRules.{header_rules, ident_rules, length_rules}
-use Rattle.elf_image_rules.specs.ImageRules.{entry_rules, image_rules, record_rules, table_rules}
-use Rattle.elf_image_rules.specs.NameRules.{name_rules}
+use Rattle.elf_image_rules.specs.ImageRules.{header_entry_rules, header_table_rules, image_rules, record_rules}
+use Rattle.elf_image_rules.specs.NameRules.{section_name_rules}
 use Rattle.elf_image_rules.specs.StringTable.{UnclosedAt}
 use Rattle.elf_image_rules.specs.OverlapRule.{extents, overlap_rules}
 use Rattle.elf_image_rules.specs.ProgramTableRules.{program_table_rules}
-use Rattle.elf_image_rules.specs.SectionRules.{IsMisalignedSection, IsNamePastEnd, HasWrongSectionAlignment, IsContentPastEnd, SomeSection, section_rules}
+use Rattle.elf_image_rules.specs.SectionRules.{IsMisalignedSection, IsNamePastEnd, HasWrongSectionAlignment, IsContentPastEnd, SomeSectionHeader, section_header_rules}
 use Rattle.elf_image_rules.specs.SectionTableRules.{section_table_rules}
 use Rattle.elf_image_rules.specs.SegmentRules.{IsIncongruentSegment, HasFileSizeAboveMemorySize, IsLoad, HasWrongSegmentAlignment, IsSegmentPastEnd, SomeSegment, load_out_of_order, segment_rules}
 use Rattle.elf_image_rules.specs.SoundTables.{HasSoundTables}
@@ -27,13 +27,13 @@ use Rattle.elf_image_rules.proofs.Clean.{clean_records, name_table_below, sound_
 -- the second entries are the first ones, as far as the rules look
 pub record Agree (h : Ehdr) (s t : ℕ → Shdr) (g k : ℕ → Phdr) : Type 0 where
   pub first : s 0 ≡ t 0
-  pub sections : (i : ℕ) → i < section_count h (s 0) → s i ≡ t i
-  pub segments : (j : ℕ) → j < segment_count h (s 0) → g j ≡ k j
+  pub sections : (i : ℕ) → i < section_header_count h (s 0) → s i ≡ t i
+  pub segments : (j : ℕ) → j < program_header_count h (s 0) → g j ≡ k j
 
 -- ---- rows
 
 some_section : (h : Ehdr) (s t : ℕ → Shdr) (end : ℕ) (P : Shdr → Type 0) (field : ℕ) → ((i : ℕ) → i < end → s i ≡ t i) →
-    (x : ℕ) → SomeSection h end t P field x → SomeSection h end s P field x
+    (x : ℕ) → SomeSectionHeader h end t P field x → SomeSectionHeader h end s P field x
 some_section h s t end P field agree x (i, below, (above, typed, broken), at) =
     (i, below, subst (λ (q : Shdr). (1 ≤ i) × (q.sh_type ≢ SHT_NULL) × P q) (sym (agree i below)) (above, typed, broken), at)
 
@@ -72,8 +72,8 @@ same_extents h n m s t agree =
 
 -- ---- the rules, run by run
 
-same_section_rules : (len : ℕ) (h : Ehdr) (n : ℕ) (s t : ℕ → Shdr) → ((i : ℕ) → i < n → s i ≡ t i) → AreSame (section_rules len h n s) (section_rules len h n t)
-unfolding section_rules
+same_section_rules : (len : ℕ) (h : Ehdr) (n : ℕ) (s t : ℕ → Shdr) → ((i : ℕ) → i < n → s i ≡ t i) → AreSame (section_header_rules len h n s) (section_header_rules len h n t)
+unfolding section_header_rules
 same_section_rules len h n s t agree =
     let back : (i : ℕ) → i < n → t i ≡ s i = λ i lt. sym (agree i lt) in (
       refl,
@@ -113,8 +113,8 @@ same_segment_rules len h m g k agree =
     )
 
 same_name_rules : (h : Ehdr) (n k : ℕ) (s t : ℕ → Shdr) (names : List ℕ) → ((i : ℕ) → i < n → s i ≡ t i) → s k ≡ t k →
-    AreSame (name_rules h n k s names) (name_rules h n k t names)
-unfolding name_rules
+    AreSame (section_name_rules h n k s names) (section_name_rules h n k t names)
+unfolding section_name_rules
 same_name_rules h n k s t names agree table =
     let back : (i : ℕ) → i < n → t i ≡ s i = λ i lt. sym (agree i lt) in
     let P : Shdr → ℕ → Type 0 = λ q x. When ((k ≢ 0) × (q.sh_type ≢ SHT_STRTAB)) (shdr_offset h k + SH_TYPE_AT) x in
@@ -133,8 +133,8 @@ same_name_rules h n k s t names agree table =
 -- rules 22 to 32 of entries that are the same below the counts and at the name table, as read of bytes and of tables in memory
 pub same_entries : (len : ℕ) (h : Ehdr) (c : Counts) (s t : ℕ → Shdr) (g k : ℕ → Phdr) (names : List ℕ) →
     ((i : ℕ) → i < c.sections → s i ≡ t i) → ((j : ℕ) → j < c.segments → g j ≡ k j) → s c.name_table ≡ t c.name_table →
-    AreSame (entry_rules len h c s g names) (entry_rules len h c t k names)
-unfolding entry_rules
+    AreSame (header_entry_rules len h c s g names) (header_entry_rules len h c t k names)
+unfolding header_entry_rules
 same_entries len h c s t g k names sections segments table =
     AreSame-append _ _ _ _ (same_section_rules len h c.sections s t sections)
     (AreSame-append _ _ _ _ (same_segment_rules len h c.segments g k segments)
@@ -146,15 +146,15 @@ same_overlap h n m s t agree =
     (refl, (λ x. subst (λ (es : List Extent). Doubly es x) same), (λ x. subst (λ (es : List Extent). Doubly es x) (sym same)), tt)
 
 -- all rules, of a section header 0 by any equal name
-rules_from : ℕ → Ehdr → (ℕ → Shdr) → (ℕ → Phdr) → List ℕ → Shdr → List {1} Ruled
+rules_from : ℕ → Ehdr → (ℕ → Shdr) → (ℕ → Phdr) → List ℕ → Shdr → List {1} (Ruled ℕ)
 rules_from len h t k names first =
     (length_rules len ++ (ident_rules h.e_ident ++ (header_rules len h ++
-    (section_table_rules len h first ++ (program_table_rules len h first ++ entry_rules len h (counts_in h first) t k names)))))
-    ++ overlap_rules h (section_count h first) (segment_count h first) t
+    (section_table_rules len h first ++ (program_table_rules len h first ++ header_entry_rules len h (counts_in h first) t k names)))))
+    ++ overlap_rules h (section_header_count h first) (program_header_count h first) t
 
 same_from : (len : ℕ) (h : Ehdr) (s t : ℕ → Shdr) (g k : ℕ → Phdr) (names : List ℕ) → Agree h s t g k →
     s (name_table h (s 0)) ≡ t (name_table h (s 0)) → AreSame (image_rules len h s g names) (rules_from len h t k names (s 0))
-unfolding image_rules record_rules table_rules rules_from
+unfolding image_rules record_rules header_table_rules rules_from
 same_from len h s t g k names agree table =
     AreSame-append _ _ _ _
     (AreSame-append _ _ _ _ (AreSame-refl (length_rules len))
@@ -168,7 +168,7 @@ same_from len h s t g k names agree table =
 -- all rules, where the name table's header is the same too
 pub same_rules : (len : ℕ) (h : Ehdr) (s t : ℕ → Shdr) (g k : ℕ → Phdr) (names : List ℕ) → Agree h s t g k →
     s (name_table h (s 0)) ≡ t (name_table h (s 0)) → AreSame (image_rules len h s g names) (image_rules len h t k names)
-unfolding image_rules record_rules table_rules rules_from
+unfolding image_rules record_rules header_table_rules rules_from
 same_rules len h s t g k names agree table =
     subst (λ (first : Shdr). AreSame (image_rules len h s g names) (rules_from len h t k names first)) agree.first
     (same_from len h s t g k names agree table)

@@ -10,7 +10,7 @@ use Rattle.elf_extent.specs.Extent.{AreDisjoint}
 use Rattle.elf_image_rules.specs.HeaderRules.{MAX_LEN}
 use Rattle.elf_image_rules.specs.OverlapRule.{extents}
 use Rattle.elf_image_rules.specs.SegmentRules.{IsLoad, IsLoadBefore}
-use Rattle.elf_image_rules.specs.Tables.{name_table, phdr_offset, section_count, segment_count, shdr_offset}
+use Rattle.elf_image_rules.specs.Tables.{name_table, phdr_offset, program_header_count, section_header_count, shdr_offset}
 
 -- rules 1 and 2: the file has a header, and is not longer than the longest
 pub record KeepsLengthRules (len : ℕ) : Type 0 where
@@ -55,7 +55,7 @@ pub record IsNullHeader (first : Shdr) : Type 0 where
   pub sh_addralign : first.sh_addralign ≡ 0
   pub sh_entsize : first.sh_entsize ≡ 0
 
--- rules 13 to 17: section header 0, the section table's place, and the name table's index
+-- rules 13 to 17: section header 0, the section table's offset, and the name table's index
 pub record KeepsSectionTableRules (len : ℕ) (h : Ehdr) (first : Shdr) : Type 0 where
   -- 13, first_section_header_not_null
   pub null : h.e_shoff ≢ 0 → IsNullHeader first
@@ -63,16 +63,16 @@ pub record KeepsSectionTableRules (len : ℕ) (h : Ehdr) (first : Shdr) : Type 0
   pub extended_section_count : h.e_shoff ≢ 0 →
       (h.e_shnum ≢ 0 → first.sh_size ≡ 0) × (h.e_shnum ≡ 0 → SHN_LORESERVE ≤ first.sh_size)
   -- 15, section_table_past_end
-  pub section_table : h.e_shoff ≢ 0 → shdr_offset h (section_count h first) ≤ len
+  pub section_table : h.e_shoff ≢ 0 → shdr_offset h (section_header_count h first) ≤ len
   -- 16, wrong_name_table_index
   pub name_table_index : h.e_shoff ≢ 0 → h.e_shstrndx ≢ SHN_XINDEX →
-      (h.e_shstrndx < SHN_LORESERVE) × (h.e_shstrndx < section_count h first)
+      (h.e_shstrndx < SHN_LORESERVE) × (h.e_shstrndx < section_header_count h first)
   -- 17, wrong_extended_name_table_index: sh_link is the name table's index where e_shstrndx can't hold it, else 0
   pub extended_name_table_index : h.e_shoff ≢ 0 →
-      (h.e_shstrndx ≡ SHN_XINDEX → (SHN_LORESERVE ≤ first.sh_link) × (first.sh_link < section_count h first)) ×
+      (h.e_shstrndx ≡ SHN_XINDEX → (SHN_LORESERVE ≤ first.sh_link) × (first.sh_link < section_header_count h first)) ×
       (h.e_shstrndx ≢ SHN_XINDEX → first.sh_link ≡ 0)
 
--- rules 18 to 21: the program table's count and place
+-- rules 18 to 21: the program table's count and offset
 pub record KeepsProgramTableRules (len : ℕ) (h : Ehdr) (first : Shdr) : Type 0 where
   -- 18, wrong_segment_count: there is a count just where there is a table, and a section header 0 where that has the count
   pub table_and_count : (h.e_phoff ≡ 0 → h.e_phnum ≡ 0) × (h.e_phnum ≡ 0 → h.e_phoff ≡ 0) × (h.e_phnum ≡ PN_XNUM → h.e_shoff ≢ 0)
@@ -82,24 +82,24 @@ pub record KeepsProgramTableRules (len : ℕ) (h : Ehdr) (first : Shdr) : Type 0
   pub extended_segment_count : h.e_shoff ≢ 0 →
       (h.e_phnum ≡ PN_XNUM → PN_XNUM ≤ first.sh_info) × (h.e_phnum ≢ PN_XNUM → first.sh_info ≡ 0)
   -- 21, program_table_past_end
-  pub program_table : 0 < segment_count h first → phdr_offset h (segment_count h first) ≤ len
+  pub program_table : 0 < program_header_count h first → phdr_offset h (program_header_count h first) ≤ len
 
 -- an alignment is 0, for none, or a power of two
 abbrev pub IsAlignment : ℕ → Type 0
 IsAlignment align = (align ≡ 0) ⊎ IsPowerOfTwo align
 
 -- each of n sections but entry 0 and those of type NULL
-abbrev pub EachSection : ℕ → (ℕ → Shdr) → (Shdr → Type 0) → Type 0
-EachSection n s P = (i : ℕ) → 1 ≤ i → i < n → (s i).sh_type ≢ SHT_NULL → P (s i)
+abbrev pub EachSectionHeader : ℕ → (ℕ → Shdr) → (Shdr → Type 0) → Type 0
+EachSectionHeader n s P = (i : ℕ) → 1 ≤ i → i < n → (s i).sh_type ≢ SHT_NULL → P (s i)
 
 -- rules 22 to 24: the sections' alignments, addresses and contents
 pub record KeepsSectionRules (len n : ℕ) (s : ℕ → Shdr) : Type 0 where
   -- 22, wrong_section_alignment
-  pub alignment : EachSection n s (λ entry. IsAlignment entry.sh_addralign)
+  pub alignment : EachSectionHeader n s (λ entry. IsAlignment entry.sh_addralign)
   -- 23, misaligned_section
-  pub address : EachSection n s (λ entry. 1 < entry.sh_addralign → entry.sh_addr % entry.sh_addralign ≡ 0)
+  pub address : EachSectionHeader n s (λ entry. 1 < entry.sh_addralign → entry.sh_addr % entry.sh_addralign ≡ 0)
   -- 24, content_past_end
-  pub content : EachSection n s (λ entry. entry.sh_type ≢ SHT_NOBITS → 0 < entry.sh_size → entry.sh_offset + entry.sh_size ≤ len)
+  pub content : EachSectionHeader n s (λ entry. entry.sh_type ≢ SHT_NOBITS → 0 < entry.sh_size → entry.sh_offset + entry.sh_size ≤ len)
 
 -- each of m segments
 abbrev pub EachSegment : ℕ → (ℕ → Phdr) → (Phdr → Type 0) → Type 0
@@ -126,7 +126,7 @@ pub record KeepsNameRules (n k : ℕ) (s : ℕ → Shdr) (names : List ℕ) : Ty
   -- 31, unclosed_name_table
   pub closed : 0 < length names → (slice_index names 0 ≡ 0) × (slice_index names (length names - 1) ≡ 0)
   -- 32, name_past_end
-  pub names_begin : EachSection n s (λ entry. entry.sh_name ≢ 0 → entry.sh_name < length names)
+  pub names_begin : EachSectionHeader n s (λ entry. entry.sh_name ≢ 0 → entry.sh_name < length names)
 
 -- rules 1 to 32
 pub record KeepsEachRecordRule (len : ℕ) (h : Ehdr) (s : ℕ → Shdr) (g : ℕ → Phdr) (names : List ℕ) : Type 0 where
@@ -135,12 +135,12 @@ pub record KeepsEachRecordRule (len : ℕ) (h : Ehdr) (s : ℕ → Shdr) (g : �
   pub header : KeepsHeaderRules len h
   pub section_table : KeepsSectionTableRules len h (s 0)
   pub program_table : KeepsProgramTableRules len h (s 0)
-  pub sections : KeepsSectionRules len (section_count h (s 0)) s
-  pub segments : KeepsSegmentRules len (segment_count h (s 0)) g
-  pub section_names : KeepsNameRules (section_count h (s 0)) (name_table h (s 0)) s names
+  pub sections : KeepsSectionRules len (section_header_count h (s 0)) s
+  pub segments : KeepsSegmentRules len (program_header_count h (s 0)) g
+  pub section_names : KeepsNameRules (section_header_count h (s 0)) (name_table h (s 0)) s names
 
 -- all rules: also 33, no byte of the file belongs to two of its parts
 pub record KeepsRules (len : ℕ) (h : Ehdr) (s : ℕ → Shdr) (g : ℕ → Phdr) (names : List ℕ) : Type 0 where
   pub records : KeepsEachRecordRule len h s g names
   -- 33, shared_byte
-  pub disjoint : AreDisjoint (extents h (section_count h (s 0)) (segment_count h (s 0)) s)
+  pub disjoint : AreDisjoint (extents h (section_header_count h (s 0)) (program_header_count h (s 0)) s)

@@ -3,7 +3,7 @@ use Rattle.std.specs.Prelude.{ℕ, None, List, [], ◌∷◌}
 use Rattle.elf_image_rules.specs.Rows.{FirstIn, Ruled}
 use Rattle.elf_image_rules.specs.ImageRules.{KeepsRecordRules}
 
-pub unbroken_prop : (rules : List {1} Ruled) → IsProp (FirstIn rules None)
+pub unbroken_prop : (rules : List {1} (Ruled ℕ)) → IsProp (FirstIn rules None)
 unbroken_prop [] = hlevel
 unbroken_prop (r ∷ rules) = hlevel (unbroken_prop rules)
 

@@ -24,10 +24,10 @@ extents h n m s =
     contents n s
 
 -- rule 33: two extents share a byte
-abbrev pub shared_byte : Ehdr → ℕ → ℕ → (ℕ → Shdr) → Row
+abbrev pub shared_byte : Ehdr → ℕ → ℕ → (ℕ → Shdr) → Row ℕ
 shared_byte h n m s = Doubly (extents h n m s)
 
-abbrev pub overlap_rules : Ehdr → ℕ → ℕ → (ℕ → Shdr) → List {1} Ruled
+abbrev pub overlap_rules : Ehdr → ℕ → ℕ → (ℕ → Shdr) → List {1} (Ruled ℕ)
 overlap_rules h n m s = rule 33 (shared_byte h n m s) ∷ []
 
 -- the fault of a file whose lowest byte in two extents is this one, where it keeps all other rules
@@ -45,6 +45,6 @@ DoublyBelow es limit count x = (i j : ℕ) × (i < j) × (i < limit) × (j < cou
 
 -- among the first `count` extents those from index `from` on that are not empty stand in the order of
 -- the list, each behind the ones before it
-abbrev pub AreAscending : List Extent → ℕ → ℕ → Type 0
-AreAscending es from count = (i j : ℕ) (a e : Extent) → from ≤ i → i < j → j < count →
+abbrev pub ExtentsAscend : List Extent → ℕ → ℕ → Type 0
+ExtentsAscend es from count = (i j : ℕ) (a e : Extent) → from ≤ i → i < j → j < count →
     slice_get es i ≡ Some a → slice_get es j ≡ Some e → 0 < a.len → 0 < e.len → a.start + a.len ≤ e.start

@@ -11,7 +11,7 @@ use Rattle.elf_image_rules.specs.SectionRules.{IsWrongAlignment}
 use Rattle.elf_image_rules.specs.Tables.{phdr_offset}
 
 -- the row of a rule on each of m segments, at `field` in the program header
-abbrev pub SomeSegment : Ehdr → ℕ → (ℕ → Phdr) → (Phdr → Type 0) → ℕ → Row
+abbrev pub SomeSegment : Ehdr → ℕ → (ℕ → Phdr) → (Phdr → Type 0) → ℕ → Row ℕ
 SomeSegment h m g P field = AtEntry m (λ j. P (g j)) (λ j. phdr_offset h j + field)
 
 -- a loadable segment (type LOAD)
@@ -23,21 +23,21 @@ abbrev pub IsSegmentPastEnd : ℕ → Phdr → Type 0
 IsSegmentPastEnd len segment =
     (segment.p_type ≢ PT_NULL) × (0 < segment.p_filesz) × (len < segment.p_offset + segment.p_filesz)
 
-abbrev pub segment_past_end : ℕ → Ehdr → ℕ → (ℕ → Phdr) → Row
+abbrev pub segment_past_end : ℕ → Ehdr → ℕ → (ℕ → Phdr) → Row ℕ
 segment_past_end len h m g = SomeSegment h m g (IsSegmentPastEnd len) P_OFFSET_AT
 
 -- rule 26: a loadable segment has more bytes in the file than in memory
 abbrev pub HasFileSizeAboveMemorySize : Phdr → Type 0
 HasFileSizeAboveMemorySize segment = IsLoad segment × (segment.p_memsz < segment.p_filesz)
 
-abbrev pub file_size_above_memory_size : Ehdr → ℕ → (ℕ → Phdr) → Row
+abbrev pub file_size_above_memory_size : Ehdr → ℕ → (ℕ → Phdr) → Row ℕ
 file_size_above_memory_size h m g = SomeSegment h m g HasFileSizeAboveMemorySize P_FILESZ_AT
 
 -- rule 27: a loadable segment's alignment is neither 0 nor a power of two
 abbrev pub HasWrongSegmentAlignment : Phdr → Type 0
 HasWrongSegmentAlignment segment = IsLoad segment × IsWrongAlignment segment.p_align
 
-abbrev pub wrong_segment_alignment : Ehdr → ℕ → (ℕ → Phdr) → Row
+abbrev pub wrong_segment_alignment : Ehdr → ℕ → (ℕ → Phdr) → Row ℕ
 wrong_segment_alignment h m g = SomeSegment h m g HasWrongSegmentAlignment P_ALIGN_AT
 
 -- rule 28: a loadable segment's address and offset are not congruent modulo its alignment
@@ -45,7 +45,7 @@ abbrev pub IsIncongruentSegment : Phdr → Type 0
 IsIncongruentSegment segment = IsLoad segment × (1 < segment.p_align) ×
     (segment.p_vaddr % segment.p_align ≢ segment.p_offset % segment.p_align)
 
-abbrev pub incongruent_segment : Ehdr → ℕ → (ℕ → Phdr) → Row
+abbrev pub incongruent_segment : Ehdr → ℕ → (ℕ → Phdr) → Row ℕ
 incongruent_segment h m g = SomeSegment h m g IsIncongruentSegment P_OFFSET_AT
 
 -- what breaks each of these rules on a segment by itself
@@ -69,12 +69,12 @@ pub record IsLoadBefore (g : ℕ → Phdr) (k j : ℕ) : Type 0 where
   pub nearest : (i : ℕ) → k < i → i < j → IsLoad (g i) → ⊥
 
 -- rule 29: a loadable segment's address is below that of the loadable segment before it
-abbrev pub load_out_of_order : Ehdr → ℕ → (ℕ → Phdr) → Row
+abbrev pub load_out_of_order : Ehdr → ℕ → (ℕ → Phdr) → Row ℕ
 load_out_of_order h m g = λ x. (k j : ℕ) × (j < m) × IsLoad (g j) × IsLoadBefore g k j ×
     ((g j).p_vaddr < (g k).p_vaddr) × (x ≡ phdr_offset h j + P_VADDR_AT)
 
 -- rules 25 to 29
-unfoldable pub segment_rules : ℕ → Ehdr → ℕ → (ℕ → Phdr) → List {1} Ruled
+unfoldable pub segment_rules : ℕ → Ehdr → ℕ → (ℕ → Phdr) → List {1} (Ruled ℕ)
 segment_rules len h m g =
     rule 25 (segment_past_end len h m g) ∷
     rule 26 (file_size_above_memory_size h m g) ∷

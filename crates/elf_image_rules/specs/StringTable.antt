@@ -10,7 +10,7 @@ pub record AreEnds (ends : TableEnds) (table : List ℕ) : Type 0 where
   pub last : 0 < length table → slice_index table (length table - 1) ≡ ends.last
 
 -- the first or the last byte of a string table at `start` isn't 0
-abbrev pub UnclosedAt : List ℕ → ℕ → Row
+abbrev pub UnclosedAt : List ℕ → ℕ → Row ℕ
 UnclosedAt table start =
     let last = length table - 1 in
     Either (

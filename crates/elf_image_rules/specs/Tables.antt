@@ -26,13 +26,13 @@ abbrev pub phdr_offset : Ehdr → ℕ → ℕ
 phdr_offset h j = h.e_phoff + PHDR_SIZE * j
 
 -- n, the number of section headers: none without a table, and entry 0's sh_size where e_shnum is 0
-abbrev pub section_count : Ehdr → Shdr → ℕ
-section_count h first =
+abbrev pub section_header_count : Ehdr → Shdr → ℕ
+section_header_count h first =
     if h.e_shoff == 0 then 0 else (if h.e_shnum == 0 then first.sh_size else h.e_shnum)
 
 -- m, the number of program headers: entry 0's sh_info where e_phnum is PN_XNUM
-abbrev pub segment_count : Ehdr → Shdr → ℕ
-segment_count h first = if h.e_phnum == PN_XNUM then first.sh_info else h.e_phnum
+abbrev pub program_header_count : Ehdr → Shdr → ℕ
+program_header_count h first = if h.e_phnum == PN_XNUM then first.sh_info else h.e_phnum
 
 -- the index of the section name string table, 0 for none: entry 0's sh_link where e_shstrndx is
 -- SHN_XINDEX
@@ -42,25 +42,25 @@ name_table h first = if h.e_shstrndx == SHN_XINDEX then first.sh_link else h.e_s
 -- all three of them
 abbrev pub counts_in : Ehdr → Shdr → Counts
 counts_in h first = record {
-  sections = section_count h first;
-  segments = segment_count h first;
+  sections = section_header_count h first;
+  segments = program_header_count h first;
   name_table = name_table h first;
 }
 
 -- the section header that stands for one that isn't there
-abbrev pub no_section : Shdr
-no_section = record { sh_name = 0; sh_type = 0; sh_flags = 0; sh_addr = 0; sh_offset = 0; sh_size = 0; sh_link = 0; sh_info = 0; sh_addralign = 0; sh_entsize = 0 }
+abbrev pub no_section_header : Shdr
+no_section_header = record { sh_name = 0; sh_type = 0; sh_flags = 0; sh_addr = 0; sh_offset = 0; sh_size = 0; sh_link = 0; sh_info = 0; sh_addralign = 0; sh_entsize = 0 }
 
 -- the program header that stands for one that isn't there
-abbrev pub no_segment : Phdr
-no_segment = record { p_type = 0; p_flags = 0; p_offset = 0; p_vaddr = 0; p_paddr = 0; p_filesz = 0; p_memsz = 0; p_align = 0 }
+abbrev pub no_program_header : Phdr
+no_program_header = record { p_type = 0; p_flags = 0; p_offset = 0; p_vaddr = 0; p_paddr = 0; p_filesz = 0; p_memsz = 0; p_align = 0 }
 
 -- section header i and program header j of a list
-abbrev pub section_of : List Shdr → ℕ → Shdr
-section_of ss i = get_or ss i no_section
+abbrev pub section_header_of : List Shdr → ℕ → Shdr
+section_header_of ss i = get_or ss i no_section_header
 
-abbrev pub segment_of : List Phdr → ℕ → Phdr
-segment_of gs j = get_or gs j no_segment
+abbrev pub program_header_of : List Phdr → ℕ → Phdr
+program_header_of gs j = get_or gs j no_program_header
 
 -- the bytes that a section holds in the file: none of type NULL or NOBITS
 abbrev pub content_extent : Shdr → Extent
@@ -75,7 +75,7 @@ header b = ehdr_at (order_of (take EI_NIDENT b)) b 0
 
 -- its section headers, by index: all zeros without a section table
 unfoldable pub sections : List ℕ → Ehdr → ℕ → Shdr
-sections b h i = if h.e_shoff == 0 then no_section else shdr_at (order_of h.e_ident) b (shdr_offset h i)
+sections b h i = if h.e_shoff == 0 then no_section_header else shdr_at (order_of h.e_ident) b (shdr_offset h i)
 
 -- its counts of them, and the index of its section name string table
 abbrev pub file_counts : List ℕ → Counts

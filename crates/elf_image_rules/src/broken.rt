@@ -1,18 +1,18 @@
-//! A rule that a file breaks.
+//! A rule that is broken.
 ghost use Rattle.std.specs.Prelude.{◌≡◌};
 
-/// A rule by its number, and the offset in the file, in bytes, where it is broken.
+/// A rule by its number, and where it is broken: at an offset in a file, in bytes, or at a file, index and entry of a link.
 #[derive(Clone, Copy, Debug, PartialEq, Eq)]
-pub struct Broken {
-    /// The number of the rule, one of those in [`rules`](crate::rules).
+pub struct Broken<At> {
+    /// The number of the rule; those of the rules of images are in [`rules`](crate::rules).
     pub rule: u16,
-    /// The offset of the lowest byte at which it is broken.
-    pub at: u64,
+    /// The first place where it is broken: the lowest offset.
+    pub at: At,
 }
 
-impl Broken {
-    /// The rule of this number, broken at this offset.
-    pub fn new(rule: u16, at: u64) -> Broken
+impl<At> Broken<At> {
+    /// The rule of this number, broken here.
+    pub fn new(rule: u16, at: At) -> Broken<At>
         ensures { result ≡ record { rule = rule; at = at } }
     {
         Broken { rule, at }

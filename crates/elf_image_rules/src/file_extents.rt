@@ -4,7 +4,7 @@ ghost use Rattle.elf_extent.specs.Extent.{Doubly, Has};
 ghost use Rattle.elf_extent.specs.Least.{IsLowest, lower_of};
 ghost use Rattle.elf_image_rules.specs.ImageRules.{extents_of_file};
 ghost use Rattle.elf_image_rules.specs.JudgedRecords.{file_of};
-ghost use Rattle.elf_image_rules.specs.OverlapRule.{AreAscending, DoublyBelow, SharedBelow};
+ghost use Rattle.elf_image_rules.specs.OverlapRule.{DoublyBelow, ExtentsAscend, SharedBelow};
 
 use crate::content::extent_of_content;
 use crate::judged_records::JudgedRecords;
@@ -103,7 +103,7 @@ impl<'a> FileExtents<'a> {
     /// but may with the header and the tables.
     fn lowest_of_ascending(&self) -> Result<Option<u64>, NotAscending>
         ensures lowest { IfOk result (IsLowest (Doubly (file_extents self.now))) }
-        ensures otherwise { let es = file_extents self.now in OnErr result (¬ AreAscending es 3 (length es)) }
+        ensures otherwise { let es = file_extents self.now in OnErr result (¬ ExtentsAscend es 3 (length es)) }
     {
         let mut lowest = self.lowest_double(FileExtents::BEFORE_CONTENTS);
         let mut last = Extent { start: 0, len: 0 };

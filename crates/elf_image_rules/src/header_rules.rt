@@ -15,7 +15,7 @@ pub const MAX_LEN: u64 = 1 << 30;
 
 /// Rules 1 and 2, of a file of `len` bytes.
 #[tactic(auto, unfolding(crate::specs::HeaderRules::length_rules))]
-pub(crate) fn judge_length(len: u64) -> Result<(), Broken>
+pub(crate) fn judge_length(len: u64) -> Result<(), Broken<u64>>
     ensures fault { FirstIn (length_rules len) (fault_of result) }
     ensures long { OnOk result (EHDR_SIZE ≤ len) }
 {
@@ -30,7 +30,7 @@ pub(crate) fn judge_length(len: u64) -> Result<(), Broken>
 
 /// Rules 3 to 6, of the identification.
 #[tactic(auto, unfolding(crate::specs::HeaderRules::ident_rules))]
-pub(crate) fn judge_ident(ident: &[u8; EI_NIDENT]) -> Result<(), Broken>
+pub(crate) fn judge_ident(ident: &[u8; EI_NIDENT]) -> Result<(), Broken<u64>>
     ensures { FirstIn (ident_rules ident.now) (fault_of result) }
 {
     for i in 0..MAGIC.len() {
@@ -52,7 +52,7 @@ pub(crate) fn judge_ident(ident: &[u8; EI_NIDENT]) -> Result<(), Broken>
 
 /// Rules 7 to 12, of the header of a file of `len` bytes.
 #[tactic(auto, unfolding(crate::specs::HeaderRules::header_rules))]
-pub(crate) fn judge_header(header: &Ehdr, len: u64) -> Result<(), Broken>
+pub(crate) fn judge_header(header: &Ehdr, len: u64) -> Result<(), Broken<u64>>
     ensures fault { FirstIn (header_rules len header.now) (fault_of result) }
     ensures first { OnOk result (EHDR_SIZE ≤ len → header.now.e_shoff + SHDR_SIZE ≤ len) }
     ensures nameless { OnOk result (header.now.e_shoff ≡ 0 → header.now.e_shstrndx ≡ 0) }

@@ -1,7 +1,7 @@
 //! The first rule that a file breaks.
 ghost use Rattle.std.specs.Prelude.{◌≡◌, ◌+◌, ◌<◌, ◌≤◌, ◌^◌, ℕ, List, Some, IfErr, IfOk, OnOk, length};
 ghost use Rattle.elf_image_rules.specs.Broken.{fault_of};
-ghost use Rattle.elf_image_rules.specs.ImageRules.{IsFault, KeepsRecordRules, entry_rules, table_rules};
+ghost use Rattle.elf_image_rules.specs.ImageRules.{IsFault, KeepsRecordRules, header_entry_rules, header_table_rules};
 ghost use Rattle.elf_image_rules.specs.JudgedRecords.{file_of};
 ghost use Rattle.elf_image_rules.specs.StringTable.{AreEnds};
 ghost use Rattle.elf_image_rules.specs.Rows.{FirstIn};
@@ -36,7 +36,7 @@ pub fn verdict(bytes: &[u8]) -> Option<(u16, u64)>
 }
 
 /// Whether the file is an image: else the first rule that it breaks, and its lowest offset.
-pub(crate) fn judge(bytes: &[u8]) -> Result<(), Broken>
+pub(crate) fn judge(bytes: &[u8]) -> Result<(), Broken<u64>>
     ensures { IsFault bytes.now (fault_of result) }
 {
     match judge_records(bytes)?.shared_byte() {
@@ -48,7 +48,10 @@ pub(crate) fn judge(bytes: &[u8]) -> Result<(), Broken>
 /// Judges a file by all 33 rules, as [`verdict`] does, in n log n: where the contents don't stand in the order of their
 /// section headers they are sorted, and where memory for that is refused the answer is found without. A file that
 /// breaks no rule is answered with its header and counts; else the first rule broken and its lowest offset.
-pub fn judge_by_sorting<'a>(alloc: Global, bytes: &'a [u8]) -> Result<JudgedRecords<'a>, Broken>
+pub fn judge_by_sorting<'a>(
+    alloc: Global,
+    bytes: &'a [u8],
+) -> Result<JudgedRecords<'a>, Broken<u64>>
     ensures fault { IsFault bytes.entry.now (fault_of result) }
     ensures file { IfOk result (λ records. file_of records ≡ bytes.entry.now) }
 {
@@ -65,7 +68,7 @@ pub fn judge_by_sorting<'a>(alloc: Global, bytes: &'a [u8]) -> Result<JudgedReco
 
 /// The file with its header and counts, where it keeps rules 1 to 32, which leave open only whether two
 /// of its parts share a byte: else the first rule that it breaks, and its lowest offset.
-pub fn judge_records<'a>(bytes: &'a [u8]) -> Result<JudgedRecords<'a>, Broken>
+pub fn judge_records<'a>(bytes: &'a [u8]) -> Result<JudgedRecords<'a>, Broken<u64>>
     ensures broken { IfErr result (λ broken. IsFault bytes.entry.now (Some (broken.rule, broken.at))) }
     ensures kept { OnOk result (KeepsRecordRules bytes.entry.now) }
     ensures file { IfOk result (λ records. file_of records ≡ bytes.entry.now) }
@@ -80,11 +83,11 @@ pub fn judge_records<'a>(bytes: &'a [u8]) -> Result<JudgedRecords<'a>, Broken>
 }
 
 /// Rules 13 to 32, of the tables of a file with this header: its counts.
-fn judge_tables(bytes: &[u8], header: &Ehdr) -> Result<Counts, Broken>
+fn judge_tables(bytes: &[u8], header: &Ehdr) -> Result<Counts, Broken<u64>>
     requires { header.now.e_shoff + SHDR_SIZE ≤ length bytes.now }
     ensures fault { let b = bytes.now in
         let h = header.now in
-        FirstIn (table_rules (length b) h (sections b h) (segments b h) (names b h)) (fault_of result) }
+        FirstIn (header_table_rules (length b) h (sections b h) (segments b h) (names b h)) (fault_of result) }
     ensures value { IfOk result (λ c. c ≡ counts_in header.now (sections bytes.now header.now 0)) }
 {
     let len = bytes.len() as u64;
@@ -104,7 +107,7 @@ pub fn judge_entries<T: Records>(
     counts: Counts,
     ends: TableEnds,
     len: u64,
-) -> Result<(), Broken>
+) -> Result<(), Broken<u64>>
     requires sections { (i : ℕ) → i < counts.sections → T.HasSection records.now i }
     requires section_table { shdr_offset header.now counts.sections < 2 ^ 64 }
     requires segments { (j : ℕ) → j < counts.segments → T.HasSegment records.now j }
@@ -113,7 +116,7 @@ pub fn judge_entries<T: Records>(
     requires name_table_place { shdr_offset header.now counts.name_table + SHDR_SIZE < 2 ^ 64 }
     requires names { 0 < ends.len → (T.sections records.now counts.name_table).sh_offset + ends.len < 2 ^ 64 }
     ensures { (names : List ℕ) → AreEnds ends names →
-        FirstIn (entry_rules len header.now counts (T.sections records.now) (T.segments records.now) names)
+        FirstIn (header_entry_rules len header.now counts (T.sections records.now) (T.segments records.now) names)
         (fault_of result) }
 {
     judge_sections(records, header, counts.sections, len)?;

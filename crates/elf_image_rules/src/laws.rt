@@ -9,7 +9,7 @@ ghost use Rattle.elf_extent.specs.Least.{IsLowest};
 ghost use Rattle.elf_image_rules.specs.KeepsRules.{KeepsEachRecordRule, KeepsRules};
 ghost use Rattle.elf_image_rules.specs.OverlapRule.{extents, shared_fault};
 ghost use Rattle.elf_image_rules.specs.Rows.{FirstIn};
-ghost use Rattle.elf_image_rules.specs.Tables.{name_table, section_count, segment_count};
+ghost use Rattle.elf_image_rules.specs.Tables.{name_table, program_header_count, section_header_count};
 
 /// A file has one fault or none, and so have a header, entries and names by themselves: no other
 /// rule and offset meets the definition.
@@ -37,13 +37,13 @@ pub fn kept_rules()
 pub fn extents_of_image()
     ensures within { (len : ℕ) (h : Ehdr) (s : ℕ → Shdr) (g : ℕ → Phdr) (names : List ℕ) →
         FirstIn (image_rules len h s g names) None →
-        AreWithin (extents h (section_count h (s 0)) (segment_count h (s 0)) s) len }
+        AreWithin (extents h (section_header_count h (s 0)) (program_header_count h (s 0)) s) len }
     ensures disjoint { (len : ℕ) (h : Ehdr) (s : ℕ → Shdr) (g : ℕ → Phdr) (names : List ℕ) →
         FirstIn (image_rules len h s g names) None →
-        AreDisjoint (extents h (section_count h (s 0)) (segment_count h (s 0)) s) }
+        AreDisjoint (extents h (section_header_count h (s 0)) (program_header_count h (s 0)) s) }
     ensures named { (len : ℕ) (h : Ehdr) (s : ℕ → Shdr) (g : ℕ → Phdr) (names : List ℕ) →
         FirstIn (image_rules len h s g names) None →
-        (name_table h (s 0) ≡ 0) ⊎ (name_table h (s 0) < section_count h (s 0)) }
+        (name_table h (s 0) ≡ 0) ⊎ (name_table h (s 0) < section_header_count h (s 0)) }
 {}
 
 /// Where a file keeps rules 1 to 32, the lowest byte that two of its extents hold is its fault, by

@@ -2,7 +2,7 @@
 //! (gABI chapter 4, ELF Header: e_shstrndx; String Table; Sections: sh_name).
 ghost use Rattle.std.specs.Prelude.{◌≡◌, ◌≢◌, ◌≤◌, ◌<◌, ◌+◌, ◌^◌, ℕ, List, length};
 ghost use Rattle.elf_image_rules.specs.Broken.{fault_of};
-ghost use Rattle.elf_image_rules.specs.NameRules.{name_rules};
+ghost use Rattle.elf_image_rules.specs.NameRules.{section_name_rules};
 ghost use Rattle.elf_image_rules.specs.Rows.{FirstIn};
 ghost use Rattle.elf_image_rules.specs.StringTable.{AreEnds};
 ghost use Rattle.elf_image_rules.specs.Tables.{names_at, sections, shdr_offset};
@@ -33,21 +33,21 @@ pub fn names_of<'a>(bytes: &'a [u8], header: &Ehdr, table: u64) -> &'a [u8]
 
 /// Rules 30 to 32, of `count` sections with the name table of index `table`, 0 for none, of this
 /// length and these ends.
-#[tactic(auto, unfolding(crate::specs::NameRules::name_rules))]
+#[tactic(auto, unfolding(crate::specs::NameRules::section_name_rules))]
 pub fn judge_names<T: Records>(
     records: &T,
     header: &Ehdr,
     count: u64,
     table: u64,
     ends: TableEnds,
-) -> Result<(), Broken>
+) -> Result<(), Broken<u64>>
     requires there { (i : ℕ) → i < count → T.HasSection records.now i }
     requires fits { shdr_offset header.now count < 2 ^ 64 }
     requires table { T.HasSection records.now table }
     requires place { shdr_offset header.now table + SHDR_SIZE < 2 ^ 64 }
     requires names { 0 < ends.len → (T.sections records.now table).sh_offset + ends.len < 2 ^ 64 }
     ensures { (names : List ℕ) → AreEnds ends names →
-        FirstIn (name_rules header.now count table (T.sections records.now) names) (fault_of result) }
+        FirstIn (section_name_rules header.now count table (T.sections records.now) names) (fault_of result) }
 {
     let entry = records.section(table);
     if table != 0 && entry.sh_type != SHT_STRTAB {

@@ -1,10 +1,10 @@
-//! Rules 18 to 21: the program table's place and count (gABI chapter 4, ELF Header; chapter 5,
+//! Rules 18 to 21: the program table's offset and count (gABI chapter 4, ELF Header; chapter 5,
 //! Program Header).
 ghost use Rattle.std.specs.Prelude.{◌≤◌, ◌+◌, ◌<◌, ◌↔◌, IsTrue, OnOk};
 ghost use Rattle.elf_image_rules.specs.Broken.{fault_of};
 ghost use Rattle.elf_image_rules.specs.ProgramTableRules.{HasWrongExtendedSegmentCount, HasWrongSegmentCount, program_table_rules};
 ghost use Rattle.elf_image_rules.specs.Rows.{FirstIn};
-ghost use Rattle.elf_image_rules.specs.Tables.{phdr_offset, segment_count};
+ghost use Rattle.elf_image_rules.specs.Tables.{phdr_offset, program_header_count};
 
 use crate::broken::Broken;
 use crate::rules::*;
@@ -14,11 +14,11 @@ use elf_field::{Ehdr, Shdr};
 
 /// Rules 18 to 21, of the header and section header 0 of a file of `len` bytes.
 #[tactic(auto, unfolding(crate::specs::ProgramTableRules::program_table_rules))]
-pub(crate) fn judge_program_table(header: &Ehdr, first: &Shdr, len: u64) -> Result<(), Broken>
+pub(crate) fn judge_program_table(header: &Ehdr, first: &Shdr, len: u64) -> Result<(), Broken<u64>>
     requires { header.now.e_shoff + SHDR_SIZE ≤ len }
     ensures fault { FirstIn (program_table_rules len header.now first.now) (fault_of result) }
     ensures inside { OnOk result
-        (let m = segment_count header.now first.now in 0 < m → phdr_offset header.now m ≤ len) }
+        (let m = program_header_count header.now first.now in 0 < m → phdr_offset header.now m ≤ len) }
 {
     if !is_segment_count_right(header) {
         return Err(Broken::new(WRONG_SEGMENT_COUNT, E_PHNUM_AT));

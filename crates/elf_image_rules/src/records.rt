@@ -72,14 +72,14 @@ pub struct TableRecords<'a> {
 }
 
 impl<'a> Records for TableRecords<'a> {
-    ghost use Rattle.elf_image_rules.specs.Tables.{section_of, segment_of};
+    ghost use Rattle.elf_image_rules.specs.Tables.{program_header_of, section_header_of};
 
-    ghost sections = { λ r i. section_of r.sections.now i };
+    ghost sections = { λ r i. section_header_of r.sections.now i };
 
     // what isn't there is all zeros
     ghost HasSection = { λ r i. Unit {0} };
 
-    ghost segments = { λ r j. segment_of r.segments.now j };
+    ghost segments = { λ r j. program_header_of r.segments.now j };
 
     ghost HasSegment = { λ r j. Unit {0} };
 

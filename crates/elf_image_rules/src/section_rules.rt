@@ -3,7 +3,7 @@ ghost use Rattle.std.specs.Prelude.{◌≡◌, ◌<◌, ◌^◌, ◌↔◌, ℕ,
 ghost use Rattle.elf_extent.specs.Least.{IsLowest};
 ghost use Rattle.elf_image_rules.specs.Broken.{fault_of};
 ghost use Rattle.elf_image_rules.specs.Rows.{FirstIn};
-ghost use Rattle.elf_image_rules.specs.SectionRules.{BreaksSection, IsMisalignedSection, IsContentPastEnd, SomeSection, section_field, section_rules};
+ghost use Rattle.elf_image_rules.specs.SectionRules.{BreaksSectionHeader, IsMisalignedSection, IsContentPastEnd, SomeSectionHeader, section_field, section_header_rules};
 ghost use Rattle.elf_image_rules.specs.Tables.{shdr_offset};
 
 use crate::alignment::is_wrong_alignment;
@@ -30,7 +30,7 @@ pub enum SectionRule {
 impl SectionRule {
     /// Whether the section header breaks the rule.
     pub fn is_broken_by(self, entry: &Shdr) -> bool
-        ensures { IsTrue result ↔ BreaksSection self entry.now }
+        ensures { IsTrue result ↔ BreaksSectionHeader self entry.now }
     {
         match self {
             SectionRule::WrongSectionAlignment => is_wrong_alignment(entry.sh_addralign),
@@ -80,7 +80,7 @@ pub(crate) fn lowest_section<T: Records>(
     requires there { (i : ℕ) → i < count → T.HasSection records.now i }
     requires fits { shdr_offset header.now count < 2 ^ 64 }
     ensures { let s = T.sections records.now in
-        IsLowest (SomeSection header.now count s (BreaksSection rule) (section_field rule)) result }
+        IsLowest (SomeSectionHeader header.now count s (BreaksSectionHeader rule) (section_field rule)) result }
 {
     for i in 1..count {
         let entry = records.section(i);
@@ -92,16 +92,16 @@ pub(crate) fn lowest_section<T: Records>(
 }
 
 /// Rules 22 to 24, of `count` sections of a file of `len` bytes.
-#[tactic(auto, unfolding(crate::specs::SectionRules::section_rules))]
+#[tactic(auto, unfolding(crate::specs::SectionRules::section_header_rules))]
 pub(crate) fn judge_sections<T: Records>(
     records: &T,
     header: &Ehdr,
     count: u64,
     len: u64,
-) -> Result<(), Broken>
+) -> Result<(), Broken<u64>>
     requires there { (i : ℕ) → i < count → T.HasSection records.now i }
     requires fits { shdr_offset header.now count < 2 ^ 64 }
-    ensures { FirstIn (section_rules len header.now count (T.sections records.now)) (fault_of result) }
+    ensures { FirstIn (section_header_rules len header.now count (T.sections records.now)) (fault_of result) }
 {
     if let Some(at) = lowest_section(records, header, count, SectionRule::WrongSectionAlignment) {
         return Err(Broken::new(WRONG_SECTION_ALIGNMENT, at));

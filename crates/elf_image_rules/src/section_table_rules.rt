@@ -5,7 +5,7 @@ ghost use Rattle.elf_extent.specs.Least.{IsLowest};
 ghost use Rattle.elf_image_rules.specs.Broken.{fault_of};
 ghost use Rattle.elf_image_rules.specs.Rows.{FirstIn};
 ghost use Rattle.elf_image_rules.specs.SectionTableRules.{HasWrongExtendedNameTableIndex, HasWrongExtendedSectionCount, HasWrongNameTableIndex, first_section_header_not_null, section_table_rules};
-ghost use Rattle.elf_image_rules.specs.Tables.{name_table, section_count, shdr_offset};
+ghost use Rattle.elf_image_rules.specs.Tables.{name_table, section_header_count, shdr_offset};
 
 use crate::broken::Broken;
 use crate::rules::*;
@@ -15,12 +15,12 @@ use elf_field::{Ehdr, Shdr};
 
 /// Rules 13 to 17, of the header and section header 0 of a file of `len` bytes.
 #[tactic(auto, unfolding(crate::specs::SectionTableRules::section_table_rules))]
-pub(crate) fn judge_section_table(header: &Ehdr, first: &Shdr, len: u64) -> Result<(), Broken>
+pub(crate) fn judge_section_table(header: &Ehdr, first: &Shdr, len: u64) -> Result<(), Broken<u64>>
     requires { header.now.e_shoff + SHDR_SIZE ≤ len }
     ensures fault { FirstIn (section_table_rules len header.now first.now) (fault_of result) }
-    ensures inside { OnOk result (shdr_offset header.now (section_count header.now first.now) ≤ len) }
+    ensures inside { OnOk result (shdr_offset header.now (section_header_count header.now first.now) ≤ len) }
     ensures named { OnOk result
-        (header.now.e_shoff ≢ 0 → name_table header.now first.now < section_count header.now first.now) }
+        (header.now.e_shoff ≢ 0 → name_table header.now first.now < section_header_count header.now first.now) }
 {
     if header.e_shoff == 0 {
         return Ok(());

@@ -114,7 +114,7 @@ pub(crate) fn judge_segments<T: Records>(
     header: &Ehdr,
     count: u64,
     len: u64,
-) -> Result<(), Broken>
+) -> Result<(), Broken<u64>>
     requires there { (j : ℕ) → j < count → T.HasSegment records.now j }
     requires fits { 0 < count → phdr_offset header.now count < 2 ^ 64 }
     ensures { FirstIn (segment_rules len header.now count (T.segments records.now)) (fault_of result) }

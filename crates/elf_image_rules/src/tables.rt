@@ -1,7 +1,7 @@
 //! A file's header, section headers and program headers, and what they say of the file
 //! (gABI chapter 4, ELF Header and Sections; chapter 5, Program Header).
 ghost use Rattle.std.specs.Prelude.{◌≡◌, ◌≢◌, ◌≤◌, ◌<◌, ◌+◌, ◌^◌, length};
-ghost use Rattle.elf_image_rules.specs.Tables.{counts_in, order_of, shdr_offset, phdr_offset, header, sections, segments, section_count, segment_count, name_table};
+ghost use Rattle.elf_image_rules.specs.Tables.{counts_in, order_of, shdr_offset, phdr_offset, header, sections, segments, section_header_count, program_header_count, name_table};
 
 use elf_field::abi::*;
 use elf_field::{Ehdr, Order, Phdr, Shdr, get_at};
@@ -107,7 +107,7 @@ pub fn counts_of(header: &Ehdr, first: &Shdr) -> Counts
 /// How many section headers there are: none without a section table; where `e_shnum` is 0, as many
 /// as section header 0 says in `sh_size`.
 pub(crate) fn section_count_of(header: &Ehdr, first: &Shdr) -> u64
-    ensures { result ≡ section_count header.now first.now }
+    ensures { result ≡ section_header_count header.now first.now }
 {
     if header.e_shoff == 0 {
         0
@@ -121,7 +121,7 @@ pub(crate) fn section_count_of(header: &Ehdr, first: &Shdr) -> u64
 /// How many program headers there are; where `e_phnum` is `PN_XNUM`, as many as section header 0
 /// says in `sh_info`.
 pub(crate) fn segment_count_of(header: &Ehdr, first: &Shdr) -> u64
-    ensures { result ≡ segment_count header.now first.now }
+    ensures { result ≡ program_header_count header.now first.now }
 {
     if header.e_phnum == PN_XNUM {
         first.sh_info as u64

@@ -15,19 +15,19 @@ use Rattle.elf_extent.specs.declared.extent.Extent.{Extent}
 use Rattle.elf_extent.specs.declared.extent.Piece.{Piece}
 use Rattle.elf_extent.specs.Account.{Accounts}
 use Rattle.elf_image_rules.specs.Rows.{FirstIn}
-use Rattle.elf_image_rules.specs.Tables.{content_extent, name_table, section_count, segment_count}
+use Rattle.elf_image_rules.specs.Tables.{content_extent, name_table, program_header_count, section_header_count}
 use Rattle.elf_image_rules.specs.HeaderRules.{header_rules}
-use Rattle.elf_image_rules.specs.ImageRules.{entry_rules, image_rules, record_rules, table_rules}
-use Rattle.elf_image_rules.specs.NameRules.{name_rules}
+use Rattle.elf_image_rules.specs.ImageRules.{header_entry_rules, header_table_rules, image_rules, record_rules}
+use Rattle.elf_image_rules.specs.NameRules.{section_name_rules}
 use Rattle.elf_image_rules.specs.OverlapRule.{extents}
 use Rattle.elf_image_rules.specs.ProgramTableRules.{program_table_rules}
-use Rattle.elf_image_rules.specs.SectionRules.{section_rules}
+use Rattle.elf_image_rules.specs.SectionRules.{section_header_rules}
 use Rattle.elf_image_rules.specs.SectionTableRules.{section_table_rules}
 use Rattle.elf_image_rules.specs.SegmentRules.{segment_rules}
 use Rattle.elf_image_type.specs.declared.part.Part.{Part}
-use Rattle.elf_image_type.specs.Image.{ImageValue, IsSound, PlacedPart, gap_len, no_section, piece_of, section_of, segment_of, value_extents, value_names}
+use Rattle.elf_image_type.specs.Image.{ImageValue, IsSoundImage, PlacedPart, gap_len, no_section_header, piece_of, program_header_of, section_header_of, value_extents, value_names}
 use Rattle.elf_image_type.specs.Edits.{IsReplaceable, flagged, with_content, with_entry, with_flags, with_zero_gaps, zeroed}
-use Rattle.elf_image_type.specs.Outline.{OutlineValue, image_of, placed}
+use Rattle.elf_image_type.specs.Outline.{OutlineValue, image_of, placed_part}
 use Rattle.elf_image_type.proofs.Named.{content_len}
 
 -- ---- lists with one element set
@@ -49,8 +49,8 @@ map-set_same f (x ∷ xs) (suc i) y d same = ap (λ (zs : List _). f x ∷ zs) (
 
 -- ---- e_entry
 
-pub sound-with_entry : (v : ImageValue) (entry : ℕ) → IsSound v → entry < 2 ^ 64 → IsSound (with_entry v entry)
-unfolding image_rules record_rules table_rules entry_rules header_rules section_table_rules program_table_rules section_rules segment_rules name_rules extents
+pub sound-with_entry : (v : ImageValue) (entry : ℕ) → IsSoundImage v → entry < 2 ^ 64 → IsSoundImage (with_entry v entry)
+unfolding image_rules record_rules header_table_rules header_entry_rules header_rules section_table_rules program_table_rules section_header_rules segment_rules section_name_rules extents
 sound-with_entry v entry sound fits = let h = sound.header in record {
   header = record {
     e_ident = h.e_ident;
@@ -87,7 +87,7 @@ abbrev plain : Shdr → Shdr
 plain s = record s { sh_flags = 0 }
 
 -- section headers are the same but for the flags of one
-plain-flagged : (ss : List Shdr) (i flags k : ℕ) → plain (section_of ss k) ≡ plain (section_of (flagged ss i flags) k)
+plain-flagged : (ss : List Shdr) (i flags k : ℕ) → plain (section_header_of ss k) ≡ plain (section_header_of (flagged ss i flags) k)
 plain-flagged [] i flags k = refl
 plain-flagged (s ∷ ss) zero flags zero = refl
 plain-flagged (s ∷ ss) zero flags (suc k) = refl
@@ -102,7 +102,7 @@ flags_at (suc k) flags = 0
 abbrev plain_at : ℕ → Shdr → Shdr
 plain_at k s = record s { sh_flags = flags_at k s.sh_flags }
 
-plain_at-flagged : (ss : List Shdr) (i flags k : ℕ) → 0 < i → plain_at k (section_of ss k) ≡ plain_at k (section_of (flagged ss i flags) k)
+plain_at-flagged : (ss : List Shdr) (i flags k : ℕ) → 0 < i → plain_at k (section_header_of ss k) ≡ plain_at k (section_header_of (flagged ss i flags) k)
 plain_at-flagged [] i flags k above = refl
 plain_at-flagged (s ∷ ss) zero flags k above = absurd (omega arith)
 plain_at-flagged (s ∷ ss) (suc i) flags zero above = refl
@@ -110,10 +110,10 @@ plain_at-flagged (s ∷ ss) (suc i) flags (suc k) above = plain-flagged ss i fla
 
 extents-flagged : (h : Ehdr) (ss : List Shdr) (gs : List Phdr) (i flags : ℕ) → value_extents h ss gs ≡ value_extents h (flagged ss i flags) gs
 extents-flagged h ss gs i flags =
-    let s = section_of ss i in
+    let s = section_header_of ss i in
     let Table : ℕ → List Extent → List Extent = λ n cs.
     record { start = 0; len = EHDR_SIZE } ∷ record { start = h.e_shoff; len = SHDR_SIZE * n } ∷ record { start = h.e_phoff; len = PHDR_SIZE * length gs } ∷ cs in
-    ap₂ Table (sym (length-set ss i (record s { sh_flags = flags }))) (sym (map-set_same content_extent ss i (record s { sh_flags = flags }) no_section refl))
+    ap₂ Table (sym (length-set ss i (record s { sh_flags = flags }))) (sym (map-set_same content_extent ss i (record s { sh_flags = flags }) no_section_header refl))
 
 flagged_fits : (s : Shdr) (flags : ℕ) → IsShdr s → flags < 2 ^ 64 → IsShdr (record s { sh_flags = flags })
 flagged_fits s flags fits fit = record {
@@ -129,24 +129,24 @@ flagged_fits s flags fits fit = record {
   sh_entsize = fits.sh_entsize;
 }
 
-pub sound-with_flags : (v : ImageValue) (i flags : ℕ) → IsSound v → 0 < i → i < length v.sections → flags < 2 ^ 64 → IsSound (with_flags v i flags)
-unfolding image_rules record_rules table_rules entry_rules header_rules section_table_rules program_table_rules section_rules segment_rules name_rules extents
+pub sound-with_flags : (v : ImageValue) (i flags : ℕ) → IsSoundImage v → 0 < i → i < length v.sections → flags < 2 ^ 64 → IsSoundImage (with_flags v i flags)
+unfolding image_rules record_rules header_table_rules header_entry_rules header_rules section_table_rules program_table_rules section_header_rules segment_rules section_name_rules extents
 sound-with_flags v i flags sound above within fits =
-    let s = section_of v.sections i in
+    let s = section_header_of v.sections i in
     let t : Shdr = record s { sh_flags = flags } in
-    let first : section_of v.sections 0 ≡ section_of (flagged v.sections i flags) 0 = plain_at-flagged v.sections i flags 0 above in
+    let first : section_header_of v.sections 0 ≡ section_header_of (flagged v.sections i flags) 0 = plain_at-flagged v.sections i flags 0 above in
     let Names : Shdr → List ℕ = λ e. let k = name_table v.header e in if k == 0 then [] else get_or v.contents k [] in
-    let Keeps : (ℕ → Shdr) → Type 0 = λ e. FirstIn (image_rules v.len v.header e (segment_of v.segments) (Names (e 0))) None in
-    let all : (λ (k : ℕ). plain_at k (section_of v.sections k)) ≡ (λ (k : ℕ). plain_at k (section_of (flagged v.sections i flags) k)) =
+    let Keeps : (ℕ → Shdr) → Type 0 = λ e. FirstIn (image_rules v.len v.header e (program_header_of v.segments) (Names (e 0))) None in
+    let all : (λ (k : ℕ). plain_at k (section_header_of v.sections k)) ≡ (λ (k : ℕ). plain_at k (section_header_of (flagged v.sections i flags) k)) =
     λ j k. plain_at-flagged v.sections i flags k above j in
     record {
       header = sound.header;
       section_headers = all_set IsShdr v.sections i t sound.section_headers
-          (flagged_fits s flags (all_at IsShdr v.sections i no_section sound.section_headers within) fits);
+          (flagged_fits s flags (all_at IsShdr v.sections i no_section_header sound.section_headers within) fits);
       program_headers = sound.program_headers;
-      section_count = length-set v.sections i t ∙ sound.section_count ∙ ap (section_count v.header) first;
-      segment_count = sound.segment_count ∙ ap (segment_count v.header) first;
-      lengths = sound.lengths ∙ sym (map-set_same (λ (e : Shdr). (content_extent e).len) v.sections i t no_section refl);
+      section_count = length-set v.sections i t ∙ sound.section_count ∙ ap (section_header_count v.header) first;
+      segment_count = sound.segment_count ∙ ap (program_header_count v.header) first;
+      lengths = sound.lengths ∙ sym (map-set_same (λ (e : Shdr). (content_extent e).len) v.sections i t no_section_header refl);
       bytes = sound.bytes;
       accounts = subst (λ (es : List Extent). Accounts es v.len 0 (map piece_of v.parts)) (extents-flagged v.header v.sections v.segments i flags) sound.accounts;
       gaps = sound.gaps;
@@ -155,15 +155,15 @@ sound-with_flags v i flags sound above within fits =
 
 -- ---- a content
 
-names-set : (h : Ehdr) (ss : List Shdr) (cs : List (List ℕ)) (i : ℕ) (content : List ℕ) → (i ≡ name_table h (section_of ss 0) → ⊥) →
+names-set : (h : Ehdr) (ss : List Shdr) (cs : List (List ℕ)) (i : ℕ) (content : List ℕ) → (i ≡ name_table h (section_header_of ss 0) → ⊥) →
     value_names h ss cs ≡ value_names h ss (set cs i content)
 names-set h ss cs i content other =
-    let k = name_table h (section_of ss 0) in
+    let k = name_table h (section_header_of ss 0) in
     ap (λ (names : List ℕ). if k == 0 then [] else names) (sym (get_or-set_other cs i k content [] (λ same. other (sym same))))
 
-pub sound-with_content : (v : ImageValue) (i : ℕ) (content : List ℕ) → IsSound v → i < length v.sections →
-    length content ≡ (content_extent (section_of v.sections i)).len → (i ≡ name_table v.header (section_of v.sections 0) → ⊥) → IsBytes content →
-    IsSound (with_content v i content)
+pub sound-with_content : (v : ImageValue) (i : ℕ) (content : List ℕ) → IsSoundImage v → i < length v.sections →
+    length content ≡ (content_extent (section_header_of v.sections i)).len → (i ≡ name_table v.header (section_header_of v.sections 0) → ⊥) → IsBytes content →
+    IsSoundImage (with_content v i content)
 sound-with_content v i content sound within long other are = record {
   header = sound.header;
   section_headers = sound.section_headers;
@@ -174,7 +174,7 @@ sound-with_content v i content sound within long other are = record {
   bytes = all_set IsBytes v.contents i content sound.bytes are;
   accounts = sound.accounts;
   gaps = sound.gaps;
-  clean = subst (λ (names : List ℕ). FirstIn (image_rules v.len v.header (section_of v.sections) (segment_of v.segments) names) None)
+  clean = subst (λ (names : List ℕ). FirstIn (image_rules v.len v.header (section_header_of v.sections) (program_header_of v.segments) names) None)
       (names-set v.header v.sections v.contents i content other) sound.clean;
 }
 
@@ -192,7 +192,7 @@ gaps-zeroed : (ps : List PlacedPart) → AllByRecursion (λ p. IsBytes p.gap × 
 gaps-zeroed [] = tt
 gaps-zeroed (p ∷ ps) = ((IsBytes-zeros (gap_len p.part), length-replicate (gap_len p.part) 0), gaps-zeroed ps)
 
-pub sound-with_zero_gaps : (v : ImageValue) → IsSound v → IsSound (with_zero_gaps v)
+pub sound-with_zero_gaps : (v : ImageValue) → IsSoundImage v → IsSoundImage (with_zero_gaps v)
 sound-with_zero_gaps v sound = record {
   header = sound.header;
   section_headers = sound.section_headers;
@@ -207,11 +207,11 @@ sound-with_zero_gaps v sound = record {
 }
 
 -- gaps that count as zeros are the file's, zeroed
-pub placed-zeroed : (z : Bool) (file : List ℕ) (ps : List Part) → map (placed true file) ps ≡ map zeroed (map (placed z file) ps)
+pub placed-zeroed : (z : Bool) (file : List ℕ) (ps : List Part) → map (placed_part true file) ps ≡ map zeroed (map (placed_part z file) ps)
 placed-zeroed z file [] = refl
-placed-zeroed z file (p ∷ ps) = ap (λ (qs : List PlacedPart). placed true file p ∷ qs) (placed-zeroed z file ps)
+placed-zeroed z file (p ∷ ps) = ap (λ (qs : List PlacedPart). placed_part true file p ∷ qs) (placed-zeroed z file ps)
 
-pub parts-placed : (z : Bool) (file : List ℕ) (ps : List Part) → ps ≡ map (λ q. q.part) (map (placed z file) ps)
+pub parts-placed : (z : Bool) (file : List ℕ) (ps : List Part) → ps ≡ map (λ q. q.part) (map (placed_part z file) ps)
 parts-placed z file [] = refl
 parts-placed z file (p ∷ ps) = ap (λ (qs : List Part). p ∷ qs) (parts-placed z file ps)
 
@@ -225,15 +225,15 @@ image-zeroed o cs file =
 -- flags that were set or refused leave a sound image
 pub sound-flagged : {E : Type 0} (r : Result (Unit {0}) E) (o new : OutlineValue) (cs : List (List ℕ)) (file : List ℕ) (i flags : ℕ) →
     OnOk r ((0 < i) × (i < length o.sections) × (new ≡ record o { sections = flagged o.sections i flags })) →
-    OnErr r ((¬ ((0 < i) × (i < length o.sections))) × (new ≡ o)) → flags < 2 ^ 64 → IsSound (image_of o cs file) → IsSound (image_of new cs file)
+    OnErr r ((¬ ((0 < i) × (i < length o.sections))) × (new ≡ o)) → flags < 2 ^ 64 → IsSoundImage (image_of o cs file) → IsSoundImage (image_of new cs file)
 sound-flagged (Ok u) o new cs file i flags done refused fits sound =
-    subst (λ (w : OutlineValue). IsSound (image_of w cs file)) (sym done.2) (sound-with_flags (image_of o cs file) i flags sound done.0 done.1 fits)
+    subst (λ (w : OutlineValue). IsSoundImage (image_of w cs file)) (sym done.2) (sound-with_flags (image_of o cs file) i flags sound done.0 done.1 fits)
 sound-flagged (Err e) o new cs file i flags done refused fits sound =
-    subst (λ (w : OutlineValue). IsSound (image_of w cs file)) (sym refused.1) sound
+    subst (λ (w : OutlineValue). IsSoundImage (image_of w cs file)) (sym refused.1) sound
 
 -- so does a content that was replaced
-pub sound-replaced : (v : ImageValue) (i : ℕ) (content : List ℕ) → IsSound v → IsReplaceable v i content → IsBytes content → IsSound (with_content v i content)
+pub sound-replaced : (v : ImageValue) (i : ℕ) (content : List ℕ) → IsSoundImage v → IsReplaceable v i content → IsBytes content → IsSoundImage (with_content v i content)
 sound-replaced v i content sound able are =
-    let s = section_of v.sections i in
+    let s = section_header_of v.sections i in
     let size : length content ≡ (content_extent s).len = rw (ne_eqb s.sh_type 0 able.section.1, ne_eqb s.sh_type 8 able.section.2) able.size in
     sound-with_content v i content sound able.section.0.1 size able.no_names are

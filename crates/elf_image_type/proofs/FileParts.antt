@@ -11,24 +11,24 @@ use Rattle.elf_field.specs.Bytes.{IsBytes}
 use Rattle.elf_field.specs.EhdrLaws.{ehdr_laws}
 use Rattle.elf_field.specs.ShdrLaws.{shdr_laws}
 use Rattle.elf_field.specs.PhdrLaws.{phdr_laws}
-use Rattle.elf_field.specs.RecordTableLaws.{length-table}
+use Rattle.elf_field.proofs.RecordTableLaws.{length-table}
 use Rattle.elf_extent.specs.declared.extent.Extent.{Extent}
 use Rattle.elf_extent.specs.Extent.{AreDisjoint}
 use Rattle.elf_extent.specs.Place.{Fits}
 use Rattle.elf_image_rules.specs.ImageRules.{IsFault}
 use Rattle.elf_image_rules.specs.KeepsRules.{KeepsRules}
 use Rattle.elf_image_rules.specs.Rows.{FirstIn}
-use Rattle.elf_image_rules.specs.Tables.{bytes_in, content_extent, header, order_of, section_count, sections, segment_count, segments}
+use Rattle.elf_image_rules.specs.Tables.{bytes_in, content_extent, header, order_of, program_header_count, section_header_count, sections, segments}
 use Rattle.elf_image_rules.proofs.Public.{rules_unbroken, sections_none}
 use Rattle.elf_image_type.specs.declared.part.Owner.{Owner}
 use Rattle.elf_image_type.specs.declared.part.Owner.TheVariants.{Header, ProgramTable, SectionTable, Content, Gap}
-use Rattle.elf_image_type.specs.Image.{AreRecordsIn, ImageValue, Stands, index_of, section_of, segment_of, value_extents, value_names, value_rules}
+use Rattle.elf_image_type.specs.Image.{AreRecordsIn, ImageValue, Stands, owner_index, program_header_of, section_header_of, value_extents, value_names, value_rules}
 use Rattle.elf_image_type.specs.FileParts.{AreFileParts, FileContents, HasContents, IsWritable, WrittenPart, owner_bytes, owner_start, spread, unaligned, written}
 use Rattle.elf_image_type.proofs.Holds.{length-content, same_len, same_start}
 use Rattle.elf_image_type.proofs.OneImage.{owner_from}
 use Rattle.elf_image_type.proofs.Spread.{IsBytes-spread, in_spread, same_part}
 use Rattle.elf_image_type.proofs.Standing.{IsCounted, clean_of, extents_are, get_or_at, mapped_at, table_there, within_list}
-use Rattle.elf_image_type.proofs.Stands.{contents_read, entry_at, first_of_none, header_read, sections_read, segments_read}
+use Rattle.elf_image_type.proofs.Stands.{contents_read, element_made, first_of_none, header_read, sections_read, segments_read}
 use Rattle.elf_image_type.proofs.Theorem.{Reads, clean_bytes, has_tables_of}
 
 -- the value with these records and contents, with no parts: the rules look at none
@@ -102,11 +102,11 @@ owners_extent f lengths (suc (suc (suc i))) e at =
     }
 
 -- the index of the owner at an index is that index
-index_of-owner_from : (i : ℕ) → index_of (owner_from (Some i)) ≡ Some i
-index_of-owner_from zero = refl
-index_of-owner_from (suc zero) = refl
-index_of-owner_from (suc (suc zero)) = refl
-index_of-owner_from (suc (suc (suc i))) = refl
+owner_index-owner_from : (i : ℕ) → owner_index (owner_from (Some i)) ≡ Some i
+owner_index-owner_from zero = refl
+owner_index-owner_from (suc zero) = refl
+owner_index-owner_from (suc (suc zero)) = refl
+owner_index-owner_from (suc (suc (suc i))) = refl
 
 not_gap : (o : Owner) (f : FileContents) → 0 < length (owner_bytes f o) → o ≢ Gap
 not_gap o f some gap =
@@ -179,7 +179,7 @@ disjoint_parts f places parts lengths are i j x (d, at_i, one) (e, at_j, other) 
     let order = subst (λ (sizes : List (ℕ × ℕ)). Fits sizes 0 places) (sym (unaligned_parts parts)) are.order in
     let same : a.0 ≡ b.0 = same_part 0 places (bytes_of_parts parts) a.0 b.0 x order a.1.within b.1.within (omega arith) (omega arith) (omega arith) (omega arith) in
     let owner = owner_at a.0 b.0 same a.1 b.1 in
-    let index : Some i ≡ Some j = sym (index_of-owner_from i) ∙ ap index_of owner ∙ index_of-owner_from j in
+    let index : Some i ≡ Some j = sym (owner_index-owner_from i) ∙ ap owner_index owner ∙ owner_index-owner_from j in
     cc
   where
     owner_at : (k l : ℕ) → k ≡ l → IsOwnersPart f places parts (owner_from (Some i)) k → IsOwnersPart f places parts (owner_from (Some j)) l → owner_from (Some i) ≡ owner_from (Some j)
@@ -206,11 +206,11 @@ module _ (f : FileContents) (places : List ℕ) (parts : List WrittenPart) (file
   unfolding b
   clean =
       let same = extents_are f.header f.sections f.segments _ _ file.section_count file.segment_count in
-      let kept : KeepsRules (length b) f.header (section_of f.sections) (segment_of f.segments) (value_names f.header f.sections f.contents) = record {
+      let kept : KeepsRules (length b) f.header (section_header_of f.sections) (program_header_of f.segments) (value_names f.header f.sections f.contents) = record {
         records = file.kept;
         disjoint = subst AreDisjoint (sym same) (disjoint_parts f places parts file.lengths file.placed);
       } in
-      rules_unbroken (length b) f.header (section_of f.sections) (segment_of f.segments) (value_names f.header f.sections f.contents) kept
+      rules_unbroken (length b) f.header (section_header_of f.sections) (program_header_of f.segments) (value_names f.header f.sections f.contents) kept
 
   counted : IsCounted (value_of f (length b))
   counted = record { section_count = file.section_count; segment_count = file.segment_count; clean = clean }
@@ -241,7 +241,7 @@ module _ (f : FileContents) (places : List ℕ) (parts : List WrittenPart) (file
         ap₂ (λ (n x : ℕ). take n (drop x b)) is.len is.start ∙ stands (Content i)
 
   -- section header 0 of the bytes is the file's
-  first_is : sections b f.header 0 ≡ section_of f.sections 0
+  first_is : sections b f.header 0 ≡ section_header_of f.sections 0
   first_is = elim (cases_eq f.header.e_shoff 0) [
     | inl none ↦
         (let no_sections : length f.sections ≡ 0 = file.section_count ∙ rw none refl in
@@ -249,13 +249,13 @@ module _ (f : FileContents) (places : List ℕ) (parts : List WrittenPart) (file
     | inr there ↦
         (let some = (clean_of (value_of f (length b)) counted).some there in
         let count = file.section_count in
-        entry_at (sections b f.header) f.sections _ (length f.sections) sections_are 0 (omega arith))
+        element_made (sections b f.header) f.sections _ (length f.sections) sections_are 0 (omega arith))
   ]
 
   records : AreRecordsIn b f.header f.sections f.segments
   records =
-      let section_count_is : length f.sections ≡ section_count f.header (sections b f.header 0) = file.section_count ∙ sym (ap (section_count f.header) first_is) in
-      let segment_count_is : length f.segments ≡ segment_count f.header (sections b f.header 0) = file.segment_count ∙ sym (ap (segment_count f.header) first_is) in
+      let section_count_is : length f.sections ≡ section_header_count f.header (sections b f.header 0) = file.section_count ∙ sym (ap (section_header_count f.header) first_is) in
+      let segment_count_is : length f.segments ≡ program_header_count f.header (sections b f.header 0) = file.segment_count ∙ sym (ap (program_header_count f.header) first_is) in
       record {
         header = header_is;
         section_headers = sym sections_are ∙ ap (λ (n : ℕ). map (sections b f.header) (range_with_len 0 n)) section_count_is;
@@ -277,11 +277,11 @@ module _ (f : FileContents) (places : List ℕ) (parts : List WrittenPart) (file
   read v standing =
       let same : v.header ≡ f.header = standing.records.header ∙ sym header_is in
       let all : v.sections ≡ f.sections =
-      standing.records.section_headers ∙ ap (λ (h : Ehdr). map (sections b h) (range_with_len 0 (section_count h (sections b h 0)))) same ∙ sym records.section_headers in
+      standing.records.section_headers ∙ ap (λ (h : Ehdr). map (sections b h) (range_with_len 0 (section_header_count h (sections b h 0)))) same ∙ sym records.section_headers in
       record {
         header = same;
         sections = all;
-        segments = standing.records.program_headers ∙ ap (λ (h : Ehdr). map (segments b h) (range_with_len 0 (segment_count h (sections b h 0)))) same ∙ sym records.program_headers;
+        segments = standing.records.program_headers ∙ ap (λ (h : Ehdr). map (segments b h) (range_with_len 0 (program_header_count h (sections b h 0)))) same ∙ sym records.program_headers;
         contents = standing.contents ∙ ap (λ (ss : List Shdr). map (λ s. bytes_in b (content_extent s)) ss) all ∙ sym contents_are;
       }
 

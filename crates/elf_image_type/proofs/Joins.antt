@@ -21,7 +21,7 @@ length-flat_parts f es total at (p ∷ ps) accounts lengths =
     let here = lengths.0 in
     omega arith
 
--- the bytes of each part stand at its place, behind bytes that reach to the first part
+-- the bytes of each part stand at its offset, behind bytes that reach to the first part
 pub in_flat_parts : (f : PlacedPart → List ℕ) (es : List Extent) (total at : ℕ) (front : List ℕ) (ps : List PlacedPart) →
     Accounts es total at (map piece_of ps) → HaveLengths f ps → length front ≡ at →
     AllByRecursion (λ p. take p.part.len (drop p.part.start (front ++ flat_map f ps)) ≡ f p) ps
@@ -35,7 +35,7 @@ in_flat_parts f es total at front (p ∷ ps) accounts lengths long =
     let later = in_flat_parts f es total (at + p.part.len) (front ++ f p) ps accounts.3 lengths.1 longer in
     (here, rw (append_assoc front (f p) (flat_map f ps)) at later)
 
--- parts that have a list's bytes at their places make the rest of the list
+-- parts that have a list's bytes at their offsets make the rest of the list
 pub flat_parts_are : (f : PlacedPart → List ℕ) (b : List ℕ) (es : List Extent) (total at : ℕ) (ps : List PlacedPart) →
     Accounts es total at (map piece_of ps) → total ≡ length b →
     AllByRecursion (λ p. f p ≡ take p.part.len (drop p.part.start b)) ps → flat_map f ps ≡ drop at b

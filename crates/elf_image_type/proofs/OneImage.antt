@@ -7,11 +7,11 @@ use Rattle.elf_field.specs.declared.phdr.Phdr.{Phdr}
 use Rattle.elf_extent.specs.declared.extent.Piece.{Piece}
 use Rattle.elf_extent.specs.Account.{Accounts}
 use Rattle.elf_extent.proofs.Public.{one_account}
-use Rattle.elf_image_rules.specs.Tables.{bytes_in, content_extent, section_count, sections, segment_count, segments}
+use Rattle.elf_image_rules.specs.Tables.{bytes_in, content_extent, program_header_count, section_header_count, sections, segments}
 use Rattle.elf_image_type.specs.declared.part.Owner.{Owner}
 use Rattle.elf_image_type.specs.declared.part.Owner.TheVariants.{Header, ProgramTable, SectionTable, Content, Gap}
 use Rattle.elf_image_type.specs.declared.part.Part.{Part}
-use Rattle.elf_image_type.specs.Image.{ImageValue, IsImage, PlacedPart, gap_in, index_of, piece_of, value_extents}
+use Rattle.elf_image_type.specs.Image.{ImageValue, IsImage, PlacedPart, gap_in, owner_index, piece_of, value_extents}
 use Rattle.elf_image_type.proofs.Standing.{disjoint_of}
 use Rattle.elf_image_type.proofs.Theorem.{counted_by_bytes}
 
@@ -23,14 +23,14 @@ owner_from (Some (suc zero)) = SectionTable
 owner_from (Some (suc (suc zero))) = ProgramTable
 owner_from (Some (suc (suc (suc i)))) = Content i
 
-owner_from-index : (o : Owner) → owner_from (index_of o) ≡ o
+owner_from-index : (o : Owner) → owner_from (owner_index o) ≡ o
 owner_from-index Header = refl
 owner_from-index SectionTable = refl
 owner_from-index ProgramTable = refl
 owner_from-index (Content i) = refl
 owner_from-index Gap = refl
 
-same_owner : (a b : Owner) → index_of a ≡ index_of b → a ≡ b
+same_owner : (a b : Owner) → owner_index a ≡ owner_index b → a ≡ b
 same_owner a b same = sym (owner_from-index a) ∙ ap owner_from same ∙ owner_from-index b
 
 same_part : (a b : Owner) (s t m n : ℕ) → a ≡ b → s ≡ t → m ≡ n →
@@ -72,9 +72,9 @@ one_image v w b one two =
     let lens : v.len ≡ w.len = first.len ∙ sym second.len in
     let headers : v.header ≡ w.header = first.records.header ∙ sym second.records.header in
     let section_headers : v.sections ≡ w.sections = first.records.section_headers
-    ∙ ap (λ (h : Ehdr). map (sections b h) (range_with_len 0 (section_count h (sections b h 0)))) headers ∙ sym second.records.section_headers in
+    ∙ ap (λ (h : Ehdr). map (sections b h) (range_with_len 0 (section_header_count h (sections b h 0)))) headers ∙ sym second.records.section_headers in
     let program_headers : v.segments ≡ w.segments = first.records.program_headers
-    ∙ ap (λ (h : Ehdr). map (segments b h) (range_with_len 0 (segment_count h (sections b h 0)))) headers ∙ sym second.records.program_headers in
+    ∙ ap (λ (h : Ehdr). map (segments b h) (range_with_len 0 (program_header_count h (sections b h 0)))) headers ∙ sym second.records.program_headers in
     let contents : v.contents ≡ w.contents = first.contents
     ∙ ap (map (λ s. bytes_in b (content_extent s))) section_headers ∙ sym second.contents in
     let of_len = subst (λ (n : ℕ). Accounts (value_extents w.header w.sections w.segments) n 0 (map piece_of w.parts)) (sym lens) second.accounts in

@@ -17,10 +17,10 @@ use Rattle.elf_extent.specs.declared.extent.Extent.{Extent}
 use Rattle.elf_image_rules.specs.OverlapRule.{contents, extents, shared_fault}
 use Rattle.elf_image_rules.proofs.Public.{fault_of_extents}
 use Rattle.elf_image_rules.specs.ImageRules.{IsFault, KeepsRecordRules, extents_of_file}
-use Rattle.elf_image_rules.specs.Tables.{bytes_in, content_extent, header, section_count, sections, segment_count, segments}
+use Rattle.elf_image_rules.specs.Tables.{bytes_in, content_extent, header, program_header_count, section_header_count, sections, segments}
 use Rattle.elf_image_type.specs.declared.part.Part.{Part}
 use Rattle.elf_image_type.specs.Image.{AreRecordsIn, ImageValue, IsImage, PlacedPart, gap_in, part_piece, piece_of, value_extents}
-use Rattle.elf_image_type.specs.Outline.{image_of, outline_value, placed}
+use Rattle.elf_image_type.specs.Outline.{image_of, outline_value, placed_part}
 use Rattle.elf_image_rules.proofs.Public.{sections_there, sound_file}
 use Rattle.elf_image_type.proofs.Standing.{disjoint_of, records_within, within_of}
 use Rattle.elf_image_type.proofs.Theorem.{Reads, counted_by_reads}
@@ -51,13 +51,13 @@ tables_within b h ss gs records clean =
 pub sections_short : (b : List ℕ) (h : Ehdr) (ss : List Shdr) (gs : List Phdr) → AreRecordsIn b h ss gs → KeepsRecordRules b → SHDR_SIZE * length ss ≤ length b
 sections_short b h ss gs records kept =
     let there = sections_there b h (sound_file b h records.header kept) in
-    let count : length ss ≡ section_count h (sections b h 0) = ap length records.section_headers ∙ length-map-range_with_len (sections b h) 0 _ in
+    let count : length ss ≡ section_header_count h (sections b h 0) = ap length records.section_headers ∙ length-map-range_with_len (sections b h) 0 _ in
     omega arith
 
 pub segments_short : (b : List ℕ) (h : Ehdr) (ss : List Shdr) (gs : List Phdr) → AreRecordsIn b h ss gs → KeepsRecordRules b → PHDR_SIZE * length gs ≤ length b
 segments_short b h ss gs records kept =
-    let count : length gs ≡ segment_count h (sections b h 0) = ap length records.program_headers ∙ length-map-range_with_len (segments b h) 0 _ in
-    elim (cases_eq (segment_count h (sections b h 0)) 0) [
+    let count : length gs ≡ program_header_count h (sections b h 0) = ap length records.program_headers ∙ length-map-range_with_len (segments b h) 0 _ in
+    elim (cases_eq (program_header_count h (sections b h 0)) 0) [
       | inl none ↦ omega arith
       | inr some ↦ (let there = (sound_file b h records.header kept).program_table (omega arith) in omega arith)
     ]
@@ -73,8 +73,8 @@ map_composed f g (x ∷ xs) = ap (λ (ys : List _). g (f x) ∷ ys) (map_compose
 pub extents_read : (b : List ℕ) (h : Ehdr) (ss : List Shdr) (gs : List Phdr) → AreRecordsIn b h ss gs → value_extents h ss gs ≡ extents_of_file b
 unfolding extents
 extents_read b h ss gs records =
-    let n = section_count h (sections b h 0) in
-    let m = segment_count h (sections b h 0) in
+    let n = section_header_count h (sections b h 0) in
+    let m = program_header_count h (sections b h 0) in
     let sections_e : length ss ≡ n = ap length records.section_headers ∙ length-map-range_with_len (sections b h) 0 n in
     let segments_e : length gs ≡ m = ap length records.program_headers ∙ length-map-range_with_len (segments b h) 0 m in
     let contents_e : map content_extent ss ≡ contents n (sections b h) =
@@ -82,7 +82,7 @@ extents_read b h ss gs records =
     let of_header : value_extents h ss gs ≡ extents h n m (sections b h) =
     ap (λ (cs : List Extent). record { start = 0; len = EHDR_SIZE } ∷ record { start = h.e_shoff; len = SHDR_SIZE * length ss } ∷ record { start = h.e_phoff; len = PHDR_SIZE * length gs } ∷ cs) contents_e
     ∙ ap₂ (λ (k l : ℕ). record { start = 0; len = EHDR_SIZE } ∷ record { start = h.e_shoff; len = SHDR_SIZE * k } ∷ record { start = h.e_phoff; len = PHDR_SIZE * l } ∷ contents n (sections b h)) sections_e segments_e in
-    of_header ∙ ap (λ (k : Ehdr). extents k (section_count k (sections b k 0)) (segment_count k (sections b k 0)) (sections b k)) records.header
+    of_header ∙ ap (λ (k : Ehdr). extents k (section_header_count k (sections b k 0)) (program_header_count k (sections b k 0)) (sections b k)) records.header
 
 -- the lowest byte in two of them is the file's fault
 pub found_is_fault : (b : List ℕ) (h : Ehdr) (ss : List Shdr) (gs : List Phdr) (es : List Extent) (found : Option ℕ) → AreRecordsIn b h ss gs →
@@ -90,11 +90,11 @@ pub found_is_fault : (b : List ℕ) (h : Ehdr) (ss : List Shdr) (gs : List Phdr)
 found_is_fault b h ss gs es found records same kept lowest =
     fault_of_extents b found kept (subst (λ (xs : List Extent). IsLowest (Doubly xs) found) (same ∙ extents_read b h ss gs records) lowest)
 
-pieces_of : (b : List ℕ) (ps : List Part) → map piece_of (map (placed false b) ps) ≡ map part_piece ps
+pieces_of : (b : List ℕ) (ps : List Part) → map piece_of (map (placed_part false b) ps) ≡ map part_piece ps
 pieces_of b [] = refl
 pieces_of b (p ∷ ps) = ap (λ (qs : List _). part_piece p ∷ qs) (pieces_of b ps)
 
-gaps_of : (b : List ℕ) (ps : List Part) → AllByRecursion (λ (p : PlacedPart). p.gap ≡ gap_in b p.part) (map (placed false b) ps)
+gaps_of : (b : List ℕ) (ps : List Part) → AllByRecursion (λ (p : PlacedPart). p.gap ≡ gap_in b p.part) (map (placed_part false b) ps)
 gaps_of b [] = tt
 gaps_of b (p ∷ ps) = (refl, gaps_of b ps)
 

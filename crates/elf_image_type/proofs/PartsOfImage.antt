@@ -9,8 +9,8 @@ use Rattle.elf_image_rules.specs.Tables.{content_extent}
 use Rattle.elf_image_type.specs.declared.part.Owner.{Owner}
 use Rattle.elf_image_type.specs.declared.part.Owner.TheVariants.{Header, ProgramTable, SectionTable, Content, Gap}
 use Rattle.elf_image_type.specs.declared.part.Part.{Part}
-use Rattle.elf_image_type.specs.Image.{ImageValue, IsSound, PlacedPart, index_of, no_section, part_piece, piece_of, section_of, value_extents}
-use Rattle.elf_image_type.specs.Parts.{AreParts, IsOnlyPartAt, IsPlaceOf}
+use Rattle.elf_image_type.specs.Image.{ImageValue, IsSoundImage, PlacedPart, no_section_header, owner_index, part_piece, piece_of, section_header_of, value_extents}
+use Rattle.elf_image_type.specs.Parts.{AreParts, IsExtentOf, IsOnlyPartAt}
 use Rattle.elf_image_type.proofs.Holds.{same_len, same_start}
 use Rattle.elf_image_type.proofs.Standing.{get_or_at, mapped_at, within_list}
 
@@ -42,7 +42,7 @@ is_only ps x k q p here same from below only =
       only = λ j r there above under. only j (part_piece r) (part_is_piece ps j r there) above under;
     }
 
-each_offset : (v : ImageValue) → IsSound v → (x : ℕ) → x < v.len → (k : ℕ) × (p : Part) × IsOnlyPartAt (map part_of v.parts) x k p
+each_offset : (v : ImageValue) → IsSoundImage v → (x : ℕ) → x < v.len → (k : ℕ) × (p : Part) × IsOnlyPartAt (map part_of v.parts) x k p
 each_offset v sound x lt =
     let found = in_piece (value_extents v.header v.sections v.segments) v.len (map piece_of v.parts) x sound.accounts lt in
     let from = mapped_at piece_of v.parts found.0 found.1 found.2.here in
@@ -50,27 +50,27 @@ each_offset v sound x lt =
 
 -- an extent of the list is its owner's
 place_by_index : (v : ImageValue) (o : Owner) (start len : ℕ) →
-    IsOwned (value_extents v.header v.sections v.segments) v.len start len (index_of o) → IsPlaceOf v o start len
+    IsOwned (value_extents v.header v.sections v.segments) v.len start len (owner_index o) → IsExtentOf v o start len
 place_by_index v Header start len owned = (sym (same_start _ _ owned), sym (same_len _ _ owned))
 place_by_index v SectionTable start len owned = (sym (same_start _ _ owned), sym (same_len _ _ owned))
 place_by_index v ProgramTable start len owned = (sym (same_start _ _ owned), sym (same_len _ _ owned))
 place_by_index v (Content i) start len owned =
     let e : Extent = record { start = start; len = len } in
     let from = mapped_at content_extent v.sections i e owned in
-    let is : section_of v.sections i ≡ from.0 = get_or_at v.sections i from.0 no_section from.1 in
-    let extent : content_extent (section_of v.sections i) ≡ e = ap content_extent is ∙ from.2 in (
+    let is : section_header_of v.sections i ≡ from.0 = get_or_at v.sections i from.0 no_section_header from.1 in
+    let extent : content_extent (section_header_of v.sections i) ≡ e = ap content_extent is ∙ from.2 in (
       within_list v.sections i from.0 from.1,
       sym (ap (λ (x : Extent). x.start) extent),
       sym (ap (λ (x : Extent). x.len) extent),
     )
 place_by_index v Gap start len owned = owned
 
-piece_of_part : (v : ImageValue) → IsSound v → (k : ℕ) (p : Part) → slice_get (map part_of v.parts) k ≡ Some p →
+piece_of_part : (v : ImageValue) → IsSoundImage v → (k : ℕ) (p : Part) → slice_get (map part_of v.parts) k ≡ Some p →
     IsPiece (value_extents v.header v.sections v.segments) v.len 0 (part_piece p)
 piece_of_part v sound k p here =
     piece_at (value_extents v.header v.sections v.segments) v.len 0 (map piece_of v.parts) k (part_piece p) sound.accounts (part_is_piece v.parts k p here)
 
-pub are_parts : (v : ImageValue) → IsSound v → AreParts v (map part_of v.parts)
+pub are_parts : (v : ImageValue) → IsSoundImage v → AreParts v (map part_of v.parts)
 are_parts v sound = record {
   each_offset = each_offset v sound;
   owners = λ k p here. place_by_index v p.owner p.start p.len (piece_of_part v sound k p here).owned;

@@ -11,12 +11,12 @@ use Rattle.elf_field.specs.Ehdr.{ehdr_bytes}
 use Rattle.elf_field.specs.Shdr.{IsShdr}
 use Rattle.elf_field.specs.EhdrLaws.{ehdr_laws}
 use Rattle.elf_field.specs.ShdrLaws.{shdr_laws}
-use Rattle.elf_field.specs.RecordTableLaws.{IsBytes-table, length-table}
+use Rattle.elf_field.proofs.RecordTableLaws.{IsBytes-table, length-table}
 use Rattle.elf_extent.specs.Place.{Fits}
 use Rattle.elf_extent.proofs.Public.{above_from}
 use Rattle.elf_image_rules.specs.ImageRules.{IsFault}
 use Rattle.elf_image_rules.specs.KeepsRules.{KeepsEachRecordRule, KeepsHeaderRules, KeepsNameRules, KeepsProgramTableRules, KeepsSectionRules, KeepsSectionTableRules, KeepsSegmentRules}
-use Rattle.elf_image_rules.specs.Tables.{content_extent, name_table, no_section, order_of, section_count, section_of, segment_count, segment_of}
+use Rattle.elf_image_rules.specs.Tables.{content_extent, name_table, no_section_header, order_of, program_header_count, program_header_of, section_header_count, section_header_of}
 use Rattle.elf_image_type.specs.declared.part.Owner.{Owner}
 use Rattle.elf_image_type.specs.declared.part.Owner.TheVariants.{Header, ProgramTable, SectionTable, Content, Gap}
 use Rattle.elf_image_type.specs.Image.{ImageValue, Stands, value_names}
@@ -68,7 +68,7 @@ parts_are_bytes t i (c ∷ cs) all last = (all.0, parts_are_bytes t (suc i) cs a
 
 -- ---- lists with a last element
 
-offset_at : (ss : List Shdr) (x j : ℕ) → j < length ss → get_or (map (λ s. s.sh_offset) ss ++ (x ∷ [])) j 0 ≡ (section_of ss j).sh_offset
+offset_at : (ss : List Shdr) (x j : ℕ) → j < length ss → get_or (map (λ s. s.sh_offset) ss ++ (x ∷ [])) j 0 ≡ (section_header_of ss j).sh_offset
 offset_at [] x j lt = absurd (omega arith)
 offset_at (s ∷ ss) x zero lt = refl
 offset_at (s ∷ ss) x (suc j) lt = offset_at ss x j (omega arith)
@@ -95,7 +95,7 @@ same_count (c ∷ cs) [] e = absurd cc
 same_count (c ∷ cs) (s ∷ ss) e = let tail : map length cs ≡ map (λ s. (content_extent s).len) ss = cc in ap suc (same_count cs ss tail)
 
 content_long : (cs : List (List ℕ)) (ss : List Shdr) (j : ℕ) → map length cs ≡ map (λ s. (content_extent s).len) ss → j < length ss →
-    length (get_or cs j []) ≡ (content_extent (section_of ss j)).len
+    length (get_or cs j []) ≡ (content_extent (section_header_of ss j)).len
 content_long [] [] j e lt = absurd (omega arith)
 content_long [] (s ∷ ss) j e lt = absurd cc
 content_long (c ∷ cs) [] j e lt = absurd cc
@@ -120,7 +120,7 @@ high : (number : ℕ) → SHN_LORESERVE ≤ number → (short_count number ≡ 0
 high number le = (rw (le-ltb number SHN_LORESERVE le) refl, rw (le-ltb number SHN_LORESERVE le) refl, rw (le-ltb number SHN_LORESERVE le) refl)
 
 -- the count of section headers, read of the header or of section header 0
-counted : (h : Ehdr) (n k : ℕ) → h.e_shoff ≢ 0 → 0 < n → h.e_shnum ≡ short_count n → section_count h (first_header n k) ≡ n
+counted : (h : Ehdr) (n k : ℕ) → h.e_shoff ≢ 0 → 0 < n → h.e_shnum ≡ short_count n → section_header_count h (first_header n k) ≡ n
 counted h n k there some count =
     rw (ne_eqb h.e_shoff 0 there, count) (elim (cases_lt n SHN_LORESERVE) [
       | inl few ↦ (let other : n ≢ 0 = λ none. omega arith in let is = low n few in rw (is.0, ne_eqb n 0 other) refl)
@@ -179,7 +179,7 @@ module _ (h : Ehdr) (ss : List Shdr) (cs : List (List ℕ)) (names : ℕ) (file 
       omega arith
 
   -- a content ends before the section table
-  content_below : (j : ℕ) → j < length ss → (section_of ss j).sh_offset + length (get_or cs j []) ≤ h.e_shoff
+  content_below : (j : ℕ) → j < length ss → (section_header_of ss j).sh_offset + length (get_or cs j []) ≤ h.e_shoff
   content_below j lt =
       let all = length-append cs (section_table h ss names ∷ []) in
       let same = counts in
@@ -201,7 +201,7 @@ module _ (h : Ehdr) (ss : List Shdr) (cs : List (List ℕ)) (names : ℕ) (file 
         ])
       ]
     where
-      first_fits_at : (size link : ℕ) → size < 2 ^ 64 → link < 2 ^ 32 → IsShdr (record no_section { sh_size = size; sh_link = link })
+      first_fits_at : (size link : ℕ) → size < 2 ^ 64 → link < 2 ^ 32 → IsShdr (record no_section_header { sh_size = size; sh_link = link })
       first_fits_at size link one two = record {
         sh_name = omega arith;
         sh_type = omega arith;
@@ -215,7 +215,7 @@ module _ (h : Ehdr) (ss : List Shdr) (cs : List (List ℕ)) (names : ℕ) (file 
         sh_entsize = omega arith;
       }
 
-  count_is : section_count h (first_header n names) ≡ n
+  count_is : section_header_count h (first_header n names) ≡ n
   count_is = let above = table_above in counted h n names (λ none. omega arith) (omega arith) file.section_count
 
   names_are_at : name_table h (first_header n names) ≡ names
@@ -227,7 +227,7 @@ module _ (h : Ehdr) (ss : List Shdr) (cs : List (List ℕ)) (names : ℕ) (file 
     | inr other ↦ rw (ne_eqb names 0 other) refl
   ])
 
-  no_segment_counted : segment_count h (first_header n names) ≡ 0
+  no_segment_counted : program_header_count h (first_header n names) ≡ 0
   no_segment_counted = rw file.no_segments refl
 
   -- ---- its parts
@@ -314,13 +314,13 @@ module _ (h : Ehdr) (ss : List Shdr) (cs : List (List ℕ)) (names : ℕ) (file 
         | inr many ↦ (let is = (high n many).2 in omega arith)
       ]
 
-      plain_index : h.e_shoff ≢ 0 → h.e_shstrndx ≢ SHN_XINDEX → (h.e_shstrndx < SHN_LORESERVE) × (h.e_shstrndx < section_count h (first_header n names))
+      plain_index : h.e_shoff ≢ 0 → h.e_shstrndx ≢ SHN_XINDEX → (h.e_shstrndx < SHN_LORESERVE) × (h.e_shstrndx < section_header_count h (first_header n names))
       plain_index there plain = elim (cases_lt names SHN_LORESERVE) [
         | inl under ↦ (let is = (low names under).1 in let index = file.name_table in let below = file.names_within in let count = count_is in (omega arith, omega arith))
         | inr over ↦ absurd (plain (file.name_table ∙ (high names over).1))
       ]
 
-      extended_index : h.e_shstrndx ≡ SHN_XINDEX → (SHN_LORESERVE ≤ long_number names) × (long_number names < section_count h (first_header n names))
+      extended_index : h.e_shstrndx ≡ SHN_XINDEX → (SHN_LORESERVE ≤ long_number names) × (long_number names < section_header_count h (first_header n names))
       extended_index escape = elim (cases_lt names SHN_LORESERVE) [
         | inl under ↦ (let is = (low names under).1 in let index = file.name_table in absurd (omega arith))
         | inr over ↦ (let is = (high names over).2 in let below = file.names_within in let count = count_is in (omega arith, omega arith))
@@ -358,18 +358,18 @@ module _ (h : Ehdr) (ss : List Shdr) (cs : List (List ℕ)) (names : ℕ) (file 
         program_table = λ some. absurd (omega arith);
       }
 
-  sections_kept : (len : ℕ) → len ≡ h.e_shoff + SHDR_SIZE * n → KeepsSectionRules len n (section_of headers)
+  sections_kept : (len : ℕ) → len ≡ h.e_shoff + SHDR_SIZE * n → KeepsSectionRules len n (section_header_of headers)
   sections_kept len long = record { alignment = file.alignment; address = file.address; content = content } where
-    content : (i : ℕ) → 1 ≤ i → i < n → (section_of headers i).sh_type ≢ 0 → (section_of headers i).sh_type ≢ 8 → 0 < (section_of headers i).sh_size →
-        (section_of headers i).sh_offset + (section_of headers i).sh_size ≤ len
+    content : (i : ℕ) → 1 ≤ i → i < n → (section_header_of headers i).sh_type ≢ 0 → (section_header_of headers i).sh_type ≢ 8 → 0 < (section_header_of headers i).sh_size →
+        (section_header_of headers i).sh_offset + (section_header_of headers i).sh_size ≤ len
     content zero from lt null bits some = absurd (omega arith)
     content (suc j) from lt null bits some =
         let below = content_below j (omega arith) in
         let size = content_long cs ss j file.lengths (omega arith) in
-        let same = content_some_len (section_of ss j) null bits in
+        let same = content_some_len (section_header_of ss j) null bits in
         omega arith
 
-  segments_kept : (len : ℕ) → KeepsSegmentRules len 0 (segment_of [])
+  segments_kept : (len : ℕ) → KeepsSegmentRules len 0 (program_header_of [])
   segments_kept len = record {
     bytes = λ j below. absurd (omega arith);
     sizes = λ j below. absurd (omega arith);
@@ -379,7 +379,7 @@ module _ (h : Ehdr) (ss : List Shdr) (cs : List (List ℕ)) (names : ℕ) (file 
   }
 
   kept : (len : ℕ) → len ≡ h.e_shoff + SHDR_SIZE * n →
-      KeepsEachRecordRule len h (section_of headers) (segment_of []) (value_names h headers ([] ∷ cs))
+      KeepsEachRecordRule len h (section_header_of headers) (program_header_of []) (value_names h headers ([] ∷ cs))
   kept len long =
       let short = file.short in
       let above = table_above in
@@ -389,11 +389,11 @@ module _ (h : Ehdr) (ss : List Shdr) (cs : List (List ℕ)) (names : ℕ) (file 
         header = header_kept len long;
         section_table = section_table_kept len long;
         program_table = program_table_kept len;
-        sections = subst (λ (count : ℕ). KeepsSectionRules len count (section_of headers)) (sym count_is) (sections_kept len long);
-        segments = subst (λ (count : ℕ). KeepsSegmentRules len count (segment_of [])) (sym no_segment_counted) (segments_kept len);
-        section_names = subst (λ (count : ℕ). KeepsNameRules count (name_table h (first_header n names)) (section_of headers) (value_names h headers ([] ∷ cs))) (sym count_is)
-            (subst (λ (index : ℕ). KeepsNameRules n index (section_of headers) (value_names h headers ([] ∷ cs))) (sym names_are_at)
-            (subst (KeepsNameRules n names (section_of headers)) (sym names_are) file.section_names));
+        sections = subst (λ (count : ℕ). KeepsSectionRules len count (section_header_of headers)) (sym count_is) (sections_kept len long);
+        segments = subst (λ (count : ℕ). KeepsSegmentRules len count (program_header_of [])) (sym no_segment_counted) (segments_kept len);
+        section_names = subst (λ (count : ℕ). KeepsNameRules count (name_table h (first_header n names)) (section_header_of headers) (value_names h headers ([] ∷ cs))) (sym count_is)
+            (subst (λ (index : ℕ). KeepsNameRules n index (section_header_of headers) (value_names h headers ([] ∷ cs))) (sym names_are_at)
+            (subst (KeepsNameRules n names (section_header_of headers)) (sym names_are) file.section_names));
       }
 
   writable : IsWritable (relocatable_file h ss cs names) places (relocatable_parts h ss cs names)

@@ -1,4 +1,4 @@
--- Parts at their places in the list of bytes that they make.
+-- Parts at their offsets in the list of bytes that they make.
 use Rattle.std.proofs.Common.{◌≡◌, ◌<◌, ◌≤◌, ◌+◌, ◌-◌, ℕ, zero, suc, List, [], ◌∷◌, ◌++◌, length, take, drop, map, get_or, replicate, refl, sym, ap, ◌∙◌, inl, inr, append_assoc, arith, length-append}
 use Rattle.std.specs.List.{AllByRecursion}
 use Rattle.std.proofs.lemmas.Bool.{cases_lt}
@@ -23,7 +23,7 @@ IsBytes-spread from (x ∷ q) (p ∷ ps) are =
     IsBytes-append (replicate (x - from) 0) (p ++ spread (x + length p) q ps) (IsBytes-zeros (x - from))
     (IsBytes-append p (spread (x + length p) q ps) are.0 (IsBytes-spread (x + length p) q ps are.1))
 
--- ---- each part stands at its place
+-- ---- each part stands at its offset
 
 length-zeros : (n : ℕ) → length (replicate {A = ℕ} n 0) ≡ n
 length-zeros n = length-replicate n 0

@@ -8,12 +8,12 @@ use Rattle.elf_field.specs.declared.shdr.Shdr.{Shdr}
 use Rattle.elf_field.specs.declared.phdr.Phdr.{Phdr}
 use Rattle.elf_extent.specs.declared.extent.Extent.{Extent}
 use Rattle.elf_extent.specs.Extent.{AreDisjoint, AreWithin}
-use Rattle.elf_image_rules.specs.Tables.{content_extent, section_count, segment_count}
+use Rattle.elf_image_rules.specs.Tables.{content_extent, program_header_count, section_header_count}
 use Rattle.elf_image_rules.specs.OverlapRule.{extents}
 use Rattle.elf_image_rules.specs.Rows.{FirstIn}
 use Rattle.elf_image_rules.specs.SoundTables.{HasSoundTables}
 use Rattle.elf_image_rules.proofs.Public.{clean_records, content_some, extents_disjoint, sound_tables}
-use Rattle.elf_image_type.specs.Image.{AreWithinBytes, ImageValue, IsSound, value_rules, no_section, section_of, segment_of, value_extents, value_names}
+use Rattle.elf_image_type.specs.Image.{AreWithinBytes, ImageValue, IsSoundImage, value_rules, no_section_header, section_header_of, program_header_of, value_extents, value_names}
 
 -- ---- lists by index
 
@@ -54,54 +54,54 @@ map_by_index f (x ∷ xs) d =
 -- ---- the extents of a value
 
 -- the extents that the rules speak of are those of the value
-pub extents_are : (h : Ehdr) (ss : List Shdr) (gs : List Phdr) (n m : ℕ) → length ss ≡ n → length gs ≡ m → extents h n m (section_of ss) ≡ value_extents h ss gs
+pub extents_are : (h : Ehdr) (ss : List Shdr) (gs : List Phdr) (n m : ℕ) → length ss ≡ n → length gs ≡ m → extents h n m (section_header_of ss) ≡ value_extents h ss gs
 unfolding extents
 extents_are h ss gs n m sections segments =
-    subst (λ (k : ℕ). extents h k m (section_of ss) ≡ value_extents h ss gs) sections
-    (subst (λ (k : ℕ). extents h (length ss) k (section_of ss) ≡ value_extents h ss gs) segments
+    subst (λ (k : ℕ). extents h k m (section_header_of ss) ≡ value_extents h ss gs) sections
+    (subst (λ (k : ℕ). extents h (length ss) k (section_header_of ss) ≡ value_extents h ss gs) segments
     (ap (λ (cs : List Extent). record { start = 0; len = EHDR_SIZE } ∷ record { start = h.e_shoff; len = SHDR_SIZE * length ss } ∷ record { start = h.e_phoff; len = PHDR_SIZE * length gs } ∷ cs)
-    (map_by_index content_extent ss no_section)))
+    (map_by_index content_extent ss no_section_header)))
 
 -- a value whose records are as many as it says, and that breaks no rule
 pub record IsCounted (v : ImageValue) : Type 0 where
-  pub section_count : length v.sections ≡ section_count v.header (section_of v.sections 0)
-  pub segment_count : length v.segments ≡ segment_count v.header (section_of v.sections 0)
+  pub section_count : length v.sections ≡ section_header_count v.header (section_header_of v.sections 0)
+  pub segment_count : length v.segments ≡ program_header_count v.header (section_header_of v.sections 0)
   pub clean : FirstIn (value_rules v) None
 
-pub counted_of : (v : ImageValue) → IsSound v → IsCounted v
+pub counted_of : (v : ImageValue) → IsSoundImage v → IsCounted v
 counted_of v sound = record { section_count = sound.section_count; segment_count = sound.segment_count; clean = sound.clean }
 
 -- what is known of a counted value from the rules that it keeps
-pub clean_of : (v : ImageValue) → IsCounted v → HasSoundTables v.len v.header (section_of v.sections)
+pub clean_of : (v : ImageValue) → IsCounted v → HasSoundTables v.len v.header (section_header_of v.sections)
 clean_of v counted =
     let names = value_names v.header v.sections v.contents in
-    sound_tables v.len v.header (section_of v.sections) (segment_of v.segments) names
-    (clean_records v.len v.header (section_of v.sections) (segment_of v.segments) names counted.clean)
+    sound_tables v.len v.header (section_header_of v.sections) (program_header_of v.segments) names
+    (clean_records v.len v.header (section_header_of v.sections) (program_header_of v.segments) names counted.clean)
 
 pub disjoint_of : (v : ImageValue) → IsCounted v → AreDisjoint (value_extents v.header v.sections v.segments)
 disjoint_of v counted =
     let same = extents_are v.header v.sections v.segments _ _ counted.section_count counted.segment_count in
     subst AreDisjoint same
-    (extents_disjoint v.len v.header (section_of v.sections) (segment_of v.segments) (value_names v.header v.sections v.contents) counted.clean)
+    (extents_disjoint v.len v.header (section_header_of v.sections) (program_header_of v.segments) (value_names v.header v.sections v.contents) counted.clean)
 
 -- a section table that is not empty is there
 pub table_there : (v : ImageValue) → IsCounted v → 0 < length v.sections → v.header.e_shoff ≢ 0
 table_there v counted some none =
     let count = counted.section_count in
-    let zero_count : section_count v.header (section_of v.sections 0) ≡ 0 = rw none refl in
+    let zero_count : section_header_count v.header (section_header_of v.sections 0) ≡ 0 = rw none refl in
     omega arith
 
 -- a content that is not empty lies in the file
 pub content_within : (v : ImageValue) → IsCounted v → (k : ℕ) (s : Shdr) → slice_get v.sections k ≡ Some s → 0 < (content_extent s).len →
     s.sh_offset + (content_extent s).len ≤ v.len
 content_within v counted zero s at some =
-    let is_first : section_of v.sections 0 ≡ s = get_or_at v.sections 0 s no_section at in
+    let is_first : section_header_of v.sections 0 ≡ s = get_or_at v.sections 0 s no_section_header at in
     let null : s.sh_type ≡ 0 = ap (λ (t : Shdr). t.sh_type) (sym is_first) ∙ (clean_of v counted).null (table_there v counted (within_list v.sections 0 s at)) in
     absurd ((content_some s some).0 null)
 content_within v counted (suc k) s at some =
-    let is : section_of v.sections (suc k) ≡ s = get_or_at v.sections (suc k) s no_section at in
+    let is : section_header_of v.sections (suc k) ≡ s = get_or_at v.sections (suc k) s no_section_header at in
     let facts = content_some s some in
-    let below : suc k < section_count v.header (section_of v.sections 0) = let lt = within_list v.sections (suc k) s at in let count = counted.section_count in omega arith in
+    let below : suc k < section_header_count v.header (section_header_of v.sections 0) = let lt = within_list v.sections (suc k) s at in let count = counted.section_count in omega arith in
     let P : Shdr → Type 0 = λ t. t.sh_type ≢ 0 → t.sh_type ≢ 8 → 0 < t.sh_size → t.sh_offset + t.sh_size ≤ v.len in
     let rule : P s = subst P is ((clean_of v counted).content (suc k) (omega arith) below) in
     rw facts.2 (rule facts.0 facts.1 (let same = facts.2 in omega arith))
@@ -109,7 +109,7 @@ content_within v counted (suc k) s at some =
 -- each extent of the value lies in the file
 pub within_of : (v : ImageValue) → IsCounted v → AreWithin (value_extents v.header v.sections v.segments) v.len
 within_of v counted i e here some = by_index i here where
-  clean : HasSoundTables v.len v.header (section_of v.sections)
+  clean : HasSoundTables v.len v.header (section_header_of v.sections)
   clean = clean_of v counted
 
   in_table : 0 < length v.sections → v.header.e_shoff + SHDR_SIZE * length v.sections ≤ v.len

@@ -20,14 +20,14 @@ use Rattle.elf_field.specs.EhdrLaws.{ehdr_laws}
 use Rattle.elf_field.specs.ShdrLaws.{shdr_laws}
 use Rattle.elf_field.specs.PhdrLaws.{phdr_laws}
 use Rattle.elf_extent.specs.declared.extent.Extent.{Extent}
-use Rattle.elf_image_rules.specs.Tables.{bytes_in, content_extent, header, order_of, section_count, sections, segment_count, segments}
+use Rattle.elf_image_rules.specs.Tables.{bytes_in, content_extent, header, order_of, program_header_count, section_header_count, sections, segments}
 use Rattle.elf_image_type.specs.declared.part.Owner.{Owner}
 use Rattle.elf_image_type.specs.declared.part.Owner.TheVariants.{Header, ProgramTable, SectionTable, Content, Gap}
-use Rattle.elf_image_type.specs.Image.{ImageValue, IsSound, PlacedPart, Stands, gap_in, gap_len, if_gap, joined, no_section, owned_bytes, part_bytes, section_of}
+use Rattle.elf_image_type.specs.Image.{ImageValue, IsSoundImage, PlacedPart, Stands, gap_in, gap_len, if_gap, joined, no_section_header, owned_bytes, part_bytes, section_header_of}
 use Rattle.elf_image_type.proofs.Holds.{holds_content, holds_header, holds_sections, holds_segments, in_joined, length-joined}
 use Rattle.elf_image_rules.proofs.Public.{sections_none, sections_read_at}
 use Rattle.elf_image_type.proofs.Standing.{clean_of, counted_of, records_within, table_there}
-use Rattle.elf_field.specs.RecordTableLaws.{IsBytes-table, entries_read, record_read}
+use Rattle.elf_field.proofs.RecordTableLaws.{IsBytes-table, entries_read, record_read}
 
 -- ---- the joined parts are bytes
 
@@ -36,20 +36,20 @@ IsBytes-get [] i all = IsBytes-nil
 IsBytes-get (c ∷ cs) zero all = all.0
 IsBytes-get (c ∷ cs) (suc i) all = IsBytes-get cs i all.1
 
-IsBytes-owned : (v : ImageValue) → IsSound v → (o : Owner) (gap : List ℕ) → IsBytes gap → IsBytes (owned_bytes v gap o)
+IsBytes-owned : (v : ImageValue) → IsSoundImage v → (o : Owner) (gap : List ℕ) → IsBytes gap → IsBytes (owned_bytes v gap o)
 IsBytes-owned v sound Header gap are = ehdr_laws.are_bytes _ v.header sound.header
 IsBytes-owned v sound SectionTable gap are = IsBytes-table shdr_laws _ v.sections sound.section_headers
 IsBytes-owned v sound ProgramTable gap are = IsBytes-table phdr_laws _ v.segments sound.program_headers
 IsBytes-owned v sound (Content i) gap are = IsBytes-get v.contents i sound.bytes
 IsBytes-owned v sound Gap gap are = are
 
-IsBytes-parts : (v : ImageValue) → IsSound v → (ps : List PlacedPart) → AllByRecursion (λ p. IsBytes p.gap × (length p.gap ≡ gap_len p.part)) ps →
+IsBytes-parts : (v : ImageValue) → IsSoundImage v → (ps : List PlacedPart) → AllByRecursion (λ p. IsBytes p.gap × (length p.gap ≡ gap_len p.part)) ps →
     IsBytes (flat_map (part_bytes v) ps)
 IsBytes-parts v sound [] gaps = IsBytes-nil
 IsBytes-parts v sound (p ∷ ps) gaps =
     IsBytes-append (part_bytes v p) (flat_map (part_bytes v) ps) (IsBytes-owned v sound p.part.owner p.gap gaps.0.0) (IsBytes-parts v sound ps gaps.1)
 
-pub IsBytes-joined : (v : ImageValue) → IsSound v → IsBytes (joined v)
+pub IsBytes-joined : (v : ImageValue) → IsSoundImage v → IsBytes (joined v)
 unfolding joined
 IsBytes-joined v sound = IsBytes-parts v sound v.parts sound.gaps
 
@@ -84,21 +84,21 @@ segments_read b h gs fit stand =
     entries_read phdr_laws (order_of h.e_ident) b h.e_phoff 0 gs fit (ap (λ (x : ℕ). take (PHDR_SIZE * length gs) (drop x b)) (add-zero h.e_phoff) ∙ stand)
 
 -- a list made by index has these elements
-pub entry_at : {A : Type 0} (f : ℕ → A) (xs : List A) (d : A) (n : ℕ) → map f (range_with_len 0 n) ≡ xs → (i : ℕ) → i < n → f i ≡ get_or xs i d
-entry_at f xs d n same i lt = sym (get_or-map-range_with_len f 0 n i i d lt (omega arith)) ∙ ap (λ (ys : List _). get_or ys i d) same
+pub element_made : {A : Type 0} (f : ℕ → A) (xs : List A) (d : A) (n : ℕ) → map f (range_with_len 0 n) ≡ xs → (i : ℕ) → i < n → f i ≡ get_or xs i d
+element_made f xs d n same i lt = sym (get_or-map-range_with_len f 0 n i i d lt (omega arith)) ∙ ap (λ (ys : List _). get_or ys i d) same
 
 -- ---- the value and its joined parts agree, as far as the rules look
 
 -- a list of no section headers has zeros for section header 0
-pub first_of_none : (ss : List Shdr) → length ss ≡ 0 → section_of ss 0 ≡ no_section
-first_of_none ss none = ap (λ (xs : List Shdr). section_of xs 0) (nil_from_length ss none)
+pub first_of_none : (ss : List Shdr) → length ss ≡ 0 → section_header_of ss 0 ≡ no_section_header
+first_of_none ss none = ap (λ (xs : List Shdr). section_header_of xs 0) (nil_from_length ss none)
 
-sections_joined : (v : ImageValue) → IsSound v → map (sections (joined v) v.header) (range_with_len 0 (length v.sections)) ≡ v.sections
+sections_joined : (v : ImageValue) → IsSoundImage v → map (sections (joined v) v.header) (range_with_len 0 (length v.sections)) ≡ v.sections
 sections_joined v sound =
     sections_read (joined v) v.header v.sections (table_there v (counted_of v sound)) sound.section_headers (holds_sections v sound)
 
 -- section header 0 of the joined parts is the value's
-first_of : (v : ImageValue) → IsSound v → sections (joined v) v.header 0 ≡ section_of v.sections 0
+first_of : (v : ImageValue) → IsSoundImage v → sections (joined v) v.header 0 ≡ section_header_of v.sections 0
 first_of v sound = elim (cases_eq v.header.e_shoff 0) [
   | inl none ↦
       (let no_sections : length v.sections ≡ 0 = sound.section_count ∙ rw none refl in
@@ -106,20 +106,20 @@ first_of v sound = elim (cases_eq v.header.e_shoff 0) [
   | inr there ↦
       (let some = (clean_of v (counted_of v sound)).some there in
       let count = sound.section_count in
-      entry_at (sections (joined v) v.header) v.sections no_section (length v.sections) (sections_joined v sound) 0 (omega arith))
+      element_made (sections (joined v) v.header) v.sections no_section_header (length v.sections) (sections_joined v sound) 0 (omega arith))
 ]
 
-pub stands_sections : (v : ImageValue) → IsSound v →
-    v.sections ≡ map (sections (joined v) v.header) (range_with_len 0 (section_count v.header (sections (joined v) v.header 0)))
+pub stands_sections : (v : ImageValue) → IsSoundImage v →
+    v.sections ≡ map (sections (joined v) v.header) (range_with_len 0 (section_header_count v.header (sections (joined v) v.header 0)))
 stands_sections v sound =
-    let count = sound.section_count ∙ sym (ap (section_count v.header) (first_of v sound)) in
+    let count = sound.section_count ∙ sym (ap (section_header_count v.header) (first_of v sound)) in
     sym (sections_joined v sound) ∙ ap (λ (n : ℕ). map (sections (joined v) v.header) (range_with_len 0 n)) count
 
-pub stands_segments : (v : ImageValue) → IsSound v →
-    v.segments ≡ map (segments (joined v) v.header) (range_with_len 0 (segment_count v.header (sections (joined v) v.header 0)))
+pub stands_segments : (v : ImageValue) → IsSoundImage v →
+    v.segments ≡ map (segments (joined v) v.header) (range_with_len 0 (program_header_count v.header (sections (joined v) v.header 0)))
 stands_segments v sound =
     let read = segments_read (joined v) v.header v.segments sound.program_headers (holds_segments v sound) in
-    let count = sound.segment_count ∙ sym (ap (segment_count v.header) (first_of v sound)) in
+    let count = sound.segment_count ∙ sym (ap (program_header_count v.header) (first_of v sound)) in
     sym read ∙ ap (λ (n : ℕ). map (segments (joined v) v.header) (range_with_len 0 n)) count
 
 -- contents that stand at their extents are those read there
@@ -134,10 +134,10 @@ contents_read b (c ∷ cs) (s ∷ ss) lengths stand =
     ap₂ (λ (x : List ℕ) (xs : List (List ℕ)). x ∷ xs) (sym (stand 0 (content_extent s) refl))
     (contents_read b cs ss tail (λ i e at. stand (suc i) e at))
 
-pub stands_contents : (v : ImageValue) → IsSound v → v.contents ≡ map (λ s. bytes_in (joined v) (content_extent s)) v.sections
+pub stands_contents : (v : ImageValue) → IsSoundImage v → v.contents ≡ map (λ s. bytes_in (joined v) (content_extent s)) v.sections
 stands_contents v sound = contents_read (joined v) v.contents v.sections sound.lengths (holds_content v sound)
 
--- a gap's bytes are those at its place, and no other part has any
+-- a gap's bytes are those at its offset, and no other part has any
 gap_read : (v : ImageValue) (b gap : List ℕ) (o : Owner) (start len : ℕ) → take len (drop start b) ≡ owned_bytes v gap o → length gap ≡ if_gap o len 0 →
     gap ≡ if_gap o (take len (drop start b)) []
 gap_read v b gap Header start len stand long = nil_from_length gap long
@@ -154,7 +154,7 @@ gaps_read v b (p ∷ ps) stand gaps =
 
 -- ---- the theorem
 
-pub joined_stands : (v : ImageValue) → IsSound v → Stands v (joined v)
+pub joined_stands : (v : ImageValue) → IsSoundImage v → Stands v (joined v)
 joined_stands v sound = record {
   bytes = IsBytes-joined v sound;
   len = sym (length-joined v sound);
@@ -172,7 +172,7 @@ joined_stands v sound = record {
 -- ---- what stands and its byte list break the same rules
 
 -- content k of a value that stands is the bytes there
-pub content_is : (b : List ℕ) (ss : List Shdr) (k : ℕ) → k < length ss → get_or (map (λ s. bytes_in b (content_extent s)) ss) k [] ≡ bytes_in b (content_extent (section_of ss k))
+pub content_is : (b : List ℕ) (ss : List Shdr) (k : ℕ) → k < length ss → get_or (map (λ s. bytes_in b (content_extent s)) ss) k [] ≡ bytes_in b (content_extent (section_header_of ss k))
 content_is b [] k lt = absurd (omega arith)
 content_is b (s ∷ ss) zero lt = refl
 content_is b (s ∷ ss) (suc k) lt = content_is b ss k (omega arith)

@@ -22,17 +22,17 @@ use Rattle.elf_extent.specs.Account.{Accounts, IsOwned}
 use Rattle.elf_extent.proofs.Public.{accounts_le}
 use Rattle.elf_image_rules.specs.Rows.{FirstIn}
 use Rattle.elf_image_rules.specs.ImageRules.{image_rules, rules_in}
-use Rattle.elf_image_rules.specs.Tables.{bytes_in, content_extent, header, name_table, names, names_at, order_of, section_count, sections, segment_count, segments}
+use Rattle.elf_image_rules.specs.Tables.{bytes_in, content_extent, header, name_table, names, names_at, order_of, program_header_count, section_header_count, sections, segments}
 use Rattle.elf_image_type.specs.declared.part.Owner.{Owner}
 use Rattle.elf_image_type.specs.declared.part.Owner.TheVariants.{Header, ProgramTable, SectionTable, Content, Gap}
-use Rattle.elf_image_type.specs.Image.{AreRecordsIn, ImageValue, IsImage, IsSound, PlacedPart, Stands, gap_in, gap_len, if_gap, index_of, joined, no_section, no_segment, owned_bytes, part_bytes, piece_of, section_of, segment_of, value_extents, value_names, value_rules}
+use Rattle.elf_image_type.specs.Image.{AreRecordsIn, ImageValue, IsImage, IsSoundImage, PlacedPart, Stands, gap_in, gap_len, if_gap, joined, no_program_header, no_section_header, owned_bytes, owner_index, part_bytes, piece_of, program_header_of, section_header_of, value_extents, value_names, value_rules}
 use Rattle.elf_image_rules.proofs.Public.{clean_records, sections_none, sections_read_at, sound_tables, table_some}
 use Rattle.elf_image_type.proofs.Holds as holds
 use Rattle.elf_image_type.proofs.Joins.{flat_parts_are}
 use Rattle.elf_image_rules.proofs.Public.{Agree, same_clean}
 use Rattle.elf_image_type.proofs.Standing.{IsCounted, clean_of, content_within, counted_of, table_there}
-use Rattle.elf_image_type.proofs.Stands.{content_is, entry_at, first_of_none, joined_stands}
-use Rattle.elf_field.specs.RecordTableLaws.{entries_bytes, entries_fit, record_bytes}
+use Rattle.elf_image_type.proofs.Stands.{content_is, element_made, first_of_none, joined_stands}
+use Rattle.elf_field.proofs.RecordTableLaws.{entries_bytes, entries_fit, record_bytes}
 
 -- ---- what stands and its byte list break the same rules
 
@@ -51,17 +51,17 @@ reads_of v b stands = record {
 
 -- the tables of the value are those that b has by its own counts
 pub record HasTablesOf (v : ImageValue) (b : List ℕ) : Type 0 where
-  pub first : sections b v.header 0 ≡ section_of v.sections 0
-  pub count : length v.sections ≡ section_count v.header (sections b v.header 0)
-  pub segment_count : length v.segments ≡ segment_count v.header (sections b v.header 0)
+  pub first : sections b v.header 0 ≡ section_header_of v.sections 0
+  pub count : length v.sections ≡ section_header_count v.header (sections b v.header 0)
+  pub segment_count : length v.segments ≡ program_header_count v.header (sections b v.header 0)
   pub unnamed : v.header.e_shoff ≡ 0 → v.header.e_shstrndx ≡ 0
-  pub named : v.header.e_shoff ≢ 0 → name_table v.header (section_of v.sections 0) < length v.sections
+  pub named : v.header.e_shoff ≢ 0 → name_table v.header (section_header_of v.sections 0) < length v.sections
 
 -- section header 0 of the byte list is the value's, where a section table has entries
 first_from : (v : ImageValue) (b : List ℕ) → Reads v b → (v.header.e_shoff ≢ 0 → 0 < length v.sections) →
-    sections b v.header 0 ≡ section_of v.sections 0
+    sections b v.header 0 ≡ section_header_of v.sections 0
 first_from v b stands some =
-    let n = section_count v.header (sections b v.header 0) in
+    let n = section_header_count v.header (sections b v.header 0) in
     let count : length v.sections ≡ n = ap length stands.records.section_headers ∙ length-map-range_with_len (sections b v.header) 0 n in
     elim (cases_eq v.header.e_shoff 0) [
       | inl none ↦
@@ -69,12 +69,12 @@ first_from v b stands some =
           ap (λ (f : ℕ → Shdr). f 0) (sections_none b v.header none) ∙ sym (first_of_none v.sections no_sections))
       | inr there ↦
           (let positive = some there in
-          entry_at (sections b v.header) v.sections no_section n (sym stands.records.section_headers) 0 (omega arith))
+          element_made (sections b v.header) v.sections no_section_header n (sym stands.records.section_headers) 0 (omega arith))
     ]
 
 pub has_tables_of : (v : ImageValue) (b : List ℕ) → Reads v b → (v.header.e_shoff ≢ 0 → 0 < length v.sections) →
     (v.header.e_shoff ≡ 0 → v.header.e_shstrndx ≡ 0) →
-    (v.header.e_shoff ≢ 0 → name_table v.header (section_of v.sections 0) < length v.sections) → HasTablesOf v b
+    (v.header.e_shoff ≢ 0 → name_table v.header (section_header_of v.sections 0) < length v.sections) → HasTablesOf v b
 has_tables_of v b stands some unnamed named = record {
   first = first_from v b stands some;
   count = ap length stands.records.section_headers ∙ length-map-range_with_len (sections b v.header) 0 _;
@@ -84,19 +84,19 @@ has_tables_of v b stands some unnamed named = record {
 }
 
 agree_from : (v : ImageValue) (b : List ℕ) → Reads v b → HasTablesOf v b →
-    Agree v.header (sections b v.header) (section_of v.sections) (segments b v.header) (segment_of v.segments)
+    Agree v.header (sections b v.header) (section_header_of v.sections) (segments b v.header) (program_header_of v.segments)
 agree_from v b stands shared = record {
   first = shared.first;
-  sections = entry_at (sections b v.header) v.sections no_section _ (sym stands.records.section_headers);
-  segments = entry_at (segments b v.header) v.segments no_segment _ (sym stands.records.program_headers);
+  sections = element_made (sections b v.header) v.sections no_section_header _ (sym stands.records.section_headers);
+  segments = element_made (segments b v.header) v.segments no_program_header _ (sym stands.records.program_headers);
 }
 
 agree_back : (v : ImageValue) (b : List ℕ) → Reads v b → HasTablesOf v b →
-    Agree v.header (section_of v.sections) (sections b v.header) (segment_of v.segments) (segments b v.header)
+    Agree v.header (section_header_of v.sections) (sections b v.header) (program_header_of v.segments) (segments b v.header)
 agree_back v b stands shared =
     let there = agree_from v b stands shared in
-    let count = ap (section_count v.header) shared.first in
-    let segment = ap (segment_count v.header) shared.first in
+    let count = ap (section_header_count v.header) shared.first in
+    let segment = ap (program_header_count v.header) shared.first in
     record {
       first = sym shared.first;
       sections = λ i lt. sym (there.sections i (omega arith));
@@ -108,21 +108,21 @@ names_same : (v : ImageValue) (b : List ℕ) → Reads v b → HasTablesOf v b �
 unfolding names names_at
 names_same v b stands shared =
     let table = ap (name_table v.header) shared.first in
-    rw table (elim (cases_eq (name_table v.header (section_of v.sections 0)) 0) [
+    rw table (elim (cases_eq (name_table v.header (section_header_of v.sections 0)) 0) [
       | inl none ↦ rw none refl
       | inr other ↦ rw (ne_eqb _ 0 other) (content_there other)
     ])
   where
-    below : name_table v.header (section_of v.sections 0) ≢ 0 → name_table v.header (section_of v.sections 0) < length v.sections
+    below : name_table v.header (section_header_of v.sections 0) ≢ 0 → name_table v.header (section_header_of v.sections 0) < length v.sections
     below other = elim (cases_eq v.header.e_shoff 0) [
       | inl none ↦ absurd (other (let unnamed = shared.unnamed none in rw unnamed refl))
       | inr there ↦ shared.named there
     ]
 
-    content_there : name_table v.header (section_of v.sections 0) ≢ 0 →
-        bytes_in b (content_extent (sections b v.header (name_table v.header (section_of v.sections 0)))) ≡ get_or v.contents (name_table v.header (section_of v.sections 0)) []
+    content_there : name_table v.header (section_header_of v.sections 0) ≢ 0 →
+        bytes_in b (content_extent (sections b v.header (name_table v.header (section_header_of v.sections 0)))) ≡ get_or v.contents (name_table v.header (section_header_of v.sections 0)) []
     content_there other =
-        let k = name_table v.header (section_of v.sections 0) in
+        let k = name_table v.header (section_header_of v.sections 0) in
         let count = shared.count in
         let lt = below other in
         let entry = (agree_from v b stands shared).sections k (omega arith) in
@@ -151,7 +151,7 @@ has_tables_by_reads : (v : ImageValue) (b : List ℕ) → Reads v b → FirstIn 
 has_tables_by_reads v b stands clean =
     let facts = sound_tables v.len v.header (sections b v.header) (segments b v.header) (names b v.header)
     (clean_records v.len v.header (sections b v.header) (segments b v.header) (names b v.header) (rules_at_value v b stands clean)) in
-    let n = section_count v.header (sections b v.header 0) in
+    let n = section_header_count v.header (sections b v.header 0) in
     let count : length v.sections ≡ n = ap length stands.records.section_headers ∙ length-map-range_with_len (sections b v.header) 0 n in
     let some : v.header.e_shoff ≢ 0 → 0 < length v.sections = λ there. let lt = facts.some there in omega arith in
     let first = first_from v b stands some in
@@ -163,14 +163,14 @@ clean_value : (v : ImageValue) (b : List ℕ) → Reads v b → FirstIn (rules_i
 clean_value v b stands clean =
     let shared = has_tables_by_reads v b stands clean in
     let moved = same_clean v.len v.header _ _ _ _ _ (agree_from v b stands shared) (rules_at_value v b stands clean) in
-    subst (λ (ns : List ℕ). FirstIn (image_rules v.len v.header (section_of v.sections) (segment_of v.segments) ns) None) (names_same v b stands shared) moved
+    subst (λ (ns : List ℕ). FirstIn (image_rules v.len v.header (section_header_of v.sections) (program_header_of v.segments) ns) None) (names_same v b stands shared) moved
 
 pub counted_by_reads : (v : ImageValue) (b : List ℕ) → Reads v b → FirstIn (rules_in b) None → IsCounted v
 counted_by_reads v b stands clean =
     let shared = has_tables_by_reads v b stands clean in
     record {
-      section_count = shared.count ∙ ap (section_count v.header) shared.first;
-      segment_count = shared.segment_count ∙ ap (segment_count v.header) shared.first;
+      section_count = shared.count ∙ ap (section_header_count v.header) shared.first;
+      segment_count = shared.segment_count ∙ ap (program_header_count v.header) shared.first;
       clean = clean_value v b stands clean;
     }
 
@@ -181,7 +181,7 @@ pub counted_by_bytes : (v : ImageValue) (b : List ℕ) → IsImage v b → IsCou
 counted_by_bytes v b image = counted_by_reads v b (reads_of v b image.stands) image.clean
 
 -- what a sound value stands as breaks no rule
-pub stands_is_image : (v : ImageValue) (b : List ℕ) → IsSound v → Stands v b → IsImage v b
+pub stands_is_image : (v : ImageValue) (b : List ℕ) → IsSoundImage v → Stands v b → IsImage v b
 stands_is_image v b sound stands =
     let facts = clean_of v (counted_of v sound) in
     let count = sound.section_count in
@@ -191,10 +191,10 @@ stands_is_image v b sound stands =
     record { stands = stands; clean = clean_bytes v b reads shared sound.clean }
 
 -- a sound value stands as its joined parts, without fault
-pub joined_is_image : (v : ImageValue) → IsSound v → IsImage v (joined v)
+pub joined_is_image : (v : ImageValue) → IsSoundImage v → IsImage v (joined v)
 joined_is_image v sound = stands_is_image v (joined v) sound (joined_stands v sound)
 
--- ---- and as nothing else: each part's bytes are those at its place
+-- ---- and as nothing else: each part's bytes are those at its offset
 
 -- the header's bytes are the first ones of a list that it is read from
 header_bytes : (b : List ℕ) (h : Ehdr) → IsBytes b → EHDR_SIZE ≤ length b → h ≡ header b → ehdr_bytes (order_of h.e_ident) h ≡ take EHDR_SIZE b
@@ -225,7 +225,7 @@ content_bytes b (s ∷ ss) (suc i) e at = content_bytes b ss i e at
 
 -- a part's bytes, by its owner
 owned_at : (v : ImageValue) (b : List ℕ) → IsImage v b → (o : Owner) (gap : List ℕ) (start len : ℕ) → 0 < len →
-    IsOwned (value_extents v.header v.sections v.segments) v.len start len (index_of o) → gap ≡ if_gap o (take len (drop start b)) [] →
+    IsOwned (value_extents v.header v.sections v.segments) v.len start len (owner_index o) → gap ≡ if_gap o (take len (drop start b)) [] →
     owned_bytes v gap o ≡ take len (drop start b)
 owned_at v b image Header gap start len some owned gaps =
     let stands = image.stands in
@@ -257,7 +257,7 @@ owned_at v b image ProgramTable gap start len some owned gaps =
     let e = holds.same_start _ _ owned in
     let l = holds.same_len _ _ owned in
     let count = counted.segment_count in
-    let positive : 0 < segment_count v.header (section_of v.sections 0) = omega arith in
+    let positive : 0 < program_header_count v.header (section_header_of v.sections 0) = omega arith in
     let within = facts.program_table positive in
     let same = (has_tables_by_bytes v b image).segment_count in
     ap (flat_map (phdr_bytes (order_of v.header.e_ident))) (stands.records.program_headers ∙ ap (λ (n : ℕ). map (segments b v.header) (range_with_len 0 n)) (sym same))
@@ -334,7 +334,7 @@ fit_header : (b : List ℕ) → IsBytes b → IsEhdr (header b)
 unfolding header
 fit_header b are = ehdr_laws.valid (order_of (take 16 b)) b 0 are
 
-pub image_is_sound : (v : ImageValue) (b : List ℕ) → IsImage v b → IsSound v
+pub image_is_sound : (v : ImageValue) (b : List ℕ) → IsImage v b → IsSoundImage v
 image_is_sound v b image =
     let stands = image.stands in
     let counted = counted_by_bytes v b image in
@@ -359,5 +359,5 @@ pub one_list : (v : ImageValue) (b c : List ℕ) → IsImage v b → Stands v c 
 one_list v b c one two = only_joined v b one ∙ sym (only_joined v c (stands_is_image v c (image_is_sound v b one) two))
 
 -- a sound value stands as a list of bytes that breaks no rule
-pub sound_stands : (v : ImageValue) → IsSound v → (b : List ℕ) × IsImage v b
+pub sound_stands : (v : ImageValue) → IsSoundImage v → (b : List ℕ) × IsImage v b
 sound_stands v sound = (joined v, joined_is_image v sound)

@@ -16,8 +16,8 @@ use borrow.Rule.Slice.PartMut.{put_mid}
 use Rattle.elf_extent.specs.declared.extent.Extent.{Extent}
 use Rattle.elf_extent.specs.Account.{Accounts}
 use Rattle.elf_image_type.specs.declared.part.Part.{Part}
-use Rattle.elf_image_type.specs.Image.{ImageValue, IsSound, PlacedPart, joined, part_bytes, piece_of}
-use Rattle.elf_image_type.specs.Outline.{OutlineValue, image_of, placed}
+use Rattle.elf_image_type.specs.Image.{ImageValue, IsSoundImage, PlacedPart, joined, part_bytes, piece_of}
+use Rattle.elf_image_type.specs.Outline.{OutlineValue, image_of, placed_part}
 use Rattle.elf_image_type.proofs.Joins.{HaveLengths}
 use Rattle.elf_image_type.proofs.Standing.{clean_of, counted_of}
 use Rattle.elf_image_type.proofs.Holds.{length-joined, lengths_of}
@@ -77,11 +77,11 @@ length-put_mid a k s new within long =
 next_place : (size i : ℕ) → size * (i + 1) ≡ size * i + size
 next_place size i = let e = mul-add size i 1 in let f = mul-one size in omega arith
 
--- the place of a record lies in the slice of all of them
+-- the bytes of a record lie in the slice of all of them
 pub in_records : (size i n : ℕ) → i < n → size * i + size ≤ size * n
 in_records size i n within = let next = next_place size i in let le : size * (i + 1) ≤ size * n = mul-le-mul_left size (omega arith) in omega arith
 
--- one more record in its place behind the ones before it
+-- one more record behind the ones before it
 pub record_put : {A : Type 0} (f : A → List ℕ) (rs : List A) (size i k : ℕ) (s new : List ℕ) (r : A) → i < length rs → r ≡ get_or rs i r → length (f r) ≡ size →
     size * i ≤ length s → take (size * i) s ≡ flat_map f (take i rs) → new ≡ f r →
     take (size * (i + 1)) (put_mid (size * i) k s new) ≡ flat_map f (take (i + 1) rs)
@@ -110,31 +110,31 @@ zeros_err count m size n a b c ys within here before failed =
 
 -- a part begins where the ones before it end, and has as many bytes as its length says, and some
 pub record IsPartAt (f : PlacedPart → List ℕ) (z : Bool) (file : List ℕ) (ps : List Part) (at k : ℕ) (p : Part) : Type 0 where
-  pub start : at + length (flat_map (λ q. f (placed z file q)) (take k ps)) ≡ p.start
+  pub start : at + length (flat_map (λ q. f (placed_part z file q)) (take k ps)) ≡ p.start
   pub some : 0 < p.len
-  pub whole : length (f (placed z file p)) ≡ p.len
+  pub whole : length (f (placed_part z file p)) ≡ p.len
 
 pub part_at : (f : PlacedPart → List ℕ) (z : Bool) (file : List ℕ) (es : List Extent) (total at : ℕ) (ps : List Part) (k : ℕ) (d : Part) →
-    Accounts es total at (map piece_of (map (placed z file) ps)) → HaveLengths f (map (placed z file) ps) → k < length ps → IsPartAt f z file ps at k (get_or ps k d)
+    Accounts es total at (map piece_of (map (placed_part z file) ps)) → HaveLengths f (map (placed_part z file) ps) → k < length ps → IsPartAt f z file ps at k (get_or ps k d)
 part_at f z file es total at [] k d accounts lengths within = absurd (omega arith)
 part_at f z file es total at (p ∷ ps) zero d accounts lengths within = record { start = omega (arith, accounts.0); some = accounts.1; whole = lengths.0 }
 part_at f z file es total at (p ∷ ps) (suc k) d accounts lengths within =
     let rest = part_at f z file es total (at + p.len) ps k d accounts.3 lengths.1 (omega arith) in
-    let more = length-append (f (placed z file p)) (flat_map (λ q. f (placed z file q)) (take k ps)) in
+    let more = length-append (f (placed_part z file p)) (flat_map (λ q. f (placed_part z file q)) (take k ps)) in
     let here = lengths.0 in
     let later = rest.start in
     record { start = omega arith; some = rest.some; whole = rest.whole }
 
 -- an image is not longer than a file may be
-not_long : (v : ImageValue) → IsSound v → v.len ≤ MAX_LEN
+not_long : (v : ImageValue) → IsSoundImage v → v.len ≤ MAX_LEN
 not_long v sound = (clean_of v (counted_of v sound)).short
 
 -- ---- the parts of an image
 
 abbrev pub bytes_in_parts : OutlineValue → List (List ℕ) → List ℕ → Part → List ℕ
-bytes_in_parts o cs file p = part_bytes (image_of o cs file) (placed o.zeroed file p)
+bytes_in_parts o cs file p = part_bytes (image_of o cs file) (placed_part o.zeroed file p)
 
-pub part_in : (o : OutlineValue) (cs : List (List ℕ)) (file : List ℕ) (ps : List Part) (k : ℕ) (d : Part) → IsSound (image_of o cs file) → ps ≡ o.parts → k < length ps →
+pub part_in : (o : OutlineValue) (cs : List (List ℕ)) (file : List ℕ) (ps : List Part) (k : ℕ) (d : Part) → IsSoundImage (image_of o cs file) → ps ≡ o.parts → k < length ps →
     IsPartAt (part_bytes (image_of o cs file)) o.zeroed file ps 0 k (get_or ps k d)
 part_in o cs file ps k d sound same within =
     let f = part_bytes (image_of o cs file) in
@@ -143,7 +143,7 @@ part_in o cs file ps k d sound same within =
 
 pub joined_parts : (o : OutlineValue) (cs : List (List ℕ)) (file : List ℕ) (ps : List Part) → ps ≡ o.parts → flat_map (bytes_in_parts o cs file) ps ≡ joined (image_of o cs file)
 unfolding joined
-joined_parts o cs file ps same = ap (flat_map (bytes_in_parts o cs file)) same ∙ sym (flat_map-map (part_bytes (image_of o cs file)) (placed o.zeroed file) o.parts)
+joined_parts o cs file ps same = ap (flat_map (bytes_in_parts o cs file)) same ∙ sym (flat_map-map (part_bytes (image_of o cs file)) (placed_part o.zeroed file) o.parts)
 
 one_at : {A : Type 0} (f : A → List ℕ) (rs : List A) (k : ℕ) (d : A) → k < length rs → f (get_or rs k d) ≡ flat_map f (take 1 (drop k rs))
 one_at f [] k d within = absurd (omega arith)
@@ -151,7 +151,7 @@ one_at f (r ∷ rs) zero d within = sym (append-nil (f r))
 one_at f (r ∷ rs) (suc k) d within = one_at f rs k d (omega arith)
 
 -- part k failed behind the ones before it
-pub parts_err : (o : OutlineValue) (cs : List (List ℕ)) (file : List ℕ) (ps : List Part) (k n : ℕ) (d : Part) (a b c : Option (List ℕ)) → IsSound (image_of o cs file) → ps ≡ o.parts →
+pub parts_err : (o : OutlineValue) (cs : List (List ℕ)) (file : List ℕ) (ps : List Part) (k n : ℕ) (d : Part) (a b c : Option (List ℕ)) → IsSoundImage (image_of o cs file) → ps ≡ o.parts →
     k < length ps → Appends a b (flat_map (bytes_in_parts o cs file) (take k ps)) →
     (n < length (bytes_in_parts o cs file (get_or ps k d))) × Appends b c (take n (bytes_in_parts o cs file (get_or ps k d))) →
     ((get_or ps k d).start + n < length (joined (image_of o cs file))) × Appends a c (take ((get_or ps k d).start + n) (joined (image_of o cs file)))
@@ -164,5 +164,5 @@ parts_err o cs file ps k n d a b c sound same within before failed =
     (flat_err f ps k 1 (get_or ps k d).start n a b c (f (get_or ps k d)) (omega arith) (one_at f ps k d within) before failed)
 
 -- the number of bytes that are out fits
-pub out_fits : (v : ImageValue) (n : ℕ) → IsSound v → n < length (joined v) → n < 2 ^ 64
+pub out_fits : (v : ImageValue) (n : ℕ) → IsSoundImage v → n < length (joined v) → n < 2 ^ 64
 out_fits v n sound below = let all = length-joined v sound in let short = not_long v sound in omega arith

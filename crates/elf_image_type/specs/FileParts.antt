@@ -1,4 +1,4 @@
--- A file as it is written: parts one after the other, each at its place, with zeros between them.
+-- A file as it is written: parts one after the other, each at its offset, with zeros between them.
 -- (gABI chapter 4, ELF Header: "only the ELF header has a fixed position in the file".)
 use Rattle.std.specs.Prelude.{◌≡◌, ◌≢◌, ◌<◌, ℕ, ◌+◌, ◌-◌, List, [], ◌∷◌, ◌++◌, length, map, get_or, replicate, slice_get, slice_index, Some}
 use Rattle.std.specs.List.{AllByRecursion, flat_map}
@@ -11,14 +11,14 @@ use Rattle.elf_field.specs.Shdr.{IsShdr, shdr_bytes}
 use Rattle.elf_field.specs.Phdr.{IsPhdr, phdr_bytes}
 use Rattle.elf_extent.specs.Place.{Fits}
 use Rattle.elf_image_rules.specs.KeepsRules.{KeepsEachRecordRule}
-use Rattle.elf_image_rules.specs.Tables.{content_extent, order_of, section_count, section_of, segment_count, segment_of}
+use Rattle.elf_image_rules.specs.Tables.{content_extent, order_of, program_header_count, program_header_of, section_header_count, section_header_of}
 use Rattle.elf_image_type.specs.declared.part.Owner.{Owner}
 use Rattle.elf_image_type.specs.declared.part.Owner.TheVariants.{Header, ProgramTable, SectionTable, Content, Gap}
 use Rattle.elf_image_type.specs.Image.{ImageValue, value_names}
 
 -- ---- the bytes
 
--- parts at their places, from an offset on: zeros up to each place
+-- parts at their offsets, from one on: zeros up to each
 abbrev pub spread : ℕ → List ℕ → List (List ℕ) → List ℕ
 spread from places [] = []
 spread from [] (part ∷ parts) = []
@@ -52,7 +52,7 @@ abbrev pub owner_start : FileContents → Owner → ℕ
 owner_start f Header = 0
 owner_start f SectionTable = f.header.e_shoff
 owner_start f ProgramTable = f.header.e_phoff
-owner_start f (Content i) = (section_of f.sections i).sh_offset
+owner_start f (Content i) = (section_header_of f.sections i).sh_offset
 owner_start f Gap = 0
 
 -- an owner's bytes: a gap owns none
@@ -67,7 +67,7 @@ owner_bytes f Gap = []
 abbrev pub IsPartOf : List WrittenPart → ℕ → Owner → Type 0
 IsPartOf parts k o = (p : WrittenPart) × (slice_get parts k ≡ Some p) × (p.owner ≡ o)
 
--- the parts at these places are those of the file
+-- the parts at these offsets are those of the file
 pub record AreFileParts (f : FileContents) (places : List ℕ) (parts : List WrittenPart) : Type 0 where
   -- each stands behind the one before it
   pub order : Fits (map (λ p. unaligned p.bytes) parts) 0 places
@@ -83,11 +83,11 @@ pub record IsWritable (f : FileContents) (places : List ℕ) (parts : List Writt
   pub section_headers : AllByRecursion IsShdr f.sections
   pub program_headers : AllByRecursion IsPhdr f.segments
   pub bytes : AllByRecursion (λ p. IsBytes p.bytes) parts
-  pub section_count : length f.sections ≡ section_count f.header (section_of f.sections 0)
-  pub segment_count : length f.segments ≡ segment_count f.header (section_of f.sections 0)
+  pub section_count : length f.sections ≡ section_header_count f.header (section_header_of f.sections 0)
+  pub segment_count : length f.segments ≡ program_header_count f.header (section_header_of f.sections 0)
   pub lengths : map length f.contents ≡ map (λ s. (content_extent s).len) f.sections
   pub placed : AreFileParts f places parts
-  pub kept : KeepsEachRecordRule (length (written places parts)) f.header (section_of f.sections) (segment_of f.segments)
+  pub kept : KeepsEachRecordRule (length (written places parts)) f.header (section_header_of f.sections) (program_header_of f.segments)
       (value_names f.header f.sections f.contents)
 
 -- the image has these records and contents, and no others

@@ -14,8 +14,8 @@ use Rattle.elf_extent.specs.declared.extent.Extent.{Extent}
 use Rattle.elf_extent.specs.declared.extent.Piece.{Piece}
 use Rattle.elf_extent.specs.Account.{Accounts}
 use Rattle.elf_image_rules.specs.Rows.{Ruled, FirstIn}
-use Rattle.elf_image_rules.specs.Tables.{bytes_in, content_extent, header, name_table, order_of, phdr_offset, section_count, sections, segment_count, segments, shdr_offset}
-pub use Rattle.elf_image_rules.specs.Tables.{no_section, no_segment, section_of, segment_of}
+use Rattle.elf_image_rules.specs.Tables.{bytes_in, content_extent, header, name_table, order_of, phdr_offset, program_header_count, section_header_count, sections, segments, shdr_offset}
+pub use Rattle.elf_image_rules.specs.Tables.{no_program_header, no_section_header, program_header_of, section_header_of}
 use Rattle.elf_image_rules.specs.ImageRules.{image_rules, rules_in}
 use Rattle.elf_image_type.specs.declared.part.Owner.{Owner}
 use Rattle.elf_image_type.specs.declared.part.Owner.TheVariants.{Header, ProgramTable, SectionTable, Content, Gap}
@@ -48,24 +48,24 @@ value_extents h ss gs =
 -- the content of the section name string table; none without one
 abbrev pub value_names : Ehdr → List Shdr → List (List ℕ) → List ℕ
 value_names h ss cs =
-    let k = name_table h (section_of ss 0) in
+    let k = name_table h (section_header_of ss 0) in
     if k == 0 then [] else get_or cs k []
 
 -- the rules of the image, of what the value says
-abbrev pub value_rules : ImageValue → List {1} Ruled
-value_rules v = image_rules v.len v.header (section_of v.sections) (segment_of v.segments) (value_names v.header v.sections v.contents)
+abbrev pub value_rules : ImageValue → List {1} (Ruled ℕ)
+value_rules v = image_rules v.len v.header (section_header_of v.sections) (program_header_of v.segments) (value_names v.header v.sections v.contents)
 
 -- an owner as an index in the list of extents
-abbrev pub index_of : Owner → Option ℕ
-index_of Header = Some 0
-index_of SectionTable = Some 1
-index_of ProgramTable = Some 2
-index_of (Content i) = Some (suc (suc (suc i)))
-index_of Gap = None
+abbrev pub owner_index : Owner → Option ℕ
+owner_index Header = Some 0
+owner_index SectionTable = Some 1
+owner_index ProgramTable = Some 2
+owner_index (Content i) = Some (suc (suc (suc i)))
+owner_index Gap = None
 
 -- the piece of a part
 abbrev pub part_piece : Part → Piece
-part_piece p = record { owner = index_of p.owner; start = p.start; len = p.len }
+part_piece p = record { owner = owner_index p.owner; start = p.start; len = p.len }
 
 abbrev pub piece_of : PlacedPart → Piece
 piece_of p = part_piece p.part
@@ -87,8 +87,8 @@ gap_in b p = if_gap p.owner (take p.len (drop p.start b)) []
 -- the records are those that the byte list b has at their offsets
 pub record AreRecordsIn (b : List ℕ) (h : Ehdr) (ss : List Shdr) (gs : List Phdr) : Type 0 where
   pub header : h ≡ header b
-  pub section_headers : ss ≡ map (sections b h) (range_with_len 0 (section_count h (sections b h 0)))
-  pub program_headers : gs ≡ map (segments b h) (range_with_len 0 (segment_count h (sections b h 0)))
+  pub section_headers : ss ≡ map (sections b h) (range_with_len 0 (section_header_count h (sections b h 0)))
+  pub program_headers : gs ≡ map (segments b h) (range_with_len 0 (program_header_count h (sections b h 0)))
 
 -- the header, each section header and each program header lie within the byte list
 pub record AreWithinBytes (b : List ℕ) (h : Ehdr) (ss : List Shdr) (gs : List Phdr) : Type 0 where
@@ -120,12 +120,12 @@ pub record IsImage (v : ImageValue) (b : List ℕ) : Type 0 where
 abbrev pub gap_len : Part → ℕ
 gap_len p = if_gap p.owner p.len 0
 
-pub record IsSound (v : ImageValue) : Type 0 where
+pub record IsSoundImage (v : ImageValue) : Type 0 where
   pub header : IsEhdr v.header
   pub section_headers : AllByRecursion IsShdr v.sections
   pub program_headers : AllByRecursion IsPhdr v.segments
-  pub section_count : length v.sections ≡ section_count v.header (section_of v.sections 0)
-  pub segment_count : length v.segments ≡ segment_count v.header (section_of v.sections 0)
+  pub section_count : length v.sections ≡ section_header_count v.header (section_header_of v.sections 0)
+  pub segment_count : length v.segments ≡ program_header_count v.header (section_header_of v.sections 0)
   pub lengths : map length v.contents ≡ map (λ s. (content_extent s).len) v.sections
   pub bytes : AllByRecursion IsBytes v.contents
   pub accounts : Accounts (value_extents v.header v.sections v.segments) v.len 0 (map piece_of v.parts)

@@ -20,8 +20,8 @@ abbrev pub outline_value : ℕ → Ehdr → List Shdr → List Phdr → List Par
 outline_value len h ss gs ps = record { len = len; header = h; sections = ss; segments = gs; parts = ps; zeroed = false }
 
 -- a part with its own bytes: a gap's are the file's, or zeros
-abbrev pub placed : Bool → List ℕ → Part → PlacedPart
-placed zeroed file p = record { part = p; gap = if zeroed then replicate (gap_len p) 0 else gap_in file p }
+abbrev pub placed_part : Bool → List ℕ → Part → PlacedPart
+placed_part zeroed file p = record { part = p; gap = if zeroed then replicate (gap_len p) 0 else gap_in file p }
 
 -- the image of an outline, with the contents and the file that the gaps' bytes stand in
 abbrev pub image_of : OutlineValue → List (List ℕ) → List ℕ → ImageValue
@@ -31,5 +31,5 @@ image_of o contents file = record {
   sections = o.sections;
   segments = o.segments;
   contents = contents;
-  parts = map (placed o.zeroed file) o.parts;
+  parts = map (placed_part o.zeroed file) o.parts;
 }

@@ -10,8 +10,8 @@ use Rattle.elf_field.specs.Ehdr.{IsEhdr, ehdr_bytes}
 use Rattle.elf_field.specs.Shdr.{IsShdr, shdr_bytes}
 use Rattle.elf_extent.specs.Place.{Fits}
 use Rattle.elf_image_rules.specs.HeaderRules.{MAX_LEN}
-use Rattle.elf_image_rules.specs.KeepsRules.{EachSection, IsAlignment, KeepsIdentRules, KeepsNameRules}
-use Rattle.elf_image_rules.specs.Tables.{content_extent, no_section, order_of, section_of}
+use Rattle.elf_image_rules.specs.KeepsRules.{EachSectionHeader, IsAlignment, KeepsIdentRules, KeepsNameRules}
+use Rattle.elf_image_rules.specs.Tables.{content_extent, no_section_header, order_of, section_header_of}
 use Rattle.elf_image_type.specs.declared.part.Owner.TheVariants.{Header, SectionTable, Content}
 use Rattle.elf_image_type.specs.FileParts.{FileContents, WrittenPart, spread, unaligned}
 
@@ -31,7 +31,7 @@ long_number number = if nat_lt number SHN_LORESERVE then 0 else number
 
 -- section header 0 of a file with so many section headers and this name table
 abbrev pub first_header : ℕ → ℕ → Shdr
-first_header count names = record no_section { sh_size = long_number count; sh_link = long_number names }
+first_header count names = record no_section_header { sh_size = long_number count; sh_link = long_number names }
 
 -- ---- the file, of a header, the section headers and contents from 1 on, and the name table's index
 
@@ -95,7 +95,7 @@ pub record IsRelocatableFile (h : Ehdr) (ss : List Shdr) (cs : List (List ℕ)) 
   pub order : Fits (map unaligned (behind_header h ss cs names)) EHDR_SIZE (offsets h ss)
   pub short : h.e_shoff + SHDR_SIZE * (length ss + 1) ≤ MAX_LEN
   -- alignments and names
-  pub alignment : EachSection (length ss + 1) (section_of (all_headers ss names)) (λ entry. IsAlignment entry.sh_addralign)
-  pub address : EachSection (length ss + 1) (section_of (all_headers ss names)) (λ entry. 1 < entry.sh_addralign → entry.sh_addr % entry.sh_addralign ≡ 0)
+  pub alignment : EachSectionHeader (length ss + 1) (section_header_of (all_headers ss names)) (λ entry. IsAlignment entry.sh_addralign)
+  pub address : EachSectionHeader (length ss + 1) (section_header_of (all_headers ss names)) (λ entry. 1 < entry.sh_addralign → entry.sh_addr % entry.sh_addralign ≡ 0)
   pub names_within : names < length ss + 1
-  pub section_names : KeepsNameRules (length ss + 1) names (section_of (all_headers ss names)) (get_or ([] ∷ cs) names [])
+  pub section_names : KeepsNameRules (length ss + 1) names (section_header_of (all_headers ss names)) (get_or ([] ∷ cs) names [])

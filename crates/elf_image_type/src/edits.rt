@@ -1,7 +1,7 @@
 //! The edits of an image (gABI chapter 4, ELF Header, Sections). Each changes just its own field, content or gaps, and leaves an
 //! image again.
 ghost use Rattle.std.specs.Prelude.{◌≡◌, MatchResult, OnErr, OnOk};
-ghost use Rattle.elf_image_type.specs.Edits.{IsReplaceFault, IsReplaceable, IsSection, with_content, with_entry, with_flags, with_zero_gaps};
+ghost use Rattle.elf_image_type.specs.Edits.{IsReplaceFault, IsReplaceable, IsSectionIndex, with_content, with_entry, with_flags, with_zero_gaps};
 
 use crate::fault::{NoSection, ReplaceFault};
 use crate::image::Image;
@@ -18,8 +18,8 @@ impl<'a> Image<'a> {
     /// Sets `sh_flags` of section `i`. Answers `NoSection`, and changes nothing, where `i` is 0 or not
     /// below [`section_count`](Image::section_count).
     pub fn set_flags(&mut self, i: usize, flags: u64) -> Result<(), NoSection>
-        ensures ok { OnOk result (IsSection self.old i × (self.new ≡ with_flags self.old i flags)) }
-        ensures err { OnErr result ((¬ IsSection self.old i) × (self.new ≡ self.old)) }
+        ensures ok { OnOk result (IsSectionIndex self.old i × (self.new ≡ with_flags self.old i flags)) }
+        ensures err { OnErr result ((¬ IsSectionIndex self.old i) × (self.new ≡ self.old)) }
     {
         self.outline.set_flags(i, flags)
     }

@@ -36,12 +36,12 @@ impl<T: Drop> From<AllocFailed<T>> for Fault {
     }
 }
 
-impl From<Broken> for Fault {
+impl From<Broken<u64>> for Fault {
     ghost use Rattle.elf_image_type.specs.declared.fault.Fault.TheVariants.{Rule};
 
     ghost from_gives = { λ broken fault. fault ≡ Rule broken.rule broken.at };
 
-    fn from(broken: Broken) -> Fault {
+    fn from(broken: Broken<u64>) -> Fault {
         Fault::Rule {
             rule: broken.rule,
             at: broken.at,

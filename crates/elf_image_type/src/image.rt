@@ -2,7 +2,7 @@
 ghost use Rattle.std.specs.Prelude.{◌≡◌, ◌<◌, ◌≤◌, ◌+◌, ℕ, [], List, get_or, length, map};
 ghost use Rattle.elf_image_rules.specs.HeaderRules.{MAX_LEN};
 ghost use Rattle.elf_image_rules.specs.Tables.{content_extent, name_table, order_of, shdr_offset};
-ghost use Rattle.elf_image_type.specs.Image.{IsImage, IsSound, section_of, segment_of, value_names};
+ghost use Rattle.elf_image_type.specs.Image.{IsImage, IsSoundImage, program_header_of, section_header_of, value_names};
 ghost use Rattle.elf_image_type.specs.Outline.{image_of};
 ghost use Rattle.elf_image_type.specs.Parts.{AreParts};
 ghost use Rattle.elf_image_type.specs.Strings.{section_name};
@@ -29,7 +29,7 @@ pub struct Image<'a> {
 }
 
 impl<'a> Model for Image<'a> {
-    ghost use Rattle.elf_image_type.specs.Image.{ImageValue, IsSound};
+    ghost use Rattle.elf_image_type.specs.Image.{ImageValue, IsSoundImage};
 
     ghost Value = { ImageValue };
 
@@ -37,14 +37,14 @@ impl<'a> Model for Image<'a> {
 
     ghost view = { view_of };
 
-    ghost invariant = { λ a. IsSound (view_of a) };
+    ghost invariant = { λ a. IsSoundImage (view_of a) };
 }
 
 impl<'a> Image<'a> {
     /// The image of these records and parts, with the contents, and the file that the gaps' bytes
     /// stand in.
     pub(crate) fn new(outline: Outline, file: &'a [u8], contents: Vec<&'a [u8]>) -> Image<'a>
-        requires { IsSound (image_of outline (map (λ c. c.now) contents.items) file.now) }
+        requires { IsSoundImage (image_of outline (map (λ c. c.now) contents.items) file.now) }
         ensures { result ≡ image_of outline (map (λ c. c.now) contents.entry.items) file.entry.now }
     {
         Image {
@@ -100,7 +100,7 @@ impl<'a> Image<'a> {
     /// The index of the section name string table, 0 for none (gABI chapter 4, ELF Header:
     /// `e_shstrndx`).
     pub fn name_table(&self) -> u32
-        ensures { result ≡ name_table self.now.header (section_of self.now.sections 0) }
+        ensures { result ≡ name_table self.now.header (section_header_of self.now.sections 0) }
     {
         self.outline.name_table()
     }
@@ -109,7 +109,7 @@ impl<'a> Image<'a> {
     /// stands in the file.
     pub fn section(&self, i: usize) -> Shdr
         requires { i < length self.now.sections }
-        ensures value { result ≡ section_of self.now.sections i }
+        ensures value { result ≡ section_header_of self.now.sections i }
         ensures inside { shdr_offset self.now.header i + SHDR_SIZE ≤ self.now.len }
         ensures short { self.now.len ≤ MAX_LEN }
     {
@@ -132,7 +132,7 @@ impl<'a> Image<'a> {
     /// Program header `j`, which is below [`segment_count`](Image::segment_count).
     pub fn segment(&self, j: usize) -> Phdr
         requires { j < length self.now.segments }
-        ensures { result ≡ segment_of self.now.segments j }
+        ensures { result ≡ program_header_of self.now.segments j }
     {
         self.outline.segment(j)
     }
@@ -166,9 +166,9 @@ impl<'a> Image<'a> {
     pub fn content(&self, i: usize) -> &'a [u8]
         requires { i < length self.now.sections }
         ensures bytes { result.now ≡ get_or self.now.contents i [] }
-        ensures size { length result.now ≡ (content_extent (section_of self.now.sections i)).len }
+        ensures size { length result.now ≡ (content_extent (section_header_of self.now.sections i)).len }
         ensures inside { 0 < length result.now →
-            (section_of self.now.sections i).sh_offset + length result.now ≤ self.now.len }
+            (section_header_of self.now.sections i).sh_offset + length result.now ≤ self.now.len }
         ensures short { self.now.len ≤ MAX_LEN }
     {
         self.contents[i]
@@ -178,9 +178,9 @@ impl<'a> Image<'a> {
     /// bytes only where its content is not empty.
     pub fn content_offset(&self, i: usize) -> u64
         requires { i < length self.now.sections }
-        ensures value { result ≡ (section_of self.now.sections i).sh_offset }
-        ensures inside { 0 < (content_extent (section_of self.now.sections i)).len →
-            result + (content_extent (section_of self.now.sections i)).len ≤ self.now.len }
+        ensures value { result ≡ (section_header_of self.now.sections i).sh_offset }
+        ensures inside { 0 < (content_extent (section_header_of self.now.sections i)).len →
+            result + (content_extent (section_header_of self.now.sections i)).len ≤ self.now.len }
         ensures short { self.now.len ≤ MAX_LEN }
     {
         // That content lies in the file.

@@ -10,7 +10,7 @@ ghost use Rattle.elf_field.specs.Shdr.{IsShdrAt};
 ghost use Rattle.elf_image_rules.specs.ImageRules.{IsFault};
 ghost use Rattle.elf_image_rules.specs.Tables.{order_of, phdr_offset, shdr_offset};
 ghost use Rattle.elf_image_type.specs.FileParts.{FileContents, HasContents, IsWritable, WrittenPart, written};
-ghost use Rattle.elf_image_type.specs.Image.{ImageValue, IsImage, IsSound, Stands, section_of, segment_of};
+ghost use Rattle.elf_image_type.specs.Image.{ImageValue, IsImage, IsSoundImage, Stands, program_header_of, section_header_of};
 ghost use Rattle.elf_image_type.specs.RelocatableFile.{IsRelocatableFile, relocatable_bytes, relocatable_file};
 
 /// An image stands as one list of bytes, and as no other, be it with a fault or without.
@@ -32,16 +32,16 @@ pub fn one_image()
 pub fn fields()
     ensures header { (v : ImageValue) (b : List ℕ) → IsImage v b → IsEhdrAt (order_of v.header.e_ident) b 0 v.header }
     ensures sections { (v : ImageValue) (b : List ℕ) (i : ℕ) → IsImage v b → i < length v.sections →
-        IsShdrAt (order_of v.header.e_ident) b (shdr_offset v.header i) (section_of v.sections i) }
+        IsShdrAt (order_of v.header.e_ident) b (shdr_offset v.header i) (section_header_of v.sections i) }
     ensures segments { (v : ImageValue) (b : List ℕ) (j : ℕ) → IsImage v b → j < length v.segments →
-        IsPhdrAt (order_of v.header.e_ident) b (phdr_offset v.header j) (segment_of v.segments j) }
+        IsPhdrAt (order_of v.header.e_ident) b (phdr_offset v.header j) (program_header_of v.segments j) }
 {}
 
 /// An image value is sound by itself exactly where there is a list of bytes that it stands as, and
 /// that breaks no rule. So an edit that keeps a value sound leaves an image.
 pub fn sound()
-    ensures stands { (v : ImageValue) → IsSound v → (b : List ℕ) × IsImage v b }
-    ensures only { (v : ImageValue) (b : List ℕ) → IsImage v b → IsSound v }
+    ensures stands { (v : ImageValue) → IsSoundImage v → (b : List ℕ) × IsImage v b }
+    ensures only { (v : ImageValue) (b : List ℕ) → IsImage v b → IsSoundImage v }
 {}
 
 /// A file that is written from its parts, each behind the one before it with zeros between: where its

@@ -2,7 +2,7 @@
 ghost use Rattle.std.specs.Prelude.{◌≡◌, ◌<◌, ◌≤◌, true, OnErr, OnOk, length, set};
 ghost use Rattle.elf_image_rules.specs.Tables.{name_table, order_of};
 ghost use Rattle.elf_image_type.specs.Edits.{flagged};
-ghost use Rattle.elf_image_type.specs.Image.{section_of, segment_of};
+ghost use Rattle.elf_image_type.specs.Image.{program_header_of, section_header_of};
 ghost use Rattle.elf_image_type.specs.Outline.{outline_value};
 
 use crate::fault::NoSection;
@@ -101,14 +101,14 @@ impl Outline {
 
     pub fn section(&self, i: usize) -> Shdr
         requires { i < length self.now.sections }
-        ensures { result ≡ section_of self.now.sections i }
+        ensures { result ≡ section_header_of self.now.sections i }
     {
         self.sections[i]
     }
 
     pub fn segment(&self, j: usize) -> Phdr
         requires { j < length self.now.segments }
-        ensures { result ≡ segment_of self.now.segments j }
+        ensures { result ≡ program_header_of self.now.segments j }
     {
         self.segments[j]
     }
@@ -116,7 +116,7 @@ impl Outline {
     /// The index of the section name string table, 0 for none; where `e_shstrndx` is `SHN_XINDEX`,
     /// the one that section header 0 says in `sh_link`.
     pub fn name_table(&self) -> u32
-        ensures { result ≡ name_table self.now.header (section_of self.now.sections 0) }
+        ensures { result ≡ name_table self.now.header (section_header_of self.now.sections 0) }
     {
         if self.header.e_shstrndx != SHN_XINDEX {
             return self.header.e_shstrndx as u32;

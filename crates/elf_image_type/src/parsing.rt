@@ -6,7 +6,7 @@ ghost use Rattle.elf_extent.specs.Extent.{AreDisjoint, AreWithin};
 ghost use Rattle.elf_image_rules.specs.ImageRules.{IsFault};
 ghost use Rattle.elf_image_rules.specs.JudgedRecords.{file_of};
 ghost use Rattle.elf_image_rules.specs.Tables.{bytes_in, content_extent, file_counts, header, sections, segments};
-ghost use Rattle.elf_image_type.specs.Image.{AreRecordsIn, IsImage, index_of, part_piece, value_extents};
+ghost use Rattle.elf_image_type.specs.Image.{AreRecordsIn, IsImage, owner_index, part_piece, value_extents};
 ghost use Rattle.elf_image_type.specs.Parsing.{IsParseFault};
 
 use crate::fault::Fault;
@@ -173,7 +173,7 @@ fn extents_of(
 
 /// What the extent of this index is of; None is a gap.
 fn owner_of(index: Option<usize>) -> Owner
-    ensures { index_of result ≡ index }
+    ensures { owner_index result ≡ index }
 {
     match index {
         None => Owner::Gap,

@@ -1,7 +1,7 @@
 //! An image onto a writer.
 ghost use Rattle.std.specs.Prelude.{◌≡◌, ◌<◌, ℕ, List, length, map};
-ghost use Rattle.elf_image_type.specs.Image.{IsImage, IsSound, joined, part_bytes};
-ghost use Rattle.elf_image_type.specs.Outline.{image_of, placed};
+ghost use Rattle.elf_image_type.specs.Image.{IsImage, IsSoundImage, joined, part_bytes};
+ghost use Rattle.elf_image_type.specs.Outline.{image_of, placed_part};
 ghost use Rattle.elf_image_type.specs.Output.{Writes};
 
 use crate::fault::WriteFault;
@@ -30,7 +30,7 @@ fn write_parts<W: Write>(
     file: &[u8],
     writer: &mut W,
 ) -> Result<(), WriteFault>
-    requires { IsSound (image_of outline.now (map (λ content. content.now) contents.now) file.now) }
+    requires { IsSoundImage (image_of outline.now (map (λ content. content.now) contents.now) file.now) }
     ensures { Writes (W.contents writer.old) (W.contents writer.new)
         (joined (image_of outline.now (map (λ content. content.now) contents.now) file.now)) result }
 {
@@ -53,10 +53,10 @@ fn write_part<W: Write>(
 ) -> Result<(), WriteFault>
     requires some { 0 < part.len }
     requires whole { let v = image_of outline.now (map (λ content. content.now) contents.now) file.now in
-        length (part_bytes v (placed outline.now.zeroed file.now part)) ≡ part.len }
+        length (part_bytes v (placed_part outline.now.zeroed file.now part)) ≡ part.len }
     ensures { let v = image_of outline.now (map (λ content. content.now) contents.now) file.now in
         Writes (W.contents writer.old) (W.contents writer.new)
-        (part_bytes v (placed outline.now.zeroed file.now part)) result }
+        (part_bytes v (placed_part outline.now.zeroed file.now part)) result }
 {
     let start = part.start as usize;
     match part.owner {

@@ -11,10 +11,10 @@ use Rattle.elf_link_field.specs.declared.rule.Range.{Range}
 use Rattle.elf_link_field.specs.declared.rule.Range.TheVariants.{Signed, Unsigned, Wrap}
 
 -- a symbol's value and an addend; of the form Pc less the address of the field
-abbrev pub number_of : Form → ℕ → ℤ → ℕ → ℤ
-number_of Abs value addend address = pos value +ℤ addend
-number_of Pc value addend address = (pos value +ℤ addend) -ℤ pos address
-number_of NoForm value addend address = pos value +ℤ addend
+abbrev pub relocation_number : Form → ℕ → ℤ → ℕ → ℤ
+relocation_number Abs value addend address = pos value +ℤ addend
+relocation_number Pc value addend address = (pos value +ℤ addend) -ℤ pos address
+relocation_number NoForm value addend address = pos value +ℤ addend
 
 -- a field of n bytes admits the number
 abbrev pub Admits : Range → ℕ → ℤ → Type 0

@@ -11,14 +11,14 @@ size_of W2 = 2
 size_of W4 = 4
 size_of W8 = 8
 
--- the rule at a position of a list is of this kind
+-- the relocation rule at a position of a list is of this kind
 abbrev pub IsOfKind : ℕ → List RelocRule → ℕ → RelocRule → Type 0
 IsOfKind kind rules k rule = (slice_get rules k ≡ Some rule) × (rule.kind ≡ kind)
 
--- a list has no rule of a kind; the rule is the first one
-abbrev pub HasNoRule : ℕ → List RelocRule → Type 0
-HasNoRule kind rules = (k : ℕ) (rule : RelocRule) → IsOfKind kind rules k rule → ⊥
+-- a list has no relocation rule of a kind; the rule is the first one
+abbrev pub HasNoRelocationRule : ℕ → List RelocRule → Type 0
+HasNoRelocationRule kind rules = (k : ℕ) (rule : RelocRule) → IsOfKind kind rules k rule → ⊥
 
-abbrev pub IsFirstRule : ℕ → List RelocRule → RelocRule → Type 0
-IsFirstRule kind rules rule =
+abbrev pub IsFirstRelocationRule : ℕ → List RelocRule → RelocRule → Type 0
+IsFirstRelocationRule kind rules rule =
     (k : ℕ) × IsOfKind kind rules k rule × ((j : ℕ) (other : RelocRule) → j < k → IsOfKind kind rules j other → ⊥)

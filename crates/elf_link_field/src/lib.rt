@@ -1,8 +1,8 @@
-//! Relocations as rules describe them (gABI chapter 4, Relocation; the rules are this project's profile): the exact number of
-//! an entry, the numbers that its field admits, and the bytes in which the field holds it.
+//! Relocations as relocation rules describe them (gABI chapter 4, Relocation; the rules are this project's profile): the exact
+//! number of an entry, the numbers that its field admits, and the bytes in which the field holds it.
 //!
 //! ```
-//! // A field of four bytes that counts from itself: the place of a call's target, less four bytes, less the field's place.
+//! // A field of four bytes that counts from itself: the address of a call's target, less four bytes, less the field's address.
 //! let rule = RelocRule { kind: 2, form: Form::Pc, width: Width::W4, range: Range::Signed };
 //! let number = rule.form.number(0x1006, -4, 0x1001);
 //! assert_eq!(number, 1);

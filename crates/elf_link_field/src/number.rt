@@ -2,7 +2,7 @@
 ghost use Rattle.std.specs.Prelude.{◌≡◌, ◌+◌, ◌*◌, ◌^◌, ◌<◌, ◌≤◌, ℤ, pos, neg_ℤ, ◌<ℤ◌, ◌≤ℤ◌, MatchBool, length};
 ghost use Rattle.byteorder.specs.Endian.{twos_complement};
 ghost use Rattle.elf_field.specs.Bytes.{from};
-ghost use Rattle.elf_link_field.specs.Number.{Admits, addend_at, addend_from, modulo as modulo_of, number_of};
+ghost use Rattle.elf_link_field.specs.Number.{Admits, addend_at, addend_from, modulo as modulo_of, relocation_number};
 ghost use Rattle.elf_link_field.specs.Rule.{size_of};
 
 use crate::rule::{Form, Range, Width};
@@ -37,7 +37,7 @@ impl Form {
         requires value { value < 2 ^ 126 }
         requires low { neg_ℤ (pos (2 ^ 63)) ≤ℤ addend }
         requires high { addend <ℤ pos (2 ^ 64) }
-        ensures { result ≡ number_of self value addend address }
+        ensures { result ≡ relocation_number self value addend address }
     {
         let sum = value as i128 + addend;
         match self {

@@ -1,6 +1,6 @@
-//! The rules that say what relocations of a kind are.
+//! Relocation rules: what the relocations of a kind are.
 ghost use Rattle.std.specs.Prelude.{◌≡◌, MatchOption};
-ghost use Rattle.elf_link_field.specs.Rule.{HasNoRule, IsFirstRule, size_of};
+ghost use Rattle.elf_link_field.specs.Rule.{HasNoRelocationRule, IsFirstRelocationRule, size_of};
 
 /// What an entry's number is made of.
 #[derive(Clone, Copy, Debug, PartialEq, Eq)]
@@ -64,9 +64,9 @@ pub struct RelocRule {
     pub range: Range,
 }
 
-/// The first rule of this kind; None where there is none.
+/// The first relocation rule of this kind; None where there is none.
 pub fn rule_of(rules: &[RelocRule], kind: u32) -> Option<RelocRule>
-    ensures { MatchOption result (HasNoRule kind rules.now) (IsFirstRule kind rules.now) }
+    ensures { MatchOption result (HasNoRelocationRule kind rules.now) (IsFirstRelocationRule kind rules.now) }
 {
     for rule in rules {
         if rule.kind == kind {

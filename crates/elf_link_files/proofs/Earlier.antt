@@ -3,10 +3,11 @@ use Rattle.std.proofs.Common.{◌≡◌, ℕ, inl, inr, sym, arith}
 use Rattle.std.proofs.lemmas.Bool.{cases_lt}
 use Rattle.elf_link_files.specs.declared.site.Site.{Site}
 use Rattle.elf_link_files.specs.Files.{IsEarlier}
-use Rattle.elf_link_files.specs.Rows.{IsFirstAt, Row}
+use Rattle.elf_image_rules.specs.Rows.{Row}
+use Rattle.elf_link_files.specs.Rows.{IsFirstAt}
 
 -- a site is as early as any of its row's, where it is the first
-pub first_earlier : (row : Row) (p : Site) (e h f i : ℕ) → IsFirstAt row p → row (record { file = e; index = h; entry = 0 }) →
+pub first_earlier : (row : Row Site) (p : Site) (e h f i : ℕ) → IsFirstAt row p → row (record { file = e; index = h; entry = 0 }) →
     IsEarlier e h f i → IsEarlier p.file p.index f i
 first_earlier row p e h f i first there before = elim (cases_lt p.file f) [
   | inl below ↦ inl below
@@ -28,7 +29,7 @@ first_earlier row p e h f i first there before = elim (cases_lt p.file f) [
 ]
 
 -- two first sites are of one file and position
-pub first_same : (row : Row) (p q : Site) → IsFirstAt row p → IsFirstAt row q → (p.file ≡ q.file) × (p.index ≡ q.index)
+pub first_same : (row : Row Site) (p q : Site) → IsFirstAt row p → IsFirstAt row q → (p.file ≡ q.file) × (p.index ≡ q.index)
 first_same row p q first other = elim (cases_lt p.file q.file) [
   | inl file ↦ absurd (other.first p first.stands (inl file))
   | inr not_before ↦ elim (cases_lt q.file p.file) [

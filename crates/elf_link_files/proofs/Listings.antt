@@ -7,7 +7,8 @@ use Rattle.elf_object_type.specs.Object.{ObjectValue}
 use Rattle.elf_link_files.specs.declared.site.Site.{Site}
 use Rattle.elf_link_files.specs.Files.{IsEarlier, object_at}
 use Rattle.elf_link_files.specs.Listing.{Lists, UpTo, site, site_at}
-use Rattle.elf_link_files.specs.Rows.{AtEach, Before, Row}
+use Rattle.elf_image_rules.specs.Rows.{Row}
+use Rattle.elf_link_files.specs.Rows.{AtEach, Before}
 use Rattle.elf_link_files.specs.Items.{AreOnce}
 use Rattle.elf_link_files.proofs.Seen.{earlier_more, earlier_next}
 
@@ -26,7 +27,7 @@ longer : (ps : List Site) (q : Site) → length (ps ++ q ∷ []) ≡ length ps +
 longer ps q = simp length-append
 
 -- one more site, behind all others
-pub lists_more : (row next : Row) (ps : List Site) (q : Site) → ((p : Site) → row p → next p) → next q → ((p : Site) → next p → row p ⊎ (p ≡ q)) →
+pub lists_more : (row next : Row Site) (ps : List Site) (q : Site) → ((p : Site) → row p → next p) → next q → ((p : Site) → next p → row p ⊎ (p ≡ q)) →
     ((p : Site) → row p → Before p q) → Lists row ps → Lists next (ps ++ q ∷ [])
 lists_more row next ps q into here split before is = record {
   each = λ k lt. (
@@ -56,7 +57,7 @@ lists_more row next ps q into here split before is = record {
       ]);
 }
 
-pub lists_same : (row next : Row) (ps : List Site) → ((p : Site) → row p → next p) → ((p : Site) → next p → row p) → Lists row ps → Lists next ps
+pub lists_same : (row next : Row Site) (ps : List Site) → ((p : Site) → row p → next p) → ((p : Site) → next p → row p) → Lists row ps → Lists next ps
 lists_same row next ps into back is = record {
   each = λ k lt. into (site_at ps k) (is.each k lt);
   all = λ p holds. is.all p (back p holds);
@@ -101,7 +102,7 @@ one_before p q (inr same) (inr other) = elim same.1 [
 ]
 
 -- the earlier one of two sites of a list stands before the other
-pub position_before : (row : Row) (ps : List Site) (j k : ℕ) → Lists row ps → j < length ps → k < length ps →
+pub position_before : (row : Row Site) (ps : List Site) (j k : ℕ) → Lists row ps → j < length ps → k < length ps →
     Before (site_at ps j) (site_at ps k) → j < k
 position_before row ps j k is j_in k_in before = elim (cases_lt j k) [
   | inl below ↦ below
@@ -114,7 +115,7 @@ position_before row ps j k is j_in k_in before = elim (cases_lt j k) [
   ]
 ]
 
-pub once_of : (row : Row) (ps : List Site) → Lists row ps → AreOnce ps
+pub once_of : (row : Row Site) (ps : List Site) → Lists row ps → AreOnce ps
 once_of row ps is j k lt within same =
     let before = subst (λ (p : Site). Before p (site_at ps k)) same (is.order j k lt within) in
     one_before (site_at ps k) (site_at ps k) before before

@@ -6,11 +6,11 @@ use Rattle.std.proofs.Math.ListN.{get_or-append}
 use Rattle.elf_object_type.specs.GroupRule.{NamesMember}
 use Rattle.elf_object_type.specs.Object.{ObjectValue}
 use Rattle.elf_link_files.specs.Files.{object_at}
-use Rattle.elf_link_files.specs.Marking.{AreMarked, AreMarksBefore, AreRows, IsDiscardedBefore}
+use Rattle.elf_link_files.specs.Marking.{AreMarkRows, AreMarksBefore, AreMembersMarked, IsDiscardedBefore}
 
 -- ---- the members of one group
 
-pub marked_none : (row : List Bool) (members : List ℕ) → AreMarked row members 0 row
+pub marked_none : (row : List Bool) (members : List ℕ) → AreMembersMarked row members 0 row
 marked_none row members = record {
   long = refl;
   right = λ s within. ((λ is. inl is), (λ either. elim either [ inl is ↦ is | inr (k, lt, here) ↦ absurd (omega arith) ]));
@@ -22,8 +22,8 @@ named_next members n s (k, lt, here) = elim (cases_lt k n) [
   | inr above ↦ (let same : k ≡ n = omega arith in inr (subst (λ i. get_or members i 0 ≡ s) same here))
 ]
 
-pub marked_next : (before : List Bool) (members : List ℕ) (n : ℕ) (row : List Bool) → AreMarked before members n row →
-    get_or members n 0 < length row → AreMarked before members (n + 1) (set row (get_or members n 0) true)
+pub marked_next : (before : List Bool) (members : List ℕ) (n : ℕ) (row : List Bool) → AreMembersMarked before members n row →
+    get_or members n 0 < length row → AreMembersMarked before members (n + 1) (set row (get_or members n 0) true)
 marked_next before members n row are there = record {
   long = length-set row (get_or members n 0) true ∙ are.long;
   right = λ s within. elim (cases_eq s (get_or members n 0)) [
@@ -49,7 +49,7 @@ discarded_more fs f n s (g, lt, comdat, member, seen) = (g, omega arith, comdat,
 -- ---- all files
 
 pub rows_more : (fs : List ObjectValue) (n : ℕ) (rows : List (List Bool)) (row : List Bool) →
-    AreMarksBefore fs n (length (object_at fs n).sections) row → AreRows fs n rows → AreRows fs (n + 1) (rows ++ row ∷ [])
+    AreMarksBefore fs n (length (object_at fs n).sections) row → AreMarkRows fs n rows → AreMarkRows fs (n + 1) (rows ++ row ∷ [])
 rows_more fs n rows row are rest = record {
   count = (let count = rest.count in simp length-append (omega arith));
   each = λ f lt. elim (cases_lt f n) [

@@ -1,10 +1,11 @@
 -- A row has at most one first site and one list of its sites, and a list of rules one fault.
-use Rattle.std.proofs.Common.{◌≡◌, ℕ, ◌<◌, ◌⊎◌, Option, None, Some, List, [], ◌∷◌, length, zero, suc, inl, inr, refl, sym, ◌∙◌, ap, subst, arith}
+use Rattle.std.proofs.Common.{◌≡◌, ℕ, ◌<◌, ◌⊎◌, Option, List, [], ◌∷◌, length, zero, suc, inl, inr, refl, sym, ◌∙◌, ap, subst, arith}
 use Rattle.std.proofs.lemmas.Bool.{cases_lt}
-use Rattle.elf_link_files.specs.declared.site.Broken.{Broken}
+use Rattle.elf_image_rules.specs.Rows.{Row, Ruled}
+use Rattle.elf_image_rules.proofs.Public.{one_fault_by}
 use Rattle.elf_link_files.specs.declared.site.Site.{Site}
 use Rattle.elf_link_files.specs.Listing.{Lists, site_at}
-use Rattle.elf_link_files.specs.Rows.{Before, FirstIn, IsFirstAt, Row, Ruled}
+use Rattle.elf_link_files.specs.Rows.{Before, FirstAmong, IsFirstAt}
 use Rattle.elf_link_files.proofs.Earlier.{first_same}
 use Rattle.elf_link_files.proofs.Listings.{one_before}
 
@@ -15,7 +16,7 @@ same_site p q file index entry =
     ap (λ (n : ℕ). record { file = n; index = p.index; entry = p.entry }) file ∙ ap (λ (n : ℕ). record { file = q.file; index = n; entry = p.entry }) index
     ∙ ap (λ (n : ℕ). record { file = q.file; index = q.index; entry = n }) entry
 
-pub one_first : (row : Row) (p q : Site) → IsFirstAt row p → IsFirstAt row q → p ≡ q
+pub one_first : (row : Row Site) (p q : Site) → IsFirstAt row p → IsFirstAt row q → p ≡ q
 one_first row p q first other =
     let (file, index) = first_same row p q first other in
     elim (cases_lt p.entry q.entry) [
@@ -34,7 +35,7 @@ in_rest x xs p before zero lt at = (let self = subst (Before x) (sym at) before 
 in_rest x xs p before (suc k) lt at = (k, omega arith, at)
 
 -- a list of a row without its first site is that of the sites behind it
-behind : (row : Row) (x : Site) (xs : List Site) → Lists row (x ∷ xs) → Lists (λ p. row p × Before x p) xs
+behind : (row : Row Site) (x : Site) (xs : List Site) → Lists row (x ∷ xs) → Lists (λ p. row p × Before x p) xs
 behind row x xs is = record {
   each = λ k lt. (is.each (suc k) (omega arith), is.order 0 (suc k) (omega arith) (omega arith));
   all = λ p (there, before). (let (k, lt, at) = is.all p there in in_rest x xs p before k lt at);
@@ -47,12 +48,12 @@ first_or_behind x xs zero order lt = inl refl
 first_or_behind x xs (suc k) order lt = inr (order (suc k) (omega arith) lt)
 
 -- the first site of a list of the row is no site behind another one of the row
-first_of : (row : Row) (x : Site) (xs : List Site) (p : Site) → Lists row (x ∷ xs) → row p → (x ≡ p) ⊎ Before x p
+first_of : (row : Row Site) (x : Site) (xs : List Site) (p : Site) → Lists row (x ∷ xs) → row p → (x ≡ p) ⊎ Before x p
 first_of row x xs p is there =
     let (k, lt, at) = is.all p there in
     subst (λ (q : Site). (x ≡ q) ⊎ Before x q) at (first_or_behind x xs k (λ j above within. is.order 0 j above within) lt)
 
-one_head : (row : Row) (x y : Site) (xs ys : List Site) → Lists row (x ∷ xs) → Lists row (y ∷ ys) → x ≡ y
+one_head : (row : Row Site) (x y : Site) (xs ys : List Site) → Lists row (x ∷ xs) → Lists row (y ∷ ys) → x ≡ y
 one_head row x y xs ys is are = elim (first_of row x xs y is (are.each 0 (omega arith))) [
   | inl same ↦ same
   | inr before ↦ elim (first_of row y ys x are (is.each 0 (omega arith))) [
@@ -61,33 +62,17 @@ one_head row x y xs ys is are = elim (first_of row x xs y is (are.each 0 (omega 
   ]
 ]
 
-pub one_list : (row : Row) (ps qs : List Site) → Lists row ps → Lists row qs → ps ≡ qs
-one_list row [] [] is are = refl
-one_list row [] (y ∷ ys) is are = (let (k, lt, at) = is.all y (are.each 0 (omega arith)) in absurd (omega arith))
-one_list row (x ∷ xs) [] is are = (let (k, lt, at) = are.all x (is.each 0 (omega arith)) in absurd (omega arith))
-one_list row (x ∷ xs) (y ∷ ys) is are =
+pub one_site_list : (row : Row Site) (ps qs : List Site) → Lists row ps → Lists row qs → ps ≡ qs
+one_site_list row [] [] is are = refl
+one_site_list row [] (y ∷ ys) is are = (let (k, lt, at) = is.all y (are.each 0 (omega arith)) in absurd (omega arith))
+one_site_list row (x ∷ xs) [] is are = (let (k, lt, at) = are.all x (is.each 0 (omega arith)) in absurd (omega arith))
+one_site_list row (x ∷ xs) (y ∷ ys) is are =
     let same = one_head row x y xs ys is are in
     let rest = subst (λ (p : Site). Lists (λ q. row q × Before p q) ys) (sym same) (behind row y ys are) in
-    ap (λ (p : Site). p ∷ xs) same ∙ ap (λ (ps : List Site). y ∷ ps) (one_list (λ q. row q × Before x q) xs ys (behind row x xs is) rest)
+    ap (λ (p : Site). p ∷ xs) same ∙ ap (λ (ps : List Site). y ∷ ps) (one_site_list (λ q. row q × Before x q) xs ys (behind row x xs is) rest)
 
 -- ---- rules
 
-same_broken : (a b : Broken) → a.rule ≡ b.rule → a.site ≡ b.site → a ≡ b
-same_broken a b number at =
-    ap (λ (n : ℕ). record { rule = n; site = a.site }) number ∙ ap (λ (p : Site). record { rule = b.rule; site = p }) at
-
-pub one_found : (rules : List {1} Ruled) (a b : Option Broken) → FirstIn rules a → FirstIn rules b → a ≡ b
-one_found [] None None p q = refl
-one_found [] None (Some b) p q = absurd q
-one_found [] (Some a) None p q = absurd p
-one_found [] (Some a) (Some b) p q = absurd p
-one_found (r ∷ rules) None None p q = refl
-one_found (r ∷ rules) None (Some b) p (inl here) = absurd (p.0 b.site here.1.stands)
-one_found (r ∷ rules) None (Some b) p (inr later) = one_found rules None (Some b) p.1 later.1
-one_found (r ∷ rules) (Some a) None (inl here) q = absurd (q.0 a.site here.1.stands)
-one_found (r ∷ rules) (Some a) None (inr later) q = one_found rules (Some a) None later.1 q.1
-one_found (r ∷ rules) (Some a) (Some b) (inl here) (inl there) =
-    ap Some (same_broken a b (here.0 ∙ sym there.0) (one_first r.row a.site b.site here.1 there.1))
-one_found (r ∷ rules) (Some a) (Some b) (inl here) (inr later) = absurd (later.0 a.site here.1.stands)
-one_found (r ∷ rules) (Some a) (Some b) (inr later) (inl here) = absurd (later.0 b.site here.1.stands)
-one_found (r ∷ rules) (Some a) (Some b) (inr one) (inr other) = one_found rules (Some a) (Some b) one.1 other.1
+-- rules at sites have one fault
+pub one_found : (rules : List {1} (Ruled Site)) (a b : Option (ℕ × Site)) → FirstAmong rules a → FirstAmong rules b → a ≡ b
+one_found = one_fault_by IsFirstAt (λ row p first. first.stands) one_first

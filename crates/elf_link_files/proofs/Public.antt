@@ -6,6 +6,6 @@ pub use Rattle.elf_link_files.proofs.FirstSite.{first_in_row}
 pub use Rattle.elf_link_files.proofs.Items.{each_more, one_each}
 pub use Rattle.elf_link_files.proofs.Listings.{listed_more, listed_past, lists_more, lists_same, once_of, one_before, position_before, site_is}
 pub use Rattle.elf_link_files.proofs.ObjectFacts.{object_is, symbol_placed}
-pub use Rattle.elf_link_files.proofs.OneSite.{one_first, one_found, one_list}
+pub use Rattle.elf_link_files.proofs.OneSite.{one_first, one_found, one_site_list}
 pub use Rattle.elf_link_files.proofs.Seen.{earlier_more, earlier_next, file_before}
 pub use Rattle.elf_link_files.proofs.Told.{match_map, not_true, same_bool, same_name}

@@ -32,19 +32,19 @@ abbrev pub IsSeen : List ObjectValue → ℕ → ℕ → List ℕ → Type 0
 IsSeen fs f g name = (e h : ℕ) × IsEarlier e h f g × IsComdat fs e h × (signature fs e h ≡ name)
 
 -- section s of file f is a member of the group in section g
-abbrev pub IsMember : List ObjectValue → ℕ → ℕ → ℕ → Type 0
-IsMember fs f g s = (let members = members_of (section_in fs f g).body in NamesMember members (length members) s)
+abbrev pub IsGroupMember : List ObjectValue → ℕ → ℕ → ℕ → Type 0
+IsGroupMember fs f g s = (let members = members_of (section_in fs f g).body in NamesMember members (length members) s)
 
 -- section s of file f is a member of a COMDAT group of the file, and an earlier COMDAT group has its signature
 abbrev pub Discarded : List ObjectValue → ℕ → ℕ → Type 0
-Discarded fs f s = (g : ℕ) × IsComdat fs f g × IsMember fs f g s × IsSeen fs f g (signature fs f g)
+Discarded fs f s = (g : ℕ) × IsComdat fs f g × IsGroupMember fs f g s × IsSeen fs f g (signature fs f g)
 
--- a table of marks, one for each section of each file
+-- the mark of section s of file f, of marks for each section of each file
 abbrev pub mark : List (List Bool) → ℕ → ℕ → Bool
 mark marks f s = get_or (get_or marks f []) s false
 
 -- the sections with a mark are those that are discarded
-pub record AreMarks (fs : List ObjectValue) (marks : List (List Bool)) : Type 0 where
+pub record AreDiscardMarks (fs : List ObjectValue) (marks : List (List Bool)) : Type 0 where
   pub files : length marks ≡ length fs
   pub long : (f : ℕ) → f < length fs → length (get_or marks f []) ≡ length (object_at fs f).sections
   pub right : (f s : ℕ) → f < length fs → s < length (object_at fs f).sections → (mark marks f s ≡ true) ↔ Discarded fs f s

@@ -9,7 +9,9 @@ use Rattle.elf_link_files.specs.declared.options.Options.{Options}
 use Rattle.elf_link_files.specs.Discarded.{IsComdat, signature}
 use Rattle.elf_link_files.specs.Files.{object_at, section_in, symbol_in}
 use Rattle.elf_link_files.specs.Live.{Live}
-use Rattle.elf_link_files.specs.Rows.{AtFile, AtSection, AtSymbol, Once, Row, Ruled, rule}
+use Rattle.elf_image_rules.specs.Rows.{Row, Ruled, rule}
+use Rattle.elf_link_files.specs.Rows.{AtFile, AtSection, AtSymbol, Once}
+use Rattle.elf_link_files.specs.declared.site.Site.{Site}
 use Rattle.elf_link_files.specs.Symbols.{is_common}
 
 -- a number is no power of two: it is 0, or wrong as an alignment
@@ -20,52 +22,52 @@ IsNoPower n = (n ≡ 0) ⊎ IsWrongAlignment n
 abbrev pub AreBadOptions : Options → Type 0
 AreBadOptions opt = IsNoPower opt.page ⊎ (opt.base % opt.page ≢ 0)
 
-abbrev pub bad_options : Options → Row
+abbrev pub bad_options : Options → Row Site
 bad_options opt = Once (AreBadOptions opt)
 
 -- rule 2: order, machine or flags differ from those of file 0
 abbrev pub IsMismatch : ObjectValue → ObjectValue → Type 0
 IsMismatch o p = (o.order ≢ p.order) ⊎ ((o.machine ≢ p.machine) ⊎ (o.flags ≢ p.flags))
 
-abbrev pub mismatch : List ObjectValue → Row
+abbrev pub mismatch : List ObjectValue → Row Site
 mismatch fs = AtFile fs (λ f. IsMismatch (object_at fs 0) (object_at fs f))
 
 -- rules 3 and 4: a live section has the flag TLS, or LINK_ORDER
 abbrev pub IsLiveWith : ℕ → List ObjectValue → ℕ → ℕ → Type 0
 IsLiveWith flag fs f s = HasFlag (section_in fs f s).flags flag × Live fs f s
 
-abbrev pub tls : List ObjectValue → Row
+abbrev pub tls : List ObjectValue → Row Site
 tls fs = AtSection fs (IsLiveWith SHF_TLS fs)
 
-abbrev pub link_order : List ObjectValue → Row
+abbrev pub link_order : List ObjectValue → Row Site
 link_order fs = AtSection fs (IsLiveWith SHF_LINK_ORDER fs)
 
 -- rule 5: a COMDAT group has an empty signature
 abbrev pub HasEmptySignature : List ObjectValue → ℕ → ℕ → Type 0
 HasEmptySignature fs f g = IsComdat fs f g × (signature fs f g ≡ [])
 
-abbrev pub empty_signature : List ObjectValue → Row
+abbrev pub empty_signature : List ObjectValue → Row Site
 empty_signature fs = AtSection fs (HasEmptySignature fs)
 
 -- rule 6: a binding above WEAK, the type TLS, or no name though not local
 abbrev pub IsBadSymbol : SymbolValue → Type 0
 IsBadSymbol s = (STB_WEAK < binding s) ⊎ ((symbol_type s ≡ STT_TLS) ⊎ ((binding s ≢ STB_LOCAL) × (s.name ≡ [])))
 
-abbrev pub bad_symbol : List ObjectValue → Row
+abbrev pub bad_symbol : List ObjectValue → Row Site
 bad_symbol fs = AtSymbol fs (λ f i. IsBadSymbol (symbol_in fs f i))
 
 -- rule 7: a common that is not GLOBAL, or whose alignment, its value, is no power of two
 abbrev pub IsBadCommon : SymbolValue → Type 0
 IsBadCommon s = (is_common s.place ≡ true) × ((binding s ≢ STB_GLOBAL) ⊎ IsNoPower s.value)
 
-abbrev pub bad_common : List ObjectValue → Row
+abbrev pub bad_common : List ObjectValue → Row Site
 bad_common fs = AtSymbol fs (λ f i. IsBadCommon (symbol_in fs f i))
 
-abbrev pub option_rules : Options → List ObjectValue → List {1} Ruled
+abbrev pub option_rules : Options → List ObjectValue → List {1} (Ruled Site)
 option_rules opt fs = rule 1 (bad_options opt) ∷ rule 2 (mismatch fs) ∷ []
 
-abbrev pub section_rules : List ObjectValue → List {1} Ruled
-section_rules fs = rule 3 (tls fs) ∷ rule 4 (link_order fs) ∷ rule 5 (empty_signature fs) ∷ []
+abbrev pub link_section_rules : List ObjectValue → List {1} (Ruled Site)
+link_section_rules fs = rule 3 (tls fs) ∷ rule 4 (link_order fs) ∷ rule 5 (empty_signature fs) ∷ []
 
-abbrev pub symbol_rules : List ObjectValue → List {1} Ruled
-symbol_rules fs = rule 6 (bad_symbol fs) ∷ rule 7 (bad_common fs) ∷ []
+abbrev pub link_symbol_rules : List ObjectValue → List {1} (Ruled Site)
+link_symbol_rules fs = rule 6 (bad_symbol fs) ∷ rule 7 (bad_common fs) ∷ []

@@ -9,8 +9,8 @@ pub record AreEach {A : Type 0} (none : A) (P : ℕ → A → Type 0) (n : ℕ) 
   pub each : (k : ℕ) → k < n → P k (get_or items k none)
 
 -- a list of sites has this one; no site stands in it twice
-abbrev pub IsIn : List Site → Site → Type 0
-IsIn ps p = (k : ℕ) × (k < length ps) × (site_at ps k ≡ p)
+abbrev pub IsSiteIn : List Site → Site → Type 0
+IsSiteIn ps p = (k : ℕ) × (k < length ps) × (site_at ps k ≡ p)
 
 -- each two sites of a list, the earlier one first
 abbrev pub Pairs : (Site → Site → Type 0) → List Site → Type 0

@@ -2,9 +2,9 @@
 //! Groups).
 ghost use Rattle.std.specs.Prelude.{◌≡◌, ℕ, ◌+◌, ◌<◌, List, IfOk, OnOk, length, map, not, true, if◌then◌else◌, slice_index};
 ghost use Rattle.std.specs.Str.{bytes_eq};
-ghost use Rattle.elf_link_files.specs.Discarded.{AreMarks};
+ghost use Rattle.elf_link_files.specs.Discarded.{AreDiscardMarks};
 ghost use Rattle.elf_link_files.specs.Files.{object_at, section_in};
-ghost use Rattle.elf_link_files.specs.Marking.{AreMarked, AreMarksBefore, HasSeen, has_name};
+ghost use Rattle.elf_link_files.specs.Marking.{AreMarksBefore, AreMembersMarked, HasSeen, has_name};
 ghost use Rattle.elf_object_type.specs.Positions.{members_of};
 
 use crate::files::{keeps_rules, section_count, section_of};
@@ -26,7 +26,7 @@ fn mark_members(objects: &[Object<'_>], file: usize, index: usize, marks: &mut V
     requires file { file < length objects.now }
     requires index { index < length (object_at objects.now file).sections }
     requires marks { length marks.old.items ≡ length (object_at objects.now file).sections }
-    ensures { AreMarked marks.old.items (members_of (section_in objects.now file index).body) (length (members_of (section_in objects.now file index).body)) marks.new.items }
+    ensures { AreMembersMarked marks.old.items (members_of (section_in objects.now file index).body) (length (members_of (section_in objects.now file index).body)) marks.new.items }
 {
     keeps_rules(objects, file);
     let Body::Group { members, .. } = &section_of(objects, file, index).body else {
@@ -84,7 +84,7 @@ fn marks_in<'a>(
 
 /// A mark for each section of each file: whether it is discarded. It takes n log n comparisons of signatures.
 pub fn discarded(alloc: Global, objects: &[Object<'_>]) -> Result<Vec<Vec<bool>>, AllocError>
-    ensures { IfOk result (λ marks. AreMarks objects.now (map (λ row. row.items) marks.items)) }
+    ensures { IfOk result (λ marks. AreDiscardMarks objects.now (map (λ row. row.items) marks.items)) }
 {
     let mut seen = BTreeSet::new(alloc);
     let mut marks = Vec::new(alloc);

@@ -1,7 +1,8 @@
 //! Why objects can't be linked.
 ghost use Rattle.std.specs.Prelude.{◌≡◌};
 
-use crate::site::Broken;
+use crate::site::Site;
+use elf_image_rules::Broken;
 use std::alloc::AllocError;
 
 /// The first of the link's rules ([`rules`](crate::rules)) that stands, or want of memory.
@@ -29,17 +30,17 @@ impl From<AllocError> for LinkFault {
     }
 }
 
-impl From<Broken> for LinkFault {
+impl From<Broken<Site>> for LinkFault {
     ghost use Rattle.elf_link_files.specs.declared.fault.LinkFault.TheVariants.{Rule};
 
-    ghost from_gives = { λ broken fault. fault ≡ Rule broken.rule broken.site.file broken.site.index broken.site.entry };
+    ghost from_gives = { λ broken fault. fault ≡ Rule broken.rule broken.at.file broken.at.index broken.at.entry };
 
-    fn from(broken: Broken) -> LinkFault {
+    fn from(broken: Broken<Site>) -> LinkFault {
         LinkFault::Rule {
             rule: broken.rule,
-            file: broken.site.file,
-            index: broken.site.index,
-            entry: broken.site.entry,
+            file: broken.at.file,
+            index: broken.at.index,
+            entry: broken.at.entry,
         }
     }
 }

@@ -16,6 +16,7 @@ pub mod site_test;
 pub mod symbol_tests;
 
 pub use chosen::Chosen;
+pub use elf_image_rules::Broken;
 pub use fault::LinkFault;
 pub use options::Options;
-pub use site::{Broken, Site, is_at, site_in};
+pub use site::{Site, is_at, site_in};

@@ -17,7 +17,7 @@ pub const BAD_COMMON: u16 = 7;
 /// A global definition stands behind another of its name.
 pub const TWO_DEFINITIONS: u16 = 8;
 /// A global symbol counts as undefined, and its name has no binding.
-pub const UNDEFINED: u16 = 9;
+pub const UNDEFINED_NAME: u16 = 9;
 /// The entry symbol is not bound, zero, in a section that is not live, or at 2^64 or later.
 pub const NO_ENTRY: u16 = 10;
 /// A section or common ends at 2^64 or later, counted behind its last byte.

@@ -1,6 +1,6 @@
 //! What a section is to the link, where the marks tell which are discarded.
 ghost use Rattle.std.specs.Prelude.{◌≡◌, ◌↔◌, ◌<◌, IsTrue, MatchOption, length, map};
-ghost use Rattle.elf_link_files.specs.Discarded.{AreMarks, Discarded, IsComdat, is_comdat as is_comdat_of, signature, signature_position as signature_position_of};
+ghost use Rattle.elf_link_files.specs.Discarded.{AreDiscardMarks, Discarded, IsComdat, is_comdat as is_comdat_of, signature, signature_position as signature_position_of};
 ghost use Rattle.elf_link_files.specs.FileRules.{HasEmptySignature, IsLiveWith};
 ghost use Rattle.elf_link_files.specs.Files.{object_at};
 ghost use Rattle.elf_link_files.specs.Live.{Live, is_loadable as is_loadable_of};
@@ -21,7 +21,7 @@ fn is_loadable(body: &Body<'_>) -> bool
 pub fn is_discarded(objects: &[Object<'_>], marks: &[Vec<bool>], file: usize, index: usize) -> bool
     requires file { file < length objects.now }
     requires index { index < length (object_at objects.now file).sections }
-    requires marks { AreMarks objects.now (map (λ row. row.items) marks.now) }
+    requires marks { AreDiscardMarks objects.now (map (λ row. row.items) marks.now) }
     ensures { IsTrue result ↔ Discarded objects.now file index }
 {
     marks[file][index]
@@ -31,7 +31,7 @@ pub fn is_discarded(objects: &[Object<'_>], marks: &[Vec<bool>], file: usize, in
 pub fn is_live(objects: &[Object<'_>], marks: &[Vec<bool>], file: usize, index: usize) -> bool
     requires file { file < length objects.now }
     requires index { index < length (object_at objects.now file).sections }
-    requires marks { AreMarks objects.now (map (λ row. row.items) marks.now) }
+    requires marks { AreDiscardMarks objects.now (map (λ row. row.items) marks.now) }
     ensures { IsTrue result ↔ Live objects.now file index }
 {
     let section = section_of(objects, file, index);
@@ -49,7 +49,7 @@ pub(crate) fn is_live_with(
 ) -> bool
     requires file { file < length objects.now }
     requires index { index < length (object_at objects.now file).sections }
-    requires marks { AreMarks objects.now (map (λ row. row.items) marks.now) }
+    requires marks { AreDiscardMarks objects.now (map (λ row. row.items) marks.now) }
     ensures { IsTrue result ↔ IsLiveWith flag objects.now file index }
 {
     let flagged = section_of(objects, file, index).flags & flag != 0;

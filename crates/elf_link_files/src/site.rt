@@ -1,7 +1,7 @@
 //! Where a rule of the link stands.
 ghost use Rattle.std.specs.Prelude.{◌≡◌, ◌↔◌, IsTrue};
 
-/// A place in the files of a link at which a rule may stand: a file, a section or symbol of it, and an entry of a relocation
+/// Where a rule may stand in the files of a link: a file, a section or symbol of it, and an entry of a relocation
 /// section. What a rule does not look at is 0. Of two sites the one in the earlier file comes first, in one file the one of the
 /// lower index, and there the one of the lower entry.
 #[derive(Clone, Copy, Debug, PartialEq, Eq)]
@@ -12,24 +12,6 @@ pub struct Site {
     pub index: usize,
     /// The position of the entry in the relocation section, from 0.
     pub entry: usize,
-}
-
-/// A rule of a link that stands, and the first site where it does. A [`LinkFault`](crate::LinkFault) is made from it by `?`.
-#[derive(Clone, Copy, Debug, PartialEq, Eq)]
-pub struct Broken {
-    /// The number of the rule; those of the map are in [`rules`](crate::rules).
-    pub rule: u16,
-    /// The first site at which it stands.
-    pub site: Site,
-}
-
-impl Broken {
-    /// The rule of this number, at this site.
-    pub fn new(rule: u16, site: Site) -> Broken
-        ensures { result ≡ record { rule = rule; site = site } }
-    {
-        Broken { rule, site }
-    }
 }
 
 /// The site of a section or symbol of a file.

@@ -1,9 +1,10 @@
 //! The first section or symbol that breaks a rule by itself, over all files.
 ghost use Rattle.std.specs.Prelude.{◌≡◌, ◌↔◌, ◌<◌, IsTrue, MatchOption, length, map};
-ghost use Rattle.elf_link_files.specs.Discarded.{AreMarks};
+ghost use Rattle.elf_link_files.specs.Discarded.{AreDiscardMarks};
 ghost use Rattle.elf_link_files.specs.Files.{object_at};
-ghost use Rattle.elf_link_files.specs.Rows.{IsFirstAt, Nowhere};
-ghost use Rattle.elf_link_files.specs.SiteTests.{Breaks, HasNoneIn, IsFirstIn, counted, row_of};
+ghost use Rattle.elf_extent.specs.Least.{Never};
+ghost use Rattle.elf_link_files.specs.Rows.{IsFirstAt};
+ghost use Rattle.elf_link_files.specs.SiteTests.{BreaksSiteTest, HasNoneIn, IsFirstIn, counted, row_of};
 
 use crate::files::{section_count, symbol_count};
 use crate::section_tests::{has_empty_signature, is_live_with};
@@ -48,8 +49,8 @@ impl SiteTest {
     ) -> bool
         requires file { file < length objects.now }
         requires index { index < counted self.now (object_at objects.now file) }
-        requires marks { AreMarks objects.now (map (λ row. row.items) marks.now) }
-        ensures { IsTrue result ↔ Breaks objects.now self.now file index }
+        requires marks { AreDiscardMarks objects.now (map (λ row. row.items) marks.now) }
+        ensures { IsTrue result ↔ BreaksSiteTest objects.now self.now file index }
     {
         match self {
             SiteTest::Tls => is_live_with(SHF_TLS, objects, marks, file, index),
@@ -69,7 +70,7 @@ fn first_in_file(
     file: usize,
 ) -> Option<usize>
     requires file { file < length objects.now }
-    requires marks { AreMarks objects.now (map (λ row. row.items) marks.now) }
+    requires marks { AreDiscardMarks objects.now (map (λ row. row.items) marks.now) }
     ensures { MatchOption result (HasNoneIn objects.now test.now file) (IsFirstIn objects.now test.now file) }
 {
     for index in 0..test.count(&objects[file]) {
@@ -82,8 +83,8 @@ fn first_in_file(
 
 /// The first site that breaks the rule, by file and position.
 pub fn first_site(test: &SiteTest, objects: &[Object<'_>], marks: &[Vec<bool>]) -> Option<Site>
-    requires marks { AreMarks objects.now (map (λ row. row.items) marks.now) }
-    ensures { MatchOption result (Nowhere (row_of objects.now test.now)) (IsFirstAt (row_of objects.now test.now)) }
+    requires marks { AreDiscardMarks objects.now (map (λ row. row.items) marks.now) }
+    ensures { MatchOption result (Never (row_of objects.now test.now)) (IsFirstAt (row_of objects.now test.now)) }
 {
     for file in 0..objects.len() {
         if let Some(index) = first_in_file(test, objects, marks, file) {

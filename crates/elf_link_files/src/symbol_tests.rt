@@ -1,6 +1,6 @@
 //! What a symbol is to the link (gABI chapter 4, Symbol Table).
 ghost use Rattle.std.specs.Prelude.{◌≡◌, ◌↔◌, ◌<◌, IsTrue, length, map};
-ghost use Rattle.elf_link_files.specs.Discarded.{AreMarks};
+ghost use Rattle.elf_link_files.specs.Discarded.{AreDiscardMarks};
 ghost use Rattle.elf_link_files.specs.FileRules.{IsBadCommon, IsBadSymbol, IsNoPower};
 ghost use Rattle.elf_link_files.specs.Files.{object_at, symbol_in};
 ghost use Rattle.elf_link_files.specs.Symbols.{IsCommon, IsDefinedAt, IsDefinition, IsEntry, IsNotWeak, is_common as is_common_of};
@@ -81,7 +81,7 @@ pub fn is_not_weak(name: &[u8], objects: &[Object<'_>], file: usize, index: usiz
 fn is_defined_at(objects: &[Object<'_>], marks: &[Vec<bool>], file: usize, place: Place) -> bool
     requires file { file < length objects.now }
     requires place { IsPlaceIn (object_at objects.now file) place }
-    requires marks { AreMarks objects.now (map (λ row. row.items) marks.now) }
+    requires marks { AreDiscardMarks objects.now (map (λ row. row.items) marks.now) }
     ensures { IsTrue result ↔ IsDefinedAt objects.now file place }
 {
     match place {
@@ -102,7 +102,7 @@ pub fn is_definition(
 ) -> bool
     requires file { file < length objects.now }
     requires index { index < length (object_at objects.now file).symbols }
-    requires marks { AreMarks objects.now (map (λ row. row.items) marks.now) }
+    requires marks { AreDiscardMarks objects.now (map (λ row. row.items) marks.now) }
     ensures { IsTrue result ↔ IsDefinition bound objects.now name.now file index }
 {
     keeps_rules(objects, file);

@@ -20,7 +20,7 @@ use Rattle.elf_link_outputs.specs.Outputs.{live, part_of, raised}
 use Rattle.elf_link_outputs.specs.Plan.{AreOutputs, common_part, flat, output_parts, parts_of, placed}
 use Rattle.elf_link_outputs.proofs.Public.{members_live, parts_long, all_flat}
 use Rattle.elf_link_map.specs.Apart.{BeginsAt, StandApart, size_in}
-use Rattle.elf_link_map.specs.LinkMap.{IsLinkMap, IsMapOf, IsPlaced, LinkMapValue, LinkPlan, link_parts}
+use Rattle.elf_link_map.specs.LinkMap.{IsLinkMap, IsLinkPlan, IsMapOf, LinkMapValue, LinkPlan, link_parts}
 
 -- ---- the sizes of the parts
 
@@ -82,7 +82,7 @@ record StandsAt (l : LinkPlan) (f s a k : ℕ) : Type 0 where
 placed_live : (fs : List ObjectValue) (oss : List (List Site)) → AreOutputs fs oss → (k : ℕ) → k < length (flat oss) → live fs (site_at (flat oss) k)
 placed_live fs oss (ps, openers, mem) = all_flat (live fs) oss (λ i lt. members_live fs ps oss i mem lt)
 
-stands : (opt : Options) (fs : List ObjectValue) (l : LinkPlan) (m : LinkMapValue) (f s a : ℕ) → IsPlaced opt fs l → IsMapOf opt fs l m →
+stands : (opt : Options) (fs : List ObjectValue) (l : LinkPlan) (m : LinkMapValue) (f s a : ℕ) → IsLinkPlan opt fs l → IsMapOf opt fs l m →
     BeginsAt m f s a → (k : ℕ) × StandsAt l f s a k
 stands opt fs l m f s a is of at =
     let (k, lt, file, index) = of.addresses.only f s a at in
@@ -112,7 +112,7 @@ in_parts opt fs l f s a k at =
     omega arith
 
 -- of two sections the one that is placed first ends where the other begins, or before
-ends_before : (opt : Options) (fs : List ObjectValue) (l : LinkPlan) (f s a j g t b k : ℕ) → IsPlaced opt fs l → StandsAt l f s a j → StandsAt l g t b k →
+ends_before : (opt : Options) (fs : List ObjectValue) (l : LinkPlan) (f s a j g t b k : ℕ) → IsLinkPlan opt fs l → StandsAt l f s a j → StandsAt l g t b k →
     j < k → a + size_in fs f s ≤ b
 ends_before opt fs l f s a j g t b k is first second lt =
     let above = above_earlier (link_parts fs opt l) opt.base l.places j k is.least.fits lt (in_parts opt fs l g t b k second) in

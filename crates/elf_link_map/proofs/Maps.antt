@@ -10,7 +10,7 @@ use Rattle.elf_link_files.specs.declared.fault.LinkFault.TheVariants.{Rule, OutO
 use Rattle.elf_link_files.specs.declared.options.Options.{Options}
 use Rattle.elf_link_files.specs.declared.site.Site.{Site}
 use Rattle.elf_link_files.specs.FileRules.{option_rules}
-use Rattle.elf_link_files.specs.Rows.{FirstIn}
+use Rattle.elf_link_files.specs.Rows.{FirstAmong}
 use Rattle.elf_link_names.specs.LinkRules.{input_rules}
 use Rattle.elf_link_names.specs.ChosenCommons.{AreChosen}
 use Rattle.elf_link_outputs.specs.declared.addresses.Target.{Target}
@@ -18,17 +18,17 @@ use Rattle.elf_link_outputs.specs.AddressFault.{IsAddressFault}
 use Rattle.elf_link_outputs.specs.Addresses.{IsTarget, IsTargetBelow}
 use Rattle.elf_link_outputs.specs.Plan.{AreOutputs, flat, parts_of}
 use Rattle.elf_link_outputs.proofs.Public.{parts_long}
-use Rattle.elf_link_map.specs.Entry.{IsEntryTarget}
+use Rattle.elf_link_map.specs.Entry.{IsEntrySymbolTarget}
 use Rattle.elf_link_map.specs.LinkFaults.{IsLinkFault}
-use Rattle.elf_link_map.specs.LinkMap.{IsPlaced, LinkPlan}
+use Rattle.elf_link_map.specs.LinkMap.{IsLinkPlan, LinkPlan}
 
 -- a plan with its target, and some places
 abbrev pub link_plan : List (List Site) → List Chosen → Target → List ℕ → LinkPlan
 link_plan oss cs target places = record { plan = record { outputs = oss; commons = cs }; places = places; target = target }
 
 pub is_placed : (opt : Options) (fs : List ObjectValue) (oss : List (List Site)) (cs : List Chosen) (target : Target) (places : List ℕ) → AreOutputs fs oss →
-    AreChosen fs cs → IsEntryTarget fs (flat oss) cs opt.entry target → Least (parts_of fs opt.page (record { outputs = oss; commons = cs })) opt.base places →
-    IsPlaced opt fs (link_plan oss cs target places)
+    AreChosen fs cs → IsEntrySymbolTarget fs (flat oss) cs opt.entry target → Least (parts_of fs opt.page (record { outputs = oss; commons = cs })) opt.base places →
+    IsLinkPlan opt fs (link_plan oss cs target places)
 is_placed opt fs oss cs target places outputs chosen is least = record {
   plan = record { outputs = outputs; commons = chosen };
   target = is;
@@ -40,7 +40,7 @@ pub target_below : (fs : List ObjectValue) (page : ℕ) (oss : List (List Site))
 target_below fs page oss cs target below = subst (λ (n : ℕ). IsTargetBelow n target) (sym (parts_long fs page oss cs)) below
 
 pub fault_of : (opt : Options) (fs : List ObjectValue) (oss : List (List Site)) (cs : List Chosen) (target : Target) (fault : LinkFault) →
-    FirstIn (input_rules opt fs) None → FirstIn (option_rules opt fs) None → AreOutputs fs oss → AreChosen fs cs → IsEntryTarget fs (flat oss) cs opt.entry target →
+    FirstAmong (input_rules opt fs) None → FirstAmong (option_rules opt fs) None → AreOutputs fs oss → AreChosen fs cs → IsEntrySymbolTarget fs (flat oss) cs opt.entry target →
     IsAddressFault (parts_of fs opt.page (record { outputs = oss; commons = cs })) opt.base target fault → IsLinkFault opt fs fault
 fault_of opt fs oss cs target (Rule number file index entry) clean options outputs chosen is first =
     let (places, least) = least_places (parts_of fs opt.page (record { outputs = oss; commons = cs })) opt.base in

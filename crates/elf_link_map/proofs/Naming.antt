@@ -8,7 +8,7 @@ use Rattle.std.proofs.lemmas.Slice.Eq.{bytes_eq-Decides}
 use Rattle.elf_object_type.specs.Object.{ObjectValue}
 use Rattle.elf_link_files.specs.declared.site.Site.{Site}
 use Rattle.elf_link_files.specs.Listing.{Lists, site_at, name_at}
-use Rattle.elf_link_files.specs.Rows.{Nowhere}
+use Rattle.elf_extent.specs.Least.{Never}
 use Rattle.elf_link_files.proofs.Public.{same_name, match_map, not_true}
 use Rattle.elf_link_names.specs.Binds.{entries}
 use Rattle.elf_link_names.specs.Listing.{first_entries}
@@ -17,9 +17,9 @@ use Rattle.elf_link_names.proofs.Public.{names_once, entry_listed}
 use Rattle.elf_link_outputs.specs.Placed.{CommonValue}
 use Rattle.elf_link_map.specs.declared.bindings.Binding.{Binding}
 use Rattle.elf_link_map.specs.declared.names.Named.{Named}
-use Rattle.elf_link_map.specs.LinkMap.{AreBindings, AreNames, IsBinding, IsNamed, bound_in, no_name}
+use Rattle.elf_link_map.specs.LinkMap.{AreBindings, AreNames, IsBinding, IsCommonNamed, bound_in, no_name}
 use Rattle.elf_link_map.specs.LinkMapView.{named_value}
-use Rattle.elf_link_map.specs.Naming.{AreCommonPositionsBelow, AreNamedAt, ArePositions}
+use Rattle.elf_link_map.specs.Naming.{AreBindingPositions, AreCommonPositionsBelow, AreNamedAt}
 
 -- ---- what a list has of a name
 
@@ -54,7 +54,7 @@ bound_nowhere fs cs ps bs name named none =
     bound_never bs name (λ j below same. none j (omega arith) (sym (named.each j (omega arith)).0 ∙ same))
 
 pub positions_are : (fs : List ObjectValue) (cs : List CommonValue) (ps : List Site) (bs : List (List ℕ × Binding)) (position : List ℕ → Option ℕ) →
-    Lists (first_entries fs) ps → AreNamedAt fs cs ps (length ps) bs → ArePositionsOf fs ps (length ps) position → ArePositions bs position
+    Lists (first_entries fs) ps → AreNamedAt fs cs ps (length ps) bs → ArePositionsOf fs ps (length ps) position → AreBindingPositions bs position
 positions_are fs cs ps bs position are named at name =
     let count = named.count in
     match_map (position name) _ (bound_in bs name ≡ None) _ (λ k. (k < length bs) × (bound_in bs name ≡ Some (get_or bs k no_name).1))
@@ -64,12 +64,12 @@ positions_are fs cs ps bs position are named at name =
 bound_by : (fs : List ObjectValue) (cs : List CommonValue) (ps : List Site) (bs : List (List ℕ × Binding)) (name : List ℕ) (o : Option ℕ) →
     Lists (first_entries fs) ps → AreNamedAt fs cs ps (length ps) bs →
     MatchOption o ((k : ℕ) → k < length ps → name_at fs (site_at ps k) ≡ name → ⊥) (λ k. (k < length ps) × (name_at fs (site_at ps k) ≡ name)) →
-    MatchOption (bound_in bs name) (Nowhere (entries fs name)) (IsBinding fs cs name)
+    MatchOption (bound_in bs name) (Never (entries fs name)) (IsBinding fs cs name)
 bound_by fs cs ps bs name None are named none =
-    subst (λ (b : Option Binding). MatchOption b (Nowhere (entries fs name)) (IsBinding fs cs name)) (sym (bound_nowhere fs cs ps bs name named none))
+    subst (λ (b : Option Binding). MatchOption b (Never (entries fs name)) (IsBinding fs cs name)) (sym (bound_nowhere fs cs ps bs name named none))
     (λ p there. (let (k, lt, is) = entry_listed fs ps name p are there in none k lt is))
 bound_by fs cs ps bs name (Some k) are named (lt, is) =
-    subst (λ (b : Option Binding). MatchOption b (Nowhere (entries fs name)) (IsBinding fs cs name)) (sym (bound_here fs cs ps bs name k are named lt is))
+    subst (λ (b : Option Binding). MatchOption b (Never (entries fs name)) (IsBinding fs cs name)) (sym (bound_here fs cs ps bs name k are named lt is))
     (subst (λ (n : List ℕ). IsBinding fs cs n (get_or bs k no_name).1) is (named.each k lt).1)
 
 pub bindings_are : (fs : List ObjectValue) (cs : List CommonValue) (ps : List Site) (bs : List (List ℕ × Binding)) (position : List ℕ → Option ℕ) →
@@ -89,12 +89,12 @@ names_are fs cs ps bs are named = (ps, are, names_same fs bs ps named.count (λ 
 
 -- ---- a name is looked up
 
-pub position_found : (bs : List (List ℕ × Binding)) (position : List ℕ → Option ℕ) (name : List ℕ) (k : ℕ) → position name ≡ Some k → ArePositions bs position →
+pub position_found : (bs : List (List ℕ × Binding)) (position : List ℕ → Option ℕ) (name : List ℕ) (k : ℕ) → position name ≡ Some k → AreBindingPositions bs position →
     (k < length bs) × (bound_in bs name ≡ Some (get_or bs k no_name).1)
 position_found bs position name k at are =
     subst (λ (o : Option ℕ). MatchOption o (bound_in bs name ≡ None) (λ j. (j < length bs) × (bound_in bs name ≡ Some (get_or bs j no_name).1))) at (are name)
 
-pub position_absent : (bs : List (List ℕ × Binding)) (position : List ℕ → Option ℕ) (name : List ℕ) → position name ≡ None → ArePositions bs position →
+pub position_absent : (bs : List (List ℕ × Binding)) (position : List ℕ → Option ℕ) (name : List ℕ) → position name ≡ None → AreBindingPositions bs position →
     bound_in bs name ≡ None
 position_absent bs position name at are =
     subst (λ (o : Option ℕ). MatchOption o (bound_in bs name ≡ None) (λ j. (j < length bs) × (bound_in bs name ≡ Some (get_or bs j no_name).1))) at (are name)
@@ -104,17 +104,17 @@ binding_at ns k d lt = ap (λ (e : List ℕ × Binding). e.1) (get_or-map named_
 
 -- ---- commons by name
 
-pub commons_more : (cs : List CommonValue) (n : ℕ) (m : List ℕ) (old now : List ℕ → Option ℕ) → IsNamed cs m n →
+pub commons_more : (cs : List CommonValue) (n : ℕ) (m : List ℕ) (old now : List ℕ → Option ℕ) → IsCommonNamed cs m n →
     ((q : List ℕ) → now q ≡ (if bytes_eq m q then Some n else old q)) → AreCommonPositionsBelow cs n old → AreCommonPositionsBelow cs (n + 1) now
 commons_more cs n m old now here added are name = elim (same_name m name) [
-  | inl same ↦ subst (λ (o : Option ℕ). MatchOption o ((k : ℕ) → k < n + 1 → IsNamed cs name k → ⊥) (IsNamed cs name))
+  | inl same ↦ subst (λ (o : Option ℕ). MatchOption o ((k : ℕ) → k < n + 1 → IsCommonNamed cs name k → ⊥) (IsCommonNamed cs name))
       (sym (added name ∙ ap (λ (t : Bool). if t then Some n else old name) ((bytes_eq-Decides m name).1 same))) (here.0, here.1 ∙ same)
-  | inr other ↦ subst (λ (o : Option ℕ). MatchOption o ((k : ℕ) → k < n + 1 → IsNamed cs name k → ⊥) (IsNamed cs name))
+  | inr other ↦ subst (λ (o : Option ℕ). MatchOption o ((k : ℕ) → k < n + 1 → IsCommonNamed cs name k → ⊥) (IsCommonNamed cs name))
       (sym (added name ∙ ap (λ (t : Bool). if t then Some n else old name) (not_true (bytes_eq m name) (λ equal. other ((bytes_eq-Decides m name).0 equal)))))
-      (match_map (old name) _ ((k : ℕ) → k < n + 1 → IsNamed cs name k → ⊥) _ (IsNamed cs name)
+      (match_map (old name) _ ((k : ℕ) → k < n + 1 → IsCommonNamed cs name k → ⊥) _ (IsCommonNamed cs name)
       (λ none k lt is. elim (cases_lt k n) [
         | inl below ↦ none k below is
-        | inr above ↦ (let same : k ≡ n = omega arith in other (sym here.1 ∙ (subst (IsNamed cs name) same is).1))
+        | inr above ↦ (let same : k ≡ n = omega arith in other (sym here.1 ∙ (subst (IsCommonNamed cs name) same is).1))
       ])
       (λ k is. is) (are name))
 ]

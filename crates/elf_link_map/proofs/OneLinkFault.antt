@@ -1,10 +1,10 @@
 -- A link has at most one answer: the first rule that stands, or that none does.
-use Rattle.std.proofs.Common.{◌≡◌, List, inl, inr, refl, subst}
+use Rattle.std.proofs.Common.{◌≡◌, ℕ, List, inl, inr, refl, subst}
 use Rattle.std.specs.Prelude.{Option, None, Some}
 use Rattle.elf_object_type.specs.Object.{ObjectValue}
 use Rattle.elf_link_files.specs.declared.options.Options.{Options}
-use Rattle.elf_link_files.specs.declared.site.Broken.{Broken}
-use Rattle.elf_link_files.specs.Rows.{FirstIn}
+use Rattle.elf_link_files.specs.declared.site.Site.{Site}
+use Rattle.elf_link_files.specs.Rows.{FirstAmong}
 use Rattle.elf_link_files.proofs.Public.{one_found}
 use Rattle.elf_link_names.specs.LinkRules.{input_rules}
 use Rattle.elf_link_outputs.specs.Addresses.{address_rules}
@@ -12,15 +12,15 @@ use Rattle.elf_link_map.specs.LinkFaults.{FirstOfAddresses, FirstOfLink}
 use Rattle.elf_link_map.specs.LinkMap.{LinkPlan, link_parts}
 use Rattle.elf_link_map.proofs.OnePlan.{one_link_plan}
 
-one_of_addresses : (opt : Options) (fs : List ObjectValue) (a b : Option Broken) → FirstOfAddresses opt fs a → FirstOfAddresses opt fs b → a ≡ b
+one_of_addresses : (opt : Options) (fs : List ObjectValue) (a b : Option (ℕ × Site)) → FirstOfAddresses opt fs a → FirstOfAddresses opt fs b → a ≡ b
 one_of_addresses opt fs a b (l, is, found) (k, are, other) =
     one_found (address_rules (link_parts fs opt l) opt.base l.target) a b found
-    (subst (λ (n : LinkPlan). FirstIn (address_rules (link_parts fs opt n) opt.base n.target) b) (one_link_plan opt fs k l are is) other)
+    (subst (λ (n : LinkPlan). FirstAmong (address_rules (link_parts fs opt n) opt.base n.target) b) (one_link_plan opt fs k l are is) other)
 
-none_some : (b : Broken) → ◌≡◌ {A = Option Broken} None (Some b) → ⊥
+none_some : (b : ℕ × Site) → ◌≡◌ {A = Option (ℕ × Site)} None (Some b) → ⊥
 none_some b e = cc
 
-pub one_link_fault : (opt : Options) (fs : List ObjectValue) (a b : Option Broken) → FirstOfLink opt fs a → FirstOfLink opt fs b → a ≡ b
+pub one_link_fault : (opt : Options) (fs : List ObjectValue) (a b : Option (ℕ × Site)) → FirstOfLink opt fs a → FirstOfLink opt fs b → a ≡ b
 one_link_fault opt fs None None p q = refl
 one_link_fault opt fs None (Some b) p (inl here) = one_found (input_rules opt fs) None (Some b) p.0 here
 one_link_fault opt fs None (Some b) p (inr later) = one_of_addresses opt fs None (Some b) p.1 later.1

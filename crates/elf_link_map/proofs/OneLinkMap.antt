@@ -7,12 +7,12 @@ use Rattle.elf_object_type.specs.Object.{ObjectValue}
 use Rattle.elf_link_files.specs.declared.chosen.Chosen.{Chosen}
 use Rattle.elf_link_files.specs.declared.options.Options.{Options}
 use Rattle.elf_link_files.specs.declared.site.Site.{Site}
-use Rattle.elf_link_files.specs.Discarded.{AreMarks, Discarded, mark}
+use Rattle.elf_link_files.specs.Discarded.{AreDiscardMarks, Discarded, mark}
 use Rattle.elf_link_files.specs.Files.{object_at}
 use Rattle.elf_link_files.specs.Listing.{Lists, site, site_at, name_at}
 use Rattle.elf_link_files.specs.Commons.{chosen_at}
-use Rattle.elf_link_files.specs.Rows.{Nowhere}
-use Rattle.elf_link_files.proofs.Public.{one_each, one_list}
+use Rattle.elf_extent.specs.Least.{Never}
+use Rattle.elf_link_files.proofs.Public.{one_each, one_site_list}
 use Rattle.elf_link_names.specs.declared.choice.Choice.{Choice}
 use Rattle.elf_link_names.specs.declared.choice.Choice.TheVariants.{Strong as StrongChoice, Common as CommonChoice, Weak as WeakChoice, Zero as ZeroChoice}
 use Rattle.elf_link_names.specs.Binds.{Binds, entries}
@@ -21,12 +21,12 @@ use Rattle.elf_link_names.specs.Listing.{first_entries}
 use Rattle.elf_link_names.proofs.Public.{names_once, one_choice, one_common}
 use Rattle.elf_link_outputs.specs.declared.addresses.Target.{Target}
 use Rattle.elf_link_outputs.specs.declared.output.Member.{Member}
-use Rattle.elf_link_outputs.specs.Addresses.{HasValue, value_at}
+use Rattle.elf_link_outputs.specs.Addresses.{HasValue, target_value}
 use Rattle.elf_link_outputs.specs.Placed.{AreAddresses, ArePlacedCommons, ArePlacedOutputs, CommonValue, IsOutput, OutputValue, cell, common_at, members_at, no_output, no_placed, placed_common, start_of}
 use Rattle.elf_link_outputs.specs.Plan.{placed}
 use Rattle.elf_link_map.specs.declared.bindings.Binding.{Binding}
 use Rattle.elf_link_map.specs.declared.bindings.Binding.TheVariants.{Strong, Common, Weak, Zero}
-use Rattle.elf_link_map.specs.LinkMap.{AreBindings, AreNames, IsBinding, IsLinkMap, IsMapOf, IsNamed, IsPlaced, LinkMapValue, LinkPlan, link_parts, no_name}
+use Rattle.elf_link_map.specs.LinkMap.{AreBindings, AreNames, IsBinding, IsCommonNamed, IsLinkMap, IsLinkPlan, IsMapOf, LinkMapValue, LinkPlan, link_parts, no_name}
 use Rattle.elf_link_map.proofs.Naming.{bound_first}
 use Rattle.elf_link_map.proofs.OnePlan.{one_link_plan}
 
@@ -52,7 +52,7 @@ one_mark P true false one other = sym (other.1 (one.0 refl))
 one_mark P false true one other = one.1 (other.0 refl)
 one_mark P false false one other = refl
 
-one_discarded : (fs : List ObjectValue) (marks others : List (List Bool)) → AreMarks fs marks → AreMarks fs others → marks ≡ others
+one_discarded : (fs : List ObjectValue) (marks others : List (List Bool)) → AreDiscardMarks fs marks → AreDiscardMarks fs others → marks ≡ others
 one_discarded fs marks others one other = ext_get_or [] marks others (one.files ∙ sym other.files) (λ f lt. (
     let within : f < length fs = (let files = one.files in omega arith) in
     ext_get_or false (get_or marks f []) (get_or others f []) (one.long f within ∙ sym (other.long f within))
@@ -98,13 +98,13 @@ one_commons fs cs places first vs ws one other =
 
 -- the common that has a name is the chosen one
 common_of : (fs : List ObjectValue) (cs : List Chosen) (places : List ℕ) (first : ℕ) (vs : List CommonValue) (name : List ℕ) (k : ℕ) →
-    ArePlacedCommons fs cs places first (length cs) vs → IsNamed vs name k → IsCommonOf fs cs name k
+    ArePlacedCommons fs cs places first (length cs) vs → IsCommonNamed vs name k → IsCommonOf fs cs name k
 common_of fs cs places first vs name k are (lt, named) =
     let within : k < length cs = (let count = are.count in omega arith) in
     (within, ap (λ (v : CommonValue). v.name) (sym (are.each k within)) ∙ named)
 
 one_named : (fs : List ObjectValue) (cs : List Chosen) (places : List ℕ) (first : ℕ) (vs : List CommonValue) (name : List ℕ) (j k : ℕ) → AreChosen fs cs →
-    ArePlacedCommons fs cs places first (length cs) vs → IsNamed vs name j → IsNamed vs name k → j ≡ k
+    ArePlacedCommons fs cs places first (length cs) vs → IsCommonNamed vs name j → IsCommonNamed vs name k → j ≡ k
 one_named fs cs places first vs name j k chosen are one other =
     one_common fs cs name j k chosen (common_of fs cs places first vs name j are one) (common_of fs cs places first vs name k are other)
 
@@ -143,7 +143,7 @@ same_choice : (fs : List ObjectValue) (vs : List CommonValue) (name : List ℕ) 
     choice_of b ≡ choice_of c
 same_choice fs vs name b c one other = one_choice fs name (choice_of b) (choice_of c) (binds_choice fs vs name b one) (binds_choice fs vs name c other)
 
-one_binding : (fs : List ObjectValue) (vs : List CommonValue) (name : List ℕ) (b c : Binding) → ((j k : ℕ) → IsNamed vs name j → IsNamed vs name k → j ≡ k) →
+one_binding : (fs : List ObjectValue) (vs : List CommonValue) (name : List ℕ) (b c : Binding) → ((j k : ℕ) → IsCommonNamed vs name j → IsCommonNamed vs name k → j ≡ k) →
     IsBinding fs vs name b → IsBinding fs vs name c → b ≡ c
 one_binding fs vs name (Strong f s) c once one other = ap (binding_of (address_of c)) (same_choice fs vs name (Strong f s) c one other) ∙ made_again c
 one_binding fs vs name (Weak f s) c once one other = ap (binding_of (address_of c)) (same_choice fs vs name (Weak f s) c one other) ∙ made_again c
@@ -177,13 +177,13 @@ bound_here fs vs bs ps k lists whole are lt =
     let found = bound_first bs name k lt named (λ j below same. (
     let here = (name_here fs bs ps j whole (omega arith)).1 in
     names_once fs ps lists j k below within name (sym here ∙ same) refl)) in
-    subst (λ (o : Option Binding). MatchOption o (Nowhere (entries fs name)) (IsBinding fs vs name)) found (are name)
+    subst (λ (o : Option Binding). MatchOption o (Never (entries fs name)) (IsBinding fs vs name)) found (are name)
 
 one_item : (b c : List ℕ × Binding) → b.0 ≡ c.0 → b.1 ≡ c.1 → b ≡ c
 one_item b c name binding = ap (λ (n : List ℕ). (n, b.1)) name ∙ ap (λ (x : Binding). (c.0, x)) binding
 
 one_names : (fs : List ObjectValue) (vs : List CommonValue) (bs ds : List (List ℕ × Binding)) (ps : List Site) →
-    ((name : List ℕ) (j k : ℕ) → IsNamed vs name j → IsNamed vs name k → j ≡ k) → Lists (first_entries fs) ps → map (λ e. e.0) bs ≡ map (name_at fs) ps →
+    ((name : List ℕ) (j k : ℕ) → IsCommonNamed vs name j → IsCommonNamed vs name k → j ≡ k) → Lists (first_entries fs) ps → map (λ e. e.0) bs ≡ map (name_at fs) ps →
     map (λ e. e.0) ds ≡ map (name_at fs) ps → AreBindings fs vs bs → AreBindings fs vs ds → bs ≡ ds
 one_names fs vs bs ds ps once lists whole entire one other =
     let left = length-map bs (λ (e : List ℕ × Binding). e.0) in
@@ -196,19 +196,19 @@ one_names fs vs bs ds ps once lists whole entire one other =
     (bound_here fs vs bs ps k lists whole one lt) (bound_here fs vs ds ps k lists entire other within))))
 
 one_bindings : (fs : List ObjectValue) (vs : List CommonValue) (bs ds : List (List ℕ × Binding)) →
-    ((name : List ℕ) (j k : ℕ) → IsNamed vs name j → IsNamed vs name k → j ≡ k) → AreNames fs bs → AreNames fs ds → AreBindings fs vs bs →
+    ((name : List ℕ) (j k : ℕ) → IsCommonNamed vs name j → IsCommonNamed vs name k → j ≡ k) → AreNames fs bs → AreNames fs ds → AreBindings fs vs bs →
     AreBindings fs vs ds → bs ≡ ds
 one_bindings fs vs bs ds once (ps, lists, whole) (qs, others, entire) one other =
-    one_names fs vs bs ds ps once lists whole (entire ∙ ap (λ (rs : List Site). map (name_at fs) rs) (one_list (first_entries fs) qs ps others lists)) one other
+    one_names fs vs bs ds ps once lists whole (entire ∙ ap (λ (rs : List Site). map (name_at fs) rs) (one_site_list (first_entries fs) qs ps others lists)) one other
 
--- ---- the entry
+-- ---- the entry symbol
 
 same_some : (a b : ℕ) → ◌≡◌ {A = Option ℕ} (Some a) (Some b) → a ≡ b
 same_some a b e = cc
 
 one_value : (parts : List (ℕ × ℕ)) (base : ℕ) (target : Target) (x y : ℕ) → HasValue parts base target x → HasValue parts base target y → x ≡ y
 one_value parts base target x y (places, least, is, below) (others, lowest, at, under) =
-    same_some x y (sym is ∙ ap (λ (ps : List ℕ). value_at ps target) (same_least parts base places others least lowest) ∙ at)
+    same_some x y (sym is ∙ ap (λ (ps : List ℕ). target_value ps target) (same_least parts base places others least lowest) ∙ at)
 
 -- ---- all of it
 
@@ -236,7 +236,7 @@ same_map m n addresses discarded bindings outputs commons base page entry =
     ap (λ (x : ℕ). map_of n.addresses n.discarded n.bindings n.outputs n.commons n.base x m.entry) page ∙
     ap (λ (x : ℕ). map_of n.addresses n.discarded n.bindings n.outputs n.commons n.base n.page x) entry
 
-one_of_plan : (opt : Options) (fs : List ObjectValue) (l : LinkPlan) (m n : LinkMapValue) → IsPlaced opt fs l → IsMapOf opt fs l m → IsMapOf opt fs l n → m ≡ n
+one_of_plan : (opt : Options) (fs : List ObjectValue) (l : LinkPlan) (m n : LinkMapValue) → IsLinkPlan opt fs l → IsMapOf opt fs l m → IsMapOf opt fs l n → m ≡ n
 one_of_plan opt fs l m n is one other =
     let parts = link_parts fs opt l in
     let first = length (placed l.plan) in

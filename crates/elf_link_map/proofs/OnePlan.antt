@@ -1,4 +1,4 @@
--- Objects and options have at most one plan, with one entry and one list of places.
+-- Objects and options have at most one plan, with one entry symbol's target and one list of places.
 use Rattle.std.proofs.Common.{◌≡◌, ℕ, ◌+◌, List, length, inl, inr, sym, ◌∙◌, ap, subst, arith}
 use Rattle.std.specs.Prelude.{Option, None, Some}
 use Rattle.std.specs.Borrow.{Bor}
@@ -23,8 +23,8 @@ use Rattle.elf_link_outputs.specs.declared.addresses.Target.TheVariants.{Part}
 use Rattle.elf_link_outputs.specs.Outputs.{live, openers}
 use Rattle.elf_link_outputs.specs.Plan.{AreOutputs, Plan, flat}
 use Rattle.elf_link_outputs.proofs.Public.{members_live, placed_once, all_flat, one_outputs}
-use Rattle.elf_link_map.specs.Entry.{HasSite, IsChoiceTarget, IsEntryTarget, IsNameTarget, IsPlaceTarget, IsSectionTarget}
-use Rattle.elf_link_map.specs.LinkMap.{IsPlaced, LinkPlan, link_parts, IsPlan}
+use Rattle.elf_link_map.specs.Entry.{HasSite, IsChoiceTarget, IsEntrySymbolTarget, IsNameTarget, IsPlaceTarget, IsSectionTarget}
+use Rattle.elf_link_map.specs.LinkMap.{IsLinkPlan, LinkPlan, link_parts, IsPlan}
 
 one_plan : (fs : List ObjectValue) (p q : Plan) → IsPlan fs p → IsPlan fs q → p ≡ q
 one_plan fs p q one other =
@@ -48,7 +48,7 @@ one_position fs oss f s j k (ps, openers, mem) (j_in, j_file, j_index) (k_in, k_
       ]
     ]
 
--- ---- the entry
+-- ---- the entry symbol
 
 one_section_target : (fs : List ObjectValue) (oss : List (List Site)) (f s offset : ℕ) (t u : Target) → AreOutputs fs oss →
     IsSectionTarget (flat oss) f s offset t → IsSectionTarget (flat oss) f s offset u → t ≡ u
@@ -85,26 +85,26 @@ one_name_target fs oss cs name t u are chosen (inr (choice, binds, is)) (inr (an
     (subst (λ (c : Choice). IsChoiceTarget fs (flat oss) cs name c u) (one_choice fs name another choice besides binds) other)
 
 one_entry_target : (fs : List ObjectValue) (oss : List (List Site)) (cs : List Chosen) (entry : Option (Bor (List ℕ))) (t u : Target) → AreOutputs fs oss →
-    AreChosen fs cs → IsEntryTarget fs (flat oss) cs entry t → IsEntryTarget fs (flat oss) cs entry u → t ≡ u
+    AreChosen fs cs → IsEntrySymbolTarget fs (flat oss) cs entry t → IsEntrySymbolTarget fs (flat oss) cs entry u → t ≡ u
 one_entry_target fs oss cs None t u are chosen is other = is ∙ sym other
 one_entry_target fs oss cs (Some name) t u are chosen is other = one_name_target fs oss cs name.now t u are chosen is other
 
 -- ---- all of it
 
--- two of one plan have one entry and one list of places
+-- two of one plan have one target and one list of places
 one_rest : (opt : Options) (fs : List ObjectValue) (plan : Plan) (places others : List ℕ) (t u : Target) →
-    IsPlaced opt fs (record { plan = plan; places = places; target = t }) → IsPlaced opt fs (record { plan = plan; places = others; target = u }) →
+    IsLinkPlan opt fs (record { plan = plan; places = places; target = t }) → IsLinkPlan opt fs (record { plan = plan; places = others; target = u }) →
     (places ≡ others) × (t ≡ u)
 one_rest opt fs plan places others t u one other = (
   same_least (link_parts fs opt (record { plan = plan; places = places; target = t })) opt.base places others one.least other.least,
   one_entry_target fs plan.outputs plan.commons opt.entry t u one.plan.outputs one.plan.commons one.target other.target,
 )
 
-pub one_link_plan : (opt : Options) (fs : List ObjectValue) (l k : LinkPlan) → IsPlaced opt fs l → IsPlaced opt fs k → l ≡ k
+pub one_link_plan : (opt : Options) (fs : List ObjectValue) (l k : LinkPlan) → IsLinkPlan opt fs l → IsLinkPlan opt fs k → l ≡ k
 one_link_plan opt fs l k one other =
     let same = one_plan fs k.plan l.plan other.plan one.plan in
     let (places, target) = one_rest opt fs l.plan l.places k.places l.target k.target one
-    (subst (λ (p : Plan). IsPlaced opt fs (record { plan = p; places = k.places; target = k.target })) same other) in
+    (subst (λ (p : Plan). IsLinkPlan opt fs (record { plan = p; places = k.places; target = k.target })) same other) in
     ap (λ (p : Plan). record { plan = p; places = l.places; target = l.target }) (sym same) ∙
     ap (λ (ps : List ℕ). record { plan = k.plan; places = ps; target = l.target }) places ∙
     ap (λ (t : Target). record { plan = k.plan; places = k.places; target = t }) target

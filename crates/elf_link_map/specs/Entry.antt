@@ -26,7 +26,7 @@ abbrev pub IsSectionTarget : List Site → ℕ → ℕ → ℕ → Target → Ty
 IsSectionTarget ps f s offset t =
     ((k : ℕ) × HasSite ps f s k × (t ≡ Part k offset)) ⊎ (((k : ℕ) → HasSite ps f s k → ⊥) × (t ≡ Lost))
 
--- the value of a symbol of file f at its place
+-- the value of a symbol of file f by its place
 abbrev pub IsPlaceTarget : List Site → ℕ → ℕ → Place → Target → Type 0
 IsPlaceTarget ps f value Undef t = t ≡ Lost
 IsPlaceTarget ps f value Abs t = t ≡ Fixed value
@@ -48,7 +48,7 @@ abbrev pub IsNameTarget : List ObjectValue → List Site → List Chosen → Lis
 IsNameTarget fs ps cs name t =
     (IsUnbound fs name × (t ≡ Lost)) ⊎ ((choice : Choice) × Binds fs name choice × IsChoiceTarget fs ps cs name choice t)
 
--- the entry's value: 0 where no name is given
-abbrev pub IsEntryTarget : List ObjectValue → List Site → List Chosen → Option (Bor (List ℕ)) → Target → Type 0
-IsEntryTarget fs ps cs None t = t ≡ Fixed 0
-IsEntryTarget fs ps cs (Some name) t = IsNameTarget fs ps cs name.now t
+-- the entry symbol's value: 0 where no name is given
+abbrev pub IsEntrySymbolTarget : List ObjectValue → List Site → List Chosen → Option (Bor (List ℕ)) → Target → Type 0
+IsEntrySymbolTarget fs ps cs None t = t ≡ Fixed 0
+IsEntrySymbolTarget fs ps cs (Some name) t = IsNameTarget fs ps cs name.now t

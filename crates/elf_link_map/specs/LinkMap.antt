@@ -7,9 +7,9 @@ use Rattle.elf_extent.specs.Place.{EndsFit, Least}
 use Rattle.elf_object_type.specs.Object.{ObjectValue}
 use Rattle.elf_link_files.specs.declared.options.Options.{Options}
 use Rattle.elf_link_files.specs.declared.site.Site.{Site}
-use Rattle.elf_link_files.specs.Discarded.{AreMarks}
+use Rattle.elf_link_files.specs.Discarded.{AreDiscardMarks}
 use Rattle.elf_link_files.specs.Listing.{Lists, name_at}
-use Rattle.elf_link_files.specs.Rows.{Nowhere}
+use Rattle.elf_extent.specs.Least.{Never}
 use Rattle.elf_link_names.specs.declared.choice.Choice.TheVariants.{Strong as StrongChoice, Common as CommonChoice, Weak as WeakChoice, Zero as ZeroChoice}
 use Rattle.elf_link_names.specs.Binds.{Binds, entries}
 use Rattle.elf_link_names.specs.Listing.{first_entries}
@@ -20,7 +20,7 @@ use Rattle.elf_link_outputs.specs.Plan.{Plan, parts_of, placed, AreOutputs}
 use Rattle.elf_link_outputs.specs.Placed.{OutputValue, CommonValue, common_at, AreAddresses, ArePlacedOutputs, ArePlacedCommons}
 use Rattle.elf_link_map.specs.declared.bindings.Binding.{Binding}
 use Rattle.elf_link_map.specs.declared.bindings.Binding.TheVariants.{Strong, Common, Weak, Zero}
-use Rattle.elf_link_map.specs.Entry.{IsEntryTarget}
+use Rattle.elf_link_map.specs.Entry.{IsEntrySymbolTarget}
 
 pub record LinkMapValue : Type 0 where
   pub addresses : List (List (Option ℕ))
@@ -33,14 +33,14 @@ pub record LinkMapValue : Type 0 where
   pub entry : ℕ
 
 -- the common at position k has this name
-abbrev pub IsNamed : List CommonValue → List ℕ → ℕ → Type 0
-IsNamed cs name k = (k < length cs) × ((common_at cs k).name ≡ name)
+abbrev pub IsCommonNamed : List CommonValue → List ℕ → ℕ → Type 0
+IsCommonNamed cs name k = (k < length cs) × ((common_at cs k).name ≡ name)
 
 -- what a name is bound to; a common has its address
 abbrev pub IsBinding : List ObjectValue → List CommonValue → List ℕ → Binding → Type 0
 IsBinding fs cs name (Strong file symbol) = Binds fs name (StrongChoice file symbol)
 IsBinding fs cs name (Common address size align) =
-    Binds fs name (CommonChoice size align) × ((k : ℕ) × IsNamed cs name k × ((common_at cs k).address ≡ address))
+    Binds fs name (CommonChoice size align) × ((k : ℕ) × IsCommonNamed cs name k × ((common_at cs k).address ≡ address))
 IsBinding fs cs name (Weak file symbol) = Binds fs name (WeakChoice file symbol)
 IsBinding fs cs name Zero = Binds fs name ZeroChoice
 
@@ -58,13 +58,13 @@ AreNames fs bindings = (ps : List Site) × Lists (first_entries fs) ps × (map (
 
 -- each name with an entry is bound, and no other
 abbrev pub AreBindings : List ObjectValue → List CommonValue → List (List ℕ × Binding) → Type 0
-AreBindings fs cs bindings = (name : List ℕ) → MatchOption (bound_in bindings name) (Nowhere (entries fs name)) (IsBinding fs cs name)
+AreBindings fs cs bindings = (name : List ℕ) → MatchOption (bound_in bindings name) (Never (entries fs name)) (IsBinding fs cs name)
 
 pub record IsPlan (fs : List ObjectValue) (plan : Plan) : Type 0 where
   pub outputs : AreOutputs fs plan.outputs
   pub commons : AreChosen fs plan.commons
 
--- the plan of a link, the least places of its parts, and what the entry's value is made of
+-- the plan of a link, the least places of its parts, and what the entry symbol's value is made of
 pub record LinkPlan : Type 0 where
   pub plan : Plan
   pub places : List ℕ
@@ -73,16 +73,16 @@ pub record LinkPlan : Type 0 where
 abbrev pub link_parts : List ObjectValue → Options → LinkPlan → List (ℕ × ℕ)
 link_parts fs opt l = parts_of fs opt.page l.plan
 
-pub record IsPlaced (opt : Options) (fs : List ObjectValue) (l : LinkPlan) : Type 0 where
+pub record IsLinkPlan (opt : Options) (fs : List ObjectValue) (l : LinkPlan) : Type 0 where
   pub plan : IsPlan fs l.plan
-  pub target : IsEntryTarget fs (placed l.plan) l.plan.commons opt.entry l.target
+  pub target : IsEntrySymbolTarget fs (placed l.plan) l.plan.commons opt.entry l.target
   pub least : Least (link_parts fs opt l) opt.base l.places
 
 -- the link map of this plan
 pub record IsMapOf (opt : Options) (fs : List ObjectValue) (l : LinkPlan) (m : LinkMapValue) : Type 0 where
   pub fits : EndsFit (link_parts fs opt l) l.places (length (link_parts fs opt l))
   pub addresses : AreAddresses fs (placed l.plan) l.places m.addresses
-  pub discarded : AreMarks fs m.discarded
+  pub discarded : AreDiscardMarks fs m.discarded
   pub bindings : AreBindings fs m.commons m.bindings
   pub names : AreNames fs m.bindings
   pub outputs : ArePlacedOutputs fs l.plan.outputs (link_parts fs opt l) l.places (length l.plan.outputs) m.outputs
@@ -93,4 +93,4 @@ pub record IsMapOf (opt : Options) (fs : List ObjectValue) (l : LinkPlan) (m : L
 
 -- the link map of some objects and options
 abbrev pub IsLinkMap : Options → List ObjectValue → LinkMapValue → Type 0
-IsLinkMap opt fs m = (l : LinkPlan) × IsPlaced opt fs l × IsMapOf opt fs l m
+IsLinkMap opt fs m = (l : LinkPlan) × IsLinkPlan opt fs l × IsMapOf opt fs l m

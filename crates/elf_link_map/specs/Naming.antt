@@ -8,11 +8,11 @@ use Rattle.elf_link_names.specs.declared.choice.Choice.TheVariants.{Common}
 use Rattle.elf_link_names.specs.Binds.{Binds}
 use Rattle.elf_link_outputs.specs.Placed.{CommonValue}
 use Rattle.elf_link_map.specs.declared.bindings.Binding.{Binding}
-use Rattle.elf_link_map.specs.LinkMap.{IsBinding, IsNamed, bound_in, no_name}
+use Rattle.elf_link_map.specs.LinkMap.{IsBinding, IsCommonNamed, bound_in, no_name}
 
 -- the binding of each name stands at its position
-abbrev pub ArePositions : List (List ℕ × Binding) → (List ℕ → Option ℕ) → Type 0
-ArePositions bindings position = (name : List ℕ) →
+abbrev pub AreBindingPositions : List (List ℕ × Binding) → (List ℕ → Option ℕ) → Type 0
+AreBindingPositions bindings position = (name : List ℕ) →
     MatchOption (position name) (bound_in bindings name ≡ None) (λ k. (k < length bindings) × (bound_in bindings name ≡ Some (get_or bindings k no_name).1))
 
 -- the name of the symbol at a site, and what it is bound to
@@ -25,11 +25,11 @@ AreNamedAt fs cs ps = AreEach no_name (λ k. IsNamedAt fs cs (site_at ps k))
 
 -- the position of the common of each name
 abbrev pub AreCommonPositionsBelow : List CommonValue → ℕ → (List ℕ → Option ℕ) → Type 0
-AreCommonPositionsBelow cs n position = (name : List ℕ) → MatchOption (position name) ((k : ℕ) → k < n → IsNamed cs name k → ⊥) (IsNamed cs name)
+AreCommonPositionsBelow cs n position = (name : List ℕ) → MatchOption (position name) ((k : ℕ) → k < n → IsCommonNamed cs name k → ⊥) (IsCommonNamed cs name)
 
 abbrev pub AreCommonPositions : List CommonValue → (List ℕ → Option ℕ) → Type 0
 AreCommonPositions cs = AreCommonPositionsBelow cs (length cs)
 
 -- a common stands in the list for each name that is bound to one
 abbrev pub HaveCommons : List ObjectValue → List CommonValue → Type 0
-HaveCommons fs cs = (name : List ℕ) (size align : ℕ) → Binds fs name (Common size align) → (k : ℕ) × IsNamed cs name k
+HaveCommons fs cs = (name : List ℕ) (size align : ℕ) → Binds fs name (Common size align) → (k : ℕ) × IsCommonNamed cs name k

@@ -5,11 +5,11 @@ ghost use Rattle.elf_link_files.specs.Listing.{name_at};
 ghost use Rattle.elf_link_names.specs.declared.choice.Choice.TheVariants.{Common as CommonChoice};
 ghost use Rattle.elf_link_names.specs.Binds.{Binds, IsUnbound};
 ghost use Rattle.elf_link_names.specs.Listing.{first_entries};
-ghost use Rattle.elf_link_names.specs.NameTable.{AreWhole, IsWhole, IsWholeTable, first_site};
+ghost use Rattle.elf_link_names.specs.KnownNames.{AreAllKnown, AreKnownWhole, IsKnownWhole, first_site};
 ghost use Rattle.elf_link_names.specs.Naming.{position_by};
 ghost use Rattle.elf_link_names.specs.Binds.{AllBound};
 ghost use Rattle.elf_link_outputs.specs.PlacedView.{common_value};
-ghost use Rattle.elf_link_map.specs.LinkMap.{AreBindings, AreNames, IsBinding, IsNamed};
+ghost use Rattle.elf_link_map.specs.LinkMap.{AreBindings, AreNames, IsBinding, IsCommonNamed};
 ghost use Rattle.elf_link_map.specs.LinkMapView.{named_value};
 ghost use Rattle.elf_link_map.specs.Naming.{AreCommonPositions, AreNamedAt, IsNamedAt};
 ghost use Rattle.elf_link_map.specs.Naming.{HaveCommons};
@@ -17,7 +17,7 @@ ghost use Rattle.elf_link_map.specs.Naming.{HaveCommons};
 use crate::names::{Named, Names};
 use elf_link_files::files::symbol_of;
 use elf_link_names::bind::{choice_of, known_item};
-use elf_link_names::{Choice, Known, NameTable};
+use elf_link_names::{Choice, Known, KnownNames};
 use elf_link_outputs::Common;
 use elf_object_type::Object;
 use std::alloc::{AllocError, Global};
@@ -69,7 +69,7 @@ fn common_named(
     name: &[u8],
 ) -> Option<usize>
     requires { AreCommonPositions (map common_value commons.now) (position_by index.now) }
-    ensures { MatchOption result ((k : ℕ) → IsNamed (map common_value commons.now) name.now k → ⊥) (IsNamed (map common_value commons.now) name.now) }
+    ensures { MatchOption result ((k : ℕ) → IsCommonNamed (map common_value commons.now) name.now k → ⊥) (IsCommonNamed (map common_value commons.now) name.now) }
 {
     index.get(name).copied()
 }
@@ -132,7 +132,7 @@ fn named_for<'a>(
     requires index { AreCommonPositions (map common_value commons.now) (position_by index.now) }
     requires bound { AllBound objects.now }
     requires site { first_entries objects.now (first_site known) }
-    requires known { IsWhole objects.now (name_at objects.now (first_site known)) known }
+    requires known { IsKnownWhole objects.now (name_at objects.now (first_site known)) known }
     ensures { IsNamedAt objects.now (map common_value commons.now) (first_site known) (named_value result) }
 {
     let name = symbol_of(objects, known.first.file, known.first.index).name;
@@ -145,7 +145,7 @@ fn named_for<'a>(
     Named { name, binding }
 }
 
-/// All names that the table knows, and what each is bound to.
+/// All names that are known, and what each is bound to.
 fn names_of<'a>(
     alloc: Global,
     objects: &[Object<'a>],
@@ -156,7 +156,7 @@ fn names_of<'a>(
     requires commons { HaveCommons objects.now (map common_value commons.now) }
     requires index { AreCommonPositions (map common_value commons.now) (position_by index.now) }
     requires bound { AllBound objects.now }
-    requires known { AreWhole objects.now known.now }
+    requires known { AreKnownWhole objects.now known.now }
     ensures { IfOk result (λ names. AreNamedAt objects.now (map common_value commons.now) (map first_site known.now) (length known.now) (map named_value names.items)) }
 {
     let mut names = Vec::with_capacity(alloc, known.len())?;
@@ -170,16 +170,16 @@ fn names_of<'a>(
 pub(crate) fn all_bindings<'a>(
     alloc: Global,
     objects: &[Object<'a>],
-    table: NameTable<'a>,
+    names: KnownNames<'a>,
     commons: &[Common<'_>],
 ) -> Result<Names<'a>, AllocError>
-    requires table { IsWholeTable objects.now (position_by table.positions) table.known.items }
+    requires known { AreAllKnown objects.now (position_by names.positions) names.known.items }
     requires commons { HaveCommons objects.now (map common_value commons.now) }
     requires bound { AllBound objects.now }
     ensures bindings { IfOk result (AreBindings objects.now (map common_value commons.now)) }
     ensures names { IfOk result (AreNames objects.now) }
 {
     let index = common_positions(alloc, commons)?;
-    let list = names_of(alloc, objects, commons, &index, &table.known)?;
-    Ok(Names::new(list, table.positions))
+    let list = names_of(alloc, objects, commons, &index, &names.known)?;
+    Ok(Names::new(list, names.positions))
 }

@@ -1,7 +1,7 @@
 //! What the layers above may know of a link map.
-ghost use Rattle.std.specs.Prelude.{◌≡◌, List, Option};
+ghost use Rattle.std.specs.Prelude.{◌≡◌, ℕ, List, Option};
 ghost use Rattle.elf_link_files.specs.declared.options.Options.{Options};
-ghost use Rattle.elf_link_files.specs.declared.site.Broken.{Broken};
+ghost use Rattle.elf_link_files.specs.declared.site.Site.{Site};
 ghost use Rattle.elf_link_map.specs.Apart.{StandApart};
 ghost use Rattle.elf_link_map.specs.LinkFaults.{FirstOfLink};
 ghost use Rattle.elf_link_map.specs.LinkMap.{IsLinkMap, LinkMapValue};
@@ -15,7 +15,7 @@ pub fn parts_apart()
 
 /// Some objects and options have at most one answer: that no rule of the link stands, or the first one that does, at its first site.
 pub fn one_link_fault()
-    ensures { (opt : Options) (fs : List ObjectValue) (a b : Option Broken) → FirstOfLink opt fs a → FirstOfLink opt fs b → a ≡ b }
+    ensures { (opt : Options) (fs : List ObjectValue) (a b : Option (ℕ × Site)) → FirstOfLink opt fs a → FirstOfLink opt fs b → a ≡ b }
 {}
 
 /// Some objects and options have at most one link map: no second value meets the definition.

@@ -1,11 +1,11 @@
 //! The link map of objects.
 ghost use Rattle.std.specs.Prelude.{◌≡◌, IfErr, IfOk, None, OnOk, map as map_list};
-ghost use Rattle.elf_link_files.specs.Discarded.{AreMarks};
+ghost use Rattle.elf_link_files.specs.Discarded.{AreDiscardMarks};
 ghost use Rattle.elf_link_files.specs.FileRules.{option_rules};
 ghost use Rattle.elf_link_files.specs.Commons.{AreSymbols};
-ghost use Rattle.elf_link_files.specs.Rows.{FirstIn};
+ghost use Rattle.elf_link_files.specs.Rows.{FirstAmong};
 ghost use Rattle.elf_link_names.specs.LinkRules.{input_rules};
-ghost use Rattle.elf_link_names.specs.NameTable.{IsWholeTable};
+ghost use Rattle.elf_link_names.specs.KnownNames.{AreAllKnown};
 ghost use Rattle.elf_link_names.specs.Naming.{position_by};
 ghost use Rattle.elf_link_names.specs.ChosenCommons.{AreChosen};
 ghost use Rattle.elf_link_names.specs.ChosenCommons.{HaveChosen};
@@ -22,7 +22,7 @@ use elf_link_names::judge::{Judged, judge};
 use elf_link_names::{Listed, all_listed, chosen_commons};
 use elf_link_outputs::addresses::addresses;
 use elf_link_outputs::{
-    address_table, all_parts, outputs_of, placed, placed_commons, placed_outputs,
+    all_parts, outputs_of, placed, placed_commons, placed_outputs, section_addresses,
 };
 use elf_object_type::Object;
 use std::alloc::Global;
@@ -37,10 +37,10 @@ fn placed_map<'a>(
     outputs: &[Vec<Site>],
     chosen: &[Chosen],
 ) -> Result<LinkMap<'a>, LinkFault>
-    requires clean { FirstIn (input_rules options.now objects.now) None }
-    requires options { FirstIn (option_rules options.now objects.now) None }
-    requires marks { AreMarks objects.now (map_list (λ row. row.items) judged.marks.items) }
-    requires table { IsWholeTable objects.now (position_by judged.table.positions) judged.table.known.items }
+    requires clean { FirstAmong (input_rules options.now objects.now) None }
+    requires options { FirstAmong (option_rules options.now objects.now) None }
+    requires marks { AreDiscardMarks objects.now (map_list (λ row. row.items) judged.marks.items) }
+    requires names { AreAllKnown objects.now (position_by judged.names.positions) judged.names.known.items }
     requires outputs { AreOutputs objects.now (map_list (λ ms. ms.items) outputs.now) }
     requires within { AreAllIn objects.now (map_list (λ ms. ms.items) outputs.now) }
     requires some { AreSome (map_list (λ ms. ms.items) outputs.now) }
@@ -54,12 +54,12 @@ fn placed_map<'a>(
 {
     let sites = placed(alloc, outputs)?;
     let parts = all_parts(alloc, options.page, objects, outputs, chosen)?;
-    let target = entry_target(objects, &judged.table, &sites, chosen, options.entry);
+    let target = entry_target(objects, &judged.names, &sites, chosen, options.entry);
     let addressed = addresses(alloc, &parts, options.base, target)?;
-    let addresses = address_table(alloc, objects, &sites, &addressed.places)?;
+    let addresses = section_addresses(alloc, objects, &sites, &addressed.places)?;
     let outputs = placed_outputs(alloc, objects, outputs, &parts, &addressed.places)?;
     let commons = placed_commons(alloc, objects, chosen, &addressed.places, sites.len())?;
-    let names = all_bindings(alloc, objects, judged.table, &commons)?;
+    let names = all_bindings(alloc, objects, judged.names, &commons)?;
     Ok(LinkMap {
         addresses,
         discarded: judged.marks,
@@ -94,9 +94,9 @@ pub fn map<'a, S: BuildHasher + Drop>(
         Listed::LiveSections,
         objects,
         &judged.marks,
-        &judged.table,
+        &judged.names,
     )?;
     let outputs = outputs_of(alloc, objects, &live, hasher)?;
-    let chosen = chosen_commons(alloc, objects, &judged.marks, &judged.table)?;
+    let chosen = chosen_commons(alloc, objects, &judged.marks, &judged.names)?;
     placed_map(alloc, objects, options, judged, &outputs, &chosen)
 }

@@ -74,7 +74,7 @@ impl<'a> LinkMap<'a> {
         &self.outputs
     }
 
-    /// The commons that have a place, behind all output sections.
+    /// The commons that have an address, behind all output sections.
     pub fn commons(&self) -> &[Common<'a>]
         ensures { map common_value result.now ≡ self.now.commons }
     {

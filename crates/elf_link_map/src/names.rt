@@ -3,7 +3,7 @@ ghost use Rattle.std.specs.Prelude.{◌≡◌, map};
 ghost use Rattle.elf_link_names.specs.Naming.{position_by};
 ghost use Rattle.elf_link_map.specs.LinkMap.{bound_in};
 ghost use Rattle.elf_link_map.specs.LinkMapView.{named_value};
-ghost use Rattle.elf_link_map.specs.Naming.{ArePositions};
+ghost use Rattle.elf_link_map.specs.Naming.{AreBindingPositions};
 
 use crate::bindings::Binding;
 use std::collections::BTreeMap;
@@ -33,17 +33,17 @@ impl<'a> Model for Names<'a> {
 
     ghost use Rattle.elf_link_names.specs.Naming.{position_by};
     ghost use Rattle.elf_link_map.specs.LinkMapView.{named_value};
-    ghost use Rattle.elf_link_map.specs.Naming.{ArePositions};
+    ghost use Rattle.elf_link_map.specs.Naming.{AreBindingPositions};
 
     ghost view = { λ a. map named_value a.list.items };
 
-    ghost invariant = { λ a. ArePositions (map named_value a.list.items) (position_by a.positions) };
+    ghost invariant = { λ a. AreBindingPositions (map named_value a.list.items) (position_by a.positions) };
 }
 
 impl<'a> Names<'a> {
     /// These names, whose positions are known.
     pub(crate) fn new(list: Vec<Named<'a>>, positions: BTreeMap<&'a [u8], usize>) -> Names<'a>
-        requires { ArePositions (map named_value list.items) (position_by positions) }
+        requires { AreBindingPositions (map named_value list.items) (position_by positions) }
         ensures { result ≡ map named_value list.entry.items }
     {
         Names { list, positions }

@@ -5,17 +5,17 @@ ghost use Rattle.elf_link_files.specs.Listing.{name_at};
 ghost use Rattle.elf_link_files.specs.Commons.{AreSymbols};
 ghost use Rattle.elf_link_names.specs.Binds.{Binds};
 ghost use Rattle.elf_link_names.specs.ChosenCommons.{IsCommonOf};
-ghost use Rattle.elf_link_names.specs.NameTable.{IsWholeTable};
+ghost use Rattle.elf_link_names.specs.KnownNames.{AreAllKnown};
 ghost use Rattle.elf_link_names.specs.Naming.{position_by};
 ghost use Rattle.elf_link_names.specs.ChosenCommons.{HaveChosen};
 ghost use Rattle.elf_link_outputs.specs.declared.addresses.Target.TheVariants.{Part};
 ghost use Rattle.elf_link_outputs.specs.Addresses.{IsTargetBelow};
-ghost use Rattle.elf_link_map.specs.Entry.{HasSite, IsChoiceTarget, IsEntryTarget, IsNameTarget, IsSectionTarget, IsSymbolTarget};
+ghost use Rattle.elf_link_map.specs.Entry.{HasSite, IsChoiceTarget, IsEntrySymbolTarget, IsNameTarget, IsSectionTarget, IsSymbolTarget};
 
 use elf_link_files::files::symbol_of;
 use elf_link_files::{Chosen, Site, is_at};
 use elf_link_names::bind::bind;
-use elf_link_names::{Choice, NameTable};
+use elf_link_names::{Choice, KnownNames};
 use elf_link_outputs::addresses::Target;
 use elf_object_type::{Object, Place};
 
@@ -119,19 +119,19 @@ fn choice_target(
 /// The value of a name.
 fn name_target(
     objects: &[Object<'_>],
-    table: &NameTable<'_>,
+    names: &KnownNames<'_>,
     sites: &[Site],
     commons: &[Chosen],
     name: &[u8],
 ) -> Target
-    requires table { IsWholeTable objects.now (position_by table.now.positions) table.now.known.items }
+    requires names { AreAllKnown objects.now (position_by names.now.positions) names.now.known.items }
     requires symbols { AreSymbols objects.now commons.now }
     requires commons { HaveChosen objects.now commons.now }
     requires fits { length sites.now + length commons.now < 2 ^ 64 }
     ensures target { IsNameTarget objects.now sites.now commons.now name.now result }
     ensures below { IsTargetBelow (length sites.now + length commons.now) result }
 {
-    match bind(objects, table, name) {
+    match bind(objects, names, name) {
         Some(choice) => choice_target(objects, sites, commons, name, choice),
         None => Target::Lost,
     }
@@ -140,20 +140,20 @@ fn name_target(
 /// The value of the entry symbol, 0 where none is named.
 pub(crate) fn entry_target(
     objects: &[Object<'_>],
-    table: &NameTable<'_>,
+    names: &KnownNames<'_>,
     sites: &[Site],
     commons: &[Chosen],
     name: Option<&[u8]>,
 ) -> Target
-    requires table { IsWholeTable objects.now (position_by table.now.positions) table.now.known.items }
+    requires names { AreAllKnown objects.now (position_by names.now.positions) names.now.known.items }
     requires symbols { AreSymbols objects.now commons.now }
     requires commons { HaveChosen objects.now commons.now }
     requires fits { length sites.now + length commons.now < 2 ^ 64 }
-    ensures target { IsEntryTarget objects.now sites.now commons.now name.entry result }
+    ensures target { IsEntrySymbolTarget objects.now sites.now commons.now name.entry result }
     ensures below { IsTargetBelow (length sites.now + length commons.now) result }
 {
     match name {
-        Some(name) => name_target(objects, table, sites, commons, name),
+        Some(name) => name_target(objects, names, sites, commons, name),
         None => Target::Fixed(0),
     }
 }

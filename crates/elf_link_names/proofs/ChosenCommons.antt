@@ -8,7 +8,8 @@ use Rattle.elf_link_files.specs.declared.site.Site.{Site}
 use Rattle.elf_link_files.specs.Files.{object_at, symbol_in}
 use Rattle.elf_link_files.specs.Listing.{Lists, site, name_at}
 use Rattle.elf_link_files.specs.Commons.{AreSymbols}
-use Rattle.elf_link_files.specs.Rows.{IsFirstAt, Nowhere}
+use Rattle.elf_extent.specs.Least.{Never}
+use Rattle.elf_link_files.specs.Rows.{IsFirstAt}
 use Rattle.elf_link_files.specs.Symbols.{IsCommon, is_common}
 use Rattle.elf_link_files.proofs.Public.{first_in_row, site_is, same_bool, same_name}
 use Rattle.elf_link_names.specs.declared.listing.Listed.TheVariants.{ChosenCommons}
@@ -41,11 +42,11 @@ common_told fs name f i = elim (cases_eq (binding (symbol_in fs f i)) STB_LOCAL)
 ]
 
 -- the first common of a name without a GLOBAL definition is chosen
-first_chosen : (fs : List ObjectValue) (name : List ℕ) (q : Site) → IsFirstAt (commons fs name) q → Nowhere (strong fs name) → IsChosen fs q.file q.index
+first_chosen : (fs : List ObjectValue) (name : List ℕ) (q : Site) → IsFirstAt (commons fs name) q → Never (strong fs name) → IsChosen fs q.file q.index
 first_chosen fs name q first none =
     let (file, index, is, entry) = first.stands in
     let at = site_is q q.file q.index refl refl entry in
-    subst (λ (n : List ℕ). IsCommon fs n q.file q.index × IsFirstAt (commons fs n) (site q.file q.index) × Nowhere (strong fs n)) (sym is.0.1)
+    subst (λ (n : List ℕ). IsCommon fs n q.file q.index × IsFirstAt (commons fs n) (site q.file q.index) × Never (strong fs n)) (sym is.0.1)
     (is, subst (λ (p : Site). IsFirstAt (commons fs name) p) at first, none)
 
 pub have_chosen : (fs : List ObjectValue) (cs : List Chosen) → AreChosen fs cs → HaveChosen fs cs

@@ -6,8 +6,9 @@ use Rattle.elf_link_files.specs.declared.chosen.Chosen.{Chosen}
 use Rattle.elf_link_files.specs.declared.site.Site.{Site}
 use Rattle.elf_link_files.specs.Listing.{Lists, site, site_at, name_at}
 use Rattle.elf_link_files.specs.Commons.{no_common}
-use Rattle.elf_link_files.specs.Rows.{IsFirstAt, Row}
-use Rattle.elf_link_files.proofs.Public.{site_is, one_first, one_list, once_of, one_each}
+use Rattle.elf_image_rules.specs.Rows.{Row}
+use Rattle.elf_link_files.specs.Rows.{IsFirstAt}
+use Rattle.elf_link_files.proofs.Public.{site_is, one_first, one_site_list, once_of, one_each}
 use Rattle.elf_link_names.specs.declared.choice.Choice.{Choice}
 use Rattle.elf_link_names.specs.declared.choice.Choice.TheVariants.{Strong, Common, Weak, Zero}
 use Rattle.elf_link_names.specs.declared.listing.Listed.TheVariants.{ChosenCommons}
@@ -17,7 +18,7 @@ use Rattle.elf_link_names.specs.Listing.{listed_row}
 
 -- ---- the choice of a name
 
-one_largest : (row : Row) (measure : ℕ → ℕ → ℕ) (m n : ℕ) → IsLargest row measure m → IsLargest row measure n → m ≡ n
+one_largest : (row : Row Site) (measure : ℕ → ℕ → ℕ) (m n : ℕ) → IsLargest row measure m → IsLargest row measure n → m ≡ n
 one_largest row measure m n one other =
     let (p, p_row, p_at) = one.attained in
     let (q, q_row, q_at) = other.attained in
@@ -69,7 +70,7 @@ one_of_largest fs p c d (here, (size, align)) (there, (width, step)) =
 
 pub one_chosen : (fs : List ObjectValue) (cs ds : List Chosen) → AreChosen fs cs → AreChosen fs ds → cs ≡ ds
 one_chosen fs cs ds (ps, lists, one) (qs, others, other) =
-    let same = one_list (listed_row fs ChosenCommons) qs ps others lists in
+    let same = one_site_list (listed_row fs ChosenCommons) qs ps others lists in
     one_each no_common (λ k c. (c.site ≡ site_at ps k) × IsOfLargest fs c) (length ps) cs ds (λ k c d lt. one_of_largest fs (site_at ps k) c d) one
     (subst (λ (rs : List Site). AreChosenAt fs rs (length rs) ds) same other)
 

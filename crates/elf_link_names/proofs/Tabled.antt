@@ -16,15 +16,17 @@ use Rattle.elf_object_type.specs.Object.{ObjectValue, binding}
 use Rattle.elf_link_files.specs.declared.site.Site.{Site}
 use Rattle.elf_link_files.specs.Files.{IsEarlier, object_at, symbol_in}
 use Rattle.elf_link_files.specs.Listing.{Lists, UpTo, site, site_at, name_at}
-use Rattle.elf_link_files.specs.Rows.{AtSymbol, IsFirstAt, Nowhere, Row, symbol_count}
+use Rattle.elf_extent.specs.Least.{Never}
+use Rattle.elf_image_rules.specs.Rows.{Row}
+use Rattle.elf_link_files.specs.Rows.{AtSymbol, IsFirstAt, symbol_count}
 use Rattle.elf_link_files.specs.Symbols.{IsCommon, IsEntry, IsNotWeak, IsStrong, IsWeak}
 use Rattle.elf_link_files.proofs.Public.{first_earlier, first_in_row, lists_same, listed_more, listed_past, site_is, match_map, earlier_more, earlier_next, file_before}
-use Rattle.elf_link_names.specs.declared.name_table.Block.{Block}
-use Rattle.elf_link_names.specs.declared.name_table.Known.{Known}
-use Rattle.elf_link_names.specs.declared.name_table.Spot.{Spot}
+use Rattle.elf_link_names.specs.declared.known_names.Block.{Block}
+use Rattle.elf_link_names.specs.declared.known_names.Known.{Known}
+use Rattle.elf_link_names.specs.declared.known_names.Spot.{Spot}
 use Rattle.elf_link_names.specs.Binds.{IsLargest, IsUnbound, commons, entries, strong, weak}
 use Rattle.elf_link_names.specs.Listing.{IsFirstEntry, first_entries}
-use Rattle.elf_link_names.specs.NameTable.{AreWhole, IsBest, IsBlock, IsCommonBest, IsFirstBefore, IsKnown, IsLargerOf, IsTable, IsWhole, IsWholeBest, IsWholeBlock, IsWholeTable, NoneBefore, SomeBefore, first_or, first_site, known_at, no_known, spot_in, spot_site}
+use Rattle.elf_link_names.specs.KnownNames.{AreAllKnown, AreKnownBefore, AreKnownWhole, IsBest, IsBlock, IsCommonBest, IsFirstBefore, IsKnownBefore, IsKnownWhole, IsLargerOf, IsWholeBest, IsWholeBlock, NoneBefore, SomeBefore, first_or, first_site, known_at, no_known, spot_in, spot_site}
 use Rattle.elf_link_names.specs.Naming.{ArePositionsOf}
 use Rattle.elf_link_names.proofs.Naming.{apart_names, entry_there, entry_told, positions_more}
 
@@ -53,7 +55,7 @@ first_here fs P f i file index here none = (
   inr (refl, omega arith),
 )
 
-first_past : (row : Row) (f i : ℕ) (s : Spot) → IsFirstBefore row f i s → IsFirstBefore row f (i + 1) s
+first_past : (row : Row Site) (f i : ℕ) (s : Spot) → IsFirstBefore row f i s → IsFirstBefore row f (i + 1) s
 first_past row f i s (first, earlier) = (first, earlier_more s.file s.index f i earlier)
 
 pub best_past : (fs : List ObjectValue) (P : ℕ → ℕ → Type 0) (f i : ℕ) (best : Option Spot) → (P f i → ⊥) → IsBest (AtSymbol fs P) f i best →
@@ -70,7 +72,7 @@ best_next fs P f i None now true file index tells is none =
 best_next fs P f i None now false file index tells is none =
     subst (IsBest (AtSymbol fs P) f (i + 1)) (sym is) (none_past fs P f i (λ here. (let never : false ≡ true = tells.1 here in absurd (cc))) none)
 
-some_past : (row : Row) (f i : ℕ) → SomeBefore row f i → SomeBefore row f (i + 1)
+some_past : (row : Row Site) (f i : ℕ) → SomeBefore row f i → SomeBefore row f (i + 1)
 some_past row f i (p, there, earlier) = (p, there, earlier_more p.file p.index f i earlier)
 
 some_back : (fs : List ObjectValue) (P : ℕ → ℕ → Type 0) (f i : ℕ) → SomeBefore (AtSymbol fs P) f (i + 1) → SomeBefore (AtSymbol fs P) f i ⊎ P f i
@@ -169,8 +171,8 @@ weak_entry : (fs : List ObjectValue) (name : List ℕ) (f i : ℕ) → IsWeak fs
 weak_entry fs name f i (is, weak, defined) = ((λ local. local_weak (binding (symbol_in fs f i)) weak local), is)
 
 -- a symbol that is no entry of the name changes nothing
-pub known_other : (fs : List ObjectValue) (name : List ℕ) (f i : ℕ) (k : Known) → (IsEntry fs name f i → ⊥) → IsKnown fs name f i k →
-    IsKnown fs name f (i + 1) k
+pub known_other : (fs : List ObjectValue) (name : List ℕ) (f i : ℕ) (k : Known) → (IsEntry fs name f i → ⊥) → IsKnownBefore fs name f i k →
+    IsKnownBefore fs name f (i + 1) k
 known_other fs name f i k other is = record {
   strong = best_past fs (IsStrong fs name) f i k.strong (λ here. other (strong_entry fs name f i here)) is.strong;
   weak = best_past fs (IsWeak fs name) f i k.weak (λ here. other (weak_entry fs name f i here)) is.weak;
@@ -180,7 +182,7 @@ known_other fs name f i k other is = record {
 
 -- nothing is known of a name without entries
 pub known_none : (fs : List ObjectValue) (name : List ℕ) (f i : ℕ) → NoneBefore (entries fs name) f i →
-    IsKnown fs name f i (record { first = spot_in f i; strong = None; weak = None; common = None; not_weak = false })
+    IsKnownBefore fs name f i (record { first = spot_in f i; strong = None; weak = None; common = None; not_weak = false })
 known_none fs name f i none = record {
   strong = λ p (file, index, here, entry) earlier. none p (file, index, strong_entry fs name p.file p.index here, entry) earlier;
   weak = λ p (file, index, here, entry) earlier. none p (file, index, weak_entry fs name p.file p.index here, entry) earlier;
@@ -188,7 +190,7 @@ known_none fs name f i none = record {
   not_weak = ((λ (yes : false ≡ true). absurd (cc)), (λ (p, (file, index, here, entry), earlier). absurd (none p (file, index, here.0, entry) earlier)));
 }
 
--- ---- the table
+-- ---- all names
 
 -- no entry of a name stands before, where none of the first entries has it
 none_listed : (fs : List ObjectValue) (f i : ℕ) (ps : List Site) (name : List ℕ) → Lists (UpTo (first_entries fs) f i) ps →
@@ -203,33 +205,33 @@ none_listed fs f i ps name are none p there earlier =
     let (k, lt, here) = are.all q ((file, index, stands, entry), first_earlier (entries fs name) q p.file p.index f i first (subst (entries fs name) p_at there) earlier) in
     none k lt (ap (name_at fs) here ∙ is.1)
 
--- where a table has a name
+-- where a name has its position
 pub placed_at : (fs : List ObjectValue) (f i : ℕ) (position : List ℕ → Option ℕ) (ks : List Known) (name : List ℕ) (k : ℕ) →
-    position name ≡ Some k → IsTable fs f i position ks → (k < length ks) × (name_at fs (site_at (map first_site ks) k) ≡ name)
+    position name ≡ Some k → AreKnownBefore fs f i position ks → (k < length ks) × (name_at fs (site_at (map first_site ks) k) ≡ name)
 placed_at fs f i position ks name k at is =
     subst (λ (o : Option ℕ). MatchOption o ((j : ℕ) → j < length ks → name_at fs (site_at (map first_site ks) j) ≡ name → ⊥)
     (λ j. (j < length ks) × (name_at fs (site_at (map first_site ks) j) ≡ name))) at (is.places name)
 
 pub not_placed : (fs : List ObjectValue) (f i : ℕ) (position : List ℕ → Option ℕ) (ks : List Known) (name : List ℕ) →
-    position name ≡ None → IsTable fs f i position ks → (k : ℕ) → k < length ks → name_at fs (site_at (map first_site ks) k) ≡ name → ⊥
+    position name ≡ None → AreKnownBefore fs f i position ks → (k : ℕ) → k < length ks → name_at fs (site_at (map first_site ks) k) ≡ name → ⊥
 not_placed fs f i position ks name at is =
     subst (λ (o : Option ℕ). MatchOption o ((j : ℕ) → j < length ks → name_at fs (site_at (map first_site ks) j) ≡ name → ⊥)
     (λ j. (j < length ks) × (name_at fs (site_at (map first_site ks) j) ≡ name))) at (is.places name)
 
 pub none_placed : (fs : List ObjectValue) (f i : ℕ) (position : List ℕ → Option ℕ) (ks : List Known) (name : List ℕ) →
-    position name ≡ None → IsTable fs f i position ks → NoneBefore (entries fs name) f i
+    position name ≡ None → AreKnownBefore fs f i position ks → NoneBefore (entries fs name) f i
 none_placed fs f i position ks name at is =
     let many = length-map ks first_site in
     none_listed fs f i (map first_site ks) name is.firsts (λ k lt. not_placed fs f i position ks name at is k (omega arith))
 
 pub known_placed : (fs : List ObjectValue) (f i : ℕ) (position : List ℕ → Option ℕ) (ks : List Known) (name : List ℕ) (k : ℕ) →
-    position name ≡ Some k → IsTable fs f i position ks → IsKnown fs name f i (known_at ks k)
+    position name ≡ Some k → AreKnownBefore fs f i position ks → IsKnownBefore fs name f i (known_at ks k)
 known_placed fs f i position ks name k at is =
     let (lt, named) = placed_at fs f i position ks name k at is in
-    subst (λ n. IsKnown fs n f i (known_at ks k)) named (is.each k lt)
+    subst (λ n. IsKnownBefore fs n f i (known_at ks k)) named (is.each k lt)
 
-table_none : (fs : List ObjectValue) (position : List ℕ → Option ℕ) → ((q : List ℕ) → position q ≡ None) → IsTable fs 0 0 position []
-table_none fs position empty = record {
+names_none : (fs : List ObjectValue) (position : List ℕ → Option ℕ) → ((q : List ℕ) → position q ≡ None) → AreKnownBefore fs 0 0 position []
+names_none fs position empty = record {
   places = λ name. subst (λ (o : Option ℕ). MatchOption o ((k : ℕ) → k < 0 → name_at fs (site_at [] k) ≡ name → ⊥) (λ k. (k < 0) × (name_at fs (site_at [] k) ≡ name)))
       (sym (empty name)) (λ k lt is. omega arith);
   firsts = record {
@@ -240,12 +242,12 @@ table_none fs position empty = record {
   each = λ k lt. absurd (omega arith);
 }
 
-pub table_empty : (fs : List ObjectValue) (position : List ℕ → Option ℕ) (ks : List Known) → ks ≡ [] → ((q : List ℕ) → position q ≡ None) → IsTable fs 0 0 position ks
-table_empty fs position ks none empty = subst (IsTable fs 0 0 position) (sym none) (table_none fs position empty)
+pub names_empty : (fs : List ObjectValue) (position : List ℕ → Option ℕ) (ks : List Known) → ks ≡ [] → ((q : List ℕ) → position q ≡ None) → AreKnownBefore fs 0 0 position ks
+names_empty fs position ks none empty = subst (AreKnownBefore fs 0 0 position) (sym none) (names_none fs position empty)
 
-pub table_local : (fs : List ObjectValue) (f i : ℕ) (position : List ℕ → Option ℕ) (ks : List Known) → binding (symbol_in fs f i) ≡ STB_LOCAL →
-    IsTable fs f i position ks → IsTable fs f (i + 1) position ks
-table_local fs f i position ks local is = record {
+pub names_local : (fs : List ObjectValue) (f i : ℕ) (position : List ℕ → Option ℕ) (ks : List Known) → binding (symbol_in fs f i) ≡ STB_LOCAL →
+    AreKnownBefore fs f i position ks → AreKnownBefore fs f (i + 1) position ks
+names_local fs f i position ks local is = record {
   places = is.places;
   firsts = listed_past symbol_count fs (IsFirstEntry fs) f i (map first_site ks) (λ first. first.0.0 local) is.firsts;
   each = λ k lt. known_other fs (name_at fs (site_at (map first_site ks) k)) f i (known_at ks k) (λ entry. entry.0 local) (is.each k lt);
@@ -257,11 +259,11 @@ names_once_before : (fs : List ObjectValue) (f i : ℕ) (ps : List Site) → Lis
 names_once_before fs f i ps are j k lt within q one other =
     apart_names fs (site_at ps j) (site_at ps k) (are.each j (omega arith)).0 (are.each k within).0 (are.order j k lt within) q one other
 
--- a name that the table has
-pub table_again : (fs : List ObjectValue) (f i : ℕ) (old now : List ℕ → Option ℕ) (ks : List Known) (k : ℕ) (known : Known) →
+-- a name that has a position
+pub names_again : (fs : List ObjectValue) (f i : ℕ) (old now : List ℕ → Option ℕ) (ks : List Known) (k : ℕ) (known : Known) →
     ((q : List ℕ) → now q ≡ old q) → old (symbol_in fs f i).name ≡ Some k → known.first ≡ (known_at ks k).first →
-    IsKnown fs (symbol_in fs f i).name f (i + 1) known → IsTable fs f i old ks → IsTable fs f (i + 1) now (set ks k known)
-table_again fs f i old now ks k known same at first next is =
+    IsKnownBefore fs (symbol_in fs f i).name f (i + 1) known → AreKnownBefore fs f i old ks → AreKnownBefore fs f (i + 1) now (set ks k known)
+names_again fs f i old now ks k known same at first next is =
     let name = (symbol_in fs f i).name in
     let (lt, named) = placed_at fs f i old ks name k at is in
     let many = length-map ks first_site in
@@ -275,7 +277,7 @@ table_again fs f i old now ks k known same at first next is =
           (row.0, row.1, (row.2.0.0, named), row.3)
           (elim earlier [ inl below ↦ inl below | inr (file, below) ↦ inr (file, inl below) ]))) is.firsts);
       each = λ j j_in. elim (cases_eq j k) [
-        | inl equal ↦ rw (equal, sites, get_or-set_same ks k known no_known lt) (subst (λ n. IsKnown fs n f (i + 1) known) (sym named) next)
+        | inl equal ↦ rw (equal, sites, get_or-set_same ks k known no_known lt) (subst (λ n. IsKnownBefore fs n f (i + 1) known) (sym named) next)
         | inr differ ↦ rw (sites, get_or-set_other ks k j known no_known differ)
             (known_other fs (name_at fs (site_at (map first_site ks) j)) f i (known_at ks j)
             (λ entry. elim (cases_lt j k) [
@@ -286,12 +288,12 @@ table_again fs f i old now ks k known same at first next is =
     }
 
 -- a further name
-pub table_new : (fs : List ObjectValue) (f i : ℕ) (old now : List ℕ → Option ℕ) (ks : List Known) (known : Known) → f < length fs →
+pub names_new : (fs : List ObjectValue) (f i : ℕ) (old now : List ℕ → Option ℕ) (ks : List Known) (known : Known) → f < length fs →
     i < length (object_at fs f).symbols → binding (symbol_in fs f i) ≢ STB_LOCAL →
     ((q : List ℕ) → now q ≡ (if bytes_eq (symbol_in fs f i).name q then Some (length ks) else old q)) → old (symbol_in fs f i).name ≡ None →
-    known.first ≡ spot_in f i → IsKnown fs (symbol_in fs f i).name f (i + 1) known → IsTable fs f i old ks →
-    IsTable fs f (i + 1) now (ks ++ known ∷ [])
-table_new fs f i old now ks known file index not_local added missing first next is =
+    known.first ≡ spot_in f i → IsKnownBefore fs (symbol_in fs f i).name f (i + 1) known → AreKnownBefore fs f i old ks →
+    AreKnownBefore fs f (i + 1) now (ks ++ known ∷ [])
+names_new fs f i old now ks known file index not_local added missing first next is =
     let name = (symbol_in fs f i).name in
     let none = not_placed fs f i old ks name missing is in
     let none_entry = none_placed fs f i old ks name missing is in
@@ -358,7 +360,7 @@ found_file fs P f found tells = (
   (λ (p, there, earlier). tells.1 (p, there, file_back fs P f p there earlier)),
 )
 
-known_file : (fs : List ObjectValue) (name : List ℕ) (f : ℕ) (k : Known) → IsKnown fs name f (length (object_at fs f).symbols) k → IsKnown fs name (f + 1) 0 k
+known_file : (fs : List ObjectValue) (name : List ℕ) (f : ℕ) (k : Known) → IsKnownBefore fs name f (length (object_at fs f).symbols) k → IsKnownBefore fs name (f + 1) 0 k
 known_file fs name f k is = record {
   strong = best_file fs (IsStrong fs name) f k.strong is.strong;
   weak = best_file fs (IsWeak fs name) f k.weak is.weak;
@@ -366,9 +368,9 @@ known_file fs name f k is = record {
   not_weak = found_file fs (IsNotWeak fs name) f k.not_weak is.not_weak;
 }
 
-pub table_file : (fs : List ObjectValue) (f : ℕ) (position : List ℕ → Option ℕ) (ks : List Known) →
-    IsTable fs f (length (object_at fs f).symbols) position ks → IsTable fs (f + 1) 0 position ks
-table_file fs f position ks is = record {
+pub names_file : (fs : List ObjectValue) (f : ℕ) (position : List ℕ → Option ℕ) (ks : List Known) →
+    AreKnownBefore fs f (length (object_at fs f).symbols) position ks → AreKnownBefore fs (f + 1) 0 position ks
+names_file fs f position ks is = record {
   places = is.places;
   firsts = lists_same (UpTo (first_entries fs) f (length (object_at fs f).symbols)) (UpTo (first_entries fs) (f + 1) 0) (map first_site ks)
       (λ p (row, earlier). (row, file_before p.file p.index f (length (object_at fs f).symbols) earlier))
@@ -376,12 +378,12 @@ table_file fs f position ks is = record {
   each = λ k lt. known_file fs (name_at fs (site_at (map first_site ks) k)) f (known_at ks k) (is.each k lt);
 }
 
--- ---- a place that stands, or a new one
+-- ---- a position that stands, or a new one
 
 pub as_looked : (r s : Option ℕ) (n q : List ℕ) (x : ℕ) → r ≡ cond (is_eq (slice_cmp nat_cmp n q)) (Some x) s → r ≡ cond (bytes_eq n q) (Some x) s
 as_looked r s n q x is = is ∙ ap (λ (e : Bool). cond e (Some x) s) (is_eq-slice_cmp n q)
 
--- a name that has a place gets another one, and then its own again: every name is where it was
+-- a name that has a position gets another one, and then its own again: every name is where it was
 pub stays_looked : (p : List ℕ → Option ℕ) (r s : Option ℕ) (n q : List ℕ) (other place : ℕ) → p n ≡ Some place → r ≡ cond (bytes_eq n q) (Some other) (p q) →
     s ≡ cond (bytes_eq n q) (Some place) r → s ≡ p q
 stays_looked p r s n q other place found once again = by_name (bytes_eq n q) refl once again where
@@ -403,7 +405,7 @@ largest_whole fs P measure n is = record {
 }
 
 block_whole : (fs : List ObjectValue) (name : List ℕ) (best : Option Block) → IsCommonBest fs name (length fs) 0 best →
-    MatchOption best (Nowhere (commons fs name)) (IsWholeBlock fs name)
+    MatchOption best (Never (commons fs name)) (IsWholeBlock fs name)
 block_whole fs name None none = λ p there. none p there (inl there.0)
 block_whole fs name (Some b) is = record {
   first = is.first.0;
@@ -411,7 +413,7 @@ block_whole fs name (Some b) is = record {
   align = largest_whole fs (IsCommon fs name) _ b.align is.align;
 }
 
-whole : (fs : List ObjectValue) (name : List ℕ) (k : Known) → ((p : Site) × entries fs name p) → IsKnown fs name (length fs) 0 k → IsWhole fs name k
+whole : (fs : List ObjectValue) (name : List ℕ) (k : Known) → ((p : Site) × entries fs name p) → IsKnownBefore fs name (length fs) 0 k → IsKnownWhole fs name k
 whole fs name k entry is = record {
   entry = entry;
   strong = best_whole fs (IsStrong fs name) k.strong is.strong;
@@ -423,29 +425,29 @@ whole fs name k entry is = record {
   );
 }
 
--- each name of the table is known as a whole
-pub whole_at : (fs : List ObjectValue) (position : List ℕ → Option ℕ) (ks : List Known) (k : ℕ) → k < length ks → IsWholeTable fs position ks →
-    IsWhole fs (name_at fs (site_at (map first_site ks) k)) (known_at ks k)
+-- each name is known as a whole
+pub whole_at : (fs : List ObjectValue) (position : List ℕ → Option ℕ) (ks : List Known) (k : ℕ) → k < length ks → AreAllKnown fs position ks →
+    IsKnownWhole fs (name_at fs (site_at (map first_site ks) k)) (known_at ks k)
 whole_at fs position ks k lt is =
     let many = length-map ks first_site in
     let row = (is.firsts.each k (omega arith)).0 in
     whole fs (name_at fs (site_at (map first_site ks) k)) (known_at ks k) (site_at (map first_site ks) k, entry_there fs (site_at (map first_site ks) k) row) (is.each k lt)
 
 pub found_whole : (fs : List ObjectValue) (position : List ℕ → Option ℕ) (ks : List Known) (name : List ℕ) (k : ℕ) → position name ≡ Some k →
-    IsWholeTable fs position ks → IsWhole fs name (known_at ks k)
+    AreAllKnown fs position ks → IsKnownWhole fs name (known_at ks k)
 found_whole fs position ks name k at is =
     let (lt, named) = placed_at fs (length fs) 0 position ks name k at is in
-    subst (λ n. IsWhole fs n (known_at ks k)) named (whole_at fs position ks k lt is)
+    subst (λ n. IsKnownWhole fs n (known_at ks k)) named (whole_at fs position ks k lt is)
 
 pub found_none : (fs : List ObjectValue) (position : List ℕ → Option ℕ) (ks : List Known) (name : List ℕ) → position name ≡ None →
-    IsWholeTable fs position ks → Nowhere (entries fs name)
+    AreAllKnown fs position ks → Never (entries fs name)
 found_none fs position ks name at is p there = none_placed fs (length fs) 0 position ks name at is p there (inl there.0)
 
-pub whole_firsts : (fs : List ObjectValue) (position : List ℕ → Option ℕ) (ks : List Known) → IsWholeTable fs position ks → Lists (first_entries fs) (map first_site ks)
+pub whole_firsts : (fs : List ObjectValue) (position : List ℕ → Option ℕ) (ks : List Known) → AreAllKnown fs position ks → Lists (first_entries fs) (map first_site ks)
 whole_firsts fs position ks is =
     lists_same (UpTo (first_entries fs) (length fs) 0) (first_entries fs) (map first_site ks) (λ p (row, earlier). row) (λ p row. (row, inl row.0)) is.firsts
 
-pub whole_places : (fs : List ObjectValue) (position : List ℕ → Option ℕ) (ks : List Known) → IsWholeTable fs position ks →
+pub whole_places : (fs : List ObjectValue) (position : List ℕ → Option ℕ) (ks : List Known) → AreAllKnown fs position ks →
     ArePositionsOf fs (map first_site ks) (length (map first_site ks)) position
 whole_places fs position ks is = subst (λ n. ArePositionsOf fs (map first_site ks) n position) (sym (length-map ks first_site)) is.places
 
@@ -454,13 +456,13 @@ site_known ks k lt = get_or-map first_site ks k no_known (site 0 0) lt
 
 -- ---- what a name without entries is bound to
 
-pub no_strong : (fs : List ObjectValue) (name : List ℕ) → Nowhere (entries fs name) → Nowhere (strong fs name)
+pub no_strong : (fs : List ObjectValue) (name : List ℕ) → Never (entries fs name) → Never (strong fs name)
 no_strong fs name none p (file, index, here, entry) = none p (file, index, strong_entry fs name p.file p.index here, entry)
 
-pub no_commons : (fs : List ObjectValue) (name : List ℕ) → Nowhere (entries fs name) → Nowhere (commons fs name)
+pub no_commons : (fs : List ObjectValue) (name : List ℕ) → Never (entries fs name) → Never (commons fs name)
 no_commons fs name none p (file, index, here, entry) = none p (file, index, here.0, entry)
 
-pub unbound : (fs : List ObjectValue) (name : List ℕ) → Nowhere (entries fs name) → IsUnbound fs name
+pub unbound : (fs : List ObjectValue) (name : List ℕ) → Never (entries fs name) → IsUnbound fs name
 unbound fs name none = (
   no_strong fs name none,
   no_commons fs name none,
@@ -470,32 +472,32 @@ unbound fs name none = (
 
 -- ---- by what is known
 
-pub strong_known : (fs : List ObjectValue) (name : List ℕ) (k : Known) (s : Spot) → k.strong ≡ Some s → IsWhole fs name k → IsFirstAt (strong fs name) (spot_site s)
+pub strong_known : (fs : List ObjectValue) (name : List ℕ) (k : Known) (s : Spot) → k.strong ≡ Some s → IsKnownWhole fs name k → IsFirstAt (strong fs name) (spot_site s)
 strong_known fs name k s at is = subst (IsWholeBest (strong fs name)) at is.strong
 
-pub strong_unknown : (fs : List ObjectValue) (name : List ℕ) (k : Known) → k.strong ≡ None → IsWhole fs name k → Nowhere (strong fs name)
+pub strong_unknown : (fs : List ObjectValue) (name : List ℕ) (k : Known) → k.strong ≡ None → IsKnownWhole fs name k → Never (strong fs name)
 strong_unknown fs name k at is = subst (IsWholeBest (strong fs name)) at is.strong
 
-pub weak_known : (fs : List ObjectValue) (name : List ℕ) (k : Known) (s : Spot) → k.weak ≡ Some s → IsWhole fs name k → IsFirstAt (weak fs name) (spot_site s)
+pub weak_known : (fs : List ObjectValue) (name : List ℕ) (k : Known) (s : Spot) → k.weak ≡ Some s → IsKnownWhole fs name k → IsFirstAt (weak fs name) (spot_site s)
 weak_known fs name k s at is = subst (IsWholeBest (weak fs name)) at is.weak
 
-pub weak_unknown : (fs : List ObjectValue) (name : List ℕ) (k : Known) → k.weak ≡ None → IsWhole fs name k → Nowhere (weak fs name)
+pub weak_unknown : (fs : List ObjectValue) (name : List ℕ) (k : Known) → k.weak ≡ None → IsKnownWhole fs name k → Never (weak fs name)
 weak_unknown fs name k at is = subst (IsWholeBest (weak fs name)) at is.weak
 
-pub common_known : (fs : List ObjectValue) (name : List ℕ) (k : Known) (b : Block) → k.common ≡ Some b → IsWhole fs name k → IsWholeBlock fs name b
-common_known fs name k b at is = subst (λ o. MatchOption o (Nowhere (commons fs name)) (IsWholeBlock fs name)) at is.common
+pub common_known : (fs : List ObjectValue) (name : List ℕ) (k : Known) (b : Block) → k.common ≡ Some b → IsKnownWhole fs name k → IsWholeBlock fs name b
+common_known fs name k b at is = subst (λ o. MatchOption o (Never (commons fs name)) (IsWholeBlock fs name)) at is.common
 
-pub common_unknown : (fs : List ObjectValue) (name : List ℕ) (k : Known) → k.common ≡ None → IsWhole fs name k → Nowhere (commons fs name)
-common_unknown fs name k at is = subst (λ o. MatchOption o (Nowhere (commons fs name)) (IsWholeBlock fs name)) at is.common
+pub common_unknown : (fs : List ObjectValue) (name : List ℕ) (k : Known) → k.common ≡ None → IsKnownWhole fs name k → Never (commons fs name)
+common_unknown fs name k at is = subst (λ o. MatchOption o (Never (commons fs name)) (IsWholeBlock fs name)) at is.common
 
-pub strong_site : (row : Row) (best : Option Spot) → IsWholeBest row best → MatchOption (option_map spot_site best) (Nowhere row) (IsFirstAt row)
+pub strong_site : (row : Row Site) (best : Option Spot) → IsWholeBest row best → MatchOption (option_map spot_site best) (Never row) (IsFirstAt row)
 strong_site row None none = none
 strong_site row (Some s) is = is
 
 -- each name is known as a whole, by its first entry
-pub whole_all : (fs : List ObjectValue) (position : List ℕ → Option ℕ) (ks : List Known) → IsWholeTable fs position ks → AreWhole fs ks
+pub whole_all : (fs : List ObjectValue) (position : List ℕ → Option ℕ) (ks : List Known) → AreAllKnown fs position ks → AreKnownWhole fs ks
 whole_all fs position ks is k lt =
     let many = length-map ks first_site in (
       subst (first_entries fs) (site_known ks k lt) ((whole_firsts fs position ks is).each k (omega arith)),
-      subst (λ p. IsWhole fs (name_at fs p) (known_at ks k)) (site_known ks k lt) (whole_at fs position ks k lt is),
+      subst (λ p. IsKnownWhole fs (name_at fs p) (known_at ks k)) (site_known ks k lt) (whole_at fs position ks k lt is),
     )

@@ -5,4 +5,4 @@ pub mod NameRules
 pub mod LinkRules
 pub mod ChosenCommons
 pub mod Naming
-pub mod NameTable
+pub mod KnownNames

@@ -3,7 +3,10 @@ use Rattle.std.specs.Prelude.{ℕ, List}
 use Rattle.elf_object_type.specs.Object.{ObjectValue}
 use Rattle.elf_link_files.specs.Files.{symbol_in}
 use Rattle.elf_link_files.specs.Live.{Live}
-use Rattle.elf_link_files.specs.Rows.{AtEach, AtSymbol, IsFirstAt, Nowhere, Row, section_count, symbol_count}
+use Rattle.elf_extent.specs.Least.{Never}
+use Rattle.elf_image_rules.specs.Rows.{Row}
+use Rattle.elf_link_files.specs.Rows.{AtEach, AtSymbol, IsFirstAt, section_count, symbol_count}
+use Rattle.elf_link_files.specs.declared.site.Site.{Site}
 use Rattle.elf_link_files.specs.Symbols.{IsCommon, IsEntry}
 use Rattle.elf_link_files.specs.Listing.{site}
 use Rattle.elf_link_names.specs.declared.listing.Listed.{Listed}
@@ -13,13 +16,13 @@ use Rattle.elf_link_names.specs.Binds.{commons, entries, strong}
 -- a common is chosen where its name has no GLOBAL definition; it stands for the name where it is the first one
 abbrev pub IsChosen : List ObjectValue → ℕ → ℕ → Type 0
 IsChosen fs f i =
-    (let name = (symbol_in fs f i).name in IsCommon fs name f i × IsFirstAt (commons fs name) (site f i) × Nowhere (strong fs name))
+    (let name = (symbol_in fs f i).name in IsCommon fs name f i × IsFirstAt (commons fs name) (site f i) × Never (strong fs name))
 
 -- an entry stands for its name where it is the first one
 abbrev pub IsFirstEntry : List ObjectValue → ℕ → ℕ → Type 0
 IsFirstEntry fs f i = (let name = (symbol_in fs f i).name in IsEntry fs name f i × IsFirstAt (entries fs name) (site f i))
 
-abbrev pub first_entries : List ObjectValue → Row
+abbrev pub first_entries : List ObjectValue → Row Site
 first_entries fs = AtSymbol fs (IsFirstEntry fs)
 
 -- what is listed
@@ -31,5 +34,5 @@ abbrev pub IsListed : List ObjectValue → Listed → ℕ → ℕ → Type 0
 IsListed fs LiveSections f i = Live fs f i
 IsListed fs ChosenCommons f i = IsChosen fs f i
 
-abbrev pub listed_row : List ObjectValue → Listed → Row
+abbrev pub listed_row : List ObjectValue → Listed → Row Site
 listed_row fs what = AtEach (listed_count what) fs (IsListed fs what)

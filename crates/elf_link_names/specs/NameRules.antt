@@ -3,10 +3,12 @@ use Rattle.std.specs.Prelude.{◌≡◌, ℕ, ◌<◌, List, [], ◌∷◌, leng
 use Rattle.elf_field.specs.Abi.{STB_GLOBAL}
 use Rattle.elf_object_type.specs.Object.{ObjectValue, binding}
 use Rattle.elf_link_files.specs.Files.{IsEarlier, object_at, symbol_in}
-use Rattle.elf_link_files.specs.Rows.{AtSymbol, Row, Ruled, rule}
+use Rattle.elf_image_rules.specs.Rows.{Row, Ruled, rule}
+use Rattle.elf_link_files.specs.Rows.{AtSymbol}
+use Rattle.elf_link_files.specs.declared.site.Site.{Site}
 use Rattle.elf_link_files.specs.Symbols.{IsStrong, IsUndefinedAt}
 use Rattle.elf_link_names.specs.declared.name_rules.NameRule.{NameRule}
-use Rattle.elf_link_names.specs.declared.name_rules.NameRule.TheVariants.{TwoDefinitions, Undefined}
+use Rattle.elf_link_names.specs.declared.name_rules.NameRule.TheVariants.{TwoDefinitions, UndefinedName}
 use Rattle.elf_link_names.specs.Binds.{IsUnbound}
 
 -- a GLOBAL definition of the name comes before symbol i of file f
@@ -20,23 +22,23 @@ HasTwoDefinitions fs f i =
     IsStrong fs (symbol_in fs f i).name f i × HasEarlier fs (symbol_in fs f i).name f i
 
 -- rule 9: a GLOBAL entry that counts as undefined, its name bound to nothing
-abbrev pub IsUndefined : List ObjectValue → ℕ → ℕ → Type 0
-IsUndefined fs f i =
+abbrev pub IsUndefinedName : List ObjectValue → ℕ → ℕ → Type 0
+IsUndefinedName fs f i =
     (binding (symbol_in fs f i) ≡ STB_GLOBAL) × IsUndefinedAt fs f (symbol_in fs f i).place × IsUnbound fs (symbol_in fs f i).name
 
 -- what breaks each of these rules
 abbrev pub BreaksName : List ObjectValue → NameRule → ℕ → ℕ → Type 0
 BreaksName fs TwoDefinitions f i = HasTwoDefinitions fs f i
-BreaksName fs Undefined f i = IsUndefined fs f i
+BreaksName fs UndefinedName f i = IsUndefinedName fs f i
 
-abbrev pub two_definitions : List ObjectValue → Row
+abbrev pub two_definitions : List ObjectValue → Row Site
 two_definitions fs = AtSymbol fs (HasTwoDefinitions fs)
 
-abbrev pub undefined : List ObjectValue → Row
-undefined fs = AtSymbol fs (IsUndefined fs)
+abbrev pub undefined_name : List ObjectValue → Row Site
+undefined_name fs = AtSymbol fs (IsUndefinedName fs)
 
-abbrev pub name_rules : List ObjectValue → List {1} Ruled
-name_rules fs = rule 8 (two_definitions fs) ∷ rule 9 (undefined fs) ∷ []
+abbrev pub link_name_rules : List ObjectValue → List {1} (Ruled Site)
+link_name_rules fs = rule 8 (two_definitions fs) ∷ rule 9 (undefined_name fs) ∷ []
 
 -- i is the first symbol of file f that breaks the rule
 abbrev pub IsFirstName : List ObjectValue → NameRule → ℕ → ℕ → Type 0

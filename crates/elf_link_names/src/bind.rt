@@ -1,13 +1,14 @@
 //! What a name is bound to (gABI chapter 4, Symbol Table).
 ghost use Rattle.std.specs.Prelude.{◌≡◌, ◌<◌, MatchOption, length};
 ghost use Rattle.std.specs.Option.{option_map};
-ghost use Rattle.elf_link_files.specs.Rows.{IsFirstAt, Nowhere};
+ghost use Rattle.elf_extent.specs.Least.{Never};
+ghost use Rattle.elf_link_files.specs.Rows.{IsFirstAt};
 ghost use Rattle.elf_link_names.specs.Binds.{Binds, IsUnbound, entries, strong};
-ghost use Rattle.elf_link_names.specs.NameTable.{IsWhole, IsWholeTable, Makes, known_at, spot_site};
+ghost use Rattle.elf_link_names.specs.KnownNames.{AreAllKnown, IsKnownWhole, Makes, known_at, spot_site};
 ghost use Rattle.elf_link_names.specs.Naming.{position_by};
 
 use crate::choice::Choice;
-use crate::name_table::{Known, NameTable, Spot};
+use crate::known_names::{Known, KnownNames, Spot};
 use elf_link_files::{Site, site_in};
 use elf_object_type::Object;
 
@@ -20,12 +21,12 @@ pub fn known_item(known: &[Known], k: usize) -> Known
 }
 
 /// What is known of a name; None where it has no entry.
-pub(crate) fn find(_objects: &[Object<'_>], table: &NameTable<'_>, name: &[u8]) -> Option<Known>
-    requires { IsWholeTable _objects.now (position_by table.now.positions) table.now.known.items }
-    ensures { MatchOption result (Nowhere (entries _objects.now name.now)) (IsWhole _objects.now name.now) }
+pub(crate) fn find(_objects: &[Object<'_>], names: &KnownNames<'_>, name: &[u8]) -> Option<Known>
+    requires { AreAllKnown _objects.now (position_by names.now.positions) names.now.known.items }
+    ensures { MatchOption result (Never (entries _objects.now name.now)) (IsKnownWhole _objects.now name.now) }
 {
-    match table.positions.get(name) {
-        Some(k) => Some(known_item(&table.known, *k)),
+    match names.positions.get(name) {
+        Some(k) => Some(known_item(&names.known, *k)),
         None => None,
     }
 }
@@ -43,13 +44,13 @@ fn site_of(spot: Option<Spot>) -> Option<Site>
 /// The first global definition of a name.
 pub(crate) fn first_strong(
     objects: &[Object<'_>],
-    table: &NameTable<'_>,
+    names: &KnownNames<'_>,
     name: &[u8],
 ) -> Option<Site>
-    requires { IsWholeTable objects.now (position_by table.now.positions) table.now.known.items }
-    ensures { MatchOption result (Nowhere (strong objects.now name.now)) (IsFirstAt (strong objects.now name.now)) }
+    requires { AreAllKnown objects.now (position_by names.now.positions) names.now.known.items }
+    ensures { MatchOption result (Never (strong objects.now name.now)) (IsFirstAt (strong objects.now name.now)) }
 {
-    match find(objects, table, name) {
+    match find(objects, names, name) {
         Some(known) => site_of(known.strong),
         None => None,
     }
@@ -84,11 +85,11 @@ pub fn choice_of(known: Known) -> Option<Choice>
 }
 
 /// What the name is bound to; None where it is bound to nothing.
-pub fn bind(objects: &[Object<'_>], table: &NameTable<'_>, name: &[u8]) -> Option<Choice>
-    requires { IsWholeTable objects.now (position_by table.now.positions) table.now.known.items }
+pub fn bind(objects: &[Object<'_>], names: &KnownNames<'_>, name: &[u8]) -> Option<Choice>
+    requires { AreAllKnown objects.now (position_by names.now.positions) names.now.known.items }
     ensures { MatchOption result (IsUnbound objects.now name.now) (Binds objects.now name.now) }
 {
-    match find(objects, table, name) {
+    match find(objects, names, name) {
         Some(known) => choice_of(known),
         None => None,
     }

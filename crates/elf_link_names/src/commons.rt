@@ -1,46 +1,46 @@
 //! The commons that are placed: of each name without a global definition one, of the largest size and the largest alignment
 //! (gABI chapter 4, Symbol Table: `SHN_COMMON`).
 ghost use Rattle.std.specs.Prelude.{◌≡◌, IfOk, MatchOption, length, map};
-ghost use Rattle.elf_link_files.specs.Discarded.{AreMarks};
+ghost use Rattle.elf_link_files.specs.Discarded.{AreDiscardMarks};
 ghost use Rattle.elf_link_files.specs.Listing.{Lists};
-ghost use Rattle.elf_link_files.specs.Rows.{Nowhere};
+ghost use Rattle.elf_extent.specs.Least.{Never};
 ghost use Rattle.elf_link_files.specs.Commons.{AreSymbols};
 ghost use Rattle.elf_link_names.specs.declared.listing.Listed.TheVariants.{ChosenCommons};
 ghost use Rattle.elf_link_names.specs.Binds.{commons as commons_of};
 ghost use Rattle.elf_link_names.specs.Listing.{listed_row};
-ghost use Rattle.elf_link_names.specs.NameTable.{IsWholeBlock, IsWholeTable};
+ghost use Rattle.elf_link_names.specs.KnownNames.{AreAllKnown, IsWholeBlock};
 ghost use Rattle.elf_link_names.specs.Naming.{position_by};
 ghost use Rattle.elf_link_names.specs.ChosenCommons.{AreChosen, AreChosenAt, IsOfLargest};
 ghost use Rattle.elf_link_names.specs.ChosenCommons.{HaveChosen};
 
 use crate::bind::find;
+use crate::known_names::{Block, KnownNames};
 use crate::listing::{Listed, all_listed};
-use crate::name_table::{Block, NameTable};
 use elf_link_files::files::symbol_of;
 use elf_link_files::{Chosen, Site};
 use elf_object_type::Object;
 use std::alloc::{AllocError, Global};
 
 /// The commons of a name; None where it has none.
-fn block_of(objects: &[Object<'_>], table: &NameTable<'_>, name: &[u8]) -> Option<Block>
-    requires { IsWholeTable objects.now (position_by table.now.positions) table.now.known.items }
-    ensures { MatchOption result (Nowhere (commons_of objects.now name.now)) (IsWholeBlock objects.now name.now) }
+fn block_of(objects: &[Object<'_>], names: &KnownNames<'_>, name: &[u8]) -> Option<Block>
+    requires { AreAllKnown objects.now (position_by names.now.positions) names.now.known.items }
+    ensures { MatchOption result (Never (commons_of objects.now name.now)) (IsWholeBlock objects.now name.now) }
 {
-    match find(objects, table, name) {
+    match find(objects, names, name) {
         Some(known) => known.common,
         None => None,
     }
 }
 
 /// The common that is placed for the chosen one at a site.
-fn chosen_for(objects: &[Object<'_>], table: &NameTable<'_>, site: Site) -> Chosen
+fn chosen_for(objects: &[Object<'_>], names: &KnownNames<'_>, site: Site) -> Chosen
     requires site { listed_row objects.now ChosenCommons site }
-    requires table { IsWholeTable objects.now (position_by table.now.positions) table.now.known.items }
+    requires names { AreAllKnown objects.now (position_by names.now.positions) names.now.known.items }
     ensures site { result.site ≡ site }
     ensures largest { IsOfLargest objects.now result }
 {
     let name = symbol_of(objects, site.file, site.index).name;
-    let Some(block) = block_of(objects, table, name) else {
+    let Some(block) = block_of(objects, names, name) else {
         unreachable!();
     };
     Chosen {
@@ -54,16 +54,16 @@ fn chosen_for(objects: &[Object<'_>], table: &NameTable<'_>, site: Site) -> Chos
 fn chosen_at(
     alloc: Global,
     objects: &[Object<'_>],
-    table: &NameTable<'_>,
+    names: &KnownNames<'_>,
     sites: &[Site],
 ) -> Result<Vec<Chosen>, AllocError>
-    requires table { IsWholeTable objects.now (position_by table.now.positions) table.now.known.items }
+    requires names { AreAllKnown objects.now (position_by names.now.positions) names.now.known.items }
     requires sites { Lists (listed_row objects.now ChosenCommons) sites.now }
     ensures { IfOk result (λ commons. AreChosenAt objects.now sites.now (length sites.now) commons.items) }
 {
     let mut commons = Vec::new(alloc);
     for k in 0..sites.len() {
-        commons.push(chosen_for(objects, table, sites[k]))?;
+        commons.push(chosen_for(objects, names, sites[k]))?;
     }
     Ok(commons)
 }
@@ -73,15 +73,15 @@ pub fn chosen_commons(
     alloc: Global,
     objects: &[Object<'_>],
     marks: &[Vec<bool>],
-    table: &NameTable<'_>,
+    names: &KnownNames<'_>,
 ) -> Result<Vec<Chosen>, AllocError>
-    requires marks { AreMarks objects.now (map (λ row. row.items) marks.now) }
-    requires table { IsWholeTable objects.now (position_by table.now.positions) table.now.known.items }
+    requires marks { AreDiscardMarks objects.now (map (λ row. row.items) marks.now) }
+    requires names { AreAllKnown objects.now (position_by names.now.positions) names.now.known.items }
     ensures chosen { IfOk result (λ commons. AreChosen objects.now commons.items) }
     ensures symbols { IfOk result (λ commons. AreSymbols objects.now commons.items) }
     ensures all { IfOk result (λ commons. HaveChosen objects.now commons.items) }
 {
-    let sites = all_listed(alloc, Listed::ChosenCommons, objects, marks, table)?;
-    let commons = chosen_at(alloc, objects, table, &sites)?;
+    let sites = all_listed(alloc, Listed::ChosenCommons, objects, marks, names)?;
+    let commons = chosen_at(alloc, objects, names, &sites)?;
     Ok(commons)
 }

@@ -1,8 +1,10 @@
 //! Rules 1 to 7: the options, and each file, section and symbol by itself.
 ghost use Rattle.std.specs.Prelude.{◌≡◌, ◌↔◌, ◌<◌, IsTrue, MatchOption, length, map};
-ghost use Rattle.elf_link_files.specs.Discarded.{AreMarks};
-ghost use Rattle.elf_link_files.specs.FileRules.{AreBadOptions, IsMismatch, mismatch, option_rules, section_rules, symbol_rules};
-ghost use Rattle.elf_link_files.specs.Rows.{FirstIn, IsFirstAt, Nowhere, found_of};
+ghost use Rattle.elf_link_files.specs.Discarded.{AreDiscardMarks};
+ghost use Rattle.elf_link_files.specs.FileRules.{AreBadOptions, IsMismatch, link_section_rules, link_symbol_rules, mismatch, option_rules};
+ghost use Rattle.elf_extent.specs.Least.{Never};
+ghost use Rattle.elf_image_rules.specs.Broken.{fault_of};
+ghost use Rattle.elf_link_files.specs.Rows.{FirstAmong, IsFirstAt};
 
 use elf_link_files::rules::*;
 use elf_link_files::site_test::{SiteTest, first_site};
@@ -28,7 +30,7 @@ fn is_mismatch(first: &Object<'_>, other: &Object<'_>) -> bool
 
 /// Rule 2: the first file that differs from file 0.
 fn first_mismatch(objects: &[Object<'_>]) -> Option<Site>
-    ensures { MatchOption result (Nowhere (mismatch objects.now)) (IsFirstAt (mismatch objects.now)) }
+    ensures { MatchOption result (Never (mismatch objects.now)) (IsFirstAt (mismatch objects.now)) }
 {
     for file in 0..objects.len() {
         if is_mismatch(&objects[0], &objects[file]) {
@@ -39,8 +41,11 @@ fn first_mismatch(objects: &[Object<'_>]) -> Option<Site>
 }
 
 /// Rules 1 and 2: the options, and the files as a whole.
-pub(crate) fn judge_options(options: &Options<'_>, objects: &[Object<'_>]) -> Result<(), Broken>
-    ensures { FirstIn (option_rules options.now objects.now) (found_of result) }
+pub(crate) fn judge_options(
+    options: &Options<'_>,
+    objects: &[Object<'_>],
+) -> Result<(), Broken<Site>>
+    ensures { FirstAmong (option_rules options.now objects.now) (fault_of result) }
 {
     if are_bad_options(options) {
         return Err(Broken::new(BAD_OPTIONS, site_in(0, 0)));
@@ -52,9 +57,12 @@ pub(crate) fn judge_options(options: &Options<'_>, objects: &[Object<'_>]) -> Re
 }
 
 /// Rules 3 to 5: the sections.
-pub(crate) fn judge_sections(objects: &[Object<'_>], marks: &[Vec<bool>]) -> Result<(), Broken>
-    requires marks { AreMarks objects.now (map (λ row. row.items) marks.now) }
-    ensures { FirstIn (section_rules objects.now) (found_of result) }
+pub(crate) fn judge_sections(
+    objects: &[Object<'_>],
+    marks: &[Vec<bool>],
+) -> Result<(), Broken<Site>>
+    requires marks { AreDiscardMarks objects.now (map (λ row. row.items) marks.now) }
+    ensures { FirstAmong (link_section_rules objects.now) (fault_of result) }
 {
     if let Some(site) = first_site(&SiteTest::Tls, objects, marks) {
         return Err(Broken::new(TLS, site));
@@ -69,9 +77,9 @@ pub(crate) fn judge_sections(objects: &[Object<'_>], marks: &[Vec<bool>]) -> Res
 }
 
 /// Rules 6 and 7: the symbols by themselves.
-pub(crate) fn judge_symbols(objects: &[Object<'_>], marks: &[Vec<bool>]) -> Result<(), Broken>
-    requires marks { AreMarks objects.now (map (λ row. row.items) marks.now) }
-    ensures { FirstIn (symbol_rules objects.now) (found_of result) }
+pub(crate) fn judge_symbols(objects: &[Object<'_>], marks: &[Vec<bool>]) -> Result<(), Broken<Site>>
+    requires marks { AreDiscardMarks objects.now (map (λ row. row.items) marks.now) }
+    ensures { FirstAmong (link_symbol_rules objects.now) (fault_of result) }
 {
     if let Some(site) = first_site(&SiteTest::BadSymbol, objects, marks) {
         return Err(Broken::new(BAD_SYMBOL, site));

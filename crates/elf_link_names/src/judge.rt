@@ -1,15 +1,15 @@
 //! Rules 1 to 9 of the link, in order.
 ghost use Rattle.std.specs.Prelude.{◌≡◌, IfErr, IfOk, None, OnOk, map};
-ghost use Rattle.elf_link_files.specs.Discarded.{AreMarks};
+ghost use Rattle.elf_link_files.specs.Discarded.{AreDiscardMarks};
 ghost use Rattle.elf_link_files.specs.FileRules.{option_rules};
-ghost use Rattle.elf_link_files.specs.Rows.{FirstIn};
+ghost use Rattle.elf_link_files.specs.Rows.{FirstAmong};
 ghost use Rattle.elf_link_names.specs.LinkRules.{IsInputFault, input_rules};
-ghost use Rattle.elf_link_names.specs.NameTable.{IsWholeTable};
+ghost use Rattle.elf_link_names.specs.KnownNames.{AreAllKnown};
 ghost use Rattle.elf_link_names.specs.Naming.{position_by};
 
 use crate::file_rules::{judge_options, judge_sections, judge_symbols};
+use crate::known_names::{KnownNames, known_names};
 use crate::name_rules::judge_names;
-use crate::name_table::{NameTable, name_table};
 use elf_link_files::discarded::discarded;
 use elf_link_files::{LinkFault, Options};
 use elf_object_type::Object;
@@ -20,8 +20,8 @@ use std::alloc::Global;
 pub struct Judged<'a> {
     /// A mark for each section of each file, whether it is discarded.
     pub marks: Vec<Vec<bool>>,
-    /// The table of all names.
-    pub table: NameTable<'a>,
+    /// What is known of all names.
+    pub names: KnownNames<'a>,
 }
 
 /// What is known of the files, where they break none of rules 1 to 9.
@@ -33,17 +33,17 @@ pub fn judge<'a>(
     objects: &[Object<'a>],
     options: &Options<'_>,
 ) -> Result<Judged<'a>, LinkFault>
-    ensures sound { OnOk result (FirstIn (input_rules options.now objects.now) None) }
-    ensures options { OnOk result (FirstIn (option_rules options.now objects.now) None) }
-    ensures marks { IfOk result (λ judged. AreMarks objects.now (map (λ row. row.items) judged.marks.items)) }
-    ensures table { IfOk result (λ judged. IsWholeTable objects.now (position_by judged.table.positions) judged.table.known.items) }
+    ensures sound { OnOk result (FirstAmong (input_rules options.now objects.now) None) }
+    ensures options { OnOk result (FirstAmong (option_rules options.now objects.now) None) }
+    ensures marks { IfOk result (λ judged. AreDiscardMarks objects.now (map (λ row. row.items) judged.marks.items)) }
+    ensures names { IfOk result (λ judged. AreAllKnown objects.now (position_by judged.names.positions) judged.names.known.items) }
     ensures err { IfErr result (IsInputFault options.now objects.now) }
 {
     judge_options(options, objects)?;
     let marks = discarded(alloc, objects)?;
     judge_sections(objects, &marks)?;
     judge_symbols(objects, &marks)?;
-    let table = name_table(alloc, objects, &marks)?;
-    judge_names(objects, &marks, &table)?;
-    Ok(Judged { marks, table })
+    let names = known_names(alloc, objects, &marks)?;
+    judge_names(objects, &marks, &names)?;
+    Ok(Judged { marks, names })
 }

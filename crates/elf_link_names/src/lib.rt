@@ -1,7 +1,7 @@
 //! The names of a link (gABI chapter 4, Symbol Table): what is known of each, what it is bound to, which commons are placed, and
 //! rules 1 to 9, which are asked before anything is placed.
 //!
-//! [`judge`](judge::judge) answers the marks and the table of all names, or the first of those rules that stands.
+//! [`judge`](judge::judge) answers the marks and what is known of all names, or the first of those rules that stands.
 #![tactic(auto)]
 
 pub mod bind;
@@ -9,11 +9,11 @@ mod choice;
 mod commons;
 mod file_rules;
 pub mod judge;
+mod known_names;
 mod listing;
 mod name_rules;
-mod name_table;
 
 pub use choice::Choice;
 pub use commons::chosen_commons;
+pub use known_names::{Block, Known, KnownNames, Spot};
 pub use listing::{Listed, all_listed};
-pub use name_table::{Block, Known, NameTable, Spot};

@@ -1,14 +1,14 @@
 //! Lists of sites in order: live sections, and chosen commons.
 ghost use Rattle.std.specs.Prelude.{◌≡◌, ◌↔◌, ◌+◌, ◌<◌, IfOk, IsTrue, OnOk, length, map};
-ghost use Rattle.elf_link_files.specs.Discarded.{AreMarks};
+ghost use Rattle.elf_link_files.specs.Discarded.{AreDiscardMarks};
 ghost use Rattle.elf_link_files.specs.Files.{object_at};
 ghost use Rattle.elf_link_files.specs.Listing.{Lists, UpTo};
 ghost use Rattle.elf_link_names.specs.Listing.{IsChosen, IsListed, listed_count, listed_row};
-ghost use Rattle.elf_link_names.specs.NameTable.{IsChosenOf, IsFirstCommonOf, IsWholeTable};
+ghost use Rattle.elf_link_names.specs.KnownNames.{AreAllKnown, IsChosenOf, IsFirstCommonOf};
 ghost use Rattle.elf_link_names.specs.Naming.{position_by};
 
 use crate::bind::find;
-use crate::name_table::{Known, NameTable, Spot};
+use crate::known_names::{Known, KnownNames, Spot};
 use elf_link_files::files::{section_count, symbol_count, symbol_of};
 use elf_link_files::section_tests::is_live;
 use elf_link_files::symbol_tests::is_common_entry;
@@ -41,19 +41,19 @@ impl Listed {
         self,
         objects: &[Object<'_>],
         marks: &[Vec<bool>],
-        table: &NameTable<'_>,
+        names: &KnownNames<'_>,
         file: usize,
         index: usize,
     ) -> bool
         requires file { file < length objects.now }
         requires index { index < listed_count self (object_at objects.now file) }
-        requires marks { AreMarks objects.now (map (λ row. row.items) marks.now) }
-        requires table { IsWholeTable objects.now (position_by table.now.positions) table.now.known.items }
+        requires marks { AreDiscardMarks objects.now (map (λ row. row.items) marks.now) }
+        requires names { AreAllKnown objects.now (position_by names.now.positions) names.now.known.items }
         ensures { IsTrue result ↔ IsListed objects.now self file index }
     {
         match self {
             Listed::LiveSections => is_live(objects, marks, file, index),
-            Listed::ChosenCommons => is_chosen(objects, table, file, index),
+            Listed::ChosenCommons => is_chosen(objects, names, file, index),
         }
     }
 }
@@ -86,17 +86,17 @@ fn is_chosen_of(known: Known, file: usize, index: usize) -> bool
 }
 
 /// Whether a symbol is the first common of its name, which has no global definition.
-fn is_chosen(objects: &[Object<'_>], table: &NameTable<'_>, file: usize, index: usize) -> bool
+fn is_chosen(objects: &[Object<'_>], names: &KnownNames<'_>, file: usize, index: usize) -> bool
     requires file { file < length objects.now }
     requires index { index < length (object_at objects.now file).symbols }
-    requires table { IsWholeTable objects.now (position_by table.now.positions) table.now.known.items }
+    requires names { AreAllKnown objects.now (position_by names.now.positions) names.now.known.items }
     ensures { IsTrue result ↔ IsChosen objects.now file index }
 {
     let name = symbol_of(objects, file, index).name;
     if !is_common_entry(name, objects, file, index) {
         return false;
     }
-    match find(objects, table, name) {
+    match find(objects, names, name) {
         Some(known) => is_chosen_of(known, file, index),
         None => false,
     }
@@ -107,19 +107,19 @@ fn push_site(
     what: Listed,
     objects: &[Object<'_>],
     marks: &[Vec<bool>],
-    table: &NameTable<'_>,
+    names: &KnownNames<'_>,
     file: usize,
     index: usize,
     sites: &mut Vec<Site>,
 ) -> Result<(), AllocError>
     requires file { file < length objects.now }
     requires index { index < listed_count what (object_at objects.now file) }
-    requires marks { AreMarks objects.now (map (λ row. row.items) marks.now) }
-    requires table { IsWholeTable objects.now (position_by table.now.positions) table.now.known.items }
+    requires marks { AreDiscardMarks objects.now (map (λ row. row.items) marks.now) }
+    requires names { AreAllKnown objects.now (position_by names.now.positions) names.now.known.items }
     requires before { Lists (UpTo (listed_row objects.now what) file index) sites.old.items }
     ensures { OnOk result (Lists (UpTo (listed_row objects.now what) file (index + 1)) sites.new.items) }
 {
-    if !what.has(objects, marks, table, file, index) {
+    if !what.has(objects, marks, names, file, index) {
         return Ok(());
     }
     sites.push(site_in(file, index))?;
@@ -131,18 +131,18 @@ fn push_file(
     what: Listed,
     objects: &[Object<'_>],
     marks: &[Vec<bool>],
-    table: &NameTable<'_>,
+    names: &KnownNames<'_>,
     file: usize,
     sites: &mut Vec<Site>,
 ) -> Result<(), AllocError>
     requires file { file < length objects.now }
-    requires marks { AreMarks objects.now (map (λ row. row.items) marks.now) }
-    requires table { IsWholeTable objects.now (position_by table.now.positions) table.now.known.items }
+    requires marks { AreDiscardMarks objects.now (map (λ row. row.items) marks.now) }
+    requires names { AreAllKnown objects.now (position_by names.now.positions) names.now.known.items }
     requires before { Lists (UpTo (listed_row objects.now what) file 0) sites.old.items }
     ensures { OnOk result (Lists (UpTo (listed_row objects.now what) file (listed_count what (object_at objects.now file))) sites.new.items) }
 {
     for index in 0..what.count(&objects[file]) {
-        push_site(what, objects, marks, table, file, index, sites)?;
+        push_site(what, objects, marks, names, file, index, sites)?;
     }
     Ok(())
 }
@@ -153,15 +153,15 @@ pub fn all_listed(
     what: Listed,
     objects: &[Object<'_>],
     marks: &[Vec<bool>],
-    table: &NameTable<'_>,
+    names: &KnownNames<'_>,
 ) -> Result<Vec<Site>, AllocError>
-    requires marks { AreMarks objects.now (map (λ row. row.items) marks.now) }
-    requires table { IsWholeTable objects.now (position_by table.now.positions) table.now.known.items }
+    requires marks { AreDiscardMarks objects.now (map (λ row. row.items) marks.now) }
+    requires names { AreAllKnown objects.now (position_by names.now.positions) names.now.known.items }
     ensures { IfOk result (λ sites. Lists (listed_row objects.now what) sites.items) }
 {
     let mut sites = Vec::new(alloc);
     for file in 0..objects.len() {
-        push_file(what, objects, marks, table, file, &mut sites)?;
+        push_file(what, objects, marks, names, file, &mut sites)?;
     }
     Ok(sites)
 }

@@ -1,16 +1,18 @@
 //! Rules 8 and 9: the definitions of a name.
 ghost use Rattle.std.specs.Prelude.{◌≡◌, ◌↔◌, ◌<◌, IsTrue, MatchOption, length, map};
-ghost use Rattle.elf_link_files.specs.Discarded.{AreMarks};
+ghost use Rattle.elf_link_files.specs.Discarded.{AreDiscardMarks};
 ghost use Rattle.elf_link_files.specs.Files.{IsEarlier, object_at};
-ghost use Rattle.elf_link_files.specs.Rows.{AtSymbol, FirstIn, IsFirstAt, Nowhere, found_of};
+ghost use Rattle.elf_extent.specs.Least.{Never};
+ghost use Rattle.elf_image_rules.specs.Broken.{fault_of};
+ghost use Rattle.elf_link_files.specs.Rows.{AtSymbol, FirstAmong, IsFirstAt};
 ghost use Rattle.elf_link_files.specs.Symbols.{IsPlaceIn, IsUndefinedAt};
 ghost use Rattle.elf_link_names.specs.Binds.{IsUnbound};
-ghost use Rattle.elf_link_names.specs.NameTable.{IsWholeTable};
+ghost use Rattle.elf_link_names.specs.KnownNames.{AreAllKnown};
 ghost use Rattle.elf_link_names.specs.Naming.{position_by};
-ghost use Rattle.elf_link_names.specs.NameRules.{BreaksName, HasEarlier, HasNoName, HasTwoDefinitions, IsFirstName, IsUndefined, name_rules};
+ghost use Rattle.elf_link_names.specs.NameRules.{BreaksName, HasEarlier, HasNoName, HasTwoDefinitions, IsFirstName, IsUndefinedName, link_name_rules};
 
 use crate::bind::{bind, first_strong};
-use crate::name_table::NameTable;
+use crate::known_names::KnownNames;
 use elf_field::abi::*;
 use elf_link_files::files::{keeps_rules, symbol_count, symbol_of};
 use elf_link_files::rules::*;
@@ -24,8 +26,8 @@ use elf_object_type::{Object, Place};
 enum NameRule {
     /// Rule 8, [`TWO_DEFINITIONS`].
     TwoDefinitions,
-    /// Rule 9, [`UNDEFINED`].
-    Undefined,
+    /// Rule 9, [`UNDEFINED_NAME`].
+    UndefinedName,
 }
 
 impl NameRule {
@@ -34,19 +36,19 @@ impl NameRule {
         self,
         objects: &[Object<'_>],
         marks: &[Vec<bool>],
-        table: &NameTable<'_>,
+        names: &KnownNames<'_>,
         file: usize,
         index: usize,
     ) -> bool
         requires file { file < length objects.now }
         requires index { index < length (object_at objects.now file).symbols }
-        requires marks { AreMarks objects.now (map (λ row. row.items) marks.now) }
-        requires table { IsWholeTable objects.now (position_by table.now.positions) table.now.known.items }
+        requires marks { AreDiscardMarks objects.now (map (λ row. row.items) marks.now) }
+        requires names { AreAllKnown objects.now (position_by names.now.positions) names.now.known.items }
         ensures { IsTrue result ↔ BreaksName objects.now self file index }
     {
         match self {
-            NameRule::TwoDefinitions => has_two_definitions(objects, marks, table, file, index),
-            NameRule::Undefined => is_undefined(objects, marks, table, file, index),
+            NameRule::TwoDefinitions => has_two_definitions(objects, marks, names, file, index),
+            NameRule::UndefinedName => is_undefined_name(objects, marks, names, file, index),
         }
     }
 }
@@ -62,14 +64,14 @@ fn is_earlier(site: Site, file: usize, index: usize) -> bool
 fn has_earlier(
     name: &[u8],
     objects: &[Object<'_>],
-    table: &NameTable<'_>,
+    names: &KnownNames<'_>,
     file: usize,
     index: usize,
 ) -> bool
-    requires table { IsWholeTable objects.now (position_by table.now.positions) table.now.known.items }
+    requires names { AreAllKnown objects.now (position_by names.now.positions) names.now.known.items }
     ensures { IsTrue result ↔ HasEarlier objects.now name.now file index }
 {
-    match first_strong(objects, table, name) {
+    match first_strong(objects, names, name) {
         Some(site) => is_earlier(site, file, index),
         None => false,
     }
@@ -79,26 +81,26 @@ fn has_earlier(
 fn has_two_definitions(
     objects: &[Object<'_>],
     marks: &[Vec<bool>],
-    table: &NameTable<'_>,
+    names: &KnownNames<'_>,
     file: usize,
     index: usize,
 ) -> bool
     requires file { file < length objects.now }
     requires index { index < length (object_at objects.now file).symbols }
-    requires marks { AreMarks objects.now (map (λ row. row.items) marks.now) }
-    requires table { IsWholeTable objects.now (position_by table.now.positions) table.now.known.items }
+    requires marks { AreDiscardMarks objects.now (map (λ row. row.items) marks.now) }
+    requires names { AreAllKnown objects.now (position_by names.now.positions) names.now.known.items }
     ensures { IsTrue result ↔ HasTwoDefinitions objects.now file index }
 {
     let name = symbol_of(objects, file, index).name;
     is_definition(STB_GLOBAL, name, objects, marks, file, index)
-        && has_earlier(name, objects, table, file, index)
+        && has_earlier(name, objects, names, file, index)
 }
 
 /// Whether a place counts as undefined: nowhere, or in a section that is discarded.
 fn is_undefined_at(objects: &[Object<'_>], marks: &[Vec<bool>], file: usize, place: Place) -> bool
     requires file { file < length objects.now }
     requires place { IsPlaceIn (object_at objects.now file) place }
-    requires marks { AreMarks objects.now (map (λ row. row.items) marks.now) }
+    requires marks { AreDiscardMarks objects.now (map (λ row. row.items) marks.now) }
     ensures { IsTrue result ↔ IsUndefinedAt objects.now file place }
 {
     match place {
@@ -109,35 +111,35 @@ fn is_undefined_at(objects: &[Object<'_>], marks: &[Vec<bool>], file: usize, pla
 }
 
 /// Whether a name is bound to nothing.
-fn is_unbound(objects: &[Object<'_>], table: &NameTable<'_>, name: &[u8]) -> bool
-    requires table { IsWholeTable objects.now (position_by table.now.positions) table.now.known.items }
+fn is_unbound(objects: &[Object<'_>], names: &KnownNames<'_>, name: &[u8]) -> bool
+    requires names { AreAllKnown objects.now (position_by names.now.positions) names.now.known.items }
     ensures { IsTrue result ↔ IsUnbound objects.now name.now }
 {
-    match bind(objects, table, name) {
+    match bind(objects, names, name) {
         Some(_) => false,
         None => true,
     }
 }
 
 /// Rule 9: whether a symbol is global, counts as undefined, and its name is bound to nothing.
-fn is_undefined(
+fn is_undefined_name(
     objects: &[Object<'_>],
     marks: &[Vec<bool>],
-    table: &NameTable<'_>,
+    names: &KnownNames<'_>,
     file: usize,
     index: usize,
 ) -> bool
     requires file { file < length objects.now }
     requires index { index < length (object_at objects.now file).symbols }
-    requires marks { AreMarks objects.now (map (λ row. row.items) marks.now) }
-    requires table { IsWholeTable objects.now (position_by table.now.positions) table.now.known.items }
-    ensures { IsTrue result ↔ IsUndefined objects.now file index }
+    requires marks { AreDiscardMarks objects.now (map (λ row. row.items) marks.now) }
+    requires names { AreAllKnown objects.now (position_by names.now.positions) names.now.known.items }
+    ensures { IsTrue result ↔ IsUndefinedName objects.now file index }
 {
     keeps_rules(objects, file);
     let symbol = symbol_of(objects, file, index);
     symbol.binding() == STB_GLOBAL
         && is_undefined_at(objects, marks, file, symbol.place)
-        && is_unbound(objects, table, symbol.name)
+        && is_unbound(objects, names, symbol.name)
 }
 
 /// The first symbol of a file that breaks the rule.
@@ -145,16 +147,16 @@ fn first_name_in(
     rule: NameRule,
     objects: &[Object<'_>],
     marks: &[Vec<bool>],
-    table: &NameTable<'_>,
+    names: &KnownNames<'_>,
     file: usize,
 ) -> Option<usize>
     requires file { file < length objects.now }
-    requires marks { AreMarks objects.now (map (λ row. row.items) marks.now) }
-    requires table { IsWholeTable objects.now (position_by table.now.positions) table.now.known.items }
+    requires marks { AreDiscardMarks objects.now (map (λ row. row.items) marks.now) }
+    requires names { AreAllKnown objects.now (position_by names.now.positions) names.now.known.items }
     ensures { MatchOption result (HasNoName objects.now rule file) (IsFirstName objects.now rule file) }
 {
     for index in 0..symbol_count(&objects[file]) {
-        if rule.is_broken_by(objects, marks, table, file, index) {
+        if rule.is_broken_by(objects, marks, names, file, index) {
             return Some(index);
         }
     }
@@ -166,35 +168,35 @@ fn first_name(
     rule: NameRule,
     objects: &[Object<'_>],
     marks: &[Vec<bool>],
-    table: &NameTable<'_>,
+    names: &KnownNames<'_>,
 ) -> Option<Site>
-    requires marks { AreMarks objects.now (map (λ row. row.items) marks.now) }
-    requires table { IsWholeTable objects.now (position_by table.now.positions) table.now.known.items }
-    ensures { MatchOption result (Nowhere (AtSymbol objects.now (BreaksName objects.now rule))) (IsFirstAt (AtSymbol objects.now (BreaksName objects.now rule))) }
+    requires marks { AreDiscardMarks objects.now (map (λ row. row.items) marks.now) }
+    requires names { AreAllKnown objects.now (position_by names.now.positions) names.now.known.items }
+    ensures { MatchOption result (Never (AtSymbol objects.now (BreaksName objects.now rule))) (IsFirstAt (AtSymbol objects.now (BreaksName objects.now rule))) }
 {
     for file in 0..objects.len() {
-        if let Some(index) = first_name_in(rule, objects, marks, table, file) {
+        if let Some(index) = first_name_in(rule, objects, marks, names, file) {
             return Some(site_in(file, index));
         }
     }
     None
 }
 
-/// Rules 8 and 9. Names are looked up in the table.
+/// Rules 8 and 9. Names are looked up among the known ones.
 pub(crate) fn judge_names(
     objects: &[Object<'_>],
     marks: &[Vec<bool>],
-    table: &NameTable<'_>,
-) -> Result<(), Broken>
-    requires marks { AreMarks objects.now (map (λ row. row.items) marks.now) }
-    requires table { IsWholeTable objects.now (position_by table.now.positions) table.now.known.items }
-    ensures { FirstIn (name_rules objects.now) (found_of result) }
+    names: &KnownNames<'_>,
+) -> Result<(), Broken<Site>>
+    requires marks { AreDiscardMarks objects.now (map (λ row. row.items) marks.now) }
+    requires names { AreAllKnown objects.now (position_by names.now.positions) names.now.known.items }
+    ensures { FirstAmong (link_name_rules objects.now) (fault_of result) }
 {
-    if let Some(site) = first_name(NameRule::TwoDefinitions, objects, marks, table) {
+    if let Some(site) = first_name(NameRule::TwoDefinitions, objects, marks, names) {
         return Err(Broken::new(TWO_DEFINITIONS, site));
     }
-    if let Some(site) = first_name(NameRule::Undefined, objects, marks, table) {
-        return Err(Broken::new(UNDEFINED, site));
+    if let Some(site) = first_name(NameRule::UndefinedName, objects, marks, names) {
+        return Err(Broken::new(UNDEFINED_NAME, site));
     }
     Ok(())
 }

@@ -20,7 +20,7 @@ use Rattle.elf_link_files.proofs.Public.{lists_more, lists_same, not_true, same_
 use Rattle.elf_link_outputs.specs.declared.outputs.OutputKey.{OutputKey}
 use Rattle.elf_link_outputs.specs.OutputGroups.{AreGrouped, AreGroups, AreGroupsOfKind, AreHeaded, AreInOrder, IsHead, IsKeyOf, no_key}
 use Rattle.elf_link_outputs.specs.Outputs.{HaveOneKey, Picks, members, of_kind, openers}
-use Rattle.elf_link_outputs.specs.Plan.{AreMembers, AreOpeners}
+use Rattle.elf_link_outputs.specs.Plan.{AreOpeners, AreOutputMembers}
 use Rattle.elf_link_outputs.proofs.Openers.{key_join, key_swap}
 use Rattle.elf_link_outputs.proofs.Picked.{picked_done, picked_past}
 
@@ -317,8 +317,8 @@ first_or : (P : ℕ → Type 0) (n : ℕ) → P 0 → ((k : ℕ) → suc k < n �
 first_or P n first rest zero lt = first
 first_or P n first rest (suc k) lt = rest k lt
 
-each_append : (fs : List ObjectValue) (xs ys : List Site) (gs hs : List (List Site)) → AreMembers fs xs (length xs) gs → AreMembers fs ys (length ys) hs →
-    AreMembers fs (xs ++ ys) (length (xs ++ ys)) (gs ++ hs)
+each_append : (fs : List ObjectValue) (xs ys : List Site) (gs hs : List (List Site)) → AreOutputMembers fs xs (length xs) gs → AreOutputMembers fs ys (length ys) hs →
+    AreOutputMembers fs (xs ++ ys) (length (xs ++ ys)) (gs ++ hs)
 each_append fs [] ys [] hs front back = back
 each_append fs [] ys (g ∷ gs) hs front back = absurd (let count = front.count in omega arith)
 each_append fs (x ∷ xs) ys [] hs front back = absurd (let count = front.count in omega arith)
@@ -331,7 +331,7 @@ each_append fs (x ∷ xs) ys (g ∷ gs) hs front back =
     }
 
 pub outputs_are : (fs : List ObjectValue) (ps qs : List Site) (gs hs : List (List Site)) → Lists (of_kind fs false) ps → Lists (of_kind fs true) qs →
-    AreGroups fs ps gs → AreGroups fs qs hs → (xs : List Site) × AreOpeners fs xs × AreMembers fs xs (length xs) (gs ++ hs)
+    AreGroups fs ps gs → AreGroups fs qs hs → (xs : List Site) × AreOpeners fs xs × AreOutputMembers fs xs (length xs) (gs ++ hs)
 outputs_are fs ps qs gs hs with without (heads, are) (others, rest) =
     let count = are.grouped.count in
     let more = rest.grouped.count in (
@@ -343,6 +343,6 @@ outputs_are fs ps qs gs hs with without (heads, are) (others, rest) =
     )
 
 pub outputs_all : (fs : List ObjectValue) (gs hs oss : List (List Site)) → AreGroupsOfKind fs false gs → AreGroupsOfKind fs true hs → oss ≡ gs ++ hs →
-    (zs : List Site) × AreOpeners fs zs × AreMembers fs zs (length zs) oss
+    (zs : List Site) × AreOpeners fs zs × AreOutputMembers fs zs (length zs) oss
 outputs_all fs gs hs oss (ps, with, one) (qs, without, other) all =
-    subst (λ os. (zs : List Site) × AreOpeners fs zs × AreMembers fs zs (length zs) os) (sym all) (outputs_are fs ps qs gs hs with without one other)
+    subst (λ os. (zs : List Site) × AreOpeners fs zs × AreOutputMembers fs zs (length zs) os) (sym all) (outputs_are fs ps qs gs hs with without one other)

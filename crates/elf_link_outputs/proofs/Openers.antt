@@ -4,22 +4,22 @@ use Rattle.std.proofs.lemmas.Bool.{cases_eq, cases_lt}
 use Rattle.elf_object_type.specs.Object.{ObjectValue}
 use Rattle.elf_link_files.specs.declared.site.Site.{Site}
 use Rattle.elf_link_files.specs.Listing.{AreIn, Lists, site_at}
-use Rattle.elf_link_files.specs.Items.{AreOnce, IsIn, Pairs}
+use Rattle.elf_link_files.specs.Items.{AreOnce, IsSiteIn, Pairs}
 use Rattle.elf_link_files.specs.Rows.{Before}
 use Rattle.elf_link_files.proofs.Public.{position_before, same_bool, same_name, once_of}
-use Rattle.elf_link_outputs.specs.Outputs.{HaveOneKey, IsOpener, is_no_bits, live, members, openers, output_flags, section_of}
-use Rattle.elf_link_outputs.specs.Plan.{AreMembers, AreOpeners, flat}
+use Rattle.elf_link_outputs.specs.Outputs.{HaveOneKey, IsOpener, is_no_bits, live, members, openers, output_flags, section_at_site}
+use Rattle.elf_link_outputs.specs.Plan.{AreOpeners, AreOutputMembers, flat}
 use Rattle.elf_link_outputs.specs.Planning.{AreAllIn, AreLive, AreSome}
 use Rattle.elf_link_outputs.proofs.Plans.{all_append, all_flat, in_flat, in_left, in_right, pairs_append, pairs_flat}
 
 -- ---- keys
 
 one_key : (fs : List ObjectValue) (p q : Site) → HaveOneKey fs p q ⊎ (HaveOneKey fs p q → ⊥)
-one_key fs p q = elim (same_name (section_of fs p).name (section_of fs q).name) [
+one_key fs p q = elim (same_name (section_at_site fs p).name (section_at_site fs q).name) [
   | inr other ↦ inr (λ key. other key.0)
-  | inl name ↦ elim (cases_eq (output_flags (section_of fs p).flags) (output_flags (section_of fs q).flags)) [
+  | inl name ↦ elim (cases_eq (output_flags (section_at_site fs p).flags) (output_flags (section_at_site fs q).flags)) [
     | inr other ↦ inr (λ key. other key.1)
-    | inl flags ↦ elim (same_bool (is_no_bits (section_of fs p).body) (is_no_bits (section_of fs q).body)) [
+    | inl flags ↦ elim (same_bool (is_no_bits (section_at_site fs p).body) (is_no_bits (section_at_site fs q).body)) [
       | inr other ↦ inr (λ key. other key.2)
       | inl kind ↦ inl (name, flags, kind)
     ]
@@ -70,23 +70,23 @@ neither : (b : Bool) → (b ≡ true → ⊥) → (b ≡ false → ⊥) → ⊥
 neither true a b = a refl
 neither false a b = b refl
 
-opener_in : (fs : List ObjectValue) (ps : List Site) (q : Site) → AreOpeners fs ps → live fs q → IsOpener fs q → IsIn ps q
-opener_in fs ps q (with, without, bits, rest, whole) there opener = subst (λ (xs : List Site). IsIn xs q) (sym whole) (elim (same_bool (is_no_bits (section_of fs q).body) true) [
+opener_in : (fs : List ObjectValue) (ps : List Site) (q : Site) → AreOpeners fs ps → live fs q → IsOpener fs q → IsSiteIn ps q
+opener_in fs ps q (with, without, bits, rest, whole) there opener = subst (λ (xs : List Site). IsSiteIn xs q) (sym whole) (elim (same_bool (is_no_bits (section_at_site fs q).body) true) [
   | inl kind ↦ in_right with without q (rest.all q (there, (opener, kind)))
   | inr other ↦ in_left with without q (bits.all q (
     there,
     (
       opener,
-      elim (same_bool (is_no_bits (section_of fs q).body) false) [
+      elim (same_bool (is_no_bits (section_at_site fs q).body) false) [
         | inl kind ↦ kind
-        | inr never ↦ absurd (neither (is_no_bits (section_of fs q).body) other never)
+        | inr never ↦ absurd (neither (is_no_bits (section_at_site fs q).body) other never)
       ],
     ),
   ))
 ])
 
-pub all_placed : (fs : List ObjectValue) (ls ps : List Site) (oss : List (List Site)) → Lists (live fs) ls → AreOpeners fs ps → AreMembers fs ps (length ps) oss →
-    (p : Site) → live fs p → IsIn (flat oss) p
+pub all_placed : (fs : List ObjectValue) (ls ps : List Site) (oss : List (List Site)) → Lists (live fs) ls → AreOpeners fs ps → AreOutputMembers fs ps (length ps) oss →
+    (p : Site) → live fs p → IsSiteIn (flat oss) p
 all_placed fs ls ps oss is are mem p there =
     let (k, k_in, at) = is.all p there in
     let (q, q_there, opener, key) = opener_of fs ls is (suc k) k (omega arith) k_in in
@@ -118,7 +118,7 @@ all_apart fs ps (with, without, bits, rest, whole) =
     (pairs_append (λ p q. HaveOneKey fs p q → ⊥) with without (openers_apart fs false with bits) (openers_apart fs true without rest)
     (λ j k j_in k_in key. differ (sym (bits.each j j_in).1.1 ∙ key.2 ∙ (rest.each k k_in).1.1)))
 
-pub placed_once : (fs : List ObjectValue) (ps : List Site) (oss : List (List Site)) → AreOpeners fs ps → AreMembers fs ps (length ps) oss → AreOnce (flat oss)
+pub placed_once : (fs : List ObjectValue) (ps : List Site) (oss : List (List Site)) → AreOpeners fs ps → AreOutputMembers fs ps (length ps) oss → AreOnce (flat oss)
 placed_once fs ps oss are mem =
     let count = mem.count in
     pairs_flat (λ p q. p ≡ q → ⊥) oss (λ i lt. once_of (members fs (site_at ps i)) (get_or oss i []) (mem.each i (omega arith)))
@@ -129,14 +129,14 @@ placed_once fs ps oss are mem =
     (key_join fs (site_at ps i) (site_at (get_or oss i []) k) (site_at ps j) (key_swap fs (site_at (get_or oss i []) k) (site_at ps i) one)
     (subst (λ (p : Site). HaveOneKey fs p (site_at ps j)) (sym same) other))))
 
-pub members_live : (fs : List ObjectValue) (ps : List Site) (oss : List (List Site)) (i : ℕ) → AreMembers fs ps (length ps) oss → i < length oss →
+pub members_live : (fs : List ObjectValue) (ps : List Site) (oss : List (List Site)) (i : ℕ) → AreOutputMembers fs ps (length ps) oss → i < length oss →
     (k : ℕ) → k < length (get_or oss i []) → live fs (site_at (get_or oss i []) k)
 members_live fs ps oss i mem lt k within = (let count = mem.count in ((mem.each i (omega arith)).each k within).0)
 
-pub members_in : (fs : List ObjectValue) (ps : List Site) (oss : List (List Site)) → AreMembers fs ps (length ps) oss → AreAllIn fs oss
+pub members_in : (fs : List ObjectValue) (ps : List Site) (oss : List (List Site)) → AreOutputMembers fs ps (length ps) oss → AreAllIn fs oss
 members_in fs ps oss mem i lt k within = (let here = members_live fs ps oss i mem lt k within in (here.0, here.1))
 
-pub outputs_live : (fs : List ObjectValue) (ls ps : List Site) (oss : List (List Site)) → Lists (live fs) ls → AreOpeners fs ps → AreMembers fs ps (length ps) oss →
+pub outputs_live : (fs : List ObjectValue) (ls ps : List Site) (oss : List (List Site)) → Lists (live fs) ls → AreOpeners fs ps → AreOutputMembers fs ps (length ps) oss →
     AreLive fs (flat oss)
 outputs_live fs ls ps oss is are mem = record {
   once = placed_once fs ps oss are mem;
@@ -144,7 +144,7 @@ outputs_live fs ls ps oss is are mem = record {
   all = all_placed fs ls ps oss is are mem;
 }
 
-pub outputs_some : (fs : List ObjectValue) (ps : List Site) (oss : List (List Site)) → AreOpeners fs ps → AreMembers fs ps (length ps) oss → AreSome oss
+pub outputs_some : (fs : List ObjectValue) (ps : List Site) (oss : List (List Site)) → AreOpeners fs ps → AreOutputMembers fs ps (length ps) oss → AreSome oss
 outputs_some fs ps oss are mem i lt =
     let count = mem.count in
     let (k, k_in, at) = (mem.each i (omega arith)).all (site_at ps i) (opener_live fs ps are i (omega arith), (refl, refl, refl)) in

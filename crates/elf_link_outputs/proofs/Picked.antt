@@ -3,11 +3,12 @@ use Rattle.std.proofs.Common.{◌≡◌, ℕ, ◌+◌, ◌<◌, List, [], ◌∷
 use Rattle.std.proofs.lemmas.Bool.{cases_lt}
 use Rattle.elf_link_files.specs.declared.site.Site.{Site}
 use Rattle.elf_link_files.specs.Listing.{Lists, site_at}
-use Rattle.elf_link_files.specs.Rows.{Before, Row}
+use Rattle.elf_image_rules.specs.Rows.{Row}
+use Rattle.elf_link_files.specs.Rows.{Before}
 use Rattle.elf_link_files.proofs.Public.{lists_more, lists_same}
 use Rattle.elf_link_outputs.specs.Outputs.{Picks}
 
-pub picked_more : (row : Row) (ps : List Site) (k : ℕ) (P : Site → Type 0) (out : List Site) → Lists row ps → k < length ps →
+pub picked_more : (row : Row Site) (ps : List Site) (k : ℕ) (P : Site → Type 0) (out : List Site) → Lists row ps → k < length ps →
     P (site_at ps k) → Picks ps k P out → Picks ps (k + 1) P (out ++ site_at ps k ∷ [])
 picked_more row ps k P out is lt here picks =
     lists_more (λ p. P p × ((j : ℕ) × (j < k) × (site_at ps j ≡ p))) (λ p. P p × ((j : ℕ) × (j < k + 1) × (site_at ps j ≡ p))) out (site_at ps k)
@@ -30,7 +31,7 @@ picked_past ps k P out other picks =
     ]))
     picks
 
-pub picked_done : (row : Row) (ps : List Site) (P : Site → Type 0) (out : List Site) → Lists row ps → Picks ps (length ps) P out →
+pub picked_done : (row : Row Site) (ps : List Site) (P : Site → Type 0) (out : List Site) → Lists row ps → Picks ps (length ps) P out →
     Lists (λ p. row p × P p) out
 picked_done row ps P out is picks =
     lists_same (λ p. P p × ((j : ℕ) × (j < length ps) × (site_at ps j ≡ p))) (λ p. row p × P p) out

@@ -80,7 +80,7 @@ parts_long fs page oss cs =
       length-map cs common_part,
     )
 
--- ---- a cell of a table
+-- ---- a cell of rows
 
 pub cell_set : (rows : List (Vec (Option ℕ))) (row : Vec (Option ℕ)) (f s a : ℕ) → f < length rows → row ≡ get_or rows f row →
     map (λ r. r.items) (set rows f (with_item row s (Some a))) ≡ with_cell (map (λ r. r.items) rows) f s a

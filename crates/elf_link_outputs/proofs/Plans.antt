@@ -6,7 +6,7 @@ use Rattle.std.proofs.Math.ListN.{get_or-append}
 use Rattle.elf_object_type.specs.Object.{ObjectValue}
 use Rattle.elf_link_files.specs.declared.site.Site.{Site}
 use Rattle.elf_link_files.specs.Listing.{AreIn, site_at}
-use Rattle.elf_link_files.specs.Items.{IsIn, Pairs}
+use Rattle.elf_link_files.specs.Items.{IsSiteIn, Pairs}
 use Rattle.elf_link_outputs.specs.Plan.{flat}
 use Rattle.elf_link_outputs.specs.Planning.{AreAllIn}
 
@@ -48,14 +48,14 @@ pairs_flat R (o ∷ oss) each across =
     (pairs_flat R oss (λ i below. each (suc i) (omega arith)) (λ i j lt below. across (suc i) (suc j) (omega arith) (omega arith)))
     (λ k l k_in l_in. all_flat (R (site_at o k)) oss (λ i below m m_in. across 0 (suc i) (omega arith) (omega arith) k m k_in m_in) l l_in)
 
-pub in_left : (xs ys : List Site) (p : Site) → IsIn xs p → IsIn (xs ++ ys) p
+pub in_left : (xs ys : List Site) (p : Site) → IsSiteIn xs p → IsSiteIn (xs ++ ys) p
 in_left xs ys p (k, lt, at) = (k, simp length-append (omega arith), get_or-append xs ys _ k lt ∙ at)
 
-pub in_right : (xs ys : List Site) (p : Site) → IsIn ys p → IsIn (xs ++ ys) p
+pub in_right : (xs ys : List Site) (p : Site) → IsSiteIn ys p → IsSiteIn (xs ++ ys) p
 in_right [] ys p there = there
 in_right (x ∷ xs) ys p there = let (k, lt, at) = in_right xs ys p there in (suc k, omega arith, at)
 
-pub in_flat : (oss : List (List Site)) (i : ℕ) (p : Site) → i < length oss → IsIn (get_or oss i []) p → IsIn (flat oss) p
+pub in_flat : (oss : List (List Site)) (i : ℕ) (p : Site) → i < length oss → IsSiteIn (get_or oss i []) p → IsSiteIn (flat oss) p
 in_flat [] i p lt there = absurd (omega arith)
 in_flat (o ∷ oss) zero p lt there = in_left o (flat oss) p there
 in_flat (o ∷ oss) (suc i) p lt there = in_right o (flat oss) p (in_flat oss i p (omega arith) there)

@@ -72,7 +72,7 @@ pub starts_match : (parts : List (ℕ × ℕ)) (from t cursor : ℕ) (p : ℕ ×
 starts_match parts from t cursor p lt is at None none = past_here parts from t cursor p lt is none at
 starts_match parts from t cursor p lt is at (Some x) place = starts_here parts from t cursor x p lt is place at
 
--- ---- the entry
+-- ---- the entry symbol
 
 none_some : (x : ℕ) → None ≡ Some x → ⊥
 none_some x e = cc

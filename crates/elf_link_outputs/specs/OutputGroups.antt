@@ -6,12 +6,12 @@ use Rattle.elf_link_files.specs.Listing.{Lists, site_at}
 use Rattle.elf_link_files.specs.Items.{AreEach, Pairs}
 use Rattle.elf_link_files.specs.Rows.{Before}
 use Rattle.elf_link_outputs.specs.declared.outputs.OutputKey.{OutputKey}
-use Rattle.elf_link_outputs.specs.Outputs.{HaveOneKey, Picks, is_no_bits, of_kind, output_flags, section_of}
+use Rattle.elf_link_outputs.specs.Outputs.{HaveOneKey, Picks, is_no_bits, of_kind, output_flags, section_at_site}
 
 -- a section has this key
 abbrev pub IsKeyOf : List ObjectValue → Site → OutputKey → Type 0
 IsKeyOf fs p key =
-    (key.name.now ≡ (section_of fs p).name) × (key.flags ≡ output_flags (section_of fs p).flags) × (key.no_bits ≡ is_no_bits (section_of fs p).body)
+    (key.name.now ≡ (section_at_site fs p).name) × (key.flags ≡ output_flags (section_at_site fs p).flags) × (key.no_bits ≡ is_no_bits (section_at_site fs p).body)
 
 -- the key that stands for one that isn't there
 abbrev pub no_key : OutputKey

@@ -7,14 +7,15 @@ use Rattle.elf_link_files.specs.declared.site.Site.{Site}
 use Rattle.elf_link_files.specs.Files.{section_in}
 use Rattle.elf_link_files.specs.Listing.{Lists, site_at}
 use Rattle.elf_link_files.specs.Live.{Live}
-use Rattle.elf_link_files.specs.Rows.{AtSection, Before, Row}
+use Rattle.elf_image_rules.specs.Rows.{Row}
+use Rattle.elf_link_files.specs.Rows.{AtSection, Before}
 
-abbrev pub live : List ObjectValue → Row
+abbrev pub live : List ObjectValue → Row Site
 live fs = AtSection fs (Live fs)
 
 -- the section at a site
-abbrev pub section_of : List ObjectValue → Site → SectionValue
-section_of fs p = section_in fs p.file p.index
+abbrev pub section_at_site : List ObjectValue → Site → SectionValue
+section_at_site fs p = section_in fs p.file p.index
 
 -- all flags but GROUP
 abbrev pub output_flags : ℕ → ℕ
@@ -29,23 +30,23 @@ is_no_bits (group comdat signature members) = false
 -- two sections go to one output section
 abbrev pub HaveOneKey : List ObjectValue → Site → Site → Type 0
 HaveOneKey fs p q =
-    ((section_of fs p).name ≡ (section_of fs q).name) × (output_flags (section_of fs p).flags ≡ output_flags (section_of fs q).flags) ×
-    (is_no_bits (section_of fs p).body ≡ is_no_bits (section_of fs q).body)
+    ((section_at_site fs p).name ≡ (section_at_site fs q).name) × (output_flags (section_at_site fs p).flags ≡ output_flags (section_at_site fs q).flags) ×
+    (is_no_bits (section_at_site fs p).body ≡ is_no_bits (section_at_site fs q).body)
 
 -- a live section opens an output section where no live section before it goes to the same one
 abbrev pub IsOpener : List ObjectValue → Site → Type 0
 IsOpener fs p = (q : Site) → live fs q → Before q p → HaveOneKey fs q p → ⊥
 
 -- the live sections with bits, or without
-abbrev pub of_kind : List ObjectValue → Bool → Row
-of_kind fs without p = live fs p × (is_no_bits (section_of fs p).body ≡ without)
+abbrev pub of_kind : List ObjectValue → Bool → Row Site
+of_kind fs without p = live fs p × (is_no_bits (section_at_site fs p).body ≡ without)
 
 -- the sections that open the outputs with bits, and those without
-abbrev pub openers : List ObjectValue → Bool → Row
-openers fs without p = live fs p × (IsOpener fs p × (is_no_bits (section_of fs p).body ≡ without))
+abbrev pub openers : List ObjectValue → Bool → Row Site
+openers fs without p = live fs p × (IsOpener fs p × (is_no_bits (section_at_site fs p).body ≡ without))
 
 -- the members of the output section that p opens
-abbrev pub members : List ObjectValue → Site → Row
+abbrev pub members : List ObjectValue → Site → Row Site
 members fs p q = live fs q × HaveOneKey fs q p
 
 -- the size of a section in memory
@@ -57,7 +58,7 @@ memory_size (group comdat signature members) = 0
 
 -- the part (size, alignment) of a section
 abbrev pub part_of : List ObjectValue → Site → ℕ × ℕ
-part_of fs p = (memory_size (section_of fs p).body, (section_of fs p).align)
+part_of fs p = (memory_size (section_at_site fs p).body, (section_at_site fs p).align)
 
 -- the parts of one output: the first one counts the page and the largest alignment of them all too; page and alignments are
 -- powers of two, so the largest of them is a multiple of each

@@ -10,7 +10,7 @@ use Rattle.elf_link_files.specs.Listing.{site, site_at, name_at}
 use Rattle.elf_link_files.specs.Items.{AreEach}
 use Rattle.elf_link_files.specs.Commons.{chosen_at}
 use Rattle.elf_link_outputs.specs.declared.output.Member.{Member}
-use Rattle.elf_link_outputs.specs.Outputs.{is_no_bits, live, output_flags, section_of}
+use Rattle.elf_link_outputs.specs.Outputs.{is_no_bits, live, output_flags, section_at_site}
 use Rattle.elf_link_outputs.specs.Plan.{flat}
 
 pub record OutputValue : Type 0 where
@@ -27,7 +27,7 @@ pub record CommonValue : Type 0 where
   pub size : ℕ
   pub align : ℕ
 
--- what a table says of section s of file f
+-- what is said of section s of file f by rows of items, one for each section of each file
 abbrev pub cell : List (List (Option ℕ)) → ℕ → ℕ → Option ℕ
 cell rows f s = get_or (get_or rows f []) s None
 
@@ -42,7 +42,7 @@ abbrev pub common_at : List CommonValue → ℕ → CommonValue
 common_at cs k = get_or cs k no_placed
 
 -- each section that is placed has the address of its place, and no other section has one; those without are those that aren't live;
--- the table has a row for each file, with one item for each of its sections
+-- there is a row for each file, with one item for each of its sections
 pub record AreAddresses (fs : List ObjectValue) (ps : List Site) (places : List ℕ) (rows : List (List (Option ℕ))) : Type 0 where
   pub files : length rows ≡ length fs
   pub long : (f : ℕ) → f < length fs → length (get_or rows f []) ≡ length (object_at fs f).sections
@@ -55,9 +55,9 @@ member_of p = record { file = p.file; section = p.index }
 
 -- an output of these members, whose parts are those from position `start` on: from its first member to the end of its last
 pub record IsOutput (fs : List ObjectValue) (ms : List Site) (parts : List (ℕ × ℕ)) (places : List ℕ) (start : ℕ) (o : OutputValue) : Type 0 where
-  pub name : o.name ≡ (section_of fs (site_at ms 0)).name
-  pub flags : o.flags ≡ output_flags (section_of fs (site_at ms 0)).flags
-  pub no_bits : o.no_bits ≡ is_no_bits (section_of fs (site_at ms 0)).body
+  pub name : o.name ≡ (section_at_site fs (site_at ms 0)).name
+  pub flags : o.flags ≡ output_flags (section_at_site fs (site_at ms 0)).flags
+  pub no_bits : o.no_bits ≡ is_no_bits (section_at_site fs (site_at ms 0)).body
   pub members : o.members ≡ map member_of ms
   pub address : o.address ≡ slice_index places start
   pub end : o.address + o.length ≡ end_of parts places (start + length ms - 1)

@@ -1,4 +1,4 @@
--- What contracts see of an output and of a common that has a place.
+-- What contracts see of an output and of a common that has an address.
 use Rattle.elf_link_outputs.specs.declared.common.Common.{Common}
 use Rattle.elf_link_outputs.specs.declared.output.Output.{Output}
 use Rattle.elf_link_outputs.specs.Placed.{CommonValue, OutputValue}

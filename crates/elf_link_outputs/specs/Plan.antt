@@ -19,11 +19,11 @@ AreOpeners fs ps =
     (with without : List Site) × Lists (openers fs false) with × Lists (openers fs true) without × (ps ≡ with ++ without)
 
 -- the members of the first n outputs, by the sections that open them
-abbrev pub AreMembers : List ObjectValue → List Site → ℕ → List (List Site) → Type 0
-AreMembers fs ps = AreEach [] (λ k. Lists (members fs (site_at ps k)))
+abbrev pub AreOutputMembers : List ObjectValue → List Site → ℕ → List (List Site) → Type 0
+AreOutputMembers fs ps = AreEach [] (λ k. Lists (members fs (site_at ps k)))
 
 abbrev pub AreOutputs : List ObjectValue → List (List Site) → Type 0
-AreOutputs fs outputs = (ps : List Site) × AreOpeners fs ps × AreMembers fs ps (length ps) outputs
+AreOutputs fs outputs = (ps : List Site) × AreOpeners fs ps × AreOutputMembers fs ps (length ps) outputs
 
 -- all sections that are placed, in order
 abbrev pub flat : List (List Site) → List Site

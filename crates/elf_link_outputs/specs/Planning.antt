@@ -5,7 +5,7 @@ use Rattle.elf_object_type.specs.Object.{ObjectValue}
 use Rattle.elf_link_files.specs.declared.site.Site.{Site}
 use Rattle.elf_link_files.specs.Files.{object_at}
 use Rattle.elf_link_files.specs.Listing.{AreIn, site_at}
-use Rattle.elf_link_files.specs.Items.{AreEach, IsIn, AreOnce}
+use Rattle.elf_link_files.specs.Items.{AreEach, IsSiteIn, AreOnce}
 use Rattle.elf_link_outputs.specs.Placed.{cell}
 use Rattle.elf_link_outputs.specs.Outputs.{live}
 
@@ -17,9 +17,9 @@ AreAllIn fs outputs = (k : ℕ) → k < length outputs → AreIn fs (get_or outp
 pub record AreLive (fs : List ObjectValue) (ps : List Site) : Type 0 where
   pub once : AreOnce ps
   pub each : (k : ℕ) → k < length ps → live fs (site_at ps k)
-  pub all : (p : Site) → live fs p → IsIn ps p
+  pub all : (p : Site) → live fs p → IsSiteIn ps p
 
--- the addresses of the first n sites are in the table, and no others
+-- the addresses of the first n sites are there, and no others
 pub record AreFilled (fs : List ObjectValue) (ps : List Site) (places : List ℕ) (n : ℕ) (rows : List (List (Option ℕ))) : Type 0 where
   pub files : length rows ≡ length fs
   pub long : (f : ℕ) → f < length fs → length (get_or rows f []) ≡ length (object_at fs f).sections
@@ -29,7 +29,7 @@ pub record AreFilled (fs : List ObjectValue) (ps : List Site) (places : List ℕ
 abbrev pub with_cell : List (List (Option ℕ)) → ℕ → ℕ → ℕ → List (List (Option ℕ))
 with_cell rows f s a = set rows f (set (get_or rows f []) s (Some a))
 
--- a table without addresses for the first n files
+-- rows without addresses for the first n files
 abbrev pub AreEmptyRows : List ObjectValue → ℕ → List (List (Option ℕ)) → Type 0
 AreEmptyRows fs = AreEach [] (λ f row. row ≡ replicate (length (object_at fs f).sections) None)
 

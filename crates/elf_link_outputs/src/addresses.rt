@@ -1,7 +1,7 @@
 //! Addresses of the parts of a link, and rules 10 and 11.
 ghost use Rattle.std.specs.Prelude.{◌≡◌, ◌<◌, None, Some, IfErr, IfOk, MatchOption, OnOk, length};
 ghost use Rattle.elf_extent.specs.Place.{EndsFit, Least};
-ghost use Rattle.elf_link_files.specs.Rows.{FirstIn};
+ghost use Rattle.elf_link_files.specs.Rows.{FirstAmong};
 ghost use Rattle.elf_link_outputs.specs.Addresses.{HasNoValue, HasValue, IsTarget, StartsAt, StartsPast, address_rules};
 ghost use Rattle.elf_link_outputs.specs.AddressFault.{IsAddressFault};
 
@@ -41,7 +41,7 @@ fn start_of(parts: &[(u64, u64)], from: u64, t: usize) -> Option<u64>
     next_place(cursor, parts[t].1)
 }
 
-/// The entry's value; None if it has none, or one of 2^64 or more.
+/// The entry symbol's value; None if it has none, or one of 2^64 or more.
 fn entry_value(parts: &[(u64, u64)], base: u64, target: Target) -> Option<u64>
     requires { IsTarget parts.now target }
     ensures { MatchOption result (HasNoValue parts.now base target) (HasValue parts.now base target) }
@@ -58,13 +58,13 @@ fn entry_value(parts: &[(u64, u64)], base: u64, target: Target) -> Option<u64>
 pub struct Addressed {
     /// The address of each part.
     pub places: Vec<u64>,
-    /// The entry's value.
+    /// The entry symbol's value.
     pub entry: u64,
 }
 
-/// The least addresses of the parts (size, alignment) from `base`, and the entry's value.
+/// The least addresses of the parts (size, alignment) from `base`, and the entry symbol's value.
 ///
-/// Answers rule 10 where the entry has no value below 2^64, else rule 11 where a part ends at 2^64 or later, and
+/// Answers rule 10 where the entry symbol has no value below 2^64, else rule 11 where a part ends at 2^64 or later, and
 /// [`LinkFault::OutOfMemory`] only where memory is refused and none of them stands.
 pub fn addresses(
     alloc: Global,
@@ -73,7 +73,7 @@ pub fn addresses(
     target: Target,
 ) -> Result<Addressed, LinkFault>
     requires { IsTarget parts.now target }
-    ensures sound { OnOk result (FirstIn (address_rules parts.now base target) None) }
+    ensures sound { OnOk result (FirstAmong (address_rules parts.now base target) None) }
     ensures least { IfOk result (λ placed. Least parts.now base placed.places.items) }
     ensures fits { IfOk result (λ placed. EndsFit parts.now placed.places.items (length parts.now)) }
     ensures entry { IfOk result (λ placed. HasValue parts.now base target placed.entry) }

@@ -1,6 +1,6 @@
 //! Commons at their places (gABI chapter 4, Symbol Table: `SHN_COMMON`).
 
-/// A common that has a place.
+/// A common that has an address.
 #[derive(Clone, Copy, Debug, PartialEq, Eq)]
 pub struct Common<'a> {
     /// Its name.

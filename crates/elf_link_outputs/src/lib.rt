@@ -2,9 +2,10 @@
 //! each, the least places of all parts, and rules 10 and 11. It knows nothing of names.
 //!
 //! [`outputs_of`] groups the live sections, [`addresses`](addresses::addresses) places them, and [`placed_outputs`],
-//! [`placed_commons`] and [`address_table`] tell where each stands.
+//! [`placed_commons`] and [`section_addresses`] tell where each stands.
 #![tactic(auto)]
 
+mod address_rows;
 pub mod addresses;
 mod common;
 mod output;
@@ -12,12 +13,11 @@ mod outputs;
 mod parts;
 mod placing;
 mod plan;
-mod table;
 
+pub use address_rows::section_addresses;
 pub use common::Common;
 pub use output::{Member, Output};
 pub use outputs::outputs_of;
 pub use parts::memory_size;
 pub use placing::{placed_commons, placed_outputs};
 pub use plan::{all_parts, placed};
-pub use table::address_table;

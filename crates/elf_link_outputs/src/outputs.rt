@@ -3,7 +3,7 @@ ghost use Rattle.std.specs.Prelude.{◌≡◌, ◌↔◌, ◌+◌, ◌<◌, [], 
 ghost use Rattle.elf_link_files.specs.Files.{object_at};
 ghost use Rattle.elf_link_files.specs.Listing.{AreIn, Lists, site_at};
 ghost use Rattle.elf_link_outputs.specs.OutputGroups.{AreGrouped, AreGroups, AreGroupsOfKind, AreInOrder, IsKeyOf};
-ghost use Rattle.elf_link_outputs.specs.Outputs.{Picks, is_no_bits as is_no_bits_of, live as live_row, of_kind, output_flags as output_flags_of, section_of as section_value_of};
+ghost use Rattle.elf_link_outputs.specs.Outputs.{Picks, is_no_bits as is_no_bits_of, live as live_row, of_kind, output_flags as output_flags_of, section_at_site};
 ghost use Rattle.elf_link_outputs.specs.Plan.{AreOutputs, flat};
 ghost use Rattle.elf_link_outputs.specs.Planning.{AreAllIn, AreLive, AreSome};
 ghost use Rattle.elf_object_type.specs.ObjectView.{body_value};
@@ -59,7 +59,7 @@ fn key_of<'a>(objects: &[Object<'a>], site: Site) -> OutputKey<'a>
 fn is_of_kind(without: bool, objects: &[Object<'_>], live: &[Site], k: usize) -> bool
     requires k { k < length live.now }
     requires live { Lists (live_row objects.now) live.now }
-    ensures { IsTrue result ↔ (is_no_bits_of (section_value_of objects.now (site_at live.now k)).body ≡ without) }
+    ensures { IsTrue result ↔ (is_no_bits_of (section_at_site objects.now (site_at live.now k)).body ≡ without) }
 {
     is_no_bits(&section_of(objects, live[k].file, live[k].index).body) == without
 }
@@ -74,8 +74,8 @@ fn push_kind(
 ) -> Result<(), AllocError>
     requires k { k < length live.now }
     requires live { Lists (live_row objects.now) live.now }
-    requires before { Picks live.now k (λ p. is_no_bits_of (section_value_of objects.now p).body ≡ without) picked.old.items }
-    ensures { OnOk result (Picks live.now (k + 1) (λ p. is_no_bits_of (section_value_of objects.now p).body ≡ without) picked.new.items) }
+    requires before { Picks live.now k (λ p. is_no_bits_of (section_at_site objects.now p).body ≡ without) picked.old.items }
+    ensures { OnOk result (Picks live.now (k + 1) (λ p. is_no_bits_of (section_at_site objects.now p).body ≡ without) picked.new.items) }
 {
     if !is_of_kind(without, objects, live, k) {
         return Ok(());

@@ -3,15 +3,16 @@ use Rattle.std.proofs.Common.{◌≡◌, ℕ, ◌<◌, ◌≤◌, List, length, 
 use Rattle.std.proofs.lemmas.Bool.{cases_lt}
 use Rattle.elf_object_type.specs.Object.{ObjectValue}
 use Rattle.elf_link_field.specs.declared.rule.RelocRule.{RelocRule}
-use Rattle.elf_link_field.specs.Rule.{IsFirstRule}
+use Rattle.elf_link_field.specs.Rule.{IsFirstRelocationRule}
 use Rattle.elf_link_files.specs.declared.site.Site.{Site}
-use Rattle.elf_link_files.specs.Rows.{Before, IsFirstAt, Nowhere}
+use Rattle.elf_extent.specs.Least.{Never}
+use Rattle.elf_link_files.specs.Rows.{Before, IsFirstAt}
 use Rattle.elf_link_relocate.specs.declared.field.Field.{Field}
 use Rattle.elf_link_relocate.specs.Collecting.{AreFields, field_at}
 use Rattle.elf_link_relocate.specs.Entries.{entry_at}
 use Rattle.elf_link_relocate.specs.Fields.{HasField, Share}
 use Rattle.elf_link_relocate.specs.FieldTests.{HasNone, IsFirst}
-use Rattle.elf_link_relocate.specs.Marking.{AllWithin, HasNoOverlap, IsFirstOverlap, SharesBefore}
+use Rattle.elf_link_relocate.specs.Marking.{AllWithin, HasNoOverlap, IsFirstOverlappingField, SharesBefore}
 use Rattle.elf_link_relocate.specs.RelocationRules.{AtField, IsFieldOutOfRange, SharesEarlier}
 use Rattle.elf_link_relocate.proofs.FirstRule.{one_rule}
 use Rattle.elf_link_relocate.proofs.Sites.{never_both, never_itself}
@@ -21,13 +22,13 @@ module _ (fs : List ObjectValue) (rules : List RelocRule) (ds : List Field) (are
   pub position : (p : Site) (r : RelocRule) → HasField fs rules p r → (k : ℕ) × (k < length ds) × ((field_at ds k).site ≡ p) × ((field_at ds k).rule ≡ r)
   position p r has =
       let (k, lt, at) = are.all p r has in
-      let mine = subst (λ (q : Site). IsFirstRule (entry_at fs q).kind rules (field_at ds k).rule) at (are.each k lt).rule in
+      let mine = subst (λ (q : Site). IsFirstRelocationRule (entry_at fs q).kind rules (field_at ds k).rule) at (are.each k lt).rule in
       (k, lt, at, one_rule (entry_at fs p).kind rules (field_at ds k).rule r mine has.rule)
 
   moved : (P : Site → RelocRule → Type 0) (p q : Site) (r s : RelocRule) → p ≡ q → r ≡ s → P q s → P p r
   moved P p q r s site rule holds = subst (λ (u : Site). P u r) (sym site) (subst (λ (u : RelocRule). P q u) (sym rule) holds)
 
-  pub none_at_field : (P : Site → RelocRule → Type 0) → HasNone P ds → Nowhere (AtField fs rules P)
+  pub none_at_field : (P : Site → RelocRule → Type 0) → HasNone P ds → Never (AtField fs rules P)
   none_at_field P none p (r, has, holds) =
       let (k, lt, at, same) = position p r has in
       none k lt (moved P (field_at ds k).site p (field_at ds k).rule r at same holds)
@@ -67,7 +68,7 @@ module _ (fs : List ObjectValue) (rules : List RelocRule) (ds : List Field) (are
   pub no_overlap : HasNoOverlap fs ds → HasNone (SharesEarlier fs rules) ds
   no_overlap none k lt shares = none k lt (shares_before k lt shares)
 
-  pub first_overlap : (k : ℕ) → IsFirstOverlap fs ds k → IsFirst (SharesEarlier fs rules) ds k
+  pub first_overlap : (k : ℕ) → IsFirstOverlappingField fs ds k → IsFirst (SharesEarlier fs rules) ds k
   first_overlap k (lt, shares, first) = (lt, shares_earlier k lt shares, (λ j below there. first j below (shares_before j (omega arith) there)))
 
 -- ---- rule 14

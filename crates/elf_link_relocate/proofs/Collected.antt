@@ -6,9 +6,10 @@ use Rattle.std.proofs.Math.ListN.{get_or-append}
 use Rattle.elf_object_type.specs.Object.{ObjectValue}
 use Rattle.elf_link_field.specs.declared.rule.Form.TheVariants.{None as NoForm}
 use Rattle.elf_link_field.specs.declared.rule.RelocRule.{RelocRule}
-use Rattle.elf_link_field.specs.Rule.{HasNoRule, IsFirstRule}
+use Rattle.elf_link_field.specs.Rule.{HasNoRelocationRule, IsFirstRelocationRule}
 use Rattle.elf_link_files.specs.declared.site.Site.{Site}
-use Rattle.elf_link_files.specs.Rows.{Before, IsFirstAt, Nowhere}
+use Rattle.elf_extent.specs.Least.{Never}
+use Rattle.elf_link_files.specs.Rows.{Before, IsFirstAt}
 use Rattle.elf_link_relocate.specs.declared.field.Field.{Field}
 use Rattle.elf_link_relocate.specs.Collecting.{AreFields, AreFieldsBefore, entry_site, field_at, no_field}
 use Rattle.elf_link_relocate.specs.Entries.{IsApplied, entry_at}
@@ -39,14 +40,14 @@ fields_same fs rules stop next ds into back is = record {
 
 module _ (fs : List ObjectValue) (rules : List RelocRule) (p : Site) (next : Site) (r : RelocRule) (ds : List Field)
     (into : (q : Site) → Before q p → Before q next) (split : (q : Site) → Before q next → Before q p ⊎ (q ≡ p))
-    (first : IsFirstRule (entry_at fs p).kind rules r) (is : AreFieldsBefore fs rules p ds) where
+    (first : IsFirstRelocationRule (entry_at fs p).kind rules r) (is : AreFieldsBefore fs rules p ds) where
   rule_at : (q : Site) (s : RelocRule) → q ≡ p → HasField fs rules q s → r ≡ s
-  rule_at q s same has = one_rule (entry_at fs p).kind rules r s first (subst (λ (u : Site). IsFirstRule (entry_at fs u).kind rules s) same has.rule)
+  rule_at q s same has = one_rule (entry_at fs p).kind rules r s first (subst (λ (u : Site). IsFirstRelocationRule (entry_at fs u).kind rules s) same has.rule)
 
   rules_more : (q : Site) → no_rule fs rules q → Before q next → ⊥
   rules_more q row before = elim (split q before) [
     | inl earlier ↦ is.ruled q row earlier
-    | inr same ↦ ruled (entry_at fs p).kind rules r first (subst (λ (u : Site). HasNoRule (entry_at fs u).kind rules) same row.1)
+    | inr same ↦ ruled (entry_at fs p).kind rules r first (subst (λ (u : Site). HasNoRelocationRule (entry_at fs u).kind rules) same row.1)
   ]
 
   -- an entry without a field
@@ -113,8 +114,8 @@ module _ (fs : List ObjectValue) (rules : List RelocRule) (p : Site) (next : Sit
     ruled = rules_more;
   }
 
--- rule 12 stands at an entry behind those that have rules
-pub first_unruled : (fs : List ObjectValue) (rules : List RelocRule) (p : Site) (ds : List Field) → IsApplied fs p → HasNoRule (entry_at fs p).kind rules →
+-- rule 12 stands at an entry behind those that have relocation rules
+pub first_unruled : (fs : List ObjectValue) (rules : List RelocRule) (p : Site) (ds : List Field) → IsApplied fs p → HasNoRelocationRule (entry_at fs p).kind rules →
     AreFieldsBefore fs rules p ds → IsFirstAt (no_rule fs rules) p
 first_unruled fs rules p ds applied none is = record {
   stands = (applied, none);
@@ -133,5 +134,5 @@ fields_all fs rules ds is = record {
 }
 
 pub none_unruled : (fs : List ObjectValue) (rules : List RelocRule) (ds : List Field) → AreFieldsBefore fs rules (entry_site (length fs) 0 0) ds →
-    Nowhere (no_rule fs rules)
+    Never (no_rule fs rules)
 none_unruled fs rules ds is p row = is.ruled p row (all_before fs p row.0.0.file)

@@ -1,14 +1,14 @@
--- The first rule of a kind is one.
+-- The first relocation rule of a kind is one.
 use Rattle.std.proofs.Common.{◌≡◌, ℕ, List, inl, inr, sym, ◌∙◌, ap, arith}
 use Rattle.std.specs.Prelude.{Some, slice_get}
 use Rattle.std.proofs.lemmas.Bool.{cases_lt}
 use Rattle.elf_link_field.specs.declared.rule.RelocRule.{RelocRule}
-use Rattle.elf_link_field.specs.Rule.{HasNoRule, IsFirstRule}
+use Rattle.elf_link_field.specs.Rule.{HasNoRelocationRule, IsFirstRelocationRule}
 
 same_item : (a b : RelocRule) → Some a ≡ Some b → a ≡ b
 same_item a b e = cc
 
-pub one_rule : (kind : ℕ) (rules : List RelocRule) (r s : RelocRule) → IsFirstRule kind rules r → IsFirstRule kind rules s → r ≡ s
+pub one_rule : (kind : ℕ) (rules : List RelocRule) (r s : RelocRule) → IsFirstRelocationRule kind rules r → IsFirstRelocationRule kind rules s → r ≡ s
 one_rule kind rules r s (j, at, first) (k, there, other) = elim (cases_lt j k) [
   | inl below ↦ absurd (other j r below at)
   | inr above ↦ elim (cases_lt k j) [
@@ -19,5 +19,5 @@ one_rule kind rules r s (j, at, first) (k, there, other) = elim (cases_lt j k) [
   ]
 ]
 
-pub ruled : (kind : ℕ) (rules : List RelocRule) (r : RelocRule) → IsFirstRule kind rules r → HasNoRule kind rules → ⊥
+pub ruled : (kind : ℕ) (rules : List RelocRule) (r : RelocRule) → IsFirstRelocationRule kind rules r → HasNoRelocationRule kind rules → ⊥
 ruled kind rules r (k, at, first) none = none k r at

@@ -15,7 +15,7 @@ use Rattle.elf_link_files.specs.declared.site.Site.{Site}
 use Rattle.elf_link_files.specs.Files.{object_at, section_in}
 use Rattle.elf_link_files.specs.Listing.{site}
 use Rattle.elf_link_files.specs.Live.{Live}
-use Rattle.elf_link_files.specs.Rows.{FirstIn}
+use Rattle.elf_link_files.specs.Rows.{FirstAmong}
 use Rattle.elf_link_outputs.specs.Placed.{cell}
 use Rattle.elf_link_outputs.specs.Outputs.{live, memory_size}
 use Rattle.elf_link_map.specs.LinkMap.{IsLinkMap, LinkMapValue}
@@ -26,19 +26,19 @@ use Rattle.elf_link_relocate.specs.Fields.{HasField, HasOffset, IsWithin, conten
 use Rattle.elf_link_relocate.specs.Grid.{item}
 use Rattle.elf_link_relocate.specs.Judged.{AreJudged}
 use Rattle.elf_link_relocate.specs.Linked.{AreBytesOf, HasLiveBits, IsLinked}
-use Rattle.elf_link_relocate.specs.MapFacts.{IsMapOfSome, IsSound}
+use Rattle.elf_link_relocate.specs.MapFacts.{IsMapOfSome, IsSoundMap}
 use Rattle.elf_link_relocate.specs.Marking.{IsCovered, IsFieldIn}
 use Rattle.elf_link_relocate.specs.Memory.{HasFieldAt, IsFieldByte, IsMemory}
-use Rattle.elf_link_field.specs.Number.{number_of}
+use Rattle.elf_link_field.specs.Number.{relocation_number}
 use Rattle.elf_link_relocate.specs.Numbers.{addend_of, address_in, field_address, or_zero}
 use Rattle.elf_link_relocate.specs.Patching.{AreRelocated, IsRelocated}
-use Rattle.elf_link_relocate.specs.RelocationRules.{relocation_rules}
+use Rattle.elf_link_relocate.specs.RelocationRules.{applied_entry_rules}
 use Rattle.elf_link_relocate.specs.Values.{value_at}
 use Rattle.elf_link_relocate.proofs.AtFields.{position}
 
 -- ---- the map
 
-pub sound_of : (fs : List ObjectValue) (m : LinkMapValue) → IsMapOfSome fs m → ((opt : Options) → IsLinkMap opt fs m → StandApart fs m) → IsSound fs m
+pub sound_of : (fs : List ObjectValue) (m : LinkMapValue) → IsMapOfSome fs m → ((opt : Options) → IsLinkMap opt fs m → StandApart fs m) → IsSoundMap fs m
 sound_of fs m (opt, (l, placed, is)) law = record {
   discarded = is.discarded;
   places = law opt (l, placed, is);
@@ -128,7 +128,7 @@ module _ (fs : List ObjectValue) (m : LinkMapValue) (rules : List RelocRule) (ds
         let p = (field_at ds j).site in
         let r = (field_at ds j).rule in
         let start = field_start fs p in
-        let (z, number) = some_number (λ (value : ℕ). number_of r.form value (addend_of fs p r) (field_address fs m p)) (value_at fs m p) (are.placed j lt) in
+        let (z, number) = some_number (λ (value : ℕ). relocation_number r.form value (addend_of fs p r) (field_address fs m p)) (value_at fs m p) (are.placed j lt) in
         let cell_at : cell m.addresses p.file (target_at fs p) ≡ Some a = rw (file, target) begins in
         let address : address_in m p.file (target_at fs p) ≡ a = ap (λ (o : Option ℕ). or_zero o) cell_at in
         let offset : start + (k - start) ≡ k = omega arith in (
@@ -189,7 +189,7 @@ module _ (fs : List ObjectValue) (m : LinkMapValue) (rules : List RelocRule) (ds
       let (old, its, relocated) = is.each f s there in
       are_bytes f s after there (subst (λ (b : List ℕ). IsRelocated fs m ds (length ds) f s b) (same_copy old after (sym its ∙ at)) relocated)
 
-  pub linked_of : (rows : List (List (Option (List ℕ)))) → AreRelocated fs m ds (length ds) rows → FirstIn (relocation_rules fs m rules) None →
+  pub linked_of : (rows : List (List (Option (List ℕ)))) → AreRelocated fs m ds (length ds) rows → FirstAmong (applied_entry_rules fs m rules) None →
       IsLinked fs m rules (record { map = m; objects = fs; rules = rules; copies = rows })
   linked_of rows is sound = record {
     sound = sound;

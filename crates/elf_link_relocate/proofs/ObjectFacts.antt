@@ -10,7 +10,7 @@ use Rattle.elf_object_type.proofs.Public.{references_there, relocations_there}
 use Rattle.elf_link_files.specs.declared.site.Site.{Site}
 use Rattle.elf_link_files.specs.Files.{object_at}
 use Rattle.elf_link_relocate.specs.Entries.{IsEntrySite, entries_of, target_at, target_of}
-use Rattle.elf_link_relocate.specs.Grid.{IsSection}
+use Rattle.elf_link_relocate.specs.Grid.{IsSectionIn}
 
 -- the target of a relocation section is a section of the object
 pub target_there : (o : ObjectValue) (s : ℕ) (rela : Bool) (target : ℕ) (es : List Relocation) → IsObject o → s < length o.sections →
@@ -42,5 +42,5 @@ pub symbol_there : (o : ObjectValue) (s e : ℕ) → IsObject o → s < length o
 symbol_there o s e is there lt = symbol_of_body o (section_at o s).body e (references_there o s is there) lt
 
 -- the target of an applied entry is a section of its file
-pub target_section : (fs : List ObjectValue) (p : Site) → IsEntrySite fs p → IsObject (object_at fs p.file) → IsSection fs p.file (target_at fs p)
+pub target_section : (fs : List ObjectValue) (p : Site) → IsEntrySite fs p → IsObject (object_at fs p.file) → IsSectionIn fs p.file (target_at fs p)
 target_section fs p there is = (there.file, (target_has_bits (object_at fs p.file) p.index p.entry is there.section there.entry).0)

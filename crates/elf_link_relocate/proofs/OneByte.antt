@@ -4,10 +4,11 @@ use Rattle.std.specs.Prelude.{Option, None, Some, slice_index}
 use Rattle.std.proofs.lemmas.Bool.{cases_lt}
 use Rattle.elf_object_type.specs.Object.{ObjectValue}
 use Rattle.elf_link_field.specs.declared.rule.RelocRule.{RelocRule}
-use Rattle.elf_link_field.specs.Rule.{IsFirstRule, size_of}
+use Rattle.elf_link_field.specs.Rule.{IsFirstRelocationRule, size_of}
 use Rattle.elf_link_files.specs.declared.site.Site.{Site}
 use Rattle.elf_link_files.specs.Files.{section_in}
-use Rattle.elf_link_files.specs.Rows.{FirstIn, Nowhere}
+use Rattle.elf_extent.specs.Least.{Never}
+use Rattle.elf_link_files.specs.Rows.{FirstAmong}
 use Rattle.elf_link_outputs.specs.Placed.{cell}
 use Rattle.elf_link_map.specs.Apart.{BeginsAt, StandApart, size_in}
 use Rattle.elf_link_map.specs.LinkMap.{LinkMapValue}
@@ -17,7 +18,7 @@ use Rattle.elf_link_relocate.specs.Fields.{HasField, HasOffset, IsWithin, conten
 use Rattle.elf_link_relocate.specs.MapFacts.{IsMapOfSome}
 use Rattle.elf_link_relocate.specs.Memory.{IsContentByte, IsFieldByte, IsMemory, number_byte}
 use Rattle.elf_link_relocate.specs.Numbers.{address_in, number_at, or_zero}
-use Rattle.elf_link_relocate.specs.RelocationRules.{field_out_of_range, fields_overlap, relocation_rules}
+use Rattle.elf_link_relocate.specs.RelocationRules.{applied_entry_rules, field_out_of_range, fields_overlap}
 use Rattle.elf_link_relocate.proofs.FirstRule.{one_rule}
 use Rattle.elf_link_relocate.proofs.Memories.{content_fits, live_in}
 use Rattle.elf_link_relocate.proofs.Sites.{ordered}
@@ -29,7 +30,7 @@ same_value : (a b : ℤ) → Some a ≡ Some b → a ≡ b
 same_value a b e = cc
 
 module _ (fs : List ObjectValue) (m : LinkMapValue) (rules : List RelocRule) (stand : StandApart fs m)
-    (within : Nowhere (field_out_of_range fs rules)) (apart : Nowhere (fields_overlap fs rules)) where
+    (within : Never (field_out_of_range fs rules)) (apart : Never (fields_overlap fs rules)) where
   -- an address is in one section
   one_section : (f s a k g t b i : ℕ) → BeginsAt m f s a → BeginsAt m g t b → k < size_in fs f s → i < size_in fs g t → a + k ≡ b + i → (f ≡ g) × (s ≡ t)
   one_section f s a k g t b i at there k_in i_in same = elim (stand.apart f s a g t b at there) [
@@ -73,7 +74,7 @@ module _ (fs : List ObjectValue) (m : LinkMapValue) (rules : List RelocRule) (st
       let second : HasOffset fs q s (field_start fs p + k) = (omega arith, omega arith) in
       elim (ordered p q) [
         | inl one ↦ (
-            let rule = one_rule (entry_at fs q).kind rules r s (subst (λ (u : Site). IsFirstRule (entry_at fs u).kind rules r) one has.rule) had.rule in
+            let rule = one_rule (entry_at fs q).kind rules r s (subst (λ (u : Site). IsFirstRelocationRule (entry_at fs u).kind rules r) one has.rule) had.rule in
             let starts = ap (λ (u : Site). field_start fs u) one in
             let place : k ≡ i = omega arith in
             let value = subst (λ (u : Site). number_at fs m u r ≡ Some y) one number in
@@ -104,6 +105,6 @@ module _ (fs : List ObjectValue) (m : LinkMapValue) (rules : List RelocRule) (st
   one_of x v w (inr (none, inr (outside, area, zero_is))) (inr (never, inl (f, s, k, at, byte))) = absurd (outside (f, s, k, at))
   one_of x v w (inr (none, inr (outside, area, zero_is))) (inr (never, inr (beyond, around, again))) = zero_is ∙ sym again
 
-pub one_byte : (fs : List ObjectValue) (m : LinkMapValue) (rules : List RelocRule) → IsMapOfSome fs m → FirstIn (relocation_rules fs m rules) None →
+pub one_byte : (fs : List ObjectValue) (m : LinkMapValue) (rules : List RelocRule) → IsMapOfSome fs m → FirstAmong (applied_entry_rules fs m rules) None →
     (x v w : ℕ) → IsMemory fs m rules x v → IsMemory fs m rules x w → v ≡ w
 one_byte fs m rules (opt, is) clean = one_of fs m rules (parts_apart opt fs m is) clean.1.1.0 clean.1.1.1.0

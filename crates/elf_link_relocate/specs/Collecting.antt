@@ -21,7 +21,7 @@ no_field = record { site = entry_site 0 0 0; rule = record { kind = 0; form = Ab
 abbrev pub field_at : List Field → ℕ → Field
 field_at ds k = get_or ds k no_field
 
--- the list has each field before the site, by the rule of its kind, and in order; and each entry before it has a rule
+-- the list has each field before the site, by the relocation rule of its kind, and in order; and each entry before it has one
 pub record AreFieldsBefore (fs : List ObjectValue) (rules : List RelocRule) (stop : Site) (ds : List Field) : Type 0 where
   pub each : (k : ℕ) → k < length ds → HasField fs rules (field_at ds k).site (field_at ds k).rule
   pub before : (k : ℕ) → k < length ds → Before (field_at ds k).site stop

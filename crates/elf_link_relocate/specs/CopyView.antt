@@ -1,4 +1,4 @@
--- A table of copies, as contracts see it.
+-- A grid of copies, as contracts see it.
 use Rattle.std.specs.Prelude.{ℕ, Option, List, map, option_map}
 use Rattle.std.specs.Global.{Vec}
 

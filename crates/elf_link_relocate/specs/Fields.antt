@@ -1,18 +1,18 @@
 -- The fields of applied entries: the bytes of their targets that they change.
--- (gABI chapter 4, Relocation: r_offset; rules are this project's profile.)
+-- (gABI chapter 4, Relocation: r_offset; relocation rules are this project's profile.)
 use Rattle.std.specs.Prelude.{◌≡◌, ◌≢◌, ℕ, ◌+◌, ◌<◌, ◌≤◌, List, [], length}
 use Rattle.elf_object_type.specs.Object.{BodyValue, bits, no_bits, relocs, group, ObjectValue}
 use Rattle.elf_link_field.specs.declared.rule.Form.TheVariants.{None as NoForm}
 use Rattle.elf_link_field.specs.declared.rule.RelocRule.{RelocRule}
-use Rattle.elf_link_field.specs.Rule.{IsFirstRule, size_of}
+use Rattle.elf_link_field.specs.Rule.{IsFirstRelocationRule, size_of}
 use Rattle.elf_link_files.specs.declared.site.Site.{Site}
 use Rattle.elf_link_files.specs.Files.{section_in}
 use Rattle.elf_link_relocate.specs.Entries.{IsApplied, entry_at, target_at}
 
--- an entry has a field by this rule: it is applied, and the rule is the first one of its kind and has a form
+-- an entry has a field by this relocation rule: it is applied, and the rule is the first one of its kind and has a form
 pub record HasField (fs : List ObjectValue) (rules : List RelocRule) (p : Site) (r : RelocRule) : Type 0 where
   pub applied : IsApplied fs p
-  pub rule : IsFirstRule (entry_at fs p).kind rules r
+  pub rule : IsFirstRelocationRule (entry_at fs p).kind rules r
   pub form : r.form ≢ NoForm
 
 -- the bytes of a section's body

@@ -1,4 +1,4 @@
--- The relocated bytes of a link, as a value, and when they are those of some objects, their map and rules.
+-- The relocated bytes of a link, as a value, and when they are those of some objects, their map and relocation rules.
 -- (gABI chapter 4, Relocation.)
 use Rattle.std.specs.Prelude.{◌≡◌, ℕ, ◌+◌, ◌<◌, true, MatchOption, Option, None, List, length, slice_index}
 use Rattle.elf_object_type.specs.Object.{ObjectValue}
@@ -6,18 +6,18 @@ use Rattle.elf_object_type.specs.Positions.{is_bits}
 use Rattle.elf_link_field.specs.declared.rule.RelocRule.{RelocRule}
 use Rattle.elf_link_files.specs.Files.{object_at, section_in}
 use Rattle.elf_link_files.specs.Live.{Live}
-use Rattle.elf_link_files.specs.Rows.{FirstIn}
+use Rattle.elf_link_files.specs.Rows.{FirstAmong}
 use Rattle.elf_link_map.specs.Apart.{BeginsAt}
 use Rattle.elf_link_map.specs.LinkMap.{LinkMapValue}
 use Rattle.elf_link_relocate.specs.declared.linked.Identity.{Identity}
 use Rattle.elf_link_relocate.specs.Fields.{content_in}
-use Rattle.elf_link_relocate.specs.Grid.{IsGrid, IsSection, item}
+use Rattle.elf_link_relocate.specs.Grid.{IsGrid, IsSectionIn, item}
 use Rattle.elf_link_relocate.specs.Memory.{IsMemory}
-use Rattle.elf_link_relocate.specs.RelocationRules.{relocation_rules}
+use Rattle.elf_link_relocate.specs.RelocationRules.{applied_entry_rules}
 
 -- a live section with bits
 abbrev pub HasLiveBits : List ObjectValue → ℕ → ℕ → Type 0
-HasLiveBits fs f s = IsSection fs f s × Live fs f s × (is_bits (section_in fs f s).body ≡ true)
+HasLiveBits fs f s = IsSectionIn fs f s × Live fs f s × (is_bits (section_in fs f s).body ≡ true)
 
 pub record LinkedValue : Type 0 where
   pub map : LinkMapValue
@@ -35,10 +35,10 @@ pub record AreBytesOf (fs : List ObjectValue) (m : LinkMapValue) (rules : List R
   pub long : length bytes ≡ length (content_in fs f s)
   pub memory : (a : ℕ) × BeginsAt m f s a × ((k : ℕ) → k < length bytes → IsMemory fs m rules (a + k) (slice_index bytes k))
 
--- no rule of relocation stands; the map, the objects and the rules are these, and the bytes of each live section with bits those
--- of memory; no other has bytes
+-- none of rules 12 to 16 stands; the map, the objects and the relocation rules are these, and the bytes of each live section with
+-- bits those of memory; no other has bytes
 pub record IsLinked (fs : List ObjectValue) (m : LinkMapValue) (rules : List RelocRule) (l : LinkedValue) : Type 0 where
-  pub sound : FirstIn (relocation_rules fs m rules) None
+  pub sound : FirstAmong (applied_entry_rules fs m rules) None
   pub same_map : l.map ≡ m
   pub same_objects : l.objects ≡ fs
   pub same_rules : l.rules ≡ rules

@@ -6,23 +6,23 @@ use Rattle.elf_link_map.specs.LinkMap.{LinkMapValue}
 use Rattle.elf_link_relocate.specs.declared.field.Field.{Field}
 use Rattle.elf_link_relocate.specs.declared.linking.Linking.{Linking}
 use Rattle.elf_link_relocate.specs.Fields.{HasField}
-use Rattle.elf_link_relocate.specs.MapFacts.{IsSound}
-use Rattle.elf_link_relocate.specs.SymbolValues.{AreRows}
+use Rattle.elf_link_relocate.specs.MapFacts.{IsSoundMap}
+use Rattle.elf_link_relocate.specs.SymbolValues.{AreValueRows}
 
-abbrev pub files_of : Linking → List ObjectValue
-files_of l = l.objects.now
+abbrev pub linked_objects : Linking → List ObjectValue
+linked_objects l = l.objects.now
 
-abbrev pub map_of : Linking → LinkMapValue
-map_of l = l.map.now
+abbrev pub linked_map : Linking → LinkMapValue
+linked_map l = l.map.now
 
-abbrev pub rules_of : Linking → List RelocRule
-rules_of l = l.rules.now
+abbrev pub relocation_rules_of : Linking → List RelocRule
+relocation_rules_of l = l.rules.now
 
 -- the map is sound for the objects, and each symbol has its value
 pub record IsReady (l : Linking) : Type 0 where
-  pub sound : IsSound (files_of l) (map_of l)
-  pub values : AreRows (files_of l) (map_of l) (length (files_of l)) (map (λ row. row.items) l.values.items)
+  pub sound : IsSoundMap (linked_objects l) (linked_map l)
+  pub values : AreValueRows (linked_objects l) (linked_map l) (length (linked_objects l)) (map (λ row. row.items) l.values.items)
 
 -- a field is one of the link
 abbrev pub IsFieldOf : Linking → Field → Type 0
-IsFieldOf l d = HasField (files_of l) (rules_of l) d.site d.rule
+IsFieldOf l d = HasField (linked_objects l) (relocation_rules_of l) d.site d.rule

@@ -2,7 +2,7 @@
 use Rattle.std.specs.Prelude.{List}
 use Rattle.elf_object_type.specs.Object.{ObjectValue}
 use Rattle.elf_link_files.specs.declared.options.Options.{Options}
-use Rattle.elf_link_files.specs.Discarded.{AreMarks}
+use Rattle.elf_link_files.specs.Discarded.{AreDiscardMarks}
 use Rattle.elf_link_map.specs.Apart.{StandApart}
 use Rattle.elf_link_map.specs.LinkMap.{IsLinkMap, LinkMapValue}
 
@@ -11,6 +11,6 @@ abbrev pub IsMapOfSome : List ObjectValue → LinkMapValue → Type 0
 IsMapOfSome fs m = (opt : Options) × IsLinkMap opt fs m
 
 -- it tells which sections are discarded, and its sections stand apart
-pub record IsSound (fs : List ObjectValue) (m : LinkMapValue) : Type 0 where
-  pub discarded : AreMarks fs m.discarded
+pub record IsSoundMap (fs : List ObjectValue) (m : LinkMapValue) : Type 0 where
+  pub discarded : AreDiscardMarks fs m.discarded
   pub places : StandApart fs m

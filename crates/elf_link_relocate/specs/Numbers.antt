@@ -2,7 +2,7 @@
 use Rattle.std.specs.Prelude.{ℕ, ◌+◌, if◌then◌else◌, Option, None, Some, ℤ, List, option_map}
 use Rattle.elf_object_type.specs.Object.{ObjectValue}
 use Rattle.elf_link_field.specs.declared.rule.RelocRule.{RelocRule}
-use Rattle.elf_link_field.specs.Number.{addend_at, number_of}
+use Rattle.elf_link_field.specs.Number.{addend_at, relocation_number}
 use Rattle.elf_link_field.specs.Rule.{size_of}
 use Rattle.elf_link_files.specs.declared.site.Site.{Site}
 use Rattle.elf_link_files.specs.Files.{object_at}
@@ -32,4 +32,4 @@ addend_of fs p r =
 
 -- the number, where S, the symbol's value, is one
 abbrev pub number_at : List ObjectValue → LinkMapValue → Site → RelocRule → Option ℤ
-number_at fs m p r = option_map (λ value. number_of r.form value (addend_of fs p r) (field_address fs m p)) (value_at fs m p)
+number_at fs m p r = option_map (λ value. relocation_number r.form value (addend_of fs p r) (field_address fs m p)) (value_at fs m p)

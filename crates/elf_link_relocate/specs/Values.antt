@@ -14,7 +14,7 @@ use Rattle.elf_link_map.specs.declared.bindings.Binding.TheVariants.{Strong, Com
 use Rattle.elf_link_map.specs.LinkMap.{LinkMapValue, bound_in}
 use Rattle.elf_link_relocate.specs.Entries.{entry_at}
 
--- of a symbol of file f at its place: absolute, or so far behind the start of a section that has an address
+-- of a symbol of file f by its place: absolute, or so far behind the start of a section that has an address
 abbrev pub place_value : LinkMapValue → ℕ → Place → ℕ → Option ℕ
 place_value m f Undef value = None
 place_value m f Abs value = Some value
@@ -39,14 +39,14 @@ abbrev pub name_value : List ObjectValue → LinkMapValue → List ℕ → Optio
 name_value fs m name = bound_value fs m (bound_in m.bindings name)
 
 -- of symbol i of file f: a local one has its own, another one that of its name's binding
-abbrev pub symbol_value : List ObjectValue → LinkMapValue → ℕ → ℕ → Option ℕ
-symbol_value fs m f i =
+abbrev pub resolved_value : List ObjectValue → LinkMapValue → ℕ → ℕ → Option ℕ
+resolved_value fs m f i =
     if nat_eq (binding (symbol_in fs f i)) STB_LOCAL then definition_value fs m f i else name_value fs m (symbol_in fs f i).name
 
 -- of an entry: that of its symbol, 0 where it has none
 abbrev pub reference_value : List ObjectValue → LinkMapValue → ℕ → Option ℕ → Option ℕ
 reference_value fs m f None = Some 0
-reference_value fs m f (Some i) = symbol_value fs m f i
+reference_value fs m f (Some i) = resolved_value fs m f i
 
 abbrev pub value_at : List ObjectValue → LinkMapValue → Site → Option ℕ
 value_at fs m p = reference_value fs m p.file (entry_at fs p).symbol

@@ -4,7 +4,7 @@ ghost use Rattle.elf_link_files.specs.Files.{object_at};
 ghost use Rattle.elf_link_relocate.specs.Collecting.{AreFields, AreFieldsBefore, entry_site};
 ghost use Rattle.elf_link_relocate.specs.Entries.{IsApplied};
 ghost use Rattle.elf_link_relocate.specs.FieldTests.{IsRuleFault, NoneUnruled};
-ghost use Rattle.elf_link_relocate.specs.MapFacts.{IsSound};
+ghost use Rattle.elf_link_relocate.specs.MapFacts.{IsSoundMap};
 
 use crate::entries::{are_applied, entry_of};
 use crate::field::Field;
@@ -49,7 +49,7 @@ fn push_section(
     index: usize,
     fields: &mut Vec<Field>,
 ) -> Result<(), LinkFault>
-    requires sound { IsSound objects.now map.now }
+    requires sound { IsSoundMap objects.now map.now }
     requires file { file < length objects.now }
     requires index { index < length (object_at objects.now file).sections }
     requires before { AreFieldsBefore objects.now rules.now (entry_site file index 0) fields.old.items }
@@ -83,7 +83,7 @@ fn push_file(
     file: usize,
     fields: &mut Vec<Field>,
 ) -> Result<(), LinkFault>
-    requires sound { IsSound objects.now map.now }
+    requires sound { IsSoundMap objects.now map.now }
     requires file { file < length objects.now }
     requires before { AreFieldsBefore objects.now rules.now (entry_site file 0 0) fields.old.items }
     ensures ok { OnOk result (AreFieldsBefore objects.now rules.now (entry_site (file + 1) 0 0) fields.new.items) }
@@ -96,14 +96,14 @@ fn push_file(
 }
 
 /// The fields of all applied entries, by file, section and entry. Answers rule 12, at the first applied entry whose kind has no
-/// rule.
+/// relocation rule.
 pub(crate) fn all_fields(
     alloc: Global,
     objects: &[Object<'_>],
     map: &LinkMap<'_>,
     rules: &[RelocRule],
 ) -> Result<Vec<Field>, LinkFault>
-    requires sound { IsSound objects.now map.now }
+    requires sound { IsSoundMap objects.now map.now }
     ensures fields { IfOk result (λ fields. AreFields objects.now rules.now fields.items) }
     ensures ruled { OnOk result (NoneUnruled objects.now rules.now) }
     ensures err { IfErr result (IsRuleFault objects.now rules.now) }

@@ -2,7 +2,7 @@
 ghost use Rattle.std.specs.Prelude.{◌≡◌, ◌<◌, IfOk, length, map as map_list};
 ghost use Rattle.elf_link_files.specs.Files.{object_at};
 ghost use Rattle.elf_link_relocate.specs.CopyView.{copies_view, copy_view};
-ghost use Rattle.elf_link_relocate.specs.MapFacts.{IsSound};
+ghost use Rattle.elf_link_relocate.specs.MapFacts.{IsSoundMap};
 ghost use Rattle.elf_link_relocate.specs.Patching.{AreAllCopies, AreCopies, IsCopy};
 
 use crate::entries::is_live;
@@ -22,7 +22,7 @@ fn copy_of(
     file: usize,
     section: usize,
 ) -> Result<Option<Vec<u8>>, AllocError>
-    requires sound { IsSound objects.now map.now }
+    requires sound { IsSoundMap objects.now map.now }
     requires file { file < length objects.now }
     requires section { section < length (object_at objects.now file).sections }
     ensures { IfOk result (λ copy. IsCopy objects.now file section (copy_view copy)) }
@@ -43,7 +43,7 @@ fn file_copies(
     map: &LinkMap<'_>,
     file: usize,
 ) -> Result<Vec<Option<Vec<u8>>>, AllocError>
-    requires sound { IsSound objects.now map.now }
+    requires sound { IsSoundMap objects.now map.now }
     requires file { file < length objects.now }
     ensures { IfOk result (λ row. AreCopies objects.now file (length (object_at objects.now file).sections) (map_list copy_view row.items)) }
 {
@@ -60,7 +60,7 @@ pub(crate) fn all_copies(
     objects: &[Object<'_>],
     map: &LinkMap<'_>,
 ) -> Result<Copies, AllocError>
-    requires { IsSound objects.now map.now }
+    requires { IsSoundMap objects.now map.now }
     ensures { IfOk result (λ rows. AreAllCopies objects.now (length objects.now) (copies_view rows.items)) }
 {
     let mut rows = Vec::new(alloc);

@@ -5,7 +5,7 @@ ghost use Rattle.elf_link_files.specs.Live.{Live};
 ghost use Rattle.elf_link_files.specs.Discarded.{Discarded};
 ghost use Rattle.elf_link_relocate.specs.Entries.{IsEntrySite, body_at, entry_at, is_rela as is_rela_of, target_at, target_of as target_of_body};
 ghost use Rattle.elf_link_relocate.specs.Fields.{content_in, content_of as content_of_body};
-ghost use Rattle.elf_link_relocate.specs.MapFacts.{IsSound};
+ghost use Rattle.elf_link_relocate.specs.MapFacts.{IsSoundMap};
 ghost use Rattle.elf_object_type.specs.ObjectView.{body_value};
 
 use elf_link_map::files::section_of;
@@ -71,7 +71,7 @@ pub(crate) fn is_live(
     file: usize,
     section: usize,
 ) -> bool
-    requires sound { IsSound objects.now map.now }
+    requires sound { IsSoundMap objects.now map.now }
     requires file { file < length objects.now }
     requires section { section < length (object_at objects.now file).sections }
     ensures { IsTrue result ↔ Live objects.now file section }
@@ -87,7 +87,7 @@ pub(crate) fn are_applied(
     section: usize,
     target: usize,
 ) -> bool
-    requires sound { IsSound objects.now map.now }
+    requires sound { IsSoundMap objects.now map.now }
     requires file { file < length objects.now }
     requires section { section < length (object_at objects.now file).sections }
     requires target { target < length (object_at objects.now file).sections }

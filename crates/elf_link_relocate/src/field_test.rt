@@ -1,15 +1,15 @@
 //! The first field that breaks a rule by itself.
 ghost use Rattle.std.specs.Prelude.{◌≡◌, ◌↔◌, IsTrue, MatchOption, length};
 ghost use Rattle.elf_link_relocate.specs.Collecting.{AreFields};
-ghost use Rattle.elf_link_relocate.specs.FieldTests.{Breaks, HasNone, IsFirst, test_number};
-ghost use Rattle.elf_link_relocate.specs.LinkingFacts.{IsFieldOf, IsReady, files_of, map_of, rules_of};
+ghost use Rattle.elf_link_relocate.specs.FieldTests.{BreaksFieldTest, HasNone, IsFirst, test_number};
+ghost use Rattle.elf_link_relocate.specs.LinkingFacts.{IsFieldOf, IsReady, linked_map, linked_objects, relocation_rules_of};
 
 use crate::field::Field;
 use crate::linking::Linking;
 use crate::numbers::{is_field_out_of_range, is_unplaced, is_value_out_of_range};
 use crate::rules::{FIELD_OUT_OF_RANGE, UNPLACED, VALUE_OUT_OF_RANGE};
 
-/// A rule of relocation that looks at one field by itself.
+/// A rule of the link that looks at one field by itself.
 #[derive(Clone, Copy)]
 pub(crate) enum FieldTest {
     /// Rule 13: its symbol has no value.
@@ -36,7 +36,7 @@ impl FieldTest {
     fn is_broken_by(self, linking: &Linking<'_, '_>, field: Field) -> bool
         requires ready { IsReady linking.now }
         requires field { IsFieldOf linking.now field }
-        ensures { IsTrue result ↔ Breaks (files_of linking.now) (map_of linking.now) self field.site field.rule }
+        ensures { IsTrue result ↔ BreaksFieldTest (linked_objects linking.now) (linked_map linking.now) self field.site field.rule }
     {
         match self {
             FieldTest::Unplaced => is_unplaced(linking, field),
@@ -53,8 +53,8 @@ pub(crate) fn first_field(
     fields: &[Field],
 ) -> Option<usize>
     requires ready { IsReady linking.now }
-    requires fields { AreFields (files_of linking.now) (rules_of linking.now) fields.now }
-    ensures { MatchOption result (HasNone (Breaks (files_of linking.now) (map_of linking.now) test) fields.now) (IsFirst (Breaks (files_of linking.now) (map_of linking.now) test) fields.now) }
+    requires fields { AreFields (linked_objects linking.now) (relocation_rules_of linking.now) fields.now }
+    ensures { MatchOption result (HasNone (BreaksFieldTest (linked_objects linking.now) (linked_map linking.now) test) fields.now) (IsFirst (BreaksFieldTest (linked_objects linking.now) (linked_map linking.now) test) fields.now) }
 {
     for k in 0..fields.len() {
         if test.is_broken_by(linking, fields[k]) {

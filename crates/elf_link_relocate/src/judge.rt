@@ -1,12 +1,13 @@
 //! Rules 12 to 16 of the link, in their order.
 ghost use Rattle.std.specs.Prelude.{◌≡◌, IfErr, IfOk, None, OnOk};
-ghost use Rattle.elf_link_files.specs.Rows.{FirstIn, Nowhere};
+ghost use Rattle.elf_extent.specs.Least.{Never};
+ghost use Rattle.elf_link_files.specs.Rows.{FirstAmong};
 ghost use Rattle.elf_link_relocate.specs.Collecting.{AreFields};
-ghost use Rattle.elf_link_relocate.specs.FieldTests.{Breaks, HasNone, IsTestFault, test_row};
+ghost use Rattle.elf_link_relocate.specs.FieldTests.{BreaksFieldTest, HasNone, IsTestFault, test_row};
 ghost use Rattle.elf_link_relocate.specs.Judged.{AreJudged, IsOverlapFault};
-ghost use Rattle.elf_link_relocate.specs.LinkingFacts.{IsReady, files_of, map_of, rules_of};
+ghost use Rattle.elf_link_relocate.specs.LinkingFacts.{IsReady, linked_map, linked_objects, relocation_rules_of};
 ghost use Rattle.elf_link_relocate.specs.Marking.{AllWithin, HasNoOverlap};
-ghost use Rattle.elf_link_relocate.specs.RelocationRules.{IsRelocationFault, fields_overlap, relocation_rules};
+ghost use Rattle.elf_link_relocate.specs.RelocationRules.{IsRelocationFault, applied_entry_rules, fields_overlap};
 
 use crate::collecting::all_fields;
 use crate::field::Field;
@@ -14,16 +15,20 @@ use crate::field_test::{FieldTest, first_field};
 use crate::linking::Linking;
 use crate::marks::first_overlap;
 use crate::rules::FIELDS_OVERLAP;
-use elf_link_map::{Broken, LinkFault};
+use elf_link_map::{Broken, LinkFault, Site};
 use std::alloc::Global;
 
 /// Answers a rule at the first field that breaks it.
-fn refuse_first(test: FieldTest, linking: &Linking<'_, '_>, fields: &[Field]) -> Result<(), Broken>
+fn refuse_first(
+    test: FieldTest,
+    linking: &Linking<'_, '_>,
+    fields: &[Field],
+) -> Result<(), Broken<Site>>
     requires ready { IsReady linking.now }
-    requires fields { AreFields (files_of linking.now) (rules_of linking.now) fields.now }
-    ensures ok { OnOk result (HasNone (Breaks (files_of linking.now) (map_of linking.now) test) fields.now) }
-    ensures nowhere { OnOk result (Nowhere (test_row (files_of linking.now) (map_of linking.now) (rules_of linking.now) test)) }
-    ensures err { IfErr result (IsTestFault (files_of linking.now) (map_of linking.now) (rules_of linking.now) test) }
+    requires fields { AreFields (linked_objects linking.now) (relocation_rules_of linking.now) fields.now }
+    ensures ok { OnOk result (HasNone (BreaksFieldTest (linked_objects linking.now) (linked_map linking.now) test) fields.now) }
+    ensures nowhere { OnOk result (Never (test_row (linked_objects linking.now) (linked_map linking.now) (relocation_rules_of linking.now) test)) }
+    ensures err { IfErr result (IsTestFault (linked_objects linking.now) (linked_map linking.now) (relocation_rules_of linking.now) test) }
 {
     match first_field(test, linking, fields) {
         Some(k) => Err(Broken::new(test.rule(), fields[k].site)),
@@ -37,11 +42,11 @@ fn refuse_overlap(
     linking: &Linking<'_, '_>,
     fields: &[Field],
 ) -> Result<(), LinkFault>
-    requires fields { AreFields (files_of linking.now) (rules_of linking.now) fields.now }
-    requires within { AllWithin (files_of linking.now) fields.now }
-    ensures ok { OnOk result (HasNoOverlap (files_of linking.now) fields.now) }
-    ensures nowhere { OnOk result (Nowhere (fields_overlap (files_of linking.now) (rules_of linking.now))) }
-    ensures err { IfErr result (IsOverlapFault (files_of linking.now) (rules_of linking.now)) }
+    requires fields { AreFields (linked_objects linking.now) (relocation_rules_of linking.now) fields.now }
+    requires within { AllWithin (linked_objects linking.now) fields.now }
+    ensures ok { OnOk result (HasNoOverlap (linked_objects linking.now) fields.now) }
+    ensures nowhere { OnOk result (Never (fields_overlap (linked_objects linking.now) (relocation_rules_of linking.now))) }
+    ensures err { IfErr result (IsOverlapFault (linked_objects linking.now) (relocation_rules_of linking.now)) }
 {
     match first_overlap(alloc, linking, fields)? {
         Some(k) => Err(Broken::new(FIELDS_OVERLAP, fields[k].site).into()),
@@ -55,9 +60,9 @@ pub(crate) fn judged_fields(
     linking: &Linking<'_, '_>,
 ) -> Result<Vec<Field>, LinkFault>
     requires ready { IsReady linking.now }
-    ensures fields { IfOk result (λ fields. AreJudged (files_of linking.now) (map_of linking.now) (rules_of linking.now) fields.items) }
-    ensures sound { OnOk result (FirstIn (relocation_rules (files_of linking.now) (map_of linking.now) (rules_of linking.now)) None) }
-    ensures err { IfErr result (IsRelocationFault (files_of linking.now) (map_of linking.now) (rules_of linking.now)) }
+    ensures fields { IfOk result (λ fields. AreJudged (linked_objects linking.now) (linked_map linking.now) (relocation_rules_of linking.now) fields.items) }
+    ensures sound { OnOk result (FirstAmong (applied_entry_rules (linked_objects linking.now) (linked_map linking.now) (relocation_rules_of linking.now)) None) }
+    ensures err { IfErr result (IsRelocationFault (linked_objects linking.now) (linked_map linking.now) (relocation_rules_of linking.now)) }
 {
     let fields = all_fields(alloc, linking.objects, linking.map, linking.rules)?;
     refuse_first(FieldTest::Unplaced, linking, &fields)?;

@@ -1,5 +1,5 @@
 //! The relocated bytes of a link of ELF-64 objects (gABI chapter 4, Relocation): the number of each applied relocation in its
-//! field, by rules that say what relocations of a kind are.
+//! field, by relocation rules.
 //!
 //! [`relocate`] answers the bytes of each live section ([`Linked`]), or the first of rules 12 to 16 ([`rules`]) that stands.
 //!

@@ -69,7 +69,7 @@ impl<'m, 'a> Linked<'m, 'a> {
         self.objects
     }
 
-    /// The rules that the fields were relocated by.
+    /// The relocation rules that the numbers of the fields are by.
     pub fn rules(&self) -> &'m [RelocRule]
         ensures { result.now ≡ self.now.rules }
     {

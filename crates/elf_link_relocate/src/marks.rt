@@ -3,8 +3,8 @@ ghost use Rattle.std.specs.Prelude.{◌≡◌, ◌↔◌, ◌+◌, ◌<◌, ◌�
 ghost use Rattle.elf_link_files.specs.Files.{object_at};
 ghost use Rattle.elf_link_relocate.specs.Collecting.{AreFields};
 ghost use Rattle.elf_link_relocate.specs.Grid.{item};
-ghost use Rattle.elf_link_relocate.specs.LinkingFacts.{files_of, rules_of};
-ghost use Rattle.elf_link_relocate.specs.Marking.{AllWithin, AreMarksFor, AreUnmarkedRows, HasNoOverlap, IsFirstOverlap, IsMarkedIn, IsUnmarkedRow, SharesBefore, marks_view, row_view};
+ghost use Rattle.elf_link_relocate.specs.LinkingFacts.{linked_objects, relocation_rules_of};
+ghost use Rattle.elf_link_relocate.specs.Marking.{AllWithin, AreMarksFor, AreUnmarkedRows, HasNoOverlap, IsFirstOverlappingField, IsMarkedIn, IsUnmarkedRow, SharesBefore, marks_view, row_view};
 ghost use Rattle.elf_link_field.specs.Rule.{size_of};
 
 use crate::entries::{content, entry_of, target_of};
@@ -65,12 +65,12 @@ fn mark_field(
     k: usize,
     marks: &mut Vec<Vec<Vec<bool>>>,
 ) -> bool
-    requires fields { AreFields (files_of linking.now) (rules_of linking.now) fields.now }
-    requires within { AllWithin (files_of linking.now) fields.now }
+    requires fields { AreFields (linked_objects linking.now) (relocation_rules_of linking.now) fields.now }
+    requires within { AllWithin (linked_objects linking.now) fields.now }
     requires below { k < length fields.now }
-    requires before { AreMarksFor (files_of linking.now) fields.now k (marks_view marks.old.items) }
-    ensures taken { IsTrue result ↔ SharesBefore (files_of linking.now) fields.now k }
-    ensures marks { AreMarksFor (files_of linking.now) fields.now (k + 1) (marks_view marks.new.items) }
+    requires before { AreMarksFor (linked_objects linking.now) fields.now k (marks_view marks.old.items) }
+    ensures taken { IsTrue result ↔ SharesBefore (linked_objects linking.now) fields.now k }
+    ensures marks { AreMarksFor (linked_objects linking.now) fields.now (k + 1) (marks_view marks.new.items) }
 {
     let site = fields[k].site;
     keeps_rules(linking.objects, site.file);
@@ -85,9 +85,9 @@ pub(crate) fn first_overlap(
     linking: &Linking<'_, '_>,
     fields: &[Field],
 ) -> Result<Option<usize>, AllocError>
-    requires fields { AreFields (files_of linking.now) (rules_of linking.now) fields.now }
-    requires within { AllWithin (files_of linking.now) fields.now }
-    ensures { IfOk result (λ found. MatchOption found (HasNoOverlap (files_of linking.now) fields.now) (IsFirstOverlap (files_of linking.now) fields.now)) }
+    requires fields { AreFields (linked_objects linking.now) (relocation_rules_of linking.now) fields.now }
+    requires within { AllWithin (linked_objects linking.now) fields.now }
+    ensures { IfOk result (λ found. MatchOption found (HasNoOverlap (linked_objects linking.now) fields.now) (IsFirstOverlappingField (linked_objects linking.now) fields.now)) }
 {
     let mut marks = no_marks(alloc, linking.objects)?;
     for k in 0..fields.len() {

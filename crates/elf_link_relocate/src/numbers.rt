@@ -2,7 +2,7 @@
 ghost use Rattle.std.specs.Prelude.{◌≡◌, ◌↔◌, ◌^◌, ◌<◌, IfSome, IsTrue, pos, neg_ℤ, ◌<ℤ◌, ◌≤ℤ◌, length};
 ghost use Rattle.elf_link_files.specs.Files.{object_at};
 ghost use Rattle.elf_link_relocate.specs.Fields.{IsWithin, content_at};
-ghost use Rattle.elf_link_relocate.specs.LinkingFacts.{IsFieldOf, IsReady, files_of, map_of};
+ghost use Rattle.elf_link_relocate.specs.LinkingFacts.{IsFieldOf, IsReady, linked_map, linked_objects};
 ghost use Rattle.elf_link_relocate.specs.Numbers.{addend_of as addend_at, field_address as field_address_of, number_at};
 ghost use Rattle.elf_link_relocate.specs.RelocationRules.{IsFieldOutOfRange, IsUnplaced, IsValueOutOfRange};
 ghost use Rattle.elf_link_relocate.specs.Values.{IsSmall, reference_value, value_at};
@@ -16,9 +16,9 @@ use elf_link_map::files::keeps_rules;
 /// The value of a reference from a file to one of its symbols: 0 where it names none.
 fn reference(linking: &Linking<'_, '_>, file: usize, symbol: Option<usize>) -> Option<u128>
     requires ready { IsReady linking.now }
-    requires file { file < length (files_of linking.now) }
-    requires symbol { IfSome symbol (λ i. i < length (object_at (files_of linking.now) file).symbols) }
-    ensures value { result ≡ reference_value (files_of linking.now) (map_of linking.now) file symbol }
+    requires file { file < length (linked_objects linking.now) }
+    requires symbol { IfSome symbol (λ i. i < length (object_at (linked_objects linking.now) file).symbols) }
+    ensures value { result ≡ reference_value (linked_objects linking.now) (linked_map linking.now) file symbol }
     ensures small { IsSmall result }
 {
     match symbol {
@@ -31,7 +31,7 @@ fn reference(linking: &Linking<'_, '_>, file: usize, symbol: Option<usize>) -> O
 fn value_of(linking: &Linking<'_, '_>, field: Field) -> Option<u128>
     requires ready { IsReady linking.now }
     requires field { IsFieldOf linking.now field }
-    ensures value { result ≡ value_at (files_of linking.now) (map_of linking.now) field.site }
+    ensures value { result ≡ value_at (linked_objects linking.now) (linked_map linking.now) field.site }
     ensures small { IsSmall result }
 {
     keeps_rules(linking.objects, field.site.file);
@@ -43,7 +43,7 @@ fn value_of(linking: &Linking<'_, '_>, field: Field) -> Option<u128>
 pub(crate) fn is_unplaced(linking: &Linking<'_, '_>, field: Field) -> bool
     requires ready { IsReady linking.now }
     requires field { IsFieldOf linking.now field }
-    ensures { IsTrue result ↔ IsUnplaced (files_of linking.now) (map_of linking.now) field.site field.rule }
+    ensures { IsTrue result ↔ IsUnplaced (linked_objects linking.now) (linked_map linking.now) field.site field.rule }
 {
     value_of(linking, field).is_none()
 }
@@ -51,7 +51,7 @@ pub(crate) fn is_unplaced(linking: &Linking<'_, '_>, field: Field) -> bool
 /// The bytes of the section that a field is in.
 fn target_content<'a>(linking: &Linking<'_, 'a>, field: Field) -> &'a [u8]
     requires field { IsFieldOf linking.now field }
-    ensures { result.now ≡ content_at (files_of linking.now) field.site }
+    ensures { result.now ≡ content_at (linked_objects linking.now) field.site }
 {
     let target = target_of(linking.objects, field.site);
     content(linking.objects, field.site.file, target)
@@ -60,7 +60,7 @@ fn target_content<'a>(linking: &Linking<'_, 'a>, field: Field) -> &'a [u8]
 /// Rule 14: whether a field passes the end of its target.
 pub(crate) fn is_field_out_of_range(linking: &Linking<'_, '_>, field: Field) -> bool
     requires field { IsFieldOf linking.now field }
-    ensures { IsTrue result ↔ IsFieldOutOfRange (files_of linking.now) field.site field.rule }
+    ensures { IsTrue result ↔ IsFieldOutOfRange (linked_objects linking.now) field.site field.rule }
 {
     let offset = entry_of(linking.objects, field.site).offset;
     let length = target_content(linking, field).len();
@@ -74,8 +74,8 @@ pub(crate) fn is_field_out_of_range(linking: &Linking<'_, '_>, field: Field) -> 
 fn field_address(linking: &Linking<'_, '_>, field: Field) -> u64
     requires ready { IsReady linking.now }
     requires field { IsFieldOf linking.now field }
-    requires within { IsWithin (files_of linking.now) field.site field.rule }
-    ensures { result ≡ field_address_of (files_of linking.now) (map_of linking.now) field.site }
+    requires within { IsWithin (linked_objects linking.now) field.site field.rule }
+    ensures { result ≡ field_address_of (linked_objects linking.now) (linked_map linking.now) field.site }
 {
     let target = target_of(linking.objects, field.site);
     let start = linking.map.address(field.site.file, target).unwrap_or(0);
@@ -85,8 +85,8 @@ fn field_address(linking: &Linking<'_, '_>, field: Field) -> u64
 /// The addend of a field: that of its entry, or the number that stands in it.
 fn addend_of(linking: &Linking<'_, '_>, field: Field) -> i128
     requires field { IsFieldOf linking.now field }
-    requires within { IsWithin (files_of linking.now) field.site field.rule }
-    ensures value { result ≡ addend_at (files_of linking.now) field.site field.rule }
+    requires within { IsWithin (linked_objects linking.now) field.site field.rule }
+    ensures value { result ≡ addend_at (linked_objects linking.now) field.site field.rule }
     ensures low { neg_ℤ (pos (2 ^ 63)) ≤ℤ result }
     ensures high { result <ℤ pos (2 ^ 64) }
 {
@@ -107,8 +107,8 @@ fn addend_of(linking: &Linking<'_, '_>, field: Field) -> i128
 pub(crate) fn number_of(linking: &Linking<'_, '_>, field: Field) -> Option<i128>
     requires ready { IsReady linking.now }
     requires field { IsFieldOf linking.now field }
-    requires within { IsWithin (files_of linking.now) field.site field.rule }
-    ensures { result ≡ number_at (files_of linking.now) (map_of linking.now) field.site field.rule }
+    requires within { IsWithin (linked_objects linking.now) field.site field.rule }
+    ensures { result ≡ number_at (linked_objects linking.now) (linked_map linking.now) field.site field.rule }
 {
     match value_of(linking, field) {
         Some(value) => Some(
@@ -126,7 +126,7 @@ pub(crate) fn number_of(linking: &Linking<'_, '_>, field: Field) -> Option<i128>
 pub(crate) fn is_value_out_of_range(linking: &Linking<'_, '_>, field: Field) -> bool
     requires ready { IsReady linking.now }
     requires field { IsFieldOf linking.now field }
-    ensures { IsTrue result ↔ IsValueOutOfRange (files_of linking.now) (map_of linking.now) field.site field.rule }
+    ensures { IsTrue result ↔ IsValueOutOfRange (linked_objects linking.now) (linked_map linking.now) field.site field.rule }
 {
     if is_field_out_of_range(linking, field) {
         return false;

@@ -2,7 +2,7 @@
 ghost use Rattle.std.specs.Prelude.{◌≡◌, ◌+◌, ◌<◌, [], get_or, length};
 ghost use Rattle.elf_link_relocate.specs.CopyView.{copies_view};
 ghost use Rattle.elf_link_relocate.specs.Judged.{AreJudged};
-ghost use Rattle.elf_link_relocate.specs.LinkingFacts.{IsReady, files_of, map_of, rules_of};
+ghost use Rattle.elf_link_relocate.specs.LinkingFacts.{IsReady, linked_map, linked_objects, relocation_rules_of};
 ghost use Rattle.elf_link_relocate.specs.Patching.{AreRelocated, HasRoom, IsPatchedIn};
 ghost use Rattle.elf_link_field.specs.Rule.{size_of};
 
@@ -39,10 +39,10 @@ fn patch_in(
 /// Puts the number of field `k` into it.
 fn patch_field(linking: &Linking<'_, '_>, fields: &[Field], k: usize, copies: &mut Copies)
     requires ready { IsReady linking.now }
-    requires fields { AreJudged (files_of linking.now) (map_of linking.now) (rules_of linking.now) fields.now }
+    requires fields { AreJudged (linked_objects linking.now) (linked_map linking.now) (relocation_rules_of linking.now) fields.now }
     requires below { k < length fields.now }
-    requires before { AreRelocated (files_of linking.now) (map_of linking.now) fields.now k (copies_view copies.old.items) }
-    ensures { AreRelocated (files_of linking.now) (map_of linking.now) fields.now (k + 1) (copies_view copies.new.items) }
+    requires before { AreRelocated (linked_objects linking.now) (linked_map linking.now) fields.now k (copies_view copies.old.items) }
+    ensures { AreRelocated (linked_objects linking.now) (linked_map linking.now) fields.now (k + 1) (copies_view copies.new.items) }
 {
     let field = fields[k];
     patched_field();
@@ -67,9 +67,9 @@ fn patch_field(linking: &Linking<'_, '_>, fields: &[Field], k: usize, copies: &m
 /// Puts the number of each field into it, in one pass.
 pub(crate) fn patch_all(linking: &Linking<'_, '_>, fields: &[Field], copies: &mut Copies)
     requires ready { IsReady linking.now }
-    requires fields { AreJudged (files_of linking.now) (map_of linking.now) (rules_of linking.now) fields.now }
-    requires before { AreRelocated (files_of linking.now) (map_of linking.now) fields.now 0 (copies_view copies.old.items) }
-    ensures { AreRelocated (files_of linking.now) (map_of linking.now) fields.now (length fields.now) (copies_view copies.new.items) }
+    requires fields { AreJudged (linked_objects linking.now) (linked_map linking.now) (relocation_rules_of linking.now) fields.now }
+    requires before { AreRelocated (linked_objects linking.now) (linked_map linking.now) fields.now 0 (copies_view copies.old.items) }
+    ensures { AreRelocated (linked_objects linking.now) (linked_map linking.now) fields.now (length fields.now) (copies_view copies.new.items) }
 {
     for k in 0..fields.len() {
         patch_field(linking, fields, k, copies);

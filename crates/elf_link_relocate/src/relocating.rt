@@ -15,8 +15,8 @@ use elf_link_map::{LinkFault, LinkMap, parts_apart};
 use elf_object_type::Object;
 use std::alloc::Global;
 
-/// The relocated bytes of these objects, whose link map it is: the number of each applied relocation in its field, by the first of
-/// the rules that is of its kind.
+/// The relocated bytes of these objects, whose link map it is: the number of each applied relocation in its field, by the first
+/// relocation rule of its kind.
 ///
 /// Answers the first of rules 12 to 16 ([`rules`](crate::rules)) that stands, at its first entry by file, section and position; and
 /// [`LinkFault::OutOfMemory`] only where memory is refused: a value for each symbol, a mark for each byte, a copy of each live

@@ -1,6 +1,7 @@
-//! The number of each rule of relocation, 12 to 16, behind the rules of the link map and in the order in which they are tested.
+//! The number of each rule of the link on applied entries, 12 to 16, behind those of the link map and in the order in which they are
+//! tested.
 
-/// An applied entry is of a kind that has no rule.
+/// An applied entry is of a kind that has no relocation rule.
 pub const NO_RULE: u16 = 12;
 /// The symbol of a field is local, and undefined or in a section that is not live; or it is not, and the definition that its name is
 /// bound to is in such a section.

@@ -2,8 +2,8 @@
 ghost use Rattle.std.specs.Prelude.{◌≡◌, ◌+◌, ◌<◌, IfOk, length, map as map_list};
 ghost use Rattle.elf_link_files.specs.Files.{object_at};
 ghost use Rattle.elf_object_type.specs.declared.symbol.Place.TheVariants.{In as InSection};
-ghost use Rattle.elf_link_relocate.specs.SymbolValues.{AreRow, AreRows};
-ghost use Rattle.elf_link_relocate.specs.Values.{IsSmall, binding_value as binding_value_of, definition_value as definition_value_of, name_value as name_value_of, place_value as place_value_of, symbol_value as symbol_value_of};
+ghost use Rattle.elf_link_relocate.specs.SymbolValues.{AreValueRows, IsValueRow};
+ghost use Rattle.elf_link_relocate.specs.Values.{IsSmall, binding_value as binding_value_of, definition_value as definition_value_of, name_value as name_value_of, place_value as place_value_of, resolved_value as resolved_value_of};
 
 use elf_field::abi::*;
 use elf_link_map::files::{symbol_count, symbol_of};
@@ -22,7 +22,7 @@ fn section_value(map: &LinkMap<'_>, file: usize, section: usize, value: u64) -> 
     }
 }
 
-/// The value of a symbol of a file at its place.
+/// The value of a symbol of a file by its place.
 fn place_value(map: &LinkMap<'_>, file: usize, place: Place, value: u64) -> Option<u128>
     ensures value { result ≡ place_value_of map.now file place value }
     ensures small { IsSmall result }
@@ -81,7 +81,7 @@ fn name_value(objects: &[Object<'_>], map: &LinkMap<'_>, name: &[u8]) -> Option<
 }
 
 /// The value of a symbol: its own where it is local, and else that of its name.
-fn symbol_value(
+fn resolved_value(
     objects: &[Object<'_>],
     map: &LinkMap<'_>,
     file: usize,
@@ -89,7 +89,7 @@ fn symbol_value(
 ) -> Option<u128>
     requires file { file < length objects.now }
     requires index { index < length (object_at objects.now file).symbols }
-    ensures value { result ≡ symbol_value_of objects.now map.now file index }
+    ensures value { result ≡ resolved_value_of objects.now map.now file index }
     ensures small { IsSmall result }
 {
     let symbol = symbol_of(objects, file, index);
@@ -108,12 +108,12 @@ fn file_values(
     file: usize,
 ) -> Result<Vec<Option<u128>>, AllocError>
     requires file { file < length objects.now }
-    ensures { IfOk result (λ row. AreRow objects.now map.now file (length (object_at objects.now file).symbols) row.items) }
+    ensures { IfOk result (λ row. IsValueRow objects.now map.now file (length (object_at objects.now file).symbols) row.items) }
 {
     let count = symbol_count(&objects[file]);
     let mut row = Vec::with_capacity(alloc, count)?;
     for index in 0..count {
-        row.push(symbol_value(objects, map, file, index))?;
+        row.push(resolved_value(objects, map, file, index))?;
     }
     Ok(row)
 }
@@ -124,7 +124,7 @@ pub(crate) fn all_values(
     objects: &[Object<'_>],
     map: &LinkMap<'_>,
 ) -> Result<Vec<Vec<Option<u128>>>, AllocError>
-    ensures { IfOk result (λ rows. AreRows objects.now map.now (length objects.now) (map_list (λ row. row.items) rows.items)) }
+    ensures { IfOk result (λ rows. AreValueRows objects.now map.now (length objects.now) (map_list (λ row. row.items) rows.items)) }
 {
     let mut rows = Vec::with_capacity(alloc, objects.len())?;
     for file in 0..objects.len() {

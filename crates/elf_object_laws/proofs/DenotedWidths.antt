@@ -13,14 +13,14 @@ use Rattle.elf_field.specs.RelaLaws.{rela_laws}
 use Rattle.elf_field.specs.Shdr.{IsShdr}
 use Rattle.elf_field.specs.SymLaws.{sym_laws}
 use Rattle.elf_field.specs.declared.order.Order.{Order}
-use Rattle.elf_image_type.specs.Image.{ImageValue, IsSound, value_names}
+use Rattle.elf_image_type.specs.Image.{ImageValue, IsSoundImage, value_names}
 use Rattle.elf_image_type.specs.Strings.{string}
-use Rattle.elf_image_rules.specs.Tables.{name_table, no_section}
-use Rattle.elf_table_symbols.specs.Sections.{content, order, section, sections_of}
+use Rattle.elf_image_rules.specs.Tables.{name_table, no_section_header}
+use Rattle.elf_table_base.specs.Sections.{content, order, section, sections_of}
 use Rattle.elf_table_symbols.specs.SymbolParts.{symbol_parts}
 use Rattle.elf_table_symbols.specs.SymbolRules.{entry}
 use Rattle.elf_table_symbols.specs.Symbols as table_symbols
-use Rattle.elf_table_symbols.specs.Symbols.{symbol_in, symbols_in, symbols_of}
+use Rattle.elf_table_symbols.specs.Symbols.{symbol_entry_in, symbols_in, symbols_of}
 use Rattle.elf_table_lists.specs.declared.relocation.Relocation as table_relocation
 use Rattle.elf_table_lists.specs.Relocations.{has_addends, relocation_in, relocations_in, relocations_of}
 use Rattle.elf_object_reader.specs.declared.body_kind.BodyKind.{BodyKind}
@@ -51,7 +51,7 @@ all_dropped : {A : Type 0} (P : A → Type 0) (xs : List A) → AllByRecursion P
 all_dropped P [] all = tt
 all_dropped P (x ∷ xs) all = all.1
 
-no_section_fits : IsShdr no_section
+no_section_fits : IsShdr no_section_header
 no_section_fits = record {
   sh_name = omega arith;
   sh_type = omega arith;
@@ -90,15 +90,15 @@ relocation_fits false o table bytes j =
 -- ---- symbols
 
 -- what stood in a symbol's fields
-record EntryFits (s : table_symbols.SymbolValue) : Type 0 where
+record EntryFits (s : table_symbols.SymbolEntryValue) : Type 0 where
   name : IsBytes s.name
   info : 16 * s.binding + s.symbol_type < 2 ^ 8
   other : s.other < 2 ^ 8
   value : s.value < 2 ^ 64
   size : s.size < 2 ^ 64
 
-entry_fits : (o : Order) (table names words : List ℕ) → IsBytes table → IsBytes names → (j : ℕ) → EntryFits (symbol_in o table names words j)
-unfolding symbol_in entry
+entry_fits : (o : Order) (table names words : List ℕ) → IsBytes table → IsBytes names → (j : ℕ) → EntryFits (symbol_entry_in o table names words j)
+unfolding symbol_entry_in entry
 entry_fits o table names words bytes names_bytes j =
     let fits = sym_laws.valid o table (24 * j) bytes in
     let e = entry o table j in
@@ -107,11 +107,11 @@ entry_fits o table names words bytes names_bytes j =
 
 entries_fit : (o : Order) (table names words : List ℕ) → IsBytes table → IsBytes names → AllByRecursion EntryFits (symbols_in o table names words)
 unfolding symbols_in
-entries_fit o table names words bytes names_bytes = all_mapped EntryFits (symbol_in o table names words) (entry_fits o table names words bytes names_bytes) _
+entries_fit o table names words bytes names_bytes = all_mapped EntryFits (symbol_entry_in o table names words) (entry_fits o table names words bytes names_bytes) _
 
-module _ (v : ImageValue) (sound : IsSound v) where
+module _ (v : ImageValue) (sound : IsSoundImage v) where
   header_of : (i : ℕ) → IsShdr (section (sections_of v) i)
-  header_of i = at_any IsShdr v.sections no_section i sound.section_headers no_section_fits
+  header_of i = at_any IsShdr v.sections no_section_header i sound.section_headers no_section_fits
 
   content_of : (i : ℕ) → IsBytes (content (sections_of v) i)
   content_of i = at_any IsBytes v.contents [] i sound.bytes IsBytes-nil

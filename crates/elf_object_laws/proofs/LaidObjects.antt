@@ -5,17 +5,17 @@ use Rattle.elf_extent.proofs.Public.{least_cons, least_nil}
 use Rattle.elf_image_type.specs.RelocatableFile.{relocatable_bytes}
 use Rattle.elf_image_rules.specs.Tables.{order_of}
 use Rattle.elf_field.specs.Bytes.{bytes_of, first_bytes}
-use Rattle.elf_object_strings.specs.StringTable.{held, name_place, string_table}
+use Rattle.elf_object_strings.specs.StringTable.{held, name_offset, string_table}
 use Rattle.elf_object_writer.specs.Laid.{Laid, layout_bytes, layout_parts}
 use Rattle.elf_object_laws.specs.LaidObjects.{empty_object, empty_object_bytes, one_section, one_section_bytes}
 use Rattle.elf_object_writer.specs.PlainSections.{plain_sections, section_names, sections_before_names}
 
 empty_bytes : empty_object_bytes ≡ layout_bytes empty_object (64 ∷ 88 ∷ 89 ∷ 120 ∷ [])
-unfolding layout_bytes plain_sections section_names sections_before_names relocatable_bytes held name_place string_table order_of bytes_of first_bytes
+unfolding layout_bytes plain_sections section_names sections_before_names relocatable_bytes held name_offset string_table order_of bytes_of first_bytes
 empty_bytes = refl
 
 one_section_are : one_section_bytes ≡ layout_bytes one_section (64 ∷ 72 ∷ 96 ∷ 97 ∷ 136 ∷ [])
-unfolding layout_bytes plain_sections section_names sections_before_names relocatable_bytes held name_place string_table order_of bytes_of first_bytes
+unfolding layout_bytes plain_sections section_names sections_before_names relocatable_bytes held name_offset string_table order_of bytes_of first_bytes
 one_section_are = refl
 
 -- ---- their places are the least ones

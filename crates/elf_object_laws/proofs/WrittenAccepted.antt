@@ -13,15 +13,15 @@ use Rattle.elf_field.specs.declared.order.Order.TheVariants.{Little, Big}
 use Rattle.elf_field.specs.declared.shdr.Shdr.{Shdr}
 use Rattle.elf_image_type.specs.RelocatableFile.{IsRelocatableFile, all_headers, short_count, short_index}
 use Rattle.elf_image_rules.specs.KeepsRules.{IsAlignment, KeepsNameRules}
-use Rattle.elf_image_rules.specs.Tables.{content_extent, no_section, section_of}
-use Rattle.elf_image_rules.proofs.Public.{alignment, equal}
-use Rattle.elf_object_strings.specs.StringTable.{name_place, string_table}
+use Rattle.elf_image_rules.specs.Tables.{content_extent, no_section_header, section_header_of}
+use Rattle.elf_image_rules.proofs.Public.{equal, is_alignment}
+use Rattle.elf_object_strings.specs.StringTable.{name_offset, string_table}
 use Rattle.elf_object_strings.proofs.Public.{holds_names}
 use Rattle.elf_object_writer.specs.Laid.{encoding, identification, section_header}
 use Rattle.elf_object_type.specs.Object.{ObjectValue, section_at}
 use Rattle.elf_object_writer.specs.PlainSections.{PlainSection, has_index_table, name_table_at, plain_sections, section_names, strings, strings_at, symbol_table_at}
 use Rattle.elf_object_laws.specs.WrittenObject.{IsWrittenAt, written_sections}
-use Rattle.elf_object_writer.proofs.Public.{contents_of, header_at, headers_at, identification_kept, last_sections, layout_order, length-headers_at, length-plain, no_plain, plain_at, plain_last}
+use Rattle.elf_object_writer.proofs.Public.{canonical_header, canonical_section_headers, contents_of, identification_kept, last_sections, layout_order, length-canonical_section_headers, length-plain, no_plain, plain_at, plain_last}
 use Rattle.elf_object_type.proofs.Public.{all_of_each, no_wrong_alignment}
 use Rattle.elf_object_laws.proofs.WrittenFields.{EachKind, IsBytes-all, PlainFits, each_plain, plain_fits, section_names_are}
 use Rattle.elf_object_laws.proofs.WrittenLengths.{content_short, names_short, table_short}
@@ -53,7 +53,7 @@ short_index_fits n = elim (cases_lt n 0xff00) [
 ]
 
 module _ (o : ObjectValue) (places : List ℕ) (written : IsWrittenAt o places) where
-  header_fits : IsEhdr (header_at o places)
+  header_fits : IsEhdr (canonical_header o places)
   header_fits =
       let table = table_short o places written in
       record {
@@ -80,10 +80,10 @@ module _ (o : ObjectValue) (places : List ℕ) (written : IsWrittenAt o places) 
   name_at p lt =
       ap (λ (names : List (List ℕ)). get_or names p []) (section_names_are o) ∙ get_or-map (λ (s : PlainSection). s.name) (plain_sections o) p no_plain [] lt
 
-  name_within : (p : ℕ) → p < length (plain_sections o) → name_place (section_names o) (plain_at o p).name < length (string_table (section_names o))
+  name_within : (p : ℕ) → p < length (plain_sections o) → name_offset (section_names o) (plain_at o p).name < length (string_table (section_names o))
   name_within p lt =
       let many = ap length (section_names_are o) ∙ length-map (plain_sections o) (λ (s : PlainSection). s.name) in
-      subst (λ (name : List ℕ). name_place (section_names o) name < length (string_table (section_names o))) (name_at p lt)
+      subst (λ (name : List ℕ). name_offset (section_names o) name < length (string_table (section_names o))) (name_at p lt)
       ((holds_names (section_names o)).within p (omega arith))
 
   -- ---- the section headers
@@ -98,7 +98,7 @@ module _ (o : ObjectValue) (places : List ℕ) (written : IsWrittenAt o places) 
       by_type true = space
       by_type false = long
 
-  pub section_fits : (p : ℕ) → p < length (plain_sections o) → IsShdr (section_header (name_place (section_names o)) (plain_at o p) (get_or places p 0))
+  pub section_fits : (p : ℕ) → p < length (plain_sections o) → IsShdr (section_header (name_offset (section_names o)) (plain_at o p) (get_or places p 0))
   section_fits p lt =
       let fits = fits_at p lt in
       let name = name_within p lt in
@@ -117,15 +117,15 @@ module _ (o : ObjectValue) (places : List ℕ) (written : IsWrittenAt o places) 
         sh_entsize = fits.entsize;
       }
 
-  header_is : (p : ℕ) → p < length (plain_sections o) → section_of (headers_at o places) p ≡ section_header (name_place (section_names o)) (plain_at o p) (get_or places p 0)
+  header_is : (p : ℕ) → p < length (plain_sections o) → section_header_of (canonical_section_headers o places) p ≡ section_header (name_offset (section_names o)) (plain_at o p) (get_or places p 0)
   unfolding written_sections
   header_is p lt = written_section o places written p lt
 
-  many : length (headers_at o places) ≡ length (plain_sections o)
-  many = length-headers_at o places written.least.fits
+  many : length (canonical_section_headers o places) ≡ length (plain_sections o)
+  many = length-canonical_section_headers o places written.least.fits
 
-  headers_fit : AllByRecursion IsShdr (headers_at o places)
-  headers_fit = all_of_each IsShdr (headers_at o places) no_section (λ p lt.
+  headers_fit : AllByRecursion IsShdr (canonical_section_headers o places)
+  headers_fit = all_of_each IsShdr (canonical_section_headers o places) no_section_header (λ p lt.
       let all = many in
       let here : p < length (plain_sections o) = omega arith in
       subst IsShdr (sym (header_is p here)) (section_fits p here))
@@ -137,19 +137,19 @@ module _ (o : ObjectValue) (places : List ℕ) (written : IsWrittenAt o places) 
       map_all [] all = tt
       map_all (s ∷ sections) all = (all.0, map_all sections all.1)
 
-  lengths : map length (contents_of o) ≡ map (λ s. (content_extent s).len) (headers_at o places)
+  lengths : map length (contents_of o) ≡ map (λ s. (content_extent s).len) (canonical_section_headers o places)
   lengths =
       let contents_long = length-map (plain_sections o) (λ (s : PlainSection). s.content) in
       let left_long = length-map (contents_of o) length in
-      let right_long = length-map (headers_at o places) (λ (s : Shdr). (content_extent s).len) in
+      let right_long = length-map (canonical_section_headers o places) (λ (s : Shdr). (content_extent s).len) in
       let all = many in
-      ext_get_or 0 (map length (contents_of o)) (map (λ (s : Shdr). (content_extent s).len) (headers_at o places)) (omega arith) (λ p lt.
+      ext_get_or 0 (map length (contents_of o)) (map (λ (s : Shdr). (content_extent s).len) (canonical_section_headers o places)) (omega arith) (λ p lt.
       let here : p < length (plain_sections o) = omega arith in
       get_or-map length (contents_of o) p [] 0 (omega arith)
       ∙ ap length (get_or-map (λ (s : PlainSection). s.content) (plain_sections o) p no_plain [] here)
       ∙ sym (fits_at p here).taken
       ∙ sym (ap (λ (s : Shdr). (content_extent s).len) (header_is p here))
-      ∙ sym (get_or-map (λ (s : Shdr). (content_extent s).len) (headers_at o places) p no_section 0 (omega arith)))
+      ∙ sym (get_or-map (λ (s : Shdr). (content_extent s).len) (canonical_section_headers o places) p no_section_header 0 (omega arith)))
 
   -- ---- alignments
 
@@ -158,7 +158,7 @@ module _ (o : ObjectValue) (places : List ℕ) (written : IsWrittenAt o places) 
     own = λ p lt.
         let right = no_wrong_alignment o written.object p lt in
         let s = section_at o p in
-        (alignment s.align (λ wrong. right (inl wrong)), λ some. equal (s.addr % s.align) 0 (λ other. right (inr (some, other))));
+        (is_alignment s.align (λ wrong. right (inl wrong)), λ some. equal (s.addr % s.align) 0 (λ other. right (inr (some, other))));
     symbols = (inr (3, refl), λ some. refl);
     indexes = λ far. (inr (2, refl), λ some. refl);
     symbol_strings = (inr (0, refl), λ some. refl);
@@ -166,8 +166,8 @@ module _ (o : ObjectValue) (places : List ℕ) (written : IsWrittenAt o places) 
   }
 
   -- what holds of each section but that of index 0
-  each_header : (P : Shdr → Type 0) → ((p : ℕ) → p < length (plain_sections o) → P (section_header (name_place (section_names o)) (plain_at o p) (get_or places p 0))) →
-      (i : ℕ) → 1 ≤ i → i < length (headers_at o places) + 1 → P (section_of (all_headers (headers_at o places) (name_table_at o)) i)
+  each_header : (P : Shdr → Type 0) → ((p : ℕ) → p < length (plain_sections o) → P (section_header (name_offset (section_names o)) (plain_at o p) (get_or places p 0))) →
+      (i : ℕ) → 1 ≤ i → i < length (canonical_section_headers o places) + 1 → P (section_header_of (all_headers (canonical_section_headers o places) (name_table_at o)) i)
   each_header P each zero above below = absurd (omega arith)
   each_header P each (suc p) above below =
       let all = many in
@@ -197,14 +197,14 @@ module _ (o : ObjectValue) (places : List ℕ) (written : IsWrittenAt o places) 
       ∙ get_or-map (λ (s : PlainSection). s.content) (plain_sections o) (strings_at o) no_plain [] here.0
       ∙ ap (λ (s : PlainSection). s.content) here.1
 
-  names_type : (section_of (all_headers (headers_at o places) (name_table_at o)) (name_table_at o)).sh_type ≡ 3
+  names_type : (section_header_of (all_headers (canonical_section_headers o places) (name_table_at o)) (name_table_at o)).sh_type ≡ 3
   names_type =
       let here = strings_plain (has_index_table o) refl in
-      ap (λ (i : ℕ). (section_of (all_headers (headers_at o places) (name_table_at o)) i).sh_type) names_index
+      ap (λ (i : ℕ). (section_header_of (all_headers (canonical_section_headers o places) (name_table_at o)) i).sh_type) names_index
       ∙ ap (λ (s : Shdr). s.sh_type) (header_is (strings_at o) here.0)
       ∙ ap (λ (s : PlainSection). s.type) here.1
 
-  names_kept : KeepsNameRules (length (headers_at o places) + 1) (name_table_at o) (section_of (all_headers (headers_at o places) (name_table_at o))) (get_or ([] ∷ contents_of o) (name_table_at o) [])
+  names_kept : KeepsNameRules (length (canonical_section_headers o places) + 1) (name_table_at o) (section_header_of (all_headers (canonical_section_headers o places) (name_table_at o))) (get_or ([] ∷ contents_of o) (name_table_at o) [])
   names_kept =
       let holds = holds_names (section_names o) in
       record {
@@ -212,12 +212,12 @@ module _ (o : ObjectValue) (places : List ℕ) (written : IsWrittenAt o places) 
         closed = λ some. subst (λ (names : List ℕ). (slice_index names 0 ≡ 0) × (slice_index names (length names - 1) ≡ 0)) (sym names_content) (holds.first, holds.last);
         names_begin = λ i above below typed.
             each_header (λ (s : Shdr). s.sh_name ≢ 0 → s.sh_name < length (get_or ([] ∷ contents_of o) (name_table_at o) []))
-            (λ p lt named. subst (λ (names : List ℕ). name_place (section_names o) (plain_at o p).name < length names) (sym names_content) (name_within p lt)) i above below;
+            (λ p lt named. subst (λ (names : List ℕ). name_offset (section_names o) (plain_at o p).name < length names) (sym names_content) (name_within p lt)) i above below;
       }
 
   -- ---- all of it
 
-  pub written_file : IsRelocatableFile (header_at o places) (headers_at o places) (contents_of o) (name_table_at o)
+  pub written_file : IsRelocatableFile (canonical_header o places) (canonical_section_headers o places) (contents_of o) (name_table_at o)
   written_file =
       let all = many in
       let table = table_short o places written in

@@ -9,7 +9,7 @@ use Rattle.elf_field.specs.Abi.{GRP_COMDAT, SHN_LORESERVE}
 use Rattle.elf_field.specs.declared.order.Order.{Order}
 use Rattle.elf_field.specs.declared.rela.Rela.{Rela}
 use Rattle.elf_field.specs.declared.rel.Rel.{Rel}
-use Rattle.elf_field.specs.RecordTableLaws.{length-table, record_at}
+use Rattle.elf_field.proofs.RecordTableLaws.{length-table, record_at}
 use Rattle.elf_field.specs.Rel.{IsRel}
 use Rattle.elf_field.specs.RelLaws.{rel_laws}
 use Rattle.elf_field.specs.Rela.{IsRela}
@@ -19,7 +19,7 @@ use Rattle.elf_field.specs.SymLaws.{sym_laws}
 use Rattle.elf_field.specs.Word.{IsWord, word_bytes}
 use Rattle.elf_field.specs.WordLaws.{word_laws}
 use Rattle.elf_image_type.specs.RelocatableFile.{long_number, short_index}
-use Rattle.elf_object_strings.specs.StringTable.{name_place, string_table}
+use Rattle.elf_object_strings.specs.StringTable.{name_offset, string_table}
 use Rattle.elf_object_strings.proofs.Public.{holds_names}
 use Rattle.elf_table_symbols.specs.SymbolRules.{entry, entry_count, word}
 use Rattle.elf_table_lists.specs.declared.relocation.Relocation as table
@@ -68,12 +68,12 @@ index_word_fits count (In position) few right = elim (cases_lt position count) [
 
 -- a symbol's name begins in the string table
 pub name_within : (o : ObjectValue) (k : ℕ) → k < length o.symbols →
-    name_place (symbol_names o) (symbol_at o k).name < length (string_table (symbol_names o))
+    name_offset (symbol_names o) (symbol_at o k).name < length (string_table (symbol_names o))
 name_within o k lt =
     let names = symbol_names o in
     let many = length-map o.symbols (λ s. s.name) in
     let same : get_or names k [] ≡ (symbol_at o k).name = get_or-map (λ (s : SymbolValue). s.name) o.symbols k no_symbol [] lt in
-    subst (λ (name : List ℕ). name_place names name < length (string_table names)) same ((holds_names names).within k (omega arith))
+    subst (λ (name : List ℕ). name_offset names name < length (string_table names)) same ((holds_names names).within k (omega arith))
 
 -- ---- the symbol table
 

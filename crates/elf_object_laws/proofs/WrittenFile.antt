@@ -3,8 +3,8 @@ use Rattle.std.proofs.Common.{◌≡◌, ◌<◌, ◌+◌, ◌-◌, ℕ, zero, s
 use Rattle.std.specs.Prelude.{codes, if◌then◌else◌}
 use Rattle.std.proofs.lemmas.Bool.{cases_lt}
 use Rattle.elf_field.specs.declared.shdr.Shdr.{Shdr}
-use Rattle.elf_object_strings.specs.StringTable.{name_place}
-use Rattle.elf_table_symbols.specs.Sections.{Sections, content, count, section}
+use Rattle.elf_object_strings.specs.StringTable.{name_offset}
+use Rattle.elf_table_base.specs.Sections.{Sections, content, count, section}
 use Rattle.elf_object_writer.specs.Laid.{section_header, section_size}
 use Rattle.elf_object_type.specs.Object.{ObjectValue, section_at}
 use Rattle.elf_object_writer.specs.PlainSections.{PlainSection, has_index_table, index_table_section, own_section, section_names, strings, strings_at, symbol_names, symbol_table_at, symbol_table_section}
@@ -46,7 +46,7 @@ own_at o places written p lt =
     let all = count_of_written o places written (has_index_table o) refl in
     let many = length-plain o (has_index_table o) refl in
     let more = last_some (has_index_table o) in
-    at_header (written_sections o places) (suc p) (own_section o (section_at o p)) (name_place (section_names o)) (get_or places p 0) (omega arith)
+    at_header (written_sections o places) (suc p) (own_section o (section_at o p)) (name_offset (section_names o)) (get_or places p 0) (omega arith)
     (written_own o places written p lt) (own_content o places p lt)
 
 -- ---- those behind them
@@ -57,7 +57,7 @@ last_at o places written far is k lt =
     let all = count_of_written o places written far is in
     let many = length-plain o far is in
     let next : symbol_table_at o + k ≡ suc (length o.sections + k) = omega arith in
-    at_header (written_sections o places) (symbol_table_at o + k) (get_or (last_sections o far) k no_plain) (name_place (section_names o)) (get_or places (length o.sections + k) 0)
+    at_header (written_sections o places) (symbol_table_at o + k) (get_or (last_sections o far) k no_plain) (name_offset (section_names o)) (get_or places (length o.sections + k) 0)
     (omega arith) (written_last o places written far is k lt)
     (ap (content (written_sections o places)) next ∙ written_content o places (length o.sections + k) (omega arith) ∙ ap (λ (s : PlainSection). s.content) (plain_last o far is k))
 

@@ -9,9 +9,9 @@ use Rattle.elf_field.specs.Abi.{SHN_LORESERVE, SHN_XINDEX, SHT_GROUP, SHT_NOBITS
 use Rattle.elf_field.specs.declared.shdr.Shdr.{Shdr}
 use Rattle.elf_image_type.specs.RelocatableFile.{long_number, short_index}
 use Rattle.elf_image_rules.specs.Tables.{name_table}
-use Rattle.elf_object_strings.specs.StringTable.{name_place}
+use Rattle.elf_object_strings.specs.StringTable.{name_offset}
 use Rattle.elf_table_symbols.specs.IndexTable.{IsIndexTable, index_table}
-use Rattle.elf_table_symbols.specs.Sections.{count, section}
+use Rattle.elf_table_base.specs.Sections.{count, section}
 use Rattle.elf_object_reader.specs.declared.left_out.LeftOut.{LeftOut}
 use Rattle.elf_object_reader.specs.Kept.{is_at, is_kept, kept, left_out, position_of, symbol_indexes, symbol_strings, symbol_table}
 use Rattle.elf_object_writer.specs.Laid.{section_header}
@@ -32,21 +32,21 @@ last_some true = omega arith
 last_some false = omega arith
 
 pub written_own : (o : ObjectValue) (places : List ℕ) → IsWrittenAt o places → (p : ℕ) → p < length o.sections →
-    section (written_sections o places) (suc p) ≡ section_header (name_place (section_names o)) (own_section o (section_at o p)) (get_or places p 0)
+    section (written_sections o places) (suc p) ≡ section_header (name_offset (section_names o)) (own_section o (section_at o p)) (get_or places p 0)
 written_own o places written p lt =
     let many = length-plain o (has_index_table o) refl in
     let more = last_some (has_index_table o) in
     written_section o places written p (omega arith)
-    ∙ ap (λ (s : PlainSection). section_header (name_place (section_names o)) s (get_or places p 0)) (plain_own o p lt)
+    ∙ ap (λ (s : PlainSection). section_header (name_offset (section_names o)) s (get_or places p 0)) (plain_own o p lt)
 
 pub written_last : (o : ObjectValue) (places : List ℕ) → IsWrittenAt o places → (far : Bool) → has_index_table o ≡ far → (k : ℕ) → k < last_count far →
     section (written_sections o places) (symbol_table_at o + k) ≡
-    section_header (name_place (section_names o)) (get_or (last_sections o far) k no_plain) (get_or places (length o.sections + k) 0)
+    section_header (name_offset (section_names o)) (get_or (last_sections o far) k no_plain) (get_or places (length o.sections + k) 0)
 written_last o places written far is k lt =
     let many = length-plain o far is in
     let next : symbol_table_at o + k ≡ suc (length o.sections + k) = omega arith in
     ap (section (written_sections o places)) next ∙ written_section o places written (length o.sections + k) (omega arith)
-    ∙ ap (λ (s : PlainSection). section_header (name_place (section_names o)) s (get_or places (length o.sections + k) 0)) (plain_last o far is k)
+    ∙ ap (λ (s : PlainSection). section_header (name_offset (section_names o)) s (get_or places (length o.sections + k) 0)) (plain_last o far is k)
 
 pub count_of_written : (o : ObjectValue) (places : List ℕ) → IsWrittenAt o places → (far : Bool) → has_index_table o ≡ far →
     count (written_sections o places) ≡ symbol_table_at o + last_count far

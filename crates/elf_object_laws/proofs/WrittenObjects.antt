@@ -9,14 +9,14 @@ use Rattle.elf_image_type.proofs.Public.{image_is_sound, relocatable_accepted, r
 use Rattle.elf_image_rules.specs.HeaderRules.{MAX_LEN}
 use Rattle.elf_image_rules.specs.ImageRules.{IsFault}
 use Rattle.elf_image_rules.specs.Rows.{FirstIn}
-use Rattle.elf_table_symbols.specs.Sections.{Sections, sections_of}
+use Rattle.elf_table_base.specs.Sections.{Sections, sections_of}
 use Rattle.elf_object_reader.specs.Denotes.{Denotes}
 use Rattle.elf_object_reader.specs.FileRules.{file_rules}
 use Rattle.elf_object_writer.specs.Laid.{Laid, layout_bytes}
 use Rattle.elf_object_type.specs.Object.{ObjectValue}
 use Rattle.elf_object_writer.specs.PlainSections.{name_table_at}
 use Rattle.elf_object_laws.specs.WrittenObject.{IsWrittenAt, IsWrittenAs, written_sections}
-use Rattle.elf_object_writer.proofs.Public.{contents_of, header_at, headers_at}
+use Rattle.elf_object_writer.proofs.Public.{canonical_header, canonical_section_headers, contents_of}
 use Rattle.elf_object_laws.proofs.DenotedWidths.{denoted_fits}
 use Rattle.elf_object_reader.proofs.Public.{object_kept, one_object}
 use Rattle.elf_object_laws.proofs.WrittenAccepted.{written_file}
@@ -41,20 +41,20 @@ unfolding layout_bytes
 written_is_bytes o b written =
     let places = written.laid.places in
     subst IsBytes (sym written.laid.bytes)
-    (relocatable_is_bytes (header_at o places) (headers_at o places) (contents_of o) (name_table_at o) (written_file o places (by_places o b written)))
+    (relocatable_is_bytes (canonical_header o places) (canonical_section_headers o places) (contents_of o) (name_table_at o) (written_file o places (by_places o b written)))
 
 pub written_accepted : (o : ObjectValue) (b : List ℕ) → IsWrittenAs o b → IsFault b None
 unfolding layout_bytes
 written_accepted o b written =
     let places = written.laid.places in
     subst (λ (c : List ℕ). IsFault c None) (sym written.laid.bytes)
-    (relocatable_accepted (header_at o places) (headers_at o places) (contents_of o) (name_table_at o) (written_file o places (by_places o b written)))
+    (relocatable_accepted (canonical_header o places) (canonical_section_headers o places) (contents_of o) (name_table_at o) (written_file o places (by_places o b written)))
 
 pub written_read : (o : ObjectValue) (b : List ℕ) (written : IsWrittenAs o b) (v : ImageValue) → Stands v b → sections_of v ≡ written_sections o written.laid.places
 unfolding layout_bytes written_sections
 written_read o b written v stands =
     let places = written.laid.places in
-    let read = relocatable_read (header_at o places) (headers_at o places) (contents_of o) (name_table_at o) (written_file o places (by_places o b written)) v
+    let read = relocatable_read (canonical_header o places) (canonical_section_headers o places) (contents_of o) (name_table_at o) (written_file o places (by_places o b written)) v
     (subst (Stands v) written.laid.bytes stands) in
     let header = read.header in
     let headers = read.sections in

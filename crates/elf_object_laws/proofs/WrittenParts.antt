@@ -11,9 +11,9 @@ use Rattle.elf_image_type.specs.Image.{value_names}
 use Rattle.elf_image_type.specs.Strings.{string}
 use Rattle.elf_image_rules.specs.Tables.{order_of}
 use Rattle.elf_object_strings.specs.Names.{HasNoZero}
-use Rattle.elf_object_strings.specs.StringTable.{name_place, string_table}
+use Rattle.elf_object_strings.specs.StringTable.{name_offset, string_table}
 use Rattle.elf_object_strings.proofs.Public.{holds_names}
-use Rattle.elf_table_symbols.specs.Sections.{content, order, section}
+use Rattle.elf_table_base.specs.Sections.{content, order, section}
 use Rattle.elf_object_reader.specs.Denotes.{section_name_of}
 use Rattle.elf_object_writer.specs.Laid.{encoding}
 use Rattle.elf_object_type.specs.Object.{ObjectValue, section_at}
@@ -107,11 +107,11 @@ names_content o places = names_content_at o places (has_index_table o) refl
 
 -- ---- names
 
--- a name of a string table's list is read where its place says
+-- a name of a string table's list is read at its offset
 pub name_read : (names : List (List ℕ)) (i : ℕ) (name : List ℕ) → i < length names → get_or names i [] ≡ name → HasNoZero name →
-    string (string_table names) (name_place names name) ≡ name
+    string (string_table names) (name_offset names name) ≡ name
 name_read names i name lt is named =
-    subst (λ (n : List ℕ). HasNoZero n → string (string_table names) (name_place names n) ≡ n) is ((holds_names names).read i lt) named
+    subst (λ (n : List ℕ). HasNoZero n → string (string_table names) (name_offset names n) ≡ n) is ((holds_names names).read i lt) named
 
 -- the section name string table holds the names of all sections
 pub section_name_at : (o : ObjectValue) (p : ℕ) → p < length (plain_sections o) → get_or (section_names o) p [] ≡ (plain_at o p).name
@@ -126,7 +126,7 @@ written_names o places written =
     ∙ rw (ne_eqb (name_table_at o) 0 (λ same. omega arith)) (names_content o places)
 
 own_name : (o : ObjectValue) (p : ℕ) → p < length o.sections → HasNoZero (section_at o p).name →
-    string (string_table (section_names o)) (name_place (section_names o) (section_at o p).name) ≡ (section_at o p).name
+    string (string_table (section_names o)) (name_offset (section_names o) (section_at o p).name) ≡ (section_at o p).name
 own_name o p lt named =
     let many = length-plain o (has_index_table o) refl in
     let more = last_some (has_index_table o) in

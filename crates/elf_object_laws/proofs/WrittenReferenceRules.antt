@@ -7,11 +7,11 @@ use Rattle.elf_field.specs.declared.shdr.Shdr.{Shdr}
 use Rattle.elf_image_type.specs.RelocatableFile.{long_number, short_index}
 use Rattle.elf_image_rules.specs.Rows.{FirstIn}
 use Rattle.elf_table_symbols.specs.declared.symbol.Place.TheVariants as table_place
-use Rattle.elf_table_symbols.specs.Sections.{Sections, content, count, order, section}
+use Rattle.elf_table_base.specs.Sections.{Sections, content, count, order, section}
 use Rattle.elf_table_symbols.specs.SymbolParts.{symbol_parts}
 use Rattle.elf_table_symbols.specs.SymbolRules.{entry_count, word}
 use Rattle.elf_table_symbols.specs.Symbols as table_symbols
-use Rattle.elf_table_symbols.specs.Symbols.{place_of, symbol_in, symbols_of}
+use Rattle.elf_table_symbols.specs.Symbols.{place_of, symbol_entry_in, symbols_of}
 use Rattle.elf_table_lists.specs.Groups.{member, member_count}
 use Rattle.elf_table_symbols.proofs.Public.{length_symbols, symbol_get}
 use Rattle.elf_object_reader.specs.declared.body_kind.BodyKind.{BodyKind}
@@ -77,7 +77,7 @@ place_inside left f n (In p) extended own there word outside = elim (cases_lt p 
 
 pub no_symbol_outside : (o : ObjectValue) (places : List ℕ) → IsWrittenAt o places →
     Never (symbol_outside (left_out (written_sections o places)) (written_sections o places) (symbol_table_at o))
-unfolding symbols_of symbol_in
+unfolding symbols_of symbol_entry_in
 no_symbol_outside o places written x (j, lt, outside, here) =
     let f = written_sections o places in
     let p = symbol_parts f (symbol_table_at o) in
@@ -88,7 +88,7 @@ no_symbol_outside o places written x (j, lt, outside, here) =
     (λ undefined. undefined)
     (λ k below. place_inside (left_out f) f (length o.sections) (symbol_at o k).place (word p.order p.words (suc k)) (own_is_kept o places written)
     (no_wrong_place o written.object k below) (far_word o places written p are k below))
-    j within (subst (λ (s : table_symbols.SymbolValue). IsSymbolOutside (left_out f) f s.place) got outside)
+    j within (subst (λ (s : table_symbols.SymbolEntryValue). IsSymbolOutside (left_out f) f s.place) got outside)
 
 -- ---- bodies by their kinds
 

@@ -5,13 +5,13 @@ use Rattle.std.proofs.lemmas.Bool.{true≢false}
 use Rattle.elf_extent.specs.Least.{Never}
 use Rattle.elf_image_rules.specs.Rows.{FirstIn, OfSome}
 use Rattle.elf_image_rules.proofs.Public.{FirstIn-later}
-use Rattle.elf_table_symbols.specs.declared.table_kind.TableKind.TheVariants.{SymbolTable}
+use Rattle.elf_table_base.specs.declared.table_kind.TableKind.TheVariants.{SymbolTable}
 use Rattle.elf_table_symbols.specs.IndexTable.{index_table, index_words}
-use Rattle.elf_table_symbols.specs.OwnRules.{own_rules}
-use Rattle.elf_table_symbols.specs.Sections.{content, section}
+use Rattle.elf_table_base.specs.OwnRules.{own_rules}
+use Rattle.elf_table_base.specs.Sections.{content, section}
 use Rattle.elf_table_symbols.specs.StringRules.{linked_string_rules}
 use Rattle.elf_table_symbols.specs.SymbolParts.{symbol_parts}
-use Rattle.elf_table_symbols.specs.SymbolRules.{entry_count, entry_rules, index_table_rules, rest_rules, second_index_table, symbol_table_rules, wrong_index_table_size}
+use Rattle.elf_table_symbols.specs.SymbolRules.{entry_count, index_table_rules, rest_rules, second_index_table, symbol_entry_rules, symbol_table_rules, wrong_index_table_size}
 use Rattle.elf_object_type.specs.Object.{ObjectValue}
 use Rattle.elf_object_writer.specs.PlainSections.{has_index_table, index_table_section, symbol_table_at}
 use Rattle.elf_object_laws.specs.WrittenObject.{IsWrittenAt, written_sections}
@@ -121,7 +121,7 @@ module _ (o : ObjectValue) (places : List ℕ) (written : IsWrittenAt o places) 
       let p = symbol_parts f (symbol_table_at o) in
       let are = written_parts o places written in
       FirstIn-later (linked_string_rules p.names p.names_start) _ None (strings_closed o places written p are p.names_start)
-      (FirstIn-later (entry_rules p) _ None (entries_kept o places written p are)
+      (FirstIn-later (symbol_entry_rules p) _ None (entries_kept o places written p are)
       (FirstIn-later (index_table_rules f (symbol_table_at o) p.index_table (entry_count p.table)) _ None index_table_kept (places_kept o places written p are)))
 
   pub symbol_rules_kept : FirstIn (symbol_table_rules (written_sections o places) (symbol_table_at o)) None

@@ -11,12 +11,12 @@ use Rattle.elf_field.specs.declared.sym.Sym.{Sym}
 use Rattle.elf_image_type.specs.RelocatableFile.{long_number, short_index}
 use Rattle.elf_image_type.specs.Strings.{string}
 use Rattle.elf_object_strings.specs.Names.{HasNoZero}
-use Rattle.elf_object_strings.specs.StringTable.{name_place, string_table}
+use Rattle.elf_object_strings.specs.StringTable.{name_offset, string_table}
 use Rattle.elf_table_symbols.specs.IndexTable.{index_table, index_words}
-use Rattle.elf_table_symbols.specs.Sections.{Sections, content, section}
-use Rattle.elf_table_symbols.specs.SymbolRules.{binding, entry_count, word}
+use Rattle.elf_table_base.specs.Sections.{Sections, content, section}
+use Rattle.elf_table_symbols.specs.SymbolRules.{entry_binding, entry_count, word}
 use Rattle.elf_table_symbols.specs.Symbols as table
-use Rattle.elf_table_symbols.specs.Symbols.{place_of, symbol_in, symbols_in, symbols_of}
+use Rattle.elf_table_symbols.specs.Symbols.{place_of, symbol_entry_in, symbols_in, symbols_of}
 use Rattle.elf_object_reader.specs.declared.left_out.LeftOut.{LeftOut}
 use Rattle.elf_object_type.specs.declared.symbol.Place.{Place}
 use Rattle.elf_object_type.specs.declared.symbol.Place.TheVariants.{Undef, Abs, Common, In}
@@ -70,17 +70,17 @@ place_back o left f (In p) word positions there extended =
 -- ---- each symbol
 
 name_back : (o : ObjectValue) (k : ℕ) → k < length o.symbols → HasNoZero (symbol_at o k).name →
-    string (string_table (symbol_names o)) (name_place (symbol_names o) (symbol_at o k).name) ≡ (symbol_at o k).name
+    string (string_table (symbol_names o)) (name_offset (symbol_names o) (symbol_at o k).name) ≡ (symbol_at o k).name
 name_back o k lt named =
     let many = length-map o.symbols (λ (s : SymbolValue). s.name) in
     let same = get_or-map (λ (s : SymbolValue). s.name) o.symbols k no_symbol [] lt in
     name_read (symbol_names o) k (symbol_at o k).name (omega arith) same named
 
 -- what is read of an entry
-abbrev symbol_of : List ℕ → ℕ → Sym → table.SymbolValue
+abbrev symbol_of : List ℕ → ℕ → Sym → table.SymbolEntryValue
 symbol_of names word e = record {
   name = string names e.st_name;
-  binding = binding e;
+  binding = entry_binding e;
   symbol_type = e.st_info % 16;
   other = e.st_other;
   place = place_of e.st_shndx word;
@@ -123,8 +123,8 @@ module _ (o : ObjectValue) (places : List ℕ) (written : IsWrittenAt o places) 
   -- ---- all symbols
 
   symbol_at_back : (k : ℕ) → k < length o.symbols →
-      (let f = written_sections o places in symbol_denoted (left_out f) f (symbol_in o.order (plain.symbol_table_section o).content (string_table (symbol_names o)) words (suc k)) ≡ symbol_at o k)
-  unfolding symbol_in
+      (let f = written_sections o places in symbol_denoted (left_out f) f (symbol_entry_in o.order (plain.symbol_table_section o).content (string_table (symbol_names o)) words (suc k)) ≡ symbol_at o k)
+  unfolding symbol_entry_in
   symbol_at_back k lt =
       let f = written_sections o places in
       let strings = strings_short o places written in
@@ -149,8 +149,8 @@ module _ (o : ObjectValue) (places : List ℕ) (written : IsWrittenAt o places) 
       let names = string_table (symbol_names o) in
       let many : entry_count entries ≡ suc (length o.symbols) = (let all = symbol_entry_count o in omega arith) in
       ap (symbols_denoted (left_out f) f) (written_symbol_table o places written)
-      ∙ ap (λ (all : List table.SymbolValue). map (symbol_denoted (left_out f) f) (drop 1 all)) table_is
-      ∙ ap (λ (n : ℕ). map (symbol_denoted (left_out f) f) (drop 1 (map (symbol_in o.order entries names words) (range_with_len 0 n)))) many
-      ∙ map_twice (symbol_denoted (left_out f) f) (symbol_in o.order entries names words) (range_with_len 1 (length o.symbols))
-      ∙ read_list (λ (j : ℕ). symbol_denoted (left_out f) f (symbol_in o.order entries names words j)) 1 (length o.symbols) o.symbols no_symbol refl
-      (λ k lt. (let next : 1 + k ≡ suc k = omega arith in ap (λ (j : ℕ). symbol_denoted (left_out f) f (symbol_in o.order entries names words j)) next ∙ symbol_at_back k lt))
+      ∙ ap (λ (all : List table.SymbolEntryValue). map (symbol_denoted (left_out f) f) (drop 1 all)) table_is
+      ∙ ap (λ (n : ℕ). map (symbol_denoted (left_out f) f) (drop 1 (map (symbol_entry_in o.order entries names words) (range_with_len 0 n)))) many
+      ∙ map_twice (symbol_denoted (left_out f) f) (symbol_entry_in o.order entries names words) (range_with_len 1 (length o.symbols))
+      ∙ read_list (λ (j : ℕ). symbol_denoted (left_out f) f (symbol_entry_in o.order entries names words j)) 1 (length o.symbols) o.symbols no_symbol refl
+      (λ k lt. (let next : 1 + k ≡ suc k = omega arith in ap (λ (j : ℕ). symbol_denoted (left_out f) f (symbol_entry_in o.order entries names words j)) next ∙ symbol_at_back k lt))

@@ -19,7 +19,7 @@ use Rattle.elf_object_strings.specs.StringTable.{string_table}
 use Rattle.elf_object_strings.proofs.Public.{holds_names}
 use Rattle.elf_table_symbols.specs.StringRules.{linked_string_rules, unclosed_string_table}
 use Rattle.elf_table_symbols.specs.SymbolParts.{SymbolPartsValue}
-use Rattle.elf_table_symbols.specs.SymbolRules.{IsMisplacedBinding, IsSymbolNamePastEnd, IsWrongSymbolSection, IsWrongIndexWord, entry, entry_count, entry_rules, misplaced_binding, place_rules, symbol_0_not_null, symbol_name_past_end, word, wrong_local_count, wrong_symbol_section}
+use Rattle.elf_table_symbols.specs.SymbolRules.{IsMisplacedBinding, IsSymbolNamePastEnd, IsWrongSymbolSection, IsWrongIndexWord, entry, entry_count, symbol_entry_rules, misplaced_binding, place_rules, symbol_0_not_null, symbol_name_past_end, word, wrong_local_count, wrong_symbol_section}
 use Rattle.elf_object_type.specs.declared.symbol.Place.{Place}
 use Rattle.elf_object_type.specs.declared.symbol.Place.TheVariants.{Undef, Abs, Common, In}
 use Rattle.elf_object_type.specs.Object.{ObjectValue, SymbolValue, no_symbol, symbol_at}
@@ -217,8 +217,8 @@ module _ (o : ObjectValue) (places : List ℕ) (written : IsWrittenAt o places) 
         let long = ap (λ (names : List ℕ). length names) are.names_are in
         omega arith
 
-  pub entries_kept : FirstIn (entry_rules p) None
-  unfolding entry_rules
+  pub entries_kept : FirstIn (symbol_entry_rules p) None
+  unfolding symbol_entry_rules
   entries_kept = (no_symbol_0_not_null, (no_wrong_local_count, (no_misplaced_binding, (no_symbol_name_past_end, tt))))
 
   -- rule 51

@@ -4,8 +4,8 @@ use Rattle.elf_field.specs.Abi.{EHDR_SIZE}
 use Rattle.elf_extent.specs.Place.{Least}
 use Rattle.elf_image_type.specs.RelocatableFile.{all_headers}
 use Rattle.elf_image_rules.specs.HeaderRules.{MAX_LEN}
-use Rattle.elf_object_strings.specs.StringTable.{name_place}
-use Rattle.elf_table_symbols.specs.Sections.{Sections}
+use Rattle.elf_object_strings.specs.StringTable.{name_offset}
+use Rattle.elf_table_base.specs.Sections.{Sections}
 use Rattle.elf_object_writer.specs.Laid.{Laid, file_header, layout_bytes, layout_parts, section_headers}
 use Rattle.elf_object_type.specs.Object.{ObjectValue}
 use Rattle.elf_object_type.specs.ObjectRules.{IsObject}
@@ -16,7 +16,7 @@ use Rattle.elf_object_type.specs.Widths.{ObjectFits}
 unfoldable pub written_sections : ObjectValue → List ℕ → Sections
 written_sections o places =
     let sections = plain_sections o in
-    let headers = section_headers (name_place (section_names o)) sections places in
+    let headers = section_headers (name_offset (section_names o)) sections places in
     record {
       header = file_header o (length sections + 1) (slice_index places (length sections));
       headers = all_headers headers (name_table_at o);

@@ -1,11 +1,9 @@
-//! The laws on what is written: an object has one canonical layout, which is accepted and read back as the object, and `rewrite`
-//! writes again what it wrote. Each is the contract of a function that does nothing. The program needs none of them.
+//! The laws on what is written: an object has one canonical layout, which is accepted and read back as the object. Each is the contract
+//! of a function that does nothing. The program needs none of them.
 #![tactic(auto)]
 
 mod layout_laws;
-mod rewrite_laws;
 mod written_laws;
 
 pub use layout_laws::{laid_objects, one_layout};
-pub use rewrite_laws::rewrite_again;
 pub use written_laws::{denoted_object, written_object};

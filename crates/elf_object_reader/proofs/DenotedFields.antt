@@ -5,7 +5,7 @@ use Rattle.std.proofs.lemmas.Bool.{cases_eq, eqb-true}
 use Rattle.std.proofs.lemmas.List.{get_or-map, length-map}
 use Rattle.elf_extent.specs.Least.{Never}
 use Rattle.elf_field.specs.Abi.{RELA_SIZE, REL_SIZE, SHF_INFO_LINK, relocation_size}
-use Rattle.elf_image_type.specs.Image.{ImageValue, IsSound, section_of, segment_of, value_names}
+use Rattle.elf_image_type.specs.Image.{ImageValue, IsSoundImage, program_header_of, section_header_of, value_names}
 use Rattle.elf_image_rules.specs.KeepsRules.{KeepsSectionRules}
 use Rattle.elf_image_rules.specs.Rows.{FirstIn}
 use Rattle.elf_image_rules.proofs.Public.{FirstIn-front, rules_kept}
@@ -19,15 +19,15 @@ use Rattle.elf_object_reader.specs.declared.body_kind.BodyKind.TheVariants.{Bits
 use Rattle.elf_object_reader.specs.declared.left_out.LeftOut.{LeftOut}
 use Rattle.elf_object_type.specs.declared.relocation.Relocation.{Relocation}
 use Rattle.elf_object_type.specs.declared.section.Info.TheVariants as info
-use Rattle.elf_table_symbols.specs.declared.table_kind.TableKind.{TableKind}
-use Rattle.elf_table_symbols.specs.declared.table_kind.TableKind.TheVariants.{RelocationTable, SectionGroup}
-use Rattle.elf_table_symbols.specs.OwnRules.{own_rules}
-use Rattle.elf_table_symbols.specs.Sections.{Sections, content, order, section, sections_of}
-use Rattle.elf_table_symbols.specs.TableKind.{entry_size}
+use Rattle.elf_table_base.specs.declared.table_kind.TableKind.{TableKind}
+use Rattle.elf_table_base.specs.declared.table_kind.TableKind.TheVariants.{RelocationTable, SectionGroup}
+use Rattle.elf_table_base.specs.OwnRules.{own_rules}
+use Rattle.elf_table_base.specs.Sections.{Sections, content, order, section, sections_of}
+use Rattle.elf_table_base.specs.TableKind.{entry_size}
 use Rattle.elf_table_lists.specs.declared.relocation.Relocation as table_relocation
 use Rattle.elf_table_lists.specs.GroupRules.{group_section_rules}
 use Rattle.elf_table_lists.specs.RelocationRules.{relocation_section_rules}
-use Rattle.elf_table_lists.specs.Relocations.{has_addends, no_relocation, relocation_count, relocation_in, relocations_of}
+use Rattle.elf_table_lists.specs.Relocations.{has_addends, no_relocation_entry, relocation_count, relocation_in, relocations_of}
 use Rattle.elf_table_lists.proofs.Public.{length_relocations, relocation_get}
 use Rattle.elf_object_type.proofs.Public.{aligned}
 use Rattle.elf_object_reader.proofs.DenotedObject.{section_at_position}
@@ -36,13 +36,13 @@ use Rattle.elf_object_reader.proofs.KeptTypes.{kept_section, table_sound}
 -- ---- rule 3 of objects
 
 -- what the rules of the image say of its sections
-sections_kept : (v : ImageValue) → IsSound v → KeepsSectionRules v.len (length v.sections) (section_of v.sections)
+sections_kept : (v : ImageValue) → IsSoundImage v → KeepsSectionRules v.len (length v.sections) (section_header_of v.sections)
 sections_kept v sound =
     let names = value_names v.header v.sections v.contents in
-    let rules = rules_kept v.len v.header (section_of v.sections) (segment_of v.segments) names sound.clean in
-    subst (λ (n : ℕ). KeepsSectionRules v.len n (section_of v.sections)) (sym sound.section_count) rules.records.sections
+    let rules = rules_kept v.len v.header (section_header_of v.sections) (program_header_of v.segments) names sound.clean in
+    subst (λ (n : ℕ). KeepsSectionRules v.len n (section_header_of v.sections)) (sym sound.section_count) rules.records.sections
 
-section_aligned : (v : ImageValue) (i : ℕ) → IsSound v → i < length v.sections → is_kept (left_out (sections_of v)) (sections_of v) i ≡ true →
+section_aligned : (v : ImageValue) (i : ℕ) → IsSoundImage v → i < length v.sections → is_kept (left_out (sections_of v)) (sections_of v) i ≡ true →
     HasWrongAlignment (section_denoted (left_out (sections_of v)) (sections_of v) i) → ⊥
 unfolding section_denoted
 section_aligned v i sound lt is broken =
@@ -52,7 +52,7 @@ section_aligned v i sound lt is broken =
     let above : 1 ≤ i = (let other = kept.above in omega arith) in
     aligned (section f i).sh_addralign (section f i).sh_addr (rules.alignment i above lt kept.typed) (rules.address i above lt kept.typed) broken
 
-pub no_wrong_alignment : (v : ImageValue) (o : ObjectValue) → IsSound v → Denotes (sections_of v) o → Never (wrong_alignment o)
+pub no_wrong_alignment : (v : ImageValue) (o : ObjectValue) → IsSoundImage v → Denotes (sections_of v) o → Never (wrong_alignment o)
 no_wrong_alignment v o sound denotes x (q, within, broken, here) =
     let (i, is) = section_at_position (sections_of v) o q denotes within in
     section_aligned v i sound is.there is.is_kept (subst HasWrongAlignment is.section broken)
@@ -97,7 +97,7 @@ size_of false = refl
 
 -- a relocation without an addend adds 0
 no_addend : (f : Sections) (i k : ℕ) → has_addends (section f i).sh_type ≡ false → k < length (relocations_of f i) →
-    (get_or (relocations_of f i) k no_relocation).addend ≡ None
+    (get_or (relocations_of f i) k no_relocation_entry).addend ≡ None
 unfolding relocations_of relocation_in
 no_addend f i k rel lt =
     let addends = has_addends (section f i).sh_type in
@@ -112,7 +112,7 @@ no_addends : (f : Sections) (i : ℕ) → has_addends (section f i).sh_type ≡ 
 no_addends f i rel (k, x, lt, at, other) =
     let rs = relocations_of f i in
     let within : k < length rs = omega (arith, length-map rs relocation_denoted) in
-    let is : x ≡ relocation_denoted (get_or rs k no_relocation) = sym at ∙ get_or-map relocation_denoted rs k no_relocation x within in
+    let is : x ≡ relocation_denoted (get_or rs k no_relocation_entry) = sym at ∙ get_or-map relocation_denoted rs k no_relocation_entry x within in
     other (ap (λ (r : Relocation). r.addend) is ∙ ap (λ (a : Option _). unwrap_or a (pos 0)) (no_addend f i k rel within))
 
 fields_of : (left : LeftOut) (f : Sections) (i : ℕ) (kind : BodyKind) → FirstIn (rules_of_body kind f i) None →

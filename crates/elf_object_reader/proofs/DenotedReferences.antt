@@ -17,15 +17,15 @@ use Rattle.elf_object_reader.specs.declared.body_kind.BodyKind.{BodyKind}
 use Rattle.elf_object_reader.specs.declared.body_kind.BodyKind.TheVariants.{Bits, NoBits, Relocs, Group}
 use Rattle.elf_object_type.specs.declared.relocation.Relocation.{Relocation}
 use Rattle.elf_object_type.specs.declared.section.Info.TheVariants as info
-use Rattle.elf_table_symbols.specs.declared.table_kind.TableKind.TheVariants.{RelocationTable, SectionGroup}
-use Rattle.elf_table_symbols.specs.OwnRules.{own_rules}
-use Rattle.elf_table_symbols.specs.Sections.{Sections, content, count, order, section}
+use Rattle.elf_table_base.specs.declared.table_kind.TableKind.TheVariants.{RelocationTable, SectionGroup}
+use Rattle.elf_table_base.specs.OwnRules.{own_rules}
+use Rattle.elf_table_base.specs.Sections.{Sections, content, count, order, section}
 use Rattle.elf_table_symbols.specs.SymbolRules.{entry_count, symbol_table_rules}
 use Rattle.elf_table_lists.specs.declared.relocation.Relocation as table_relocation
 use Rattle.elf_table_lists.specs.GroupRules.{group_front_rules, group_rules, group_section_rules, wrong_signature}
 use Rattle.elf_table_lists.specs.Groups.{group_of, member, member_count}
-use Rattle.elf_table_lists.specs.RelocationRules.{relocation_rules, relocation_section_rules, wrong_relocation_symbol}
-use Rattle.elf_table_lists.specs.Relocations.{has_addends, no_relocation, relocation_count, relocation_in, relocations_of}
+use Rattle.elf_table_lists.specs.RelocationRules.{relocation_entry_rules, relocation_section_rules, wrong_relocation_symbol}
+use Rattle.elf_table_lists.specs.Relocations.{has_addends, no_relocation_entry, relocation_count, relocation_in, relocations_of}
 use Rattle.elf_table_lists.proofs.Public.{length_relocations, relocation_get}
 use Rattle.elf_object_reader.proofs.DenotedFields.{denoted_with, section_with}
 use Rattle.elf_object_reader.proofs.DenotedObject.{position_there, section_at_index, section_at_position}
@@ -116,12 +116,12 @@ symbol_there symbols entries k true count lt is past = past
 symbol_there symbols entries k false count lt is past = (let some = differs k 0 is in absurd (omega arith))
 
 no_wrong_relocation_symbol : (f : Sections) (i : ℕ) → FirstIn (relocation_section_rules f i) None → Never (wrong_relocation_symbol f i)
-unfolding relocation_section_rules relocation_rules
+unfolding relocation_section_rules relocation_entry_rules
 no_wrong_relocation_symbol f i sound =
     (FirstIn-behind (symbol_table_rules f (section f i).sh_link) _ (FirstIn-behind (own_rules RelocationTable f i) _ sound)).1.0
 
 entry_kept : (f : Sections) (o : ObjectValue) (i k : ℕ) → FirstIn (file_rules f) None → Denotes f o → FirstIn (relocation_section_rules f i) None →
-    k < length (relocations_of f i) → IsPast (length o.symbols) (symbol_reference (get_or (relocations_of f i) k no_relocation).symbol) → ⊥
+    k < length (relocations_of f i) → IsPast (length o.symbols) (symbol_reference (get_or (relocations_of f i) k no_relocation_entry).symbol) → ⊥
 unfolding relocations_of
 entry_kept f o i k clean denotes sound lt past =
     let s = section f i in
@@ -142,7 +142,7 @@ entries_kept : (f : Sections) (o : ObjectValue) (i : ℕ) → FirstIn (file_rule
 entries_kept f o i clean denotes sound (k, x, lt, at, past) =
     let rs = relocations_of f i in
     let within : k < length rs = omega (arith, length-map rs relocation_denoted) in
-    let is : x ≡ relocation_denoted (get_or rs k no_relocation) = sym at ∙ get_or-map relocation_denoted rs k no_relocation x within in
+    let is : x ≡ relocation_denoted (get_or rs k no_relocation_entry) = sym at ∙ get_or-map relocation_denoted rs k no_relocation_entry x within in
     entry_kept f o i k clean denotes sound within (subst (λ (r : Relocation). IsPast (length o.symbols) r.symbol) is past)
 
 -- ---- groups

@@ -14,17 +14,17 @@ use Rattle.elf_object_reader.specs.declared.left_out.LeftOut.{LeftOut}
 use Rattle.elf_object_type.specs.Positions.{IsPast}
 use Rattle.elf_object_type.specs.Object.{ObjectValue, SymbolValue, no_symbol, symbol_at}
 use Rattle.elf_object_type.specs.SymbolRules.{misplaced_local, place_position, wrong_place, zero_in_symbol_name}
-use Rattle.elf_table_symbols.specs.Sections.{Sections, content, count, order, section}
+use Rattle.elf_table_base.specs.Sections.{Sections, content, count, order, section}
 use Rattle.elf_table_symbols.specs.declared.symbol.Place as table_place
 use Rattle.elf_table_symbols.specs.declared.symbol.Place.TheVariants.{Undefined, Absolute, Common, Reserved, Section}
 use Rattle.elf_table_symbols.specs.SymbolParts.{symbol_parts}
-use Rattle.elf_table_symbols.specs.declared.table_kind.TableKind.TheVariants.{SymbolTable}
-use Rattle.elf_table_symbols.specs.OwnRules.{own_rules}
+use Rattle.elf_table_base.specs.declared.table_kind.TableKind.TheVariants.{SymbolTable}
+use Rattle.elf_table_base.specs.OwnRules.{own_rules}
 use Rattle.elf_table_symbols.specs.StringRules.{linked_string_rules}
-use Rattle.elf_table_symbols.specs.SymbolRules.{binding, entry, entry_count, entry_rules, misplaced_binding, rest_rules, symbol_table_rules}
+use Rattle.elf_table_symbols.specs.SymbolRules.{entry, entry_binding, entry_count, misplaced_binding, rest_rules, symbol_entry_rules, symbol_table_rules}
 use Rattle.elf_table_symbols.specs.SymbolView as table_view
 use Rattle.elf_table_symbols.specs.Symbols as table_symbols
-use Rattle.elf_table_symbols.specs.Symbols.{symbol_in, symbols_of}
+use Rattle.elf_table_symbols.specs.Symbols.{symbol_entry_in, symbols_of}
 use Rattle.elf_table_symbols.proofs.Public.{length_symbols, symbol_get}
 use Rattle.elf_object_reader.proofs.DenotedObject.{no_zero_in_string, position_there}
 use Rattle.elf_object_reader.proofs.FileRuns.{places_sound, symbols_sound}
@@ -35,7 +35,7 @@ use Rattle.elf_object_reader.proofs.SymbolCount.{length_symbols_of, symbol_info}
 pub record IsSymbolOf (f : Sections) (o : ObjectValue) (q t : ℕ) : Type 0 where
   pub table : symbol_table f ≡ Some t
   pub there : q + 1 < length (symbols_of f t)
-  pub symbol : symbol_at o q ≡ symbol_denoted (left_out f) f (get_or (symbols_of f t) (q + 1) table_view.no_symbol)
+  pub symbol : symbol_at o q ≡ symbol_denoted (left_out f) f (get_or (symbols_of f t) (q + 1) table_view.no_symbol_entry)
 
 symbol_in_table : (f : Sections) (o : ObjectValue) (q : ℕ) (table : Option ℕ) → symbol_table f ≡ table → o.symbols ≡ symbols_denoted (left_out f) f table →
     q < length o.symbols → (t : ℕ) × IsSymbolOf f o q t
@@ -51,8 +51,8 @@ symbol_in_table f o q (Some t) is same lt =
         table = is;
         there = omega arith;
         symbol =
-            ap (λ (ss : List SymbolValue). get_or ss q no_symbol) same ∙ get_or-map D (drop 1 all) q table_view.no_symbol no_symbol within ∙
-            ap D (get_or-drop 1 all q table_view.no_symbol ∙ ap (λ (k : ℕ). get_or all k table_view.no_symbol) next);
+            ap (λ (ss : List SymbolValue). get_or ss q no_symbol) same ∙ get_or-map D (drop 1 all) q table_view.no_symbol_entry no_symbol within ∙
+            ap D (get_or-drop 1 all q table_view.no_symbol_entry ∙ ap (λ (k : ℕ). get_or all k table_view.no_symbol_entry) next);
       },
     )
 
@@ -60,13 +60,13 @@ pub symbol_at_position : (f : Sections) (o : ObjectValue) (q : ℕ) → Denotes 
 symbol_at_position f o q denotes lt = symbol_in_table f o q (symbol_table f) refl denotes.symbols lt
 
 -- the name of a symbol of a table is a string
-table_name : (f : Sections) (t j : ℕ) → j < length (symbols_of f t) → Contains (get_or (symbols_of f t) j table_view.no_symbol).name 0 → ⊥
-unfolding symbols_of symbol_in
+table_name : (f : Sections) (t j : ℕ) → j < length (symbols_of f t) → Contains (get_or (symbols_of f t) j table_view.no_symbol_entry).name 0 → ⊥
+unfolding symbols_of symbol_entry_in
 table_name f t j lt has =
     let p = symbol_parts f t in
     let within : j < entry_count p.table = omega (arith, length_symbols p.order p.table p.names p.words) in
     let got = symbol_get p.order p.table p.names p.words j within in
-    no_zero_in_string p.names (entry p.order p.table j).st_name (subst (λ (s : table_symbols.SymbolValue). Contains s.name 0) got has)
+    no_zero_in_string p.names (entry p.order p.table j).st_name (subst (λ (s : table_symbols.SymbolEntryValue). Contains s.name 0) got has)
 
 -- rule 7 of objects
 pub no_zero_in_symbol_name : (f : Sections) (o : ObjectValue) → Denotes f o → Never (zero_in_symbol_name o)
@@ -100,7 +100,7 @@ place_kept f o (Section k) denotes inside past = elim (cases_bool (is_kept (left
 ]
 
 no_place_outside : (f : Sections) (t j : ℕ) → FirstIn (symbol_outside_rules (left_out f) f (Some t)) None → j < length (symbols_of f t) →
-    IsSymbolOutside (left_out f) f (get_or (symbols_of f t) j table_view.no_symbol).place → ⊥
+    IsSymbolOutside (left_out f) f (get_or (symbols_of f t) j table_view.no_symbol_entry).place → ⊥
 unfolding symbol_outside_rules
 no_place_outside f t j clean lt outside = clean.0 _ (j, lt, outside, refl)
 
@@ -108,28 +108,28 @@ pub no_wrong_place : (f : Sections) (o : ObjectValue) → FirstIn (file_rules f)
 no_wrong_place f o clean denotes x (q, within, broken, here) =
     let (t, is) = symbol_at_position f o q denotes within in
     let places = subst (λ (table : Option ℕ). FirstIn (symbol_outside_rules (left_out f) f table) None) is.table (places_sound f clean) in
-    place_kept f o (get_or (symbols_of f t) (q + 1) table_view.no_symbol).place denotes (no_place_outside f t (q + 1) places is.there)
+    place_kept f o (get_or (symbols_of f t) (q + 1) table_view.no_symbol_entry).place denotes (no_place_outside f t (q + 1) places is.there)
     (subst (λ (s : SymbolValue). IsPast (length o.sections) (place_position s.place)) is.symbol broken)
 
 -- ---- rule 9 of objects
 
 -- a symbol of the object has the binding of the entry that it is read from
 local_info : (f : Sections) (o : ObjectValue) (q t : ℕ) → IsSymbolOf f o q t →
-    (symbol_at o q).info / 16 ≡ binding (entry (order f) (content f t) (q + 1))
+    (symbol_at o q).info / 16 ≡ entry_binding (entry (order f) (content f t) (q + 1))
 unfolding entry
 local_info f o q t is =
     ap (λ (s : SymbolValue). s.info / 16) is.symbol ∙ ap (λ (x : ℕ). x / 16) (symbol_info f t (q + 1) is.there)
 
 -- rule 47: those below sh_info are local, and no other
 no_misplaced_binding : (f : Sections) (t : ℕ) → FirstIn (symbol_table_rules f t) None → Never (misplaced_binding (symbol_parts f t))
-unfolding symbol_table_rules rest_rules entry_rules
+unfolding symbol_table_rules rest_rules symbol_entry_rules
 no_misplaced_binding f t clean =
     let p = symbol_parts f t in
     let behind = FirstIn-behind (linked_string_rules p.names p.names_start) _ (FirstIn-behind (own_rules SymbolTable f t) _ clean) in
-    (FirstIn-front (entry_rules p) _ behind).1.1.0
+    (FirstIn-front (symbol_entry_rules p) _ behind).1.1.0
 
 locals_first : (f : Sections) (t i k : ℕ) → Never (misplaced_binding (symbol_parts f t)) → k < i → i < entry_count (content f t) →
-    binding (entry (order f) (content f t) i) ≡ STB_LOCAL → (binding (entry (order f) (content f t) k) ≡ STB_LOCAL → ⊥) → ⊥
+    entry_binding (entry (order f) (content f t) i) ≡ STB_LOCAL → (entry_binding (entry (order f) (content f t) k) ≡ STB_LOCAL → ⊥) → ⊥
 locals_first f t i k never lt within local other = elim (cases_lt i (section f t).sh_info) [
   | inl below ↦ never _ (k, omega arith, inl (omega arith, other), refl)
   | inr above ↦ never _ (i, within, inr (above, local), refl)

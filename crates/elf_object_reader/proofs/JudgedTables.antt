@@ -11,12 +11,12 @@ use Rattle.elf_object_reader.specs.Reading.{AreTablesOf}
 use Rattle.elf_object_reader.specs.declared.body_kind.BodyKind.{BodyKind}
 use Rattle.elf_object_reader.specs.declared.body_kind.BodyKind.TheVariants.{Bits, NoBits, Relocs, Group}
 use Rattle.elf_object_reader.specs.declared.left_out.LeftOut.{LeftOut}
-use Rattle.elf_table_symbols.specs.declared.table_kind.TableKind.{TableKind}
-use Rattle.elf_table_symbols.specs.declared.table_kind.TableKind.TheVariants.{RelocationTable, SectionGroup, SymbolTable}
-use Rattle.elf_table_symbols.specs.Sections.{Sections, section, sections_of}
+use Rattle.elf_table_base.specs.declared.table_kind.TableKind.{TableKind}
+use Rattle.elf_table_base.specs.declared.table_kind.TableKind.TheVariants.{RelocationTable, SectionGroup, SymbolTable}
+use Rattle.elf_table_base.specs.Sections.{Sections, section, sections_of}
 use Rattle.elf_table_symbols.specs.SymbolRules.{symbol_table_rules}
-use Rattle.elf_table_symbols.specs.TableKind.{kind_of}
-use Rattle.elf_table_all.specs.TableRules.{rules_of, table_rules}
+use Rattle.elf_table_base.specs.TableKind.{kind_of}
+use Rattle.elf_table_all.specs.TableRules.{rules_of_kind, table_rules}
 use Rattle.elf_table_all.specs.TableVerdicts.{TablesValue}
 use Rattle.elf_table_all.proofs.Public.{kind_asked, none_kept}
 use Rattle.elf_table_symbols.proofs.Public.{symbols_kind}
@@ -58,7 +58,7 @@ pub record IsReady (tables : TablesValue) (i : ℕ) (kind : TableKind) : Type 0 
   pub sound : get_or tables.verdicts i None ≡ None
 
 pub ready : (image : ImageValue) (tables : TablesValue) (i : ℕ) (kind : TableKind) → AreTablesOf image tables → i < length image.sections →
-    kind_of (section (sections_of image) i).sh_type ≡ Some kind → FirstIn (rules_of (Some kind) (sections_of image) i) None → IsReady tables i kind
+    kind_of (section (sections_of image) i).sh_type ≡ Some kind → FirstIn (rules_of_kind (Some kind) (sections_of image) i) None → IsReady tables i kind
 ready image tables i kind are lt typed sound = record {
   there = subst (λ (v : ImageValue). i < length v.sections) (sym are.same) lt;
   typed = subst (λ (v : ImageValue). kind_of (section (sections_of v) i).sh_type ≡ Some kind) (sym are.same) typed;
@@ -68,7 +68,7 @@ ready image tables i kind are lt typed sound = record {
 -- the verdict on a table is that of its kind's rules
 pub asked : (image : ImageValue) (tables : TablesValue) (i : ℕ) (kind : TableKind) (found : Option (ℕ × ℕ)) → AreTablesOf image tables →
     kind_of (section (sections_of image) i).sh_type ≡ Some kind → FirstIn (table_rules (sections_of tables.image) i) found →
-    FirstIn (rules_of (Some kind) (sections_of image) i) found
+    FirstIn (rules_of_kind (Some kind) (sections_of image) i) found
 asked image tables i kind found are typed run =
     kind_asked (sections_of image) i (Some kind) found typed (subst (λ (v : ImageValue). FirstIn (table_rules (sections_of v) i) found) are.same run)
 

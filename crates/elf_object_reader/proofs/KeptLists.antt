@@ -9,10 +9,10 @@ use Rattle.std.proofs.lemmas.List.FromFn.{get_or-map-range_with_len, map-range_w
 use Rattle.std.proofs.lemmas.List.Quantifiers.{position-Some}
 use Rattle.elf_field.specs.Abi.{SHT_SYMTAB}
 use Rattle.elf_field.specs.declared.shdr.Shdr.{Shdr}
-use Rattle.elf_image_type.specs.Image.{no_section}
+use Rattle.elf_image_type.specs.Image.{no_section_header}
 use Rattle.elf_object_reader.specs.Kept.{is_kept, position_of, symbol_table}
 use Rattle.elf_object_reader.specs.declared.left_out.LeftOut.{LeftOut}
-use Rattle.elf_table_symbols.specs.Sections.{Sections, count, section}
+use Rattle.elf_table_base.specs.Sections.{Sections, count, section}
 
 -- the indexes from i on are i and those from i + 1 on
 range_from : (n i : ℕ) → i < n → range_with_len i (n - i) ≡ i ∷ range_with_len (i + 1) (n - (i + 1))
@@ -28,7 +28,7 @@ filter_from_other p n i lt is = ap (λ (xs : List ℕ). filter p xs) (range_from
 pub symbol_table_there : (f : Sections) (t : ℕ) → symbol_table f ≡ Some t → (t < count f) × ((section f t).sh_type ≡ SHT_SYMTAB)
 unfolding symbol_table
 symbol_table_there f t is =
-    let found = position-Some (λ (s : Shdr). s.sh_type == SHT_SYMTAB) f.headers t no_section is in
+    let found = position-Some (λ (s : Shdr). s.sh_type == SHT_SYMTAB) f.headers t no_section_header is in
     (found.0, eqb-true _ _ found.1)
 
 -- ---- positions
@@ -53,7 +53,7 @@ count_other p i is =
 -- a section that isn't there is not kept
 pub not_kept_past : (left : LeftOut) (f : Sections) (i : ℕ) → count f ≤ i → is_kept left f i ≡ false
 unfolding is_kept
-not_kept_past left f i past = rw (get_or_past f.headers i no_section past) refl
+not_kept_past left f i past = rw (get_or_past f.headers i no_section_header past) refl
 
 -- so it has the last position
 past_more : (left : LeftOut) (f : Sections) (d : ℕ) → position_of left f (count f + d) ≡ position_of left f (count f)

@@ -17,13 +17,13 @@ use Rattle.elf_object_type.specs.SectionRules.{IsWrongBitsType, types_without_bi
 use Rattle.elf_object_reader.specs.declared.body_kind.BodyKind.{BodyKind}
 use Rattle.elf_object_reader.specs.declared.body_kind.BodyKind.TheVariants.{Bits, NoBits, Relocs, Group}
 use Rattle.elf_object_reader.specs.declared.left_out.LeftOut.{LeftOut}
-use Rattle.elf_table_symbols.specs.declared.table_kind.TableKind.TheVariants.{SymbolTable}
+use Rattle.elf_table_base.specs.declared.table_kind.TableKind.TheVariants.{SymbolTable}
 use Rattle.elf_table_symbols.specs.IndexTable.{IsIndexTable, index_table}
-use Rattle.elf_table_symbols.specs.OwnRules.{own_rules}
-use Rattle.elf_table_symbols.specs.Sections.{Sections, count, section}
+use Rattle.elf_table_base.specs.OwnRules.{own_rules}
+use Rattle.elf_table_base.specs.Sections.{Sections, count, section}
 use Rattle.elf_table_symbols.specs.StringRules.{linked_string_rules}
 use Rattle.elf_table_symbols.specs.SymbolParts.{symbol_parts}
-use Rattle.elf_table_symbols.specs.SymbolRules.{entry_count, entry_rules, index_table_rules, rest_rules, second_index_table, symbol_table_rules}
+use Rattle.elf_table_symbols.specs.SymbolRules.{entry_count, index_table_rules, rest_rules, second_index_table, symbol_entry_rules, symbol_table_rules}
 use Rattle.elf_object_reader.proofs.DenotedObject.{section_at_position}
 use Rattle.elf_object_reader.proofs.FileRuns.{all_bodies_sound, front_sound, symbols_sound}
 use Rattle.elf_object_reader.proofs.FirstSection.{and_true, first_found}
@@ -103,7 +103,7 @@ no_second_index_table : (f : Sections) (t : ℕ) → FirstIn (symbol_table_rules
 unfolding symbol_table_rules rest_rules index_table_rules
 no_second_index_table f t clean =
     let p = symbol_parts f t in
-    let behind = FirstIn-behind (entry_rules p) _ (FirstIn-behind (linked_string_rules p.names p.names_start) _ (FirstIn-behind (own_rules SymbolTable f t) _ clean)) in
+    let behind = FirstIn-behind (symbol_entry_rules p) _ (FirstIn-behind (linked_string_rules p.names p.names_start) _ (FirstIn-behind (own_rules SymbolTable f t) _ clean)) in
     (FirstIn-front (index_table_rules f t p.index_table (entry_count p.table)) _ behind).0
 
 index_table_at : (f : Sections) (t i : ℕ) → Never (second_index_table f t) → i < count f → IsIndexTable f t i → index_table f t ≡ Some i

@@ -4,12 +4,12 @@ use Rattle.std.specs.Prelude.{◌/◌, ◌%◌}
 use Rattle.elf_field.specs.Sym.{sym_at}
 use Rattle.elf_object_type.specs.Object.{SymbolValue}
 use Rattle.elf_object_type.specs.declared.symbol.Place.{Place}
-use Rattle.elf_table_symbols.specs.Sections.{Sections, content, order}
+use Rattle.elf_table_base.specs.Sections.{Sections, content, order}
 use Rattle.elf_table_symbols.specs.SymbolParts.{symbol_parts}
 use Rattle.elf_table_symbols.specs.SymbolRules.{entry, entry_count}
 use Rattle.elf_table_symbols.specs.Symbols as table_symbols
-use Rattle.elf_table_symbols.specs.Symbols.{symbol_in, symbols_of}
-use Rattle.elf_table_symbols.specs.SymbolView.{no_symbol}
+use Rattle.elf_table_symbols.specs.Symbols.{symbol_entry_in, symbols_of}
+use Rattle.elf_table_symbols.specs.SymbolView.{no_symbol_entry}
 use Rattle.elf_table_symbols.proofs.Public.{length_symbols, symbol_get}
 
 pub length_symbols_of : (f : Sections) (t : ℕ) → length (symbols_of f t) ≡ entry_count (content f t)
@@ -24,12 +24,12 @@ pub halves : (x : ℕ) → 16 * (x / 16) + x % 16 ≡ x
 halves x = omega arith
 
 pub symbol_info : (f : Sections) (t j : ℕ) → j < length (symbols_of f t) →
-    (let s = get_or (symbols_of f t) j no_symbol in 16 * s.binding + s.symbol_type ≡ (sym_at (order f) (content f t) (24 * j)).st_info)
-unfolding symbols_of symbol_in entry
+    (let s = get_or (symbols_of f t) j no_symbol_entry in 16 * s.binding + s.symbol_type ≡ (sym_at (order f) (content f t) (24 * j)).st_info)
+unfolding symbols_of symbol_entry_in entry
 symbol_info f t j lt =
     let p = symbol_parts f t in
     let within : j < entry_count p.table = omega (arith, length_symbols p.order p.table p.names p.words) in
-    ap (λ (s : table_symbols.SymbolValue). 16 * s.binding + s.symbol_type) (symbol_get p.order p.table p.names p.words j within) ∙
+    ap (λ (s : table_symbols.SymbolEntryValue). 16 * s.binding + s.symbol_type) (symbol_get p.order p.table p.names p.words j within) ∙
     halves (sym_at (order f) (content f t) (24 * j)).st_info
 
 -- a symbol of these fields

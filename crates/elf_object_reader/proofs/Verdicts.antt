@@ -6,25 +6,25 @@ use Rattle.elf_image_type.specs.declared.fault.Fault.{Fault}
 use Rattle.elf_image_type.specs.declared.fault.Fault.TheVariants.{OutOfMemory, Io, Rule}
 use Rattle.elf_image_rules.specs.Rows.{FirstIn, Ruled}
 use Rattle.elf_image_rules.proofs.Public.{FirstIn-later, FirstIn-sooner}
-use Rattle.elf_table_symbols.specs.Judged.{IsJudgedBehind}
+use Rattle.elf_table_base.specs.Judged.{IsJudgedBehind}
 use Rattle.elf_object_reader.specs.FileRules.{file_rules, front_rules, rules_behind}
 use Rattle.elf_object_reader.specs.Kept.{left_out}
 use Rattle.elf_object_reader.specs.declared.left_out.LeftOut.{LeftOut}
-use Rattle.elf_table_symbols.specs.Sections.{Sections}
+use Rattle.elf_table_base.specs.Sections.{Sections}
 use Rattle.elf_object_reader.proofs.FileRuns.{front_sound}
 
 -- what a call answers that tests these rules and makes nothing
-abbrev pub IsVerdict : List {1} Ruled → Result (Unit {0}) Fault → Type 0
+abbrev pub IsVerdict : List {1} (Ruled ℕ) → Result (Unit {0}) Fault → Type 0
 IsVerdict rules result = IsJudgedBehind [] rules (λ _. Unit {0}) result
 
 -- the first rule that is broken, as a verdict
-pub verdict_told : (rules : List {1} Ruled) (number at : ℕ) (result : Result (Unit {0}) Fault) → FirstIn rules (Some (number, at)) →
+pub verdict_told : (rules : List {1} (Ruled ℕ)) (number at : ℕ) (result : Result (Unit {0}) Fault) → FirstIn rules (Some (number, at)) →
     IsErrAnd result (λ error. error ≡ Rule number at) → IsVerdict rules result
 verdict_told rules number at (Ok value) found same = absurd same
 verdict_told rules number at (Err error) found same = subst (λ (e : Fault). IsVerdict rules (Err e)) (sym same) found
 
 -- behind a run without a fault stands the verdict of the rules after it
-pub verdict_later : (xs ys : List {1} Ruled) (result : Result (Unit {0}) Fault) → FirstIn xs None → IsVerdict ys result → IsVerdict (xs ++ ys) result
+pub verdict_later : (xs ys : List {1} (Ruled ℕ)) (result : Result (Unit {0}) Fault) → FirstIn xs None → IsVerdict ys result → IsVerdict (xs ++ ys) result
 verdict_later xs ys (Ok value) clean (found, unit) = (FirstIn-later xs ys None clean found, tt)
 verdict_later xs ys (Err (Rule number at)) clean found = FirstIn-later xs ys (Some (number, at)) clean found
 verdict_later xs ys (Err OutOfMemory) clean told = tt

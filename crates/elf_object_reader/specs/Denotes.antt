@@ -6,7 +6,7 @@ use Rattle.elf_image_type.specs.Image.{value_names}
 use Rattle.elf_image_type.specs.Strings.{string}
 use Rattle.elf_table_symbols.specs.declared.symbol.Place as table_place
 use Rattle.elf_table_symbols.specs.declared.symbol.Place.TheVariants.{Undefined, Absolute, Common, Reserved, Section}
-use Rattle.elf_table_symbols.specs.Sections.{Sections, content, order, section}
+use Rattle.elf_table_base.specs.Sections.{Sections, content, order, section}
 use Rattle.elf_table_symbols.specs.Symbols as table_symbols
 use Rattle.elf_table_symbols.specs.Symbols.{symbols_of}
 use Rattle.elf_table_lists.specs.declared.relocation.Relocation as table_relocation
@@ -97,7 +97,7 @@ place_denoted left f Common = place.Common
 place_denoted left f (Reserved index) = place.Undef
 place_denoted left f (Section k) = place.In (position_of left f k)
 
-abbrev pub symbol_denoted : LeftOut → Sections → table_symbols.SymbolValue → SymbolValue
+abbrev pub symbol_denoted : LeftOut → Sections → table_symbols.SymbolEntryValue → SymbolValue
 symbol_denoted left f s = record {
   name = s.name;
   info = 16 * s.binding + s.symbol_type;

@@ -6,10 +6,10 @@ use Rattle.elf_field.specs.declared.ehdr.Ehdr.{Ehdr}
 use Rattle.elf_image_rules.specs.Rows.{AtEntry, Either, OfSome, Row, Ruled, When, rule}
 use Rattle.elf_table_symbols.specs.declared.symbol.Place.{Place}
 use Rattle.elf_table_symbols.specs.declared.symbol.Place.TheVariants.{Undefined, Absolute, Common, Reserved, Section}
-use Rattle.elf_table_symbols.specs.Sections.{Sections, content, count, header_at, order, section}
+use Rattle.elf_table_base.specs.Sections.{Sections, content, count, header_at, order, section}
 use Rattle.elf_table_symbols.specs.SymbolRules.{symbol_table_rules}
 use Rattle.elf_table_symbols.specs.Symbols.{symbols_of}
-use Rattle.elf_table_symbols.specs.SymbolView.{no_symbol}
+use Rattle.elf_table_symbols.specs.SymbolView.{no_symbol_entry}
 use Rattle.elf_table_lists.specs.GroupRules.{group_section_rules}
 use Rattle.elf_table_lists.specs.Groups.{member, member_count}
 use Rattle.elf_table_lists.specs.RelocationRules.{relocation_section_rules}
@@ -24,18 +24,18 @@ use Rattle.elf_object_type.specs.Positions.{HasFlag}
 -- ---- rules 70 to 74: the header, and which sections there are
 
 -- rule 70: the file is not a relocatable one
-abbrev pub not_relocatable : Ehdr → Row
+abbrev pub not_relocatable : Ehdr → Row ℕ
 not_relocatable h = When (h.e_type ≢ ET_REL) E_TYPE_AT
 
 -- rule 71: it has an entry point, or segments
-abbrev pub loadable : Ehdr → Row
+abbrev pub loadable : Ehdr → Row ℕ
 loadable h = Either (When (h.e_entry ≢ 0) E_ENTRY_AT ∷ When (h.e_phnum ≢ 0) E_PHNUM_AT ∷ [])
 
 -- rule 72: a section is of a type that no object has
 abbrev pub IsForeignType : ℕ → Type 0
 IsForeignType type = (type ≡ SHT_HASH) ⊎ ((type ≡ SHT_DYNAMIC) ⊎ ((type ≡ SHT_SHLIB) ⊎ (type ≡ SHT_DYNSYM)))
 
-abbrev pub foreign_section : Sections → Row
+abbrev pub foreign_section : Sections → Row ℕ
 foreign_section f = AtEntry (count f) (λ i. IsForeignType (section f i).sh_type) (λ i. header_at f i + SH_TYPE_AT)
 
 -- rule 73: a symbol table stands after another
@@ -43,17 +43,17 @@ abbrev pub IsSecondSymbolTable : Sections → ℕ → Type 0
 IsSecondSymbolTable f i =
     ((section f i).sh_type ≡ SHT_SYMTAB) × ((k : ℕ) × (k < i) × ((section f k).sh_type ≡ SHT_SYMTAB))
 
-abbrev pub second_symbol_table : Sections → Row
+abbrev pub second_symbol_table : Sections → Row ℕ
 second_symbol_table f = AtEntry (count f) (IsSecondSymbolTable f) (λ i. header_at f i + SH_TYPE_AT)
 
 -- rule 74: an index table is not that of the symbol table
 abbrev pub IsStrayIndexTable : Sections → ℕ → Type 0
 IsStrayIndexTable f i = ((section f i).sh_type ≡ SHT_SYMTAB_SHNDX) × (symbol_table f ≢ Some (section f i).sh_link)
 
-abbrev pub stray_index_table : Sections → Row
+abbrev pub stray_index_table : Sections → Row ℕ
 stray_index_table f = AtEntry (count f) (IsStrayIndexTable f) (λ i. header_at f i + SH_LINK_AT)
 
-unfoldable pub front_rules : Sections → List {1} Ruled
+unfoldable pub front_rules : Sections → List {1} (Ruled ℕ)
 front_rules f =
     rule 70 (not_relocatable f.header) ∷
     rule 71 (loadable f.header) ∷
@@ -71,30 +71,30 @@ IsSymbolOutside left f Common = ⊥
 IsSymbolOutside left f (Reserved index) = Unit {0}
 IsSymbolOutside left f (Section k) = is_kept left f k ≡ false
 
-abbrev pub symbol_outside : LeftOut → Sections → ℕ → Row
+abbrev pub symbol_outside : LeftOut → Sections → ℕ → Row ℕ
 symbol_outside left f t =
     let s = section f t in
     AtEntry (length (symbols_of f t))
-    (λ j. IsSymbolOutside left f (get_or (symbols_of f t) j no_symbol).place)
+    (λ j. IsSymbolOutside left f (get_or (symbols_of f t) j no_symbol_entry).place)
     (λ j. s.sh_offset + SYM_SIZE * j + ST_SHNDX_AT)
 
-unfoldable pub symbol_outside_rules : LeftOut → Sections → Option ℕ → List {1} Ruled
+unfoldable pub symbol_outside_rules : LeftOut → Sections → Option ℕ → List {1} (Ruled ℕ)
 symbol_outside_rules left f table = rule 75 (OfSome table (symbol_outside left f)) ∷ []
 
 -- the rules of the symbol table, where there is one
-abbrev pub rules_of_symbols : Sections → Option ℕ → List {1} Ruled
+abbrev pub rules_of_symbols : Sections → Option ℕ → List {1} (Ruled ℕ)
 rules_of_symbols f None = []
 rules_of_symbols f (Some t) = symbol_table_rules f t
 
 -- those of the table in section i
-abbrev pub rules_of_body : BodyKind → Sections → ℕ → List {1} Ruled
+abbrev pub rules_of_body : BodyKind → Sections → ℕ → List {1} (Ruled ℕ)
 rules_of_body Bits f i = []
 rules_of_body NoBits f i = []
 rules_of_body Relocs f i = relocation_section_rules f i
 rules_of_body Group f i = group_section_rules f i
 
 -- those of the tables in these sections, one section after the other
-abbrev pub rules_of_bodies : Sections → List ℕ → List {1} Ruled
+abbrev pub rules_of_bodies : Sections → List ℕ → List {1} (Ruled ℕ)
 rules_of_bodies f [] = []
 rules_of_bodies f (i ∷ is) = rules_of_body (body_kind (section f i).sh_type) f i ++ rules_of_bodies f is
 
@@ -119,17 +119,17 @@ IsMemberBefore f i m = (h : ℕ) × (h < i) × (((section f h).sh_type ≡ SHT_G
 abbrev pub IsWrongGroupMember : LeftOut → Sections → ℕ → ℕ → Type 0
 IsWrongGroupMember left f i m = (is_kept left f m ≡ false) ⊎ (((section f m).sh_type ≡ SHT_GROUP) ⊎ IsMemberBefore f i m)
 
-abbrev pub wrong_group_member_of : LeftOut → Sections → ℕ → Row
+abbrev pub wrong_group_member_of : LeftOut → Sections → ℕ → Row ℕ
 wrong_group_member_of left f i =
     AtEntry (member_count (content f i))
     (λ j. IsWrongGroupMember left f i (member (order f) (content f i) j))
     (λ j. (section f i).sh_offset + WORD_SIZE * (j + 1))
 
 -- in the groups among the first `end` sections, and in all
-abbrev pub wrong_group_member_before : LeftOut → Sections → ℕ → Row
+abbrev pub wrong_group_member_before : LeftOut → Sections → ℕ → Row ℕ
 wrong_group_member_before left f end = λ x. (i : ℕ) × (i < end) × (((section f i).sh_type ≡ SHT_GROUP) × wrong_group_member_of left f i x)
 
-abbrev pub wrong_group_member : LeftOut → Sections → Row
+abbrev pub wrong_group_member : LeftOut → Sections → Row ℕ
 wrong_group_member left f = wrong_group_member_before left f (count f)
 
 -- a section that is kept and has neither relocations nor members
@@ -157,19 +157,19 @@ reference_field WrongRelocationTarget = SH_INFO_AT
 reference_field WrongKeptLink = SH_LINK_AT
 reference_field WrongKeptInfo = SH_INFO_AT
 
-abbrev pub SomeReference : ReferenceRule → LeftOut → Sections → Row
+abbrev pub SomeReference : ReferenceRule → LeftOut → Sections → Row ℕ
 SomeReference r left f = AtEntry (count f) (BreaksReference r left f) (λ i. header_at f i + reference_field r)
 
-abbrev pub wrong_relocation_target : LeftOut → Sections → Row
+abbrev pub wrong_relocation_target : LeftOut → Sections → Row ℕ
 wrong_relocation_target = SomeReference WrongRelocationTarget
 
-abbrev pub wrong_kept_link : LeftOut → Sections → Row
+abbrev pub wrong_kept_link : LeftOut → Sections → Row ℕ
 wrong_kept_link = SomeReference WrongKeptLink
 
-abbrev pub wrong_kept_info : LeftOut → Sections → Row
+abbrev pub wrong_kept_info : LeftOut → Sections → Row ℕ
 wrong_kept_info = SomeReference WrongKeptInfo
 
-unfoldable pub reference_rules : LeftOut → Sections → List {1} Ruled
+unfoldable pub reference_rules : LeftOut → Sections → List {1} (Ruled ℕ)
 reference_rules left f =
     rule 76 (wrong_relocation_target left f) ∷
     rule 77 (wrong_group_member left f) ∷
@@ -178,11 +178,11 @@ reference_rules left f =
 
 -- ---- all of them, in the order in which they are tested
 
-unfoldable pub symbol_rules_in : LeftOut → Sections → Option ℕ → List {1} Ruled
+unfoldable pub symbol_rules_in : LeftOut → Sections → Option ℕ → List {1} (Ruled ℕ)
 symbol_rules_in left f table = rules_of_symbols f table ++ symbol_outside_rules left f table
 
-unfoldable pub rules_behind : LeftOut → Sections → Option ℕ → List {1} Ruled
+unfoldable pub rules_behind : LeftOut → Sections → Option ℕ → List {1} (Ruled ℕ)
 rules_behind left f table = symbol_rules_in left f table ++ (rules_of_bodies f (kept left f) ++ reference_rules left f)
 
-unfoldable pub file_rules : Sections → List {1} Ruled
+unfoldable pub file_rules : Sections → List {1} (Ruled ℕ)
 file_rules f = front_rules f ++ rules_behind (left_out f) f (symbol_table f)

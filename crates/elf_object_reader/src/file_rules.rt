@@ -7,8 +7,8 @@ ghost use Rattle.elf_object_reader.specs.Kept.{body_kind, kept, left_out};
 ghost use Rattle.elf_object_reader.specs.Reading.{AreTablesOf};
 ghost use Rattle.elf_image_rules.specs.Broken.{fault_of};
 ghost use Rattle.elf_image_rules.specs.Rows.{FirstIn};
-ghost use Rattle.elf_table_symbols.specs.Judged.{IsJudgedBehind};
-ghost use Rattle.elf_table_symbols.specs.Sections.{content, section, sections_of};
+ghost use Rattle.elf_table_base.specs.Judged.{IsJudgedBehind};
+ghost use Rattle.elf_table_base.specs.Sections.{content, section, sections_of};
 ghost use Rattle.elf_table_symbols.specs.Symbols.{symbols_of};
 
 use crate::body_kind::BodyKind;
@@ -39,7 +39,11 @@ pub(crate) fn judge_behind(
 }
 
 /// The rules of the symbol table, where there is one, and rule 75.
-fn judge_symbols(image: &Image<'_>, left: &LeftOut, tables: &Tables<'_, '_>) -> Result<(), Broken>
+fn judge_symbols(
+    image: &Image<'_>,
+    left: &LeftOut,
+    tables: &Tables<'_, '_>,
+) -> Result<(), Broken<u64>>
     requires left { left.now ≡ left_out (sections_of image.now) }
     requires tables { AreTablesOf image.now tables.now }
     ensures { FirstIn (symbol_rules_in left.now (sections_of image.now) left.now.symbol_table) (fault_of result) }
@@ -97,7 +101,11 @@ fn is_symbol_outside(image: &Image<'_>, left: &LeftOut, place: Place) -> bool
 }
 
 /// The rules of each relocation section and each group that is kept, in the order of their indexes.
-fn judge_bodies(image: &Image<'_>, left: &LeftOut, tables: &Tables<'_, '_>) -> Result<(), Broken>
+fn judge_bodies(
+    image: &Image<'_>,
+    left: &LeftOut,
+    tables: &Tables<'_, '_>,
+) -> Result<(), Broken<u64>>
     requires { AreTablesOf image.now tables.now }
     ensures { let f = sections_of image.now in FirstIn (rules_of_bodies f (kept left.now f)) (fault_of result) }
 {
@@ -110,7 +118,7 @@ fn judge_bodies(image: &Image<'_>, left: &LeftOut, tables: &Tables<'_, '_>) -> R
 }
 
 /// The rules of the relocation section or the group in section `i`; none where it is neither.
-fn judge_body(image: &Image<'_>, tables: &Tables<'_, '_>, i: usize) -> Result<(), Broken>
+fn judge_body(image: &Image<'_>, tables: &Tables<'_, '_>, i: usize) -> Result<(), Broken<u64>>
     requires there { i < length image.now.sections }
     requires tables { AreTablesOf image.now tables.now }
     ensures { let f = sections_of image.now in FirstIn (rules_of_body (body_kind (section f i).sh_type) f i) (fault_of result) }

@@ -5,7 +5,7 @@ ghost use Rattle.elf_object_reader.specs.FileRules.{IsForeignType, foreign_secti
 ghost use Rattle.elf_object_reader.specs.Kept.{symbol_table as symbol_table_of};
 ghost use Rattle.elf_image_rules.specs.Broken.{fault_of};
 ghost use Rattle.elf_image_rules.specs.Rows.{FirstIn};
-ghost use Rattle.elf_table_symbols.specs.Sections.{sections_of};
+ghost use Rattle.elf_table_base.specs.Sections.{sections_of};
 
 use crate::rules::*;
 use elf_field::abi::*;
@@ -65,7 +65,7 @@ fn lowest_stray_index_table(image: &Image<'_>, symbol_table: Option<usize>) -> O
 
 /// Rules 70 to 74 of an image with this symbol table.
 #[tactic(auto, unfolding(crate::specs::FileRules::front_rules))]
-pub(crate) fn judge_front(image: &Image<'_>, symbol_table: Option<usize>) -> Result<(), Broken>
+pub(crate) fn judge_front(image: &Image<'_>, symbol_table: Option<usize>) -> Result<(), Broken<u64>>
     requires { symbol_table ≡ symbol_table_of (sections_of image.now) }
     ensures { FirstIn (front_rules (sections_of image.now)) (fault_of result) }
 {

@@ -3,7 +3,7 @@ ghost use Rattle.std.specs.Prelude.{◌≡◌, ◌↔◌, ◌<◌, ◌+◌, IfOk
 ghost use Rattle.elf_extent.specs.Least.{IsLowest, lower_of};
 ghost use Rattle.elf_object_reader.specs.FileRules.{IsMemberBefore, IsWrongGroupMember, wrong_group_member, wrong_group_member_of};
 ghost use Rattle.elf_object_reader.specs.MemberMarks.{AreMarks};
-ghost use Rattle.elf_table_symbols.specs.Sections.{content, order, section, sections_of};
+ghost use Rattle.elf_table_base.specs.Sections.{content, order, section, sections_of};
 
 use crate::left_out::LeftOut;
 use elf_field::abi::*;

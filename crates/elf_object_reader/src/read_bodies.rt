@@ -5,9 +5,9 @@ ghost use Rattle.elf_object_reader.specs.Denotes.{body_denoted, info_denoted, li
 ghost use Rattle.elf_object_reader.specs.FileRules.{rules_of_bodies, rules_of_body};
 ghost use Rattle.elf_object_reader.specs.Kept.{body_kind, kept, position_of};
 ghost use Rattle.elf_object_type.specs.ObjectView.{body_value, section_value};
-ghost use Rattle.elf_object_reader.specs.Reading.{ArePositions, AreTablesOf};
+ghost use Rattle.elf_object_reader.specs.Reading.{AreSectionPositions, AreTablesOf};
 ghost use Rattle.elf_image_rules.specs.Rows.{FirstIn};
-ghost use Rattle.elf_table_symbols.specs.Sections.{section, sections_of};
+ghost use Rattle.elf_table_base.specs.Sections.{section, sections_of};
 ghost use Rattle.elf_table_lists.specs.Groups.{group_of};
 ghost use Rattle.elf_table_lists.specs.Relocations.{relocations_of};
 
@@ -56,7 +56,7 @@ fn read_members(
     positions: &[usize],
     group: &Group<'_>,
 ) -> Result<Vec<usize>, AllocError>
-    requires { ArePositions left.now (sections_of image.now) positions.now }
+    requires { AreSectionPositions left.now (sections_of image.now) positions.now }
     ensures { IfOk result (λ members. members.items ≡ map (position_of left.now (sections_of image.now)) group.now.members) }
 {
     let mut members = Vec::with_capacity(alloc, group.len())?;
@@ -74,7 +74,7 @@ fn read_link(
     section: &Shdr,
     kind: BodyKind,
 ) -> Option<usize>
-    requires { ArePositions left.now (sections_of image.now) positions.now }
+    requires { AreSectionPositions left.now (sections_of image.now) positions.now }
     ensures { result ≡ link_denoted left.now (sections_of image.now) section.now kind }
 {
     match kind {
@@ -87,7 +87,7 @@ fn read_link(
 
 /// The info of a section that has neither relocations nor members.
 fn plain_info(image: &Image<'_>, left: &LeftOut, positions: &[usize], section: &Shdr) -> Info
-    requires { ArePositions left.now (sections_of image.now) positions.now }
+    requires { AreSectionPositions left.now (sections_of image.now) positions.now }
     ensures { result ≡ plain_info_of left.now (sections_of image.now) section.now }
 {
     if section.sh_flags & SHF_INFO_LINK == 0 {
@@ -105,7 +105,7 @@ fn read_info(
     section: &Shdr,
     kind: BodyKind,
 ) -> Info
-    requires { ArePositions left.now (sections_of image.now) positions.now }
+    requires { AreSectionPositions left.now (sections_of image.now) positions.now }
     ensures { result ≡ info_denoted left.now (sections_of image.now) section.now kind }
 {
     match kind {
@@ -125,7 +125,7 @@ fn read_body<'a>(
 ) -> Result<Body<'a>, AllocError>
     requires there { i < length image.now.sections }
     requires tables { AreTablesOf image.now tables.now }
-    requires positions { ArePositions left.now (sections_of image.now) positions.now }
+    requires positions { AreSectionPositions left.now (sections_of image.now) positions.now }
     requires sound { let f = sections_of image.now in FirstIn (rules_of_body (body_kind (section f i).sh_type) f i) None }
     ensures { let f = sections_of image.now in
         IfOk result (λ body. body_value body ≡ body_denoted left.now f i (body_kind (section f i).sh_type)) }
@@ -186,7 +186,7 @@ fn read_section<'a>(
 ) -> Result<Section<'a>, AllocError>
     requires there { i < length image.now.sections }
     requires tables { AreTablesOf image.now tables.now }
-    requires positions { ArePositions left.now (sections_of image.now) positions.now }
+    requires positions { AreSectionPositions left.now (sections_of image.now) positions.now }
     requires sound { let f = sections_of image.now in FirstIn (rules_of_body (body_kind (section f i).sh_type) f i) None }
     ensures { IfOk result (λ s. section_value s ≡ section_denoted left.now (sections_of image.now) i) }
 {
@@ -214,7 +214,7 @@ pub(crate) fn read_sections<'a>(
     positions: &[usize],
 ) -> Result<Vec<Section<'a>>, AllocError>
     requires tables { AreTablesOf image.now tables.now }
-    requires positions { ArePositions left.now (sections_of image.now) positions.now }
+    requires positions { AreSectionPositions left.now (sections_of image.now) positions.now }
     requires sound { let f = sections_of image.now in FirstIn (rules_of_bodies f (kept left.now f)) None }
     ensures { let f = sections_of image.now in
         IfOk result (λ sections. map section_value sections.items ≡ map (section_denoted left.now f) (kept left.now f)) }

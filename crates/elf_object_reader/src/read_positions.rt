@@ -2,8 +2,8 @@
 ghost use Rattle.std.specs.Prelude.{◌≡◌, ◌+◌, IfOk};
 ghost use Rattle.elf_object_reader.specs.Denotes.{section_reference};
 ghost use Rattle.elf_object_reader.specs.Kept.{position_of};
-ghost use Rattle.elf_object_reader.specs.Reading.{ArePositions};
-ghost use Rattle.elf_table_symbols.specs.Sections.{sections_of};
+ghost use Rattle.elf_object_reader.specs.Reading.{AreSectionPositions};
+ghost use Rattle.elf_table_base.specs.Sections.{sections_of};
 
 use crate::left_out::LeftOut;
 use elf_image_type::Image;
@@ -15,7 +15,7 @@ pub(crate) fn positions_of(
     image: &Image<'_>,
     left: &LeftOut,
 ) -> Result<Vec<usize>, AllocError>
-    ensures { IfOk result (λ positions. ArePositions left.now (sections_of image.now) positions.items) }
+    ensures { IfOk result (λ positions. AreSectionPositions left.now (sections_of image.now) positions.items) }
 {
     let mut positions = Vec::new(alloc);
     let mut kept = 0;
@@ -31,7 +31,7 @@ pub(crate) fn positions_of(
 
 /// The position of section `k` of this image.
 pub(crate) fn position_at(image: &Image<'_>, left: &LeftOut, positions: &[usize], k: usize) -> usize
-    requires { ArePositions left.now (sections_of image.now) positions.now }
+    requires { AreSectionPositions left.now (sections_of image.now) positions.now }
     ensures { result ≡ position_of left.now (sections_of image.now) k }
 {
     let _ = left;
@@ -45,7 +45,7 @@ pub(crate) fn reference_at(
     positions: &[usize],
     k: usize,
 ) -> Option<usize>
-    requires { ArePositions left.now (sections_of image.now) positions.now }
+    requires { AreSectionPositions left.now (sections_of image.now) positions.now }
     ensures { result ≡ section_reference left.now (sections_of image.now) k }
 {
     if k == 0 {

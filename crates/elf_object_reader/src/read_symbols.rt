@@ -4,11 +4,11 @@ ghost use Rattle.elf_object_reader.specs.Denotes.{place_denoted, symbol_denoted,
 ghost use Rattle.elf_object_reader.specs.FileRules.{rules_of_symbols};
 ghost use Rattle.elf_object_reader.specs.Kept.{left_out};
 ghost use Rattle.elf_object_type.specs.ObjectView.{symbol_value};
-ghost use Rattle.elf_object_reader.specs.Reading.{ArePositions, AreTablesOf};
+ghost use Rattle.elf_object_reader.specs.Reading.{AreSectionPositions, AreTablesOf};
 ghost use Rattle.elf_image_rules.specs.Rows.{FirstIn};
-ghost use Rattle.elf_table_symbols.specs.Sections.{sections_of};
+ghost use Rattle.elf_table_base.specs.Sections.{sections_of};
 ghost use Rattle.elf_table_symbols.specs.Symbols.{symbols_of};
-ghost use Rattle.elf_table_symbols.specs.SymbolView.{no_symbol};
+ghost use Rattle.elf_table_symbols.specs.SymbolView.{no_symbol_entry};
 
 use crate::left_out::LeftOut;
 use crate::read_positions::position_at;
@@ -26,7 +26,7 @@ fn read_place(
     positions: &[usize],
     place: elf_table_all::Place,
 ) -> Place
-    requires { ArePositions left.now (sections_of image.now) positions.now }
+    requires { AreSectionPositions left.now (sections_of image.now) positions.now }
     ensures { result ≡ place_denoted left.now (sections_of image.now) place }
 {
     match place {
@@ -49,10 +49,10 @@ fn read_symbol<'a>(
     j: usize,
 ) -> Symbol<'a>
     requires there { t < length image.now.sections }
-    requires positions { ArePositions left.now (sections_of image.now) positions.now }
+    requires positions { AreSectionPositions left.now (sections_of image.now) positions.now }
     requires symbols { symbols.now ≡ symbols_of (sections_of image.now) t }
     requires within { j < length symbols.now }
-    ensures { symbol_value result ≡ symbol_denoted left.now (sections_of image.now) (get_or symbols.now j no_symbol) }
+    ensures { symbol_value result ≡ symbol_denoted left.now (sections_of image.now) (get_or symbols.now j no_symbol_entry) }
 {
     let symbol = symbols.entry(j);
     let entry: Sym = get_at(image.order(), image.content(t), SYM_SIZE as usize * j);
@@ -76,7 +76,7 @@ pub(crate) fn read_symbols<'a>(
 ) -> Result<Vec<Symbol<'a>>, AllocError>
     requires left { left.now ≡ left_out (sections_of image.now) }
     requires tables { AreTablesOf image.now tables.now }
-    requires positions { ArePositions left.now (sections_of image.now) positions.now }
+    requires positions { AreSectionPositions left.now (sections_of image.now) positions.now }
     requires sound { FirstIn (rules_of_symbols (sections_of image.now) left.now.symbol_table) None }
     ensures { IfOk result (λ symbols. map symbol_value symbols.items ≡ symbols_denoted left.now (sections_of image.now) left.now.symbol_table) }
 {

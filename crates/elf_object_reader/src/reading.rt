@@ -7,8 +7,8 @@ ghost use Rattle.elf_object_reader.specs.Kept.{left_out};
 ghost use Rattle.elf_object_type.specs.ObjectView.{value_of};
 ghost use Rattle.elf_object_reader.specs.Reading.{AreTablesOf};
 ghost use Rattle.elf_image_rules.specs.Rows.{FirstIn};
-ghost use Rattle.elf_table_symbols.specs.Judged.{IsJudgedBehind};
-ghost use Rattle.elf_table_symbols.specs.Sections.{sections_of};
+ghost use Rattle.elf_table_base.specs.Judged.{IsJudgedBehind};
+ghost use Rattle.elf_table_base.specs.Sections.{sections_of};
 
 use crate::file_rules::judge_behind;
 use crate::front_rules::judge_front;

@@ -8,7 +8,7 @@ use Rattle.elf_field.specs.Bytes.{IsBytes}
 use Rattle.elf_field.specs.BytesLaws.{IsBytes-append, IsBytes-cons, IsBytes-nil}
 use Rattle.elf_image_type.specs.Strings.{string}
 use Rattle.elf_object_strings.specs.Names.{HasNoZero, HoldsNames}
-use Rattle.elf_object_strings.specs.StringTable.{closed, distinct, held, is_named, name_place, place_from, string_table}
+use Rattle.elf_object_strings.specs.StringTable.{closed, distinct, held, is_named, name_offset, name_offset_from, string_table}
 use Rattle.elf_object_strings.proofs.Places.{IsPlace, last_has_place, place_stands, place_stays}
 
 -- ---- the ends of the table
@@ -32,7 +32,7 @@ last_is_zero ns =
     let end : suc (length (flat_map closed (held ns))) - 1 ≡ length (flat_map closed (held ns)) = omega arith in
     ap (λ (k : ℕ). get_or (0 ∷ flat_map closed (held ns)) k 0) end ∙ last_zero (held ns)
 
--- ---- what is read at a name's place
+-- ---- what is read at a name's offset
 
 before_zero : (n : List ℕ) (behind : List ℕ) → HasNoZero n → before_first (λ byte. byte == 0) (n ++ (0 ∷ behind)) ≡ n
 before_zero [] behind all = refl
@@ -49,23 +49,23 @@ split_at [] i lt = absurd (omega arith)
 split_at (n ∷ ns) zero lt = refl
 split_at (n ∷ ns) (suc i) lt = ap (λ (ms : List (List ℕ)). n ∷ ms) (split_at ns i (omega arith))
 
-pub place_of_some : (names : List (List ℕ)) (name : List ℕ) (x : ℕ) → is_named name ≡ true → place_from 1 (held names) name ≡ Some x → name_place names name ≡ x
-unfolding name_place
+pub place_of_some : (names : List (List ℕ)) (name : List ℕ) (x : ℕ) → is_named name ≡ true → name_offset_from 1 (held names) name ≡ Some x → name_offset names name ≡ x
+unfolding name_offset
 place_of_some names name x named is = rw (named, is) refl
 
--- a name of the list that is not empty has a place
+-- a name of the list that is not empty has an offset
 has_place : (ns : List (List ℕ)) (i : ℕ) → i < length ns → is_named (get_or ns i []) ≡ true →
-    (x : ℕ) × (place_from 1 (held ns) (get_or ns i []) ≡ Some x)
+    (x : ℕ) × (name_offset_from 1 (held ns) (get_or ns i []) ≡ Some x)
 has_place ns i lt named =
     let n = get_or ns i [] in
     let found = last_has_place (take i ns) n named in
-    (found.0, ap (λ (ms : List (List ℕ)). place_from 1 (held ms) n) (split_at ns i lt) ∙ place_stays (take i ns) (drop (suc i) ns) n named ∙ found.1)
+    (found.0, ap (λ (ms : List (List ℕ)). name_offset_from 1 (held ms) n) (split_at ns i lt) ∙ place_stays (take i ns) (drop (suc i) ns) n named ∙ found.1)
 
 record IsHeldAt (names : List (List ℕ)) (name : List ℕ) : Type 0 where
-  within : name_place names name < length (string_table names)
-  read : HasNoZero name → string (string_table names) (name_place names name) ≡ name
+  within : name_offset names name < length (string_table names)
+  read : HasNoZero name → string (string_table names) (name_offset names name) ≡ name
 
-held_at : (names : List (List ℕ)) (name : List ℕ) (x : ℕ) → name_place names name ≡ x → IsPlace 1 (held names) name x → IsHeldAt names name
+held_at : (names : List (List ℕ)) (name : List ℕ) (x : ℕ) → name_offset names name ≡ x → IsPlace 1 (held names) name x → IsHeldAt names name
 unfolding string_table
 held_at names name x place is =
     let bytes = flat_map closed (held names) in
@@ -79,7 +79,7 @@ held_at names name x place is =
     }
 
 empty_held : (names : List (List ℕ)) → IsHeldAt names []
-unfolding name_place string_table
+unfolding name_offset string_table
 empty_held names = record { within = omega arith; read = λ all. refl }
 
 each_held : (names : List (List ℕ)) (i : ℕ) → i < length names → IsHeldAt names (get_or names i [])
@@ -89,7 +89,7 @@ each_held names i lt = by_name (get_or names i []) (is_named (get_or names i [])
   by_name (b ∷ n) false same is = absurd (true≢false is)
   by_name (b ∷ n) true same is =
       let found = has_place names i lt (ap is_named (sym same)) in
-      let place : place_from 1 (held names) (b ∷ n) ≡ Some found.0 = ap (place_from 1 (held names)) same ∙ found.1 in
+      let place : name_offset_from 1 (held names) (b ∷ n) ≡ Some found.0 = ap (name_offset_from 1 (held names)) same ∙ found.1 in
       held_at names (b ∷ n) found.0 (place_of_some names (b ∷ n) found.0 refl place) (place_stands 1 (held names) (b ∷ n) found.0 place)
 
 -- ---- bytes
@@ -123,11 +123,11 @@ some_byte : (names : List (List ℕ)) → 0 < length (string_table names)
 unfolding string_table
 some_byte names = omega arith
 
-empty_at_zero : (names : List (List ℕ)) → name_place names [] ≡ 0
-unfolding name_place
+empty_at_zero : (names : List (List ℕ)) → name_offset names [] ≡ 0
+unfolding name_offset
 empty_at_zero names = refl
 
-pub holds_names : (names : List (List ℕ)) → HoldsNames names (string_table names) (name_place names)
+pub holds_names : (names : List (List ℕ)) → HoldsNames names (string_table names) (name_offset names)
 holds_names names = record {
   nonempty = some_byte names;
   first = first_is_zero names;

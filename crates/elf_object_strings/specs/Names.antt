@@ -8,7 +8,7 @@ use Rattle.elf_image_type.specs.Strings.{string}
 abbrev pub HasNoZero : List ℕ → Type 0
 HasNoZero name = ¬ Contains name 0
 
--- the table begins and ends with a zero, and each name is read where its place says
+-- the table begins and ends with a zero, and each name is read at its offset
 pub record HoldsNames (names : List (List ℕ)) (table : List ℕ) (place : List ℕ → ℕ) : Type 0 where
   pub nonempty : 0 < length table
   pub first : slice_index table 0 ≡ 0

@@ -26,11 +26,11 @@ unfoldable pub string_table : List (List ℕ) → List ℕ
 string_table names = 0 ∷ flat_map closed (held names)
 
 -- where a name begins among closed names that begin at an offset
-abbrev pub place_from : ℕ → List (List ℕ) → List ℕ → Option ℕ
-place_from offset [] name = None
-place_from offset (first ∷ rest) name =
-    if bytes_eq name first then Some offset else place_from (offset + length (closed first)) rest name
+abbrev pub name_offset_from : ℕ → List (List ℕ) → List ℕ → Option ℕ
+name_offset_from offset [] name = None
+name_offset_from offset (first ∷ rest) name =
+    if bytes_eq name first then Some offset else name_offset_from (offset + length (closed first)) rest name
 
 -- where a name begins in the table: the empty one at the first zero
-unfoldable pub name_place : List (List ℕ) → List ℕ → ℕ
-name_place names name = if is_named name then unwrap_or (place_from 1 (held names) name) 0 else 0
+unfoldable pub name_offset : List (List ℕ) → List ℕ → ℕ
+name_offset names name = if is_named name then unwrap_or (name_offset_from 1 (held names) name) 0 else 0

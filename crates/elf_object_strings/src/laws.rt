@@ -1,9 +1,9 @@
 //! What the layers above may know of a string table.
 ghost use Rattle.std.specs.Prelude.{ℕ, List};
 ghost use Rattle.elf_object_strings.specs.Names.{HoldsNames};
-ghost use Rattle.elf_object_strings.specs.StringTable.{name_place, string_table};
+ghost use Rattle.elf_object_strings.specs.StringTable.{name_offset, string_table};
 
-/// The table of a list of names holds each of them at its place.
+/// The table of a list of names holds each of them at its offset.
 pub fn holds_names()
-    ensures { (names : List (List ℕ)) → HoldsNames names (string_table names) (name_place names) }
+    ensures { (names : List (List ℕ)) → HoldsNames names (string_table names) (name_offset names) }
 {}

@@ -1,8 +1,8 @@
 //! The bytes of a string table, made name by name.
 ghost use Rattle.std.specs.Prelude.{◌≡◌, ℕ, List, [], ◌∷◌, ◌++◌, Some, cond, is_some, length, map, IfOk, OnOk};
 ghost use Rattle.std.specs.Str.{bytes_eq};
-ghost use Rattle.elf_object_strings.specs.StringTable.{name_place, string_table};
-ghost use Rattle.elf_object_strings.specs.Used.{IsTable, place_by};
+ghost use Rattle.elf_object_strings.specs.StringTable.{name_offset, string_table};
+ghost use Rattle.elf_object_strings.specs.Used.{IsStringTable, offset_by};
 
 use std::alloc::{AllocError, Global};
 use std::collections::BTreeMap;
@@ -25,7 +25,7 @@ impl StringTable {
     pub fn new(alloc: Global, names: &[&[u8]]) -> Result<Self, AllocError>
         ensures bytes { IfOk result (λ t. t.bytes.items ≡ string_table (map (λ name. name.now) names.now)) }
         ensures places { IfOk result (λ t. t.places.items ≡
-            map (name_place (map (λ name. name.now) names.now)) (map (λ name. name.now) names.now)) }
+            map (name_offset (map (λ name. name.now) names.now)) (map (λ name. name.now) names.now)) }
     {
         let mut bytes = Vec::new(alloc);
         bytes.push(0)?;
@@ -45,10 +45,10 @@ fn add_name<'a>(
     used: &mut BTreeMap<&'a [u8], u64>,
     name: &'a [u8],
 ) -> Result<u64, AllocError>
-    ensures table { OnOk result ((ns : List (List ℕ)) → IsTable ns bytes.old.items (place_by used.old) →
-        IsTable (ns ++ (name.now ∷ [])) bytes.new.items (place_by used.new)) }
-    ensures place { IfOk result (λ place. (ns : List (List ℕ)) → IsTable ns bytes.old.items (place_by used.old) →
-        place ≡ name_place (ns ++ (name.now ∷ [])) name.now) }
+    ensures table { OnOk result ((ns : List (List ℕ)) → IsStringTable ns bytes.old.items (offset_by used.old) →
+        IsStringTable (ns ++ (name.now ∷ [])) bytes.new.items (offset_by used.new)) }
+    ensures place { IfOk result (λ place. (ns : List (List ℕ)) → IsStringTable ns bytes.old.items (offset_by used.old) →
+        place ≡ name_offset (ns ++ (name.now ∷ [])) name.now) }
 {
     if name.is_empty() {
         return Ok(0);
@@ -69,12 +69,12 @@ fn place_name<'a>(
     name: &'a [u8],
     end: u64,
 ) -> Result<Option<u64>, AllocError>
-    ensures old { IfOk result (λ old. old ≡ place_by used.old name.now) }
-    ensures used { IfOk result (λ old. (q : List ℕ) → place_by used.new q ≡
-        cond (is_some old) (place_by used.old q) (cond (bytes_eq name.now q) (Some end) (place_by used.old q))) }
+    ensures old { IfOk result (λ old. old ≡ offset_by used.old name.now) }
+    ensures used { IfOk result (λ old. (q : List ℕ) → offset_by used.new q ≡
+        cond (is_some old) (offset_by used.old q) (cond (bytes_eq name.now q) (Some end) (offset_by used.old q))) }
 {
     match used.insert(name, end)? {
-        // One search for a further name; one that stands already gets its place back.
+        // One search for a further name; one that stands already gets its offset back.
         Some(place) => {
             used.insert(name, place)?;
             Ok(Some(place))

@@ -5,17 +5,17 @@ use Rattle.std.proofs.lemmas.Bool.{cases_order}
 use Rattle.std.proofs.lemmas.List.{get_or_default}
 use Rattle.elf_field.specs.Abi.{WORD_SIZE, relocation_size}
 use Rattle.elf_image_rules.specs.Rows.{FirstIn}
-use Rattle.elf_image_rules.proofs.Public.{above, alignment, equal}
+use Rattle.elf_image_rules.proofs.Public.{above, equal, is_alignment}
 use Rattle.elf_object_type.specs.declared.relocation.Relocation.{Relocation}
 use Rattle.elf_object_type.specs.declared.section.Info.{Info}
 use Rattle.elf_object_type.specs.declared.section.Info.TheVariants.{Number, Section}
 use Rattle.elf_object_type.specs.GroupRule.{HasWrongMembership}
-use Rattle.elf_object_type.specs.KeepsObjectRules.{FollowsFlag, HasBitsType, HasEntryFields, HasReferences, HasRightFields, HasRightMembers, HasRightPositions, IsAligned, KeepsObjectRules, member_in, members_in}
+use Rattle.elf_object_type.specs.KeepsObjectRules.{FollowsFlag, HasBitsType, HasEntryFields, HasReferences, HasRightFields, HasRightMembers, HasRightPositions, IsAligned, KeepsObjectRules, group_members, member_in}
 use Rattle.elf_object_type.specs.Object.{BodyValue, bits, no_bits, relocs, group, ObjectValue, SectionValue, no_relocation, section_at, symbol_at}
 use Rattle.elf_object_type.specs.ObjectRules.{IsObject}
 use Rattle.elf_object_type.specs.Positions.{IsPast}
-use Rattle.elf_object_type.specs.SectionRules.{HasLinkOrInfo, HasWrongAlignment, HasWrongField, HasWrongPosition, HasWrongReference, IsAgainstFlag, IsWrongBitsType, section_rules}
-use Rattle.elf_object_type.specs.SymbolRules.{IsLocal, IsMisplacedLocal, symbol_rules}
+use Rattle.elf_object_type.specs.SectionRules.{HasLinkOrInfo, HasWrongAlignment, HasWrongField, HasWrongPosition, HasWrongReference, IsAgainstFlag, IsWrongBitsType, object_section_rules}
+use Rattle.elf_object_type.specs.SymbolRules.{IsLocal, IsMisplacedLocal, object_symbol_rules}
 use Rattle.elf_object_type.proofs.RightFields.{aligned, no_info, no_link, zero_addend}
 use Rattle.elf_object_type.proofs.Elements.{none_of_any}
 use Rattle.elf_object_type.proofs.ObjectRuleLemmas.{found_in_symbols}
@@ -43,7 +43,7 @@ bits_type (group comdat signature members) never = tt
 
 section_aligned : (s : SectionValue) → (HasWrongAlignment s → ⊥) → IsAligned s
 section_aligned s never = record {
-  alignment = alignment s.align (λ wrong. never (inl wrong));
+  alignment = is_alignment s.align (λ wrong. never (inl wrong));
   address = λ above_one. equal _ _ (λ other. never (inr (above_one, other)));
 }
 
@@ -89,14 +89,14 @@ right_fields s (group comdat signature members) never =
     entry_fields s WORD_SIZE (λ others. never (inl others)) (λ other. never (inr other))
 
 module _ (o : ObjectValue) (never : (p : ℕ) → p < length o.sections → HasWrongMembership o p → ⊥) where
-  once : (p j k : ℕ) → p < length o.sections → j < length (members_in o p) → k < length (members_in o p) → member_in o p j ≡ member_in o p k → j ≡ k
+  once : (p j k : ℕ) → p < length o.sections → j < length (group_members o p) → k < length (group_members o p) → member_in o p j ≡ member_in o p k → j ≡ k
   once p j k within ltj ltk same = elim (cases_order j k) [
     | inl equal_places ↦ equal_places
     | inr (inl before) ↦ absurd (never p within (k, ltk, inr (inl (inl (j, before, same)))))
     | inr (inr behind) ↦ absurd (never p within (j, ltj, inr (inl (inl (k, behind, sym same)))))
   ]
 
-  of_one : (p q j k : ℕ) → p < length o.sections → q < length o.sections → j < length (members_in o p) → k < length (members_in o q) →
+  of_one : (p q j k : ℕ) → p < length o.sections → q < length o.sections → j < length (group_members o p) → k < length (group_members o q) →
       member_in o p j ≡ member_in o q k → p ≡ q
   of_one p q j k withinp withinq ltj ltk same = elim (cases_order p q) [
     | inl equal_groups ↦ equal_groups
@@ -190,8 +190,8 @@ right_member o p has within (j, lt, inr (inl (inr (q, before, (k, ltk, same)))))
 right_member o p has within (j, lt, inr (inr (inl is))) = not_false _ is (has.no_group p j within lt)
 right_member o p has within (j, lt, inr (inr (inr lacks))) = has.flagged p j within lt lacks
 
-sections_unbroken : (o : ObjectValue) → KeepsObjectRules o → FirstIn (section_rules o) None
-unfolding section_rules
+sections_unbroken : (o : ObjectValue) → KeepsObjectRules o → FirstIn (object_section_rules o) None
+unfolding object_section_rules
 sections_unbroken o kept = (
   (λ x (p, lt, broken, at). kept.section_names p lt broken),
   (
@@ -206,8 +206,8 @@ sections_unbroken o kept = (
   ),
 )
 
-symbols_unbroken : (o : ObjectValue) → KeepsObjectRules o → FirstIn (symbol_rules o) None
-unfolding symbol_rules
+symbols_unbroken : (o : ObjectValue) → KeepsObjectRules o → FirstIn (object_symbol_rules o) None
+unfolding object_symbol_rules
 symbols_unbroken o kept = (
   (λ x (k, lt, broken, at). kept.symbol_names k lt broken),
   (

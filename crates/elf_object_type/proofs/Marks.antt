@@ -2,12 +2,12 @@
 use Rattle.std.proofs.Common.{◌≡◌, ℕ, ◌+◌, ◌<◌, ◌⊎◌, inl, inr, Bool, true, false, List, [], length, get_or, set, sym, subst, ◌∙◌, arith, get_or-set_other, get_or-set_same}
 use Rattle.std.proofs.lemmas.Bool.{cases_eq, cases_lt}
 use Rattle.std.proofs.lemmas.List.{get_or_past, length-set}
-use Rattle.elf_object_type.specs.GroupRule.{AreMarked, CannotJoin, IsWrongMembership, NamesMember}
+use Rattle.elf_object_type.specs.GroupRule.{AreMembershipMarks, CannotJoin, IsWrongMembership, NamesMember}
 use Rattle.elf_object_type.specs.Object.{ObjectValue, section_at}
 use Rattle.elf_object_type.specs.Positions.{members_of}
 
 -- before the first member it is all the same which members there are
-pub marked_anew : (o : ObjectValue) (i : ℕ) (before members : List ℕ) (marks : List Bool) → AreMarked o i before 0 marks → AreMarked o i members 0 marks
+pub marked_anew : (o : ObjectValue) (i : ℕ) (before members : List ℕ) (marks : List Bool) → AreMembershipMarks o i before 0 marks → AreMembershipMarks o i members 0 marks
 marked_anew o i before members marks are = record {
   long = are.long;
   right = λ m within. (
@@ -24,8 +24,8 @@ named_next members j m (k, lt, here) = elim (cases_lt k j) [
 ]
 
 -- and marked
-pub marked_next : (o : ObjectValue) (i : ℕ) (members : List ℕ) (j : ℕ) (marks : List Bool) → AreMarked o i members j marks →
-    get_or members j 0 < length marks → AreMarked o i members (j + 1) (set marks (get_or members j 0) true)
+pub marked_next : (o : ObjectValue) (i : ℕ) (members : List ℕ) (j : ℕ) (marks : List Bool) → AreMembershipMarks o i members j marks →
+    get_or members j 0 < length marks → AreMembershipMarks o i members (j + 1) (set marks (get_or members j 0) true)
 marked_next o i members j marks are there = record {
   long = length-set marks (get_or members j 0) true ∙ are.long;
   right = λ m within. (
@@ -47,7 +47,7 @@ marked_next o i members j marks are there = record {
 
 -- behind its last member the group is an earlier one
 pub marked_group : (o : ObjectValue) (i : ℕ) (members : List ℕ) (marks : List Bool) → members_of (section_at o i).body ≡ members →
-    AreMarked o i members (length members) marks → AreMarked o (i + 1) [] 0 marks
+    AreMembershipMarks o i members (length members) marks → AreMembershipMarks o (i + 1) [] 0 marks
 marked_group o i members marks is are = record {
   long = are.long;
   right = λ m within. (
@@ -76,7 +76,7 @@ mark_there marks m is = elim (cases_lt m (length marks)) [
 ]
 
 -- what the marks forbid is wrong
-pub wrong_member_found : (o : ObjectValue) (i : ℕ) (members : List ℕ) (j : ℕ) (marks : List Bool) → AreMarked o i members j marks →
+pub wrong_member_found : (o : ObjectValue) (i : ℕ) (members : List ℕ) (j : ℕ) (marks : List Bool) → AreMembershipMarks o i members j marks →
     CannotJoin o i marks (get_or members j 0) → IsWrongMembership o i members j
 wrong_member_found o i members j marks are (inl low) = inl low
 wrong_member_found o i members j marks are (inr (inl marked)) =
@@ -84,7 +84,7 @@ wrong_member_found o i members j marks are (inr (inl marked)) =
 wrong_member_found o i members j marks are (inr (inr other)) = inr (inr other)
 
 -- and what they don't forbid isn't
-pub member_passes : (o : ObjectValue) (i : ℕ) (members : List ℕ) (j : ℕ) (marks : List Bool) → AreMarked o i members j marks →
+pub member_passes : (o : ObjectValue) (i : ℕ) (members : List ℕ) (j : ℕ) (marks : List Bool) → AreMembershipMarks o i members j marks →
     get_or members j 0 < length marks → (CannotJoin o i marks (get_or members j 0) → ⊥) → IsWrongMembership o i members j → ⊥
 member_passes o i members j marks are there passes (inl low) = passes (inl low)
 member_passes o i members j marks are there passes (inr (inl named)) = passes (inr (inl ((are.right (get_or members j 0) there).1 named)))

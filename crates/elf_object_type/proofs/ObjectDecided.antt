@@ -11,12 +11,12 @@ use Rattle.elf_image_rules.specs.Rows.{AtEntry, FirstIn, Ruled}
 use Rattle.elf_object_type.specs.declared.relocation.Relocation.{Relocation}
 use Rattle.elf_object_type.specs.declared.section.Info.{Info}
 use Rattle.elf_object_type.specs.declared.section.Info.TheVariants.{Number, Section}
-use Rattle.elf_object_type.specs.GroupRule.{HasWrongMembership, IsInEarlierGroup, IsWrongMembership, NamesMember, group_rules}
+use Rattle.elf_object_type.specs.GroupRule.{HasWrongMembership, IsInEarlierGroup, IsWrongMembership, NamesMember, object_group_rules}
 use Rattle.elf_object_type.specs.Object.{BodyValue, bits, no_bits, relocs, group, ObjectValue, SectionValue, no_relocation, section_at, symbol_at}
 use Rattle.elf_object_type.specs.ObjectRules.{object_rules}
 use Rattle.elf_object_type.specs.Positions.{HasZero, IsPast, info_position, is_bits, is_group, members_of}
-use Rattle.elf_object_type.specs.SectionRules.{HasLinkOrInfo, HasWrongAlignment, HasWrongField, HasWrongPosition, HasWrongReference, IsAgainstFlag, IsWrongBitsType, section_rules, types_without_bits}
-use Rattle.elf_object_type.specs.SymbolRules.{IsLocal, IsMisplacedLocal, place_position, symbol_rules}
+use Rattle.elf_object_type.specs.SectionRules.{HasLinkOrInfo, HasWrongAlignment, HasWrongField, HasWrongPosition, HasWrongReference, IsAgainstFlag, IsWrongBitsType, object_section_rules, types_without_bits}
+use Rattle.elf_object_type.specs.SymbolRules.{IsLocal, IsMisplacedLocal, object_symbol_rules, place_position}
 
 -- ---- what is decided
 
@@ -192,25 +192,25 @@ lowest n P decide = elim (least_below P decide n) [
 ]
 
 -- of each rule there is such a position or none
-abbrev AreDecided : List {1} Ruled → Type 0
+abbrev AreDecided : List {1} (Ruled ℕ) → Type 0
 AreDecided [] = Unit {0}
 AreDecided (r ∷ rules) = ((x : Option ℕ) × IsLowest r.row x) × AreDecided rules
 
-all_decided : (xs ys : List {1} Ruled) → AreDecided xs → AreDecided ys → AreDecided (xs ++ ys)
+all_decided : (xs ys : List {1} (Ruled ℕ)) → AreDecided xs → AreDecided ys → AreDecided (xs ++ ys)
 all_decided [] ys front rest = rest
 all_decided (r ∷ xs) ys front rest = (front.0, all_decided xs ys front.1 rest)
 
-behind : (r : Ruled) (rules : List {1} Ruled) (x : Option (ℕ × ℕ)) → Never r.row → FirstIn rules x → FirstIn (r ∷ rules) x
+behind : (r : Ruled ℕ) (rules : List {1} (Ruled ℕ)) (x : Option (ℕ × ℕ)) → Never r.row → FirstIn rules x → FirstIn (r ∷ rules) x
 behind r rules None never found = (never, found)
 behind r rules (Some fault) never found = inr (never, found)
 
-first_of : (rules : List {1} Ruled) → AreDecided rules → (x : Option (ℕ × ℕ)) × FirstIn rules x
+first_of : (rules : List {1} (Ruled ℕ)) → AreDecided rules → (x : Option (ℕ × ℕ)) × FirstIn rules x
 first_of [] decided = (None, tt)
 first_of (r ∷ rules) ((Some x, least), rest) = (Some (r.number, x), inl (refl, least))
 first_of (r ∷ rules) ((None, never), rest) = let (x, found) = first_of rules rest in (x, behind r rules x never found)
 
-of_sections : (o : ObjectValue) → AreDecided (section_rules o)
-unfolding section_rules
+of_sections : (o : ObjectValue) → AreDecided (object_section_rules o)
+unfolding object_section_rules
 of_sections o =
     let n = length o.sections in (
       lowest n (λ i. HasZero (section_at o i).name) (λ i. contains (section_at o i).name 0),
@@ -226,12 +226,12 @@ of_sections o =
       ),
     )
 
-of_groups : (o : ObjectValue) → AreDecided (group_rules o)
-unfolding group_rules
+of_groups : (o : ObjectValue) → AreDecided (object_group_rules o)
+unfolding object_group_rules
 of_groups o = (lowest (length o.sections) (HasWrongMembership o) (has_wrong_membership o), tt)
 
-of_symbols : (o : ObjectValue) → AreDecided (symbol_rules o)
-unfolding symbol_rules
+of_symbols : (o : ObjectValue) → AreDecided (object_symbol_rules o)
+unfolding object_symbol_rules
 of_symbols o =
     let n = length o.symbols in (
       lowest n (λ i. HasZero (symbol_at o i).name) (λ i. contains (symbol_at o i).name 0),
@@ -245,4 +245,4 @@ pub object_fault : (o : ObjectValue) → (x : Option (ℕ × ℕ)) × FirstIn (o
 unfolding object_rules
 object_fault o =
     first_of (object_rules o)
-    (all_decided (section_rules o) (group_rules o ++ symbol_rules o) (of_sections o) (all_decided (group_rules o) (symbol_rules o) (of_groups o) (of_symbols o)))
+    (all_decided (object_section_rules o) (object_group_rules o ++ object_symbol_rules o) (of_sections o) (all_decided (object_group_rules o) (object_symbol_rules o) (of_groups o) (of_symbols o)))

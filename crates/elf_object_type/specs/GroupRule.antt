@@ -26,14 +26,14 @@ abbrev pub HasWrongMembership : ObjectValue → ℕ → Type 0
 HasWrongMembership o i = let members = members_of (section_at o i).body in SomeIndex members (IsWrongMembership o i members)
 
 -- rule 6: a group has such a member
-abbrev pub wrong_membership : ObjectValue → Row
+abbrev pub wrong_membership : ObjectValue → Row ℕ
 wrong_membership o = AtEntry (length o.sections) (HasWrongMembership o) (λ i. i)
 
-unfoldable pub group_rules : ObjectValue → List {1} Ruled
-group_rules o = rule 6 (wrong_membership o) ∷ []
+unfoldable pub object_group_rules : ObjectValue → List {1} (Ruled ℕ)
+object_group_rules o = rule 6 (wrong_membership o) ∷ []
 
 -- each section has a mark just where it is one of the first j of these members of section i, or a member of a group before it
-pub record AreMarked (o : ObjectValue) (i : ℕ) (members : List ℕ) (j : ℕ) (marks : List Bool) : Type 0 where
+pub record AreMembershipMarks (o : ObjectValue) (i : ℕ) (members : List ℕ) (j : ℕ) (marks : List Bool) : Type 0 where
   pub long : length marks ≡ length o.sections
   pub right : (m : ℕ) → m < length marks → (get_or marks m false ≡ true) ↔ (NamesMember members j m ⊎ IsInEarlierGroup o i m)
 

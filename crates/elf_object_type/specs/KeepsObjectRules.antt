@@ -75,23 +75,23 @@ HasRightFields s (relocs rela target entries) = HasEntryFields s (relocation_siz
 HasRightFields s (group comdat signature members) = HasEntryFields s WORD_SIZE
 
 -- rule 6: the members of the group in section p, and member j
-abbrev pub members_in : ObjectValue → ℕ → List ℕ
-members_in o p = members_of (section_at o p).body
+abbrev pub group_members : ObjectValue → ℕ → List ℕ
+group_members o p = members_of (section_at o p).body
 
 abbrev pub member_in : ObjectValue → ℕ → ℕ → ℕ
-member_in o p j = slice_index (members_in o p) j
+member_in o p j = slice_index (group_members o p) j
 
 abbrev pub EachMember : ObjectValue → (ℕ → ℕ → Type 0) → Type 0
-EachMember o P = (p j : ℕ) → p < length o.sections → j < length (members_in o p) → P p (member_in o p j)
+EachMember o P = (p j : ℕ) → p < length o.sections → j < length (group_members o p) → P p (member_in o p j)
 
 -- a group stands before its members, which have the flag GROUP and are no groups; a section is a member once, and of one group
 pub record HasRightMembers (o : ObjectValue) : Type 0 where
   pub behind : EachMember o (λ p m. p < m)
   pub flagged : EachMember o (λ p m. HasFlag (section_at o m).flags SHF_GROUP)
   pub no_group : EachMember o (λ p m. is_group (section_at o m).body ≡ false)
-  pub once : (p j k : ℕ) → p < length o.sections → j < length (members_in o p) → k < length (members_in o p) →
+  pub once : (p j k : ℕ) → p < length o.sections → j < length (group_members o p) → k < length (group_members o p) →
       member_in o p j ≡ member_in o p k → j ≡ k
-  pub of_one : (p q j k : ℕ) → p < length o.sections → q < length o.sections → j < length (members_in o p) → k < length (members_in o q) →
+  pub of_one : (p q j k : ℕ) → p < length o.sections → q < length o.sections → j < length (group_members o p) → k < length (group_members o q) →
       member_in o p j ≡ member_in o q k → p ≡ q
 
 -- rules 1 to 9

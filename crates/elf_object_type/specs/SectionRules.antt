@@ -68,26 +68,26 @@ BreaksSection WrongPosition o s = HasWrongPosition o s
 BreaksSection WrongField o s = HasWrongField s s.body
 
 -- the row of such a rule: the positions of the sections that break it
-abbrev pub SomeSection : SectionRule → ObjectValue → Row
+abbrev pub SomeSection : SectionRule → ObjectValue → Row ℕ
 SomeSection r o = AtEntry (length o.sections) (λ i. BreaksSection r o (section_at o i)) (λ i. i)
 
-abbrev pub zero_in_section_name : ObjectValue → Row
+abbrev pub zero_in_section_name : ObjectValue → Row ℕ
 zero_in_section_name = SomeSection ZeroInSectionName
 
-abbrev pub wrong_bits_type : ObjectValue → Row
+abbrev pub wrong_bits_type : ObjectValue → Row ℕ
 wrong_bits_type = SomeSection WrongBitsType
 
-abbrev pub wrong_alignment : ObjectValue → Row
+abbrev pub wrong_alignment : ObjectValue → Row ℕ
 wrong_alignment = SomeSection WrongAlignment
 
-abbrev pub wrong_position : ObjectValue → Row
+abbrev pub wrong_position : ObjectValue → Row ℕ
 wrong_position = SomeSection WrongPosition
 
-abbrev pub wrong_field : ObjectValue → Row
+abbrev pub wrong_field : ObjectValue → Row ℕ
 wrong_field = SomeSection WrongField
 
-unfoldable pub section_rules : ObjectValue → List {1} Ruled
-section_rules o =
+unfoldable pub object_section_rules : ObjectValue → List {1} (Ruled ℕ)
+object_section_rules o =
     rule 1 (zero_in_section_name o) ∷
     rule 2 (wrong_bits_type o) ∷
     rule 3 (wrong_alignment o) ∷

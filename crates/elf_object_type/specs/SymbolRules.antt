@@ -25,26 +25,26 @@ abbrev pub BreaksSymbol : SymbolRule → ObjectValue → SymbolValue → Type 0
 BreaksSymbol ZeroInSymbolName o s = HasZero s.name
 BreaksSymbol WrongPlace o s = IsPast (length o.sections) (place_position s.place)
 
-abbrev pub SomeSymbol : SymbolRule → ObjectValue → Row
+abbrev pub SomeSymbol : SymbolRule → ObjectValue → Row ℕ
 SomeSymbol r o = AtEntry (length o.symbols) (λ i. BreaksSymbol r o (symbol_at o i)) (λ i. i)
 
 -- rule 7: a symbol's name has a zero byte
-abbrev pub zero_in_symbol_name : ObjectValue → Row
+abbrev pub zero_in_symbol_name : ObjectValue → Row ℕ
 zero_in_symbol_name = SomeSymbol ZeroInSymbolName
 
 -- rule 8: a symbol is defined in a section that isn't there
-abbrev pub wrong_place : ObjectValue → Row
+abbrev pub wrong_place : ObjectValue → Row ℕ
 wrong_place = SomeSymbol WrongPlace
 
 -- rule 9: a symbol is local, and one before it is not
 abbrev pub IsMisplacedLocal : ObjectValue → ℕ → Type 0
 IsMisplacedLocal o i = IsLocal (symbol_at o i) × ((k : ℕ) × (k < i) × ¬ IsLocal (symbol_at o k))
 
-abbrev pub misplaced_local : ObjectValue → Row
+abbrev pub misplaced_local : ObjectValue → Row ℕ
 misplaced_local o = AtEntry (length o.symbols) (IsMisplacedLocal o) (λ i. i)
 
-unfoldable pub symbol_rules : ObjectValue → List {1} Ruled
-symbol_rules o =
+unfoldable pub object_symbol_rules : ObjectValue → List {1} (Ruled ℕ)
+object_symbol_rules o =
     rule 7 (zero_in_symbol_name o) ∷
     rule 8 (wrong_place o) ∷
     rule 9 (misplaced_local o) ∷ []

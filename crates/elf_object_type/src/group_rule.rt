@@ -2,7 +2,7 @@
 ghost use Rattle.std.specs.Prelude.{◌≡◌, ◌↔◌, ◌+◌, ◌<◌, ◌≤◌, ◌⊎◌, IfOk, IsTrue, [], length};
 ghost use Rattle.std.specs.Bool.{OnFalse};
 ghost use Rattle.elf_extent.specs.Least.{IsLowest};
-ghost use Rattle.elf_object_type.specs.GroupRule.{AreMarked, CannotJoin, HasWrongMembership, wrong_membership};
+ghost use Rattle.elf_object_type.specs.GroupRule.{AreMembershipMarks, CannotJoin, HasWrongMembership, wrong_membership};
 ghost use Rattle.elf_object_type.specs.ObjectView.{value_of};
 
 use crate::parts::ObjectParts;
@@ -32,9 +32,9 @@ pub(crate) fn lowest_wrong_membership(
 /// before it; where none of its members is wrong, they are marked too.
 fn has_wrong_membership(parts: &ObjectParts<'_>, i: usize, marks: &mut Vec<bool>) -> bool
     requires there { i < length parts.now.sections.items }
-    requires marked { AreMarked (value_of parts.now) i [] 0 marks.old.items }
+    requires marked { AreMembershipMarks (value_of parts.now) i [] 0 marks.old.items }
     ensures wrong { IsTrue result ↔ HasWrongMembership (value_of parts.now) i }
-    ensures marked { OnFalse result (AreMarked (value_of parts.now) (i + 1) [] 0 marks.new.items) }
+    ensures marked { OnFalse result (AreMembershipMarks (value_of parts.now) (i + 1) [] 0 marks.new.items) }
 {
     let Body::Group { members, .. } = &section_at(parts, i).body else {
         return false;

@@ -6,7 +6,7 @@ ghost use Rattle.elf_image_rules.specs.Broken.{fault_of};
 ghost use Rattle.elf_image_rules.specs.Rows.{FirstIn};
 ghost use Rattle.elf_object_type.specs.ObjectView.{body_value, section_value, value_of};
 ghost use Rattle.elf_object_type.specs.Positions.{IsPast};
-ghost use Rattle.elf_object_type.specs.SectionRules.{BreaksSection, HasLinkOrInfo, HasWrongAlignment, HasWrongField, HasWrongPosition, HasWrongReference, IsAgainstFlag, IsNoTarget, IsWrongBitsType, SomeSection, section_rules, types_without_bits};
+ghost use Rattle.elf_object_type.specs.SectionRules.{BreaksSection, HasLinkOrInfo, HasWrongAlignment, HasWrongField, HasWrongPosition, HasWrongReference, IsAgainstFlag, IsNoTarget, IsWrongBitsType, SomeSection, object_section_rules, types_without_bits};
 
 use crate::parts::ObjectParts;
 use crate::positions::{has_past, has_zero, info_position, is_bits, is_past, section_at};
@@ -180,9 +180,9 @@ fn lowest_section(parts: &ObjectParts<'_>, rule: SectionRule) -> Option<u64>
 }
 
 /// Rules 1 to 5; what is broken is broken at a position.
-#[tactic(auto, unfolding(crate::specs::SectionRules::section_rules))]
-pub(crate) fn judge_sections(parts: &ObjectParts<'_>) -> Result<(), Broken>
-    ensures fault { FirstIn (section_rules (value_of parts.now)) (fault_of result) }
+#[tactic(auto, unfolding(crate::specs::SectionRules::object_section_rules))]
+pub(crate) fn judge_sections(parts: &ObjectParts<'_>) -> Result<(), Broken<u64>>
+    ensures fault { FirstIn (object_section_rules (value_of parts.now)) (fault_of result) }
     ensures number { IfErr result (λ broken. broken.rule ≤ 5) }
 {
     if let Some(position) = lowest_section(parts, SectionRule::ZeroInSectionName) {

@@ -4,7 +4,7 @@ ghost use Rattle.elf_extent.specs.Least.{IsLowest};
 ghost use Rattle.elf_image_rules.specs.Broken.{fault_of};
 ghost use Rattle.elf_image_rules.specs.Rows.{FirstIn};
 ghost use Rattle.elf_object_type.specs.ObjectView.{symbol_value, value_of};
-ghost use Rattle.elf_object_type.specs.SymbolRules.{BreaksSymbol, IsLocal, SomeSymbol, misplaced_local, place_position as place_position_of, symbol_rules};
+ghost use Rattle.elf_object_type.specs.SymbolRules.{BreaksSymbol, IsLocal, SomeSymbol, misplaced_local, object_symbol_rules, place_position as place_position_of};
 
 use crate::parts::ObjectParts;
 use crate::positions::{has_zero, is_past, symbol_at};
@@ -79,9 +79,9 @@ fn lowest_misplaced_local(parts: &ObjectParts<'_>) -> Option<u64>
 }
 
 /// Rules 7 to 9; what is broken is broken at a position.
-#[tactic(auto, unfolding(crate::specs::SymbolRules::symbol_rules))]
-pub(crate) fn judge_symbols(parts: &ObjectParts<'_>) -> Result<(), Broken>
-    ensures fault { FirstIn (symbol_rules (value_of parts.now)) (fault_of result) }
+#[tactic(auto, unfolding(crate::specs::SymbolRules::object_symbol_rules))]
+pub(crate) fn judge_symbols(parts: &ObjectParts<'_>) -> Result<(), Broken<u64>>
+    ensures fault { FirstIn (object_symbol_rules (value_of parts.now)) (fault_of result) }
     ensures number { IfErr result (λ broken. 6 < broken.rule) }
 {
     if let Some(position) = lowest_symbol(parts, SymbolRule::ZeroInSymbolName) {

@@ -7,7 +7,7 @@ use Rattle.elf_field.specs.Sym.{sym_bytes}
 use Rattle.elf_field.specs.SymLaws.{sym_laws}
 use Rattle.elf_field.specs.Word.{word_bytes}
 use Rattle.elf_field.specs.WordLaws.{word_laws}
-use Rattle.elf_field.specs.RecordTableLaws.{length-table}
+use Rattle.elf_field.proofs.RecordTableLaws.{length-table}
 use Rattle.elf_object_strings.specs.StringTable.{string_table}
 use Rattle.elf_object_writer.specs.Laid.{content_part, layout_parts}
 use Rattle.elf_object_writer.specs.LayoutParts.{LARGEST, saturated}

@@ -7,7 +7,7 @@ use Rattle.elf_field.specs.declared.ehdr.Ehdr.{Ehdr}
 use Rattle.elf_field.specs.declared.order.Order.{Order}
 use Rattle.elf_field.specs.declared.order.Order.TheVariants.{Little, Big}
 use Rattle.elf_field.specs.declared.shdr.Shdr.{Shdr}
-use Rattle.elf_field.specs.RecordTableLaws.{length-table}
+use Rattle.elf_field.proofs.RecordTableLaws.{length-table}
 use Rattle.elf_field.specs.ShdrLaws.{shdr_laws}
 use Rattle.elf_extent.specs.Place.{Fits, end_of}
 use Rattle.elf_extent.proofs.Public.{fits_length, least_places, same_least}
@@ -16,7 +16,7 @@ use Rattle.elf_image_type.specs.RelocatableFile.{all_headers, behind_header, off
 use Rattle.elf_image_type.proofs.Public.{length-relocatable_bytes}
 use Rattle.elf_image_rules.specs.KeepsRules.{KeepsIdentRules}
 use Rattle.elf_image_rules.specs.Tables.{order_of}
-use Rattle.elf_object_strings.specs.StringTable.{name_place}
+use Rattle.elf_object_strings.specs.StringTable.{name_offset}
 use Rattle.elf_object_writer.specs.declared.layout.LayoutFault.{LayoutFault}
 use Rattle.elf_object_writer.specs.declared.layout.LayoutFault.TheVariants.{TooLong, OutOfMemory}
 use Rattle.elf_object_writer.specs.Laid.{Laid, content_part, encoding, file_header, identification, layout_bytes, layout_parts, section_headers}
@@ -75,39 +75,39 @@ unfolding layout_parts
 length-layout_parts sections = let long = length-parts sections (SHDR_SIZE * (length sections + 1)) in omega arith
 
 -- the header, section headers and contents of the file with these places
-abbrev pub header_at : ObjectValue → List ℕ → Ehdr
-header_at o places = let sections = plain_sections o in file_header o (length sections + 1) (get_or places (length sections) 0)
+abbrev pub canonical_header : ObjectValue → List ℕ → Ehdr
+canonical_header o places = let sections = plain_sections o in file_header o (length sections + 1) (get_or places (length sections) 0)
 
-abbrev pub headers_at : ObjectValue → List ℕ → List Shdr
-headers_at o places = section_headers (name_place (section_names o)) (plain_sections o) places
+abbrev pub canonical_section_headers : ObjectValue → List ℕ → List Shdr
+canonical_section_headers o places = section_headers (name_offset (section_names o)) (plain_sections o) places
 
 abbrev pub contents_of : ObjectValue → List (List ℕ)
 contents_of o = map (λ s. s.content) (plain_sections o)
 
-pub length-headers_at : (o : ObjectValue) (places : List ℕ) → Fits (layout_parts (plain_sections o)) EHDR_SIZE places → length (headers_at o places) ≡ length (plain_sections o)
+pub length-canonical_section_headers : (o : ObjectValue) (places : List ℕ) → Fits (layout_parts (plain_sections o)) EHDR_SIZE places → length (canonical_section_headers o places) ≡ length (plain_sections o)
 unfolding layout_parts
-length-headers_at o places fits =
+length-canonical_section_headers o places fits =
     let sections = plain_sections o in
     let parts_long = length-parts sections (SHDR_SIZE * (length sections + 1)) in
     let many = fits_length (layout_parts sections) EHDR_SIZE places fits in
-    length-section_headers (name_place (section_names o)) sections places (omega arith)
+    length-section_headers (name_offset (section_names o)) sections places (omega arith)
 
 -- each part stands behind the one before it, as a relocatable file wants it
 pub layout_order : (o : ObjectValue) (places : List ℕ) → Fits (layout_parts (plain_sections o)) EHDR_SIZE places →
-    Fits (map unaligned (behind_header (header_at o places) (headers_at o places) (contents_of o) (name_table_at o))) EHDR_SIZE (offsets (header_at o places) (headers_at o places))
+    Fits (map unaligned (behind_header (canonical_header o places) (canonical_section_headers o places) (contents_of o) (name_table_at o))) EHDR_SIZE (offsets (canonical_header o places) (canonical_section_headers o places))
 unfolding layout_parts
 layout_order o places fits =
     let sections = plain_sections o in
     let count = length sections + 1 in
-    let h = header_at o places in
-    let ss = headers_at o places in
+    let h = canonical_header o places in
+    let ss = canonical_section_headers o places in
     let parts_long = length-parts sections (SHDR_SIZE * count) in
     let places_long : length places ≡ suc (length sections) = (let many = fits_length (layout_parts sections) EHDR_SIZE places fits in omega arith) in
-    let headers_long = length-section_headers (name_place (section_names o)) sections places places_long in
+    let headers_long = length-section_headers (name_offset (section_names o)) sections places places_long in
     let table_long : length (section_table h ss (name_table_at o)) ≡ SHDR_SIZE * count =
     (let all = length-table shdr_laws (order_of h.e_ident) (all_headers ss (name_table_at o)) in omega arith) in
     let loose = unaligned_parts sections (SHDR_SIZE * count) (section_table h ss (name_table_at o)) EHDR_SIZE places table_long fits in
-    subst (Fits (map unaligned (behind_header h ss (contents_of o) (name_table_at o))) EHDR_SIZE) (sym (offsets_are (name_place (section_names o)) sections places places_long)) loose
+    subst (Fits (map unaligned (behind_header h ss (contents_of o) (name_table_at o))) EHDR_SIZE) (sym (offsets_are (name_offset (section_names o)) sections places places_long)) loose
 
 pub length-layout_bytes : (o : ObjectValue) (places : List ℕ) → Fits (layout_parts (plain_sections o)) EHDR_SIZE places →
     length (layout_bytes o places) ≡ end_of (layout_parts (plain_sections o)) places (length (layout_parts (plain_sections o)) - 1)
@@ -116,9 +116,9 @@ length-layout_bytes o places fits =
     let sections = plain_sections o in
     let count = length sections + 1 in
     let parts_long = length-parts sections (SHDR_SIZE * count) in
-    let headers_long = length-headers_at o places fits in
+    let headers_long = length-canonical_section_headers o places fits in
     let contents_long = length-map sections (λ (s : PlainSection). s.content) in
-    let whole = length-relocatable_bytes (header_at o places) (headers_at o places) (contents_of o) (name_table_at o) (omega arith) (layout_order o places fits) in
+    let whole = length-relocatable_bytes (canonical_header o places) (canonical_section_headers o places) (contents_of o) (name_table_at o) (omega arith) (layout_order o places fits) in
     let last : length (map content_part sections ++ ((SHDR_SIZE * count, 8) ∷ [])) - 1 ≡ length sections = omega arith in
     let size = last_size sections (SHDR_SIZE * count) in
     let end = ap (end_of (map content_part sections ++ ((SHDR_SIZE * count, 8) ∷ [])) places) last in

@@ -10,7 +10,7 @@ use Rattle.elf_field.specs.Ehdr.{ehdr_bytes}
 use Rattle.elf_field.specs.EhdrLaws.{ehdr_laws}
 use Rattle.elf_field.specs.Shdr.{shdr_bytes}
 use Rattle.elf_field.specs.ShdrLaws.{shdr_laws}
-use Rattle.elf_field.specs.RecordTableLaws.{length-table}
+use Rattle.elf_field.proofs.RecordTableLaws.{length-table}
 use Rattle.elf_field.specs.declared.order.Order.{Order}
 use Rattle.elf_field.specs.declared.order.Order.TheVariants.{Little, Big}
 use Rattle.elf_extent.specs.Place.{Fits}
@@ -19,16 +19,16 @@ use Rattle.elf_image_type.specs.FileParts.{spread, unaligned}
 use Rattle.elf_image_type.specs.RelocatableFile.{all_headers, offsets, relocatable_bytes}
 use Rattle.elf_image_type.proofs.Public.{went_err}
 use Rattle.elf_image_rules.specs.Tables.{order_of}
-use Rattle.elf_object_strings.specs.StringTable.{name_place}
+use Rattle.elf_object_strings.specs.StringTable.{name_offset}
 use Rattle.elf_object_writer.specs.Laid.{identification, layout_bytes, section_headers}
 use Rattle.elf_object_writer.specs.LayoutView.{IsLayoutOf, LayoutValue}
 use Rattle.elf_object_type.specs.Object.{ObjectValue}
 use Rattle.elf_object_writer.specs.ObjectWriting.{WritesBehind, header_table}
-use Rattle.elf_object_writer.specs.PlacedObject.{IsPlaced, IsSectionAt, PlacedValue, plain_section}
+use Rattle.elf_object_writer.specs.PlacedObject.{IsPlacedObject, IsSectionAt, PlacedValue, plain_section}
 use Rattle.elf_object_writer.specs.PlainSections.{PlainSection, name_table_at, plain_sections, section_names}
 use Rattle.elf_object_writer.specs.declared.placed_section.PlacedSection.{PlacedSection}
 use Rattle.elf_object_writer.specs.declared.placed_section.PlacedSection.TheVariants.{Names}
-use Rattle.elf_object_writer.proofs.CanonicalLayout.{contents_of, header_at, headers_at, layout_order, offsets_are}
+use Rattle.elf_object_writer.proofs.CanonicalLayout.{canonical_header, canonical_section_headers, contents_of, layout_order, offsets_are}
 use Rattle.elf_object_writer.proofs.HeaderTable.{length-headers}
 use Rattle.elf_object_writer.proofs.ShortLayout.{content_end}
 
@@ -138,22 +138,22 @@ table_at o places =
 
 -- the header's bytes
 unfoldable pub header_bytes : ObjectValue → List ℕ → List ℕ
-header_bytes o places = ehdr_bytes o.order (header_at o places)
+header_bytes o places = ehdr_bytes o.order (canonical_header o places)
 
 pub length-header_bytes : (o : ObjectValue) (places : List ℕ) → length (header_bytes o places) ≡ 64
 unfolding header_bytes
-length-header_bytes o places = ehdr_laws.length_is o.order (header_at o places)
+length-header_bytes o places = ehdr_laws.length_is o.order (canonical_header o places)
 
-places_are : (o : ObjectValue) (layout : LayoutValue) → IsLayoutOf o layout → offsets (header_at o layout.places) (headers_at o layout.places) ≡ layout.places
-places_are o layout laid = offsets_are (name_place (section_names o)) (plain_sections o) layout.places (let count = laid.count in omega arith)
+places_are : (o : ObjectValue) (layout : LayoutValue) → IsLayoutOf o layout → offsets (canonical_header o layout.places) (canonical_section_headers o layout.places) ≡ layout.places
+places_are o layout laid = offsets_are (name_offset (section_names o)) (plain_sections o) layout.places (let count = laid.count in omega arith)
 
 layout_is : (o : ObjectValue) (layout : LayoutValue) → IsLayoutOf o layout →
     layout_bytes o layout.places ≡ header_bytes o layout.places ++ spread 64 layout.places (laid_parts o layout.places)
 unfolding layout_bytes relocatable_bytes header_table header_bytes
 layout_is o layout laid =
     let q = layout.places in
-    let h = header_at o q in
-    let ss = headers_at o q in
+    let h = canonical_header o q in
+    let ss = canonical_section_headers o q in
     let cs = contents_of o in
     let parts : Order → List (List ℕ) = λ order. cs ++ (flat_map (shdr_bytes order) (all_headers ss (name_table_at o)) ∷ []) in
     let long : 0 + length (ehdr_bytes o.order h) ≡ 64 = (let e = ehdr_laws.length_is o.order h in omega arith) in
@@ -165,15 +165,15 @@ parts_fit : (o : ObjectValue) (layout : LayoutValue) → IsLayoutOf o layout →
 unfolding header_table
 parts_fit o layout laid =
     let q = layout.places in
-    let h = header_at o q in
-    let ss = headers_at o q in
+    let h = canonical_header o q in
+    let ss = canonical_section_headers o q in
     let parts : Order → List (List ℕ) = λ order. contents_of o ++ (flat_map (shdr_bytes order) (all_headers ss (name_table_at o)) ∷ []) in
     subst (λ (places : List ℕ). Fits (map unaligned (parts o.order)) 64 places) (places_are o layout laid)
     (subst (λ (order : Order). Fits (map unaligned (parts order)) 64 (offsets h ss)) (order_read o) (layout_order o q laid.least.fits))
 
 -- ---- the layout as it goes out
 
-pub header_sent : (p : PlacedValue) (a b : Option (List ℕ)) → IsPlaced p → Appends a b (header_bytes p.object p.layout.places) →
+pub header_sent : (p : PlacedValue) (a b : Option (List ℕ)) → IsPlacedObject p → Appends a b (header_bytes p.object p.layout.places) →
     IsGoing a b (layout_bytes p.object p.layout.places) 64 p.layout.places (laid_parts p.object p.layout.places)
 header_sent p a b placed went = record {
   out = header_bytes p.object p.layout.places;
@@ -183,7 +183,7 @@ header_sent p a b placed went = record {
   fits = parts_fit p.object p.layout placed.layout;
 }
 
-pub header_cut : (p : PlacedValue) (a b : Option (List ℕ)) (n : ℕ) → IsPlaced p →
+pub header_cut : (p : PlacedValue) (a b : Option (List ℕ)) (n : ℕ) → IsPlacedObject p →
     (n < length (header_bytes p.object p.layout.places)) × Appends a b (take n (header_bytes p.object p.layout.places)) →
     (n < length (layout_bytes p.object p.layout.places)) × Appends a b (take n (layout_bytes p.object p.layout.places))
 header_cut p a b n placed failed =
@@ -209,13 +209,13 @@ content_goes p k at lt b c result went =
     let zeros : List ℕ = replicate (get_or p.layout.places k 0 - at) 0 in
     subst (λ (s : List ℕ). WritesBehind at b c (zeros ++ s) result) (sym (content_at p.object p.layout.places k d lt)) (went d)
 
-pub content_place : (p : PlacedValue) (a b : Option (List ℕ)) (at k : ℕ) → IsPlaced p → k ≤ length (plain_sections p.object) → IsGoingAt p a b at k → at ≤ get_or p.layout.places k 0
+pub content_place : (p : PlacedValue) (a b : Option (List ℕ)) (at k : ℕ) → IsPlacedObject p → k ≤ length (plain_sections p.object) → IsGoingAt p a b at k → at ≤ get_or p.layout.places k 0
 content_place p a b at k placed le going =
     let count = placed.layout.count in
     let parts = length-parts p.object p.layout.places in
     part_place a b _ at p.layout.places (laid_parts p.object p.layout.places) k (omega arith) (omega arith) going
 
-pub content_sent : (p : PlacedValue) (a b c : Option (List ℕ)) (at end k : ℕ) → IsPlaced p → k < length (plain_sections p.object) → IsGoingAt p a b at k →
+pub content_sent : (p : PlacedValue) (a b c : Option (List ℕ)) (at end k : ℕ) → IsPlacedObject p → k < length (plain_sections p.object) → IsGoingAt p a b at k →
     ((d : PlainSection) → WritesBehind at b c (replicate (get_or p.layout.places k 0 - at) 0 ++ (get_or (plain_sections p.object) k d).content) (Ok end)) →
     IsGoingAt p a c end (k + 1)
 content_sent p a b c at end k placed lt going went =
@@ -223,7 +223,7 @@ content_sent p a b c at end k placed lt going went =
     let parts = length-parts p.object p.layout.places in
     part_sent a b c _ at end p.layout.places (laid_parts p.object p.layout.places) k (omega arith) (omega arith) going (content_goes p k at lt b c (Ok end) went)
 
-pub content_cut : (p : PlacedValue) (a b c : Option (List ℕ)) (at k : ℕ) (fault : WriteFault) → IsPlaced p → k < length (plain_sections p.object) → IsGoingAt p a b at k →
+pub content_cut : (p : PlacedValue) (a b c : Option (List ℕ)) (at k : ℕ) (fault : WriteFault) → IsPlacedObject p → k < length (plain_sections p.object) → IsGoingAt p a b at k →
     ((d : PlainSection) → WritesBehind at b c (replicate (get_or p.layout.places k 0 - at) 0 ++ (get_or (plain_sections p.object) k d).content) (Err fault)) →
     (fault.written < length (layout_bytes p.object p.layout.places)) × Appends a c (take fault.written (layout_bytes p.object p.layout.places))
 content_cut p a b c at k fault placed lt going failed =
@@ -240,12 +240,12 @@ table_goes p k at last b c result went =
     subst (λ (n : ℕ). Q n (get_or (laid_parts p.object p.layout.places) n [])) (sym last)
     (subst (Q (length (plain_sections p.object))) (sym (table_at p.object p.layout.places)) went)
 
-pub table_place : (p : PlacedValue) (a b : Option (List ℕ)) (at k : ℕ) → IsPlaced p → k ≡ length (plain_sections p.object) → IsGoingAt p a b at k →
+pub table_place : (p : PlacedValue) (a b : Option (List ℕ)) (at k : ℕ) → IsPlacedObject p → k ≡ length (plain_sections p.object) → IsGoingAt p a b at k →
     at ≤ get_or p.layout.places (length (plain_sections p.object)) 0
 table_place p a b at k placed last going =
     subst (λ (n : ℕ). at ≤ get_or p.layout.places n 0) last (content_place p a b at k placed (omega arith) going)
 
-pub table_sent : (p : PlacedValue) (a b c : Option (List ℕ)) (at end k : ℕ) → IsPlaced p → k ≡ length (plain_sections p.object) → IsGoingAt p a b at k →
+pub table_sent : (p : PlacedValue) (a b c : Option (List ℕ)) (at end k : ℕ) → IsPlacedObject p → k ≡ length (plain_sections p.object) → IsGoingAt p a b at k →
     WritesBehind at b c (replicate (get_or p.layout.places (length (plain_sections p.object)) 0 - at) 0 ++ header_table p.object p.layout.places) (Ok end) →
     Appends a c (layout_bytes p.object p.layout.places)
 table_sent p a b c at end k placed last going went =
@@ -256,7 +256,7 @@ table_sent p a b c at end k placed last going went =
     let behind = part_sent a b c _ at end q ps k (omega arith) (omega arith) going (table_goes p k at last b c (Ok end) went) in
     all_sent a c _ end (drop (k + 1) q) (subst (λ (rs : List (List ℕ)). IsGoing a c (layout_bytes p.object q) end (drop (k + 1) q) rs) (drop_of_length-le ps {i = k + 1} (omega arith)) behind)
 
-pub table_cut : (p : PlacedValue) (a b c : Option (List ℕ)) (at k : ℕ) (fault : WriteFault) → IsPlaced p → k ≡ length (plain_sections p.object) → IsGoingAt p a b at k →
+pub table_cut : (p : PlacedValue) (a b c : Option (List ℕ)) (at k : ℕ) (fault : WriteFault) → IsPlacedObject p → k ≡ length (plain_sections p.object) → IsGoingAt p a b at k →
     WritesBehind at b c (replicate (get_or p.layout.places (length (plain_sections p.object)) 0 - at) 0 ++ header_table p.object p.layout.places) (Err fault) →
     (fault.written < length (layout_bytes p.object p.layout.places)) × Appends a c (take fault.written (layout_bytes p.object p.layout.places))
 table_cut p a b c at k fault placed last going failed =
@@ -266,16 +266,16 @@ table_cut p a b c at k fault placed last going failed =
 
 -- ---- how far the parts reach
 
-pub length-header_table : (p : PlacedValue) → IsPlaced p → length (header_table p.object p.layout.places) ≡ 64 * (length (plain_sections p.object) + 1)
+pub length-header_table : (p : PlacedValue) → IsPlacedObject p → length (header_table p.object p.layout.places) ≡ 64 * (length (plain_sections p.object) + 1)
 unfolding header_table
 length-header_table p placed =
     let o = p.object in
-    let headers = section_headers (name_place (section_names o)) (plain_sections o) p.layout.places in
+    let headers = section_headers (name_offset (section_names o)) (plain_sections o) p.layout.places in
     let all = length-table shdr_laws o.order (all_headers headers (name_table_at o)) in
-    let same = length-headers (name_place (section_names o)) (plain_sections o) p.layout.places placed.layout.count in
+    let same = length-headers (name_offset (section_names o)) (plain_sections o) p.layout.places placed.layout.count in
     omega arith
 
-pub part_end : (p : PlacedValue) (k : ℕ) (s : PlacedSection) → IsPlaced p → k < length (plain_sections p.object) → IsSectionAt p.object k s →
+pub part_end : (p : PlacedValue) (k : ℕ) (s : PlacedSection) → IsPlacedObject p → k < length (plain_sections p.object) → IsSectionAt p.object k s →
     get_or p.layout.places k 0 + length (plain_section p.object s).content ≤ 2 ^ 30
 part_end p k s placed lt at =
     let end = content_end p.object p.layout k (plain_section p.object s) placed.layout lt in

@@ -4,7 +4,7 @@ use Rattle.std.specs.Prelude.{filter}
 use Rattle.std.proofs.lemmas.Bool.{ne_eqb}
 use Rattle.elf_field.specs.Abi.{SHT_NOBITS}
 use Rattle.elf_field.specs.declared.shdr.Shdr.{Shdr}
-use Rattle.elf_image_rules.specs.Tables.{no_section}
+use Rattle.elf_image_rules.specs.Tables.{no_section_header}
 use Rattle.elf_object_writer.specs.declared.placed_section.PlacedSection.{PlacedSection}
 use Rattle.elf_object_writer.specs.declared.placed_section.PlacedSection.TheVariants.{Own, SymbolTable}
 use Rattle.elf_object_writer.specs.Laid.{section_header, section_size}
@@ -14,9 +14,9 @@ use Rattle.elf_object_writer.specs.PlainSections.{body_type, index_of, is_local,
 use Rattle.elf_object_type.specs.SectionRules.{IsWrongBitsType}
 use Rattle.elf_object_writer.proofs.PartSizes.{bits_in_file}
 
--- a header with a name, a place and a size, and nothing else
+-- a header with a name, an offset and a size, and nothing else
 abbrev pub begun : ℕ → ℕ → ℕ → Shdr
-begun name offset size = record no_section { sh_name = name; sh_offset = offset; sh_size = size }
+begun name offset size = record no_section_header { sh_name = name; sh_offset = offset; sh_size = size }
 
 -- that of a section of its own with some fields apart
 abbrev of_section : SectionValue → ℕ → ℕ → ℕ → ℕ → ℕ → ℕ → Shdr

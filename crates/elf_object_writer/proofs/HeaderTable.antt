@@ -3,7 +3,7 @@ use Rattle.std.proofs.Common.{◌≡◌, ◌<◌, ◌+◌, ◌-◌, ℕ, zero, s
 use Rattle.std.specs.Prelude.{codes, cond, filter}
 use Rattle.std.proofs.lemmas.List.{get_or-map, map-append}
 use Rattle.elf_field.specs.declared.shdr.Shdr.{Shdr}
-use Rattle.elf_object_strings.specs.StringTable.{name_place}
+use Rattle.elf_object_strings.specs.StringTable.{name_offset}
 use Rattle.elf_object_writer.specs.declared.placed_section.PlacedSection.{PlacedSection}
 use Rattle.elf_object_writer.specs.declared.placed_section.PlacedSection.TheVariants.{Names}
 use Rattle.elf_object_type.specs.declared.symbol.Symbol.{Symbol}
@@ -44,11 +44,11 @@ behind_first x xs (suc i) d some = (let e : i ≡ suc i - 1 = omega arith in ap 
 
 -- the header of the section that stands at a position
 pub header_read : (o : ObjectValue) (layout : LayoutValue) (k name place : ℕ) (s : PlacedSection) (h : Shdr) (d : PlainSection) → k < length (plain_sections o) → IsSectionAt o k s →
-    name ≡ name_place (section_names o) (get_or (section_names o) k []) → place ≡ get_or layout.places k 0 →
+    name ≡ name_offset (section_names o) (get_or (section_names o) k []) → place ≡ get_or layout.places k 0 →
     ((name_at : List ℕ → ℕ) → name ≡ name_at (plain_section o s).name → h ≡ section_header name_at (plain_section o s) place) →
-    h ≡ section_header (name_place (section_names o)) (get_or (plain_sections o) k d) (get_or layout.places k 0)
+    h ≡ section_header (name_offset (section_names o)) (get_or (plain_sections o) k d) (get_or layout.places k 0)
 header_read o layout k name place s h d lt at named placed is =
-    let f = name_place (section_names o) in
+    let f = name_offset (section_names o) in
     let section : plain_section o s ≡ get_or (plain_sections o) k d = at.is ∙ any_default (plain_sections o) k (plain_section o s) d lt in
     is f (named ∙ ap f (name_at_position o k d lt ∙ ap (λ (p : PlainSection). p.name) (sym section)))
     ∙ ap₂ (λ (p : PlainSection) (x : ℕ). section_header f p x) section placed

@@ -6,7 +6,7 @@ use Rattle.elf_object_type.proofs.Public.{no_wrong_place}
 use Rattle.elf_object_type.specs.declared.symbol.Symbol.{Symbol}
 use Rattle.elf_object_type.specs.Object.{ObjectValue, SymbolValue, no_symbol, symbol_at}
 use Rattle.elf_object_type.specs.ObjectView.{symbol_value}
-use Rattle.elf_object_writer.specs.PlacedObject.{IsPlaced, PlacedValue}
+use Rattle.elf_object_writer.specs.PlacedObject.{IsPlacedObject, PlacedValue}
 use Rattle.elf_object_writer.specs.PlainSections.{index_of}
 use Rattle.elf_object_type.specs.Positions.{IsPast}
 use Rattle.elf_object_type.specs.SymbolRules.{place_position}
@@ -29,7 +29,7 @@ symbol_read o symbols i d values lt =
     let same = ap length values in
     sym (get_or-map symbol_value symbols i d no_symbol (omega arith)) ∙ ap (λ (ss : List SymbolValue). get_or ss i no_symbol) values
 
-pub near_place : (p : PlacedValue) (symbols : List Symbol) (i : ℕ) (d : Symbol) → IsPlaced p → map symbol_value symbols ≡ p.object.symbols → i < length p.object.symbols →
+pub near_place : (p : PlacedValue) (symbols : List Symbol) (i : ℕ) (d : Symbol) → IsPlacedObject p → map symbol_value symbols ≡ p.object.symbols → i < length p.object.symbols →
     index_of (place_position (get_or symbols i d).place) < 2 ^ 32
 near_place p symbols i d placed values lt =
     let o = p.object in
@@ -38,7 +38,7 @@ near_place p symbols i d placed values lt =
     subst (λ (s : SymbolValue). index_of (place_position s.place) < 2 ^ 32) (sym (symbol_read o symbols i d values lt))
     (near_index (place_position (symbol_at o i).place) (length o.sections) (omega arith) (no_wrong_place o placed.rules i lt))
 
-pub counted_symbols : (p : PlacedValue) (symbols : List Symbol) → IsPlaced p → map symbol_value symbols ≡ p.object.symbols → 24 * (length symbols + 1) ≤ 2 ^ 30
+pub counted_symbols : (p : PlacedValue) (symbols : List Symbol) → IsPlacedObject p → map symbol_value symbols ≡ p.object.symbols → 24 * (length symbols + 1) ≤ 2 ^ 30
 counted_symbols p symbols placed values =
     let few = few_symbols p.object p.layout placed.layout in
     let many = length-map symbols symbol_value in

@@ -1,4 +1,4 @@
--- Names and places of an object's sections and symbols, as the code has them and as the object's value does.
+-- Names and their offsets of an object's sections and symbols, as the code has them and as the object's value does.
 use Rattle.std.proofs.Common.{◌≡◌, ℕ, Bool, true, false, List, [], ◌∷◌, ◌++◌, map, refl, sym, ap, ap₂, ◌∙◌, append_assoc}
 use Rattle.std.specs.Prelude.{◌||◌, if◌then◌else◌, codes}
 use Rattle.std.specs.List.{list_any}

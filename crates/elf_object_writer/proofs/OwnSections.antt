@@ -7,7 +7,7 @@ use Rattle.elf_object_type.specs.declared.relocation.Relocation.{Relocation}
 use Rattle.elf_object_type.specs.declared.section.Section.{Section}
 use Rattle.elf_object_type.specs.Object.{BodyValue, bits, no_bits, relocs, group, ObjectValue, SectionValue, no_section, section_at}
 use Rattle.elf_object_type.specs.ObjectView.{section_value}
-use Rattle.elf_object_writer.specs.PlacedObject.{HasShortIndexes, HasShortNumbers, IsPlaced, PlacedValue}
+use Rattle.elf_object_writer.specs.PlacedObject.{HasShortIndexes, HasShortNumbers, IsPlacedObject, PlacedValue}
 use Rattle.elf_object_writer.specs.PlainSections.{index_of}
 use Rattle.elf_object_type.specs.Positions.{IsPast, info_position}
 use Rattle.elf_object_type.specs.SectionRules.{HasWrongReference}
@@ -45,7 +45,7 @@ short_indexes o (group comdat signature members) few_s few_m right = (
   each_here (λ (m : ℕ). length o.sections ≤ m) (λ m. m + 1 < 2 ^ 32) members (λ m here. below_count m (length o.sections) few_s here) (λ past. right (inr past)),
 )
 
-pub short_numbers : (p : PlacedValue) (i : ℕ) → IsPlaced p → i < length p.object.sections → HasShortNumbers p.object (section_at p.object i)
+pub short_numbers : (p : PlacedValue) (i : ℕ) → IsPlacedObject p → i < length p.object.sections → HasShortNumbers p.object (section_at p.object i)
 short_numbers p i placed lt =
     let o = p.object in
     let s = section_at o i in

@@ -11,7 +11,7 @@ use Rattle.elf_field.specs.Word.{word_bytes}
 use Rattle.elf_field.specs.RelLaws.{rel_laws}
 use Rattle.elf_field.specs.RelaLaws.{rela_laws}
 use Rattle.elf_field.specs.WordLaws.{word_laws}
-use Rattle.elf_field.specs.RecordTableLaws.{length-table}
+use Rattle.elf_field.proofs.RecordTableLaws.{length-table}
 use Rattle.elf_object_type.specs.declared.relocation.Relocation.{Relocation}
 use Rattle.elf_object_type.specs.declared.section.Section.{Section}
 use Rattle.elf_object_writer.specs.Laid.{content_part}

@@ -5,10 +5,10 @@ use Rattle.std.proofs.lemmas.List.{get_or-map, length-map}
 use Rattle.elf_field.specs.Abi.{EHDR_SIZE, SHDR_SIZE}
 use Rattle.elf_field.specs.SymLaws.{sym_laws}
 use Rattle.elf_field.specs.WordLaws.{word_laws}
-use Rattle.elf_field.specs.RecordTableLaws.{length-table}
+use Rattle.elf_field.proofs.RecordTableLaws.{length-table}
 use Rattle.elf_extent.specs.Place.{end_of}
 use Rattle.elf_image_rules.specs.HeaderRules.{MAX_LEN}
-use Rattle.elf_object_strings.specs.StringTable.{name_place, string_table}
+use Rattle.elf_object_strings.specs.StringTable.{name_offset, string_table}
 use Rattle.elf_object_strings.proofs.Public.{holds_names}
 use Rattle.elf_object_writer.specs.declared.placed_section.PlacedSection.{PlacedSection}
 use Rattle.elf_object_writer.specs.declared.placed_section.PlacedSection.TheVariants.{SymbolTable, Strings, Names}
@@ -108,11 +108,11 @@ short_names o layout laid =
     let k = length (plain_sections o) - 1 in
     short_content o layout k Names laid (omega arith) (names_found o k (omega arith))
 
-name_below : (names : List (List ℕ)) (i : ℕ) → i < length names → length (string_table names) ≤ 2 ^ 30 → name_place names (get_or names i []) < 2 ^ 32
+name_below : (names : List (List ℕ)) (i : ℕ) → i < length names → length (string_table names) ≤ 2 ^ 30 → name_offset names (get_or names i []) < 2 ^ 32
 name_below names i lt short = let within = (holds_names names).within i lt in omega arith
 
 pub symbol_name_below : (o : ObjectValue) (layout : LayoutValue) (i : ℕ) → IsLayoutOf o layout → i < length o.symbols →
-    name_place (symbol_names o) (get_or (symbol_names o) i []) < 2 ^ 32
+    name_offset (symbol_names o) (get_or (symbol_names o) i []) < 2 ^ 32
 symbol_name_below o layout i laid lt =
     let many = length-map o.symbols (λ s. s.name) in
     name_below (symbol_names o) i (omega arith) (short_strings o layout laid)
@@ -127,18 +127,18 @@ length-section_names o =
     omega arith
 
 pub section_name_below : (o : ObjectValue) (layout : LayoutValue) (i : ℕ) → IsLayoutOf o layout → i < length (plain_sections o) →
-    name_place (section_names o) (get_or (section_names o) i []) < 2 ^ 32
+    name_offset (section_names o) (get_or (section_names o) i []) < 2 ^ 32
 section_name_below o layout i laid lt =
     let many = length-section_names o in
     name_below (section_names o) i (omega arith) (short_names o layout laid)
 
--- the place of a name, as code reads it
-pub place_read : (names : List (List ℕ)) (places : List ℕ) (i x : ℕ) → places ≡ map (name_place names) names → i < length names → x ≡ get_or places i x →
-    x ≡ name_place names (get_or names i [])
-place_read names places i x are lt is = is ∙ ap (λ (q : List ℕ). get_or q i x) are ∙ get_or-map (name_place names) names i [] x lt
+-- the offset of a name, as code reads it
+pub place_read : (names : List (List ℕ)) (places : List ℕ) (i x : ℕ) → places ≡ map (name_offset names) names → i < length names → x ≡ get_or places i x →
+    x ≡ name_offset names (get_or names i [])
+place_read names places i x are lt is = is ∙ ap (λ (q : List ℕ). get_or q i x) are ∙ get_or-map (name_offset names) names i [] x lt
 
-pub length-places : (names : List (List ℕ)) (places : List ℕ) → places ≡ map (name_place names) names → length places ≡ length names
-length-places names places are = ap length are ∙ length-map names (name_place names)
+pub length-places : (names : List (List ℕ)) (places : List ℕ) → places ≡ map (name_offset names) names → length places ≡ length names
+length-places names places are = ap length are ∙ length-map names (name_offset names)
 
 -- ---- the indexes of the last sections
 

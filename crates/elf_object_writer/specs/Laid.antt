@@ -8,7 +8,7 @@ use Rattle.elf_field.specs.declared.order.Order.TheVariants.{Little, Big}
 use Rattle.elf_field.specs.declared.shdr.Shdr.{Shdr}
 use Rattle.elf_extent.specs.Place.{Least}
 use Rattle.elf_image_type.specs.RelocatableFile.{relocatable_bytes, short_count, short_index}
-use Rattle.elf_object_strings.specs.StringTable.{name_place}
+use Rattle.elf_object_strings.specs.StringTable.{name_offset}
 use Rattle.elf_object_type.specs.Object.{ObjectValue}
 use Rattle.elf_object_writer.specs.PlainSections.{RECORD_ALIGNMENT, PlainSection, name_table_at, plain_sections, section_names}
 
@@ -54,7 +54,7 @@ encoding Big = ELFDATA2MSB
 abbrev pub identification : ObjectValue → List ℕ
 identification o = MAGIC ++ (ELFCLASS64 ∷ encoding o.order ∷ EV_CURRENT ∷ o.osabi ∷ o.abi ∷ replicate (EI_NIDENT - EI_PAD) 0)
 
--- the header of a file of so many section headers, whose section header table is at this place
+-- the header of a file of so many section headers, whose section header table is at this offset
 abbrev pub file_header : ObjectValue → ℕ → ℕ → Ehdr
 file_header o count table = record {
   e_ident = identification o;
@@ -81,7 +81,7 @@ layout_bytes o places =
     let sections = plain_sections o in
     let count = length sections + 1 in
     relocatable_bytes (file_header o count (slice_index places (length sections)))
-    (section_headers (name_place (section_names o)) sections places) (map (λ s. s.content) sections) (name_table_at o)
+    (section_headers (name_offset (section_names o)) sections places) (map (λ s. s.content) sections) (name_table_at o)
 
 -- b is the object in canonical layout: its parts are as low as they can be
 pub record Laid (o : ObjectValue) (b : List ℕ) : Type 0 where

@@ -7,7 +7,7 @@ use Rattle.elf_image_type.specs.declared.fault.WriteFault.{WriteFault}
 use Rattle.elf_image_type.specs.Output.{Writes}
 use Rattle.elf_image_type.specs.RelocatableFile.{all_headers}
 use Rattle.elf_image_rules.specs.HeaderRules.{MAX_LEN}
-use Rattle.elf_object_strings.specs.StringTable.{name_place}
+use Rattle.elf_object_strings.specs.StringTable.{name_offset}
 use Rattle.elf_object_writer.specs.declared.layout.LayoutFault.TheVariants as layout
 use Rattle.elf_object_writer.specs.declared.object_writing.ObjectWriteFault.{ObjectWriteFault}
 use Rattle.elf_object_writer.specs.declared.object_writing.ObjectWriteFault.TheVariants.{TooLong, OutOfMemory, Io}
@@ -40,4 +40,4 @@ WritesBehind out before after bytes result = MatchResult result
 -- the bytes of the section header table
 unfoldable pub header_table : ObjectValue → List ℕ → List ℕ
 header_table o places =
-    flat_map (shdr_bytes o.order) (all_headers (section_headers (name_place (section_names o)) (plain_sections o) places) (name_table_at o))
+    flat_map (shdr_bytes o.order) (all_headers (section_headers (name_offset (section_names o)) (plain_sections o) places) (name_table_at o))

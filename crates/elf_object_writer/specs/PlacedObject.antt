@@ -17,12 +17,12 @@ pub record PlacedValue : Type 0 where
   pub layout : LayoutValue
 
 -- the layout is the object's
-pub record IsPlaced (p : PlacedValue) : Type 0 where
+pub record IsPlacedObject (p : PlacedValue) : Type 0 where
   pub rules : IsObject p.object
   pub layout : IsLayoutOf p.object p.layout
 
 pub record IsPlacedWith (t : NameTables) (p : PlacedValue) : Type 0 where
-  pub placed : IsPlaced p
+  pub placed : IsPlacedObject p
   pub tables : AreNameTables p.object t
 
 -- ---- the sections of the layout, each by what it is

@@ -13,7 +13,7 @@ use Rattle.elf_field.specs.Rela.{rela_bytes}
 use Rattle.elf_field.specs.Sym.{sym_bytes}
 use Rattle.elf_field.specs.Word.{word_bytes}
 use Rattle.elf_image_type.specs.RelocatableFile.{long_number, short_index}
-use Rattle.elf_object_strings.specs.StringTable.{name_place, string_table}
+use Rattle.elf_object_strings.specs.StringTable.{name_offset, string_table}
 use Rattle.elf_object_type.specs.declared.relocation.Relocation.{Relocation}
 use Rattle.elf_object_type.specs.declared.section.Info.{Info}
 use Rattle.elf_object_type.specs.declared.section.Info.TheVariants as info
@@ -83,7 +83,7 @@ index_word (In position) = long_number (position + 1)
 
 abbrev pub symbol_entry : ObjectValue → SymbolValue → Sym
 symbol_entry o s = record {
-  st_name = name_place (symbol_names o) s.name;
+  st_name = name_offset (symbol_names o) s.name;
   st_info = s.info;
   st_other = s.other;
   st_shndx = shndx s.place;

@@ -1,9 +1,9 @@
 //! An object with all that its canonical layout takes memory for (gABI chapter 4, ELF Header, Sections, String Table).
 ghost use Rattle.std.specs.Prelude.{◌≡◌, ◌<◌, ℕ, ◌+◌, ◌^◌, [], get_or, length, slice_index, IfErr, IfOk};
 ghost use Rattle.elf_object_writer.specs.LayoutView.{IsLayoutFault};
-ghost use Rattle.elf_object_writer.specs.PlacedObject.{IsPlaced, IsSectionAt};
+ghost use Rattle.elf_object_writer.specs.PlacedObject.{IsPlacedObject, IsSectionAt};
 ghost use Rattle.elf_object_writer.specs.PlainSections.{name_table_at, plain_sections, section_names, strings_at, symbol_names, symbol_table_at};
-ghost use Rattle.elf_object_strings.specs.StringTable.{name_place, string_table};
+ghost use Rattle.elf_object_strings.specs.StringTable.{name_offset, string_table};
 
 use crate::layout::{Layout, LayoutFault, lay_out_with};
 use crate::name_tables::NameTables;
@@ -53,7 +53,7 @@ impl<'o, 'a> PlacedObject<'o, 'a> {
 
     /// Promises that the layout is the object's. It does nothing.
     pub(crate) fn is_placed(&self)
-        ensures { IsPlaced self.now }
+        ensures { IsPlacedObject self.now }
     {
         let _ = &self.layout;
     }
@@ -81,7 +81,7 @@ impl<'o, 'a> PlacedObject<'o, 'a> {
     /// `st_name` of the symbol of this position.
     pub(crate) fn symbol_name(&self, position: usize) -> u32
         requires { position < length self.now.object.symbols }
-        ensures { let names = symbol_names self.now.object in result ≡ name_place names (get_or names position []) }
+        ensures { let names = symbol_names self.now.object in result ≡ name_offset names (get_or names position []) }
     {
         self.tables.strings.places[position] as u32
     }
@@ -89,7 +89,7 @@ impl<'o, 'a> PlacedObject<'o, 'a> {
     /// `sh_name` of the section of this position in the layout.
     pub(crate) fn section_name(&self, position: usize) -> u32
         requires { position < length (plain_sections self.now.object) }
-        ensures { let names = section_names self.now.object in result ≡ name_place names (get_or names position []) }
+        ensures { let names = section_names self.now.object in result ≡ name_offset names (get_or names position []) }
     {
         self.tables.names.places[position] as u32
     }

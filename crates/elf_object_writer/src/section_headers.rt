@@ -1,14 +1,14 @@
 //! The section header table of an object's canonical layout, entry by entry (gABI chapter 4, Sections).
 ghost use Rattle.std.specs.Prelude.{◌≡◌, ◌<◌, ◌≤◌, ℕ, ◌+◌, ◌^◌, List, filter, get_or, length, slice_index};
 ghost use Rattle.elf_image_type.specs.RelocatableFile.{all_headers, first_header};
-ghost use Rattle.elf_object_strings.specs.StringTable.{name_place};
+ghost use Rattle.elf_object_strings.specs.StringTable.{name_offset};
 ghost use Rattle.elf_object_writer.specs.Laid.{section_header, section_headers};
 ghost use Rattle.elf_object_type.specs.Object.{section_at};
 ghost use Rattle.elf_object_type.specs.ObjectView.{body_value, symbol_value};
 ghost use Rattle.elf_object_writer.specs.PlacedObject.{IsThere, plain_section};
 ghost use Rattle.elf_object_writer.specs.PlainSections.{PlainSection, body_type, index_of, is_local, name_table_at, own_info, own_section, plain_sections, section_names};
 ghost use Rattle.elf_object_type.specs.Positions.{info_position};
-ghost use Rattle.elf_image_rules.specs.Tables.{no_section};
+ghost use Rattle.elf_image_rules.specs.Tables.{no_section_header};
 
 use crate::contents::{content_size, object_section};
 use crate::indexes::{index_of, long_number};
@@ -45,7 +45,7 @@ impl<'p, 'o, 'a> Entries for SectionHeaders<'p, 'o, 'a> {
     type Entry = Shdr;
 
     ghost entries = { λ s. let o = s.placed.now.object in
-        all_headers (section_headers (name_place (section_names o)) (plain_sections o) s.placed.now.layout.places) (name_table_at o) };
+        all_headers (section_headers (name_offset (section_names o)) (plain_sections o) s.placed.now.layout.places) (name_table_at o) };
 
     ghost fit = { λ _. Unit {0} };
 
@@ -78,7 +78,7 @@ fn first_header(placed: &PlacedObject<'_, '_>) -> Shdr
 /// The header of the section of this position in the layout.
 fn header_at(placed: &PlacedObject<'_, '_>, position: usize) -> Shdr
     requires { position < length (plain_sections placed.now.object) }
-    ensures { let o = placed.now.object in (d : PlainSection) → result ≡ section_header (name_place (section_names o))
+    ensures { let o = placed.now.object in (d : PlainSection) → result ≡ section_header (name_offset (section_names o))
         (get_or (plain_sections o) position d) (slice_index placed.now.layout.places position) }
 {
     let section = placed.section(position);
@@ -147,11 +147,11 @@ fn local_count(symbols: &[Symbol<'_>]) -> usize
         .count()
 }
 
-/// The header of one of the object's own sections; `header` has its name, its place and the size of its content.
+/// The header of one of the object's own sections; `header` has its name, its offset and the size of its content.
 fn own_header(placed: &PlacedObject<'_, '_>, position: usize, header: Shdr) -> Shdr
     requires { position < length placed.now.object.sections }
     ensures { let o = placed.now.object in let s = own_section o (section_at o position) in
-        (name_at : List ℕ → ℕ) → header ≡ record no_section { sh_name = name_at s.name; sh_offset = header.sh_offset; sh_size = length s.content } →
+        (name_at : List ℕ → ℕ) → header ≡ record no_section_header { sh_name = name_at s.name; sh_offset = header.sh_offset; sh_size = length s.content } →
         result ≡ section_header name_at s header.sh_offset }
 {
     let section = object_section(placed, position);

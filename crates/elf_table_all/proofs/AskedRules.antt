@@ -1,13 +1,13 @@
 -- Which rules a section's type asks for.
 use Rattle.std.proofs.Common.{◌≡◌, ℕ, Option, subst}
 use Rattle.elf_image_rules.specs.Rows.{FirstIn}
-use Rattle.elf_table_symbols.specs.declared.table_kind.TableKind.{TableKind}
-use Rattle.elf_table_symbols.specs.Sections.{Sections, section}
-use Rattle.elf_table_symbols.specs.TableKind.{kind_of}
-use Rattle.elf_table_all.specs.TableRules.{rules_of, table_rules}
+use Rattle.elf_table_base.specs.declared.table_kind.TableKind.{TableKind}
+use Rattle.elf_table_base.specs.Sections.{Sections, section}
+use Rattle.elf_table_base.specs.TableKind.{kind_of}
+use Rattle.elf_table_all.specs.TableRules.{rules_of_kind, table_rules}
 
 -- a section of this kind has the rules of the kind
 pub kind_asked : (f : Sections) (i : ℕ) (kind : Option TableKind) (found : Option (ℕ × ℕ)) → kind_of (section f i).sh_type ≡ kind → FirstIn (table_rules f i) found →
-    FirstIn (rules_of kind f i) found
+    FirstIn (rules_of_kind kind f i) found
 unfolding table_rules
-kind_asked f i kind found is run = subst (λ (k : Option TableKind). FirstIn (rules_of k f i) found) is run
+kind_asked f i kind found is run = subst (λ (k : Option TableKind). FirstIn (rules_of_kind k f i) found) is run

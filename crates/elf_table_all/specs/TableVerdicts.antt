@@ -4,7 +4,7 @@ use Rattle.elf_image_rules.specs.Rows.{FirstIn}
 use Rattle.elf_image_type.specs.Image.{ImageValue}
 use Rattle.elf_table_symbols.specs.declared.index_tables.IndexTables.{IndexTables}
 use Rattle.elf_table_symbols.specs.IndexTable.{AreIndexTables}
-use Rattle.elf_table_symbols.specs.Sections.{Sections, count}
+use Rattle.elf_table_base.specs.Sections.{Sections, count}
 use Rattle.elf_table_all.specs.TableRules.{table_rules}
 
 abbrev pub no_index_tables : IndexTables

@@ -1,5 +1,5 @@
 -- A judgement that may take memory, as a verdict.
-use Rattle.std.specs.Prelude.{◌≡◌, None, Some, Result, Ok, Err}
+use Rattle.std.specs.Prelude.{◌≡◌, ℕ, None, Some, Result, Ok, Err}
 use Rattle.elf_image_type.specs.declared.fault.Fault.{Fault}
 use Rattle.elf_image_type.specs.declared.fault.Fault.TheVariants.{OutOfMemory, Io, Rule}
 use Rattle.elf_image_rules.specs.Broken.{fault_of}
@@ -13,7 +13,7 @@ IsUnread (Err OutOfMemory) = Unit {0}
 IsUnread (Err (Io at)) = ⊥
 
 -- the verdict is the rule that it tells, or that it tells none
-abbrev pub IsVerdictOf : {S T : Type 0} → Result S Fault → Result T Broken → Type 0
+abbrev pub IsVerdictOf : {S T : Type 0} → Result S Fault → Result T (Broken ℕ) → Type 0
 IsVerdictOf (Ok _) verdict = fault_of verdict ≡ None
 IsVerdictOf (Err (Rule rule at)) verdict = fault_of verdict ≡ Some (rule, at)
 IsVerdictOf (Err OutOfMemory) verdict = ⊥

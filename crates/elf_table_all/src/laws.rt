@@ -11,11 +11,11 @@ ghost use Rattle.elf_field.specs.Word.{word_at};
 ghost use Rattle.elf_image_type.specs.Image.{ImageValue, IsImage};
 ghost use Rattle.elf_image_rules.specs.Rows.{FirstIn};
 ghost use Rattle.elf_image_rules.specs.Tables.{bytes_in};
-ghost use Rattle.elf_table_symbols.specs.Sections.{Sections, sections_in, sections_of};
+ghost use Rattle.elf_table_base.specs.Sections.{Sections, sections_in, sections_of};
 ghost use Rattle.elf_table_symbols.specs.StringRules.{string_table_rules};
 ghost use Rattle.elf_table_symbols.specs.SymbolRules.{entry, symbol_table_rules, word};
 ghost use Rattle.elf_table_lists.specs.DynamicArray.{dynamic_entry};
-ghost use Rattle.elf_table_lists.specs.Notes.{note_at, note_end, note_place, notes_in};
+ghost use Rattle.elf_table_lists.specs.Notes.{note_at, note_end, note_offset, notes_in};
 ghost use Rattle.elf_table_all.specs.TableRules.{table_rules};
 
 /// The rules of a table look at the header, the section headers and the contents of an image; these are the ones that the
@@ -32,16 +32,16 @@ pub fn one_table_fault()
 {}
 
 /// Entry j of a content is the record at the content's offset in the file and j times its size: of symbols, of the words of index
-/// tables, groups and hash tables, of relocations, and of dynamic arrays. Entry k of a note section is the note at the place
-/// that the rules of notes walk to, if that is in the content, and that note is the one at the content's offset in the file and
-/// that place.
+/// tables, groups and hash tables, of relocations, and of dynamic arrays. Entry k of a note section is the note at the offset
+/// in the content that the rules of notes walk to, if that is in it, and that note is the one at the content's offset in the file
+/// and that one.
 pub fn entries_in_file()
     ensures symbols { (o : Order) (b : List ℕ) (e : Extent) (j : ℕ) → SYM_SIZE * j + SYM_SIZE ≤ e.len → entry o (bytes_in b e) j ≡ sym_at o b (e.start + SYM_SIZE * j) }
     ensures words { (o : Order) (b : List ℕ) (e : Extent) (j : ℕ) → WORD_SIZE * j + WORD_SIZE ≤ e.len → word o (bytes_in b e) j ≡ word_at o b (e.start + WORD_SIZE * j) }
     ensures rela { (o : Order) (b : List ℕ) (e : Extent) (j : ℕ) → RELA_SIZE * j + RELA_SIZE ≤ e.len → rela_at o (bytes_in b e) (RELA_SIZE * j) ≡ rela_at o b (e.start + RELA_SIZE * j) }
     ensures rel { (o : Order) (b : List ℕ) (e : Extent) (j : ℕ) → REL_SIZE * j + REL_SIZE ≤ e.len → rel_at o (bytes_in b e) (REL_SIZE * j) ≡ rel_at o b (e.start + REL_SIZE * j) }
     ensures dynamic { (o : Order) (b : List ℕ) (e : Extent) (j : ℕ) → DYN_SIZE * j + DYN_SIZE ≤ e.len → dynamic_entry o (bytes_in b e) j ≡ dyn_at o b (e.start + DYN_SIZE * j) }
-    ensures notes { (o : Order) (table : List ℕ) (k : ℕ) → note_place o table 0 k < length table → slice_get (notes_in o table 0) k ≡ Some (note_at o table (note_place o table 0 k)) }
-    ensures no_note { (o : Order) (table : List ℕ) (k : ℕ) → length table ≤ note_place o table 0 k → slice_get (notes_in o table 0) k ≡ None }
+    ensures notes { (o : Order) (table : List ℕ) (k : ℕ) → note_offset o table 0 k < length table → slice_get (notes_in o table 0) k ≡ Some (note_at o table (note_offset o table 0 k)) }
+    ensures no_note { (o : Order) (table : List ℕ) (k : ℕ) → length table ≤ note_offset o table 0 k → slice_get (notes_in o table 0) k ≡ None }
     ensures note { (o : Order) (b : List ℕ) (e : Extent) (x : ℕ) → note_end o (bytes_in b e) x ≤ e.len → note_at o (bytes_in b e) x ≡ note_at o b (e.start + x) }
 {}

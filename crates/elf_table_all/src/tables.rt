@@ -2,10 +2,10 @@
 ghost use Rattle.std.specs.Prelude.{◌≡◌, ◌<◌, None, Some, IfOk, get_or, length};
 ghost use Rattle.elf_image_rules.specs.Broken.{fault_of};
 ghost use Rattle.elf_image_rules.specs.Rows.{FirstIn};
-ghost use Rattle.elf_table_symbols.specs.Sections.{section, sections_of};
+ghost use Rattle.elf_table_base.specs.Sections.{section, sections_of};
 ghost use Rattle.elf_table_symbols.specs.Symbols.{symbols_of};
-ghost use Rattle.elf_table_symbols.specs.TableKind.{kind_of};
-ghost use Rattle.elf_table_symbols.specs.declared.table_kind.TableKind.TheVariants as kind;
+ghost use Rattle.elf_table_base.specs.TableKind.{kind_of};
+ghost use Rattle.elf_table_base.specs.declared.table_kind.TableKind.TheVariants as kind;
 ghost use Rattle.elf_table_hash.specs.HashView.{hash_of_section};
 ghost use Rattle.elf_table_lists.specs.DynamicArray.{dynamic_array_of};
 ghost use Rattle.elf_table_lists.specs.Groups.{group_of};
@@ -34,7 +34,7 @@ pub struct Tables<'i, 'a> {
     image: &'i Image<'a>,
     // For each section.
     index_tables: Vec<IndexTables>,
-    verdicts: Vec<Result<(), Broken>>,
+    verdicts: Vec<Result<(), Broken<u64>>>,
 }
 
 impl<'i, 'a> Model for Tables<'i, 'a> {
@@ -65,7 +65,7 @@ impl<'i, 'a> Tables<'i, 'a> {
 
     /// The verdict on the table that section `i` holds, where `i` is below the image's count of section headers: the first of its
     /// rules that is broken, at its lowest offset. `Ok` where none is, and where the section holds no table.
-    pub fn verdict(&self, i: usize) -> Result<(), Broken>
+    pub fn verdict(&self, i: usize) -> Result<(), Broken<u64>>
         requires { i < length self.now.image.sections }
         ensures kept { fault_of result ≡ get_or self.now.verdicts i None }
         ensures fault { FirstIn (table_rules (sections_of self.now.image) i) (fault_of result) }

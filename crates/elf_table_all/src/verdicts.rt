@@ -3,10 +3,10 @@ ghost use Rattle.std.specs.Prelude.{◌≡◌, ◌<◌, Some, IfOk, length, map}
 ghost use Rattle.elf_image_rules.specs.Broken.{fault_of};
 ghost use Rattle.elf_image_rules.specs.Rows.{FirstIn};
 ghost use Rattle.elf_table_symbols.specs.IndexTable.{AreIndexTables};
-ghost use Rattle.elf_table_symbols.specs.Sections.{section, sections_of};
+ghost use Rattle.elf_table_base.specs.Sections.{section, sections_of};
 ghost use Rattle.elf_table_symbols.specs.SymbolRules.{symbol_table_rules};
-ghost use Rattle.elf_table_symbols.specs.TableKind.{kind_of};
-ghost use Rattle.elf_table_symbols.specs.declared.table_kind.TableKind.TheVariants as kind;
+ghost use Rattle.elf_table_base.specs.TableKind.{kind_of};
+ghost use Rattle.elf_table_base.specs.declared.table_kind.TableKind.TheVariants as kind;
 ghost use Rattle.elf_table_all.specs.TableRules.{table_rules};
 ghost use Rattle.elf_table_symbols.specs.LinkedVerdicts.{AreSymbolVerdicts};
 ghost use Rattle.elf_table_all.specs.TableVerdicts.{AreAllIndexTables, AreVerdicts};
@@ -14,11 +14,12 @@ ghost use Rattle.elf_table_all.specs.Verdict.{IsUnread, IsVerdictOf};
 
 use elf_image_rules::Broken;
 use elf_image_type::{Fault, Image};
+use elf_table_base::TableKind;
 use elf_table_hash::judge_hash_table;
 use elf_table_lists::{
     judge_dynamic_section, judge_group_section, judge_note_section, judge_relocation_section,
 };
-use elf_table_symbols::{IndexTables, SymbolVerdicts, TableKind, judge_symbol_table};
+use elf_table_symbols::{IndexTables, SymbolVerdicts, judge_symbol_table};
 use std::alloc::{AllocError, Global};
 
 /// The verdict on the table in each section; `Ok` where there is none.
@@ -26,7 +27,7 @@ pub(crate) fn all_verdicts(
     alloc: Global,
     image: &Image<'_>,
     index_tables: &[IndexTables],
-) -> Result<Vec<Result<(), Broken>>, AllocError>
+) -> Result<Vec<Result<(), Broken<u64>>>, AllocError>
     requires { AreAllIndexTables (sections_of image.now) (length image.now.sections) index_tables.now }
     ensures { IfOk result (λ verdicts.
         AreVerdicts (sections_of image.now) (length image.now.sections) (map fault_of verdicts.items)) }
@@ -44,7 +45,7 @@ fn symbol_verdicts(
     alloc: Global,
     image: &Image<'_>,
     index_tables: &[IndexTables],
-) -> Result<Vec<Result<(), Broken>>, AllocError>
+) -> Result<Vec<Result<(), Broken<u64>>>, AllocError>
     requires { AreAllIndexTables (sections_of image.now) (length image.now.sections) index_tables.now }
     ensures { IfOk result (λ verdicts.
         AreSymbolVerdicts (sections_of image.now) (length image.now.sections) (map fault_of verdicts.items)) }
@@ -57,7 +58,7 @@ fn symbol_verdicts(
 }
 
 // The verdict on the symbol table in section `i`, which has these index tables; `Ok` where it holds none.
-fn symbol_verdict(image: &Image<'_>, i: usize, tables: IndexTables) -> Result<(), Broken>
+fn symbol_verdict(image: &Image<'_>, i: usize, tables: IndexTables) -> Result<(), Broken<u64>>
     requires there { i < length image.now.sections }
     requires tables { AreIndexTables (sections_of image.now) i (length image.now.sections) tables }
     ensures { kind_of (section (sections_of image.now) i).sh_type ≡ Some kind.SymbolTable →
@@ -75,8 +76,8 @@ fn table_verdict(
     alloc: Global,
     image: &Image<'_>,
     i: usize,
-    symbols: &[Result<(), Broken>],
-) -> Result<Result<(), Broken>, AllocError>
+    symbols: &[Result<(), Broken<u64>>],
+) -> Result<Result<(), Broken<u64>>, AllocError>
     requires there { i < length image.now.sections }
     requires symbols { AreSymbolVerdicts (sections_of image.now) (length image.now.sections) (map fault_of symbols.now) }
     ensures { IfOk result (λ verdict. FirstIn (table_rules (sections_of image.now) i) (fault_of verdict)) }
@@ -94,7 +95,7 @@ fn table_verdict(
 }
 
 // A judgement as a verdict; want of memory apart.
-fn verdict_of(judged: Result<(), Fault>) -> Result<Result<(), Broken>, AllocError>
+fn verdict_of(judged: Result<(), Fault>) -> Result<Result<(), Broken<u64>>, AllocError>
     requires { IsUnread judged }
     ensures { IfOk result (IsVerdictOf judged) }
 {

@@ -2,7 +2,7 @@
 use Rattle.std.proofs.Common.{◌≡◌, ◌≢◌, ℕ, ◌+◌, ◌<◌, ◌≤◌, ◌⊎◌, Bool, true, false, List, [], ◌∷◌, ◌++◌, length, get_or, set, inl, inr, refl, sym, ap, subst, ◌∙◌, arith, append_assoc, length-append, get_or-set_other, get_or-set_same}
 use Rattle.std.proofs.lemmas.Bool.{cases_eq, cases_lt}
 use Rattle.std.proofs.lemmas.List.{length-set}
-use Rattle.elf_table_hash.specs.ChainDepths.{AreDepths, AreJumps, AreSeen, AreStarts, IsIn, IsKnown, Leads}
+use Rattle.elf_table_hash.specs.ChainDepths.{AreDepths, AreJumps, AreSeen, AreStarts, IsDepthKnown, IsSymbolIn, Leads}
 use Rattle.elf_table_hash.specs.Chains.{Ends, IsChain, IsOn, IsPath}
 use Rattle.elf_table_hash.proofs.ChainLemmas.{chain_of_on, chain_short, endless, no_circle, one_chain, path_append, path_at}
 
@@ -18,22 +18,22 @@ zero_depth next m depth are =
       none (x ∷ xs) chain long some = chain.0 refl
 
 -- the chain of a symbol whose depth is known
-pub known_chain : (next : ℕ → ℕ) (m : ℕ) (depth : List ℕ) (s : ℕ) → AreDepths next m depth → IsKnown depth s →
+pub known_chain : (next : ℕ → ℕ) (m : ℕ) (depth : List ℕ) (s : ℕ) → AreDepths next m depth → IsDepthKnown depth s →
     (xs : List ℕ) × IsChain next s xs × (length xs ≡ get_or depth s 0)
 known_chain next m depth s are (inl none) = ([], none, sym (ap (λ k. get_or depth k 0) none ∙ zero_depth next m depth are))
 known_chain next m depth s are (inr some) = are.right s some
 
-pub known_ends : (next : ℕ → ℕ) (m : ℕ) (depth : List ℕ) (s : ℕ) → AreDepths next m depth → IsKnown depth s → Ends next s
+pub known_ends : (next : ℕ → ℕ) (m : ℕ) (depth : List ℕ) (s : ℕ) → AreDepths next m depth → IsDepthKnown depth s → Ends next s
 known_ends next m depth s are known =
     let (xs, chain, long) = known_chain next m depth s are known in
     (xs, chain)
 
 -- what a known chain leads to is known
-pub known_along : (next : ℕ → ℕ) (m : ℕ) (depth : List ℕ) (s t : ℕ) (xs : List ℕ) → AreDepths next m depth → IsKnown depth s → IsPath next s xs t → IsKnown depth t
-known_along next m depth s t [] are known path = subst (IsKnown depth) path known
+pub known_along : (next : ℕ → ℕ) (m : ℕ) (depth : List ℕ) (s t : ℕ) (xs : List ℕ) → AreDepths next m depth → IsDepthKnown depth s → IsPath next s xs t → IsDepthKnown depth t
+known_along next m depth s t [] are known path = subst (IsDepthKnown depth) path known
 known_along next m depth s t (x ∷ xs) are (inl none) path = absurd (path.0 none)
 known_along next m depth s t (x ∷ xs) are (inr some) path =
-    known_along next m depth (next x) t xs are (subst (λ k. IsKnown depth (next k)) (sym path.1) (are.closed s some)) path.2
+    known_along next m depth (next x) t xs are (subst (λ k. IsDepthKnown depth (next k)) (sym path.1) (are.closed s some)) path.2
 
 -- a symbol's chain is one longer than that of its chain word
 pub next_depth : (next : ℕ → ℕ) (m : ℕ) (depth : List ℕ) (s : ℕ) → AreDepths next m depth → 0 < get_or depth s 0 → get_or depth (next s) 0 + 1 ≡ get_or depth s 0
@@ -50,7 +50,7 @@ next_depth next m depth s are some =
           omega arith
 
 -- a known chain is shorter than the number of symbols
-pub depth_short : (next : ℕ → ℕ) (m : ℕ) (depth : List ℕ) (s : ℕ) → ((k : ℕ) → k < m → next k < m) → AreDepths next m depth → IsKnown depth s → s < m → get_or depth s 0 < m
+pub depth_short : (next : ℕ → ℕ) (m : ℕ) (depth : List ℕ) (s : ℕ) → ((k : ℕ) → k < m → next k < m) → AreDepths next m depth → IsDepthKnown depth s → s < m → get_or depth s 0 < m
 depth_short next m depth s below are known within =
     let (xs, chain, long) = known_chain next m depth s are known in
     let short = chain_short next m s xs below within chain in
@@ -63,7 +63,7 @@ pub record OnDepths (depth : List ℕ) (start s : ℕ) (before after : List ℕ)
   pub above : get_or depth start 0 ≡ length before + 1 + length after
   pub here : get_or depth s 0 ≡ 1 + length after
 
-pub on_depths : (next : ℕ → ℕ) (m : ℕ) (depth : List ℕ) (start s : ℕ) (before after : List ℕ) → AreDepths next m depth → IsKnown depth start →
+pub on_depths : (next : ℕ → ℕ) (m : ℕ) (depth : List ℕ) (start s : ℕ) (before after : List ℕ) → AreDepths next m depth → IsDepthKnown depth start →
     IsChain next start (before ++ s ∷ after) → OnDepths depth start s before after
 on_depths next m depth start s before after are known chain =
     let (some, front, back) = path_at next start 0 s before after chain in
@@ -75,7 +75,7 @@ on_depths next m depth start s before after are known chain =
     record { above = omega arith; here = omega arith }
 
 -- one whose chain is as long as the whole is its start
-pub on_same : (next : ℕ → ℕ) (m : ℕ) (depth : List ℕ) (start s : ℕ) → AreDepths next m depth → IsKnown depth start → IsOn next start s →
+pub on_same : (next : ℕ → ℕ) (m : ℕ) (depth : List ℕ) (start s : ℕ) → AreDepths next m depth → IsDepthKnown depth start → IsOn next start s →
     get_or depth start 0 ≤ get_or depth s 0 → start ≡ s
 on_same next m depth start s are known ([], after, chain) deep = sym chain.1
 on_same next m depth start s are known (b ∷ before, after, chain) deep =
@@ -83,7 +83,7 @@ on_same next m depth start s are known (b ∷ before, after, chain) deep =
     absurd (omega arith)
 
 -- it has a chain
-pub on_some : (next : ℕ → ℕ) (m : ℕ) (depth : List ℕ) (start s : ℕ) → AreDepths next m depth → IsKnown depth start → IsOn next start s → 0 < get_or depth s 0
+pub on_some : (next : ℕ → ℕ) (m : ℕ) (depth : List ℕ) (start s : ℕ) → AreDepths next m depth → IsDepthKnown depth start → IsOn next start s → 0 < get_or depth s 0
 on_some next m depth start s are known (before, after, chain) =
     let depths = on_depths next m depth start s before after are known chain in
     omega arith
@@ -100,7 +100,7 @@ end_of_end (b ∷ bs) xs (j ∷ js) zs same le =
     end_of_end bs xs js zs tails le
 
 -- a symbol on a chain is behind what the chain leads to, where its own chain is no longer than that one's
-pub on_behind : (next : ℕ → ℕ) (m : ℕ) (depth : List ℕ) (start t s : ℕ) → AreDepths next m depth → IsKnown depth start → Leads next start t →
+pub on_behind : (next : ℕ → ℕ) (m : ℕ) (depth : List ℕ) (start t s : ℕ) → AreDepths next m depth → IsDepthKnown depth start → Leads next start t →
     get_or depth s 0 ≤ get_or depth t 0 → IsOn next start s → IsOn next t s
 on_behind next m depth start t s are known (js, path) deep (before, after, chain) =
     let depths = on_depths next m depth start s before after are known chain in
@@ -119,11 +119,11 @@ deep_more depth a d t within some =
       | inr other ↦ rw get_or-set_other some
     ]
 
-pub known_more : (depth : List ℕ) (a d t : ℕ) → a < length depth → IsKnown depth t → IsKnown (set depth a (d + 1)) t
+pub known_more : (depth : List ℕ) (a d t : ℕ) → a < length depth → IsDepthKnown depth t → IsDepthKnown (set depth a (d + 1)) t
 known_more depth a d t within (inl none) = inl none
 known_more depth a d t within (inr some) = inr (deep_more depth a d t within some)
 
-pub depths_more : (next : ℕ → ℕ) (m : ℕ) (depth : List ℕ) (a s : ℕ) → AreDepths next m depth → IsKnown depth s → next a ≡ s → a ≢ 0 → a < m →
+pub depths_more : (next : ℕ → ℕ) (m : ℕ) (depth : List ℕ) (a s : ℕ) → AreDepths next m depth → IsDepthKnown depth s → next a ≡ s → a ≢ 0 → a < m →
     AreDepths next m (set depth a (get_or depth s 0 + 1))
 depths_more next m depth a s are known leads some within = let inside : a < length depth = (let long = are.long in omega arith) in record {
   long = length-set depth a (get_or depth s 0 + 1) ∙ are.long;
@@ -134,7 +134,7 @@ depths_more next m depth a s are known leads some within = let inside : a < leng
     | inr other ↦ (let old = rw get_or-set_other at deep in rw get_or-set_other (are.right t old))
   ];
   closed = λ t deep. elim (cases_eq t a) [
-    | inl same ↦ known_more depth a (get_or depth s 0) (next t) inside (subst (IsKnown depth) (sym (ap next same ∙ leads)) known)
+    | inl same ↦ known_more depth a (get_or depth s 0) (next t) inside (subst (IsDepthKnown depth) (sym (ap next same ∙ leads)) known)
     | inr other ↦ (let old = rw get_or-set_other at deep in known_more depth a (get_or depth s 0) (next t) inside (are.closed t old))
   ];
 }
@@ -172,7 +172,7 @@ leads_join next a b c (xs, front) (ys, back) = (xs ++ ys, path_append next a b c
 -- ---- symbols that were seen
 
 -- the last one of a stack, or one of the others
-pub in_push : (stack : List ℕ) (a t : ℕ) → IsIn (stack ++ a ∷ []) t → (t ≡ a) ⊎ IsIn stack t
+pub in_push : (stack : List ℕ) (a t : ℕ) → IsSymbolIn (stack ++ a ∷ []) t → (t ≡ a) ⊎ IsSymbolIn stack t
 in_push [] a t ([], after, same) = inl (let head : t ≡ a = cc in head)
 in_push [] a t (b ∷ [], after, same) = absurd (let long = ap (λ (ws : List ℕ). length ws) same in omega arith)
 in_push [] a t (b ∷ (d ∷ before), after, same) = absurd (let long = ap (λ (ws : List ℕ). length ws) same in omega arith)
@@ -210,12 +210,12 @@ seen_twice next m start s depth stack seen are path marked none (xs, chain) =
 
 -- all that waited are known
 pub seen_settled : (m : ℕ) (old depth stack : List ℕ) (seen : List Bool) → AreSeen m old stack seen →
-    ((s : ℕ) → 0 < get_or old s 0 → 0 < get_or depth s 0) → ((s : ℕ) → IsIn stack s → 0 < get_or depth s 0) → AreSeen m depth [] seen
+    ((s : ℕ) → 0 < get_or old s 0 → 0 < get_or depth s 0) → ((s : ℕ) → IsSymbolIn stack s → 0 < get_or depth s 0) → AreSeen m depth [] seen
 seen_settled m old depth stack seen are kept settled = record {
   long = are.long;
   waits = λ s marked. elim (are.waits s marked) [ inl deep ↦ inl (kept s deep) | inr waits ↦ inl (settled s waits) ];
 }
 
-pub known_kept : (old depth : List ℕ) (s : ℕ) → ((s : ℕ) → 0 < get_or old s 0 → 0 < get_or depth s 0) → IsKnown old s → IsKnown depth s
+pub known_kept : (old depth : List ℕ) (s : ℕ) → ((s : ℕ) → 0 < get_or old s 0 → 0 < get_or depth s 0) → IsDepthKnown old s → IsDepthKnown depth s
 known_kept old depth s kept (inl none) = inl none
 known_kept old depth s kept (inr deep) = inr (kept s deep)

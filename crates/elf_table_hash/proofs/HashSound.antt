@@ -7,16 +7,16 @@ use Rattle.elf_field.specs.Abi.{SHT_HASH, WORD_SIZE}
 use Rattle.elf_field.specs.declared.shdr.Shdr.{Shdr}
 use Rattle.elf_image_rules.specs.Rows.{FirstIn}
 use Rattle.elf_image_rules.specs.Tables.{content_extent}
-use Rattle.elf_table_symbols.specs.declared.table_kind.TableKind.TheVariants.{HashTable}
-use Rattle.elf_table_symbols.specs.OwnRules.{own_rules}
-use Rattle.elf_table_symbols.specs.Sections.{Sections, content, order, section}
+use Rattle.elf_table_base.specs.declared.table_kind.TableKind.TheVariants.{HashTable}
+use Rattle.elf_table_base.specs.OwnRules.{own_rules}
+use Rattle.elf_table_base.specs.Sections.{Sections, content, order, section}
 use Rattle.elf_table_symbols.specs.Symbols.{symbols_of}
 use Rattle.elf_table_symbols.specs.SymbolParts.{symbol_parts}
 use Rattle.elf_table_symbols.proofs.Public.{type_of_hash}
 use Rattle.elf_table_hash.specs.declared.hash_parts.HashParts.{HashParts}
 use Rattle.elf_table_hash.specs.HashParts.{IsInside}
 use Rattle.elf_table_hash.specs.HashRules.{chain_rules, hash_word_past_end, word_rules}
-use Rattle.elf_table_hash.specs.HashTable.{IsLinked, Valid, bucket, bucket_of, chain, name_of, nbucket, nchain}
+use Rattle.elf_table_hash.specs.HashTable.{AreHashWords, Valid, bucket, bucket_of, chain, name_of, nbucket, nchain}
 use Rattle.elf_table_hash.specs.Chains.{Ends, IsOn}
 use Rattle.elf_table_hash.specs.ElfHash.{hash_of}
 use Rattle.elf_table_hash.specs.WordLists.{names_in, symbol_names_of}
@@ -42,7 +42,7 @@ names_of_section f i = sym (names_are _ _ _ (symbol_parts f i).words)
 
 -- a table as long as its buckets and chains, each word of which is that of a symbol
 pub linked_words : (p : HashParts) → IsInside p → p.size ≡ WORD_SIZE * (2 + nbucket p.words + nchain p.words) → Never (hash_word_past_end p) →
-    IsLinked p.words
+    AreHashWords p.words
 unfolding bucket chain
 linked_words p inside whole never = record {
   long = (let sized = inside.sized in omega arith);
@@ -87,7 +87,7 @@ valid_when p inside words chains = record {
         | inr other ↦ absurd (words.0 _ (inr other, refl))
       ]
 
-  linked : IsLinked p.words
+  linked : AreHashWords p.words
   linked = linked_words p inside whole words.1.1.0
 
   ends : (b : ℕ) → b < nbucket p.words → Ends (chain p.words) (bucket p.words b)

@@ -5,7 +5,7 @@ use Rattle.std.proofs.Math.Nat.{mod-lt}
 use Rattle.elf_table_hash.specs.Chains.{Ends, IsChain, IsPath}
 use Rattle.elf_table_hash.specs.ElfHash.{hash_of}
 use Rattle.elf_table_hash.specs.HashTable.{Valid, bucket_of, chain, name_of, nbucket, nchain}
-use Rattle.elf_table_hash.specs.Probe.{HashValue, IsNamed, IsProbed, NoneNamed}
+use Rattle.elf_table_hash.specs.Probe.{HasSymbolNamed, HashValue, IsProbed, NoneNamed}
 use Rattle.elf_table_hash.proofs.ChainLemmas.{chain_short, end_below, one_chain, path_append, path_at}
 
 -- what is left of a chain at a symbol: the symbol, and the chain of its chain word
@@ -39,7 +39,7 @@ bucket_ends words names name valid = valid.ends (hash_of name % nbucket words) (
 
 -- a symbol is found exactly where one from 1 on has the name
 pub probe_some : (hash : HashValue) (name : List ℕ) (found : Option ℕ) (steps : ℕ) → Valid hash.words hash.names → IsProbed hash name found steps →
-    (IsSome found → IsNamed hash name) × (IsNamed hash name → IsSome found)
+    (IsSome found → HasSymbolNamed hash name) × (HasSymbolNamed hash name → IsSome found)
 probe_some hash name (Some s) steps valid probed = (
   (λ _. (
       let (before, after, whole, count, named, none) = probed in

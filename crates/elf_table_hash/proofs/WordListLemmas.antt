@@ -5,7 +5,7 @@ use Rattle.std.proofs.lemmas.List.FromFn.{get_or-map-range_with_len, length-map-
 use Rattle.elf_field.specs.Abi.{WORD_SIZE}
 use Rattle.elf_field.specs.declared.order.Order.{Order}
 use Rattle.elf_table_symbols.specs.SymbolRules.{entry_count, word}
-use Rattle.elf_table_symbols.specs.Symbols.{SymbolValue, symbol_in, symbols_in}
+use Rattle.elf_table_symbols.specs.Symbols.{SymbolEntryValue, symbol_entry_in, symbols_in}
 use Rattle.elf_table_hash.specs.WordLists.{names_in, symbol_name, words_in}
 
 pub length_words : (o : Order) (table : List ℕ) → length (words_in o table) ≡ length table / WORD_SIZE
@@ -25,11 +25,11 @@ unfolding names_in
 name_get o table names j within = get_or-map-range_with_len (symbol_name o table names) 0 (entry_count table) j j [] within (zero-add j)
 
 -- the names of symbols are those of the table
-map_names : (o : Order) (table names words xs : List ℕ) → map (λ (s : SymbolValue). s.name) (map (symbol_in o table names words) xs) ≡ map (symbol_name o table names) xs
-unfolding symbol_in
+map_names : (o : Order) (table names words xs : List ℕ) → map (λ (s : SymbolEntryValue). s.name) (map (symbol_entry_in o table names words) xs) ≡ map (symbol_name o table names) xs
+unfolding symbol_entry_in
 map_names o table names words [] = refl
 map_names o table names words (x ∷ xs) = ap (λ (ns : List (List ℕ)). symbol_name o table names x ∷ ns) (map_names o table names words xs)
 
-pub names_are : (o : Order) (table names words : List ℕ) → map (λ (s : SymbolValue). s.name) (symbols_in o table names words) ≡ names_in o table names
+pub names_are : (o : Order) (table names words : List ℕ) → map (λ (s : SymbolEntryValue). s.name) (symbols_in o table names words) ≡ names_in o table names
 unfolding symbols_in names_in
 names_are o table names words = map_names o table names words (range_with_len 0 (entry_count table))

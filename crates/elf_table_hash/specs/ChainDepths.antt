@@ -4,14 +4,14 @@ use Rattle.std.specs.Prelude.{◌≡◌, ℕ, ◌<◌, ◌⊎◌, Bool, true, fa
 use Rattle.elf_table_hash.specs.Chains.{IsChain, IsPath}
 
 -- the length of the chain from s on is known: 0 is its end
-abbrev pub IsKnown : List ℕ → ℕ → Type 0
-IsKnown depth s = (s ≡ 0) ⊎ (0 < get_or depth s 0)
+abbrev pub IsDepthKnown : List ℕ → ℕ → Type 0
+IsDepthKnown depth s = (s ≡ 0) ⊎ (0 < get_or depth s 0)
 
 -- each depth that isn't 0 is the length of the symbol's chain, and all of that chain is known
 pub record AreDepths (next : ℕ → ℕ) (m : ℕ) (depth : List ℕ) : Type 0 where
   pub long : length depth ≡ m
   pub right : (s : ℕ) → 0 < get_or depth s 0 → (symbols : List ℕ) × IsChain next s symbols × (length symbols ≡ get_or depth s 0)
-  pub closed : (s : ℕ) → 0 < get_or depth s 0 → IsKnown depth (next s)
+  pub closed : (s : ℕ) → 0 < get_or depth s 0 → IsDepthKnown depth (next s)
 
 -- the chain of s leads to t
 abbrev pub Leads : (ℕ → ℕ) → ℕ → ℕ → Type 0
@@ -29,10 +29,10 @@ pub record AreStarts (next : ℕ → ℕ) (m : ℕ) (depth starts : List ℕ) : 
   pub right : (s : ℕ) → 0 < get_or depth s 0 → Leads next (get_or starts s 0) s
 
 -- s is among these symbols
-abbrev pub IsIn : List ℕ → ℕ → Type 0
-IsIn symbols s = (before after : List ℕ) × (symbols ≡ before ++ s ∷ after)
+abbrev pub IsSymbolIn : List ℕ → ℕ → Type 0
+IsSymbolIn symbols s = (before after : List ℕ) × (symbols ≡ before ++ s ∷ after)
 
 -- each symbol that was seen is known, or waits on the stack
 pub record AreSeen (m : ℕ) (depth stack : List ℕ) (seen : List Bool) : Type 0 where
   pub long : length seen ≡ m
-  pub waits : (s : ℕ) → get_or seen s false ≡ true → (0 < get_or depth s 0) ⊎ IsIn stack s
+  pub waits : (s : ℕ) → get_or seen s false ≡ true → (0 < get_or depth s 0) ⊎ IsSymbolIn stack s

@@ -3,7 +3,7 @@
 use Rattle.std.specs.Prelude.{◌≡◌, ℕ, ◌+◌, ◌/◌, ◌<◌, ◌≤◌, length}
 use Rattle.elf_field.specs.Abi.{SHDR_SIZE, WORD_SIZE}
 use Rattle.elf_image_rules.specs.HeaderRules.{MAX_LEN}
-use Rattle.elf_table_symbols.specs.Sections.{Sections, content, header_at, order, section}
+use Rattle.elf_table_base.specs.Sections.{Sections, content, header_at, order, section}
 use Rattle.elf_table_hash.specs.declared.hash_parts.HashParts.{HashParts}
 use Rattle.elf_table_hash.specs.WordLists.{symbol_names_of, words_in}
 

@@ -27,7 +27,7 @@ abbrev pub name_of : List (List ℕ) → ℕ → List ℕ
 name_of names s = get_or names s []
 
 -- the table has all its words, and each word behind the first two is that of a symbol
-pub record IsLinked (words : List ℕ) : Type 0 where
+pub record AreHashWords (words : List ℕ) : Type 0 where
   pub long : length words ≡ 2 + nbucket words + nchain words
   pub buckets : (b : ℕ) → b < nbucket words → bucket words b < nchain words
   pub chains : (s : ℕ) → s < nchain words → chain words s < nchain words
@@ -36,7 +36,7 @@ pub record IsLinked (words : List ℕ) : Type 0 where
 pub record Valid (words : List ℕ) (names : List (List ℕ)) : Type 0 where
   pub some_bucket : nbucket words ≢ 0
   pub one_each : nchain words ≡ length names
-  pub linked : IsLinked words
+  pub linked : AreHashWords words
   -- the chain of each bucket ends
   pub ends : (b : ℕ) → b < nbucket words → Ends (chain words) (bucket words b)
   -- each symbol from 1 on is on the chain of its name's bucket

@@ -13,7 +13,7 @@ pub record HashValue : Type 0 where
 abbrev pub NoneNamed : List (List ℕ) → List ℕ → List ℕ → Type 0
 NoneNamed names name symbols = AllByRecursion (λ s. name_of names s ≢ name) symbols
 
--- the first symbol of the name on the chain from `start` on, with its place there, counted from 1; or the length of the
+-- the first symbol of the name on the chain from `start` on, with its position there, counted from 1; or the length of the
 -- chain, where there is none
 abbrev pub IsFirstNamed : (ℕ → ℕ) → List (List ℕ) → List ℕ → ℕ → Option ℕ → ℕ → Type 0
 IsFirstNamed next names name start (Some s) steps =
@@ -26,5 +26,5 @@ abbrev pub IsProbed : HashValue → List ℕ → Option ℕ → ℕ → Type 0
 IsProbed hash name found steps = IsFirstNamed (chain hash.words) hash.names name (bucket_of hash.words name) found steps
 
 -- a symbol from 1 on has the name
-abbrev pub IsNamed : HashValue → List ℕ → Type 0
-IsNamed hash name = (s : ℕ) × (0 < s) × (s < length hash.names) × (name_of hash.names s ≡ name)
+abbrev pub HasSymbolNamed : HashValue → List ℕ → Type 0
+HasSymbolNamed hash name = (s : ℕ) × (0 < s) × (s < length hash.names) × (name_of hash.names s ≡ name)

@@ -5,9 +5,9 @@ use Rattle.std.specs.List.{range_with_len}
 use Rattle.elf_field.specs.Abi.{WORD_SIZE}
 use Rattle.elf_field.specs.declared.order.Order.{Order}
 use Rattle.elf_image_type.specs.Strings.{string}
-use Rattle.elf_table_symbols.specs.Sections.{Sections}
+use Rattle.elf_table_base.specs.Sections.{Sections}
 use Rattle.elf_table_symbols.specs.SymbolRules.{entry, entry_count, word}
-use Rattle.elf_table_symbols.specs.Symbols.{SymbolValue, symbols_of}
+use Rattle.elf_table_symbols.specs.Symbols.{SymbolEntryValue, symbols_of}
 
 -- the words of a content
 unfoldable pub words_in : Order → List ℕ → List ℕ
@@ -22,4 +22,4 @@ names_in o table names = map (symbol_name o table names) (range_with_len 0 (entr
 
 -- the names of the symbols of the symbol table in section i
 unfoldable pub symbol_names_of : Sections → ℕ → List (List ℕ)
-symbol_names_of f i = map (λ (s : SymbolValue). s.name) (symbols_of f i)
+symbol_names_of f i = map (λ (s : SymbolEntryValue). s.name) (symbols_of f i)

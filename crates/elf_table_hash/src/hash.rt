@@ -1,14 +1,14 @@
 //! Hash tables (gABI chapter 5, Hash Table).
 ghost use Rattle.std.specs.Prelude.{◌≡◌, ◌↔◌, ◌<◌, ◌≤◌, ℕ, None, IsSome, length, get_or};
 ghost use Rattle.elf_image_rules.specs.Rows.{FirstIn};
-ghost use Rattle.elf_table_symbols.specs.Judged.{IsJudgedBehind};
-ghost use Rattle.elf_table_symbols.specs.Sections.{sections_of};
+ghost use Rattle.elf_table_base.specs.Judged.{IsJudgedBehind};
+ghost use Rattle.elf_table_base.specs.Sections.{sections_of};
 ghost use Rattle.elf_table_hash.specs.Chains.{Ends};
 ghost use Rattle.elf_table_hash.specs.HashLeft.{words_left};
 ghost use Rattle.elf_table_hash.specs.HashRules.{hash_table_front, hash_table_rules};
 ghost use Rattle.elf_table_hash.specs.HashTable.{Valid, chain, nbucket as nbucket_of, nchain as nchain_of};
 ghost use Rattle.elf_table_hash.specs.HashView.{hash_of_section};
-ghost use Rattle.elf_table_hash.specs.Probe.{IsFirstNamed, IsNamed, IsProbed};
+ghost use Rattle.elf_table_hash.specs.Probe.{HasSymbolNamed, IsFirstNamed, IsProbed};
 
 use crate::hash_parts::HashParts;
 use crate::hash_rules::judge_hash_table;
@@ -109,23 +109,23 @@ impl<'a> Hash<'a> {
     /// name. It takes no memory.
     pub fn find(&self, name: &[u8]) -> Option<u32>
         ensures found { (steps : ℕ) × IsProbed self.now name.now result steps }
-        ensures some { IsSome result ↔ IsNamed self.now name.now }
+        ensures some { IsSome result ↔ HasSymbolNamed self.now name.now }
     {
         self.probe(name).0
     }
 
-    /// What [`find`](Hash::find) answers, and how many symbols of the chain were looked at: the place of the symbol found,
+    /// What [`find`](Hash::find) answers, and how many symbols of the chain were looked at: the position of the symbol found,
     /// counted from 1, or else the length of the chain. There are fewer of them than symbols. It takes no memory.
     pub fn probe(&self, name: &[u8]) -> (Option<u32>, u32)
         ensures found { IsProbed self.now name.now result.0 result.1 }
-        ensures some { IsSome result.0 ↔ IsNamed self.now name.now }
+        ensures some { IsSome result.0 ↔ HasSymbolNamed self.now name.now }
         ensures few { result.1 < nchain_of self.now.words }
     {
         first_named(&self.words, &self.names, name, self.words.bucket_of(name))
     }
 }
 
-// The first symbol of this name on the chain of `start`, with its place, or the length of the chain.
+// The first symbol of this name on the chain of `start`, with its position, or the length of the chain.
 fn first_named(
     words: &HashWords<'_>,
     names: &SymbolNames<'_>,

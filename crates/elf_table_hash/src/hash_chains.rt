@@ -7,9 +7,9 @@ ghost use Rattle.std.specs.Prelude.{◌≡◌, ◌≢◌, ◌↔◌, ◌<◌, �
 ghost use Rattle.elf_extent.specs.Least.{IsLowest};
 ghost use Rattle.elf_image_rules.specs.HeaderRules.{MAX_LEN};
 ghost use Rattle.elf_table_symbols.specs.Below.{Below};
-ghost use Rattle.elf_table_hash.specs.ChainDepths.{AreDepths, AreJumps, AreSeen, AreStarts, IsIn, IsKnown, Leads};
+ghost use Rattle.elf_table_hash.specs.ChainDepths.{AreDepths, AreJumps, AreSeen, AreStarts, IsDepthKnown, IsSymbolIn, Leads};
 ghost use Rattle.elf_table_hash.specs.Chains.{Ends, IsOn, IsPath};
-ghost use Rattle.elf_table_hash.specs.HashTable.{IsLinked, bucket, chain, nbucket, nchain};
+ghost use Rattle.elf_table_hash.specs.HashTable.{AreHashWords, bucket, chain, nbucket, nchain};
 
 use crate::hash_words::HashWords;
 use std::alloc::AllocError;
@@ -23,7 +23,7 @@ pub(crate) fn lowest_endless_chain(
     seen: &mut [bool],
     stack: &mut Vec<u32>,
 ) -> Result<Option<u32>, AllocError>
-    requires linked { IsLinked words.now }
+    requires linked { AreHashWords words.now }
     requires depths { AreDepths (chain words.now) (nchain words.now) depth.old }
     requires jumps { AreJumps (chain words.now) (nchain words.now) jump.old }
     requires starts { AreStarts (chain words.now) (nchain words.now) depth.old starts.old }
@@ -33,7 +33,7 @@ pub(crate) fn lowest_endless_chain(
     ensures depths { IfOk result (λ found. IfNone found (AreDepths (chain words.now) (nchain words.now) depth.new)) }
     ensures jumps { IfOk result (λ found. IfNone found (AreJumps (chain words.now) (nchain words.now) jump.new)) }
     ensures starts { IfOk result (λ found. IfNone found (AreStarts (chain words.now) (nchain words.now) depth.new starts.new)) }
-    ensures known { IfOk result (λ found. IfNone found ((b : ℕ) → b < nbucket words.now → IsKnown depth.new (bucket words.now b))) }
+    ensures known { IfOk result (λ found. IfNone found ((b : ℕ) → b < nbucket words.now → IsDepthKnown depth.new (bucket words.now b))) }
 {
     for b in 0..words.nbucket() {
         let start = words.bucket(b);
@@ -54,14 +54,14 @@ fn climb(
     seen: &mut [bool],
     stack: &mut Vec<u32>,
 ) -> Result<Option<u32>, AllocError>
-    requires linked { IsLinked words.now }
+    requires linked { AreHashWords words.now }
     requires start { start < nchain words.now }
     requires long { length depth.now ≡ nchain words.now }
     requires seen { AreSeen (nchain words.now) depth.now [] seen.old }
     requires empty { stack.old.items ≡ [] }
     ensures seen { IfOk result (λ found. IsSome found → AreSeen (nchain words.now) depth.now stack.new.items seen.new) }
     ensures path { IfOk result (λ found. IfSome found (λ top. IsPath (chain words.now) start stack.new.items top)) }
-    ensures known { IfOk result (λ found. IfSome found (λ top. IsKnown depth.now top)) }
+    ensures known { IfOk result (λ found. IfSome found (λ top. IsDepthKnown depth.now top)) }
     ensures inside { IfOk result (λ found. IfSome found (λ top. top < nchain words.now)) }
     ensures endless { IfOk result (λ found. IfNone found (¬ Ends (chain words.now) start)) }
 {
@@ -87,20 +87,20 @@ fn settle(
     start: u32,
     top: u32,
 )
-    requires linked { IsLinked words.now }
+    requires linked { AreHashWords words.now }
     requires start { start < nchain words.now }
     requires depths { AreDepths (chain words.now) (nchain words.now) depth.old }
     requires jumps { AreJumps (chain words.now) (nchain words.now) jump.old }
     requires starts { AreStarts (chain words.now) (nchain words.now) depth.old starts.old }
     requires path { IsPath (chain words.now) start stack.old.items top }
-    requires known { IsKnown depth.old top }
+    requires known { IsDepthKnown depth.old top }
     requires inside { top < nchain words.now }
     ensures depths { AreDepths (chain words.now) (nchain words.now) depth.new }
     ensures jumps { AreJumps (chain words.now) (nchain words.now) jump.new }
     ensures starts { AreStarts (chain words.now) (nchain words.now) depth.new starts.new }
     ensures kept { (s : ℕ) → 0 < get_or depth.old s 0 → 0 < get_or depth.new s 0 }
-    ensures settled { (s : ℕ) → IsIn stack.old.items s → 0 < get_or depth.new s 0 }
-    ensures start { IsKnown depth.new start }
+    ensures settled { (s : ℕ) → IsSymbolIn stack.old.items s → 0 < get_or depth.new s 0 }
+    ensures start { IsDepthKnown depth.new start }
     ensures empty { stack.new.items ≡ [] }
 {
     let mut s = top;
@@ -115,9 +115,9 @@ fn settle(
 
 // The length of the chain of a symbol whose chain word is `s`.
 fn one_more(words: &HashWords<'_>, depth: &[u32], s: u32) -> u32
-    requires linked { IsLinked words.now }
+    requires linked { AreHashWords words.now }
     requires depths { AreDepths (chain words.now) (nchain words.now) depth.now }
-    requires known { IsKnown depth.now s }
+    requires known { IsDepthKnown depth.now s }
     requires inside { s < nchain words.now }
     ensures { result ≡ get_or depth.now s 0 + 1 }
 {
@@ -153,12 +153,12 @@ pub(crate) fn is_on(
     start: u32,
     s: u32,
 ) -> bool
-    requires linked { IsLinked words.now }
+    requires linked { AreHashWords words.now }
     requires depths { AreDepths (chain words.now) (nchain words.now) depth.now }
     requires jumps { AreJumps (chain words.now) (nchain words.now) jump.now }
     requires starts { AreStarts (chain words.now) (nchain words.now) depth.now starts.now }
     requires start { start < nchain words.now }
-    requires known { IsKnown depth.now start }
+    requires known { IsDepthKnown depth.now start }
     requires inside { s < nchain words.now }
     ensures { IsTrue result ↔ IsOn (chain words.now) start s }
 {
@@ -179,7 +179,7 @@ pub(crate) fn is_on(
 
 // From `s` down its chain, as far as its jump leads or else to the next symbol, to one whose chain is still this long.
 fn leap(words: &HashWords<'_>, depth: &[u32], jump: &[u32], s: u32, deep: u32) -> u32
-    requires linked { IsLinked words.now }
+    requires linked { AreHashWords words.now }
     requires depths { AreDepths (chain words.now) (nchain words.now) depth.now }
     requires jumps { AreJumps (chain words.now) (nchain words.now) jump.now }
     requires inside { s < nchain words.now }

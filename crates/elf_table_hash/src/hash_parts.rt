@@ -1,14 +1,14 @@
 //! What the rules of a hash table look at (gABI chapter 5, Hash Table).
 ghost use Rattle.std.specs.Prelude.{◌≡◌, ◌<◌, None, length};
 ghost use Rattle.elf_image_rules.specs.Rows.{FirstIn};
-ghost use Rattle.elf_table_symbols.specs.OwnRules.{own_rules};
-ghost use Rattle.elf_table_symbols.specs.Sections.{section, sections_of};
+ghost use Rattle.elf_table_base.specs.OwnRules.{own_rules};
+ghost use Rattle.elf_table_base.specs.Sections.{section, sections_of};
 ghost use Rattle.elf_table_symbols.specs.SymbolRules.{symbol_table_rules};
 ghost use Rattle.elf_table_hash.specs.HashParts.{IsInside, hash_parts};
 
 use crate::hash_words::{HashWords, SymbolNames};
 use elf_image_type::Image;
-use elf_table_symbols::TableKind;
+use elf_table_base::TableKind;
 
 /// The words of a hash table, the names of the symbols that it is for, and where the table stands.
 #[derive(Drop)]

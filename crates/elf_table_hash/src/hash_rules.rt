@@ -3,15 +3,15 @@ ghost use Rattle.std.specs.Prelude.{◌≡◌, ◌≢◌, ◌<◌, ◌≤◌, �
 ghost use Rattle.elf_extent.specs.Least.{IsLowest};
 ghost use Rattle.elf_image_rules.specs.Broken.{fault_of};
 ghost use Rattle.elf_image_rules.specs.Rows.{FirstIn};
-ghost use Rattle.elf_table_symbols.specs.Judged.{IsJudgedBehind};
+ghost use Rattle.elf_table_base.specs.Judged.{IsJudgedBehind};
 ghost use Rattle.elf_table_symbols.specs.LinkedVerdicts.{AreKnown};
-ghost use Rattle.elf_table_symbols.specs.OwnRules.{own_rules};
-ghost use Rattle.elf_table_symbols.specs.Sections.{section, sections_of};
+ghost use Rattle.elf_table_base.specs.OwnRules.{own_rules};
+ghost use Rattle.elf_table_base.specs.Sections.{section, sections_of};
 ghost use Rattle.elf_table_symbols.specs.SymbolRules.{symbol_table_rules};
-ghost use Rattle.elf_table_hash.specs.ChainDepths.{AreDepths, AreJumps, AreStarts, IsKnown};
+ghost use Rattle.elf_table_hash.specs.ChainDepths.{AreDepths, AreJumps, AreStarts, IsDepthKnown};
 ghost use Rattle.elf_table_hash.specs.HashParts.{IsInside, hash_parts};
 ghost use Rattle.elf_table_hash.specs.HashRules.{chain_rules, hash_rules, hash_table_front, hash_table_rules, symbol_off_chain, word_rules};
-ghost use Rattle.elf_table_hash.specs.HashTable.{IsLinked, bucket, chain, nbucket, nchain};
+ghost use Rattle.elf_table_hash.specs.HashTable.{AreHashWords, bucket, chain, nbucket, nchain};
 
 use crate::hash_chains::{is_on, lowest_endless_chain};
 use crate::hash_parts::HashParts;
@@ -19,8 +19,9 @@ use crate::hash_word_rules::judge_words;
 use elf_field::abi::*;
 use elf_image_rules::Broken;
 use elf_image_type::{Fault, Image};
-use elf_table_symbols::rules::*;
-use elf_table_symbols::{SymbolVerdicts, TableKind, judge_own_rules};
+use elf_table_base::rules::*;
+use elf_table_base::{TableKind, judge_own_rules};
+use elf_table_symbols::SymbolVerdicts;
 use std::alloc::{AllocError, Global};
 
 /// All rules of the hash table in section `i`, by these verdicts on the symbol tables. [`Fault::OutOfMemory`] comes only where no rule from 40 to 67 is broken.
@@ -59,11 +60,11 @@ fn judge_hash(alloc: Global, image: &Image<'_>, i: usize) -> Result<(), Fault>
 
 // Rules 68 and 69.
 #[tactic(auto, unfolding(crate::specs::HashRules::chain_rules))]
-fn judge_chains(alloc: Global, parts: &HashParts<'_>) -> Result<Result<(), Broken>, AllocError>
+fn judge_chains(alloc: Global, parts: &HashParts<'_>) -> Result<Result<(), Broken<u64>>, AllocError>
     requires inside { IsInside parts.now }
     requires some_bucket { nbucket parts.now.words ≢ 0 }
     requires one_each { nchain parts.now.words ≡ length parts.now.names }
-    requires linked { IsLinked parts.now.words }
+    requires linked { AreHashWords parts.now.words }
     ensures { IfOk result (λ verdict. FirstIn (chain_rules parts.now) (fault_of verdict)) }
 {
     let words = &parts.words;
@@ -115,11 +116,11 @@ fn lowest_symbol_off_chain(
     requires inside { IsInside parts.now }
     requires some_bucket { nbucket parts.now.words ≢ 0 }
     requires one_each { nchain parts.now.words ≡ length parts.now.names }
-    requires linked { IsLinked parts.now.words }
+    requires linked { AreHashWords parts.now.words }
     requires depths { AreDepths (chain parts.now.words) (nchain parts.now.words) depth.now }
     requires jumps { AreJumps (chain parts.now.words) (nchain parts.now.words) jump.now }
     requires starts { AreStarts (chain parts.now.words) (nchain parts.now.words) depth.now starts.now }
-    requires known { (b : ℕ) → b < nbucket parts.now.words → IsKnown depth.now (bucket parts.now.words b) }
+    requires known { (b : ℕ) → b < nbucket parts.now.words → IsDepthKnown depth.now (bucket parts.now.words b) }
     ensures { IsLowest (symbol_off_chain parts.now) result }
 {
     let words = &parts.words;

@@ -5,21 +5,21 @@ ghost use Rattle.elf_image_rules.specs.Broken.{fault_of};
 ghost use Rattle.elf_image_rules.specs.Rows.{FirstIn};
 ghost use Rattle.elf_table_hash.specs.HashParts.{IsInside};
 ghost use Rattle.elf_table_hash.specs.HashRules.{hash_word_past_end, word_rules};
-ghost use Rattle.elf_table_hash.specs.HashTable.{IsLinked, nbucket, nchain};
+ghost use Rattle.elf_table_hash.specs.HashTable.{AreHashWords, nbucket, nchain};
 
 use crate::hash_parts::HashParts;
 use elf_field::abi::*;
 use elf_image_rules::Broken;
-use elf_table_symbols::rules::*;
+use elf_table_base::rules::*;
 
 /// Rules 65 to 67 of a hash table.
 #[tactic(auto, unfolding(crate::specs::HashRules::word_rules))]
-pub(crate) fn judge_words(parts: &HashParts<'_>) -> Result<(), Broken>
+pub(crate) fn judge_words(parts: &HashParts<'_>) -> Result<(), Broken<u64>>
     requires { IsInside parts.now }
     ensures fault { FirstIn (word_rules parts.now) (fault_of result) }
     ensures some_bucket { OnOk result (nbucket parts.now.words ≢ 0) }
     ensures one_each { OnOk result (nchain parts.now.words ≡ length parts.now.names) }
-    ensures linked { OnOk result (IsLinked parts.now.words) }
+    ensures linked { OnOk result (AreHashWords parts.now.words) }
 {
     if parts.size < WORD_SIZE * 2 {
         return Err(Broken::new(WRONG_HASH_SIZE, parts.header + SH_SIZE_AT));

@@ -9,7 +9,7 @@ use Rattle.elf_extent.specs.Least.{IsLowest}
 use Rattle.elf_field.specs.Abi.{DT_NULL}
 use Rattle.elf_field.specs.declared.order.Order.{Order}
 use Rattle.elf_image_rules.specs.Rows.{AtEntry}
-use Rattle.elf_table_symbols.specs.Sections.{Sections, content, order}
+use Rattle.elf_table_base.specs.Sections.{Sections, content, order}
 use Rattle.elf_table_lists.specs.DynamicArray.{IsNullEntry, dynamic_array_of, dynamic_entries, dynamic_entry, dynamic_entry_count, is_null_entry, no_dynamic_entry}
 
 pub length_dynamic : (o : Order) (table : List ℕ) (n : ℕ) → length (dynamic_entries o table n) ≡ n
@@ -55,7 +55,7 @@ dynamic_array_is f i o table end ordered read is =
     ∙ ap (λ (t : List ℕ). take (position_or_len is_null_entry (dynamic_entries o t (dynamic_entry_count t))) (dynamic_entries o t (dynamic_entry_count t))) read
     ∙ ap (λ (p : Order). take (position_or_len is_null_entry (dynamic_entries p (content f i) (dynamic_entry_count (content f i)))) (dynamic_entries p (content f i) (dynamic_entry_count (content f i)))) ordered
 
--- the lowest place of an entry with P before that index is the lowest one of an entry with P that no entry before it, nor itself, ends
+-- the lowest offset of an entry with P before that index is the lowest one of an entry with P that no entry before it, nor itself, ends
 pub lowest_before_end : (n end : ℕ) (Null P : ℕ → Type 0) (place : ℕ → ℕ) (found : Option ℕ) → end ≤ n → ((k : ℕ) → k < end → Null k → ⊥) →
     (end < n → Null end) → IsLowest (AtEntry end P place) found → IsLowest (AtEntry n (λ j. ((k : ℕ) → k ≤ j → ¬ Null k) × P j) place) found
 lowest_before_end n end Null P place found within before null lowest = lower found lowest where

@@ -7,9 +7,9 @@ use Rattle.elf_extent.specs.Least.{IsLeast, IsLowest, Never}
 use Rattle.elf_field.specs.Abi.{WORD_SIZE}
 use Rattle.elf_field.specs.declared.order.Order.{Order}
 use Rattle.elf_table_symbols.specs.Below.{Below}
-use Rattle.elf_table_symbols.specs.Sections.{Sections, content, order, section}
+use Rattle.elf_table_base.specs.Sections.{Sections, content, order, section}
 use Rattle.elf_table_lists.specs.GroupRules.{IsNamedBefore, IsUnfit, IsWrongMember, wrong_member}
-use Rattle.elf_table_lists.specs.Groups.{AreAscending, member, member_count}
+use Rattle.elf_table_lists.specs.Groups.{MembersAscend, member, member_count}
 
 -- these are the first j members
 pub record AreNamed (o : Order) (words : List ℕ) (j : ℕ) (seen : BTreeSet ℕ) : Type 0 where
@@ -18,7 +18,7 @@ pub record AreNamed (o : Order) (words : List ℕ) (j : ℕ) (seen : BTreeSet �
 
 -- where the members ascend the lowest that can't be in the group is the lowest wrong one
 pub ascending_lowest : (f : Sections) (i : ℕ) (found : Option ℕ) →
-    AreAscending (order f) (content f i) →
+    MembersAscend (order f) (content f i) →
     IsLowest (Below (member_count (content f i)) (λ j. IsUnfit f i (member (order f) (content f i) j))) found →
     IsLowest (Below (member_count (content f i)) (IsWrongMember f i)) found
 ascending_lowest f i None above never = λ j wrong. elim wrong.1 [

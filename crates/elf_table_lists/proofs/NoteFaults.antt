@@ -10,23 +10,23 @@ use Rattle.elf_image_rules.specs.declared.broken.Broken.{Broken}
 use Rattle.elf_image_rules.specs.Rows.{FirstIn}
 use Rattle.elf_table_lists.specs.NoteCut.{IsCut}
 use Rattle.elf_table_lists.specs.NoteRules.{AtNote, IsUnclosedNoteName, name_last, note_desc_past_end, note_name_past_end, note_rules, partial_note, unclosed_note_name}
-use Rattle.elf_table_lists.specs.Notes.{AreWhole, desc_start, note_end, note_place}
+use Rattle.elf_table_lists.specs.Notes.{AreNotesWhole, desc_start, note_end, note_offset}
 use Rattle.elf_table_lists.proofs.NotePlaces.{end_above, place_next, place_rises}
 
 -- where one of the first n notes has a name that isn't closed, the last byte of it
 abbrev pub UnclosedBefore : Order → List ℕ → ℕ → ℕ → Type 0
-UnclosedBefore o table n = λ y. (k : ℕ) × (k < n) × IsUnclosedNoteName o table (note_place o table 0 k) × (y ≡ name_last o table (note_place o table 0 k))
+UnclosedBefore o table n = λ y. (k : ℕ) × (k < n) × IsUnclosedNoteName o table (note_offset o table 0 k) × (y ≡ name_last o table (note_offset o table 0 k))
 
 -- the notes before offset x are whole, and this is the lowest name of theirs that isn't closed
 pub record AreJudged (o : Order) (table : List ℕ) (x : ℕ) (unclosed : Option ℕ) : Type 0 where
   pub count : ℕ
-  pub here : note_place o table 0 count ≡ x
+  pub here : note_offset o table 0 count ≡ x
   pub inside : x ≤ length table
-  pub whole : (k : ℕ) → k < count → note_end o table (note_place o table 0 k) ≤ length table
+  pub whole : (k : ℕ) → k < count → note_end o table (note_offset o table 0 k) ≤ length table
   pub lowest : IsLowest (UnclosedBefore o table count) unclosed
 
 pub none_judged : (o : Order) (table : List ℕ) → AreJudged o table 0 None
-unfolding note_place
+unfolding note_offset
 none_judged o table = record {
   count = 0;
   here = refl;
@@ -38,21 +38,21 @@ none_judged o table = record {
 -- ---- a note that is cut short
 
 -- a note is one of those before x, or begins at x or behind it
-behind : (o : Order) (table : List ℕ) (x : ℕ) (unclosed : Option ℕ) (are : AreJudged o table x unclosed) (k : ℕ) → are.count ≤ k → x ≤ note_place o table 0 k
+behind : (o : Order) (table : List ℕ) (x : ℕ) (unclosed : Option ℕ) (are : AreJudged o table x unclosed) (k : ℕ) → are.count ≤ k → x ≤ note_offset o table 0 k
 behind o table x unclosed are k le =
     let rises = place_rises o table 0 are.count (k - are.count) in
-    let same : note_place o table 0 (are.count + (k - are.count)) ≡ note_place o table 0 k = ap (note_place o table 0) (omega arith) in
+    let same : note_offset o table 0 (are.count + (k - are.count)) ≡ note_offset o table 0 k = ap (note_offset o table 0) (omega arith) in
     let here = are.here in
     omega arith
 
 -- and where the one at x is cut short none begins behind it
 at_cut : (o : Order) (table : List ℕ) (x : ℕ) (unclosed : Option ℕ) (are : AreJudged o table x unclosed) → length table < note_end o table x →
-    (k : ℕ) → note_place o table 0 k < length table → are.count ≤ k → note_place o table 0 k ≡ x
+    (k : ℕ) → note_offset o table 0 k < length table → are.count ≤ k → note_offset o table 0 k ≡ x
 at_cut o table x unclosed are cut k begins le = elim (cases_eq are.count k) [
-  | inl same ↦ sym (ap (note_place o table 0) same) ∙ are.here
+  | inl same ↦ sym (ap (note_offset o table 0) same) ∙ are.here
   | inr other ↦
       let rises = place_rises o table 0 (suc are.count) (k - suc are.count) in
-      let same : note_place o table 0 (suc are.count + (k - suc are.count)) ≡ note_place o table 0 k = ap (note_place o table 0) (omega arith) in
+      let same : note_offset o table 0 (suc are.count + (k - suc are.count)) ≡ note_offset o table 0 k = ap (note_offset o table 0) (omega arith) in
       let next = place_next o table 0 are.count ∙ ap (note_end o table) are.here in
       absurd (omega arith)
 ]
@@ -61,7 +61,7 @@ at_cut o table x unclosed are cut k begins le = elim (cases_eq are.count k) [
 never_at : (o : Order) (table : List ℕ) (x : ℕ) (unclosed : Option ℕ) (P : ℕ → Type 0) (place : ℕ → ℕ) → AreJudged o table x unclosed →
     length table < note_end o table x → ((y : ℕ) → note_end o table y ≤ length table → P y → ⊥) → (P x → ⊥) → Never (AtNote o table P place)
 never_at o table x unclosed P place are cut past other y broken = elim (cases_lt broken.0 are.count) [
-  | inl before ↦ past (note_place o table 0 broken.0) (are.whole broken.0 before) broken.2
+  | inl before ↦ past (note_offset o table 0 broken.0) (are.whole broken.0 before) broken.2
   | inr le ↦ other (subst P (at_cut o table x unclosed are cut broken.0 broken.1 le) broken.2)
 ]
 
@@ -71,7 +71,7 @@ least_at : (o : Order) (table : List ℕ) (x : ℕ) (unclosed : Option ℕ) (P :
 least_at o table x unclosed P place are within cut past holds = record {
   holds = (are.count, rw are.here within, subst P (sym are.here) holds, ap place (sym are.here));
   lowest = λ y broken. elim (cases_lt broken.0 are.count) [
-    | inl before ↦ absurd (past (note_place o table 0 broken.0) (are.whole broken.0 before) broken.2)
+    | inl before ↦ absurd (past (note_offset o table 0 broken.0) (are.whole broken.0 before) broken.2)
     | inr le ↦
         let same = broken.3 ∙ ap place (at_cut o table x unclosed are cut broken.0 broken.1 le) in
         omega arith
@@ -95,7 +95,7 @@ name_whole o table y whole cut = let below = desc_below o table y in omega arith
 note_whole : (o : Order) (table : List ℕ) (y : ℕ) → note_end o table y ≤ length table → length table < note_end o table y → ⊥
 note_whole o table y whole cut = omega arith
 
-pub cut_fault : (o : Order) (table : List ℕ) (start x : ℕ) (unclosed : Option ℕ) (broken : Broken) → AreJudged o table x unclosed → x < length table →
+pub cut_fault : (o : Order) (table : List ℕ) (start x : ℕ) (unclosed : Option ℕ) (broken : Broken ℕ) → AreJudged o table x unclosed → x < length table →
     IsCut o table start x broken → FirstIn (note_rules o table start) (Some (broken.rule, broken.at))
 unfolding note_rules
 cut_fault o table start x unclosed broken are within (inl (short, rule, at)) =
@@ -128,11 +128,11 @@ last_inside o table y unclosed = let some = unclosed.0 in (omega arith, omega ar
 last_before : (o : Order) (table : List ℕ) (x : ℕ) (unclosed : Option ℕ) (are : AreJudged o table x unclosed) (y : ℕ) → UnclosedBefore o table are.count y → y < x
 last_before o table x unclosed are y here =
     let k = here.0 in
-    let inside = last_inside o table (note_place o table 0 k) here.2 in
+    let inside = last_inside o table (note_offset o table 0 k) here.2 in
     let next = place_next o table 0 k in
     let rises = place_rises o table 0 (suc k) (are.count - suc k) in
     let lt = here.1 in
-    let same : note_place o table 0 (suc k + (are.count - suc k)) ≡ note_place o table 0 are.count = ap (note_place o table 0) (omega arith) in
+    let same : note_offset o table 0 (suc k + (are.count - suc k)) ≡ note_offset o table 0 are.count = ap (note_offset o table 0) (omega arith) in
     let at = are.here in
     let is = here.3 in
     omega arith
@@ -145,13 +145,13 @@ unclosed_within o table x last are =
 
 -- of one note more
 one_further : (o : Order) (table : List ℕ) (n y : ℕ) → UnclosedBefore o table (suc n) y →
-    UnclosedBefore o table n y ⊎ (IsUnclosedNoteName o table (note_place o table 0 n) × (y ≡ name_last o table (note_place o table 0 n)))
+    UnclosedBefore o table n y ⊎ (IsUnclosedNoteName o table (note_offset o table 0 n) × (y ≡ name_last o table (note_offset o table 0 n)))
 one_further o table n y here = elim (cases_lt here.0 n) [
   | inl before ↦ inl (here.0, before, here.2, here.3)
   | inr after ↦
       let lt = here.1 in
       let same : here.0 ≡ n = omega arith in
-      inr (subst (λ (k : ℕ). IsUnclosedNoteName o table (note_place o table 0 k) × (y ≡ name_last o table (note_place o table 0 k))) same (here.2, here.3))
+      inr (subst (λ (k : ℕ). IsUnclosedNoteName o table (note_offset o table 0 k) × (y ≡ name_last o table (note_offset o table 0 k))) same (here.2, here.3))
 ]
 
 wider : (o : Order) (table : List ℕ) (n y : ℕ) → UnclosedBefore o table n y → UnclosedBefore o table (suc n) y
@@ -204,7 +204,7 @@ judged_more o table x unclosed found are whole told = record {
 
 -- all notes are among those judged
 all_judged : (o : Order) (table : List ℕ) (x : ℕ) (unclosed : Option ℕ) (are : AreJudged o table x unclosed) → length table ≤ x → (k : ℕ) →
-    note_place o table 0 k < length table → k < are.count
+    note_offset o table 0 k < length table → k < are.count
 all_judged o table x unclosed are end k begins = elim (cases_lt k are.count) [
   | inl before ↦ before
   | inr le ↦ (let at = behind o table x unclosed are k le in absurd (omega arith))
@@ -213,23 +213,23 @@ all_judged o table x unclosed are end k begins = elim (cases_lt k are.count) [
 never_broken : (o : Order) (table : List ℕ) (x : ℕ) (unclosed : Option ℕ) (P : ℕ → Type 0) (place : ℕ → ℕ) → AreJudged o table x unclosed →
     length table ≤ x → ((y : ℕ) → note_end o table y ≤ length table → P y → ⊥) → Never (AtNote o table P place)
 never_broken o table x unclosed P place are end past y broken =
-    past (note_place o table 0 broken.0) (are.whole broken.0 (all_judged o table x unclosed are end broken.0 broken.1)) broken.2
+    past (note_offset o table 0 broken.0) (are.whole broken.0 (all_judged o table x unclosed are end broken.0 broken.1)) broken.2
 
 begins_inside : (o : Order) (table : List ℕ) (x : ℕ) (unclosed : Option ℕ) (are : AreJudged o table x unclosed) (k : ℕ) → k < are.count →
-    note_place o table 0 k < length table
+    note_offset o table 0 k < length table
 begins_inside o table x unclosed are k lt =
-    let whole = are.whole k lt in let above = end_above o table (note_place o table 0 k) in omega arith
+    let whole = are.whole k lt in let above = end_above o table (note_offset o table 0 k) in omega arith
 
 unclosed_rule : (o : Order) (table : List ℕ) (start x : ℕ) (unclosed : Option ℕ) → AreJudged o table x unclosed → length table ≤ x →
     IsLowest (unclosed_note_name o table start) (option_map (λ last. start + last) unclosed)
 unclosed_rule o table start x None are end = λ y broken.
-    are.lowest (name_last o table (note_place o table 0 broken.0)) (broken.0, all_judged o table x None are end broken.0 broken.1, broken.2, refl)
+    are.lowest (name_last o table (note_offset o table 0 broken.0)) (broken.0, all_judged o table x None are end broken.0 broken.1, broken.2, refl)
 unclosed_rule o table start x (Some low) are end = record {
   holds =
       (let here = are.lowest.holds in
       (here.0, begins_inside o table x (Some low) are here.0 here.1, here.2, ap (λ (n : ℕ). start + n) here.3));
   lowest = λ y broken.
-      (let le = are.lowest.lowest (name_last o table (note_place o table 0 broken.0)) (broken.0, all_judged o table x (Some low) are end broken.0 broken.1, broken.2, refl) in
+      (let le = are.lowest.lowest (name_last o table (note_offset o table 0 broken.0)) (broken.0, all_judged o table x (Some low) are end broken.0 broken.1, broken.2, refl) in
       let is = broken.3 in omega arith);
 }
 
@@ -256,9 +256,9 @@ unclosed_fault o table start x last are end =
 
 -- ---- notes that break no rule
 
-pub sound_notes : (o : Order) (table : List ℕ) (start : ℕ) → FirstIn (note_rules o table start) None → AreWhole o table 0
+pub sound_notes : (o : Order) (table : List ℕ) (start : ℕ) → FirstIn (note_rules o table start) None → AreNotesWhole o table 0
 unfolding note_rules
-sound_notes o table start sound k begins = elim (cases_lt (length table) (note_end o table (note_place o table 0 k))) [
+sound_notes o table start sound k begins = elim (cases_lt (length table) (note_end o table (note_offset o table 0 k))) [
   | inl cut ↦ absurd (sound.1.1.0 _ (k, begins, cut, refl))
   | inr whole ↦ whole
 ]

@@ -3,7 +3,7 @@ use Rattle.std.proofs.Common.{◌≡◌, ℕ, ◌+◌, ◌-◌, ◌≤◌, List,
 use Rattle.std.proofs.lemmas.List.{drop-drop, drop-take, take-take}
 use Rattle.elf_extent.specs.declared.extent.Extent.{Extent}
 use Rattle.elf_field.specs.Abi.{N_DESCSZ_AT, N_NAMESZ_AT, N_TYPE_AT, WORD_SIZE}
-use Rattle.elf_field.specs.RecordTableLaws.{record_of_part}
+use Rattle.elf_field.proofs.RecordTableLaws.{record_of_part}
 use Rattle.elf_field.specs.Word.{word_at}
 use Rattle.elf_field.specs.WordLaws.{word_laws}
 use Rattle.elf_field.specs.declared.order.Order.{Order}

@@ -4,24 +4,24 @@ use Rattle.std.specs.Prelude.{◌≡◌, ◌≢◌, ℕ, ◌+◌, ◌*◌, ◌<�
 use Rattle.elf_field.specs.Abi.{GRP_COMDAT, SHF_GROUP, SH_INFO_AT, SH_SIZE_AT, WORD_SIZE}
 use Rattle.elf_field.specs.declared.order.Order.{Order}
 use Rattle.elf_image_rules.specs.Rows.{AtEntry, Row, Ruled, When, rule}
-use Rattle.elf_table_symbols.specs.declared.table_kind.TableKind.TheVariants.{SectionGroup}
-use Rattle.elf_table_symbols.specs.OwnRules.{own_rules}
-use Rattle.elf_table_symbols.specs.Sections.{Sections, content, count, header_at, order, section}
+use Rattle.elf_table_base.specs.declared.table_kind.TableKind.TheVariants.{SectionGroup}
+use Rattle.elf_table_base.specs.OwnRules.{own_rules}
+use Rattle.elf_table_base.specs.Sections.{Sections, content, count, header_at, order, section}
 use Rattle.elf_table_symbols.specs.SymbolRules.{entry_count, symbol_table_rules}
 use Rattle.elf_table_lists.specs.Groups.{group_flags, member, member_count}
 
 -- rule 55: the group has no word of flags
-abbrev pub empty_group : Sections → ℕ → Row
+abbrev pub empty_group : Sections → ℕ → Row ℕ
 empty_group f i = When ((section f i).sh_size ≡ 0) (header_at f i + SH_SIZE_AT)
 
 -- rule 56: its flags are neither none nor GRP_COMDAT alone
-abbrev pub wrong_group_flags : Sections → ℕ → Row
+abbrev pub wrong_group_flags : Sections → ℕ → Row ℕ
 wrong_group_flags f i =
     let flags = group_flags (order f) (content f i) in
     When ((flags ≢ 0) × (flags ≢ GRP_COMDAT)) (section f i).sh_offset
 
 -- rule 57: its signature is symbol 0, or none of those in the symbol table
-abbrev pub wrong_signature : Sections → ℕ → Row
+abbrev pub wrong_signature : Sections → ℕ → Row ℕ
 wrong_signature f i =
     let s = section f i in
     When ((s.sh_info ≡ 0) ⊎ (entry_count (content f s.sh_link) ≤ s.sh_info)) (header_at f i + SH_INFO_AT)
@@ -40,23 +40,23 @@ IsWrongMember f i j =
     IsUnfit f i m ⊎ IsNamedBefore (order f) (content f i) j m
 
 -- rule 58: a member can't be in the group, or is in it twice
-abbrev pub wrong_member : Sections → ℕ → Row
+abbrev pub wrong_member : Sections → ℕ → Row ℕ
 wrong_member f i =
     AtEntry (member_count (content f i)) (IsWrongMember f i) (λ j. (section f i).sh_offset + WORD_SIZE * (j + 1))
 
 -- rules 55 to 57, which need no memory
-unfoldable pub group_front_rules : Sections → ℕ → List {1} Ruled
+unfoldable pub group_front_rules : Sections → ℕ → List {1} (Ruled ℕ)
 group_front_rules f i = rule 55 (empty_group f i) ∷ rule 56 (wrong_group_flags f i) ∷ rule 57 (wrong_signature f i) ∷ []
 
-unfoldable pub group_member_rules : Sections → ℕ → List {1} Ruled
+unfoldable pub group_member_rules : Sections → ℕ → List {1} (Ruled ℕ)
 group_member_rules f i = rule 58 (wrong_member f i) ∷ []
 
-unfoldable pub group_rules : Sections → ℕ → List {1} Ruled
+unfoldable pub group_rules : Sections → ℕ → List {1} (Ruled ℕ)
 group_rules f i = group_front_rules f i ++ group_member_rules f i
 
 -- all rules of the group in section i but rule 58, and all of them, in the order in which they are tested
-unfoldable pub group_section_front : Sections → ℕ → List {1} Ruled
+unfoldable pub group_section_front : Sections → ℕ → List {1} (Ruled ℕ)
 group_section_front f i = own_rules SectionGroup f i ++ (symbol_table_rules f (section f i).sh_link ++ group_front_rules f i)
 
-unfoldable pub group_section_rules : Sections → ℕ → List {1} Ruled
+unfoldable pub group_section_rules : Sections → ℕ → List {1} (Ruled ℕ)
 group_section_rules f i = own_rules SectionGroup f i ++ (symbol_table_rules f (section f i).sh_link ++ group_rules f i)

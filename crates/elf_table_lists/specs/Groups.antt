@@ -3,7 +3,7 @@ use Rattle.std.specs.Prelude.{ℕ, ◌+◌, ◌-◌, ◌/◌, ◌<◌, List, len
 use Rattle.std.specs.List.{range_with_len}
 use Rattle.elf_field.specs.Abi.{WORD_SIZE}
 use Rattle.elf_field.specs.declared.order.Order.{Order}
-use Rattle.elf_table_symbols.specs.Sections.{Sections, content, order, section}
+use Rattle.elf_table_base.specs.Sections.{Sections, content, order, section}
 use Rattle.elf_table_symbols.specs.SymbolRules.{word}
 
 pub record GroupValue : Type 0 where
@@ -24,8 +24,8 @@ abbrev pub member : Order → List ℕ → ℕ → ℕ
 member o words j = word o words (j + 1)
 
 -- each member is above those before it
-abbrev pub AreAscending : Order → List ℕ → Type 0
-AreAscending o words = (k j : ℕ) → k < j → j < member_count words → member o words k < member o words j
+abbrev pub MembersAscend : Order → List ℕ → Type 0
+MembersAscend o words = (k j : ℕ) → k < j → j < member_count words → member o words k < member o words j
 
 unfoldable pub members_in : Order → List ℕ → List ℕ
 members_in o words = map (member o words) (range_with_len 0 (member_count words))

@@ -6,7 +6,7 @@ use Rattle.elf_image_rules.specs.declared.broken.Broken.{Broken}
 use Rattle.elf_table_lists.specs.Notes.{desc_start, note_end}
 
 -- of the note at offset x of a content at `start`
-abbrev pub IsCut : Order → List ℕ → ℕ → ℕ → Broken → Type 0
+abbrev pub IsCut : Order → List ℕ → ℕ → ℕ → Broken ℕ → Type 0
 IsCut o table start x broken =
     ((length table < x + NHDR_SIZE) × (broken.rule ≡ 59) × (broken.at ≡ start + x)) ⊎
     ((x + NHDR_SIZE ≤ length table) × (length table < desc_start o table x) × (broken.rule ≡ 60) × (broken.at ≡ start + x + N_NAMESZ_AT)) ⊎

@@ -4,7 +4,7 @@ use Rattle.std.specs.Prelude.{ℕ, zero, suc, ◌+◌, ◌-◌, ◌*◌, ◌/◌
 use Rattle.elf_field.specs.Abi.{N_DESCSZ_AT, N_NAMESZ_AT, N_TYPE_AT, NHDR_SIZE, NOTE_ALIGN}
 use Rattle.elf_field.specs.Word.{word_at}
 use Rattle.elf_field.specs.declared.order.Order.{Order}
-use Rattle.elf_table_symbols.specs.Sections.{Sections, content, order}
+use Rattle.elf_table_base.specs.Sections.{Sections, content, order}
 
 pub record NoteValue : Type 0 where
   pub note_type : ℕ
@@ -45,14 +45,14 @@ note_at o table x = record {
 -- ---- all of them
 
 -- where note k begins, of those from offset x on: each begins where the one before it ends, if bytes are left there
-unfoldable pub note_place : Order → List ℕ → ℕ → ℕ → ℕ
-note_place o table x zero = x
-note_place o table x (suc k) = note_place o table (note_end o table x) k
+unfoldable pub note_offset : Order → List ℕ → ℕ → ℕ → ℕ
+note_offset o table x zero = x
+note_offset o table x (suc k) = note_offset o table (note_end o table x) k
 
 -- no note from offset x on is cut short
-abbrev pub AreWhole : Order → List ℕ → ℕ → Type 0
-AreWhole o table x =
-    (k : ℕ) → note_place o table x k < length table → note_end o table (note_place o table x k) ≤ length table
+abbrev pub AreNotesWhole : Order → List ℕ → ℕ → Type 0
+AreNotesWhole o table x =
+    (k : ℕ) → note_offset o table x k < length table → note_end o table (note_offset o table x k) ≤ length table
 
 -- the notes from offset x on, n of them at most
 unfoldable pub first_notes : Order → List ℕ → ℕ → ℕ → List NoteValue

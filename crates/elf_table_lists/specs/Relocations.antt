@@ -5,7 +5,7 @@ use Rattle.elf_field.specs.Abi.{RELA_SIZE, REL_SIZE, SHT_RELA}
 use Rattle.elf_field.specs.Rel.{rel_at}
 use Rattle.elf_field.specs.Rela.{rela_at}
 use Rattle.elf_field.specs.declared.order.Order.{Order}
-use Rattle.elf_table_symbols.specs.Sections.{Sections, content, order, section}
+use Rattle.elf_table_base.specs.Sections.{Sections, content, order, section}
 use Rattle.elf_table_lists.specs.declared.relocation.Relocation.{Relocation}
 
 -- the relocations of a section of this type have addends
@@ -34,5 +34,5 @@ unfoldable pub relocations_of : Sections → ℕ → List Relocation
 relocations_of f i = relocations_in (has_addends (section f i).sh_type) (order f) (content f i)
 
 -- the relocation that stands for one that isn't there
-abbrev pub no_relocation : Relocation
-no_relocation = record { offset = 0; symbol = 0; relocation_type = 0; addend = None }
+abbrev pub no_relocation_entry : Relocation
+no_relocation_entry = record { offset = 0; symbol = 0; relocation_type = 0; addend = None }

@@ -4,7 +4,7 @@ ghost use Rattle.elf_extent.specs.Least.{IsLowest};
 ghost use Rattle.elf_image_rules.specs.Broken.{fault_of};
 ghost use Rattle.elf_image_rules.specs.HeaderRules.{MAX_LEN};
 ghost use Rattle.elf_image_rules.specs.Rows.{AtEntry, FirstIn};
-ghost use Rattle.elf_table_symbols.specs.Sections.{section, sections_of};
+ghost use Rattle.elf_table_base.specs.Sections.{section, sections_of};
 ghost use Rattle.elf_table_lists.specs.DynamicArray.{dynamic_entry as dynamic_entry_of, dynamic_entry_count as dynamic_entry_count_of};
 ghost use Rattle.elf_table_lists.specs.DynamicRules.{IsDynamicStringPastEnd, dynamic_rules, dynamic_section_rules};
 
@@ -13,12 +13,13 @@ use elf_field::Order;
 use elf_field::abi::*;
 use elf_image_rules::Broken;
 use elf_image_type::Image;
-use elf_table_symbols::rules::*;
-use elf_table_symbols::{TableKind, judge_linked_strings, judge_own_rules};
+use elf_table_base::rules::*;
+use elf_table_base::{TableKind, judge_own_rules};
+use elf_table_symbols::judge_linked_strings;
 
 /// All rules of the dynamic section `i`.
 #[tactic(auto, unfolding(crate::specs::DynamicRules::dynamic_section_rules))]
-pub fn judge_dynamic_section(image: &Image<'_>, i: usize) -> Result<(), Broken>
+pub fn judge_dynamic_section(image: &Image<'_>, i: usize) -> Result<(), Broken<u64>>
     requires { i < length image.now.sections }
     ensures { FirstIn (dynamic_section_rules (sections_of image.now) i) (fault_of result) }
 {
@@ -30,7 +31,7 @@ pub fn judge_dynamic_section(image: &Image<'_>, i: usize) -> Result<(), Broken>
 
 /// Rules 63 and 64 of the dynamic section `i`, which links to a section.
 #[tactic(auto, unfolding(crate::specs::DynamicRules::dynamic_rules))]
-fn judge_dynamic_array(image: &Image<'_>, i: usize) -> Result<(), Broken>
+fn judge_dynamic_array(image: &Image<'_>, i: usize) -> Result<(), Broken<u64>>
     requires there { i < length image.now.sections }
     requires linked { (section (sections_of image.now) i).sh_link < length image.now.sections }
     ensures { FirstIn (dynamic_rules (sections_of image.now) i) (fault_of result) }

@@ -2,10 +2,10 @@
 ghost use Rattle.std.specs.Prelude.{◌≡◌, ◌<◌, IfErr, None, length, slice_index};
 ghost use Rattle.elf_image_type.specs.declared.fault.Fault.TheVariants.{OutOfMemory};
 ghost use Rattle.elf_image_rules.specs.Rows.{FirstIn};
-ghost use Rattle.elf_table_symbols.specs.Judged.{IsJudgedBehind};
-ghost use Rattle.elf_table_symbols.specs.Sections.{content, order, sections_of};
+ghost use Rattle.elf_table_base.specs.Judged.{IsJudgedBehind};
+ghost use Rattle.elf_table_base.specs.Sections.{content, order, sections_of};
 ghost use Rattle.elf_table_lists.specs.GroupRules.{group_section_front, group_section_rules};
-ghost use Rattle.elf_table_lists.specs.Groups.{AreAscending, group_of};
+ghost use Rattle.elf_table_lists.specs.Groups.{MembersAscend, group_of};
 ghost use Rattle.elf_table_lists.specs.MembersLeft.{members_left};
 
 use crate::group_rules::{judge_group_section, member, member_count};
@@ -47,7 +47,7 @@ impl<'a> Group<'a> {
         ensures judged { let f = sections_of image.now in
             IsJudgedBehind (group_section_front f i) (group_section_rules f i) (λ group. group ≡ group_of f i) result }
         ensures memory { let f = sections_of image.now in
-            IfErr result (λ fault. fault ≡ OutOfMemory → ¬ AreAscending (order f) (content f i)) }
+            IfErr result (λ fault. fault ≡ OutOfMemory → ¬ MembersAscend (order f) (content f i)) }
     {
         judge_group_section(alloc, image, i, SymbolVerdicts::Unknown)?;
         Ok(Group::of_sound(image, i))

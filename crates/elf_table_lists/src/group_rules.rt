@@ -6,18 +6,19 @@ ghost use Rattle.elf_extent.specs.Least.{IsLowest};
 ghost use Rattle.elf_image_rules.specs.Broken.{fault_of};
 ghost use Rattle.elf_image_rules.specs.Rows.{FirstIn};
 ghost use Rattle.elf_table_symbols.specs.Below.{Below};
-ghost use Rattle.elf_table_symbols.specs.Judged.{IsJudgedBehind};
+ghost use Rattle.elf_table_base.specs.Judged.{IsJudgedBehind};
 ghost use Rattle.elf_table_symbols.specs.LinkedVerdicts.{AreKnown};
-ghost use Rattle.elf_table_symbols.specs.Sections.{content, order, section, sections_of};
+ghost use Rattle.elf_table_base.specs.Sections.{content, order, section, sections_of};
 ghost use Rattle.elf_table_lists.specs.GroupRules.{IsUnfit, IsWrongMember, group_front_rules, group_rules, group_section_front, group_section_rules};
-ghost use Rattle.elf_table_lists.specs.Groups.{AreAscending, member as member_of, member_count as member_count_of};
+ghost use Rattle.elf_table_lists.specs.Groups.{MembersAscend, member as member_of, member_count as member_count_of};
 
 use elf_field::Order;
 use elf_field::abi::*;
 use elf_image_rules::Broken;
 use elf_image_type::{Fault, Image};
-use elf_table_symbols::rules::*;
-use elf_table_symbols::{SymbolVerdicts, TableKind, judge_own_rules, word};
+use elf_table_base::rules::*;
+use elf_table_base::{TableKind, judge_own_rules};
+use elf_table_symbols::{SymbolVerdicts, word};
 use std::alloc::{AllocError, Global};
 use std::collections::BTreeSet;
 
@@ -34,7 +35,7 @@ pub fn judge_group_section(
     ensures judged { let f = sections_of image.now in
         IsJudgedBehind (group_section_front f i) (group_section_rules f i) (λ _. Unit {0}) result }
     ensures memory { let f = sections_of image.now in
-        IfErr result (λ fault. fault ≡ OutOfMemory → ¬ AreAscending (order f) (content f i)) }
+        IfErr result (λ fault. fault ≡ OutOfMemory → ¬ MembersAscend (order f) (content f i)) }
 {
     judge_own_rules(image, i, TableKind::SectionGroup)?;
     symbols.of(image, image.section(i).sh_link as usize)?;
@@ -50,7 +51,7 @@ fn judge_group(alloc: Global, image: &Image<'_>, i: usize) -> Result<(), Fault>
     ensures judged { let f = sections_of image.now in
         IsJudgedBehind (group_front_rules f i) (group_rules f i) (λ _. Unit {0}) result }
     ensures memory { let f = sections_of image.now in
-        IfErr result (λ fault. fault ≡ OutOfMemory → ¬ AreAscending (order f) (content f i)) }
+        IfErr result (λ fault. fault ≡ OutOfMemory → ¬ MembersAscend (order f) (content f i)) }
 {
     judge_group_front(image, i)?;
     let wrong = lowest_wrong_member(alloc, image, i)?;
@@ -73,7 +74,7 @@ fn member_offset(image: &Image<'_>, i: usize, j: usize) -> u64
 
 /// Rules 55 to 57 of the group in section `i`.
 #[tactic(auto, unfolding(crate::specs::GroupRules::group_front_rules))]
-fn judge_group_front(image: &Image<'_>, i: usize) -> Result<(), Broken>
+fn judge_group_front(image: &Image<'_>, i: usize) -> Result<(), Broken<u64>>
     requires there { i < length image.now.sections }
     requires typed { (section (sections_of image.now) i).sh_type ≡ SHT_GROUP }
     requires sized { (section (sections_of image.now) i).sh_size % WORD_SIZE ≡ 0 }
@@ -108,7 +109,7 @@ fn lowest_wrong_member(
     requires { i < length image.now.sections }
     ensures found { let f = sections_of image.now in
         IfOk result (λ found. IsLowest (Below (member_count_of (content f i)) (IsWrongMember f i)) found) }
-    ensures memory { OnErr result (¬ AreAscending (order (sections_of image.now)) (content (sections_of image.now) i)) }
+    ensures memory { OnErr result (¬ MembersAscend (order (sections_of image.now)) (content (sections_of image.now) i)) }
 {
     let words = image.content(i);
     if is_ascending(image.order(), words) {
@@ -165,7 +166,7 @@ fn is_unfit(image: &Image<'_>, i: usize, member: u32) -> bool
 
 /// Whether each member of a group of this content is above the one before it.
 fn is_ascending(order: Order, words: &[u8]) -> bool
-    ensures { IsTrue result ↔ AreAscending order words.now }
+    ensures { IsTrue result ↔ MembersAscend order words.now }
 {
     for j in 1..member_count(words) {
         if member(order, words, j) <= member(order, words, j - 1) {

@@ -3,7 +3,7 @@ ghost use Rattle.std.specs.Prelude.{◌≡◌, ◌<◌, ◌≤◌, ◌+◌, Matc
 ghost use Rattle.elf_image_rules.specs.Broken.{fault_of};
 ghost use Rattle.elf_image_rules.specs.HeaderRules.{MAX_LEN};
 ghost use Rattle.elf_image_rules.specs.Rows.{FirstIn};
-ghost use Rattle.elf_table_symbols.specs.Sections.{sections_of};
+ghost use Rattle.elf_table_base.specs.Sections.{sections_of};
 ghost use Rattle.elf_table_lists.specs.NoteRules.{IsUnclosedNoteName, name_last, note_rules, note_section_rules};
 ghost use Rattle.elf_table_lists.specs.Notes.{note_end as note_end_of};
 ghost use Rattle.elf_table_lists.specs.NoteCut.{IsCut};
@@ -13,11 +13,11 @@ use elf_field::Order;
 use elf_field::abi::*;
 use elf_image_rules::Broken;
 use elf_image_type::Image;
-use elf_table_symbols::rules::*;
+use elf_table_base::rules::*;
 
 /// Rules 40 and 59 to 62 of the note section `i`.
 #[tactic(auto, unfolding(crate::specs::NoteRules::note_section_rules))]
-pub fn judge_note_section(image: &Image<'_>, i: usize) -> Result<(), Broken>
+pub fn judge_note_section(image: &Image<'_>, i: usize) -> Result<(), Broken<u64>>
     requires { i < length image.now.sections }
     ensures { FirstIn (note_section_rules (sections_of image.now) i) (fault_of result) }
 {
@@ -31,7 +31,7 @@ pub fn judge_note_section(image: &Image<'_>, i: usize) -> Result<(), Broken>
 
 /// Rules 59 to 62, of the notes of a content at `start` in the file. A name that is not closed is answered only once all notes are
 /// seen to be whole.
-pub(crate) fn judge_notes(order: Order, table: &[u8], start: u64) -> Result<(), Broken>
+pub(crate) fn judge_notes(order: Order, table: &[u8], start: u64) -> Result<(), Broken<u64>>
     requires { 0 < length table.now → start + length table.now ≤ MAX_LEN }
     ensures { FirstIn (note_rules order table.now start) (fault_of result) }
 {
@@ -49,7 +49,7 @@ pub(crate) fn judge_notes(order: Order, table: &[u8], start: u64) -> Result<(), 
 }
 
 /// Where the note at this offset ends, or the one of rules 59 to 61 that it breaks.
-fn judge_end(order: Order, table: &[u8], start: u64, at: usize) -> Result<usize, Broken>
+fn judge_end(order: Order, table: &[u8], start: u64, at: usize) -> Result<usize, Broken<u64>>
     requires there { at < length table.now }
     requires inside { start + length table.now ≤ MAX_LEN }
     ensures { MatchResult result

@@ -1,8 +1,8 @@
 //! Note sections (gABI chapter 5, Note Section).
 ghost use Rattle.std.specs.Prelude.{◌≡◌, ◌<◌, None, length};
 ghost use Rattle.elf_image_rules.specs.Rows.{FirstIn};
-ghost use Rattle.elf_table_symbols.specs.Judged.{IsJudged};
-ghost use Rattle.elf_table_symbols.specs.Sections.{sections_of};
+ghost use Rattle.elf_table_base.specs.Judged.{IsJudged};
+ghost use Rattle.elf_table_base.specs.Sections.{sections_of};
 ghost use Rattle.elf_table_lists.specs.NoteRules.{note_section_rules};
 ghost use Rattle.elf_table_lists.specs.Notes.{notes_of};
 
@@ -21,13 +21,13 @@ pub struct Notes<'a> {
 
 impl<'a> Model for Notes<'a> {
     ghost use Rattle.std.specs.Prelude.{List};
-    ghost use Rattle.elf_table_lists.specs.Notes.{AreWhole, NoteValue, notes_in};
+    ghost use Rattle.elf_table_lists.specs.Notes.{AreNotesWhole, NoteValue, notes_in};
 
     ghost Value = { List NoteValue };
 
     ghost view = { λ a. notes_in a.order a.table.now 0 };
 
-    ghost invariant = { λ a. AreWhole a.order a.table.now 0 };
+    ghost invariant = { λ a. AreNotesWhole a.order a.table.now 0 };
 }
 
 impl<'a> Notes<'a> {
@@ -77,13 +77,13 @@ pub struct NoteIter<'a> {
 
 impl<'a> Model for NoteIter<'a> {
     ghost use Rattle.std.specs.Prelude.{List};
-    ghost use Rattle.elf_table_lists.specs.Notes.{AreWhole, NoteValue, notes_in};
+    ghost use Rattle.elf_table_lists.specs.Notes.{AreNotesWhole, NoteValue, notes_in};
 
     ghost Value = { List NoteValue };
 
     ghost view = { λ a. notes_in a.order a.table.now a.at };
 
-    ghost invariant = { λ a. AreWhole a.order a.table.now a.at };
+    ghost invariant = { λ a. AreNotesWhole a.order a.table.now a.at };
 }
 
 impl<'a> Iterator for NoteIter<'a> {

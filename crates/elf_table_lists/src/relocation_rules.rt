@@ -6,8 +6,8 @@ ghost use Rattle.elf_image_rules.specs.Broken.{fault_of};
 ghost use Rattle.elf_image_rules.specs.HeaderRules.{MAX_LEN};
 ghost use Rattle.elf_image_rules.specs.Rows.{AtEntry, FirstIn};
 ghost use Rattle.elf_table_symbols.specs.LinkedVerdicts.{AreKnown};
-ghost use Rattle.elf_table_symbols.specs.Sections.{section, sections_of};
-ghost use Rattle.elf_table_lists.specs.RelocationRules.{relocation_rules, relocation_section_rules};
+ghost use Rattle.elf_table_base.specs.Sections.{section, sections_of};
+ghost use Rattle.elf_table_lists.specs.RelocationRules.{relocation_entry_rules, relocation_section_rules};
 ghost use Rattle.elf_table_lists.specs.Relocations.{relocation_count as relocation_count_of, relocation_in};
 
 use crate::relocation::{relocation_at, relocation_count, relocation_offset};
@@ -15,8 +15,9 @@ use elf_field::Order;
 use elf_field::abi::*;
 use elf_image_rules::Broken;
 use elf_image_type::Image;
-use elf_table_symbols::rules::*;
-use elf_table_symbols::{SymbolVerdicts, TableKind, judge_own_rules};
+use elf_table_base::rules::*;
+use elf_table_base::{TableKind, judge_own_rules};
+use elf_table_symbols::SymbolVerdicts;
 
 /// All rules of the relocation section `i`, by these verdicts on the symbol tables.
 #[tactic(auto, unfolding(crate::specs::RelocationRules::relocation_section_rules))]
@@ -24,7 +25,7 @@ pub fn judge_relocation_section(
     image: &Image<'_>,
     i: usize,
     symbols: SymbolVerdicts<'_>,
-) -> Result<(), Broken>
+) -> Result<(), Broken<u64>>
     requires there { i < length image.now.sections }
     requires known { AreKnown (sections_of image.now) symbols }
     ensures { FirstIn (relocation_section_rules (sections_of image.now) i) (fault_of result) }
@@ -35,11 +36,11 @@ pub fn judge_relocation_section(
 }
 
 /// Rules 53 and 54 of the relocation section `i`, which links to a section.
-#[tactic(auto, unfolding(crate::specs::RelocationRules::relocation_rules))]
-fn judge_relocations(image: &Image<'_>, i: usize) -> Result<(), Broken>
+#[tactic(auto, unfolding(crate::specs::RelocationRules::relocation_entry_rules))]
+fn judge_relocations(image: &Image<'_>, i: usize) -> Result<(), Broken<u64>>
     requires there { i < length image.now.sections }
     requires linked { (section (sections_of image.now) i).sh_link < length image.now.sections }
-    ensures { FirstIn (relocation_rules (sections_of image.now) i) (fault_of result) }
+    ensures { FirstIn (relocation_entry_rules (sections_of image.now) i) (fault_of result) }
 {
     let section = image.section(i);
     if section.sh_info as usize >= image.section_count() {

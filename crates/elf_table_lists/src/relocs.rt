@@ -1,9 +1,9 @@
 //! Relocation sections (gABI chapter 4, Relocation).
 ghost use Rattle.std.specs.Prelude.{◌≡◌, ◌<◌, ◌==◌, length, get_or};
-ghost use Rattle.elf_table_symbols.specs.Judged.{IsJudged};
-ghost use Rattle.elf_table_symbols.specs.Sections.{sections_of};
+ghost use Rattle.elf_table_base.specs.Judged.{IsJudged};
+ghost use Rattle.elf_table_base.specs.Sections.{sections_of};
 ghost use Rattle.elf_table_lists.specs.RelocationRules.{relocation_section_rules};
-ghost use Rattle.elf_table_lists.specs.Relocations.{no_relocation, relocations_of};
+ghost use Rattle.elf_table_lists.specs.Relocations.{no_relocation_entry, relocations_of};
 ghost use Rattle.elf_table_lists.specs.RelocationsLeft.{relocations_left};
 
 use crate::relocation::{Relocation, relocation_at, relocation_count};
@@ -68,7 +68,7 @@ impl<'a> Relocs<'a> {
     /// Relocation `j`, which is below [`len`](Relocs::len).
     pub fn entry(&self, j: usize) -> Relocation
         requires { j < length self.now }
-        ensures { result ≡ get_or self.now j no_relocation }
+        ensures { result ≡ get_or self.now j no_relocation_entry }
     {
         relocation_at(self.order, self.addends, self.table, j)
     }

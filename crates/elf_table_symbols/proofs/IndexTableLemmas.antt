@@ -6,11 +6,11 @@ use Rattle.std.proofs.lemmas.Bool.{eq-eqb, eqb-true}
 use Rattle.elf_field.specs.Abi.{SHT_SYMTAB_SHNDX}
 use Rattle.elf_field.specs.declared.shdr.Shdr.{Shdr}
 use Rattle.elf_extent.specs.Least.{IsLowest}
-use Rattle.elf_image_type.specs.Image.{no_section}
+use Rattle.elf_image_type.specs.Image.{no_section_header}
 use Rattle.elf_table_symbols.specs.declared.index_tables.IndexTables.{IndexTables}
 use Rattle.elf_table_symbols.specs.Below.{Below}
 use Rattle.elf_table_symbols.specs.IndexTable.{AreIndexTables, IsIndexTable, IsSecondIndexTable, index_table, noted}
-use Rattle.elf_table_symbols.specs.Sections.{Sections, count}
+use Rattle.elf_table_base.specs.Sections.{Sections, count}
 use Rattle.elf_table_symbols.proofs.Lowest.{lowest_found, lowest_kept, lowest_passed, lowest_position}
 
 -- a section that is none changes nothing
@@ -49,7 +49,7 @@ and_true false t both = cc
 pub first_index_table : (f : Sections) (i : ℕ) (tables : IndexTables) → AreIndexTables f i (count f) tables → tables.first ≡ index_table f i
 unfolding index_table
 first_index_table f i tables are =
-    lowest_position (λ (s : Shdr). (s.sh_type == SHT_SYMTAB_SHNDX) && (s.sh_link == i)) f.headers no_section (IsIndexTable f i) tables.first
+    lowest_position (λ (s : Shdr). (s.sh_type == SHT_SYMTAB_SHNDX) && (s.sh_link == i)) f.headers no_section_header (IsIndexTable f i) tables.first
     (λ k here. both_true (eq-eqb _ _ here.0) (eq-eqb _ _ here.1))
     (λ k test. (let parts = and_true _ _ test in (eqb-true _ _ parts.0, eqb-true _ _ parts.1)))
     are.first

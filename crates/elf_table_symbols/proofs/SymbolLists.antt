@@ -6,26 +6,26 @@ use Rattle.elf_field.specs.Abi.{SHN_XINDEX, WORD_SIZE}
 use Rattle.elf_field.specs.declared.order.Order.{Order}
 use Rattle.elf_image_rules.specs.Rows.{FirstIn}
 use Rattle.elf_image_rules.proofs.Public.{FirstIn-behind, FirstIn-front}
-use Rattle.elf_table_symbols.specs.declared.table_kind.TableKind.TheVariants.{SymbolTable}
+use Rattle.elf_table_base.specs.declared.table_kind.TableKind.TheVariants.{SymbolTable}
 use Rattle.elf_table_symbols.specs.IndexTable.{index_table}
-use Rattle.elf_table_symbols.specs.OwnRules.{own_rules}
-use Rattle.elf_table_symbols.specs.Sections.{Sections, count, section}
+use Rattle.elf_table_base.specs.OwnRules.{own_rules}
+use Rattle.elf_table_base.specs.Sections.{Sections, count, section}
 use Rattle.elf_table_symbols.specs.StringRules.{linked_string_rules}
 use Rattle.elf_table_symbols.specs.SymbolParts.{SymbolPartsValue, symbol_parts}
-use Rattle.elf_table_symbols.specs.SymbolRules.{entry, entry_count, entry_rules, index_table_rules, place_rules, rest_rules, symbol_table_rules}
-use Rattle.elf_table_symbols.specs.Symbols.{IsReadable, symbol_in, symbols_in}
-use Rattle.elf_table_symbols.specs.SymbolView.{no_symbol}
-use Rattle.elf_table_symbols.proofs.OwnRuleLemmas.{link_there}
+use Rattle.elf_table_symbols.specs.SymbolRules.{entry, entry_count, index_table_rules, place_rules, rest_rules, symbol_entry_rules, symbol_table_rules}
+use Rattle.elf_table_symbols.specs.Symbols.{IsReadable, symbol_entry_in, symbols_in}
+use Rattle.elf_table_symbols.specs.SymbolView.{no_symbol_entry}
+use Rattle.elf_table_base.proofs.OwnRuleLemmas.{link_there}
 
 pub length_symbols : (o : Order) (table names words : List ℕ) → length (symbols_in o table names words) ≡ entry_count table
 unfolding symbols_in
-length_symbols o table names words = length-map-range_with_len (symbol_in o table names words) 0 (entry_count table)
+length_symbols o table names words = length-map-range_with_len (symbol_entry_in o table names words) 0 (entry_count table)
 
 pub symbol_get : (o : Order) (table names words : List ℕ) (j : ℕ) → j < entry_count table →
-    get_or (symbols_in o table names words) j no_symbol ≡ symbol_in o table names words j
+    get_or (symbols_in o table names words) j no_symbol_entry ≡ symbol_entry_in o table names words j
 unfolding symbols_in
 symbol_get o table names words j within =
-    get_or-map-range_with_len (symbol_in o table names words) 0 (entry_count table) j j no_symbol within (zero-add j)
+    get_or-map-range_with_len (symbol_entry_in o table names words) 0 (entry_count table) j j no_symbol_entry within (zero-add j)
 
 -- ---- a table that breaks no rule
 
@@ -40,7 +40,7 @@ index_table_kept : (f : Sections) (i : ℕ) → FirstIn (symbol_table_rules f i)
 unfolding symbol_table_rules rest_rules
 index_table_kept f i sound =
     let p = symbol_parts f i in
-    FirstIn-behind (entry_rules p) _ (FirstIn-behind (linked_string_rules p.names p.names_start) _ (FirstIn-behind (own_rules SymbolTable f i) _ sound))
+    FirstIn-behind (symbol_entry_rules p) _ (FirstIn-behind (linked_string_rules p.names p.names_start) _ (FirstIn-behind (own_rules SymbolTable f i) _ sound))
 
 -- its index table has a word for each symbol
 pub sound_words : (f : Sections) (i j : ℕ) → FirstIn (symbol_table_rules f i) None → index_table f i ≡ Some j →

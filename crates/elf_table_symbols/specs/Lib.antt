@@ -1,8 +1,5 @@
 -- The words of this crate's contracts.
 pub mod Below
-pub mod Sections
-pub mod TableKind
-pub mod OwnRules
 pub mod StringRules
 pub mod IndexTable
 pub mod SymbolParts
@@ -11,4 +8,3 @@ pub mod Symbols
 pub mod LinkedVerdicts
 pub mod SymbolView
 pub mod SymbolsLeft
-pub mod Judged

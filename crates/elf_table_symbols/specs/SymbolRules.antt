@@ -9,10 +9,10 @@ use Rattle.elf_field.specs.Word.{word_at}
 use Rattle.elf_image_rules.specs.Rows.{AtEntry, Either, OfSome, Row, Ruled, When, rule}
 use Rattle.elf_table_symbols.specs.declared.symbol_rules.SymbolRule.{SymbolRule}
 use Rattle.elf_table_symbols.specs.declared.symbol_rules.SymbolRule.TheVariants.{MisplacedBinding, SymbolNamePastEnd, WrongSymbolSection}
-use Rattle.elf_table_symbols.specs.declared.table_kind.TableKind.TheVariants.{SymbolTable}
+use Rattle.elf_table_base.specs.declared.table_kind.TableKind.TheVariants.{SymbolTable}
 use Rattle.elf_table_symbols.specs.IndexTable.{IsSecondIndexTable}
-use Rattle.elf_table_symbols.specs.OwnRules.{own_rules}
-use Rattle.elf_table_symbols.specs.Sections.{Sections, count, header_at, section}
+use Rattle.elf_table_base.specs.OwnRules.{own_rules}
+use Rattle.elf_table_base.specs.Sections.{Sections, count, header_at, section}
 use Rattle.elf_table_symbols.specs.StringRules.{linked_string_rules}
 use Rattle.elf_table_symbols.specs.SymbolParts.{SymbolPartsValue, symbol_parts}
 
@@ -27,17 +27,17 @@ entry_count table = length table / SYM_SIZE
 unfoldable pub word : Order → List ℕ → ℕ → ℕ
 word o words j = word_at o words (WORD_SIZE * j)
 
-abbrev pub binding : Sym → ℕ
-binding symbol = symbol.st_info / 16
+abbrev pub entry_binding : Sym → ℕ
+entry_binding symbol = symbol.st_info / 16
 
 -- rule 45: there is no entry 0, or a byte of it isn't 0
-abbrev pub symbol_0_not_null : SymbolPartsValue → Row
+abbrev pub symbol_0_not_null : SymbolPartsValue → Row ℕ
 symbol_0_not_null p = Either (
     When (entry_count p.table ≡ 0) (p.header + SH_SIZE_AT) ∷
     AtEntry SYM_SIZE (λ k. (0 < entry_count p.table) × (slice_index p.table k ≢ 0)) (λ k. p.start + k) ∷ [])
 
 -- rule 46: sh_info, the index of the first symbol that is not local, is 0 or above the number of symbols
-abbrev pub wrong_local_count : SymbolPartsValue → Row
+abbrev pub wrong_local_count : SymbolPartsValue → Row ℕ
 wrong_local_count p = When ((p.info ≡ 0) ⊎ (entry_count p.table < p.info)) (p.header + SH_INFO_AT)
 
 -- ---- rules on one symbol
@@ -45,9 +45,9 @@ wrong_local_count p = When ((p.info ≡ 0) ⊎ (entry_count p.table < p.info)) (
 -- rule 47: a symbol below that index is not local, or one from it on is
 abbrev pub IsMisplacedBinding : ℕ → Sym → ℕ → Type 0
 IsMisplacedBinding info symbol j =
-    ((j < info) × (binding symbol ≢ STB_LOCAL)) ⊎ ((info ≤ j) × (binding symbol ≡ STB_LOCAL))
+    ((j < info) × (entry_binding symbol ≢ STB_LOCAL)) ⊎ ((info ≤ j) × (entry_binding symbol ≡ STB_LOCAL))
 
-abbrev pub misplaced_binding : SymbolPartsValue → Row
+abbrev pub misplaced_binding : SymbolPartsValue → Row ℕ
 misplaced_binding p =
     AtEntry (entry_count p.table) (λ j. IsMisplacedBinding p.info (entry p.order p.table j) j) (λ j. p.start + SYM_SIZE * j + ST_INFO_AT)
 
@@ -55,16 +55,16 @@ misplaced_binding p =
 abbrev pub IsSymbolNamePastEnd : ℕ → Sym → Type 0
 IsSymbolNamePastEnd size symbol = (symbol.st_name ≢ 0) × (size ≤ symbol.st_name)
 
-abbrev pub symbol_name_past_end : SymbolPartsValue → Row
+abbrev pub symbol_name_past_end : SymbolPartsValue → Row ℕ
 symbol_name_past_end p =
     AtEntry (entry_count p.table) (λ j. IsSymbolNamePastEnd (length p.names) (entry p.order p.table j)) (λ j. p.start + SYM_SIZE * j + ST_NAME_AT)
 
 -- rule 49: the symbol table has a second index table
-abbrev pub second_index_table : Sections → ℕ → Row
+abbrev pub second_index_table : Sections → ℕ → Row ℕ
 second_index_table f i = AtEntry (count f) (IsSecondIndexTable f i) (λ j. header_at f j + SH_LINK_AT)
 
 -- rule 50: the index table, section j, has not one word of four bytes for each symbol, or its sh_entsize isn't 4
-abbrev pub wrong_index_table_size : Sections → ℕ → ℕ → Row
+abbrev pub wrong_index_table_size : Sections → ℕ → ℕ → Row ℕ
 wrong_index_table_size f symbols j =
     let s = section f j in
     Either (
@@ -76,7 +76,7 @@ abbrev pub IsWrongSymbolSection : Option ℕ → ℕ → Sym → Type 0
 IsWrongSymbolSection table sections symbol =
     ((symbol.st_shndx ≡ SHN_XINDEX) × (table ≡ None)) ⊎ ((symbol.st_shndx < SHN_LORESERVE) × (sections ≤ symbol.st_shndx))
 
-abbrev pub wrong_symbol_section : SymbolPartsValue → Row
+abbrev pub wrong_symbol_section : SymbolPartsValue → Row ℕ
 wrong_symbol_section p =
     AtEntry (entry_count p.table) (λ j. IsWrongSymbolSection p.index_table p.sections (entry p.order p.table j)) (λ j. p.start + SYM_SIZE * j + ST_SHNDX_AT)
 
@@ -86,16 +86,16 @@ IsWrongIndexWord sections symbol index =
     ((symbol.st_shndx ≢ SHN_XINDEX) × (index ≢ 0)) ⊎
     ((symbol.st_shndx ≡ SHN_XINDEX) × ((index < SHN_LORESERVE) ⊎ (sections ≤ index)))
 
-abbrev pub wrong_index_word : SymbolPartsValue → Row
+abbrev pub wrong_index_word : SymbolPartsValue → Row ℕ
 wrong_index_word p =
     OfSome p.index_table (λ _. AtEntry (entry_count p.table)
     (λ j. IsWrongIndexWord p.sections (entry p.order p.table j) (word p.order p.words j)) (λ j. p.words_start + WORD_SIZE * j))
 
 -- what breaks each rule on one symbol, symbol j
-abbrev pub BreaksSymbol : SymbolRule → SymbolPartsValue → Sym → ℕ → Type 0
-BreaksSymbol MisplacedBinding p symbol j = IsMisplacedBinding p.info symbol j
-BreaksSymbol SymbolNamePastEnd p symbol j = IsSymbolNamePastEnd (length p.names) symbol
-BreaksSymbol WrongSymbolSection p symbol j = IsWrongSymbolSection p.index_table p.sections symbol
+abbrev pub BreaksSymbolEntry : SymbolRule → SymbolPartsValue → Sym → ℕ → Type 0
+BreaksSymbolEntry MisplacedBinding p symbol j = IsMisplacedBinding p.info symbol j
+BreaksSymbolEntry SymbolNamePastEnd p symbol j = IsSymbolNamePastEnd (length p.names) symbol
+BreaksSymbolEntry WrongSymbolSection p symbol j = IsWrongSymbolSection p.index_table p.sections symbol
 
 -- the offset in the symbol of the field that each of them answers
 abbrev pub symbol_field : SymbolRule → ℕ
@@ -106,29 +106,29 @@ symbol_field WrongSymbolSection = ST_SHNDX_AT
 -- ---- the runs of rules
 
 -- rules 45 to 48
-unfoldable pub entry_rules : SymbolPartsValue → List {1} Ruled
-entry_rules p =
+unfoldable pub symbol_entry_rules : SymbolPartsValue → List {1} (Ruled ℕ)
+symbol_entry_rules p =
     rule 45 (symbol_0_not_null p) ∷
     rule 46 (wrong_local_count p) ∷
     rule 47 (misplaced_binding p) ∷
     rule 48 (symbol_name_past_end p) ∷ []
 
 -- rules 49 and 50, of a table of so many symbols
-unfoldable pub index_table_rules : Sections → ℕ → Option ℕ → ℕ → List {1} Ruled
+unfoldable pub index_table_rules : Sections → ℕ → Option ℕ → ℕ → List {1} (Ruled ℕ)
 index_table_rules f i table symbols =
     rule 49 (second_index_table f i) ∷
     rule 50 (OfSome table (wrong_index_table_size f symbols)) ∷ []
 
 -- rules 51 and 52
-unfoldable pub place_rules : SymbolPartsValue → List {1} Ruled
+unfoldable pub place_rules : SymbolPartsValue → List {1} (Ruled ℕ)
 place_rules p = rule 51 (wrong_symbol_section p) ∷ rule 52 (wrong_index_word p) ∷ []
 
 -- those behind a symbol table's own rules
-unfoldable pub rest_rules : Sections → ℕ → SymbolPartsValue → List {1} Ruled
+unfoldable pub rest_rules : Sections → ℕ → SymbolPartsValue → List {1} (Ruled ℕ)
 rest_rules f i p =
     linked_string_rules p.names p.names_start ++
-    (entry_rules p ++ (index_table_rules f i p.index_table (entry_count p.table) ++ place_rules p))
+    (symbol_entry_rules p ++ (index_table_rules f i p.index_table (entry_count p.table) ++ place_rules p))
 
 -- all rules of the symbol table in section i, in the order in which they are tested
-unfoldable pub symbol_table_rules : Sections → ℕ → List {1} Ruled
+unfoldable pub symbol_table_rules : Sections → ℕ → List {1} (Ruled ℕ)
 symbol_table_rules f i = own_rules SymbolTable f i ++ rest_rules f i (symbol_parts f i)

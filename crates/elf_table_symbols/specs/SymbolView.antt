@@ -2,10 +2,10 @@
 use Rattle.std.specs.Prelude.{[]}
 use Rattle.elf_table_symbols.specs.declared.symbol.Symbol.{Symbol}
 use Rattle.elf_table_symbols.specs.declared.symbol.Place.TheVariants.{Undefined}
-use Rattle.elf_table_symbols.specs.Symbols.{SymbolValue}
+use Rattle.elf_table_symbols.specs.Symbols.{SymbolEntryValue}
 
-abbrev pub symbol_value : Symbol → SymbolValue
-symbol_value s = record {
+abbrev pub symbol_entry_value : Symbol → SymbolEntryValue
+symbol_entry_value s = record {
   name = s.name.now;
   binding = s.binding;
   symbol_type = s.symbol_type;
@@ -16,5 +16,5 @@ symbol_value s = record {
 }
 
 -- the symbol that stands for one that isn't there
-abbrev pub no_symbol : SymbolValue
-no_symbol = record { name = []; binding = 0; symbol_type = 0; other = 0; place = Undefined; value = 0; size = 0 }
+abbrev pub no_symbol_entry : SymbolEntryValue
+no_symbol_entry = record { name = []; binding = 0; symbol_type = 0; other = 0; place = Undefined; value = 0; size = 0 }

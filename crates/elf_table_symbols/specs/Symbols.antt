@@ -6,11 +6,11 @@ use Rattle.elf_field.specs.Abi.{SHN_ABS, SHN_COMMON, SHN_LORESERVE, SHN_UNDEF, S
 use Rattle.elf_image_type.specs.Strings.{string}
 use Rattle.elf_table_symbols.specs.declared.symbol.Place.{Place}
 use Rattle.elf_table_symbols.specs.declared.symbol.Place.TheVariants.{Undefined, Absolute, Common, Reserved, Section}
-use Rattle.elf_table_symbols.specs.Sections.{Sections}
+use Rattle.elf_table_base.specs.Sections.{Sections}
 use Rattle.elf_table_symbols.specs.SymbolParts.{symbol_parts}
-use Rattle.elf_table_symbols.specs.SymbolRules.{binding, entry, entry_count, word}
+use Rattle.elf_table_symbols.specs.SymbolRules.{entry, entry_binding, entry_count, word}
 
-pub record SymbolValue : Type 0 where
+pub record SymbolEntryValue : Type 0 where
   pub name : List ℕ
   pub binding : ℕ
   pub symbol_type : ℕ
@@ -29,12 +29,12 @@ place_of index extended =
     else (if nat_lt index SHN_LORESERVE then Section index else Reserved index))))
 
 -- symbol j
-unfoldable pub symbol_in : Order → List ℕ → List ℕ → List ℕ → ℕ → SymbolValue
-symbol_in o table names words j =
+unfoldable pub symbol_entry_in : Order → List ℕ → List ℕ → List ℕ → ℕ → SymbolEntryValue
+symbol_entry_in o table names words j =
     let e = entry o table j in
     record {
       name = string names e.st_name;
-      binding = binding e;
+      binding = entry_binding e;
       symbol_type = e.st_info % 16;
       other = e.st_other;
       place = place_of e.st_shndx (word o words j);
@@ -42,11 +42,11 @@ symbol_in o table names words j =
       size = e.st_size;
     }
 
-unfoldable pub symbols_in : Order → List ℕ → List ℕ → List ℕ → List SymbolValue
-symbols_in o table names words = map (symbol_in o table names words) (range_with_len 0 (entry_count table))
+unfoldable pub symbols_in : Order → List ℕ → List ℕ → List ℕ → List SymbolEntryValue
+symbols_in o table names words = map (symbol_entry_in o table names words) (range_with_len 0 (entry_count table))
 
 -- the symbols of the symbol table in section i
-unfoldable pub symbols_of : Sections → ℕ → List SymbolValue
+unfoldable pub symbols_of : Sections → ℕ → List SymbolEntryValue
 symbols_of f i = let p = symbol_parts f i in symbols_in p.order p.table p.names p.words
 
 -- the index table has a word for each symbol that needs one

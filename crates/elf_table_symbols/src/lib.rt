@@ -1,6 +1,4 @@
-//! The symbol tables of an ELF-64 image, and the string tables and index tables that belong to them (gABI chapter 4); and what all
-//! kinds of tables share: the numbers of their rules ([`rules`]), the [kinds](TableKind), and what the section header of a table says of
-//! the table by itself.
+//! The symbol tables of an ELF-64 image, and the string tables and index tables that belong to them (gABI chapter 4).
 //!
 //! A table is accepted exactly where it breaks none of its rules; else the first rule that it breaks is answered, at its lowest
 //! offset. The names of the symbols in section 3 are read so:
@@ -15,22 +13,17 @@
 #![tactic(auto)]
 
 mod index_tables;
-mod own_rules;
-pub mod rules;
 mod strings;
 mod symbol;
 mod symbol_parts;
 mod symbol_rules;
 mod symbol_verdicts;
 mod symbols;
-mod table_kind;
 
 pub use index_tables::IndexTables;
-pub use own_rules::judge_own_rules;
 pub use strings::{Strings, judge_linked_strings};
 pub use symbol::{Place, Symbol};
 pub use symbol_parts::{entry, word};
 pub use symbol_rules::judge_symbol_table;
 pub use symbol_verdicts::SymbolVerdicts;
 pub use symbols::{SymbolIter, Symbols};
-pub use table_kind::TableKind;

@@ -4,15 +4,15 @@ ghost use Rattle.elf_image_rules.specs.HeaderRules.{MAX_LEN};
 ghost use Rattle.elf_image_rules.specs.Broken.{fault_of};
 ghost use Rattle.elf_image_rules.specs.Rows.{FirstIn};
 ghost use Rattle.elf_image_type.specs.Strings.{string};
-ghost use Rattle.elf_table_symbols.specs.Judged.{IsJudged};
-ghost use Rattle.elf_table_symbols.specs.Sections.{content, sections_of};
+ghost use Rattle.elf_table_base.specs.Judged.{IsJudged};
+ghost use Rattle.elf_table_base.specs.Sections.{content, sections_of};
 ghost use Rattle.elf_table_symbols.specs.StringRules.{linked_string_rules, string_table_rules};
 
-use crate::rules::*;
 use elf_field::abi::*;
 use elf_image_rules::{Broken, unclosed_at};
 use elf_image_type::strings::string_at;
 use elf_image_type::{Fault, Image};
+use elf_table_base::rules::*;
 use std::marker::Model;
 
 /// A string table: strings one after the other, each ended by a zero. It is a list of bytes, and borrows from the bytes
@@ -60,7 +60,7 @@ impl<'a> Strings<'a> {
 
 /// Rules 40 and 41 of a string table in section `i`.
 #[tactic(auto, unfolding(crate::specs::StringRules::string_table_rules))]
-fn judge_string_table(image: &Image<'_>, i: usize) -> Result<(), Broken>
+fn judge_string_table(image: &Image<'_>, i: usize) -> Result<(), Broken<u64>>
     requires { i < length image.now.sections }
     ensures { FirstIn (string_table_rules (sections_of image.now) i) (fault_of result) }
 {
@@ -74,7 +74,7 @@ fn judge_string_table(image: &Image<'_>, i: usize) -> Result<(), Broken>
 
 /// Rule 41 of a string table at this offset in the file, which another table links to.
 #[tactic(auto, unfolding(crate::specs::StringRules::linked_string_rules))]
-pub fn judge_linked_strings(table: &[u8], start: u64) -> Result<(), Broken>
+pub fn judge_linked_strings(table: &[u8], start: u64) -> Result<(), Broken<u64>>
     requires { 0 < length table.now → start + length table.now ≤ MAX_LEN }
     ensures { FirstIn (linked_string_rules table.now start) (fault_of result) }
 {

@@ -6,20 +6,19 @@ ghost use Rattle.elf_extent.specs.Least.{IsLowest};
 ghost use Rattle.elf_image_rules.specs.Broken.{fault_of};
 ghost use Rattle.elf_image_rules.specs.Rows.{AtEntry, FirstIn};
 ghost use Rattle.elf_table_symbols.specs.IndexTable.{AreIndexTables};
-ghost use Rattle.elf_table_symbols.specs.Sections.{content, sections_of};
+ghost use Rattle.elf_table_base.specs.Sections.{content, sections_of};
 ghost use Rattle.elf_table_symbols.specs.SymbolParts.{AreInside, parts_value, symbol_parts};
-ghost use Rattle.elf_table_symbols.specs.SymbolRules.{BreaksSymbol, entry as entry_of, entry_count, entry_rules, index_table_rules, place_rules, rest_rules, symbol_0_not_null, symbol_field, symbol_table_rules, IsWrongIndexWord, wrong_index_word};
+ghost use Rattle.elf_table_symbols.specs.SymbolRules.{BreaksSymbolEntry, entry as entry_of, entry_count, symbol_entry_rules, index_table_rules, place_rules, rest_rules, symbol_0_not_null, symbol_field, symbol_table_rules, IsWrongIndexWord, wrong_index_word};
 
 use crate::index_tables::IndexTables;
-use crate::own_rules::judge_own_rules;
-use crate::rules::*;
 use crate::strings::judge_linked_strings;
 use crate::symbol_parts::{SymbolParts, entry, word};
-use crate::table_kind::TableKind;
 use elf_field::Sym;
 use elf_field::abi::*;
 use elf_image_rules::Broken;
 use elf_image_type::Image;
+use elf_table_base::rules::*;
+use elf_table_base::{TableKind, judge_own_rules};
 
 /// A rule on one symbol by itself.
 #[derive(Clone, Copy, Debug, PartialEq, Eq)]
@@ -35,7 +34,7 @@ pub(crate) enum SymbolRule {
 impl SymbolRule {
     /// Whether symbol `j` of the table breaks the rule.
     fn is_broken_by(self, parts: &SymbolParts<'_>, symbol: &Sym, j: usize) -> bool
-        ensures { IsTrue result ↔ BreaksSymbol self (parts_value parts.now) symbol.now j }
+        ensures { IsTrue result ↔ BreaksSymbolEntry self (parts_value parts.now) symbol.now j }
     {
         match self {
             SymbolRule::MisplacedBinding => {
@@ -71,7 +70,7 @@ impl SymbolRule {
 fn lowest_symbol(parts: &SymbolParts<'_>, rule: SymbolRule) -> Option<u64>
     requires { AreInside (parts_value parts.now) }
     ensures { let p = parts_value parts.now in
-        IsLowest (AtEntry (entry_count p.table) (λ j. BreaksSymbol rule p (entry_of p.order p.table j) j) (λ j. p.start + SYM_SIZE * j + symbol_field rule)) result }
+        IsLowest (AtEntry (entry_count p.table) (λ j. BreaksSymbolEntry rule p (entry_of p.order p.table j) j) (λ j. p.start + SYM_SIZE * j + symbol_field rule)) result }
 {
     for j in 0..parts.len() {
         let symbol = entry(parts.order, parts.table, j);
@@ -99,10 +98,10 @@ fn lowest_symbol_0_not_null(parts: &SymbolParts<'_>) -> Option<u64>
 }
 
 /// Rules 45 to 48.
-#[tactic(auto, unfolding(crate::specs::SymbolRules::entry_rules))]
-fn judge_entries(parts: &SymbolParts<'_>) -> Result<(), Broken>
+#[tactic(auto, unfolding(crate::specs::SymbolRules::symbol_entry_rules))]
+fn judge_entries(parts: &SymbolParts<'_>) -> Result<(), Broken<u64>>
     requires { AreInside (parts_value parts.now) }
-    ensures { FirstIn (entry_rules (parts_value parts.now)) (fault_of result) }
+    ensures { FirstIn (symbol_entry_rules (parts_value parts.now)) (fault_of result) }
 {
     if let Some(at) = lowest_symbol_0_not_null(parts) {
         return Err(Broken::new(SYMBOL_0_NOT_NULL, at));
@@ -126,7 +125,7 @@ fn judge_index_table(
     i: usize,
     tables: IndexTables,
     symbols: usize,
-) -> Result<(), Broken>
+) -> Result<(), Broken<u64>>
     requires tables { AreIndexTables (sections_of image.now) i (length image.now.sections) tables }
     requires few { symbols ≤ MAX_LEN }
     ensures fault { FirstIn (index_table_rules (sections_of image.now) i tables.first symbols) (fault_of result) }
@@ -182,7 +181,7 @@ fn is_wrong_index_word(symbol: &Sym, index: u32, sections: usize) -> bool
 
 /// Rules 51 and 52.
 #[tactic(auto, unfolding(crate::specs::SymbolRules::place_rules))]
-fn judge_places(parts: &SymbolParts<'_>) -> Result<(), Broken>
+fn judge_places(parts: &SymbolParts<'_>) -> Result<(), Broken<u64>>
     requires inside { AreInside (parts_value parts.now) }
     requires sized { (j : ℕ) → parts.now.index_table ≡ Some j → length parts.now.words.now ≡ WORD_SIZE * entry_count parts.now.table.now }
     ensures { FirstIn (place_rules (parts_value parts.now)) (fault_of result) }
@@ -203,7 +202,7 @@ fn judge_rest(
     i: usize,
     tables: IndexTables,
     parts: &SymbolParts<'_>,
-) -> Result<(), Broken>
+) -> Result<(), Broken<u64>>
     requires tables { AreIndexTables (sections_of image.now) i (length image.now.sections) tables }
     requires parts { parts_value parts.now ≡ symbol_parts (sections_of image.now) i }
     requires inside { AreInside (parts_value parts.now) }
@@ -217,7 +216,11 @@ fn judge_rest(
 
 /// All rules of the symbol table in section `i`, which has these index tables.
 #[tactic(auto, unfolding(crate::specs::SymbolRules::symbol_table_rules))]
-pub fn judge_symbol_table(image: &Image<'_>, i: usize, tables: IndexTables) -> Result<(), Broken>
+pub fn judge_symbol_table(
+    image: &Image<'_>,
+    i: usize,
+    tables: IndexTables,
+) -> Result<(), Broken<u64>>
     requires there { i < length image.now.sections }
     requires tables { AreIndexTables (sections_of image.now) i (length image.now.sections) tables }
     ensures { FirstIn (symbol_table_rules (sections_of image.now) i) (fault_of result) }

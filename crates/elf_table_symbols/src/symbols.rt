@@ -3,11 +3,11 @@ ghost use Rattle.std.specs.Prelude.{◌≡◌, ◌<◌, None, OnOk, length, get_
 ghost use Rattle.elf_image_rules.specs.Broken.{fault_of};
 ghost use Rattle.elf_image_rules.specs.Rows.{FirstIn};
 ghost use Rattle.elf_table_symbols.specs.IndexTable.{AreIndexTables};
-ghost use Rattle.elf_table_symbols.specs.Judged.{IsJudged};
-ghost use Rattle.elf_table_symbols.specs.Sections.{sections_of};
+ghost use Rattle.elf_table_base.specs.Judged.{IsJudged};
+ghost use Rattle.elf_table_base.specs.Sections.{sections_of};
 ghost use Rattle.elf_table_symbols.specs.SymbolRules.{symbol_table_rules};
 ghost use Rattle.elf_table_symbols.specs.Symbols.{symbols_of};
-ghost use Rattle.elf_table_symbols.specs.SymbolView.{no_symbol, symbol_value};
+ghost use Rattle.elf_table_symbols.specs.SymbolView.{no_symbol_entry, symbol_entry_value};
 ghost use Rattle.elf_table_symbols.specs.SymbolsLeft.{symbols_left};
 
 use crate::index_tables::{IndexTables, index_tables_of};
@@ -33,9 +33,9 @@ pub struct Symbols<'a> {
 
 impl<'a> Model for Symbols<'a> {
     ghost use Rattle.std.specs.Prelude.{List};
-    ghost use Rattle.elf_table_symbols.specs.Symbols.{IsReadable, SymbolValue, symbols_in};
+    ghost use Rattle.elf_table_symbols.specs.Symbols.{IsReadable, SymbolEntryValue, symbols_in};
 
-    ghost Value = { List SymbolValue };
+    ghost Value = { List SymbolEntryValue };
 
     ghost view = { λ a. symbols_in a.order a.table.now a.names.now a.words.now };
 
@@ -82,7 +82,7 @@ impl<'a> Symbols<'a> {
     /// Symbol `j`, which is below [`len`](Symbols::len).
     pub fn entry(&self, j: usize) -> Symbol<'a>
         requires { j < length self.now }
-        ensures { symbol_value result ≡ get_or self.now j no_symbol }
+        ensures { symbol_entry_value result ≡ get_or self.now j no_symbol_entry }
     {
         let symbol = entry(self.order, self.table, j);
         Symbol {
@@ -116,12 +116,12 @@ pub struct SymbolIter<'s, 'a> {
 
 impl<'s, 'a> Iterator for SymbolIter<'s, 'a> {
     ghost use Rattle.std.specs.Iterator.{YieldsFirstBy, item_count};
-    ghost use Rattle.elf_table_symbols.specs.SymbolView.{symbol_value};
+    ghost use Rattle.elf_table_symbols.specs.SymbolView.{symbol_entry_value};
     ghost use Rattle.elf_table_symbols.specs.SymbolsLeft.{symbols_left};
 
     type Item = Symbol<'a>;
 
-    ghost next_gives = { YieldsFirstBy symbol_value symbols_left };
+    ghost next_gives = { YieldsFirstBy symbol_entry_value symbols_left };
 
     ghost remaining = { item_count symbols_left };
 

@@ -1,7 +1,7 @@
 -- What `check` says of a file.
 use Rattle.std.specs.Prelude.{◌≡◌, ℕ, List, length, None, Option, Some, Result}
 use Rattle.elf_image_rules.specs.ImageRules.{IsFault}
-use Rattle.elf_image_rules.specs.Tables.{header, sections, section_count, segment_count}
+use Rattle.elf_image_rules.specs.Tables.{header, sections, section_header_count, program_header_count}
 use Rattle.elf_tool_text.specs.Engine.{IsAnsweredWithMemory}
 use Rattle.elf_tool_text.specs.Line.{ok_line, refused_line}
 use Rattle.elf_tool_text.specs.declared.fault.Refusal.TheVariants.{File, Link, TooLong}
@@ -11,11 +11,11 @@ use Rattle.elf_tool_text.specs.declared.fault.Verdict.TheVariants.{Done, Refused
 
 -- how many sections the file has by its header and its section header 0 (gABI chapter 4, ELF Header)
 abbrev pub file_sections : List ℕ → ℕ
-file_sections b = let h = header b in section_count h (sections b h 0)
+file_sections b = let h = header b in section_header_count h (sections b h 0)
 
 -- how many segments it has by them (gABI chapter 5, Program Header)
 abbrev pub file_segments : List ℕ → ℕ
-file_segments b = let h = header b in segment_count h (sections b h 0)
+file_segments b = let h = header b in program_header_count h (sections b h 0)
 
 -- no rule is broken, and the line is `ok` with the length and the counts; or the line is `refused` with the
 -- first broken rule and its lowest offset, which the verdict carries

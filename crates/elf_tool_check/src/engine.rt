@@ -40,7 +40,7 @@ pub fn check<R: Read, W: Write>(
 fn line_on(
     alloc: Global,
     bytes: &[u8],
-    judged: Result<JudgedRecords<'_>, Broken>,
+    judged: Result<JudgedRecords<'_>, Broken<u64>>,
 ) -> Result<String, AllocError>
     requires fault { IsFault bytes.now (fault_of judged) }
     requires file { IfOk judged (λ records. file_of records ≡ bytes.now) }
@@ -61,7 +61,7 @@ fn line_on_image(alloc: Global, records: &JudgedRecords<'_>) -> Result<String, A
     ok_line(alloc, records.bytes().len(), sections, segments)
 }
 
-fn verdict_on(judged: Result<JudgedRecords<'_>, Broken>) -> Verdict
+fn verdict_on(judged: Result<JudgedRecords<'_>, Broken<u64>>) -> Verdict
     ensures { result ≡ verdict_of (fault_of judged.entry) }
 {
     match judged {

@@ -1,5 +1,5 @@
-//! The command `check` by itself, from the words of a command line to an exit status: its engine, [`check`], the files that a
-//! program opens, and how a program ends. `elf_tool_program`, the program with all commands, takes these files and endings from here.
+//! The command `check` by itself, from the words of a command line to an exit status: its engine, [`check`], and [`run_check`], the
+//! program that has this command alone. `elf_tool_program`, the program with all commands, takes `check_file` from here.
 //!
 //! ```
 //! // A header alone is a file of 64 bytes without sections and segments.
@@ -9,15 +9,11 @@
 //! ```
 #![tactic(auto)]
 
-mod ending;
 mod engine;
 mod machine;
-mod opener;
 mod program;
 
 pub use elf_tool_text::{Refusal, ToolFault, Verdict};
-pub use ending::{Status, fail, misused, no_request, refuse_words, status_of, unopened};
 pub use engine::check;
 pub use machine::{check_on_machine, words_of};
-pub use opener::{MachineFiles, OpenFault, Opener};
 pub use program::{check_file, run_check};

@@ -3,11 +3,11 @@ use Rattle.std.specs.Prelude.{◌≡◌, ◌⊎◌, ℕ, List, ◌++◌, None, O
 use Rattle.std.specs.Io.KnownBytes.{Keeps}
 use Rattle.elf_object_type.specs.Object.{ObjectValue}
 use Rattle.elf_link_files.specs.declared.options.Options.{Options}
-use Rattle.elf_link_files.specs.Rows.{FirstIn}
+use Rattle.elf_link_files.specs.Rows.{FirstAmong}
 use Rattle.elf_link_map.specs.LinkFaults.{FirstOfLink}
 use Rattle.elf_link_map.specs.LinkMap.{IsLinkMap, LinkMapValue}
 use Rattle.elf_link_relocate.specs.Linked.{IsLinked, LinkedValue}
-use Rattle.elf_link_relocate.specs.RelocationRules.{relocation_rules}
+use Rattle.elf_link_relocate.specs.RelocationRules.{applied_entry_rules}
 use Rattle.elf_link_field.specs.declared.rule.RelocRule.{RelocRule}
 use Rattle.elf_tool_text.specs.Engine.{IsSaid}
 use Rattle.elf_tool_text.specs.Inputs.{AreRead, IsReadingFault}
@@ -18,21 +18,21 @@ use Rattle.elf_tool_text.specs.declared.fault.ToolFault.{ToolFault}
 use Rattle.elf_tool_text.specs.declared.fault.Verdict.{Verdict}
 use Rattle.elf_tool_text.specs.declared.fault.Verdict.TheVariants.{Done, Refused}
 
--- of objects and their link map: its lines; with rules for relocations the lines of the relocated bytes behind them, of which none
+-- of objects and their link map: its lines; with relocation rules the lines of the relocated bytes behind them, of which none
 -- of rules 12 to 16 stands, or the line is `refused` with the first rule that stands and where, which the verdict carries
 abbrev pub RelocationSays : Option (List RelocRule) → List ObjectValue → LinkMapValue → Verdict → List ℕ → Type 0
 RelocationSays None fs m Done text = text ≡ map_text fs m
 RelocationSays (Some rules) fs m Done text =
     (l : LinkedValue) × IsLinked fs m rules l × (text ≡ map_text fs m ++ bytes_lines l)
 RelocationSays (Some rules) fs m (Refused (Link rule file index entry)) text =
-    FirstIn (relocation_rules fs m rules) (Some (record { rule = rule; site = record { file = file; index = index; entry = entry } }))
+    FirstAmong (applied_entry_rules fs m rules) (Some (rule, record { file = file; index = index; entry = entry }))
     × (text ≡ link_refused_line rule file index entry)
 RelocationSays rules fs m verdict text = ⊥
 
 -- of objects that don't link: the same line with the first of rules 1 to 11
 abbrev pub LinkRefuses : Options → List ObjectValue → Verdict → List ℕ → Type 0
 LinkRefuses opt fs (Refused (Link rule file index entry)) text =
-    FirstOfLink opt fs (Some (record { rule = rule; site = record { file = file; index = index; entry = entry } }))
+    FirstOfLink opt fs (Some (rule, record { file = file; index = index; entry = entry }))
     × (text ≡ link_refused_line rule file index entry)
 LinkRefuses opt fs verdict text = ⊥
 
@@ -58,12 +58,12 @@ abbrev pub IsThis : Verdict → List ℕ → Verdict → List ℕ → Type 0
 IsThis verdict text said lines = (said ≡ verdict) × (lines ≡ text)
 
 -- a fault while the files are read: nothing is written
-abbrev pub IsUnread : List (Option (List ℕ)) → List (Option (List ℕ)) → Option (List ℕ) → Option (List ℕ) → Result Verdict ToolFault → Type 0
-IsUnread inputs rests old new (Ok verdict) = ⊥
-IsUnread inputs rests old new (Err fault) = IsReadingFault inputs rests fault × Keeps old new
+abbrev pub FailsReading : List (Option (List ℕ)) → List (Option (List ℕ)) → Option (List ℕ) → Option (List ℕ) → Result Verdict ToolFault → Type 0
+FailsReading inputs rests old new (Ok verdict) = ⊥
+FailsReading inputs rests old new (Err fault) = IsReadingFault inputs rests fault × Keeps old new
 
 -- a call of `map`: its readers, which had `inputs` left and have `rests`; and its writer, which held `old` and holds `new`
 abbrev pub IsMapped : Options → Option (List RelocRule) → List (Option (List ℕ)) → List (Option (List ℕ)) → Option (List ℕ) → Option (List ℕ) → Result Verdict ToolFault → Type 0
 IsMapped opt rules inputs rests old new result =
-    IsUnread inputs rests old new result
+    FailsReading inputs rests old new result
     ⊎ ((files : List (List ℕ)) × AreRead inputs rests files × IsSaid (MapSays opt rules files) old new result)

@@ -13,8 +13,7 @@ use Rattle.elf_link_map.specs.Apart.{size_in}
 use Rattle.elf_link_map.specs.LinkMap.{LinkMapValue}
 use Rattle.elf_link_relocate.specs.Linked.{LinkedValue, bytes_at}
 use Rattle.elf_link_relocate.specs.Values.{binding_value}
-use Rattle.hex.specs.Hex.{encode_lower}
-use Rattle.elf_tool_text.specs.Line.{hexadecimal, line, name_text}
+use Rattle.elf_tool_text.specs.Line.{bytes_text, hexadecimal, line, name_text}
 
 abbrev pub bits_text : Bool → List ℕ
 bits_text false = codes "bits"
@@ -60,11 +59,6 @@ file_refused_line f rule at = line (codes "file" ∷ decimal f ∷ codes "refuse
 unfoldable pub link_refused_line : ℕ → ℕ → ℕ → ℕ → List ℕ
 link_refused_line rule file index entry =
     line (codes "refused" ∷ decimal rule ∷ decimal file ∷ decimal index ∷ decimal entry ∷ [])
-
--- bytes, each as two digits; - where there are none
-abbrev pub bytes_text : List ℕ → List ℕ
-bytes_text [] = codes "-"
-bytes_text (b ∷ bs) = encode_lower (b ∷ bs)
 
 -- `bytes FILE SECTION HEX`
 unfoldable pub bytes_line : Member → List ℕ → List ℕ

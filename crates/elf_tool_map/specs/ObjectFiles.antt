@@ -8,7 +8,7 @@ use Rattle.elf_image_type.specs.declared.fault.Fault.{Fault}
 use Rattle.elf_image_type.specs.declared.fault.Fault.TheVariants as fault
 use Rattle.elf_image_rules.specs.ImageRules.{IsFault}
 use Rattle.elf_image_rules.specs.Rows.{FirstIn}
-use Rattle.elf_table_symbols.specs.Sections.{sections_of}
+use Rattle.elf_table_base.specs.Sections.{sections_of}
 use Rattle.elf_tool_map.specs.declared.object_files.FileFault.{FileFault}
 use Rattle.elf_tool_map.specs.declared.object_files.FileFault.TheVariants.{Refused, OutOfMemory}
 
@@ -22,10 +22,10 @@ IsRefusedFile b rule at =
     IsFault b (Some (rule, at)) ⊎ ((v : ImageValue) × IsImage v b × FirstIn (file_rules (sections_of v)) (Some (rule, at)))
 
 -- a file gives no object: it is refused, or memory was
-abbrev pub IsObjectFault : List ℕ → Fault → Type 0
-IsObjectFault b (fault.Rule rule at) = IsRefusedFile b rule at
-IsObjectFault b (fault.Io at) = ⊥
-IsObjectFault b fault.OutOfMemory = Unit {0}
+abbrev pub IsObjectFileFault : List ℕ → Fault → Type 0
+IsObjectFileFault b (fault.Rule rule at) = IsRefusedFile b rule at
+IsObjectFileFault b (fault.Io at) = ⊥
+IsObjectFileFault b fault.OutOfMemory = Unit {0}
 
 -- each file is its object
 abbrev pub AreObjectFiles : List (List ℕ) → List ObjectValue → Type 0

@@ -19,8 +19,8 @@ use std::alloc::Global;
 use std::hash::{BuildHasherDefault, FoldHasher};
 use std::io::{Read, Write};
 
-/// Reads files whole, in order, links the objects that they denote, and writes the lines of their link map; with rules for
-/// relocations the lines of the relocated bytes behind them, `bytes FILE SECTION HEX`, in order of placement.
+/// Reads files whole, in order, links the objects that they denote, and writes the lines of their link map; with
+/// relocation rules the lines of the relocated bytes behind them, `bytes FILE SECTION HEX`, in order of placement.
 ///
 /// A file that is refused, the first such one, is said by the line `file F refused R A` alone, with the first rule that it breaks,
 /// as an image or, with a number from 40 on, as an object, and its lowest offset; and files that do not link by the line

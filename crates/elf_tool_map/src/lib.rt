@@ -1,5 +1,5 @@
 //! The engine of `elfmap map`, over any readers and any writer: [`map`] reads each file whole, links them without writing a
-//! linked file, and writes where each part would stand, and with rules for relocations the bytes of each.
+//! linked file, and writes where each part would stand, and with relocation rules the bytes of each.
 //!
 //! ```
 //! // `object` is an object file's bytes. A base that is no multiple of the page is the first of the link's rules.

@@ -1,6 +1,6 @@
 //! The objects that files are.
 ghost use Rattle.std.specs.Prelude.{MatchResult, map};
-ghost use Rattle.elf_tool_map.specs.ObjectFiles.{AreObjectFiles, IsFileFault, IsObjectFile, IsObjectFault};
+ghost use Rattle.elf_tool_map.specs.ObjectFiles.{AreObjectFiles, IsFileFault, IsObjectFile, IsObjectFileFault};
 
 use elf_image_type::{Fault, parse};
 use elf_object_reader::object_of;
@@ -40,7 +40,7 @@ pub(crate) fn objects_of<'a>(
 
 // The object of one file.
 fn object_in<'a>(alloc: Global, bytes: &'a [u8]) -> Result<Object<'a>, Fault>
-    ensures { MatchResult result (IsObjectFile bytes.entry.now) (IsObjectFault bytes.entry.now) }
+    ensures { MatchResult result (IsObjectFile bytes.entry.now) (IsObjectFileFault bytes.entry.now) }
 {
     let image = parse(alloc, bytes)?;
     object_of(alloc, &image)

@@ -1,4 +1,4 @@
 -- The words of this crate's contracts.
-pub mod Opener
+pub mod Opening
 pub mod Program
 pub mod Rules

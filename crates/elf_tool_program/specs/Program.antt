@@ -3,20 +3,20 @@ use Rattle.std.specs.Prelude.{◌≡◌, ◌⊎◌, ℕ, Bool, List, map, Option
 use Rattle.std.specs.Io.KnownBytes.{Keeps}
 use Rattle.clap.specs.Walk.{Text}
 use Rattle.elf_tool_check.specs.Check.{IsChecked}
-use Rattle.elf_tool_check.specs.Ending.{EndsFile, EndsWords, ending_of}
+use Rattle.elf_tool_base.specs.Ending.{EndsFile, EndsWords, ending_of}
 use Rattle.elf_tool_map.specs.Map.{IsMapped}
-use Rattle.elf_tool_show.specs.Rewrite.{IsRewritten}
+use Rattle.elf_tool_rewrite.specs.Rewrite.{IsRewritten}
 use Rattle.elf_tool_show.specs.Show.{IsShown}
 use Rattle.elf_link_files.specs.declared.options.Options.{Options}
 use Rattle.elf_link_field.specs.declared.rule.RelocRule.{RelocRule}
-use Rattle.elf_tool_program.specs.Opener.{AreOpened, IsUnopened}
+use Rattle.elf_tool_program.specs.Opening.{AreOpened, IsUnopened}
 use Rattle.elf_tool_program.specs.Rules.{GivesNoRules, GivesRules}
 use Rattle.elf_tool_words.specs.Words.{IsAskedBy, IsRefusedBy}
 use Rattle.elf_tool_text.specs.declared.fault.ToolFault.{ToolFault}
 use Rattle.elf_tool_text.specs.declared.fault.Verdict.{Verdict}
 use Rattle.elf_tool_program.specs.declared.opening.Unopened.{Unopened}
-use Rattle.elf_tool_check.specs.declared.ending.Status.{Status}
-use Rattle.elf_tool_check.specs.declared.ending.Status.TheVariants.{Usage, Failed}
+use Rattle.elf_tool_base.specs.declared.ending.Status.{Status}
+use Rattle.elf_tool_base.specs.declared.ending.Status.TheVariants.{Usage, Failed}
 use Rattle.elf_tool_program.specs.declared.rules.NoRules.{NoRules}
 use Rattle.elf_tool_program.specs.declared.rules.NoRules.TheVariants as no_rules
 use Rattle.elf_tool_words.specs.declared.words.Request.{Request}
@@ -30,14 +30,14 @@ EndsFiles opt rules holds opens names old new status =
     × IsMapped opt rules inputs rests old new answer × (status ≡ ending_of answer))
     ⊎ ((unopened : Unopened) × IsUnopened opens names unopened × (status ≡ Failed) × Keeps old new)
 
--- how the program ends where the file of rules gives none
+-- how the program ends where the rule file gives none
 abbrev pub unruled : NoRules → Status
 unruled no_rules.Unopened = Failed
 unruled (no_rules.Unread at) = Failed
 unruled (no_rules.BadLine line) = Usage
 unruled no_rules.OutOfMemory = Failed
 
--- `map`; with a file of rules only where it gives rules, and then by these; else nothing is out
+-- `map`; with a rule file only where it gives relocation rules, and then by these; else nothing is out
 abbrev pub EndsMap : Options → (Text → Option (List ℕ)) → (Text → Bool) → Option Text → List Text → Option (List ℕ) → Option (List ℕ) → Status → Type 0
 EndsMap opt holds opens None names old new status = EndsFiles opt None holds opens names old new status
 EndsMap opt holds opens (Some file) names old new status =

@@ -1,4 +1,4 @@
--- The file of rules that `map` is given: what its reader gives, and what that says.
+-- The file of relocation rules that `map` is given: what its reader gives, and what that says.
 use Rattle.std.specs.Prelude.{◌≡◌, ◌⊎◌, ℕ, ◌+◌, ◌<◌, ◌≤◌, Bool, false, List, length, Option, Some, IfSome}
 use Rattle.elf_link_field.specs.declared.rule.RelocRule.{RelocRule}
 use Rattle.elf_image_rules.specs.HeaderRules.{MAX_LEN}
@@ -7,7 +7,7 @@ use Rattle.elf_tool_text.specs.Inputs.{GivesBytes, GivesFile}
 use Rattle.elf_tool_program.specs.declared.rules.NoRules.{NoRules}
 use Rattle.elf_tool_program.specs.declared.rules.NoRules.TheVariants.{Unopened, Unread, BadLine, OutOfMemory}
 
--- a reader that had `input` left and has `rest` gave a file of these rules, of at most 2^30 bytes
+-- a reader that had `input` left and has `rest` gave a file of these relocation rules, of at most 2^30 bytes
 abbrev pub ReadsRules : Option (List ℕ) → Option (List ℕ) → List RelocRule → Type 0
 ReadsRules input rest rules = (file : List ℕ) × GivesFile input rest file × (length file ≤ MAX_LEN) × AreRules file rules
 
@@ -22,7 +22,7 @@ ReadsNoRules input rest (Unread at) = (bytes : List ℕ) × GivesBytes input res
 ReadsNoRules input rest (BadLine line) = (file : List ℕ) × GivesFile input rest file × HasBadLine file line
 ReadsNoRules input rest OutOfMemory = Unit {0}
 
--- the file whose bytes are `known` gives these rules
+-- the file whose bytes are `known` gives these relocation rules
 abbrev pub GivesRules : Option (List ℕ) → List RelocRule → Type 0
 GivesRules known rules = (input rest : Option (List ℕ)) × IfSome known (λ bytes. input ≡ Some bytes) × ReadsRules input rest rules
 

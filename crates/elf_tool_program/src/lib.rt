@@ -14,10 +14,12 @@ mod program;
 mod rules;
 
 pub use elf_link_field::{Form, Range, RelocRule, Width};
-pub use elf_tool_check::{MachineFiles, OpenFault, Opener, Status, check, refuse_words};
+pub use elf_tool_base::{MachineFiles, OpenFault, Opener, Status, refuse_words};
+pub use elf_tool_check::check;
 pub use elf_tool_map::{Options, map};
+pub use elf_tool_rewrite::rewrite;
 pub use elf_tool_rule_file::{RulesFault, read_rules};
-pub use elf_tool_show::{rewrite, show};
+pub use elf_tool_show::show;
 pub use elf_tool_text::{Refusal, ToolFault, Verdict};
 pub use elf_tool_words::{Request, WordsFault, read_words};
 pub use machine::run_on_machine;

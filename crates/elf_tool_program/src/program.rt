@@ -1,20 +1,20 @@
 //! The whole program: from the words of its command line to its exit status.
 ghost use Rattle.std.specs.Prelude.{◌≡◌, Some, map as map_list, option_copied};
-ghost use Rattle.elf_tool_check.specs.Ending.{EndsFile, code_of, ending_of};
-ghost use Rattle.elf_tool_check.specs.declared.ending.Status.{Status as Ending};
-ghost use Rattle.elf_tool_show.specs.Rewrite.{IsRewritten};
+ghost use Rattle.elf_tool_base.specs.Ending.{EndsFile, code_of, ending_of};
+ghost use Rattle.elf_tool_base.specs.declared.ending.Status.{Status as Ending};
+ghost use Rattle.elf_tool_rewrite.specs.Rewrite.{IsRewritten};
 ghost use Rattle.elf_tool_show.specs.Show.{IsShown};
 ghost use Rattle.elf_tool_program.specs.Program.{EndsFiles, EndsMap, EndsRun, unruled};
 
 use crate::opening::open_all;
 use crate::rules::{NoRules, rules_of};
 use elf_link_field::RelocRule;
-use elf_tool_check::{
-    OpenFault, Opener, Status, check_file, fail, misused, no_request, status_of, unopened,
-};
+use elf_tool_base::{OpenFault, Opener, Status, fail, misused, no_request, status_of, unopened};
+use elf_tool_check::check_file;
 use elf_tool_map::{Options, map};
+use elf_tool_rewrite::rewrite;
 use elf_tool_rule_file::RulesFault;
-use elf_tool_show::{rewrite, show};
+use elf_tool_show::show;
 use elf_tool_text::{ToolFault, Verdict};
 use elf_tool_words::{Request, read_words};
 use std::alloc::Global;
@@ -25,7 +25,7 @@ use std::io::Write;
 /// the files that the words name, `out` takes what is said of them, and `err` takes the text of
 /// what goes wrong. A failed write to `err` changes nothing.
 ///
-/// Answers the exit status: 0 done, 1 refused, 2 wrong usage, a call for help or a bad line in the file of rules, 3 a file
+/// Answers the exit status: 0 done, 1 refused, 2 wrong usage, a call for help or a bad line in the rule file, 3 a file
 /// that cannot be opened, a failed read or write, or want of memory.
 pub fn run<S: AsStr, O: Opener, W: Write, E: Write>(
     alloc: Global,
@@ -143,7 +143,7 @@ fn map_by_rules<O: Opener, W: Write, E: Write>(
     }
 }
 
-// How the program ends where the file of this name gave no rules.
+// How the program ends where the file of this name gave no relocation rules.
 fn no_rules<E: Write>(fault: NoRules, file: &str, err: &mut E) -> Status
     ensures { result ≡ unruled fault }
 {

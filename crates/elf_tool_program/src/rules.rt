@@ -1,16 +1,16 @@
-//! The file of rules that `map` is given.
+//! The file of relocation rules that `map` is given.
 ghost use Rattle.std.specs.Prelude.{◌≡◌, IfErr, IfOk};
 ghost use Rattle.elf_tool_program.specs.Rules.{GivesNoRules, GivesRules, ReadsNoRules, ReadsRules};
 
 use elf_image_rules::MAX_LEN;
 use elf_image_type::{Fault, read_to_end};
 use elf_link_field::RelocRule;
-use elf_tool_check::{OpenFault, Opener};
+use elf_tool_base::{OpenFault, Opener};
 use elf_tool_rule_file::{RulesFault, read_rules};
 use std::alloc::Global;
 use std::io::Read;
 
-/// Why a file gives no rules.
+/// Why a file gives no relocation rules.
 #[derive(Clone, Copy, Debug, PartialEq, Eq)]
 pub(crate) enum NoRules {
     /// There is no such file, or it may not be read.
@@ -23,8 +23,8 @@ pub(crate) enum NoRules {
     OutOfMemory,
 }
 
-/// The rules of the file of this name, which is read whole. One longer than 2^30 bytes gives none: where no line that was read is bad,
-/// the one behind them is told.
+/// The relocation rules of the file of this name, which is read whole. One longer than 2^30 bytes gives none: where no line that was
+/// read is bad, the one behind them is told.
 pub(crate) fn rules_of<O: Opener>(
     alloc: Global,
     name: &str,
@@ -42,7 +42,7 @@ pub(crate) fn rules_of<O: Opener>(
     }
 }
 
-// The rules that a reader gives.
+// The relocation rules that a reader gives.
 fn rules_from<R: Read>(alloc: Global, input: &mut R) -> Result<Vec<RelocRule>, NoRules>
     ensures ok { IfOk result (λ rules. ReadsRules (R.remaining input.old) (R.remaining input.new) rules.items) }
     ensures err { IfErr result (ReadsNoRules (R.remaining input.old) (R.remaining input.new)) }

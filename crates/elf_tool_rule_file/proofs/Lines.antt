@@ -1,11 +1,11 @@
--- The lines of rules, one more.
+-- The lines of relocation rules, one more.
 use Rattle.std.proofs.Common.{◌≡◌, ◌∙◌, ◌<◌, ◌≤◌, ℕ, List, [], ◌∷◌, ◌++◌, ap, append_assoc, append-nil, arith, length, length-append, map, refl}
 use Rattle.std.specs.List.{concat}
 use Rattle.std.proofs.lemmas.List.{map-append}
 use Rattle.std.proofs.lemmas.List.Folds.{concat-append}
 use Rattle.elf_link_field.specs.declared.rule.RelocRule.{RelocRule}
 use Rattle.elf_tool_rule_file.specs.File.{AreRuleLines, AreRules, BeginsWithRule}
-use Rattle.elf_tool_rule_file.specs.Line.{IsRuleLine}
+use Rattle.elf_tool_rule_file.specs.RuleLine.{IsRuleLine}
 
 abbrev with_feed : List ℕ → List ℕ
 with_feed line = line ++ 10 ∷ []

@@ -1,4 +1,4 @@
--- The words of a rule's line.
+-- The words of a relocation rule's line.
 use Rattle.std.proofs.Common.{◌≡◌, ◌≢◌, ◌∙◌, ℕ, zero, suc, ◌-◌, ◌≤◌, ◌++◌, ◌∷◌, [], List, Bool, true, false, Result, Ok, Err, ap, arith, get_or, inl, inr, length, nat_lt, refl, rules, sym, subst}
 use Rattle.std.specs.Char.{is_ascii_digit}
 use Rattle.std.specs.List.{list_all}
@@ -19,7 +19,7 @@ use Rattle.elf_link_field.specs.declared.rule.RelocRule.{RelocRule}
 use Rattle.elf_link_field.specs.declared.rule.Width.{Width}
 use Rattle.elf_link_field.specs.declared.rule.Width.TheVariants.{W1, W2, W4, W8}
 use Rattle.elf_tool_rule_file.specs.Cut.{AreCut, HasNo}
-use Rattle.elf_tool_rule_file.specs.Line.{IsKindWord, IsRuleLine, form_word, range_word, width_word}
+use Rattle.elf_tool_rule_file.specs.RuleLine.{IsKindWord, IsRuleLine, form_word, range_word, width_word}
 use Rattle.elf_tool_rule_file.proofs.Cuts.{one_cut}
 
 pub digits : IsNumeralModel (λ ds. list_all is_ascii_digit ds ≡ true) (digits_value 10)

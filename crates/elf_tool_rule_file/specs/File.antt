@@ -2,11 +2,11 @@
 use Rattle.std.specs.Prelude.{◌≡◌, ◌⊎◌, ◌+◌, ◌<◌, ◌≤◌, ℕ, List, [], ◌∷◌, ◌++◌, length, map}
 use Rattle.std.specs.List.{concat}
 use Rattle.elf_link_field.specs.declared.rule.RelocRule.{RelocRule}
-use Rattle.elf_tool_rule_file.specs.Line.{IsRuleLine}
+use Rattle.elf_tool_rule_file.specs.RuleLine.{IsRuleLine}
 use Rattle.elf_tool_rule_file.specs.declared.fault.RulesFault.{RulesFault}
 use Rattle.elf_tool_rule_file.specs.declared.fault.RulesFault.TheVariants.{BadLine, OutOfMemory}
 
--- the lines of these rules, in order
+-- the lines of these relocation rules, in order
 abbrev pub AreRuleLines : List (List ℕ) → List RelocRule → Type 0
 AreRuleLines [] [] = Unit {0}
 AreRuleLines [] (rule ∷ rules) = ⊥
@@ -32,7 +32,7 @@ IsBadLine bytes n =
     (before rest : List ℕ) × (rules : List RelocRule) × (bytes ≡ before ++ rest) × AreRules before rules × (n ≡ length rules + 1)
     × (0 < length rest) × ((n ≡ 257) ⊎ (BeginsWithRule rest → ⊥))
 
--- why the bytes give no rules: a line is bad, or memory was refused for the rule of a line
+-- why the bytes give no relocation rules: a line is bad, or memory was refused for the rule of a line
 abbrev pub IsRulesFault : List ℕ → RulesFault → Type 0
 IsRulesFault bytes (BadLine n) = IsBadLine bytes n
 IsRulesFault bytes OutOfMemory = BeginsWithRule bytes

@@ -1,4 +1,4 @@
 -- The words of this crate's contracts.
 pub mod Cut
 pub mod File
-pub mod Line
+pub mod RuleLine

@@ -1,4 +1,4 @@
-//! A file of rules.
+//! A file of relocation rules.
 ghost use Rattle.std.specs.Prelude.{IfErr, IfOk, MatchOption};
 ghost use Rattle.elf_tool_rule_file.specs.File.{AreRules, BeginsWithRule, IsRuleFollowed, IsRulesFault};
 
@@ -8,11 +8,11 @@ use crate::line::rule_in;
 use elf_link_field::RelocRule;
 use std::alloc::Global;
 
-/// How many rules a file has at most.
+/// How many relocation rules a file has at most.
 const MOST_RULES: usize = 256;
 
-/// The rules of a file, in order. [`RulesFault::BadLine`] comes exactly where a line is none of a rule or there are more than 256, want
-/// of memory aside; the last line has a line feed too, and behind it there is nothing.
+/// The relocation rules of a file, in order. [`RulesFault::BadLine`] comes exactly where a line is none of a rule or there are more
+/// than 256, want of memory aside; the last line has a line feed too, and behind it there is nothing.
 pub fn read_rules(alloc: Global, bytes: &[u8]) -> Result<Vec<RelocRule>, RulesFault>
     ensures ok { IfOk result (λ rules. AreRules bytes.now rules.items) }
     ensures err { IfErr result (IsRulesFault bytes.now) }
@@ -35,7 +35,7 @@ pub fn read_rules(alloc: Global, bytes: &[u8]) -> Result<Vec<RelocRule>, RulesFa
     Ok(rules)
 }
 
-// The rule of the first line, and what stands behind its line feed.
+// The relocation rule of the first line, and what stands behind its line feed.
 fn first_rule(bytes: &[u8]) -> Option<(RelocRule, &[u8])>
     ensures { MatchOption result (BeginsWithRule bytes.now → ⊥) (λ found. IsRuleFollowed bytes.now found.0 found.1.now) }
 {

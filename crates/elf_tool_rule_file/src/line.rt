@@ -1,4 +1,4 @@
-//! The line of a rule, and its words.
+//! The line of a relocation rule, and its words.
 ghost use Rattle.std.specs.Prelude.{◌≡◌, ◌≢◌, ℕ, MatchOption};
 ghost use Rattle.std.specs.Char.{is_ascii_digit};
 ghost use Rattle.std.specs.List.{list_all};
@@ -6,13 +6,13 @@ ghost use Rattle.elf_link_field.specs.declared.rule.Form.{Form as AForm};
 ghost use Rattle.elf_link_field.specs.declared.rule.Range.{Range as ARange};
 ghost use Rattle.elf_link_field.specs.declared.rule.RelocRule.{RelocRule as ARule};
 ghost use Rattle.elf_link_field.specs.declared.rule.Width.{Width as AWidth};
-ghost use Rattle.elf_tool_rule_file.specs.Line.{IsKindWord, IsRuleLine, form_word, range_word, width_word};
+ghost use Rattle.elf_tool_rule_file.specs.RuleLine.{IsKindWord, IsRuleLine, form_word, range_word, width_word};
 
 use crate::cutting::cut;
 use elf_link_field::{Form, Range, RelocRule, Width};
 use std::str;
 
-/// The rule of a line without its line feed. None where it is no rule's.
+/// The relocation rule of a line without its line feed. None where it is no rule's.
 pub(crate) fn rule_in(line: &[u8]) -> Option<RelocRule>
     ensures { MatchOption result ((rule : ARule) → IsRuleLine line.now rule → ⊥) (IsRuleLine line.now) }
 {

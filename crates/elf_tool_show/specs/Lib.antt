@@ -1,5 +1,4 @@
 -- The words of this crate's contracts.
-pub mod Rewrite
 pub mod Show
 pub mod ShowLines
 pub mod TableLines

@@ -2,9 +2,9 @@
 use Rattle.std.specs.Prelude.{◌≡◌, ℕ, List, ◌++◌, length, Option, Some, Result}
 use Rattle.std.specs.List.{flat_map, range_with_len}
 use Rattle.elf_image_rules.specs.ImageRules.{IsFault}
-use Rattle.elf_image_type.specs.Image.{ImageValue, IsImage, section_of, segment_of}
+use Rattle.elf_image_type.specs.Image.{ImageValue, IsImage, program_header_of, section_header_of}
 use Rattle.elf_image_type.specs.Strings.{section_name}
-use Rattle.elf_table_symbols.specs.Sections.{sections_of}
+use Rattle.elf_table_base.specs.Sections.{sections_of}
 use Rattle.elf_table_all.specs.TableVerdicts.{AreVerdicts, TablesValue}
 use Rattle.elf_tool_text.specs.Engine.{IsAnswered}
 use Rattle.elf_tool_text.specs.Line.{refused_line}
@@ -17,10 +17,10 @@ use Rattle.elf_tool_text.specs.declared.fault.Verdict.TheVariants.{Done, Refused
 
 -- the line of a section or segment by its index
 abbrev pub section_text : ImageValue → ℕ → List ℕ
-section_text v i = section_line i (section_of v.sections i) (section_name v i)
+section_text v i = section_line i (section_header_of v.sections i) (section_name v i)
 
 abbrev pub segment_text : ImageValue → ℕ → List ℕ
-segment_text v j = segment_line j (segment_of v.segments j)
+segment_text v j = segment_line j (program_header_of v.segments j)
 
 -- the line of each part, of each section (section header 0 too), and of each segment, in order
 unfoldable pub part_lines : List ℕ → ImageValue → List ℕ

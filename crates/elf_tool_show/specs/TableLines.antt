@@ -3,28 +3,27 @@
 use Rattle.std.specs.Prelude.{ℕ, ℤ, Option, None, Some, List, [], ◌∷◌, codes, get_or, if◌then◌else◌, length, map}
 use Rattle.std.specs.Fmt.{decimal, signed_decimal}
 use Rattle.std.specs.List.{flat_map, range_with_len}
-use Rattle.hex.specs.Hex.{encode_lower}
 use Rattle.elf_field.specs.declared.dynamic.Dyn.{Dyn}
 use Rattle.elf_image_type.specs.Strings.{string}
 use Rattle.elf_table_symbols.specs.declared.symbol.Place.{Place}
 use Rattle.elf_table_symbols.specs.declared.symbol.Place.TheVariants.{Undefined, Absolute, Common, Reserved, Section}
-use Rattle.elf_table_symbols.specs.declared.table_kind.TableKind.{TableKind}
-use Rattle.elf_table_symbols.specs.declared.table_kind.TableKind.TheVariants.{SymbolTable, RelocationTable, SectionGroup, NoteSection, DynamicArray, HashTable}
-use Rattle.elf_table_symbols.specs.Sections.{Sections, section, sections_of}
-use Rattle.elf_table_symbols.specs.Symbols.{SymbolValue, symbols_of}
-use Rattle.elf_table_symbols.specs.SymbolView.{no_symbol}
-use Rattle.elf_table_symbols.specs.TableKind.{kind_of}
+use Rattle.elf_table_base.specs.declared.table_kind.TableKind.{TableKind}
+use Rattle.elf_table_base.specs.declared.table_kind.TableKind.TheVariants.{SymbolTable, RelocationTable, SectionGroup, NoteSection, DynamicArray, HashTable}
+use Rattle.elf_table_base.specs.Sections.{Sections, section, sections_of}
+use Rattle.elf_table_symbols.specs.Symbols.{SymbolEntryValue, symbols_of}
+use Rattle.elf_table_symbols.specs.SymbolView.{no_symbol_entry}
+use Rattle.elf_table_base.specs.TableKind.{kind_of}
 use Rattle.elf_table_hash.specs.HashTable.{nbucket, nchain}
 use Rattle.elf_table_hash.specs.HashView.{hash_of_section}
 use Rattle.elf_table_lists.specs.declared.relocation.Relocation.{Relocation}
 use Rattle.elf_table_lists.specs.DynamicArray.{dynamic_array_of, is_string_tag, no_dynamic_entry}
 use Rattle.elf_table_lists.specs.Groups.{GroupValue, group_of}
 use Rattle.elf_table_lists.specs.Notes.{NoteValue, notes_of}
-use Rattle.elf_table_lists.specs.Relocations.{no_relocation, relocations_of}
+use Rattle.elf_table_lists.specs.Relocations.{no_relocation_entry, relocations_of}
 use Rattle.elf_table_all.specs.DynamicStrings.{dynamic_strings}
 use Rattle.elf_table_all.specs.Signature.{signature_name}
 use Rattle.elf_table_all.specs.TableVerdicts.{TablesValue}
-use Rattle.elf_tool_text.specs.Line.{hexadecimal, line, name_text}
+use Rattle.elf_tool_text.specs.Line.{bytes_text, hexadecimal, line, name_text}
 
 -- where a symbol is defined
 abbrev pub place_text : Place → List ℕ
@@ -35,7 +34,7 @@ place_text (Reserved index) = codes "reserved"
 place_text (Section index) = decimal index
 
 -- `symbol I S BINDING TYPE OTHER PLACE VALUE SIZE NAME`: symbol S of the table in section I
-unfoldable pub symbol_line : ℕ → ℕ → SymbolValue → List ℕ
+unfoldable pub symbol_line : ℕ → ℕ → SymbolEntryValue → List ℕ
 symbol_line i j s = line (
     codes "symbol" ∷ decimal i ∷ decimal j ∷ decimal s.binding ∷ decimal s.symbol_type ∷ decimal s.other ∷ place_text s.place
     ∷ hexadecimal s.value ∷ hexadecimal s.size ∷ name_text s.name ∷ [])
@@ -45,10 +44,10 @@ unfoldable pub table_refused_line : ℕ → ℕ → ℕ → List ℕ
 table_refused_line i rule at = line (codes "refused" ∷ decimal i ∷ decimal rule ∷ decimal at ∷ [])
 
 -- the line of each symbol of the table in section i, in order
-abbrev pub symbol_text : ℕ → List SymbolValue → ℕ → List ℕ
-symbol_text i symbols j = symbol_line i j (get_or symbols j no_symbol)
+abbrev pub symbol_text : ℕ → List SymbolEntryValue → ℕ → List ℕ
+symbol_text i symbols j = symbol_line i j (get_or symbols j no_symbol_entry)
 
-unfoldable pub symbol_lines : ℕ → List SymbolValue → List ℕ
+unfoldable pub symbol_lines : ℕ → List SymbolEntryValue → List ℕ
 symbol_lines i symbols = flat_map (symbol_text i symbols) (range_with_len 0 (length symbols))
 
 -- what is added, - where it stands in the bytes that are relocated
@@ -63,7 +62,7 @@ relocation_line i j r = line (
 
 -- the line of each relocation of section i, in order
 abbrev pub relocation_text : ℕ → List Relocation → ℕ → List ℕ
-relocation_text i relocations j = relocation_line i j (get_or relocations j no_relocation)
+relocation_text i relocations j = relocation_line i j (get_or relocations j no_relocation_entry)
 
 unfoldable pub relocation_lines : ℕ → List Relocation → List ℕ
 relocation_lines i relocations = flat_map (relocation_text i relocations) (range_with_len 0 (length relocations))
@@ -71,11 +70,6 @@ relocation_lines i relocations = flat_map (relocation_text i relocations) (range
 -- `group I FLAGS NAME MEMBER..`: the group in section I, by its signature's name
 unfoldable pub group_line : ℕ → List ℕ → GroupValue → List ℕ
 group_line i name g = line (codes "group" ∷ decimal i ∷ decimal g.flags ∷ name_text name ∷ map decimal g.members)
-
--- bytes, - for none
-abbrev pub bytes_text : List ℕ → List ℕ
-bytes_text [] = codes "-"
-bytes_text (b ∷ bs) = encode_lower (b ∷ bs)
 
 -- `note I TYPE NAME DESC`: a note of section I
 unfoldable pub note_line : ℕ → NoteValue → List ℕ

@@ -1,5 +1,3 @@
-//! The engines: each reads a file whole, judges it, and only then writes. A further command is one
-//! more file here.
-pub(crate) mod rewrite;
+//! The engine: it reads a file whole, judges it, and only then writes.
 pub(crate) mod show;
 mod show_tables;

@@ -1,5 +1,5 @@
-//! The engines `show` and `rewrite` of `elfmap`, over any reader and any writer: each reads a whole file, judges it, and writes what
-//! it says of it, in lines, or the file's object anew.
+//! The engine [`show`] of `elfmap`, over any reader and any writer: it reads a whole file, judges it, and writes what it holds, in
+//! lines.
 //!
 //! ```
 //! // A header alone is a file of 64 bytes without sections and segments.
@@ -14,5 +14,4 @@ mod show_lines;
 mod table_lines;
 
 pub use elf_tool_text::{Refusal, ToolFault, Verdict};
-pub use engine::rewrite::rewrite;
 pub use engine::show::show;

@@ -1,9 +1,9 @@
 //! The lines of tables: each function appends one to the text that is to go out.
 ghost use Rattle.std.specs.Prelude.{◌≡◌, ◌∷◌, ◌++◌, OnOk, map};
 ghost use Rattle.std.specs.Fmt.{decimal};
-ghost use Rattle.elf_tool_text.specs.Line.{blank, further_words};
-ghost use Rattle.elf_tool_show.specs.TableLines.{addend_text, bytes_text, dynamic_line, group_line, hash_line, note_line, place_text, relocation_line, string_words, symbol_line, table_refused_line};
-ghost use Rattle.elf_table_symbols.specs.SymbolView.{symbol_value};
+ghost use Rattle.elf_tool_text.specs.Line.{blank, bytes_text, further_words};
+ghost use Rattle.elf_tool_show.specs.TableLines.{addend_text, dynamic_line, group_line, hash_line, note_line, place_text, relocation_line, string_words, symbol_line, table_refused_line};
+ghost use Rattle.elf_table_symbols.specs.SymbolView.{symbol_entry_value};
 ghost use Rattle.elf_table_lists.specs.NoteView.{note_value};
 
 use elf_field::Dyn;
@@ -24,7 +24,7 @@ pub(crate) fn push_symbol_line(
     j: usize,
     symbol: &Symbol<'_>,
 ) -> Result<(), AllocError>
-    ensures { OnOk result (text.new.items ≡ text.old.items ++ symbol_line i j (symbol_value symbol.now)) }
+    ensures { OnOk result (text.new.items ≡ text.old.items ++ symbol_line i j (symbol_entry_value symbol.now)) }
 {
     begin_line(text, b"symbol")?;
     push_decimal(text, i as u64)?;
@@ -188,7 +188,7 @@ pub(crate) fn push_hash_line(
 pub(crate) fn push_table_refused_line(
     text: &mut Vec<u8>,
     i: usize,
-    broken: Broken,
+    broken: Broken<u64>,
 ) -> Result<(), AllocError>
     ensures { OnOk result (text.new.items ≡ text.old.items ++ table_refused_line i broken.rule broken.at) }
 {

@@ -2,7 +2,7 @@
 use Rattle.std.proofs.Common.{◌≡◌, ◌∙◌, ℕ, ◌+◌, ◌^◌, ◌≤◌, ◌⊎◌, List, Option, Result, Ok, Err, inl, inr, length, refl, sym}
 use Rattle.std.specs.Io.KnownBytes.{Consumes, IsAtEnd, Keeps}
 use Rattle.std.proofs.KnownBytes.{Keeps-refl}
-use Rattle.elf_tool_text.specs.Engine.{IsAnswered, IsAnsweredWithMemory, IsBegun, IsInputFault, IsSaid, Report}
+use Rattle.elf_tool_text.specs.Engine.{IsAnswered, IsAnsweredWithMemory, IsBegun, IsReadFaultAfter, IsSaid, Report}
 use Rattle.elf_tool_text.specs.declared.fault.ToolFault.{ToolFault}
 use Rattle.elf_tool_text.specs.declared.fault.ToolFault.TheVariants.{Read, Write, OutOfMemory}
 use Rattle.elf_tool_text.specs.declared.fault.Verdict.{Verdict}
@@ -11,7 +11,7 @@ use Rattle.elf_tool_text.specs.declared.fault.Verdict.{Verdict}
 
 module _ (report : Report) (input rest old : Option (List ℕ)) (read items : List ℕ) (count : ℕ) (same : read ≡ items) (long : length read ≡ count)
     (taken : Consumes input rest items) (limit : count ≤ 2 ^ 30 + 1) where
-  pub given_up : (fault : ToolFault) → IsInputFault fault count → IsAnswered report input rest old old (Err fault)
+  pub given_up : (fault : ToolFault) → IsReadFaultAfter fault count → IsAnswered report input rest old old (Err fault)
   given_up (Read at) is = record { bytes = read; taken = rw same taken; limit = rw long limit; answered = inl (is ∙ sym long, Keeps-refl old) }
   given_up OutOfMemory is = record { bytes = read; taken = rw same taken; limit = rw long limit; answered = inl (Keeps-refl old) }
   given_up (Write written) is = absurd is

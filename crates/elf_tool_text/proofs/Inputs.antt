@@ -1,7 +1,7 @@
 -- Of files that are read one after the other.
 use Rattle.std.proofs.Common.{◌≡◌, ℕ, ◌<◌, ◌≤◌, List, [], ◌∷◌, ◌++◌, Option, ap, arith, get_or, inl, inr, length, map, set, subst, sym}
 use Rattle.std.proofs.lemmas.List.{get_or-map, length-map, map-set}
-use Rattle.elf_tool_text.specs.Engine.{IsInputFault}
+use Rattle.elf_tool_text.specs.Engine.{IsReadFaultAfter}
 use Rattle.elf_tool_text.specs.Inputs.{AreRead, AreReadSoFar, GivesBytes, GivesFile, IsReadingFault, StopsAfter}
 use Rattle.elf_tool_text.specs.declared.fault.ToolFault.{ToolFault}
 use Rattle.elf_tool_text.specs.declared.fault.ToolFault.TheVariants.{Read, Write, OutOfMemory}
@@ -86,7 +86,7 @@ module _ {X : Type 0} (given : X → Option (List ℕ)) (old now : List X) (file
           (subst (λ (r : Option (List ℕ)). GivesBytes r (given x) bytes) (sym at) gives))
 
 -- the fault of a reader that stops is told with what it gave
-pub stopped : (inputs rests : List (Option (List ℕ))) (bytes : List ℕ) (fault : ToolFault) → StopsAfter inputs rests bytes → IsInputFault fault (length bytes)
+pub stopped : (inputs rests : List (Option (List ℕ))) (bytes : List ℕ) (fault : ToolFault) → StopsAfter inputs rests bytes → IsReadFaultAfter fault (length bytes)
     → IsReadingFault inputs rests fault
 stopped inputs rests bytes (Read at) stop is = (bytes, stop, is)
 stopped inputs rests bytes (Write written) stop is = absurd is

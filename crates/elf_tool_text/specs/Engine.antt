@@ -7,10 +7,10 @@ use Rattle.elf_tool_text.specs.declared.fault.ToolFault.TheVariants.{Read, Write
 use Rattle.elf_tool_text.specs.declared.fault.Verdict.{Verdict}
 
 -- a fault of reading, after so many bytes
-abbrev pub IsInputFault : ToolFault → ℕ → Type 0
-IsInputFault (Read at) count = at ≡ count
-IsInputFault (Write written) count = ⊥
-IsInputFault OutOfMemory count = Unit {0}
+abbrev pub IsReadFaultAfter : ToolFault → ℕ → Type 0
+IsReadFaultAfter (Read at) count = at ≡ count
+IsReadFaultAfter (Write written) count = ⊥
+IsReadFaultAfter OutOfMemory count = Unit {0}
 
 -- the bytes that a reader gave are all of its file, or all that the limit lets through
 abbrev pub IsReadWhole : Option (List ℕ) → List ℕ → Type 0

@@ -37,6 +37,11 @@ unfoldable pub name_text : List ℕ → List ℕ
 name_text [] = codes "-"
 name_text (b ∷ bs) = if is_plain (b ∷ bs) then b ∷ bs else codes "#" ++ encode_lower (b ∷ bs)
 
+-- bytes, each as two digits; - where there are none
+abbrev pub bytes_text : List ℕ → List ℕ
+bytes_text [] = codes "-"
+bytes_text (b ∷ bs) = encode_lower (b ∷ bs)
+
 -- ---- lines of every engine
 
 -- `ok L N M`: the length in bytes, and the counts of sections and segments

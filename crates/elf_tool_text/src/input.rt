@@ -2,7 +2,7 @@
 ghost use Rattle.std.specs.Prelude.{◌≡◌, ◌+◌, ◌≤◌, ◌⊎◌, [], map, take, vec_len, IfErr, IfOk, IfSome, OnOk};
 ghost use Rattle.std.specs.Io.KnownBytes.{Consumes, IsAtEnd};
 ghost use Rattle.elf_image_rules.specs.HeaderRules.{MAX_LEN};
-ghost use Rattle.elf_tool_text.specs.Engine.{IsInputFault};
+ghost use Rattle.elf_tool_text.specs.Engine.{IsReadFaultAfter};
 ghost use Rattle.elf_tool_text.specs.Inputs.{AreRead, IsReadingFault};
 
 use crate::fault::ToolFault;
@@ -18,7 +18,7 @@ pub fn read_input<R: Read>(reader: &mut R, buf: &mut Vec<u8>) -> Result<(), Tool
     ensures taken { Consumes (R.remaining reader.old) (R.remaining reader.new) buf.new.items }
     ensures limit { vec_len buf.new ≤ MAX_LEN + 1 }
     ensures ok { OnOk result (IsAtEnd (R.remaining reader.new) ⊎ (vec_len buf.new ≡ MAX_LEN + 1)) }
-    ensures fault { IfErr result (λ e. IsInputFault e (vec_len buf.new)) }
+    ensures fault { IfErr result (λ e. IsReadFaultAfter e (vec_len buf.new)) }
     ensures whole { OnOk result (IfSome (R.remaining reader.old)
         (λ bytes. buf.new.items ≡ take (MAX_LEN + 1) bytes)) }
 {

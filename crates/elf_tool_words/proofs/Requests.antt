@@ -4,7 +4,7 @@ use Rattle.clap.specs.Faults.{fault_of}
 use Rattle.clap.specs.Simple.{subcommand_of}
 use Rattle.clap.specs.Walk.{Row, Text}
 use Rattle.elf_tool_words.specs.Command.{elfmap}
-use Rattle.elf_tool_words.specs.Words.{Asks, Gives, IsAskedBy, IsRefusedBy, Refuses}
+use Rattle.elf_tool_words.specs.Words.{Asks, CommandRefuses, Gives, IsAskedBy, IsRefusedBy}
 use Rattle.elf_tool_words.specs.declared.words.Request.{Request}
 use Rattle.elf_tool_words.specs.declared.words.WordsFault.{WordsFault}
 use Rattle.elf_tool_words.specs.declared.words.WordsFault.TheVariants.{Words, TooManyFiles, BadNumber, OutOfMemory}
@@ -17,9 +17,9 @@ module _ (words : List Text) (name : Text) (rows : List Row) (taken : fault_of e
   asked (Ok request) asks = gives (λ n s. Asks n s request) asks
   asked (Err fault) asks = tt
 
-  pub refused : (r : Result Request WordsFault) → IfErr r (Refuses name rows) → IfErr r (IsRefusedBy words)
+  pub refused : (r : Result Request WordsFault) → IfErr r (CommandRefuses name rows) → IfErr r (IsRefusedBy words)
   refused (Ok request) refuses = tt
   refused (Err (Words error)) refuses = absurd refuses
-  refused (Err TooManyFiles) refuses = gives (λ n s. Refuses n s TooManyFiles) refuses
-  refused (Err BadNumber) refuses = gives (λ n s. Refuses n s BadNumber) refuses
+  refused (Err TooManyFiles) refuses = gives (λ n s. CommandRefuses n s TooManyFiles) refuses
+  refused (Err BadNumber) refuses = gives (λ n s. CommandRefuses n s BadNumber) refuses
   refused (Err OutOfMemory) refuses = tt

@@ -33,8 +33,8 @@ abbrev pub page_of : List Row → Option ℕ
 page_of rows = number_of (text_of (codes "P") rows)
 
 -- the file that `--rules` names, if it does
-abbrev pub rules_of : List Row → Option Text
-rules_of = first_of (codes "RULES")
+abbrev pub rule_file_of : List Row → Option Text
+rule_file_of = first_of (codes "RULES")
 
 -- the command of this name, with these matches, is the request: one equation a command
 abbrev pub Asks : Text → List Row → Request → Type 0
@@ -43,15 +43,15 @@ Asks name rows (Show file) = (name ≡ codes "show") × (file.now ≡ text_of (c
 Asks name rows (Rewrite file) = (name ≡ codes "rewrite") × (file.now ≡ text_of (codes "FILE") rows)
 Asks name rows (Map base page rules files) =
     (name ≡ codes "map") × (map (λ f. f.now) files.items ≡ files_of rows) × (length (files_of rows) ≤ 64)
-    × (base_of rows ≡ Some base) × (page_of rows ≡ Some page) × (option_copied rules ≡ rules_of rows)
+    × (base_of rows ≡ Some base) × (page_of rows ≡ Some page) × (option_copied rules ≡ rule_file_of rows)
 
 -- the command of this name, with these matches, is refused so: `map` with more than 64 files, or else with a number that is none
-abbrev pub Refuses : Text → List Row → WordsFault → Type 0
-Refuses name rows (Words error) = ⊥
-Refuses name rows TooManyFiles = (name ≡ codes "map") × (64 < length (files_of rows))
-Refuses name rows BadNumber =
+abbrev pub CommandRefuses : Text → List Row → WordsFault → Type 0
+CommandRefuses name rows (Words error) = ⊥
+CommandRefuses name rows TooManyFiles = (name ≡ codes "map") × (64 < length (files_of rows))
+CommandRefuses name rows BadNumber =
     (name ≡ codes "map") × (length (files_of rows) ≤ 64) × ((base_of rows ≡ None) ⊎ (page_of rows ≡ None))
-Refuses name rows OutOfMemory = Unit {0}
+CommandRefuses name rows OutOfMemory = Unit {0}
 
 -- clap's definition takes the words, and gives a command and matches of which this holds
 pub record Gives (words : List Text) (P : Text → List Row → Type 0) : Type 0 where
@@ -69,8 +69,8 @@ IsAskedBy words request = Gives words (λ name rows. Asks name rows request)
 -- command is refused; or memory was refused
 abbrev pub IsRefusedBy : List Text → WordsFault → Type 0
 IsRefusedBy words (Words error) = IsAmong (kind_of error) (fault_of elfmap words)
-IsRefusedBy words TooManyFiles = Gives words (λ name rows. Refuses name rows TooManyFiles)
-IsRefusedBy words BadNumber = Gives words (λ name rows. Refuses name rows BadNumber)
+IsRefusedBy words TooManyFiles = Gives words (λ name rows. CommandRefuses name rows TooManyFiles)
+IsRefusedBy words BadNumber = Gives words (λ name rows. CommandRefuses name rows BadNumber)
 IsRefusedBy words OutOfMemory = Unit {0}
 
 -- an error of clap as a fault: want of memory is a fault of its own

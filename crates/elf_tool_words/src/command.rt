@@ -1,4 +1,4 @@
-//! The program's command line, defined once. A further command is one more entry of `elfmap`, here
+//! The program's command line, defined once. A further command is one more item of `elfmap`, here
 //! and in `specs/Command.antt`, and a function for its arguments where it takes more than one file.
 ghost use Rattle.std.specs.Prelude.{◌≡◌, false, IfOk};
 ghost use Rattle.clap.specs.Simple.{with_subcommand};

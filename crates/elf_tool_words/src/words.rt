@@ -3,7 +3,7 @@ ghost use Rattle.std.specs.Prelude.{◌≡◌, [], IfErr, IfOk, OnOk, codes, map
 ghost use Rattle.clap.specs.Walk.{first_of};
 ghost use Rattle.clap.specs.Words.{fault_of, found_of, rows_of, subcommand_of, subcommand_rows_of};
 ghost use Rattle.elf_tool_words.specs.Command.{IsNameIn, elfmap as elfmap_app};
-ghost use Rattle.elf_tool_words.specs.Words.{Asks, IsAskedBy, IsRefusedBy, Refuses, text_of, texts_of};
+ghost use Rattle.elf_tool_words.specs.Words.{Asks, CommandRefuses, IsAskedBy, IsRefusedBy, text_of, texts_of};
 
 use crate::command::elfmap;
 use crate::number::number_of;
@@ -115,7 +115,7 @@ fn request_of<'a>(
 ) -> Result<Request<'a>, WordsFault>
     requires { IsNameIn name.now elfmap_app.subs }
     ensures ok { IfOk result (Asks name.now (rows_of (found_of matches.now))) }
-    ensures err { IfErr result (Refuses name.now (rows_of (found_of matches.now))) }
+    ensures err { IfErr result (CommandRefuses name.now (rows_of (found_of matches.now))) }
 {
     match name {
         "check" => Ok(Request::Check {
@@ -135,7 +135,7 @@ fn request_of<'a>(
 // The request of `map`.
 fn map_request<'a>(alloc: Global, matches: &ArgMatches<'a>) -> Result<Request<'a>, WordsFault>
     ensures ok { IfOk result (Asks (codes "map") (rows_of (found_of matches.now))) }
-    ensures err { IfErr result (Refuses (codes "map") (rows_of (found_of matches.now))) }
+    ensures err { IfErr result (CommandRefuses (codes "map") (rows_of (found_of matches.now))) }
 {
     let files = texts_at(alloc, matches, "FILE")?;
     if files.len() > MOST_FILES {

@@ -5,7 +5,7 @@
 ghost use Rattle.std.specs.Prelude.{◌≡◌};
 ghost use Rattle.std.specs.Io.KnownBytes.{Appends};
 
-use elf_image_type::{parse, read_to_end, write};
+use elf_image::{parse, read_to_end, write};
 use std::alloc::Global;
 use std::io::Write;
 use std::process::ExitCode;
@@ -38,7 +38,7 @@ fn write_back<W: Write>(alloc: Global, bytes: &[u8], out: &mut W) -> u8
             Ok(()) => 0,
             Err(_) => 3,
         },
-        Err(elf_image_type::Fault::Rule { .. }) => 1,
+        Err(elf_image::Fault::Rule { .. }) => 1,
         Err(_) => 3,
     }
 }

@@ -18,7 +18,7 @@ pub use image_files::{
 };
 
 /// A field: its offset in the file, its width in bytes and its value.
-pub type Field = (usize, usize, u64);
+pub type Field = (u64, usize, u64);
 
 /// The header of a file without tables, but for byte 5.
 const HEADER: [Field; 10] = [
@@ -37,7 +37,7 @@ const HEADER: [Field; 10] = [
 /// Writes fields into a file.
 pub fn set(file: &mut [u8], order: Order, fields: &[Field]) {
     for (offset, width, value) in fields {
-        let (offset, width) = (*offset, *width);
+        let (offset, width) = (*offset as usize, *width);
         if width <= 8 && offset <= file.len() && width <= file.len() - offset {
             let place = &mut file[offset..offset + width];
             match order {

@@ -3,6 +3,8 @@ ghost use Rattle.std.specs.Prelude.{◌<◌};
 
 use crate::image_faults::Shelf;
 use elf_field::Order;
+use elf_field::abi::{E_SHNUM_AT, P_VADDR_AT, SH_SIZE_AT};
+use elf_image_rules::rules;
 use elf_image_type::{
     Fault, Image, NoSection, Owner, Part, ReplaceFault, WriteFault, parse, read_to_end, verdict,
     write,
@@ -398,7 +400,9 @@ fn verdicts(alloc: Global, file: &[u8]) -> Result<[Option<(u16, u64)>; 2], Fault
 fn tells_segments_out_of_order(rt: HostRuntime) -> Result<(), Fault> {
     let mut file = two_of_each(Order::Big);
     set(&mut file, Order::Big, &[(80, 8, 0x3000)]);
-    assert_eq!(rt; verdicts(rt.alloc(), &file)?, [Some((29, 136)); 2]);
+    // The address of the second one.
+    let broken = Some((rules::LOAD_OUT_OF_ORDER, 120 + P_VADDR_AT));
+    assert_eq!(rt; verdicts(rt.alloc(), &file)?, [broken; 2]);
     Ok(())
 }
 
@@ -608,9 +612,11 @@ fn judges_the_empty_object(rt: HostRuntime) -> Result<(), Fault> {
     let mut file = empty_object();
     let sound = verdicts(rt.alloc(), &file)?;
     // The count stands in section header 0, where `e_shnum` could hold it.
-    set(&mut file, LITTLE, &[(60, 2, 0), (152, 8, 4)]);
+    let count_at = 120 + SH_SIZE_AT;
+    set(&mut file, LITTLE, &[(E_SHNUM_AT, 2, 0), (count_at, 8, 4)]);
     let broken = verdicts(rt.alloc(), &file)?;
-    assert_eq!(rt; [sound, broken], [[None; 2], [Some((14, 152)); 2]]);
+    let want = Some((rules::WRONG_EXTENDED_SECTION_COUNT, count_at));
+    assert_eq!(rt; [sound, broken], [[None; 2], [want; 2]]);
     Ok(())
 }
 

@@ -1,10 +1,15 @@
-//! Tests of the rules of images.
+//! Tests of the rules of images, one of each rule, which has the rule's name; but for the first rule, which takes a file of more than
+//! 2^30 bytes: `scripts/explain-test` has one.
 #![tactic(auto)]
 
+#[cfg(test)]
+mod counts;
 #[cfg(test)]
 mod headers;
 #[cfg(test)]
 mod lengths;
+#[cfg(test)]
+mod refusing;
 #[cfg(test)]
 mod sections;
 #[cfg(test)]

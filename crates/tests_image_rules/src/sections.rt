@@ -1,13 +1,18 @@
-//! Files with section headers.
+//! Rules 22 to 24 and 30 to 33: sections.
+use crate::refusing::{SECTION_HEADERS, assert_section_breaks};
 use elf_field::Order;
-use elf_image_rules::{Broken, judge_by_sorting, verdict};
-use tests_files::{Field, empty_contents, one_section, set};
+use elf_field::abi::*;
+use elf_image_rules::{Broken, judge_by_sorting, rules, verdict};
+use tests_files::{empty_contents, one_section, set};
 
-fn verdict_with(order: Order, fields: &[Field]) -> Option<(u16, u64)> {
-    let mut file = one_section(order);
-    set(&mut file, order, fields);
-    verdict(&file)
-}
+/// The section header of `.text`, section 1.
+const TEXT: u64 = SECTION_HEADERS + SHDR_SIZE;
+
+/// That of the string table, section 3, whose content is the byte at 96.
+const STRINGS: u64 = SECTION_HEADERS + 3 * SHDR_SIZE;
+
+/// That of the name table, section 4, whose content is at 97 to 129.
+const NAMES: u64 = SECTION_HEADERS + 4 * SHDR_SIZE;
 
 #[test]
 fn accepts_a_section(rt: HostRuntime) {
@@ -16,39 +21,58 @@ fn accepts_a_section(rt: HostRuntime) {
 }
 
 #[test]
-fn refuses_sections(rt: HostRuntime) {
-    let rows: [(&[Field], (u16, u64)); 27] = [
-        (&[(4, 1, 1)], (4, 4)),
-        (&[(5, 1, 3)], (5, 5)),
-        (&[(6, 1, 2)], (6, 6)),
-        (&[(20, 4, 2)], (7, 20)),
-        (&[(52, 2, 63)], (8, 52)),
-        (&[(58, 2, 63)], (10, 58)),
-        (&[(60, 2, 0xff00)], (11, 60)),
-        (&[(40, 8, 393)], (12, 40)),
-        (&[(184, 8, 1)], (13, 184)),
-        (&[(136, 4, 1), (192, 8, 1)], (13, 136)),
-        (&[(168, 8, 1)], (14, 168)),
-        (&[(60, 2, 0), (168, 8, 5)], (14, 168)),
-        (&[(60, 2, 6)], (15, 40)),
-        (&[(62, 2, 5)], (16, 62)),
-        (&[(62, 2, 0xff00)], (16, 62)),
-        (&[(176, 4, 1)], (17, 176)),
-        (&[(62, 2, 0xffff), (176, 4, 4)], (17, 176)),
-        (&[(32, 8, 64)], (18, 56)),
-        (&[(180, 4, 1)], (20, 180)),
-        (&[(248, 8, 3)], (22, 248)),
-        (&[(216, 8, 1)], (23, 216)),
-        (&[(224, 8, u64::MAX)], (24, 224)),
-        (&[(396, 4, 1)], (30, 396)),
-        (&[(97, 1, 1), (129, 1, 1)], (31, 97)),
-        (&[(129, 1, 1)], (31, 129)),
-        (&[(200, 4, 33)], (32, 200)),
-        (&[(352, 8, 95)], (33, 95)),
-    ];
-    for (fields, want) in rows {
-        assert_eq!(rt; verdict_with(Order::Little, fields), Some(want), "{want:?}");
-        assert_eq!(rt; verdict_with(Order::Big, fields), Some(want), "{want:?}");
+fn wrong_section_alignment_is_answered_at_its_field(rt: HostRuntime) {
+    let at = TEXT + SH_ADDRALIGN_AT;
+    let rule = rules::WRONG_SECTION_ALIGNMENT;
+    assert_section_breaks(&rt, &[(at, 8, 3)], rule, at);
+}
+
+#[test]
+fn misaligned_section_is_answered_at_its_address(rt: HostRuntime) {
+    let at = TEXT + SH_ADDR_AT;
+    let rule = rules::MISALIGNED_SECTION;
+    assert_section_breaks(&rt, &[(at, 8, 1)], rule, at);
+}
+
+#[test]
+fn content_past_end_is_answered_at_its_offset(rt: HostRuntime) {
+    let at = TEXT + SH_OFFSET_AT;
+    let rule = rules::CONTENT_PAST_END;
+    assert_section_breaks(&rt, &[(at, 8, u64::MAX)], rule, at);
+}
+
+#[test]
+fn wrong_name_table_type_is_answered_at_its_type(rt: HostRuntime) {
+    let at = NAMES + SH_TYPE_AT;
+    let rule = rules::WRONG_NAME_TABLE_TYPE;
+    assert_section_breaks(&rt, &[(at, 4, 1)], rule, at);
+}
+
+#[test]
+fn unclosed_name_table_is_answered_at_its_first_wrong_byte(rt: HostRuntime) {
+    let fields = [(97, 1, 1), (129, 1, 1)];
+    let rule = rules::UNCLOSED_NAME_TABLE;
+    assert_section_breaks(&rt, &fields, rule, 97);
+    assert_section_breaks(&rt, &fields[1..], rule, 129);
+}
+
+#[test]
+fn name_past_end_is_answered_at_the_name(rt: HostRuntime) {
+    let at = TEXT + SH_NAME_AT;
+    assert_section_breaks(&rt, &[(at, 4, 33)], rules::NAME_PAST_END, at);
+}
+
+#[test]
+fn shared_byte_is_answered_at_the_lowest_one(rt: HostRuntime) {
+    // The string table is the last byte of the symbol table.
+    let fields = [(STRINGS + SH_OFFSET_AT, 8, 95)];
+    assert_section_breaks(&rt, &fields, rules::SHARED_BYTE, 95);
+    // The content of section 1 is the last byte of the section header table.
+    for order in [Order::Little, Order::Big] {
+        let mut file = empty_contents(order);
+        set(&mut file, order, &[(152, 8, 255), (160, 8, 1)]);
+        let want = Some((rules::SHARED_BYTE, 255));
+        assert_eq!(rt; verdict(&file), want, "{order:?}");
     }
 }
 
@@ -56,19 +80,19 @@ fn refuses_sections(rt: HostRuntime) {
 #[test]
 fn accepts_contents_out_of_order(rt: HostRuntime) {
     let mut file = one_section(Order::Little);
-    set(&mut file, Order::Little, &[(224, 8, 130)]);
+    set(&mut file, Order::Little, &[(TEXT + SH_OFFSET_AT, 8, 130)]);
     assert_eq!(rt; judge_by_sorting(rt.alloc(), &file).err(), None);
     assert_eq!(rt; verdict(&file), None);
 }
 
 /// The content of section 1 lies on that of section 3.
 #[test]
-fn refuses_a_shared_byte_out_of_order(rt: HostRuntime) {
+fn tells_a_shared_byte_of_contents_out_of_order(rt: HostRuntime) {
     let mut file = one_section(Order::Little);
-    set(&mut file, Order::Little, &[(224, 8, 96)]);
-    let broken = Broken::new(33, 96);
+    set(&mut file, Order::Little, &[(TEXT + SH_OFFSET_AT, 8, 96)]);
+    let broken = Broken::new(rules::SHARED_BYTE, 96);
     assert_eq!(rt; judge_by_sorting(rt.alloc(), &file).err(), Some(broken));
-    assert_eq!(rt; verdict(&file), Some((33, 96)));
+    assert_eq!(rt; verdict(&file), Some((rules::SHARED_BYTE, 96)));
 }
 
 /// Contents that lie past the end but are empty, or have no bytes in the file, hold no byte.
@@ -76,14 +100,4 @@ fn refuses_a_shared_byte_out_of_order(rt: HostRuntime) {
 fn accepts_empty_contents(rt: HostRuntime) {
     assert_eq!(rt; verdict(&empty_contents(Order::Little)), None);
     assert_eq!(rt; verdict(&empty_contents(Order::Big)), None);
-}
-
-/// The content of section 1 is the last byte of the section table.
-#[test]
-fn refuses_a_byte_shared_with_the_section_table(rt: HostRuntime) {
-    for order in [Order::Little, Order::Big] {
-        let mut file = empty_contents(order);
-        set(&mut file, order, &[(152, 8, 255), (160, 8, 1)]);
-        assert_eq!(rt; verdict(&file), Some((33, 255)), "{order:?}");
-    }
 }

@@ -3,7 +3,7 @@ use crate::worked::{
     GLOBAL, call, fault_of, list, mapped, members_of, name_of, no_bits_of, numbers_of, object,
     options, rule, section, symbol,
 };
-use elf_link_map::{Binding, LinkFault, LinkMap, Member, Named, Options};
+use elf_link_map::{Binding, LinkFault, LinkMap, Member, Named, Options, rules};
 use elf_object_type::{Body, Object, ObjectFault, Place, Section, Symbol};
 use std::alloc::{AllocError, Global};
 use std::test::Fail;
@@ -159,24 +159,26 @@ fn names_each_name_once_in_order(rt: HostRuntime) -> Result<(), Fail> {
 }
 
 #[test]
-fn refuses_a_name_that_no_file_defines(rt: HostRuntime) -> Result<(), Fail> {
+fn undefined_name_is_answered_at_its_symbol(rt: HostRuntime) -> Result<(), Fail> {
     let alloc = rt.alloc();
     let objects = [caller(alloc)?];
     assert_eq!(rt;
         fault_of(alloc, &objects, &options(0x1000, 1, None)),
-        rule(9, 0, 1)
+        rule(rules::UNDEFINED_NAME, 0, 1)
     );
     Ok(())
 }
 
 #[test]
-fn refuses_an_entry_that_is_not_there_or_too_high(rt: HostRuntime) -> Result<(), Fail> {
+fn no_entry_is_answered_at_no_site(rt: HostRuntime) -> Result<(), Fail> {
     let alloc = rt.alloc();
     let faults = [
         fault_of_both(alloc, &options(0x1000, 1, Some(b"nope")))?,
         fault_of_callee(alloc, &options(0x1000, 1, Some(b"callee")))?,
         fault_of_callee(alloc, &options(0x1000, 1, None))?,
     ];
-    assert_eq!(rt; faults, [rule(10, 0, 0), rule(10, 0, 0), None]);
+    // Of no file, too high, and where none is asked for.
+    let broken = rule(rules::NO_ENTRY, 0, 0);
+    assert_eq!(rt; faults, [broken, broken, None]);
     Ok(())
 }

@@ -4,7 +4,7 @@ ghost use Rattle.std.specs.Prelude.{◌≤◌};
 use crate::worked::{
     GLOBAL, WEAK, fault_of, list, mapped, numbers_of, object, options, rule, section, symbol,
 };
-use elf_link_map::{Binding, Common, LinkMap};
+use elf_link_map::{Binding, Common, LinkMap, rules};
 use elf_object_type::{Body, Object, ObjectFault, Place};
 use std::alloc::Global;
 use std::test::Fail;
@@ -102,12 +102,12 @@ fn prefers_a_global_definition(rt: HostRuntime) -> Result<(), Fail> {
 }
 
 #[test]
-fn refuses_a_second_global_definition(rt: HostRuntime) -> Result<(), Fail> {
+fn two_definitions_is_answered_at_the_second(rt: HostRuntime) -> Result<(), Fail> {
     let alloc = rt.alloc();
     let objects = files(alloc)?;
     assert_eq!(rt;
         fault_of(alloc, &objects, &options(0x2000, 0x1000, None)),
-        rule(8, 4, 0)
+        rule(rules::TWO_DEFINITIONS, 4, 0)
     );
     Ok(())
 }

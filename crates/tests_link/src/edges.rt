@@ -3,7 +3,7 @@ use crate::worked::{
     GLOBAL, WEAK, fault_of, list, mapped, no_bits_of, numbers_of, object, options, rule, section,
     symbol,
 };
-use elf_link_map::{Binding, LinkFault, LinkMap, Options};
+use elf_link_map::{Binding, LinkFault, LinkMap, Options, rules};
 use elf_object_type::{Body, Object, ObjectFault, Place};
 use std::alloc::Global;
 use std::test::Fail;
@@ -41,19 +41,20 @@ fn fault_of_bss(
 }
 
 /// `x`, nowhere defined.
-fn undefined(alloc: Global, binding: u8) -> Result<Object<'static>, ObjectFault> {
+fn nowhere_defined(alloc: Global, binding: u8) -> Result<Object<'static>, ObjectFault> {
     let symbols = list(alloc, [symbol(b"x", binding, Place::Undef, 0, 0)])?;
     object(alloc, Vec::new(alloc), symbols)
 }
 
 #[test]
-fn refuses_a_base_that_is_no_multiple_of_the_page(rt: HostRuntime) -> Result<(), Fail> {
+fn bad_options_is_answered_at_no_site(rt: HostRuntime) -> Result<(), Fail> {
     let alloc = rt.alloc();
     let faults = [
         fault_of_bss(alloc, 1, &options(0x1001, 0x1000, None))?,
         fault_of_bss(alloc, 1, &options(0, 3, None))?,
     ];
-    assert_eq!(rt; faults, [rule(1, 0, 0), rule(1, 0, 0)]);
+    let broken = rule(rules::BAD_OPTIONS, 0, 0);
+    assert_eq!(rt; faults, [broken, broken]);
     Ok(())
 }
 
@@ -66,27 +67,39 @@ fn places_up_to_the_last_address(rt: HostRuntime) -> Result<(), Fail> {
         placed_bss(alloc, 0xfff, &high)?,
         placed_bss(alloc, whole, &options(0, 1, None))?,
     ];
-    let faults = [
-        fault_of_bss(alloc, 0x1000, &high)?,
-        fault_of_bss(alloc, whole, &options(1, 1, None))?,
-    ];
     let want = [
         (Some((0xffff_ffff_ffff_f000, 0xfff, 3)), Some(true)),
         (Some((0, whole, 3)), Some(true)),
     ];
-    assert_eq!(rt; (placed, faults), (want, [rule(11, 0, 0), rule(11, 0, 0)]));
+    assert_eq!(rt; placed, want);
+    Ok(())
+}
+
+#[test]
+fn address_overflow_is_answered_at_no_site(rt: HostRuntime) -> Result<(), Fail> {
+    let alloc = rt.alloc();
+    let high = options(0xffff_ffff_ffff_f000, 0x1000, None);
+    let faults = [
+        fault_of_bss(alloc, 0x1000, &high)?,
+        fault_of_bss(alloc, 0xffff_ffff_ffff_ffff, &options(1, 1, None))?,
+    ];
+    let broken = rule(rules::ADDRESS_OVERFLOW, 0, 0);
+    assert_eq!(rt; faults, [broken, broken]);
     Ok(())
 }
 
 #[test]
 fn binds_a_name_of_weak_entries_alone_to_zero(rt: HostRuntime) -> Result<(), Fail> {
     let alloc = rt.alloc();
-    let objects = [undefined(alloc, WEAK)?, undefined(alloc, GLOBAL)?];
+    let objects = [
+        nowhere_defined(alloc, WEAK)?,
+        nowhere_defined(alloc, GLOBAL)?,
+    ];
     let fault = fault_of(alloc, &objects, &options(0, 1, None));
     let link = mapped(alloc, &objects[..1], &options(0, 1, None))?;
     assert_eq!(rt;
         (link.binding(b"x"), fault),
-        (Some(Binding::Zero), rule(9, 1, 0))
+        (Some(Binding::Zero), rule(rules::UNDEFINED_NAME, 1, 0))
     );
     Ok(())
 }

@@ -8,6 +8,8 @@ mod commons;
 #[cfg(test)]
 mod edges;
 #[cfg(test)]
+mod file_rules;
+#[cfg(test)]
 mod groups;
 #[cfg(test)]
 mod worked;

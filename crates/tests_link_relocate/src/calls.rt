@@ -4,6 +4,7 @@ use crate::worked::{
 };
 use elf_field::Order;
 use elf_link_field::{Form, Range};
+use elf_link_relocate::rules;
 use elf_object_type::{Body, Object, ObjectFault, Place, Relocation, Section, Symbol};
 use std::alloc::{AllocError, Global};
 use std::test::Fail;
@@ -78,10 +79,13 @@ fn calls_the_function_of_the_other_file(rt: HostRuntime) -> Result<(), Fail> {
 }
 
 #[test]
-fn refuses_a_kind_without_a_rule(rt: HostRuntime) -> Result<(), Fail> {
+fn no_rule_is_answered_at_the_entry(rt: HostRuntime) -> Result<(), Fail> {
     let alloc = rt.alloc();
     let objects = files(alloc)?;
-    let rules = [rule(3, Form::Pc, Range::Signed)];
-    assert_eq!(rt; fault_of(alloc, &objects, 0x1000, &rules), broken(12, 0));
+    let list = [rule(3, Form::Pc, Range::Signed)];
+    assert_eq!(rt;
+        fault_of(alloc, &objects, 0x1000, &list),
+        broken(rules::NO_RULE, 0)
+    );
     Ok(())
 }

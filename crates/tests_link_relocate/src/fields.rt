@@ -3,6 +3,7 @@ use crate::worked::{GLOBAL, broken, bytes_in, fault_of, list, object, rule, sect
 use elf_field::Order;
 use elf_link_field::{Form, Range, RelocRule};
 use elf_link_map::LinkFault;
+use elf_link_relocate::rules;
 use elf_object_type::{Body, Object, ObjectFault, Place, Relocation};
 use std::alloc::{AllocError, Global};
 use std::test::Fail;
@@ -111,33 +112,31 @@ fn leaves_the_bytes_of_a_rule_without_a_field(rt: HostRuntime) -> Result<(), Fai
 }
 
 #[test]
-fn refuses_by_the_rule_of_the_kind(rt: HostRuntime) -> Result<(), Fail> {
-    let alloc = rt.alloc();
-    let faults = [
-        fault_by(alloc, &[0], rule(1, Form::Abs, Range::Unsigned))?,
-        fault_by(alloc, &[0], rule(2, Form::Abs, Range::Signed))?,
-    ];
-    assert_eq!(rt; faults, [broken(16, 0), broken(12, 0)]);
+fn value_out_of_range_is_answered_at_the_entry(rt: HostRuntime) -> Result<(), Fail> {
+    let unsigned = rule(1, Form::Abs, Range::Unsigned);
+    let fault = fault_by(rt.alloc(), &[0], unsigned)?;
+    assert_eq!(rt; fault, broken(rules::VALUE_OUT_OF_RANGE, 0));
     Ok(())
 }
 
 #[test]
-fn refuses_a_field_that_passes_the_end(rt: HostRuntime) -> Result<(), Fail> {
+fn field_out_of_range_is_answered_at_the_entry(rt: HostRuntime) -> Result<(), Fail> {
     let alloc = rt.alloc();
     let signed = rule(1, Form::Abs, Range::Signed);
     let faults = [
         fault_by(alloc, &[5], signed)?,
         fault_by(alloc, &[0xffff_ffff_ffff_ffff], signed)?,
     ];
-    assert_eq!(rt; faults, [broken(14, 0), broken(14, 0)]);
+    let past = broken(rules::FIELD_OUT_OF_RANGE, 0);
+    assert_eq!(rt; faults, [past, past]);
     Ok(())
 }
 
 #[test]
-fn refuses_a_field_that_shares_a_byte(rt: HostRuntime) -> Result<(), Fail> {
+fn fields_overlap_is_answered_at_the_later_entry(rt: HostRuntime) -> Result<(), Fail> {
     let signed = rule(1, Form::Abs, Range::Signed);
     let fault = fault_by(rt.alloc(), &[0, 3], signed)?;
-    assert_eq!(rt; fault, broken(15, 1));
+    assert_eq!(rt; fault, broken(rules::FIELDS_OVERLAP, 1));
     Ok(())
 }
 

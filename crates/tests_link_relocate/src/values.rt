@@ -4,6 +4,7 @@ use crate::worked::{
 };
 use elf_field::Order;
 use elf_link_field::{Form, Range};
+use elf_link_relocate::rules;
 use elf_object_type::{Body, Object, ObjectFault, Place, Relocation, Section};
 use std::alloc::{AllocError, Global};
 use std::test::Fail;
@@ -54,10 +55,11 @@ fn counts_a_weak_name_without_a_definition_as_zero(rt: HostRuntime) -> Result<()
 }
 
 #[test]
-fn refuses_a_symbol_in_a_section_without_a_place(rt: HostRuntime) -> Result<(), Fail> {
+fn unplaced_is_answered_at_the_entry(rt: HostRuntime) -> Result<(), Fail> {
     let alloc = rt.alloc();
     let objects = [file(alloc, LOCAL, Place::In(2))?];
-    let rules = [rule(1, Form::Abs, Range::Signed)];
-    assert_eq!(rt; fault_of(alloc, &objects, 0x2000, &rules), broken(13, 0));
+    let list = [rule(1, Form::Abs, Range::Signed)];
+    let fault = fault_of(alloc, &objects, 0x2000, &list);
+    assert_eq!(rt; fault, broken(rules::UNPLACED, 0));
     Ok(())
 }

@@ -1,9 +1,12 @@
-//! An object file of a group with one member, a section beside it, relocations and a symbol table.
+//! Rules 70 to 79: an object file of a group with one member, a section beside it, relocations and a symbol table.
 use elf_field::Order;
+use elf_field::abi::*;
 use elf_image_type::{Fault, parse};
-use elf_object_reader::object_of;
+use elf_object_reader::{object_of, rules};
 use elf_object_type::{Body, Place, Relocation, Section, Symbol};
+use elf_table_base::rules as table_rules;
 use std::alloc::Global;
+use std::process::Abort;
 use std::test::Fail;
 use tests_files::{Field, set, set_header};
 
@@ -68,6 +71,17 @@ const OBJECT: [Field; 57] = [
     (664, 8, 1),
     (672, 8, 0),
 ];
+
+/// The section headers of the group's member, of the section beside it, of the relocations, of the symbol table and of the names.
+const MEMBER: u64 = 168 + 2 * SHDR_SIZE;
+
+const BESIDE: u64 = MEMBER + SHDR_SIZE;
+
+const RELOCS: u64 = BESIDE + SHDR_SIZE;
+
+const SYMBOLS: u64 = RELOCS + SHDR_SIZE;
+
+const NAMES: u64 = SYMBOLS + 2 * SHDR_SIZE;
 
 fn object(order: Order) -> [u8; 680] {
     let mut file = [0; 680];
@@ -158,130 +172,163 @@ fn tells_the_symbols_but_symbol_0(rt: HostRuntime) -> Result<(), Fail> {
     Ok(())
 }
 
-#[test]
-fn tells_the_first_rule_that_an_object_file_breaks(rt: HostRuntime) -> Result<(), Fail> {
-    let broken = [
-        ((16, 2, 2), 70, 16),
-        ((24, 8, 1), 71, 24),
-        ((364, 4, 5), 72, 364),
-        ((364, 4, 11), 72, 364),
-        ((364, 4, 2), 73, 492),
-        ((364, 4, 18), 74, 400),
-        ((532, 4, 3), 46, 532),
-        ((142, 2, 6), 75, 142),
-        ((142, 2, 0xff00), 75, 142),
-        ((64, 4, 2), 56, 64),
-        ((96, 8, 0x5_0000_0002), 54, 96),
-        ((468, 4, 5), 76, 468),
-        ((468, 4, 1), 76, 468),
-        ((400, 4, 5), 78, 400),
-    ];
-    for (field, rule, at) in &broken {
-        let mut file = object(Order::Little);
-        set(&mut file, Order::Little, &[*field]);
-        let fault = Fault::Rule {
-            rule: *rule,
-            at: *at,
-        };
-        assert_eq!(rt; verdict_of(rt.alloc(), &file), Err(fault));
+/// The object file with these fields breaks this rule first, at this offset, in either byte order.
+fn assert_breaks(rt: &impl Abort, alloc: Global, fields: &[Field], rule: u16, at: u64) {
+    for order in [Order::Little, Order::Big] {
+        let mut file = object(order);
+        set(&mut file, order, fields);
+        let verdict = verdict_of(alloc, &file);
+        assert_eq!(rt; verdict, Err(Fault::Rule { rule, at }), "{order:?}");
     }
-    Ok(())
 }
 
 #[test]
-fn tells_it_in_the_other_order(rt: HostRuntime) -> Result<(), Fail> {
-    let broken = [
-        ((16, 2, 3), 70, 16),
-        ((24, 8, 4096), 71, 24),
-        ((364, 4, 10), 72, 364),
-        ((364, 4, 2), 73, 492),
-        ((364, 4, 18), 74, 400),
-        ((142, 2, 5), 75, 142),
-        ((468, 4, 0), 76, 468),
-        ((400, 4, 7), 78, 400),
-    ];
-    for (field, rule, at) in &broken {
-        let mut file = object(Order::Big);
-        set(&mut file, Order::Big, &[*field]);
-        let fault = Fault::Rule {
-            rule: *rule,
-            at: *at,
-        };
-        assert_eq!(rt; verdict_of(rt.alloc(), &file), Err(fault));
+fn not_relocatable_is_answered_at_the_type(rt: HostRuntime) {
+    for file_type in [2, 3] {
+        let fields = [(E_TYPE_AT, 2, file_type)];
+        let rule = rules::NOT_RELOCATABLE;
+        assert_breaks(&rt, rt.alloc(), &fields, rule, E_TYPE_AT);
     }
-    Ok(())
 }
 
 #[test]
-fn tells_a_rule_that_two_fields_break(rt: HostRuntime) -> Result<(), Fail> {
-    let broken = [
-        ([(68, 4, 7), (624, 8, 0x200)], 77, 68),
-        ([(368, 8, 0x43), (404, 4, 5)], 79, 404),
-        ([(400, 4, 5), (404, 4, 5)], 78, 400),
-        ([(468, 4, 5), (400, 4, 5)], 76, 468),
-    ];
-    for (fields, rule, at) in &broken {
-        let fault = Fault::Rule {
-            rule: *rule,
-            at: *at,
-        };
-        let mut little = object(Order::Little);
-        set(&mut little, Order::Little, fields);
-        assert_eq!(rt; verdict_of(rt.alloc(), &little), Err(fault));
-        let mut big = object(Order::Big);
-        set(&mut big, Order::Big, fields);
-        assert_eq!(rt; verdict_of(rt.alloc(), &big), Err(fault));
+fn loadable_is_answered_at_the_entry_or_the_count(rt: HostRuntime) {
+    let rule = rules::LOADABLE;
+    for entry in [1, 4096] {
+        let fields = [(E_ENTRY_AT, 8, entry)];
+        assert_breaks(&rt, rt.alloc(), &fields, rule, E_ENTRY_AT);
     }
-    Ok(())
-}
-
-#[test]
-fn tells_a_member_that_is_a_group_or_one_of_two_groups(rt: HostRuntime) -> Result<(), Fail> {
-    // Section 3 is a group too: the word at 72 is its flags, and that at 76 its member.
-    let second = [
-        (72, 4, 1),
-        (76, 4, 4),
-        (364, 4, 17),
-        (368, 8, 0x200),
-        (384, 8, 72),
-        (392, 8, 8),
-        (400, 4, 5),
-        (404, 4, 1),
-        (416, 8, 4),
-        (432, 8, 0x200),
-        (320, 8, 80),
-    ];
-    let broken = [
-        ((76, 4, 4), None),
-        ((68, 4, 3), Some(68)),
-        ((68, 4, 4), Some(76)),
-    ];
-    for (field, at) in &broken {
-        let mut file = object(Order::Little);
-        set(&mut file, Order::Little, &second);
-        set(&mut file, Order::Little, &[*field]);
-        let verdict = match at {
-            Some(at) => Err(Fault::Rule { rule: 77, at: *at }),
-            None => Ok(()),
-        };
-        assert_eq!(rt; verdict_of(rt.alloc(), &file), verdict);
-    }
-    Ok(())
-}
-
-#[test]
-fn refuses_a_program_header(rt: HostRuntime) -> Result<(), Fail> {
     let mut file = [0; 120];
-    set_header(
-        &mut file,
-        Order::Little,
-        &[(32, 8, 64), (54, 2, 56), (56, 2, 1)],
-    );
+    let fields = [
+        (E_PHOFF_AT, 8, 64),
+        (E_PHENTSIZE_AT, 2, 56),
+        (E_PHNUM_AT, 2, 1),
+    ];
+    set_header(&mut file, Order::Little, &fields);
+    let at = E_PHNUM_AT;
     assert_eq!(rt;
         verdict_of(rt.alloc(), &file),
-        Err(Fault::Rule { rule: 71, at: 56 })
+        Err(Fault::Rule { rule, at })
     );
-    Ok(())
+}
+
+#[test]
+fn foreign_section_is_answered_at_its_type(rt: HostRuntime) {
+    let at = BESIDE + SH_TYPE_AT;
+    for section_type in [SHT_HASH, SHT_SHLIB, SHT_DYNSYM] {
+        let fields = [(at, 4, section_type as u64)];
+        assert_breaks(&rt, rt.alloc(), &fields, rules::FOREIGN_SECTION, at);
+    }
+}
+
+#[test]
+fn second_symbol_table_is_answered_at_its_type(rt: HostRuntime) {
+    let fields = [(BESIDE + SH_TYPE_AT, 4, SHT_SYMTAB as u64)];
+    let at = SYMBOLS + SH_TYPE_AT;
+    assert_breaks(&rt, rt.alloc(), &fields, rules::SECOND_SYMBOL_TABLE, at);
+}
+
+#[test]
+fn stray_index_table_is_answered_at_its_link(rt: HostRuntime) {
+    let fields = [(BESIDE + SH_TYPE_AT, 4, SHT_SYMTAB_SHNDX as u64)];
+    let at = BESIDE + SH_LINK_AT;
+    assert_breaks(&rt, rt.alloc(), &fields, rules::STRAY_INDEX_TABLE, at);
+}
+
+#[test]
+fn symbol_outside_is_answered_at_its_section(rt: HostRuntime) {
+    let at = 136 + ST_SHNDX_AT;
+    // The symbol table, its string table, and a reserved index.
+    for section in [5, 6, 0xff00] {
+        let fields = [(at, 2, section)];
+        assert_breaks(&rt, rt.alloc(), &fields, rules::SYMBOL_OUTSIDE, at);
+    }
+}
+
+#[test]
+fn wrong_relocation_target_is_answered_at_the_info(rt: HostRuntime) {
+    let at = RELOCS + SH_INFO_AT;
+    let rule = rules::WRONG_RELOCATION_TARGET;
+    // No section, the group, and the symbol table.
+    for target in [0, 1, 5] {
+        assert_breaks(&rt, rt.alloc(), &[(at, 4, target)], rule, at);
+    }
+    // It comes before rule 78, which the section beside the member breaks.
+    let fields = [(at, 4, 5), (BESIDE + SH_LINK_AT, 4, 5)];
+    assert_breaks(&rt, rt.alloc(), &fields, rule, at);
+}
+
+/// The fields that make section 3 a group too: the word at 72 is its flags, and that at 76 its member; and one more.
+fn second_group(field: Field) -> [Field; 12] {
+    [
+        (72, 4, 1),
+        (76, 4, 4),
+        (BESIDE + SH_TYPE_AT, 4, SHT_GROUP as u64),
+        (BESIDE + SH_FLAGS_AT, 8, SHF_GROUP),
+        (BESIDE + SH_OFFSET_AT, 8, 72),
+        (BESIDE + SH_SIZE_AT, 8, 8),
+        (BESIDE + SH_LINK_AT, 4, 5),
+        (BESIDE + SH_INFO_AT, 4, 1),
+        (BESIDE + SH_ENTSIZE_AT, 8, 4),
+        (RELOCS + SH_FLAGS_AT, 8, SHF_GROUP),
+        (MEMBER + SH_OFFSET_AT, 8, 80),
+        field,
+    ]
+}
+
+#[test]
+fn reads_two_groups(rt: HostRuntime) {
+    let mut file = object(Order::Little);
+    set(&mut file, Order::Little, &second_group((76, 4, 4)));
+    assert_eq!(rt; verdict_of(rt.alloc(), &file), Ok(()));
+}
+
+#[test]
+fn wrong_group_member_is_answered_at_its_word(rt: HostRuntime) {
+    let rule = rules::WRONG_GROUP_MEMBER;
+    // The name table, which is left out.
+    let fields = [(68, 4, 7), (NAMES + SH_FLAGS_AT, 8, SHF_GROUP)];
+    assert_breaks(&rt, rt.alloc(), &fields, rule, 68);
+    // The other group, and its member.
+    assert_breaks(&rt, rt.alloc(), &second_group((68, 4, 3)), rule, 68);
+    assert_breaks(&rt, rt.alloc(), &second_group((68, 4, 4)), rule, 76);
+}
+
+#[test]
+fn wrong_kept_link_is_answered_at_the_link(rt: HostRuntime) {
+    let at = BESIDE + SH_LINK_AT;
+    let rule = rules::WRONG_KEPT_LINK;
+    for link in [5, 7] {
+        assert_breaks(&rt, rt.alloc(), &[(at, 4, link)], rule, at);
+    }
+    // An info without the flag INFO_LINK is a number.
+    let fields = [(at, 4, 5), (BESIDE + SH_INFO_AT, 4, 5)];
+    assert_breaks(&rt, rt.alloc(), &fields, rule, at);
+}
+
+#[test]
+fn wrong_kept_info_is_answered_at_the_info(rt: HostRuntime) {
+    let at = BESIDE + SH_INFO_AT;
+    let fields = [(BESIDE + SH_FLAGS_AT, 8, 0x43), (at, 4, 5)];
+    assert_breaks(&rt, rt.alloc(), &fields, rules::WRONG_KEPT_INFO, at);
+}
+
+#[test]
+fn tells_the_rule_that_a_table_of_an_object_breaks(rt: HostRuntime) {
+    let count_at = SYMBOLS + SH_INFO_AT;
+    let symbol_at = 88 + R_INFO_AT;
+    let rows = [
+        ((count_at, 4, 3), table_rules::WRONG_LOCAL_COUNT, count_at),
+        ((64, 4, 2), table_rules::WRONG_GROUP_FLAGS, 64),
+        (
+            (symbol_at, 8, 0x5_0000_0002),
+            table_rules::WRONG_RELOCATION_SYMBOL,
+            symbol_at,
+        ),
+    ];
+    for (field, rule, at) in rows {
+        assert_breaks(&rt, rt.alloc(), &[field], rule, at);
+    }
 }
 
 #[test]

@@ -1,6 +1,6 @@
-//! Groups of two sections.
+//! Rule 6 of objects: groups of two sections.
 use crate::parts::{bits, fault_of, section, symbol};
-use elf_object_type::{Body, ObjectFault, Place, Section, Symbol};
+use elf_object_type::{Body, ObjectFault, Place, Section, Symbol, rules};
 use std::alloc::{AllocError, Global};
 use std::test::Fail;
 
@@ -34,35 +34,31 @@ fn fault_of_group(
 }
 
 #[test]
-fn judges_the_members_of_a_group(rt: HostRuntime) -> Result<(), Fail> {
+fn judges_the_positions_of_members(rt: HostRuntime) -> Result<(), Fail> {
     let alloc = rt.alloc();
-    let expected = [
-        ([1, 2], 0x200, None),
-        ([1, 1], 0x200, Some(6)),
-        ([0, 1], 0x200, Some(6)),
-        ([1, 2], 2, Some(6)),
-        ([1, 9], 0x200, Some(4)),
-    ];
-    for (members, flags, rule) in expected {
-        let fault = match rule {
-            Some(rule) => Some(ObjectFault::Section { rule, position: 0 }),
-            None => None,
-        };
-        assert_eq!(rt; fault_of_group(alloc, members, flags)?, fault);
-    }
+    let past = Some(ObjectFault::Section {
+        rule: rules::WRONG_POSITION,
+        position: 0,
+    });
+    assert_eq!(rt; fault_of_group(alloc, [1, 2], 0x200)?, None);
+    assert_eq!(rt; fault_of_group(alloc, [1, 9], 0x200)?, past);
     Ok(())
 }
 
 #[test]
-fn refuses_a_member_of_two_groups(rt: HostRuntime) -> Result<(), Fail> {
+fn wrong_membership_is_answered_at_the_group(rt: HostRuntime) -> Result<(), Fail> {
     let alloc = rt.alloc();
+    let rule = rules::WRONG_MEMBERSHIP;
+    let fault = Some(ObjectFault::Section { rule, position: 0 });
+    // Named twice, the group itself, and without the flag GROUP.
+    for (members, flags) in [([1, 1], 0x200), ([0, 1], 0x200), ([1, 2], 2)] {
+        assert_eq!(rt; fault_of_group(alloc, members, flags)?, fault);
+    }
+    // A member of an earlier group too.
     let first = group(vec![in alloc; 2]?);
     let second = group(vec![in alloc; 2]?);
     let sections = vec![in alloc; first, second, bits(0x200)]?;
-    let fault = Some(ObjectFault::Section {
-        rule: 6,
-        position: 1,
-    });
+    let fault = Some(ObjectFault::Section { rule, position: 1 });
     assert_eq!(rt; fault_of(alloc, sections, signature(alloc)?), fault);
     Ok(())
 }

@@ -1,4 +1,4 @@
-//! Tests of objects: made from their parts, read from a file, and written.
+//! Tests of objects: made from their parts, read from a file, and written. Each rule has one with the rule's name.
 #![tactic(auto)]
 
 #[cfg(test)]

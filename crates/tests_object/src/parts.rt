@@ -1,7 +1,7 @@
-//! Objects made from three sections and two symbols.
+//! Rules 1 to 5 and 7 to 9 of objects: made from three sections and two symbols.
 use elf_field::Order;
 use elf_object_type::{
-    Body, Info, Object, ObjectFault, ObjectParts, Place, Relocation, Section, Symbol,
+    Body, Info, Object, ObjectFault, ObjectParts, Place, Relocation, Section, Symbol, rules,
 };
 use std::alloc::{AllocError, Global};
 use std::test::Fail;
@@ -106,7 +106,7 @@ fn accepts_parts_that_break_no_rule(rt: HostRuntime) -> Result<(), Fail> {
 }
 
 #[test]
-fn refuses_a_zero_in_a_section_name(rt: HostRuntime) -> Result<(), Fail> {
+fn zero_in_section_name_is_answered_at_the_section(rt: HostRuntime) -> Result<(), Fail> {
     let alloc = rt.alloc();
     let mut sections = sections(alloc, true, 24)?;
     if let Some(section) = sections.get_mut(1) {
@@ -114,13 +114,13 @@ fn refuses_a_zero_in_a_section_name(rt: HostRuntime) -> Result<(), Fail> {
     }
     assert_eq!(rt;
         fault_of(alloc, sections, symbols(alloc)?),
-        in_section(1, 1)
+        in_section(rules::ZERO_IN_SECTION_NAME, 1)
     );
     Ok(())
 }
 
 #[test]
-fn refuses_bits_of_another_type(rt: HostRuntime) -> Result<(), Fail> {
+fn wrong_bits_type_is_answered_at_the_section(rt: HostRuntime) -> Result<(), Fail> {
     let alloc = rt.alloc();
     let mut sections = sections(alloc, true, 24)?;
     if let Some(section) = sections.get_mut(0) {
@@ -128,13 +128,13 @@ fn refuses_bits_of_another_type(rt: HostRuntime) -> Result<(), Fail> {
     }
     assert_eq!(rt;
         fault_of(alloc, sections, symbols(alloc)?),
-        in_section(2, 0)
+        in_section(rules::WRONG_BITS_TYPE, 0)
     );
     Ok(())
 }
 
 #[test]
-fn refuses_a_wrong_alignment_or_address(rt: HostRuntime) -> Result<(), Fail> {
+fn wrong_alignment_is_answered_at_the_section(rt: HostRuntime) -> Result<(), Fail> {
     let alloc = rt.alloc();
     for (align, addr) in [(3, 0), (8, 4)] {
         let mut sections = sections(alloc, true, 24)?;
@@ -144,14 +144,14 @@ fn refuses_a_wrong_alignment_or_address(rt: HostRuntime) -> Result<(), Fail> {
         }
         assert_eq!(rt;
             fault_of(alloc, sections, symbols(alloc)?),
-            in_section(3, 1)
+            in_section(rules::WRONG_ALIGNMENT, 1)
         );
     }
     Ok(())
 }
 
 #[test]
-fn refuses_relocations_of_a_section_without_bits(rt: HostRuntime) -> Result<(), Fail> {
+fn wrong_position_is_answered_at_the_section(rt: HostRuntime) -> Result<(), Fail> {
     let alloc = rt.alloc();
     let mut sections = sections(alloc, true, 24)?;
     if let Some(section) = sections.get_mut(2) {
@@ -163,58 +163,73 @@ fn refuses_relocations_of_a_section_without_bits(rt: HostRuntime) -> Result<(), 
     }
     assert_eq!(rt;
         fault_of(alloc, sections, symbols(alloc)?),
-        in_section(4, 2)
+        in_section(rules::WRONG_POSITION, 2)
     );
     Ok(())
 }
 
 #[test]
-fn refuses_a_number_where_the_flag_says_section(rt: HostRuntime) -> Result<(), Fail> {
+fn wrong_field_is_answered_at_the_section(rt: HostRuntime) -> Result<(), Fail> {
     let alloc = rt.alloc();
-    let mut sections = sections(alloc, true, 24)?;
-    if let Some(section) = sections.get_mut(0) {
+    // A number where the flag says section.
+    let mut numbered = sections(alloc, true, 24)?;
+    if let Some(section) = numbered.get_mut(0) {
         section.flags = 0x46;
     }
-    assert_eq!(rt;
-        fault_of(alloc, sections, symbols(alloc)?),
-        in_section(5, 0)
-    );
-    Ok(())
-}
-
-#[test]
-fn refuses_entries_of_another_size_and_rel_with_an_addend(rt: HostRuntime) -> Result<(), Fail> {
-    let alloc = rt.alloc();
-    assert_eq!(rt;
-        fault_of(alloc, sections(alloc, false, 24)?, symbols(alloc)?),
-        in_section(5, 2)
-    );
-    let mut sections = sections(alloc, false, 16)?;
-    if let Some(section) = sections.get_mut(2) {
+    // Entries of another size, and REL with an addend.
+    let wide = sections(alloc, false, 24)?;
+    let mut added = sections(alloc, false, 16)?;
+    if let Some(section) = added.get_mut(2) {
         section.body = Body::Relocs {
             rela: false,
             target: 0,
             entries: vec![in alloc; entry(-4)]?,
         };
     }
-    assert_eq!(rt;
-        fault_of(alloc, sections, symbols(alloc)?),
-        in_section(5, 2)
-    );
+    for (sections, position) in [(numbered, 0), (wide, 2), (added, 2)] {
+        assert_eq!(rt;
+            fault_of(alloc, sections, symbols(alloc)?),
+            in_section(rules::WRONG_FIELD, position)
+        );
+    }
+    Ok(())
+}
+
+/// The fault of an object of these two symbols.
+fn fault_of_symbols(
+    alloc: Global,
+    first: Symbol<'static>,
+    second: Symbol<'static>,
+) -> Result<Option<ObjectFault>, AllocError> {
+    let symbols = vec![in alloc; first, second]?;
+    Ok(fault_of(alloc, sections(alloc, true, 24)?, symbols))
+}
+
+fn at_symbol(rule: u16, position: usize) -> Option<ObjectFault> {
+    Some(ObjectFault::Symbol { rule, position })
+}
+
+#[test]
+fn zero_in_symbol_name_is_answered_at_the_symbol(rt: HostRuntime) -> Result<(), Fail> {
+    let mut named = symbol(0, Place::In(0));
+    named.name = b"f\0";
+    let fault = fault_of_symbols(rt.alloc(), named, symbol(1, Place::Undef))?;
+    assert_eq!(rt; fault, at_symbol(rules::ZERO_IN_SYMBOL_NAME, 0));
     Ok(())
 }
 
 #[test]
-fn refuses_symbols_that_break_a_rule(rt: HostRuntime) -> Result<(), Fail> {
-    let alloc = rt.alloc();
-    let mut named = symbol(0, Place::In(0));
-    named.name = b"f\0";
-    let zero = vec![in alloc; named, symbol(1, Place::Undef)]?;
-    let past = vec![in alloc; symbol(0, Place::In(3)), symbol(1, Place::Undef)]?;
-    let late = vec![in alloc; symbol(1, Place::Abs), symbol(0, Place::Common)]?;
-    for (symbols, rule, position) in [(zero, 7, 0), (past, 8, 0), (late, 9, 1)] {
-        let fault = Some(ObjectFault::Symbol { rule, position });
-        assert_eq!(rt; fault_of(alloc, sections(alloc, true, 24)?, symbols), fault);
-    }
+fn wrong_place_is_answered_at_the_symbol(rt: HostRuntime) -> Result<(), Fail> {
+    let past = symbol(0, Place::In(3));
+    let fault = fault_of_symbols(rt.alloc(), past, symbol(1, Place::Undef))?;
+    assert_eq!(rt; fault, at_symbol(rules::WRONG_PLACE, 0));
+    Ok(())
+}
+
+#[test]
+fn misplaced_local_is_answered_at_the_symbol(rt: HostRuntime) -> Result<(), Fail> {
+    let late = symbol(0, Place::Common);
+    let fault = fault_of_symbols(rt.alloc(), symbol(1, Place::Abs), late)?;
+    assert_eq!(rt; fault, at_symbol(rules::MISPLACED_LOCAL, 1));
     Ok(())
 }

@@ -68,7 +68,7 @@ pub(crate) fn set_table(file: &mut [u8], order: Order, table: u64, count: u64, n
 
 /// A section header: its name, type, flags, offset, size, link, info, alignment and size of entries.
 pub(crate) fn set_section(file: &mut [u8], order: Order, at: u32, fields: [u64; 9]) {
-    let at = at as usize;
+    let at = at as u64;
     let [
         name,
         section_type,
@@ -94,7 +94,7 @@ pub(crate) fn set_section(file: &mut [u8], order: Order, at: u32, fields: [u64; 
     set(file, order, &fields);
 }
 
-pub(crate) fn set_bytes(file: &mut [u8], at: usize, bytes: &[u8]) {
+pub(crate) fn set_bytes(file: &mut [u8], at: u64, bytes: &[u8]) {
     let mut at = at;
     for byte in bytes {
         set(file, Order::Little, &[(at, 1, *byte as u64)]);

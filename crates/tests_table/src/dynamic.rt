@@ -1,8 +1,10 @@
-//! Dynamic sections: a file that names one library.
+//! Rules 63 and 64: dynamic sections, of a file that names one library.
 use crate::verdicts::{Table, assert_breaks};
+use elf_field::abi::*;
 use elf_field::{Dyn, Order};
 use elf_image_type::{Fault, parse};
-use elf_table_all::Dynamic;
+use elf_table_all::{Dynamic, rules};
+use std::alloc::Global;
 use std::process::Abort;
 use tests_files::{Field, set, set_header};
 
@@ -26,6 +28,9 @@ const DYNAMIC: [Field; 16] = [
     (280, 8, 1),
 ];
 
+/// The section header of the dynamic section, section 1.
+pub(crate) const DYNAMIC_HEADER: u64 = 104 + SHDR_SIZE;
+
 fn dynamic() -> [u8; 296] {
     let mut file = [0; 296];
     set_header(&mut file, Order::Little, &DYNAMIC);
@@ -48,21 +53,29 @@ fn tells_the_entries_before_the_end(rt: HostRuntime) -> Result<(), Fault> {
     Ok(())
 }
 
+/// The dynamic section of the file with these fields breaks this rule first, at this offset.
+pub(crate) fn assert_dynamic_breaks(
+    rt: &impl Abort,
+    alloc: Global,
+    fields: &[Field],
+    rule: u16,
+    at: u64,
+) {
+    let mut file = dynamic();
+    set(&mut file, Order::Little, fields);
+    assert_breaks(rt, alloc, &file, 1, Table::Dynamic, rule, at);
+}
+
 #[test]
-fn tells_the_first_rule_that_a_dynamic_section_breaks(rt: HostRuntime) {
-    let broken = [
-        ((172, 4, 1), 40, 172),
-        ((224, 8, 8), 42, 224),
-        ((200, 8, 31), 43, 200),
-        ((208, 4, 1), 44, 208),
-        ((96, 1, 1), 41, 96),
-        ((101, 1, 1), 41, 101),
-        ((200, 8, 16), 63, 200),
-        ((72, 8, 6), 64, 72),
-    ];
-    for (field, rule, at) in &broken {
-        let mut file = dynamic();
-        set(&mut file, Order::Little, &[*field]);
-        assert_breaks(&rt, rt.alloc(), &file, 1, Table::Dynamic, *rule, *at);
-    }
+fn no_null_entry_is_answered_at_the_size(rt: HostRuntime) {
+    let at = DYNAMIC_HEADER + SH_SIZE_AT;
+    let rule = rules::NO_NULL_ENTRY;
+    assert_dynamic_breaks(&rt, rt.alloc(), &[(at, 8, 16)], rule, at);
+}
+
+#[test]
+fn dynamic_string_past_end_is_answered_at_the_value(rt: HostRuntime) {
+    let at = 64 + D_UN_AT;
+    let rule = rules::DYNAMIC_STRING_PAST_END;
+    assert_dynamic_breaks(&rt, rt.alloc(), &[(at, 8, 6)], rule, at);
 }

@@ -1,8 +1,9 @@
-//! Section groups: a file of one group.
+//! Rules 55 to 58: section groups, of a file of one group.
 use crate::verdicts::{Table, assert_breaks};
 use elf_field::Order;
+use elf_field::abi::*;
 use elf_image_type::{Fault, parse};
-use elf_table_all::{Group, Tables};
+use elf_table_all::{Group, Tables, rules};
 use std::alloc::Global;
 use std::process::Abort;
 use tests_files::{Field, set, set_header};
@@ -46,6 +47,15 @@ const GROUP: [Field; 34] = [
     (440, 8, 1),
 ];
 
+/// The section header of the group, section 1.
+pub(crate) const GROUP_HEADER: u64 = 136 + SHDR_SIZE;
+
+/// That of the member, section 2.
+const MEMBER_HEADER: u64 = GROUP_HEADER + SHDR_SIZE;
+
+/// That of the symbol table, section 3.
+pub(crate) const SIGNATURES_HEADER: u64 = MEMBER_HEADER + SHDR_SIZE;
+
 fn group() -> [u8; 456] {
     let mut file = [0; 456];
     set_header(&mut file, Order::Little, &GROUP);
@@ -86,30 +96,56 @@ fn judges_a_group_with_the_other_tables(rt: HostRuntime) -> Result<(), Fault> {
     let mut file = group();
     file[424] = 2;
     assert_eq!(rt; is_refused_with_the_other_tables(rt.alloc(), &file)?, true);
-    assert_breaks(&rt, rt.alloc(), &file, 1, Table::Group, 41, 129);
+    let rule = rules::UNCLOSED_STRING_TABLE;
+    assert_breaks(&rt, rt.alloc(), &file, 1, Table::Group, rule, 129);
     Ok(())
 }
 
+/// The group of the file with these fields breaks this rule first, at this offset.
+pub(crate) fn assert_group_breaks(
+    rt: &impl Abort,
+    alloc: Global,
+    fields: &[Field],
+    rule: u16,
+    at: u64,
+) {
+    let mut file = group();
+    set(&mut file, Order::Little, fields);
+    assert_breaks(rt, alloc, &file, 1, Table::Group, rule, at);
+}
+
 #[test]
-fn tells_the_first_rule_that_a_group_breaks(rt: HostRuntime) {
-    let broken = [
-        ((204, 4, 1), 40, 204),
-        ((256, 8, 8), 42, 256),
-        ((232, 8, 6), 43, 232),
-        ((332, 4, 11), 44, 240),
-        ((384, 8, 16), 42, 384),
-        ((232, 8, 0), 55, 232),
-        ((64, 4, 2), 56, 64),
-        ((244, 4, 0), 57, 244),
-        ((244, 4, 2), 57, 244),
-        ((68, 4, 1), 58, 68),
-        ((68, 4, 5), 58, 68),
-        ((272, 8, 6), 58, 68),
-        ((232, 8, 12), 58, 72),
+fn empty_group_is_answered_at_the_size(rt: HostRuntime) {
+    let at = GROUP_HEADER + SH_SIZE_AT;
+    assert_group_breaks(&rt, rt.alloc(), &[(at, 8, 0)], rules::EMPTY_GROUP, at);
+}
+
+#[test]
+fn wrong_group_flags_is_answered_at_the_flags(rt: HostRuntime) {
+    let rule = rules::WRONG_GROUP_FLAGS;
+    assert_group_breaks(&rt, rt.alloc(), &[(64, 4, 2)], rule, 64);
+}
+
+#[test]
+fn wrong_signature_is_answered_at_the_info(rt: HostRuntime) {
+    let at = GROUP_HEADER + SH_INFO_AT;
+    for symbol in [0, 2] {
+        let fields = [(at, 4, symbol)];
+        assert_group_breaks(&rt, rt.alloc(), &fields, rules::WRONG_SIGNATURE, at);
+    }
+}
+
+#[test]
+fn wrong_member_is_answered_at_its_word(rt: HostRuntime) {
+    let rows = [
+        // The group itself, and no section.
+        ((68, 4, 1), 68),
+        ((68, 4, 5), 68),
+        // Without the flag GROUP, and named twice.
+        ((MEMBER_HEADER + SH_FLAGS_AT, 8, 6), 68),
+        ((GROUP_HEADER + SH_SIZE_AT, 8, 12), 72),
     ];
-    for (field, rule, at) in &broken {
-        let mut file = group();
-        set(&mut file, Order::Little, &[*field]);
-        assert_breaks(&rt, rt.alloc(), &file, 1, Table::Group, *rule, *at);
+    for (field, at) in rows {
+        assert_group_breaks(&rt, rt.alloc(), &[field], rules::WRONG_MEMBER, at);
     }
 }

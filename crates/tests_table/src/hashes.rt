@@ -1,8 +1,10 @@
-//! Hash tables: of three names.
+//! Rules 65 to 69: hash tables, of three names.
 use crate::verdicts::{Table, assert_breaks};
 use elf_field::Order;
+use elf_field::abi::*;
 use elf_image_type::{Fault, parse};
-use elf_table_all::{Hash, HashFault, build_hash, elf_hash};
+use elf_table_all::{Hash, HashFault, build_hash, elf_hash, rules};
+use std::alloc::Global;
 use std::process::Abort;
 use std::test::Fail;
 use tests_files::{Field, set, set_header};
@@ -44,6 +46,17 @@ const HASH: [Field; 34] = [
     (200, 4, 0x7469_7865),
     (205, 1, 0x61),
 ];
+
+/// The section header of the hash table, section 1.
+pub(crate) const HASH_HEADER: u64 = 208 + SHDR_SIZE;
+
+/// That of its symbol table, section 2.
+pub(crate) const SYMBOLS_OF_HASH: u64 = HASH_HEADER + SHDR_SIZE;
+
+/// The words of the buckets' count and of the chain words'; behind them stand the buckets, at 72, and the chain words, at 80.
+const BUCKET_COUNT_AT: u64 = 64;
+
+const CHAIN_COUNT_AT: u64 = 68;
 
 fn hash() -> [u8; 464] {
     let mut file = [0; 464];
@@ -90,27 +103,54 @@ fn finds_each_name_and_tells_the_words(rt: HostRuntime) -> Result<(), Fault> {
     Ok(())
 }
 
+/// The hash table of the file with these fields breaks this rule first, at this offset.
+pub(crate) fn assert_hash_breaks(
+    rt: &impl Abort,
+    alloc: Global,
+    fields: &[Field],
+    rule: u16,
+    at: u64,
+) {
+    let mut file = hash();
+    set(&mut file, Order::Little, fields);
+    assert_breaks(rt, alloc, &file, 1, Table::Hash, rule, at);
+}
+
 #[test]
-fn tells_the_first_rule_that_a_hash_table_breaks(rt: HostRuntime) {
-    let broken = [
-        ((276, 4, 1), 40, 276),
-        ((328, 8, 8), 42, 328),
-        ((304, 8, 30), 43, 304),
-        ((312, 4, 3), 44, 312),
-        ((380, 4, 0), 46, 380),
-        ((304, 8, 4), 65, 304),
-        ((304, 8, 28), 65, 304),
-        ((64, 4, 3), 65, 304),
-        ((72, 4, 4), 67, 72),
-        ((92, 4, 4), 67, 92),
-        ((88, 4, 1), 68, 72),
-        ((84, 4, 0), 69, 88),
-    ];
-    for (field, rule, at) in &broken {
-        let mut file = hash();
-        set(&mut file, Order::Little, &[*field]);
-        assert_breaks(&rt, rt.alloc(), &file, 1, Table::Hash, *rule, *at);
+fn wrong_hash_size_is_answered_at_the_size(rt: HostRuntime) {
+    let at = HASH_HEADER + SH_SIZE_AT;
+    for field in [(at, 8, 4), (at, 8, 28), (BUCKET_COUNT_AT, 4, 3)] {
+        assert_hash_breaks(&rt, rt.alloc(), &[field], rules::WRONG_HASH_SIZE, at);
     }
+}
+
+#[test]
+fn wrong_hash_count_is_answered_at_its_word(rt: HostRuntime) {
+    // Each with the other count as large as the size wants it.
+    let none = [(BUCKET_COUNT_AT, 4, 0), (CHAIN_COUNT_AT, 4, 6)];
+    let rule = rules::WRONG_HASH_COUNT;
+    assert_hash_breaks(&rt, rt.alloc(), &none, rule, BUCKET_COUNT_AT);
+    let three = [(BUCKET_COUNT_AT, 4, 3), (CHAIN_COUNT_AT, 4, 3)];
+    assert_hash_breaks(&rt, rt.alloc(), &three, rule, CHAIN_COUNT_AT);
+}
+
+#[test]
+fn hash_word_past_end_is_answered_at_the_word(rt: HostRuntime) {
+    let rule = rules::HASH_WORD_PAST_END;
+    assert_hash_breaks(&rt, rt.alloc(), &[(72, 4, 4)], rule, 72);
+    assert_hash_breaks(&rt, rt.alloc(), &[(92, 4, 4)], rule, 92);
+}
+
+#[test]
+fn endless_chain_is_answered_at_the_bucket(rt: HostRuntime) {
+    let rule = rules::ENDLESS_CHAIN;
+    assert_hash_breaks(&rt, rt.alloc(), &[(88, 4, 1)], rule, 72);
+}
+
+#[test]
+fn symbol_off_chain_is_answered_at_its_chain_word(rt: HostRuntime) {
+    let rule = rules::SYMBOL_OFF_CHAIN;
+    assert_hash_breaks(&rt, rt.alloc(), &[(84, 4, 0)], rule, 88);
 }
 
 #[test]

@@ -1,8 +1,10 @@
-//! String tables and symbol tables: of an object of a call, and of a file that has every part of a symbol table.
+//! Rules 45 to 54: symbol tables and relocations, of an object of a call, and of a file that has every part of a symbol table.
+use crate::hashes::{SYMBOLS_OF_HASH, assert_hash_breaks};
 use crate::verdicts::{Table, assert_breaks, verdict_of};
 use elf_field::Order;
+use elf_field::abi::*;
 use elf_image_type::{Fault, parse};
-use elf_table_all::{Place, Relocation, Relocs, Strings, Symbol, Symbols, Tables};
+use elf_table_all::{Place, Relocation, Relocs, Strings, Symbol, Symbols, Tables, rules};
 use std::alloc::Global;
 use std::process::Abort;
 use tests_files::{Field, set, set_header};
@@ -55,6 +57,11 @@ const CALL: [Field; 44] = [
     (584, 8, 44),
     (600, 8, 1),
 ];
+
+/// The section header of its relocations, section 2, and that of its symbol table, section 3.
+pub(crate) const RELOCS_HEADER: u64 = 232 + 2 * SHDR_SIZE;
+
+const SYMBOLS_OF_RELOCS: u64 = RELOCS_HEADER + SHDR_SIZE;
 
 /// Puts bytes into a file.
 fn put(file: &mut [u8], at: usize, bytes: &[u8]) {
@@ -110,37 +117,27 @@ const SYMBOLS: [Field; 29] = [
     (444, 8, 4),
 ];
 
-fn symbols(order: Order) -> [u8; 476] {
+/// The section headers of the symbol table, section 1, of the index table, section 3, and of the section behind it.
+pub(crate) const SYMBOLS_HEADER: u64 = 156 + SHDR_SIZE;
+
+pub(crate) const INDEX_TABLE_HEADER: u64 = SYMBOLS_HEADER + 2 * SHDR_SIZE;
+
+const LAST_HEADER: u64 = INDEX_TABLE_HEADER + SHDR_SIZE;
+
+/// Symbols 1 and 2, and their words in the index table.
+const SYMBOL_1: u64 = 64 + SYM_SIZE;
+
+const SYMBOL_2: u64 = SYMBOL_1 + SYM_SIZE;
+
+const WORD_1: u64 = 140 + WORD_SIZE;
+
+const WORD_2: u64 = WORD_1 + WORD_SIZE;
+
+pub(crate) fn symbols(order: Order) -> [u8; 476] {
     let mut file = [0; 476];
     set_header(&mut file, order, &SYMBOLS);
     file
 }
-
-/// What breaks each rule of that symbol table first: one or two fields, the rule, and its offset.
-const BROKEN: [([Field; 2], u16, u64); 22] = [
-    ([(224, 4, 1), (224, 4, 1)], 40, 224),
-    ([(276, 8, 23), (276, 8, 23)], 42, 276),
-    ([(252, 8, 71), (252, 8, 71)], 43, 252),
-    ([(260, 4, 5), (260, 4, 5)], 44, 260),
-    ([(260, 4, 3), (139, 1, 1)], 44, 260),
-    ([(136, 1, 1), (139, 1, 1)], 41, 136),
-    ([(139, 1, 1), (64, 1, 1)], 41, 139),
-    ([(252, 8, 0), (264, 4, 0)], 45, 252),
-    ([(87, 1, 1), (264, 4, 0)], 45, 87),
-    ([(264, 4, 0), (88, 4, 4)], 46, 264),
-    ([(264, 4, 4), (88, 4, 4)], 46, 264),
-    ([(264, 4, 3), (88, 4, 4)], 47, 116),
-    ([(264, 4, 1), (112, 4, 4)], 47, 92),
-    ([(112, 4, 4), (118, 2, 5)], 48, 112),
-    ([(416, 4, 18), (452, 4, 1)], 49, 452),
-    ([(380, 8, 8), (404, 8, 8)], 50, 380),
-    ([(404, 8, 8), (94, 2, 5)], 50, 404),
-    ([(94, 2, 5), (144, 4, 1)], 51, 94),
-    ([(352, 4, 1), (118, 2, 0xffff)], 51, 118),
-    ([(144, 4, 1), (148, 4, 1)], 52, 144),
-    ([(118, 2, 0xffff), (118, 2, 0xffff)], 52, 148),
-    ([(118, 2, 0xffff), (148, 4, 0xff00)], 52, 148),
-];
 
 fn main_symbol() -> Symbol<'static> {
     Symbol {
@@ -219,14 +216,6 @@ fn judges_every_table_of_an_image(rt: HostRuntime) -> Result<(), Fault> {
     Ok(())
 }
 
-#[test]
-fn tells_the_first_rule_that_a_string_table_breaks(rt: HostRuntime) {
-    let mut file = symbols(Order::Big);
-    assert_breaks(&rt, rt.alloc(), &file, 3, Table::Strings, 40, 352);
-    file[139] = 1;
-    assert_breaks(&rt, rt.alloc(), &file, 2, Table::Strings, 41, 139);
-}
-
 fn assert_one_relocation(rt: &impl Abort, relocs: &Relocs<'_>) {
     assert_eq!(rt; relocs.len(), 1);
     let relocation = Relocation {
@@ -245,24 +234,6 @@ fn tells_each_relocation(rt: HostRuntime) -> Result<(), Fault> {
     assert!(rt; image.section_count() > 2);
     assert_one_relocation(&rt, &Relocs::new(&image, 2)?);
     Ok(())
-}
-
-#[test]
-fn tells_the_first_rule_that_relocations_break(rt: HostRuntime) {
-    let broken = [
-        ((364, 4, 2), 40, 364),
-        ((416, 8, 16), 42, 416),
-        ((400, 4, 4), 44, 400),
-        ((168, 1, 1), 41, 168),
-        ((468, 4, 3), 47, 124),
-        ((404, 4, 6), 53, 404),
-        ((80, 8, 0x3_0000_0002), 54, 80),
-    ];
-    for (field, rule, at) in &broken {
-        let mut file = call();
-        set(&mut file, Order::Little, &[*field]);
-        assert_breaks(&rt, rt.alloc(), &file, 2, Table::Relocs, *rule, *at);
-    }
 }
 
 /// What a table tells lives as long as the file's bytes: longer than the image and the table.
@@ -297,27 +268,138 @@ fn names_outlive_the_image(rt: HostRuntime) {
     );
 }
 
-/// In this order each row breaks its rule first.
-fn assert_all_broken(rt: &impl Abort, alloc: Global, order: Order) {
-    for (fields, rule, at) in &BROKEN {
-        let mut file = symbols(order);
-        set(&mut file, order, fields);
-        assert_breaks(rt, alloc, &file, 1, Table::Symbols, *rule, *at);
-    }
-}
-
-#[test]
-fn tells_the_first_rule_that_a_symbol_table_breaks(rt: HostRuntime) {
-    assert_all_broken(&rt, rt.alloc(), Order::Little);
-}
-
-#[test]
-fn tells_it_in_big_order_too(rt: HostRuntime) {
-    assert_all_broken(&rt, rt.alloc(), Order::Big);
-}
-
 #[test]
 fn accepts_the_file_unbroken(rt: HostRuntime) {
     let file = symbols(Order::Big);
     assert_eq!(rt; verdict_of(rt.alloc(), &file, 1, Table::Symbols), Ok(()));
+}
+
+/// The symbol table of the file with these fields breaks this rule first, at this offset, in either byte order.
+pub(crate) fn assert_symbols_break(
+    rt: &impl Abort,
+    alloc: Global,
+    fields: &[Field],
+    rule: u16,
+    at: u64,
+) {
+    for order in [Order::Little, Order::Big] {
+        let mut file = symbols(order);
+        set(&mut file, order, fields);
+        assert_breaks(rt, alloc, &file, 1, Table::Symbols, rule, at);
+    }
+}
+
+/// The relocations of the object of a call with these fields break this rule first, at this offset.
+pub(crate) fn assert_relocs_break(
+    rt: &impl Abort,
+    alloc: Global,
+    fields: &[Field],
+    rule: u16,
+    at: u64,
+) {
+    let mut file = call();
+    set(&mut file, Order::Little, fields);
+    assert_breaks(rt, alloc, &file, 2, Table::Relocs, rule, at);
+}
+
+#[test]
+fn symbol_0_not_null_is_answered_at_the_size_or_its_byte(rt: HostRuntime) {
+    let no_locals = (SYMBOLS_HEADER + SH_INFO_AT, 4, 0);
+    let size_at = SYMBOLS_HEADER + SH_SIZE_AT;
+    let rule = rules::SYMBOL_0_NOT_NULL;
+    let fields = [(size_at, 8, 0), no_locals];
+    assert_symbols_break(&rt, rt.alloc(), &fields, rule, size_at);
+    let fields = [(87, 1, 1), no_locals];
+    assert_symbols_break(&rt, rt.alloc(), &fields, rule, 87);
+}
+
+#[test]
+fn wrong_local_count_is_answered_at_the_info(rt: HostRuntime) {
+    let at = SYMBOLS_HEADER + SH_INFO_AT;
+    let rule = rules::WRONG_LOCAL_COUNT;
+    for count in [0, 4] {
+        let fields = [(at, 4, count), (SYMBOL_1 + ST_NAME_AT, 4, 4)];
+        assert_symbols_break(&rt, rt.alloc(), &fields, rule, at);
+    }
+    // Of the symbol table that a hash table links to.
+    let at = SYMBOLS_OF_HASH + SH_INFO_AT;
+    assert_hash_breaks(&rt, rt.alloc(), &[(at, 4, 0)], rule, at);
+}
+
+#[test]
+fn misplaced_binding_is_answered_at_the_binding(rt: HostRuntime) {
+    let count_at = SYMBOLS_HEADER + SH_INFO_AT;
+    let rule = rules::MISPLACED_BINDING;
+    let fields = [(count_at, 4, 3), (SYMBOL_1 + ST_NAME_AT, 4, 4)];
+    assert_symbols_break(&rt, rt.alloc(), &fields, rule, SYMBOL_2 + ST_INFO_AT);
+    let fields = [(count_at, 4, 1), (SYMBOL_2 + ST_NAME_AT, 4, 4)];
+    assert_symbols_break(&rt, rt.alloc(), &fields, rule, SYMBOL_1 + ST_INFO_AT);
+    // Of the symbol table that relocations link to.
+    let fields = [(SYMBOLS_OF_RELOCS + SH_INFO_AT, 4, 3)];
+    assert_relocs_break(&rt, rt.alloc(), &fields, rule, 120 + ST_INFO_AT);
+}
+
+#[test]
+fn symbol_name_past_end_is_answered_at_the_name(rt: HostRuntime) {
+    let at = SYMBOL_2 + ST_NAME_AT;
+    let fields = [(at, 4, 4), (SYMBOL_2 + ST_SHNDX_AT, 2, 5)];
+    let rule = rules::SYMBOL_NAME_PAST_END;
+    assert_symbols_break(&rt, rt.alloc(), &fields, rule, at);
+}
+
+#[test]
+fn second_index_table_is_answered_at_its_link(rt: HostRuntime) {
+    let at = LAST_HEADER + SH_LINK_AT;
+    let fields = [(LAST_HEADER + SH_TYPE_AT, 4, 18), (at, 4, 1)];
+    let rule = rules::SECOND_INDEX_TABLE;
+    assert_symbols_break(&rt, rt.alloc(), &fields, rule, at);
+}
+
+#[test]
+fn wrong_index_table_size_is_answered_at_either_size(rt: HostRuntime) {
+    let size_at = INDEX_TABLE_HEADER + SH_SIZE_AT;
+    let entsize_at = INDEX_TABLE_HEADER + SH_ENTSIZE_AT;
+    let rule = rules::WRONG_INDEX_TABLE_SIZE;
+    let fields = [(size_at, 8, 8), (entsize_at, 8, 8)];
+    assert_symbols_break(&rt, rt.alloc(), &fields, rule, size_at);
+    let fields = [(entsize_at, 8, 8), (SYMBOL_1 + ST_SHNDX_AT, 2, 5)];
+    assert_symbols_break(&rt, rt.alloc(), &fields, rule, entsize_at);
+}
+
+#[test]
+fn wrong_symbol_section_is_answered_at_its_index(rt: HostRuntime) {
+    let at = SYMBOL_1 + ST_SHNDX_AT;
+    let rule = rules::WRONG_SYMBOL_SECTION;
+    let fields = [(at, 2, 5), (WORD_1, 4, 1)];
+    assert_symbols_break(&rt, rt.alloc(), &fields, rule, at);
+    // Its index stands in an index table, and there is none.
+    let at = SYMBOL_2 + ST_SHNDX_AT;
+    let fields = [(INDEX_TABLE_HEADER + SH_TYPE_AT, 4, 1), (at, 2, 0xffff)];
+    assert_symbols_break(&rt, rt.alloc(), &fields, rule, at);
+}
+
+#[test]
+fn wrong_index_word_is_answered_at_the_word(rt: HostRuntime) {
+    let extended = (SYMBOL_2 + ST_SHNDX_AT, 2, 0xffff);
+    let rule = rules::WRONG_INDEX_WORD;
+    let fields = [(WORD_1, 4, 1), (WORD_2, 4, 1)];
+    assert_symbols_break(&rt, rt.alloc(), &fields, rule, WORD_1);
+    assert_symbols_break(&rt, rt.alloc(), &[extended], rule, WORD_2);
+    let fields = [extended, (WORD_2, 4, 0xff00)];
+    assert_symbols_break(&rt, rt.alloc(), &fields, rule, WORD_2);
+}
+
+#[test]
+fn wrong_target_is_answered_at_the_info(rt: HostRuntime) {
+    let at = RELOCS_HEADER + SH_INFO_AT;
+    let rule = rules::WRONG_TARGET;
+    assert_relocs_break(&rt, rt.alloc(), &[(at, 4, 6)], rule, at);
+}
+
+#[test]
+fn wrong_relocation_symbol_is_answered_at_the_symbol(rt: HostRuntime) {
+    let at = 72 + R_INFO_AT;
+    let fields = [(at, 8, 0x3_0000_0002)];
+    let rule = rules::WRONG_RELOCATION_SYMBOL;
+    assert_relocs_break(&rt, rt.alloc(), &fields, rule, at);
 }

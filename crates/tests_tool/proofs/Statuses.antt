@@ -7,8 +7,8 @@ use Rattle.clap.specs.Simple.{subcommand_of}
 use Rattle.clap.specs.Walk.{Row, Text, walked}
 use Rattle.elf_image_rules.specs.ImageRules.{IsFault}
 use Rattle.elf_tool_check.specs.Check.{CheckSays}
-use Rattle.elf_tool_check.specs.Ending.{code_of, ending_of}
-use Rattle.elf_tool_check.specs.declared.ending.Status.{Status}
+use Rattle.elf_tool_base.specs.Ending.{code_of, ending_of}
+use Rattle.elf_tool_base.specs.declared.ending.Status.{Status}
 use Rattle.elf_tool_text.specs.Engine.{IsAnswered, IsReadWhole, Report}
 use Rattle.elf_tool_show.specs.Show.{ShowSays}
 use Rattle.elf_tool_text.specs.declared.fault.Refusal.TheVariants.{File, Link, TooLong}

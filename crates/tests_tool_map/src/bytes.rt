@@ -1,6 +1,7 @@
 //! The lines of relocated bytes.
 use crate::worked::{callee, caller, options};
 use elf_link_field::{Form, Range, RelocRule, Width};
+use elf_link_relocate::rules::NO_RULE;
 use elf_tool_program::{Refusal, ToolFault, Verdict, map};
 use std::alloc::Global;
 use std::io::ErrorKind;
@@ -44,7 +45,7 @@ fn refuses_an_entry_without_a_rule(rt: HostRuntime) -> Result<(), Fail> {
     let files = &mut [first.as_slice(), second.as_slice()];
     let verdict = map(alloc, files, &options(0x1000, 1), Some(&rules), &mut out);
     let refusal = Refusal::Link {
-        rule: 12,
+        rule: NO_RULE,
         file: 0,
         index: 1,
         entry: 0,

@@ -1,6 +1,8 @@
 //! Files that are refused, and files that do not link.
 use crate::rows::bss;
 use crate::worked::{GLOBAL, WEAK, callee, caller, file, mapped_two, options, symbol};
+use elf_image_rules::rules::TOO_SHORT;
+use elf_link_files::rules;
 use elf_object_type::Place;
 use elf_tool_program::{Options, Refusal, Verdict, map};
 use std::test::Fail;
@@ -25,7 +27,7 @@ fn a_base_that_is_no_multiple_of_the_page_is_refused(rt: HostRuntime) -> Result<
         None,
         &mut out,
     );
-    assert_eq!(rt; verdict, Ok(link_refusal(1, 0, 0)));
+    assert_eq!(rt; verdict, Ok(link_refusal(rules::BAD_OPTIONS, 0, 0)));
     assert_eq!(rt; out.as_slice(), b"refused 1 0 0 0\n".as_slice());
     Ok(())
 }
@@ -42,7 +44,7 @@ fn a_section_past_the_last_address_is_refused(rt: HostRuntime) -> Result<(), Fai
         None,
         &mut out,
     );
-    assert_eq!(rt; verdict, Ok(link_refusal(11, 0, 0)));
+    assert_eq!(rt; verdict, Ok(link_refusal(rules::ADDRESS_OVERFLOW, 0, 0)));
     assert_eq!(rt; out.as_slice(), b"refused 11 0 0 0\n".as_slice());
     Ok(())
 }
@@ -61,7 +63,7 @@ fn a_global_name_without_definition_is_refused(rt: HostRuntime) -> Result<(), Fa
         vec![in alloc; symbol(b"x", GLOBAL, Place::Undef, 0, 0)]?,
     )?;
     let (verdict, out) = mapped_two(alloc, &weak, &global, &options(0, 1));
-    assert_eq!(rt; verdict, Ok(link_refusal(9, 1, 0)));
+    assert_eq!(rt; verdict, Ok(link_refusal(rules::UNDEFINED_NAME, 1, 0)));
     assert_eq!(rt; out.as_slice(), b"refused 9 1 0 0\n".as_slice());
     Ok(())
 }
@@ -75,7 +77,7 @@ fn an_entry_that_no_file_has_is_refused(rt: HostRuntime) -> Result<(), Fail> {
         entry: Some(b"nope"),
     };
     let (verdict, out) = mapped_two(alloc, &caller(alloc)?, &callee(alloc, 0)?, &entered);
-    assert_eq!(rt; verdict, Ok(link_refusal(10, 0, 0)));
+    assert_eq!(rt; verdict, Ok(link_refusal(rules::NO_ENTRY, 0, 0)));
     assert_eq!(rt; out.as_slice(), b"refused 10 0 0 0\n".as_slice());
     Ok(())
 }
@@ -89,7 +91,7 @@ fn the_lowest_file_that_is_refused_is_told(rt: HostRuntime) -> Result<(), Fail> 
     let verdict = map(alloc, files, &options(0x1001, 0x1000), None, &mut out);
     let refusal = Refusal::File {
         file: 1,
-        rule: 2,
+        rule: TOO_SHORT,
         at: 63,
     };
     assert_eq!(rt; verdict, Ok(Verdict::Refused(refusal)));

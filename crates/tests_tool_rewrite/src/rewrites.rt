@@ -1,5 +1,6 @@
 //! What `rewrite` makes of files, and what the program says of those that it refuses.
 use elf_field::Order;
+use elf_image_rules::rules::TOO_SHORT;
 use elf_tool_program::{Refusal, Verdict, rewrite, run};
 use tests_files::{empty_object, filled_gap, one_section, one_segment, set_header};
 use tests_tool::KnownFile;
@@ -52,7 +53,7 @@ fn a_file_that_breaks_a_rule_is_refused(rt: HostRuntime) {
     let answer = rewrite(rt.alloc(), &mut file.as_slice(), &mut out);
     let refusal = Refusal::File {
         file: 0,
-        rule: 2,
+        rule: TOO_SHORT,
         at: 63,
     };
     assert_eq!(rt; answer, Ok(Verdict::Refused(refusal)));

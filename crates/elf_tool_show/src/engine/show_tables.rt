@@ -2,9 +2,9 @@
 ghost use Rattle.std.specs.Prelude.{◌≡◌, ◌<◌, None, Some, get_or, length};
 ghost use Rattle.elf_tool_text.specs.Output.{IsBuffered};
 ghost use Rattle.elf_tool_show.specs.TableLines.{all_table_lines, group_line, hash_line, note_lines, table_refused_line, table_text};
-ghost use Rattle.elf_table_symbols.specs.declared.table_kind.TableKind.TheVariants as kind;
-ghost use Rattle.elf_table_symbols.specs.Sections.{section, sections_of};
-ghost use Rattle.elf_table_symbols.specs.TableKind.{kind_of};
+ghost use Rattle.elf_table_base.specs.declared.table_kind.TableKind.TheVariants as kind;
+ghost use Rattle.elf_table_base.specs.Sections.{section, sections_of};
+ghost use Rattle.elf_table_base.specs.TableKind.{kind_of};
 ghost use Rattle.elf_table_lists.specs.Groups.{group_of};
 ghost use Rattle.elf_table_all.specs.Signature.{signature_name};
 
@@ -123,7 +123,7 @@ fn show_group<W: Write>(
 // The line of the table in section `i`, which is refused.
 fn show_refused<W: Write>(
     i: usize,
-    broken: Broken,
+    broken: Broken<u64>,
     output: &mut Output,
     writer: &mut W,
 ) -> Result<(), ToolFault>

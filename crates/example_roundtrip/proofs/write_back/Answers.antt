@@ -1,6 +1,6 @@
 use Rattle.std.proofs.Common.{subst}
 use Rattle.std.specs.Io.KnownBytes.{Appends}
-use Rattle.elf_image_type.proofs.Public.{one_list}
+use Rattle.elf_image.proofs.Public.{one_list}
 use Rattle.example_roundtrip.proofs.write_back.Goals as goal
 
 pub returns-in-Ok-write : goal.returns-in-Ok-write

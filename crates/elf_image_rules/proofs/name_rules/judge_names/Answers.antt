@@ -1,13 +1,13 @@
 use Rattle.std.proofs.Common.{ℕ, inl, inr, refl, rules, subst}
 use Rattle.elf_field.specs.declared.shdr.Shdr.{Shdr}
 use Rattle.elf_extent.specs.Least.{Never, IsLeast}
-use Rattle.elf_image_rules.specs.NameRules.{name_rules, wrong_name_table_type}
+use Rattle.elf_image_rules.specs.NameRules.{section_name_rules, wrong_name_table_type}
 use Rattle.elf_image_rules.specs.StringTable.{UnclosedAt}
-use Rattle.elf_image_rules.specs.SectionRules.{IsNamePastEnd, SomeSection}
+use Rattle.elf_image_rules.specs.SectionRules.{IsNamePastEnd, SomeSectionHeader}
 use Rattle.elf_image_rules.proofs.name_rules.judge_names.Goals as goal
 
 pub returns-in-Some : goal.returns-in-Some
-unfolding name_rules
+unfolding section_name_rules
 returns-in-Some g c = λ names are.
     let s = g.T.Records.sections c.args.records.now in
     let typed : Never (wrong_name_table_type c.args.header.now c.args.table s) = search rules in
@@ -16,23 +16,23 @@ returns-in-Some g c = λ names are.
     rw c.new-in-Some.ensures (inr (typed, inl (refl, found)))
 
 pub returns-in-Some-lowest_section : goal.returns-in-Some-lowest_section
-unfolding name_rules
+unfolding section_name_rules
 returns-in-Some-lowest_section g c = λ names are.
     let s = g.T.Records.sections c.args.records.now in
     let typed : Never (wrong_name_table_type c.args.header.now c.args.table s) = search rules in
     let closed = subst (λ (entry : Shdr). Never (UnclosedAt names entry.sh_offset))
     c.section-entry.ensures (c.in_default.ensures names are) in
-    let found = subst (λ (size : ℕ). IsLeast (SomeSection c.args.header.now c.args.count s (IsNamePastEnd size) 0) c.in-Some-lowest_section.at)
+    let found = subst (λ (size : ℕ). IsLeast (SomeSectionHeader c.args.header.now c.args.count s (IsNamePastEnd size) 0) c.in-Some-lowest_section.at)
     are.len c.in-Some-lowest_section.ensures in
     rw c.new-in-Some-lowest_section.ensures (inr (typed, inr (closed, inl (refl, found))))
 
 pub returns : goal.returns
-unfolding name_rules
+unfolding section_name_rules
 returns g c = λ names are.
     let s = g.T.Records.sections c.args.records.now in
     let typed : Never (wrong_name_table_type c.args.header.now c.args.table s) = search rules in
     let closed = subst (λ (entry : Shdr). Never (UnclosedAt names entry.sh_offset))
     c.section-entry.ensures (c.in_default.ensures names are) in
-    let named = subst (λ (size : ℕ). Never (SomeSection c.args.header.now c.args.count s (IsNamePastEnd size) 0))
+    let named = subst (λ (size : ℕ). Never (SomeSectionHeader c.args.header.now c.args.count s (IsNamePastEnd size) 0))
     are.len c.in_default-lowest_section.ensures in
     (typed, (closed, (named, tt)))

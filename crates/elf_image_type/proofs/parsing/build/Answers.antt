@@ -6,7 +6,7 @@ use Rattle.elf_extent.specs.declared.extent.Extent.{Extent}
 use Rattle.elf_extent.specs.Account.{Accounts}
 use Rattle.elf_extent.specs.Extent.{AreDisjoint, AreWithin}
 use Rattle.elf_image_rules.specs.Tables.{bytes_in, content_extent}
-use Rattle.elf_image_type.specs.Image.{ImageValue, IsImage, IsSound, part_piece}
+use Rattle.elf_image_type.specs.Image.{ImageValue, IsImage, IsSoundImage, part_piece}
 use Rattle.elf_image_type.specs.Outline.{OutlineValue, image_of}
 use Rattle.elf_image_type.proofs.Parsed.{made, made_is_image, tables_disjoint, tables_within}
 use Rattle.elf_image_type.proofs.Theorem.{image_is_sound}
@@ -34,7 +34,7 @@ new-requires c =
     ap (λ (o : OutlineValue). image_of o cs b) c.new-outline.ensures in
     let accounts = subst (λ (es : List Extent). Accounts es (length b) 0 (map part_piece c.in_ok-parts.parts.items)) c.requires.extents c.in_ok-parts.ensures in
     let image = made_is_image b t.header t.sections.items t.segments.items cs c.in_ok-parts.parts.items are c.requires.tables contents accounts c.requires.clean in
-    subst IsSound (sym value) (image_is_sound _ b image)
+    subst IsSoundImage (sym value) (image_is_sound _ b image)
 
 pub returns : goal.returns
 returns c =

@@ -4,7 +4,7 @@ use Rattle.elf_object_type.specs.ObjectView.{body_value}
 use Rattle.elf_object_type.specs.Positions.{members_of}
 use Rattle.elf_object_type.specs.declared.section.Body.{Body}
 use Rattle.elf_link_files.specs.Files.{object_at, section_in}
-use Rattle.elf_link_files.specs.Marking.{AreMarked}
+use Rattle.elf_link_files.specs.Marking.{AreMembersMarked}
 use Rattle.elf_object_type.proofs.Public.{member_there}
 use Rattle.elf_link_files.proofs.Marked.{marked_none, marked_next}
 use Rattle.elf_link_files.proofs.discarded.mark_members.Goals as goal
@@ -52,5 +52,5 @@ returns c =
     let section = ap (λ (s : SectionValue). members_of s.body) c.section_of.ensures in
     let same : ms ≡ members_of (section_in c.args.objects.now c.args.file c.args.index).body = c.deref-member-items.ensures.value ∙ sym body ∙ section in
     let end : c.loop-member.member-index ≡ length ms = omega arith in
-    subst (λ (xs : List ℕ). AreMarked c.args.marks.now.items xs (length xs) c.loop-member.marks.items) same
-    (subst (λ (n : ℕ). AreMarked c.args.marks.now.items ms n c.loop-member.marks.items) end c.loop-member.invariant)
+    subst (λ (xs : List ℕ). AreMembersMarked c.args.marks.now.items xs (length xs) c.loop-member.marks.items) same
+    (subst (λ (n : ℕ). AreMembersMarked c.args.marks.now.items ms n c.loop-member.marks.items) end c.loop-member.invariant)

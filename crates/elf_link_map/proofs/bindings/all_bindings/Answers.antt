@@ -1,7 +1,7 @@
 use Rattle.std.proofs.Common.{ℕ, List, length, map, sym, subst}
 use Rattle.std.proofs.lemmas.List.{length-map}
-use Rattle.elf_link_names.specs.declared.name_table.Known.{Known}
-use Rattle.elf_link_names.specs.NameTable.{AreWhole, first_site}
+use Rattle.elf_link_names.specs.declared.known_names.Known.{Known}
+use Rattle.elf_link_names.specs.KnownNames.{AreKnownWhole, first_site}
 use Rattle.elf_link_names.specs.Naming.{position_by}
 use Rattle.elf_link_names.proofs.Public.{whole_all, whole_firsts, whole_places}
 use Rattle.elf_link_outputs.specs.PlacedView.{common_value}
@@ -13,44 +13,44 @@ use Rattle.elf_link_map.proofs.bindings.all_bindings.Goals as goal
 
 pub names_of-requires-clause-known : goal.names_of-requires-clause-known
 names_of-requires-clause-known c =
-    subst (AreWhole c.args.objects.now) (sym c.deref.ensures.value) (whole_all c.args.objects.now (position_by c.args.table.positions) c.args.table.known.items c.requires.table)
+    subst (AreKnownWhole c.args.objects.now) (sym c.deref.ensures.value) (whole_all c.args.objects.now (position_by c.args.names.positions) c.args.names.known.items c.requires.known)
 
 pub new-requires : goal.new-requires
 new-requires c =
     let fs = c.args.objects.now in
     let cs = map common_value c.args.commons.now in
-    let ks = c.args.table.known.items in
-    let position = position_by c.args.table.positions in
+    let ks = c.args.names.known.items in
+    let position = position_by c.args.names.positions in
     let bs = map named_value c.in_ok-list.list.items in
     let ps = map first_site ks in
-    positions_are fs cs ps bs position (whole_firsts fs position ks c.requires.table)
+    positions_are fs cs ps bs position (whole_firsts fs position ks c.requires.known)
     (subst (λ (n : ℕ). AreNamedAt fs cs ps n bs) (sym (length-map ks first_site))
     (subst (λ (xs : List Known). AreNamedAt fs cs (map first_site xs) (length xs) bs) c.deref.ensures.value c.in_ok-list.ensures))
-    (whole_places fs position ks c.requires.table)
+    (whole_places fs position ks c.requires.known)
 
 pub returns-clause-bindings : goal.returns-clause-bindings
 returns-clause-bindings c =
     let fs = c.args.objects.now in
     let cs = map common_value c.args.commons.now in
-    let ks = c.args.table.known.items in
-    let position = position_by c.args.table.positions in
+    let ks = c.args.names.known.items in
+    let position = position_by c.args.names.positions in
     let bs = map named_value c.in_ok-list.list.items in
     let ps = map first_site ks in
     subst (AreBindings fs cs) (sym c.new.ensures)
-    (bindings_are fs cs ps bs position (whole_firsts fs position ks c.requires.table)
+    (bindings_are fs cs ps bs position (whole_firsts fs position ks c.requires.known)
     (subst (λ (n : ℕ). AreNamedAt fs cs ps n bs) (sym (length-map ks first_site))
     (subst (λ (xs : List Known). AreNamedAt fs cs (map first_site xs) (length xs) bs) c.deref.ensures.value c.in_ok-list.ensures))
-    (whole_places fs position ks c.requires.table))
+    (whole_places fs position ks c.requires.known))
 
 pub returns-clause-names : goal.returns-clause-names
 returns-clause-names c =
     let fs = c.args.objects.now in
     let cs = map common_value c.args.commons.now in
-    let ks = c.args.table.known.items in
-    let position = position_by c.args.table.positions in
+    let ks = c.args.names.known.items in
+    let position = position_by c.args.names.positions in
     let bs = map named_value c.in_ok-list.list.items in
     let ps = map first_site ks in
     subst (AreNames fs) (sym c.new.ensures)
-    (names_are fs cs ps bs (whole_firsts fs position ks c.requires.table)
+    (names_are fs cs ps bs (whole_firsts fs position ks c.requires.known)
     (subst (λ (n : ℕ). AreNamedAt fs cs ps n bs) (sym (length-map ks first_site))
     (subst (λ (xs : List Known). AreNamedAt fs cs (map first_site xs) (length xs) bs) c.deref.ensures.value c.in_ok-list.ensures)))

@@ -2,7 +2,7 @@ use Rattle.std.proofs.Common.{ap, subst}
 use Rattle.elf_object_type.specs.Object.{SymbolValue}
 use Rattle.elf_link_files.specs.Listing.{name_at}
 use Rattle.elf_link_names.specs.Binds.{IsUnbound}
-use Rattle.elf_link_names.specs.NameTable.{first_site}
+use Rattle.elf_link_names.specs.KnownNames.{first_site}
 use Rattle.elf_link_names.proofs.Public.{entry_there}
 use Rattle.elf_link_map.proofs.bindings.named_for.Goals as goal
 

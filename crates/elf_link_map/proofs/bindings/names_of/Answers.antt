@@ -3,9 +3,9 @@ use Rattle.std.proofs.lemmas.List.{map-append}
 use Rattle.elf_link_files.specs.declared.site.Site.{Site}
 use Rattle.elf_link_files.specs.Listing.{site_at, name_at}
 use Rattle.elf_link_files.proofs.Public.{each_more}
-use Rattle.elf_link_names.specs.declared.name_table.Known.{Known}
+use Rattle.elf_link_names.specs.declared.known_names.Known.{Known}
 use Rattle.elf_link_names.specs.Listing.{first_entries}
-use Rattle.elf_link_names.specs.NameTable.{IsWhole, first_site}
+use Rattle.elf_link_names.specs.KnownNames.{IsKnownWhole, first_site}
 use Rattle.elf_link_names.proofs.Public.{site_known}
 use Rattle.elf_link_outputs.specs.PlacedView.{common_value}
 use Rattle.elf_link_map.specs.LinkMap.{no_name}
@@ -19,7 +19,7 @@ named_for-requires-clause-site c =
 
 pub named_for-requires-clause-known : goal.named_for-requires-clause-known
 named_for-requires-clause-known c =
-    subst (λ (x : Known). IsWhole c.args.objects.now (name_at c.args.objects.now (first_site x)) x) (sym c.known_item.ensures) (c.requires.known c.loop-k.k c.loop-k-test.true).1
+    subst (λ (x : Known). IsKnownWhole c.args.objects.now (name_at c.args.objects.now (first_site x)) x) (sym c.known_item.ensures) (c.requires.known c.loop-k.k c.loop-k-test.true).1
 
 pub loop-k-preserved : goal.loop-k-preserved
 loop-k-preserved c =

@@ -1,5 +1,5 @@
 use Rattle.std.proofs.Common.{map}
-use Rattle.elf_link_names.specs.NameTable.{first_site}
+use Rattle.elf_link_names.specs.KnownNames.{first_site}
 use Rattle.elf_link_outputs.specs.PlacedView.{common_value}
 use Rattle.elf_link_map.specs.LinkMapView.{named_value}
 use Rattle.elf_link_map.specs.Naming.{AreNamedAt}

@@ -3,7 +3,7 @@ use Rattle.std.specs.Prelude.{None}
 use Rattle.std.proofs.lemmas.List.{length-map}
 use Rattle.elf_extent.specs.Place.{EndsFit, Least}
 use Rattle.elf_link_files.specs.declared.site.Site.{Site}
-use Rattle.elf_link_files.specs.Rows.{FirstIn}
+use Rattle.elf_link_files.specs.Rows.{FirstAmong}
 use Rattle.elf_link_names.proofs.Public.{all_bound}
 use Rattle.elf_link_outputs.specs.declared.common.Common.{Common}
 use Rattle.elf_link_outputs.specs.AddressFault.{IsAddressFault}
@@ -12,7 +12,7 @@ use Rattle.elf_link_outputs.specs.Placed.{AreAddresses, ArePlacedCommons, ArePla
 use Rattle.elf_link_outputs.specs.PlacedView.{common_value, output_value}
 use Rattle.elf_link_outputs.specs.Plan.{parts_of}
 use Rattle.elf_link_outputs.proofs.Public.{parts_long}
-use Rattle.elf_link_map.specs.Entry.{IsEntryTarget}
+use Rattle.elf_link_map.specs.Entry.{IsEntrySymbolTarget}
 use Rattle.elf_link_map.specs.LinkFaults.{IsLinkFault}
 use Rattle.elf_link_map.specs.LinkMap.{AreBindings}
 use Rattle.elf_link_map.specs.Naming.{HaveCommons}
@@ -37,14 +37,14 @@ returns-in_err-addressed-clause-err c =
     let oss = map (λ ms. ms.items) c.args.outputs.now in
     let cs = c.args.chosen.now in
     let t = c.entry_target-target.result in
-    let target = subst (λ (ps : List Site). IsEntryTarget fs ps cs opt.entry t) (c.deref.ensures.value ∙ c.in_ok-sites.ensures) c.entry_target-target.ensures.target in
+    let target = subst (λ (ps : List Site). IsEntrySymbolTarget fs ps cs opt.entry t) (c.deref.ensures.value ∙ c.in_ok-sites.ensures) c.entry_target-target.ensures.target in
     let fault : IfErr c.addresses.result (IsLinkFault opt fs) = if_err_map _ (IsLinkFault opt fs) c.addresses.result
     (λ f is. fault_of opt fs oss cs t f c.requires.clean c.requires.options c.requires.outputs c.requires.chosen target
     (subst (λ (ps : List (ℕ × ℕ)). IsAddressFault ps opt.base t f) (c.deref-2.ensures.value ∙ c.in_ok-parts.ensures) is)) c.addresses.ensures.err in
     search rules
 
-pub address_table-requires-clause-long : goal.address_table-requires-clause-long
-address_table-requires-clause-long c =
+pub section_addresses-requires-clause-long : goal.section_addresses-requires-clause-long
+section_addresses-requires-clause-long c =
     let oss = map (λ ms. ms.items) c.args.outputs.now in
     let cover = places_cover c.args.objects.now c.args.options.now.page c.args.options.now.base oss c.args.chosen.now c.deref-2.result.now c.in_ok-addressed.addressed.places.items
     (c.deref-2.ensures.value ∙ c.in_ok-parts.ensures) c.in_ok-addressed.ensures.least in
@@ -88,13 +88,13 @@ returns-clause-sound c =
     let t = c.entry_target-target.result in
     let places = c.in_ok-addressed.addressed.places.items in
     let parts = c.deref-2.ensures.value ∙ c.in_ok-parts.ensures in
-    let target = subst (λ (ps : List Site). IsEntryTarget fs ps cs opt.entry t) (c.deref.ensures.value ∙ c.in_ok-sites.ensures) c.entry_target-target.ensures.target in (
+    let target = subst (λ (ps : List Site). IsEntrySymbolTarget fs ps cs opt.entry t) (c.deref.ensures.value ∙ c.in_ok-sites.ensures) c.entry_target-target.ensures.target in (
       c.requires.clean,
       (
         link_plan oss cs t places,
         is_placed opt fs oss cs t places c.requires.outputs c.requires.chosen target
             (subst (λ (ps : List (ℕ × ℕ)). Least ps opt.base places) parts c.in_ok-addressed.ensures.least),
-        subst (λ (ps : List (ℕ × ℕ)). FirstIn (address_rules ps opt.base t) None) parts c.in_ok-addressed.ensures.sound,
+        subst (λ (ps : List (ℕ × ℕ)). FirstAmong (address_rules ps opt.base t) None) parts c.in_ok-addressed.ensures.sound,
       ),
     )
 
@@ -107,7 +107,7 @@ returns-clause-map c =
     let t = c.entry_target-target.result in
     let places = c.in_ok-addressed.addressed.places.items in
     let parts = c.deref-2.ensures.value ∙ c.in_ok-parts.ensures in
-    let target = subst (λ (ps : List Site). IsEntryTarget fs ps cs opt.entry t) (c.deref.ensures.value ∙ c.in_ok-sites.ensures) c.entry_target-target.ensures.target in
+    let target = subst (λ (ps : List Site). IsEntrySymbolTarget fs ps cs opt.entry t) (c.deref.ensures.value ∙ c.in_ok-sites.ensures) c.entry_target-target.ensures.target in
     let rows = map (λ row. row.items) c.in_ok-addresses.addresses.items in
     let os = map output_value c.in_ok-outputs.outputs.items in
     let vs = map common_value c.in_ok-commons.commons.items in

@@ -3,7 +3,7 @@ use Rattle.elf_link_files.specs.Listing.{site}
 use Rattle.elf_link_files.specs.Rows.{IsFirstAt}
 use Rattle.elf_link_files.proofs.Public.{first_same, site_is}
 use Rattle.elf_link_names.specs.Binds.{commons}
-use Rattle.elf_link_names.specs.NameTable.{spot_site}
+use Rattle.elf_link_names.specs.KnownNames.{spot_site}
 use Rattle.elf_link_names.proofs.Tabled.{common_known, common_unknown}
 use Rattle.elf_link_names.proofs.listing.is_first_common.Goals as goal
 

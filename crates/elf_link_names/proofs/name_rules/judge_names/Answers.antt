@@ -1,7 +1,8 @@
 use Rattle.std.proofs.Common.{inl, inr, ap, sym, subst}
-use Rattle.elf_link_files.specs.declared.site.Broken.{Broken}
+use Rattle.elf_image_rules.specs.declared.broken.Broken.{Broken}
+use Rattle.elf_link_files.specs.declared.site.Site.{Site}
 use Rattle.elf_link_files.specs.Rows.{IsFirstAt}
-use Rattle.elf_link_names.specs.NameRules.{undefined}
+use Rattle.elf_link_names.specs.NameRules.{undefined_name}
 use Rattle.elf_link_names.proofs.name_rules.judge_names.Goals as goal
 
 pub returns-in-Some-first_name : goal.returns-in-Some-first_name
@@ -10,7 +11,7 @@ returns-in-Some-first_name c =
     inr (
       c.in_default.ensures,
       inl (
-        ap (λ (b : Broken). b.rule) broken,
-        subst (IsFirstAt (undefined c.args.objects.now)) (sym (ap (λ (b : Broken). b.site) broken)) c.in-Some-first_name.ensures,
+        ap (λ (b : Broken Site). b.rule) broken,
+        subst (IsFirstAt (undefined_name c.args.objects.now)) (sym (ap (λ (b : Broken Site). b.at) broken)) c.in-Some-first_name.ensures,
       ),
     )

@@ -1,7 +1,7 @@
 use Rattle.std.proofs.Common.{List, subst}
 use Rattle.elf_link_relocate.specs.declared.field.Field.{Field}
 use Rattle.elf_link_relocate.specs.FieldTests.{HasNone}
-use Rattle.elf_link_relocate.specs.LinkingFacts.{files_of, map_of}
+use Rattle.elf_link_relocate.specs.LinkingFacts.{linked_map, linked_objects}
 use Rattle.elf_link_relocate.specs.Marking.{HasNoOverlap}
 use Rattle.elf_link_relocate.specs.RelocationRules.{IsFieldOutOfRange, IsUnplaced}
 use Rattle.elf_link_relocate.proofs.AtFields.{all_within}
@@ -9,8 +9,8 @@ use Rattle.elf_link_relocate.proofs.judge.judged_fields.Goals as goal
 
 pub returns-clause-fields : goal.returns-clause-fields
 returns-clause-fields c =
-    let fs = files_of c.args.linking.now in
-    let m = map_of c.args.linking.now in
+    let fs = linked_objects c.args.linking.now in
+    let m = linked_map c.args.linking.now in
     record {
       fields = c.in_ok-fields.ensures.fields;
       placed = subst (λ (ds : List Field). HasNone (IsUnplaced fs m) ds) c.deref.ensures.value c.in_ok-refuse_first.ensures.ok;

@@ -1,5 +1,5 @@
-use Rattle.elf_link_relocate.specs.FieldTests.{Breaks}
-use Rattle.elf_link_relocate.specs.LinkingFacts.{files_of, map_of, rules_of}
+use Rattle.elf_link_relocate.specs.FieldTests.{BreaksFieldTest}
+use Rattle.elf_link_relocate.specs.LinkingFacts.{linked_map, linked_objects, relocation_rules_of}
 use Rattle.elf_link_relocate.proofs.AtFields.{first_at_field, none_at_field}
 use Rattle.elf_link_relocate.proofs.judge.refuse_first.Goals as goal
 
@@ -7,9 +7,9 @@ pub returns-in-Some-clause-err : goal.returns-in-Some-clause-err
 returns-in-Some-clause-err c =
     let l = c.args.linking.now in
     rw c.new.ensures
-    (c.rule.ensures, first_at_field (files_of l) (rules_of l) c.args.fields.now c.requires.fields (Breaks (files_of l) (map_of l) c.args.test) c.in-Some.k c.in-Some.ensures)
+    (c.rule.ensures, first_at_field (linked_objects l) (relocation_rules_of l) c.args.fields.now c.requires.fields (BreaksFieldTest (linked_objects l) (linked_map l) c.args.test) c.in-Some.k c.in-Some.ensures)
 
 pub returns-in-None-clause-nowhere : goal.returns-in-None-clause-nowhere
 returns-in-None-clause-nowhere c =
     let l = c.args.linking.now in
-    none_at_field (files_of l) (rules_of l) c.args.fields.now c.requires.fields (Breaks (files_of l) (map_of l) c.args.test) c.in-None.ensures
+    none_at_field (linked_objects l) (relocation_rules_of l) c.args.fields.now c.requires.fields (BreaksFieldTest (linked_objects l) (linked_map l) c.args.test) c.in-None.ensures

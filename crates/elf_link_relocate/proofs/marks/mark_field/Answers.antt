@@ -1,5 +1,5 @@
 use Rattle.std.proofs.lemmas.List.{length-map}
-use Rattle.elf_link_relocate.specs.LinkingFacts.{files_of}
+use Rattle.elf_link_relocate.specs.LinkingFacts.{linked_objects}
 use Rattle.elf_link_relocate.specs.Collecting.{field_at}
 use Rattle.elf_link_relocate.specs.Entries.{target_at}
 use Rattle.elf_link_relocate.specs.Marking.{marks_view}
@@ -15,14 +15,14 @@ mark_in-requires-clause-file c =
 
 pub mark_in-requires-clause-section : goal.mark_in-requires-clause-section
 mark_in-requires-clause-section c =
-    let fs = files_of c.args.linking.now in
+    let fs = linked_objects c.args.linking.now in
     let p = (field_at c.args.fields.now c.args.k).site in
     let there = target_section fs p (c.requires.fields.each c.args.k c.requires.below).applied.0 c.keeps_rules.ensures in
     rw (c.target_of-target.ensures, c.requires.before.grid.sections p.file there.0) there.1
 
 pub mark_in-requires-clause-field : goal.mark_in-requires-clause-field
 mark_in-requires-clause-field c =
-    let fs = files_of c.args.linking.now in
+    let fs = linked_objects c.args.linking.now in
     let p = (field_at c.args.fields.now c.args.k).site in
     let there = target_section fs p (c.requires.fields.each c.args.k c.requires.below).applied.0 c.keeps_rules.ensures in
     rw (c.target_of-target.ensures, c.entry_of-offset.ensures, c.requires.before.long p.file (target_at fs p) there)
@@ -30,7 +30,7 @@ mark_in-requires-clause-field c =
 
 pub returns-clause-taken : goal.returns-clause-taken
 returns-clause-taken c =
-    let fs = files_of c.args.linking.now in
+    let fs = linked_objects c.args.linking.now in
     let p = (field_at c.args.fields.now c.args.k).site in
     let there = target_section fs p (c.requires.fields.each c.args.k c.requires.below).applied.0 c.keeps_rules.ensures in
     let (after, same, taken, marked) = rw (c.target_of-target.ensures, c.entry_of-offset.ensures) at c.mark_in.ensures in (
@@ -40,7 +40,7 @@ returns-clause-taken c =
 
 pub returns-clause-marks : goal.returns-clause-marks
 returns-clause-marks c =
-    let fs = files_of c.args.linking.now in
+    let fs = linked_objects c.args.linking.now in
     let p = (field_at c.args.fields.now c.args.k).site in
     let there = target_section fs p (c.requires.fields.each c.args.k c.requires.below).applied.0 c.keeps_rules.ensures in
     let (after, same, taken, marked) = rw (c.target_of-target.ensures, c.entry_of-offset.ensures) at c.mark_in.ensures in

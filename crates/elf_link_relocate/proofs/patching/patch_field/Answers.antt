@@ -6,7 +6,7 @@ use Rattle.elf_object_type.specs.Object.{ObjectValue}
 use Rattle.elf_link_files.specs.Files.{object_at}
 use Rattle.elf_link_files.proofs.Public.{object_is}
 use Rattle.elf_link_relocate.specs.CopyView.{copies_view}
-use Rattle.elf_link_relocate.specs.LinkingFacts.{files_of, map_of, rules_of}
+use Rattle.elf_link_relocate.specs.LinkingFacts.{linked_map, linked_objects, relocation_rules_of}
 use Rattle.elf_link_relocate.specs.Collecting.{field_at}
 use Rattle.elf_link_field.specs.Rule.{size_of}
 use Rattle.elf_link_relocate.specs.Entries.{target_at}
@@ -22,17 +22,17 @@ patch_in-requires-clause-file c =
 
 pub patch_in-requires-clause-section : goal.patch_in-requires-clause-section
 patch_in-requires-clause-section c =
-    let fs = files_of c.args.linking.now in
+    let fs = linked_objects c.args.linking.now in
     let d = field_at c.args.fields.now c.args.k in
-    let live = target_live fs (rules_of c.args.linking.now) d.site d.rule (c.requires.fields.fields.each c.args.k c.requires.below) c.keeps_rules.ensures in
+    let live = target_live fs (relocation_rules_of c.args.linking.now) d.site d.rule (c.requires.fields.fields.each c.args.k c.requires.below) c.keeps_rules.ensures in
     rw (c.target_of-target.ensures, c.requires.before.grid.sections d.site.file live.0.0) live.0.1
 
 pub patch_in-requires-clause-room : goal.patch_in-requires-clause-room
 patch_in-requires-clause-room c =
-    let fs = files_of c.args.linking.now in
+    let fs = linked_objects c.args.linking.now in
     let k = c.args.k in
     let d = field_at c.args.fields.now k in
-    let live = target_live fs (rules_of c.args.linking.now) d.site d.rule (c.requires.fields.fields.each k c.requires.below) c.keeps_rules.ensures in
+    let live = target_live fs (relocation_rules_of c.args.linking.now) d.site d.rule (c.requires.fields.fields.each k c.requires.below) c.keeps_rules.ensures in
     let (after, at, relocated) = c.requires.before.each _ _ live in
     let long = relocated.long in
     let within = c.requires.fields.within k c.requires.below in
@@ -40,12 +40,12 @@ patch_in-requires-clause-room c =
 
 pub returns : goal.returns
 returns c =
-    let fs = files_of c.args.linking.now in
-    let m = map_of c.args.linking.now in
+    let fs = linked_objects c.args.linking.now in
+    let m = linked_map c.args.linking.now in
     let k = c.args.k in
     let d = field_at c.args.fields.now k in
     let has = c.requires.fields.fields.each k c.requires.below in
-    let live = target_live fs (rules_of c.args.linking.now) d.site d.rule has c.keeps_rules.ensures in
+    let live = target_live fs (relocation_rules_of c.args.linking.now) d.site d.rule has c.keeps_rules.ensures in
     let object = sym (object_is fs d.site.file c.index-linking-field.result has.applied.0.file c.index-linking-field.is ∙ c.index-linking-field.is) in
     let order = c.order-order.ensures ∙ ap (λ (o : ObjectValue). o.order) object in
     let fits : FitsSigned w128 c.in-Some.number = search rules in
@@ -55,5 +55,5 @@ returns c =
     let o = (object_at fs d.site.file).order in
     let put = c.patched_field.ensures o copy (field_start fs d.site) (size_of d.rule.width) c.in-Some.number (omega arith) in
     rw new
-    (relocated_more fs m (rules_of c.args.linking.now) c.args.fields.now k c.in-Some.number c.requires.fields c.requires.below (sym c.in-Some.ensures)
+    (relocated_more fs m (relocation_rules_of c.args.linking.now) c.args.fields.now k c.in-Some.number c.requires.fields c.requires.below (sym c.in-Some.ensures)
     (copies_view c.args.copies.now.items) copy _ live at put c.requires.before)

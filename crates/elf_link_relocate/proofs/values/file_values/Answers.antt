@@ -5,4 +5,4 @@ use Rattle.elf_link_relocate.proofs.values.file_values.Goals as goal
 pub loop-index-preserved : goal.loop-index-preserved
 loop-index-preserved c =
     rw c.in_ok-push.ensures.items
-    (each_more None _ c.loop-index.index c.loop-index.row.items c.symbol_value.result (c.symbol_value.ensures.value, c.symbol_value.ensures.small) c.loop-index.invariant)
+    (each_more None _ c.loop-index.index c.loop-index.row.items c.resolved_value.result (c.resolved_value.ensures.value, c.resolved_value.ensures.small) c.loop-index.invariant)

@@ -1,6 +1,6 @@
 use Rattle.std.proofs.Common.{arith}
 use Rattle.elf_image_rules.proofs.Public.{FirstIn-handed}
-use Rattle.elf_table_symbols.specs.Sections.{sections_of}
+use Rattle.elf_table_base.specs.Sections.{sections_of}
 use Rattle.elf_object_reader.proofs.BodyRuns.{bodies_fault, bodies_next, bodies_passed}
 use Rattle.elf_object_reader.proofs.file_rules.judge_bodies.Goals as goal
 use Rattle.elf_object_reader.proofs.file_rules.judge_bodies.Goals.{then-is_kept+in_ok-judge_body, else-is_kept}

@@ -4,7 +4,7 @@ use Rattle.std.specs.List.{range_with_len}
 use Rattle.elf_image_rules.specs.Rows.{FirstIn}
 use Rattle.elf_object_reader.specs.FileRules.{rules_of_bodies}
 use Rattle.elf_object_reader.specs.Kept.{is_kept, kept}
-use Rattle.elf_table_symbols.specs.Sections.{sections_of}
+use Rattle.elf_table_base.specs.Sections.{sections_of}
 use Rattle.elf_object_reader.proofs.file_rules.judge_bodies.Given as goal
 
 -- what the tables of the sections that are left break is what all break

@@ -1,5 +1,5 @@
 use Rattle.elf_image_rules.proofs.Public.{FirstIn-handed}
-use Rattle.elf_table_symbols.specs.Sections.{sections_of}
+use Rattle.elf_table_base.specs.Sections.{sections_of}
 use Rattle.elf_object_reader.proofs.JudgedTables.{symbols_there, symbols_told}
 use Rattle.elf_object_reader.proofs.SymbolRuns.{no_symbols_kept, outside_found, symbols_fault, symbols_kept}
 use Rattle.elf_object_reader.proofs.file_rules.judge_symbols.Goals as goal

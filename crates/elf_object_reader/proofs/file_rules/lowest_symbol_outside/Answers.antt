@@ -1,5 +1,5 @@
 use Rattle.std.proofs.Common.{◌<◌, length, rules}
-use Rattle.elf_table_symbols.specs.Sections.{sections_of}
+use Rattle.elf_table_base.specs.Sections.{sections_of}
 use Rattle.elf_object_reader.proofs.SymbolCount.{symbol_within}
 use Rattle.elf_object_reader.proofs.file_rules.lowest_symbol_outside.Goals as goal
 

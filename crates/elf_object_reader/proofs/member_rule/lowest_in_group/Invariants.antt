@@ -1,6 +1,6 @@
 use Rattle.std.proofs.Common.{ℕ, ◌<◌}
 use Rattle.elf_object_reader.specs.FileRules.{IsWrongGroupMember}
-use Rattle.elf_table_symbols.specs.Sections.{content, order, sections_of}
+use Rattle.elf_table_base.specs.Sections.{content, order, sections_of}
 use Rattle.elf_table_lists.specs.Groups.{member}
 use Rattle.elf_object_reader.proofs.member_rule.lowest_in_group.Given as goal
 

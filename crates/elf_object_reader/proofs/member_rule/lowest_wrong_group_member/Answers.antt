@@ -1,5 +1,5 @@
 use Rattle.std.proofs.Common.{◌≡◌, length, arith}
-use Rattle.elf_table_symbols.specs.Sections.{sections_of}
+use Rattle.elf_table_base.specs.Sections.{sections_of}
 use Rattle.elf_object_reader.proofs.GroupMembers.{marks_passed, wrong_next, wrong_passed}
 use Rattle.elf_object_reader.proofs.member_rule.lowest_wrong_group_member.Goals as goal
 use Rattle.elf_object_reader.proofs.member_rule.lowest_wrong_group_member.Goals.{then-section-eq-SHT_GROUP, else-section-eq-SHT_GROUP}

@@ -2,7 +2,7 @@ use Rattle.std.proofs.Common.{length}
 use Rattle.elf_extent.specs.Least.{IsLowest}
 use Rattle.elf_object_reader.specs.FileRules.{IsMemberBefore, wrong_group_member_before}
 use Rattle.elf_object_reader.specs.MemberMarks.{AreMarks}
-use Rattle.elf_table_symbols.specs.Sections.{sections_of}
+use Rattle.elf_table_base.specs.Sections.{sections_of}
 use Rattle.elf_object_reader.proofs.member_rule.lowest_wrong_group_member.Given as goal
 
 abbrev pub invariant-loop-i : goal.invariant-loop-i

@@ -1,7 +1,7 @@
 use Rattle.std.proofs.Common.{ℕ, ◌⊎◌, length}
 use Rattle.elf_object_reader.specs.FileRules.{IsMemberBefore, NamesFirst}
 use Rattle.elf_object_reader.specs.MemberMarks.{AreMarks}
-use Rattle.elf_table_symbols.specs.Sections.{sections_of}
+use Rattle.elf_table_base.specs.Sections.{sections_of}
 use Rattle.elf_object_reader.proofs.member_rule.mark_members.Given as goal
 
 -- the members so far are marked too

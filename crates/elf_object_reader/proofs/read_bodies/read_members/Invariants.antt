@@ -1,6 +1,6 @@
 use Rattle.std.proofs.Common.{◌≡◌, map, take}
 use Rattle.elf_object_reader.specs.Kept.{position_of}
-use Rattle.elf_table_symbols.specs.Sections.{sections_of}
+use Rattle.elf_table_base.specs.Sections.{sections_of}
 use Rattle.elf_object_reader.proofs.read_bodies.read_members.Given as goal
 
 abbrev pub invariant-loop-j : goal.invariant-loop-j

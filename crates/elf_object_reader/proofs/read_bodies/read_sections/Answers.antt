@@ -3,7 +3,7 @@ use Rattle.elf_object_reader.specs.Denotes.{section_denoted}
 use Rattle.elf_object_reader.specs.Kept.{is_kept}
 use Rattle.elf_object_type.specs.ObjectView.{section_value}
 use Rattle.elf_object_type.specs.declared.section.Section.{Section}
-use Rattle.elf_table_symbols.specs.Sections.{sections_of}
+use Rattle.elf_table_base.specs.Sections.{sections_of}
 use Rattle.elf_object_reader.proofs.BodyRuns.{body_sound, passed_sound, rest_sound}
 use Rattle.elf_object_reader.proofs.KeptLists.{mapped_next, mapped_passed}
 use Rattle.elf_object_reader.proofs.read_bodies.read_sections.Goals as goal

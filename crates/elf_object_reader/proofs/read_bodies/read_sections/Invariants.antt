@@ -6,7 +6,7 @@ use Rattle.elf_object_reader.specs.Denotes.{section_denoted}
 use Rattle.elf_object_reader.specs.FileRules.{rules_of_bodies}
 use Rattle.elf_object_reader.specs.Kept.{is_kept}
 use Rattle.elf_object_type.specs.ObjectView.{section_value}
-use Rattle.elf_table_symbols.specs.Sections.{sections_of}
+use Rattle.elf_table_base.specs.Sections.{sections_of}
 use Rattle.elf_object_reader.proofs.BodyRuns.{kept_from}
 use Rattle.elf_object_reader.proofs.read_bodies.read_sections.Given as goal
 

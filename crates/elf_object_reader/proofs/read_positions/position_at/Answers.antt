@@ -1,7 +1,7 @@
 use Rattle.std.proofs.Common.{◌+◌, ◌<◌, List, get_or, inl, inr, ap, ◌∙◌, sym, arith}
 use Rattle.std.proofs.lemmas.Bool.{cases_lt}
 use Rattle.elf_object_reader.specs.Kept.{position_of}
-use Rattle.elf_table_symbols.specs.Sections.{count, sections_of}
+use Rattle.elf_table_base.specs.Sections.{count, sections_of}
 use Rattle.elf_object_reader.proofs.KeptLists.{position_get, position_past}
 use Rattle.elf_object_reader.proofs.read_positions.position_at.Goals as goal
 

@@ -2,7 +2,7 @@ use Rattle.std.proofs.Common.{◌≡◌, ◌+◌, ◌++◌, [], ◌∷◌, List,
 use Rattle.std.specs.List.{range_with_len}
 use Rattle.std.proofs.lemmas.List.FromFn.{length-map-range_with_len, map-range_with_len_more}
 use Rattle.elf_object_reader.specs.Kept.{is_kept, position_of}
-use Rattle.elf_table_symbols.specs.Sections.{count, sections_of}
+use Rattle.elf_table_base.specs.Sections.{count, sections_of}
 use Rattle.elf_object_reader.proofs.KeptLists.{count_kept, count_other, position_le}
 use Rattle.elf_object_reader.proofs.read_positions.positions_of.Goals as goal
 use Rattle.elf_object_reader.proofs.read_positions.positions_of.Goals.{then-is_kept, else-is_kept}

@@ -1,7 +1,7 @@
 use Rattle.std.proofs.Common.{◌≡◌, map}
 use Rattle.std.specs.List.{range_with_len}
 use Rattle.elf_object_reader.specs.Kept.{position_of}
-use Rattle.elf_table_symbols.specs.Sections.{sections_of}
+use Rattle.elf_table_base.specs.Sections.{sections_of}
 use Rattle.elf_object_reader.proofs.read_positions.positions_of.Given as goal
 
 abbrev pub invariant-loop-i : goal.invariant-loop-i

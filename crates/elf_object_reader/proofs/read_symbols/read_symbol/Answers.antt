@@ -3,9 +3,9 @@ use Rattle.elf_object_reader.specs.Denotes.{place_denoted, symbol_denoted}
 use Rattle.elf_field.specs.Sym.{sym_at}
 use Rattle.elf_field.specs.declared.order.Order.{Order}
 use Rattle.elf_field.specs.declared.sym.Sym.{Sym}
-use Rattle.elf_table_symbols.specs.Sections.{content, order, sections_of}
-use Rattle.elf_table_symbols.specs.Symbols.{SymbolValue}
-use Rattle.elf_table_symbols.specs.SymbolView.{no_symbol}
+use Rattle.elf_table_base.specs.Sections.{content, order, sections_of}
+use Rattle.elf_table_symbols.specs.Symbols.{SymbolEntryValue}
+use Rattle.elf_table_symbols.specs.SymbolView.{no_symbol_entry}
 use Rattle.elf_object_reader.proofs.SymbolCount.{same_symbol, symbol_info, symbol_within}
 use Rattle.elf_object_reader.proofs.read_symbols.read_symbol.Goals as goal
 
@@ -29,15 +29,15 @@ returns c =
     let f = sections_of c.args.image.now in
     let left = c.args.left.now in
     let j = c.args.j in
-    let s = get_or c.args.symbols.now j no_symbol in
+    let s = get_or c.args.symbols.now j no_symbol_entry in
     let e = c.entry-symbol.ensures in
     let lt = rw c.requires.symbols at c.requires.within in
     let read = c.get_at-entry.ensures.value in
     let info : c.get_at-entry.result.st_info ≡ 16 * s.binding + s.symbol_type =
     ap (λ (r : Sym). r.st_info) read ∙ ap (λ (o : Order). (sym_at o c.content.result.now (24 * j)).st_info) c.order.ensures ∙
     ap (λ (b : List ℕ). (sym_at (order f) b (24 * j)).st_info) c.content.ensures.bytes ∙ sym (symbol_info f c.args.t j lt) ∙
-    ap (λ (ss : List SymbolValue). 16 * (get_or ss j no_symbol).binding + (get_or ss j no_symbol).symbol_type) (sym c.requires.symbols) in
+    ap (λ (ss : List SymbolEntryValue). 16 * (get_or ss j no_symbol_entry).binding + (get_or ss j no_symbol_entry).symbol_type) (sym c.requires.symbols) in
     same_symbol _ (symbol_denoted left f s)
-    (ap (λ (v : SymbolValue). v.name) e) info (ap (λ (v : SymbolValue). v.other) e)
-    (c.read_place.ensures ∙ ap (λ (v : SymbolValue). place_denoted left f v.place) e)
-    (ap (λ (v : SymbolValue). v.value) e) (ap (λ (v : SymbolValue). v.size) e)
+    (ap (λ (v : SymbolEntryValue). v.name) e) info (ap (λ (v : SymbolEntryValue). v.other) e)
+    (c.read_place.ensures ∙ ap (λ (v : SymbolEntryValue). place_denoted left f v.place) e)
+    (ap (λ (v : SymbolEntryValue). v.value) e) (ap (λ (v : SymbolEntryValue). v.size) e)

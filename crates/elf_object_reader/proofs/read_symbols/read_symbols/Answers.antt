@@ -1,7 +1,7 @@
 use Rattle.std.proofs.Common.{None, Option, ℕ, subst}
 use Rattle.elf_image_rules.specs.Rows.{FirstIn}
 use Rattle.elf_object_reader.specs.FileRules.{rules_of_symbols}
-use Rattle.elf_table_symbols.specs.Sections.{sections_of}
+use Rattle.elf_table_base.specs.Sections.{sections_of}
 use Rattle.elf_object_reader.proofs.JudgedTables.{symbols_ready, symbols_there}
 use Rattle.elf_object_reader.proofs.read_symbols.read_symbols.Goals as goal
 

@@ -1,4 +1,4 @@
-use Rattle.elf_table_symbols.specs.Sections.{sections_of}
+use Rattle.elf_table_base.specs.Sections.{sections_of}
 use Rattle.elf_object_reader.proofs.FileRuns.{bodies_of_file, symbols_of_file}
 use Rattle.elf_object_reader.proofs.reading.read_parts.Goals as goal
 

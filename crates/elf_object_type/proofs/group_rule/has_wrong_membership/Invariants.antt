@@ -1,5 +1,5 @@
 use Rattle.std.proofs.Common.{ℕ, ◌<◌}
-use Rattle.elf_object_type.specs.GroupRule.{AreMarked, IsWrongMembership}
+use Rattle.elf_object_type.specs.GroupRule.{AreMembershipMarks, IsWrongMembership}
 use Rattle.elf_object_type.specs.ObjectView.{value_of}
 use Rattle.elf_object_type.proofs.group_rule.has_wrong_membership.Given as goal
 
@@ -8,6 +8,6 @@ abbrev pub invariant-loop-member : goal.invariant-loop-member
 invariant-loop-member l =
     let o = value_of l.parts in
     record {
-      marked : AreMarked o l.i l.member-items l.member-index l.marks.items;
+      marked : AreMembershipMarks o l.i l.member-items l.member-index l.marks.items;
       never : (k : ℕ) → k < l.member-index → IsWrongMembership o l.i l.member-items k → ⊥;
     }

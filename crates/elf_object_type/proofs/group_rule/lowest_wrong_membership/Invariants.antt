@@ -1,5 +1,5 @@
 use Rattle.std.proofs.Common.{ℕ, ◌<◌, []}
-use Rattle.elf_object_type.specs.GroupRule.{AreMarked, HasWrongMembership}
+use Rattle.elf_object_type.specs.GroupRule.{AreMembershipMarks, HasWrongMembership}
 use Rattle.elf_object_type.specs.ObjectView.{value_of}
 use Rattle.elf_object_type.proofs.group_rule.lowest_wrong_membership.Given as goal
 
@@ -8,6 +8,6 @@ abbrev pub invariant-loop-i : goal.invariant-loop-i
 invariant-loop-i l =
     let o = value_of l.parts in
     record {
-      marked : AreMarked o l.i [] 0 l.marks.items;
+      marked : AreMembershipMarks o l.i [] 0 l.marks.items;
       never : (k : ℕ) → k < l.i → HasWrongMembership o k → ⊥;
     }

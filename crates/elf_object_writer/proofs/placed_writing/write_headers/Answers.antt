@@ -1,5 +1,5 @@
 use Rattle.std.proofs.Common.{arith}
-use Rattle.elf_object_strings.specs.StringTable.{name_place}
+use Rattle.elf_object_strings.specs.StringTable.{name_offset}
 use Rattle.elf_object_writer.specs.PlainSections.{plain_sections, section_names}
 use Rattle.elf_object_writer.proofs.HeaderTable.{length-headers}
 use Rattle.elf_object_writer.proofs.ShortLayout.{few_sections}
@@ -9,5 +9,5 @@ pub write_entries-requires-clause-short : goal.write_entries-requires-clause-sho
 write_entries-requires-clause-short g c =
     let p = c.args.placed.now in
     let few = few_sections p.object p.layout c.is_placed.ensures.layout in
-    let all = length-headers (name_place (section_names p.object)) (plain_sections p.object) p.layout.places c.is_placed.ensures.layout.count in
+    let all = length-headers (name_offset (section_names p.object)) (plain_sections p.object) p.layout.places c.is_placed.ensures.layout.count in
     omega arith

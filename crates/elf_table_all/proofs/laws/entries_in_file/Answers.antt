@@ -1,7 +1,7 @@
 use Rattle.std.proofs.Common.{◌*◌}
 use Rattle.elf_field.specs.Abi.{DYN_SIZE, RELA_SIZE, REL_SIZE, SYM_SIZE, WORD_SIZE}
 use Rattle.elf_field.specs.DynLaws.{dyn_laws}
-use Rattle.elf_field.specs.RecordTableLaws.{record_of_part}
+use Rattle.elf_field.proofs.RecordTableLaws.{record_of_part}
 use Rattle.elf_field.specs.RelLaws.{rel_laws}
 use Rattle.elf_field.specs.RelaLaws.{rela_laws}
 use Rattle.elf_field.specs.SymLaws.{sym_laws}

@@ -1,5 +1,5 @@
 use Rattle.std.proofs.Common.{◌<◌, get_or}
-use Rattle.elf_table_hash.specs.ChainDepths.{IsKnown, Leads}
+use Rattle.elf_table_hash.specs.ChainDepths.{IsDepthKnown, Leads}
 use Rattle.elf_table_hash.specs.Chains.{IsOn}
 use Rattle.elf_table_hash.specs.HashTable.{chain, nchain}
 use Rattle.elf_table_hash.proofs.hash_chains.is_on.Given as goal
@@ -8,7 +8,7 @@ abbrev pub invariant-steps : goal.invariant-steps
 invariant-steps l = record {
   leads : Leads (chain l.words) l.start l.here;
   on : IsOn (chain l.words) l.start l.s → IsOn (chain l.words) l.here l.s;
-  known : IsKnown l.depth l.here;
+  known : IsDepthKnown l.depth l.here;
   inside : l.here < nchain l.words;
 }
 

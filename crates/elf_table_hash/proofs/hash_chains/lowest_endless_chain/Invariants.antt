@@ -1,5 +1,5 @@
 use Rattle.std.proofs.Common.{◌≡◌, ℕ, ◌<◌, []}
-use Rattle.elf_table_hash.specs.ChainDepths.{AreDepths, AreJumps, AreSeen, AreStarts, IsKnown}
+use Rattle.elf_table_hash.specs.ChainDepths.{AreDepths, AreJumps, AreSeen, AreStarts, IsDepthKnown}
 use Rattle.elf_table_hash.specs.HashTable.{bucket, chain, nchain}
 use Rattle.elf_table_hash.proofs.hash_chains.lowest_endless_chain.Given as goal
 
@@ -9,6 +9,6 @@ invariant-loop-b l = record {
   jumps : AreJumps (chain l.words) (nchain l.words) l.jump;
   starts : AreStarts (chain l.words) (nchain l.words) l.depth l.starts;
   seen : AreSeen (nchain l.words) l.depth [] l.seen;
-  known : (k : ℕ) → k < l.b → IsKnown l.depth (bucket l.words k);
+  known : (k : ℕ) → k < l.b → IsDepthKnown l.depth (bucket l.words k);
   empty : l.stack.items ≡ [];
 }

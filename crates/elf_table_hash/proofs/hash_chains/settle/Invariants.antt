@@ -1,5 +1,5 @@
 use Rattle.std.proofs.Common.{ℕ, ◌<◌, ◌⊎◌, get_or, vec_len}
-use Rattle.elf_table_hash.specs.ChainDepths.{AreDepths, AreJumps, AreStarts, IsIn, IsKnown}
+use Rattle.elf_table_hash.specs.ChainDepths.{AreDepths, AreJumps, AreStarts, IsDepthKnown, IsSymbolIn}
 use Rattle.elf_table_hash.specs.Chains.{IsPath}
 use Rattle.elf_table_hash.specs.HashTable.{chain, nchain}
 use Rattle.elf_table_hash.proofs.hash_chains.settle.Given as goal
@@ -10,10 +10,10 @@ invariant-steps l = record {
   jumps : AreJumps (chain l.words) (nchain l.words) l.jump;
   starts : AreStarts (chain l.words) (nchain l.words) l.depth l.starts;
   path : IsPath (chain l.words) l.fn.start l.stack.items l.s;
-  known : IsKnown l.depth l.s;
+  known : IsDepthKnown l.depth l.s;
   inside : l.s < nchain l.words;
   kept : (s : ℕ) → 0 < get_or l.fn.depth s 0 → 0 < get_or l.depth s 0;
-  settled : (s : ℕ) → IsIn l.fn.stack.items s → IsIn l.stack.items s ⊎ (0 < get_or l.depth s 0);
+  settled : (s : ℕ) → IsSymbolIn l.fn.stack.items s → IsSymbolIn l.stack.items s ⊎ (0 < get_or l.depth s 0);
 }
 
 abbrev pub decreases-steps : goal.decreases-steps

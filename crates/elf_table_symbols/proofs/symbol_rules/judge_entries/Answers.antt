@@ -1,6 +1,6 @@
 use Rattle.std.proofs.Common.{◌≡◌, ℕ, ◌≤◌, inl, inr, refl, arith}
 use Rattle.elf_table_symbols.specs.SymbolParts.{SymbolPartsValue, parts_value}
-use Rattle.elf_table_symbols.specs.SymbolRules.{entry_count, entry_rules, wrong_local_count}
+use Rattle.elf_table_symbols.specs.SymbolRules.{entry_count, symbol_entry_rules, wrong_local_count}
 use Rattle.elf_table_symbols.proofs.symbol_rules.judge_entries.Goals as goal
 
 -- rule 46 is kept
@@ -8,18 +8,18 @@ no_wrong_local_count : (p : SymbolPartsValue) → (p.info ≡ 0 → ⊥) → p.i
 no_wrong_local_count p some few x broken = elim broken.0 [ inl none ↦ some none | inr many ↦ (let le = few in omega arith) ]
 
 pub returns-in-Some : goal.returns-in-Some
-unfolding entry_rules
+unfolding symbol_entry_rules
 returns-in-Some c = rw c.new.ensures (inl (refl, c.in-Some.ensures))
 
 pub returns-in-Some-lowest_symbol : goal.returns-in-Some-lowest_symbol
-unfolding entry_rules
+unfolding symbol_entry_rules
 returns-in-Some-lowest_symbol c =
     let few = rw c.len.ensures at c.if-parts-len.false in
     let local = no_wrong_local_count (parts_value c.args.parts.now) c.if-parts-eq0.false few in
     rw c.new-in-Some-lowest_symbol.ensures (inr (c.in_default.ensures, inr (local, inl (refl, c.in-Some-lowest_symbol.ensures))))
 
 pub returns-in-Some-lowest_symbol-2 : goal.returns-in-Some-lowest_symbol-2
-unfolding entry_rules
+unfolding symbol_entry_rules
 returns-in-Some-lowest_symbol-2 c =
     let few = rw c.len.ensures at c.if-parts-len.false in
     let local = no_wrong_local_count (parts_value c.args.parts.now) c.if-parts-eq0.false few in

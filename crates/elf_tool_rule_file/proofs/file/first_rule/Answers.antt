@@ -1,5 +1,5 @@
 use Rattle.std.proofs.Common.{subst}
-use Rattle.elf_tool_rule_file.specs.Line.{IsRuleLine}
+use Rattle.elf_tool_rule_file.specs.RuleLine.{IsRuleLine}
 use Rattle.elf_tool_rule_file.proofs.Cuts.{no_cut, one_cut}
 use Rattle.elf_tool_rule_file.proofs.Words.{no_feed}
 use Rattle.elf_tool_rule_file.proofs.file.first_rule.Goals as goal

@@ -1,6 +1,6 @@
 use Rattle.elf_tool_rule_file.proofs.Cuts.{no_cut}
 use Rattle.elf_tool_rule_file.proofs.Words.{behind_form, form_is, kind_is, last_is, range_is, rest_is, width_is}
-use Rattle.elf_tool_rule_file.specs.Line.{form_word, range_word, width_word}
+use Rattle.elf_tool_rule_file.specs.RuleLine.{form_word, range_word, width_word}
 use Rattle.elf_tool_rule_file.proofs.line.rule_in.Goals as goal
 
 pub returns-in_err-kind : goal.returns-in_err-kind

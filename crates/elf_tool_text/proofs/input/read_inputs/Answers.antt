@@ -1,7 +1,7 @@
 use Rattle.std.proofs.Common.{◌≡◌, ◌∙◌, ◌≤◌, [], ◌∷◌, ◌++◌, List, ℕ, Vec, Global, ap, arith, length, map, rules, subst, vec_len}
 use Rattle.std.proofs.lemmas.List.{length-map, length-set, map-append}
 use Rattle.std.proofs.lemmas.Result.{err_from_is_err_and}
-use Rattle.elf_tool_text.specs.Engine.{IsInputFault}
+use Rattle.elf_tool_text.specs.Engine.{IsReadFaultAfter}
 use Rattle.elf_tool_text.proofs.Inputs.{all_read, next_read, next_stops, stopped}
 use Rattle.elf_tool_text.proofs.input.read_inputs.Goals as goal
 
@@ -19,7 +19,7 @@ returns-in_err-read_input-clause-fault g c =
     let stop = next_stops given c.args.readers.now l.readers (map items l.files.items) c.index-readers-i.result c.read_input.new.reader l.invariant.read l.i bytes
     count (search rules) (record { taken = e.taken; limit = rw (← long) e.limit }) in
     let p = err_from_is_err_and c.from_residual.result c.from_residual.ensures.1 in
-    rw (p.1, p.2) (stopped _ _ bytes c.in_err-read_input.field-0.0 stop (subst (IsInputFault c.in_err-read_input.field-0.0) long e.fault))
+    rw (p.1, p.2) (stopped _ _ bytes c.in_err-read_input.field-0.0 stop (subst (IsReadFaultAfter c.in_err-read_input.field-0.0) long e.fault))
 
 pub returns-in_default-clause-fault : goal.returns-in_default-clause-fault
 returns-in_default-clause-fault g c =

@@ -3,7 +3,7 @@ use Rattle.std.proofs.lemmas.Bool.{cases_lt, iff_false}
 use Rattle.elf_extent.specs.declared.extent.Extent.{Extent}
 use Rattle.elf_extent.specs.Least.{IsLowest}
 use Rattle.elf_image_rules.specs.FileExtents.{file_extents}
-use Rattle.elf_image_rules.specs.OverlapRule.{AreAscending, DoublyBelow}
+use Rattle.elf_image_rules.specs.OverlapRule.{DoublyBelow, ExtentsAscend}
 use Rattle.elf_image_rules.proofs.Extents.{HasAscended, doubly_ascending, doubly_on, doubly_past, three_first, walk_on, walk_past}
 use Rattle.elf_image_rules.proofs.file_extents.FileExtents.lowest_of_ascending.Goals as goal
 use Rattle.elf_image_rules.proofs.file_extents.FileExtents.lowest_of_ascending.Goals.{then-extent-gt0+else-begins_before_end, else-extent-gt0}
@@ -40,7 +40,7 @@ returns c =
     let three = three_first c.args.self.now in
     let long = c.len-index-end.ensures in
     let end : c.loop-index.index ≡ length es = omega arith in
-    let walk = subst (λ (n : ℕ). AreAscending es 3 n) end c.loop-index.invariant.0.ascending in
+    let walk = subst (λ (n : ℕ). ExtentsAscend es 3 n) end c.loop-index.invariant.0.ascending in
     record {
       lowest = doubly_ascending es 3 c.loop-index.lowest walk
           (subst (λ (n : ℕ). IsLowest (DoublyBelow es 3 n) c.loop-index.lowest) end c.loop-index.invariant.1);

@@ -2,7 +2,7 @@ use Rattle.std.proofs.Common.{◌<◌, ℕ, List, [], length, map, rules, sym, s
 use Rattle.std.specs.Borrow.{Bor}
 use Rattle.std.proofs.lemmas.List.{get_or-map, length-map}
 use Rattle.elf_object_strings.proofs.Growing.{IsGrown, grown_all, grown_more, grown_none, no_entry}
-use Rattle.elf_object_strings.specs.Used.{place_by}
+use Rattle.elf_object_strings.specs.Used.{offset_by}
 use Rattle.elf_object_strings.proofs.table.StringTable.new.Goals as goal
 
 abbrev now_of : Bor (List ℕ) → List ℕ
@@ -18,7 +18,7 @@ loop-name-preserved c =
     let many = length-map names now_of in
     let lt : i < length names = c.loop-name-test.true in
     let placed = c.in_ok-push-2.ensures.items in
-    subst (IsGrown (map now_of names) (i + 1) c.add_name.new.bytes.items (place_by c.add_name.new.used)) (sym placed)
+    subst (IsGrown (map now_of names) (i + 1) c.add_name.new.bytes.items (offset_by c.add_name.new.used)) (sym placed)
     (grown_more (map now_of names) i _ _ _ _ _ _ _ (omega arith) (sym (get_or-map now_of names i _ [] lt))
     c.in_ok-place.ensures.table c.in_ok-place.ensures.place c.loop-name.invariant)
 

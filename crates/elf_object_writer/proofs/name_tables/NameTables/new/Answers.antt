@@ -1,7 +1,7 @@
 use Rattle.std.proofs.Common.{◌≡◌, ℕ, List, map, ap, ◌∙◌}
 use Rattle.elf_object_type.specs.Object.{SymbolValue}
 use Rattle.elf_object_writer.specs.PlainSections.{section_names, symbol_names}
-use Rattle.elf_object_strings.specs.StringTable.{name_place, string_table}
+use Rattle.elf_object_strings.specs.StringTable.{name_offset, string_table}
 use Rattle.elf_object_writer.proofs.NamesOf.{names_of_symbols, now_of}
 use Rattle.elf_object_writer.proofs.name_tables.NameTables.new.Goals as goal
 
@@ -13,7 +13,7 @@ returns c =
     let sections : map now_of c.deref-2.result.now ≡ section_names o = ap (map now_of) c.deref-2.ensures.value ∙ c.in_ok-section_names.ensures in
     record {
       strings = c.in_ok-strings.ensures.bytes ∙ ap string_table symbols;
-      string_places = c.in_ok-strings.ensures.places ∙ ap (λ (names : List (List ℕ)). map (name_place names) names) symbols;
+      string_places = c.in_ok-strings.ensures.places ∙ ap (λ (names : List (List ℕ)). map (name_offset names) names) symbols;
       names = c.in_ok-names.ensures.bytes ∙ ap string_table sections;
-      name_places = c.in_ok-names.ensures.places ∙ ap (λ (names : List (List ℕ)). map (name_place names) names) sections;
+      name_places = c.in_ok-names.ensures.places ∙ ap (λ (names : List (List ℕ)). map (name_offset names) names) sections;
     }

@@ -1,5 +1,5 @@
 use Rattle.std.proofs.Common.{None}
-use Rattle.elf_table_symbols.specs.Sections.{sections_of}
+use Rattle.elf_table_base.specs.Sections.{sections_of}
 use Rattle.elf_table_all.proofs.AskedRules.{kind_asked}
 use Rattle.elf_table_all.proofs.tables.Tables.notes.Goals as goal
 

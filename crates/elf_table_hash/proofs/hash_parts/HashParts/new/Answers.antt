@@ -2,9 +2,9 @@ use Rattle.std.proofs.Common.{inl, inr, ℕ, ◌+◌, ◌/◌, ◌<◌, ◌≤�
 use Rattle.std.proofs.lemmas.Bool.{cases_lt}
 use Rattle.elf_field.specs.Abi.{WORD_SIZE}
 use Rattle.elf_field.specs.declared.order.Order.{Order}
-use Rattle.elf_table_symbols.specs.Sections.{section, sections_of}
+use Rattle.elf_table_base.specs.Sections.{section, sections_of}
 use Rattle.elf_table_symbols.proofs.Public.{link_there, sound_link}
-use Rattle.elf_table_symbols.specs.declared.table_kind.TableKind.TheVariants.{HashTable}
+use Rattle.elf_table_base.specs.declared.table_kind.TableKind.TheVariants.{HashTable}
 use Rattle.elf_table_hash.specs.WordLists.{names_in}
 use Rattle.elf_table_hash.proofs.HashSound.{hash_content, hash_type, names_of_section}
 use Rattle.elf_table_hash.proofs.WordListLemmas.{length_names, length_words}

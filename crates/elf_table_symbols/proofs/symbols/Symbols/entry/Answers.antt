@@ -1,5 +1,5 @@
 use Rattle.std.proofs.Common.{sym}
-use Rattle.elf_table_symbols.specs.Symbols.{symbol_in}
+use Rattle.elf_table_symbols.specs.Symbols.{symbol_entry_in}
 use Rattle.elf_table_symbols.proofs.SymbolLists.{length_symbols, symbol_get}
 use Rattle.elf_table_symbols.proofs.symbols.Symbols.entry.Goals as goal
 
@@ -9,7 +9,7 @@ entry-symbol-requires c =
     rw (length_symbols c.self.inside.order c.self.inside.table.now c.self.inside.names.now c.self.inside.words.now) at within
 
 pub returns : goal.returns
-unfolding symbol_in
+unfolding symbol_entry_in
 returns c =
     let within = rw (← c.self.view_is) at c.requires in
     let below = rw (length_symbols c.self.inside.order c.self.inside.table.now c.self.inside.names.now c.self.inside.words.now) at within in

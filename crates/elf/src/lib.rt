@@ -1,0 +1,27 @@
+//! elfmap as a library: ELF-64 files and what they hold (System V ABI, generic part, chapters 4 and 5), each layer a module.
+//!
+//! | module | what it is for |
+//! |---|---|
+//! | [`field`] | the records of the format, in both byte orders |
+//! | [`extent`] | extents of a file: bytes that two of them share, an account of every byte, least places |
+//! | [`image`] | any ELF-64 file: read, judged, edited, written |
+//! | [`table`] | the tables in it: strings, symbols, relocations, groups, notes, dynamic arrays, hash tables |
+//! | [`object`] | a relocatable file as a typed object, and its canonical layout |
+//! | [`link`] | the link of objects: the link map, and relocated bytes |
+//! | [`tool`] | the program `elfmap`, over any readers and writers |
+//!
+//! ```
+//! use elf::image::{parse, verdict};
+//!
+//! assert_eq!(verdict(&bytes), None);
+//! let image = parse(alloc, &bytes)?;
+//! ```
+#![tactic(auto)]
+
+pub use elf_extent as extent;
+pub use elf_field as field;
+pub use elf_image as image;
+pub use elf_link as link;
+pub use elf_object as object;
+pub use elf_table as table;
+pub use elf_tool as tool;

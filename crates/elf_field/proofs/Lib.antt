@@ -1,0 +1,2 @@
+-- Lemmas on tables of records, for the proofs of the crates above.
+pub mod RecordTableLaws

@@ -1,0 +1,2 @@
+-- What the proofs of those who stand on this door may cite.
+pub mod Public

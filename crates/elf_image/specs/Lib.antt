@@ -1,0 +1,22 @@
+-- The words of the contracts that this door shows, for the contracts of those who stand on it.
+pub use Rattle.elf_image_rules.specs.Broken
+pub use Rattle.elf_image_rules.specs.HeaderRules
+pub use Rattle.elf_image_rules.specs.ImageRules
+pub use Rattle.elf_image_rules.specs.JudgedRecords
+pub use Rattle.elf_image_rules.specs.NameRules
+pub use Rattle.elf_image_rules.specs.OverlapRule
+pub use Rattle.elf_image_rules.specs.ProgramTableRules
+pub use Rattle.elf_image_rules.specs.Rows
+pub use Rattle.elf_image_rules.specs.SectionRules
+pub use Rattle.elf_image_rules.specs.SectionTableRules
+pub use Rattle.elf_image_rules.specs.SegmentRules
+pub use Rattle.elf_image_rules.specs.StringTable
+pub use Rattle.elf_image_rules.specs.Tables
+pub use Rattle.elf_image_type.specs.Image
+pub use Rattle.elf_image_type.specs.Outline
+pub use Rattle.elf_image_type.specs.Output
+pub use Rattle.elf_image_type.specs.Parsing
+pub use Rattle.elf_image_type.specs.Parts
+pub use Rattle.elf_image_type.specs.Reading
+pub use Rattle.elf_image_type.specs.Strings
+pub use Rattle.elf_image_type.specs.View

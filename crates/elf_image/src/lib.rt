@@ -1,0 +1,19 @@
+//! An ELF-64 file as a value (System V ABI, generic part, chapters 4 and 5): from the bytes of any reader to the bytes on any writer.
+//!
+//! [`read_to_end`] takes the bytes; [`verdict`] answers the first rule ([`rules`]) that they break, at its lowest offset in the file;
+//! [`parse`] makes an [`Image`] of bytes that break none, whose accessors tell the records, names, contents and parts and whose edits
+//! keep it an image; and [`write`] writes it. The entry of a file that some reader gives is set so:
+//!
+//! ```
+//! let mut bytes = Vec::new(alloc);
+//! read_to_end(&mut reader, &mut bytes)?;
+//! let mut image = parse(alloc, &bytes)?;
+//! image.set_entry(0x1000);
+//! write(&image, &mut writer)?;
+//! ```
+#![tactic(auto)]
+
+pub use elf_image_rules::{rules, verdict};
+pub use elf_image_type::{
+    Fault, Image, NoSection, Owner, Part, ReplaceFault, WriteFault, parse, read_to_end, write,
+};

@@ -1,0 +1,27 @@
+//! The link of relocatable ELF-64 objects (gABI chapter 4; placement is this project's profile).
+//!
+//! [`map`] answers the [`LinkMap`] of some objects: which sections are kept, what each name is bound to, and the address of each
+//! section; or the first of the [`rules`] of the link that stands. [`relocate`] puts the number of each relocation into its field.
+//!
+//! ```
+//! let options = Options {
+//!     base: 0x1000,
+//!     page: 0x1000,
+//!     entry: Some(b"main"),
+//! };
+//! let link = map(alloc, &objects, &options, hasher)?;
+//! // The address of section 0 of file 1, and what `main` is bound to.
+//! assert_eq!(link.address(1, 0), Some(0x1006));
+//! assert_eq!(link.binding(b"main"), Some(Binding::Strong { file: 0, symbol: 0 }));
+//! let linked = relocate(alloc, &link, &objects, &relocation_rules)?;
+//! assert_eq!(linked.bytes(1, 0), Some(b"\xc3".as_slice()));
+//! ```
+#![tactic(auto)]
+
+pub mod rules;
+
+pub use elf_link_field::{Form, Range, RelocRule, Width};
+pub use elf_link_files::{LinkFault, Options};
+pub use elf_link_map::{Binding, LinkMap, map};
+pub use elf_link_outputs::{Common, Member, Output};
+pub use elf_link_relocate::{Identity, Linked, relocate};

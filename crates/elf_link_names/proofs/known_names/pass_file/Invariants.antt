@@ -1,0 +1,6 @@
+use Rattle.elf_link_names.specs.KnownNames.{AreKnownBefore}
+use Rattle.elf_link_names.specs.Naming.{position_by}
+use Rattle.elf_link_names.proofs.known_names.pass_file.Given as goal
+
+abbrev pub invariant-loop-index : goal.invariant-loop-index
+invariant-loop-index l = AreKnownBefore l.objects l.file l.index (position_by l.names.positions) l.names.known.items

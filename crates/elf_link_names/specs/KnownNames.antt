@@ -1,0 +1,119 @@
+-- What is known of each name on the way through all symbols: the first definition of each binding, the commons, and whether an
+-- entry that isn't WEAK stands.
+use Rattle.std.specs.Prelude.{◌≡◌, ◌↔◌, ℕ, ◌<◌, ◌≤◌, ◌⊎◌, if◌then◌else◌, Bool, true, false, Option, None, Some, MatchOption, List, get_or, length, map}
+use Rattle.elf_object_type.specs.Object.{ObjectValue}
+use Rattle.elf_link_files.specs.declared.site.Site.{Site}
+use Rattle.elf_link_files.specs.Files.{IsEarlier}
+use Rattle.elf_link_files.specs.Listing.{Lists, UpTo, site, site_at, name_at}
+use Rattle.elf_extent.specs.Least.{Never}
+use Rattle.elf_image_rules.specs.Rows.{Row}
+use Rattle.elf_link_files.specs.Rows.{IsFirstAt}
+use Rattle.elf_link_names.specs.declared.choice.Choice.{Choice}
+use Rattle.elf_link_names.specs.declared.known_names.Block.{Block}
+use Rattle.elf_link_names.specs.declared.known_names.Known.{Known}
+use Rattle.elf_link_names.specs.declared.known_names.Spot.{Spot}
+use Rattle.elf_link_names.specs.Binds.{Binds, IsLargest, IsUnbound, align_at, commons, entries, not_weak, size_at, strong, weak}
+use Rattle.elf_link_names.specs.Listing.{first_entries}
+use Rattle.elf_link_names.specs.Naming.{ArePositionsOf}
+
+abbrev pub spot_in : ℕ → ℕ → Spot
+spot_in file index = record { file = file; index = index }
+
+abbrev pub spot_site : Spot → Site
+spot_site s = site s.file s.index
+
+-- no site of the row stands before position i of file f
+abbrev pub NoneBefore : Row Site → ℕ → ℕ → Type 0
+NoneBefore row f i = (p : Site) → row p → IsEarlier p.file p.index f i → ⊥
+
+-- a site of the row stands before it
+abbrev pub SomeBefore : Row Site → ℕ → ℕ → Type 0
+SomeBefore row f i = (p : Site) × row p × IsEarlier p.file p.index f i
+
+-- a spot is the first site of the row, and stands before it
+abbrev pub IsFirstBefore : Row Site → ℕ → ℕ → Spot → Type 0
+IsFirstBefore row f i s = IsFirstAt row (spot_site s) × IsEarlier s.file s.index f i
+
+-- the first site of the row, where one stands before it
+abbrev pub IsBest : Row Site → ℕ → ℕ → Option Spot → Type 0
+IsBest row f i best = MatchOption best (NoneBefore row f i) (IsFirstBefore row f i)
+
+-- what stood first stays; else the next spot does, where it passes
+abbrev pub first_or : Option Spot → Bool → Spot → Option Spot
+first_or (Some s) passes next = Some s
+first_or None passes next = if passes then Some next else None
+
+-- the larger one of two numbers
+abbrev pub IsLargerOf : ℕ → ℕ → ℕ → Type 0
+IsLargerOf a b n = (a ≤ n) × (b ≤ n) × ((n ≡ a) ⊎ (n ≡ b))
+
+-- the commons of the name before position i of file f: the first one, and the largest size and alignment
+pub record IsBlock (fs : List ObjectValue) (name : List ℕ) (f i : ℕ) (b : Block) : Type 0 where
+  pub first : IsFirstBefore (commons fs name) f i b.first
+  pub size : IsLargest (UpTo (commons fs name) f i) (size_at fs) b.size
+  pub align : IsLargest (UpTo (commons fs name) f i) (align_at fs) b.align
+
+abbrev pub IsCommonBest : List ObjectValue → List ℕ → ℕ → ℕ → Option Block → Type 0
+IsCommonBest fs name f i best = MatchOption best (NoneBefore (commons fs name) f i) (IsBlock fs name f i)
+
+-- the entries of the name before position i of file f
+pub record IsKnownBefore (fs : List ObjectValue) (name : List ℕ) (f i : ℕ) (k : Known) : Type 0 where
+  pub strong : IsBest (strong fs name) f i k.strong
+  pub weak : IsBest (weak fs name) f i k.weak
+  pub common : IsCommonBest fs name f i k.common
+  pub not_weak : (k.not_weak ≡ true) ↔ SomeBefore (not_weak fs name) f i
+
+-- that which stands for one that isn't there
+abbrev pub no_known : Known
+no_known = record { first = spot_in 0 0; strong = None; weak = None; common = None; not_weak = false }
+
+abbrev pub known_at : List Known → ℕ → Known
+known_at ks k = get_or ks k no_known
+
+-- the first entry of the name
+abbrev pub first_site : Known → Site
+first_site k = spot_site k.first
+
+-- what is known of each name before position i of file f, and the position of each name there
+pub record AreKnownBefore (fs : List ObjectValue) (f i : ℕ) (position : List ℕ → Option ℕ) (ks : List Known) : Type 0 where
+  pub places : ArePositionsOf fs (map first_site ks) (length ks) position
+  pub firsts : Lists (UpTo (first_entries fs) f i) (map first_site ks)
+  pub each : (k : ℕ) → k < length ks → IsKnownBefore fs (name_at fs (site_at (map first_site ks) k)) f i (known_at ks k)
+
+-- all entries of the name
+abbrev pub IsWholeBest : Row Site → Option Spot → Type 0
+IsWholeBest row best = MatchOption best (Never row) (λ s. IsFirstAt row (spot_site s))
+
+pub record IsWholeBlock (fs : List ObjectValue) (name : List ℕ) (b : Block) : Type 0 where
+  pub first : IsFirstAt (commons fs name) (spot_site b.first)
+  pub size : IsLargest (commons fs name) (size_at fs) b.size
+  pub align : IsLargest (commons fs name) (align_at fs) b.align
+
+pub record IsKnownWhole (fs : List ObjectValue) (name : List ℕ) (k : Known) : Type 0 where
+  pub entry : (p : Site) × entries fs name p
+  pub strong : IsWholeBest (strong fs name) k.strong
+  pub weak : IsWholeBest (weak fs name) k.weak
+  pub common : MatchOption k.common (Never (commons fs name)) (IsWholeBlock fs name)
+  pub not_weak : (k.not_weak ≡ true) ↔ ((p : Site) × not_weak fs name p)
+
+-- what a name makes of what is known of it
+abbrev pub Makes : Known → Option Choice → Type 0
+Makes known choice = (fs : List ObjectValue) (name : List ℕ) → IsKnownWhole fs name known → MatchOption choice (IsUnbound fs name) (Binds fs name)
+
+-- the same past all symbols
+abbrev pub AreAllKnown : List ObjectValue → (List ℕ → Option ℕ) → List Known → Type 0
+AreAllKnown fs position ks = AreKnownBefore fs (length fs) 0 position ks
+
+-- whether the first common of a name is symbol i of file f
+abbrev pub IsFirstCommonOf : Known → ℕ → ℕ → Bool → Type 0
+IsFirstCommonOf known f i first = (fs : List ObjectValue) (name : List ℕ) → IsKnownWhole fs name known → (first ≡ true) ↔ IsFirstAt (commons fs name) (site f i)
+
+-- whether the first common of a name, which has no GLOBAL definition, is symbol i of file f
+abbrev pub IsChosenOf : Known → ℕ → ℕ → Bool → Type 0
+IsChosenOf known f i chosen = (fs : List ObjectValue) (name : List ℕ) → IsKnownWhole fs name known →
+    (chosen ≡ true) ↔ (IsFirstAt (commons fs name) (site f i) × Never (strong fs name))
+
+-- each name is known as a whole, by its first entry
+abbrev pub AreKnownWhole : List ObjectValue → List Known → Type 0
+AreKnownWhole fs ks = (k : ℕ) → k < length ks →
+    first_entries fs (first_site (known_at ks k)) × IsKnownWhole fs (name_at fs (first_site (known_at ks k))) (known_at ks k)

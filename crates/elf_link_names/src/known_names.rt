@@ -1,0 +1,288 @@
+//! What is known of each name, from one pass over all symbols: its first definitions, its commons, and what else needs it
+//! (gABI chapter 4, Symbol Table).
+ghost use Rattle.std.specs.Prelude.{◌≡◌, ◌↔◌, ◌+◌, ◌<◌, None, Some, false, ℕ, List, IfOk, IsTrue, MatchOption, OnOk, cond, is_some, length, map};
+ghost use Rattle.std.specs.Str.{bytes_eq};
+ghost use Rattle.elf_object_type.specs.ObjectView.{symbol_value};
+ghost use Rattle.elf_link_files.specs.Discarded.{AreDiscardMarks};
+ghost use Rattle.elf_link_files.specs.Files.{object_at, symbol_in};
+ghost use Rattle.elf_link_names.specs.Binds.{not_weak as not_weak_row};
+ghost use Rattle.elf_link_names.specs.KnownNames.{AreAllKnown, AreKnownBefore, IsBlock, IsCommonBest, IsKnownBefore, IsLargerOf, SomeBefore, first_or, spot_in};
+ghost use Rattle.elf_link_names.specs.Naming.{position_by};
+ghost use Rattle.elf_field.specs.Abi.{STB_LOCAL};
+ghost use Rattle.elf_link_files.specs.Symbols.{IsCommon};
+ghost use Rattle.elf_object_type.specs.Object.{binding as binding_of};
+
+use crate::bind::known_item;
+use elf_field::abi::*;
+use elf_link_files::files::{symbol_count, symbol_of};
+use elf_link_files::symbol_tests::{is_common_entry, is_definition, is_not_weak};
+use elf_object_type::{Object, Symbol};
+use std::alloc::{AllocError, Global};
+use std::collections::BTreeMap;
+
+/// A symbol, by file and position.
+#[derive(Clone, Copy)]
+pub struct Spot {
+    /// The file's position among the objects, from 0.
+    pub file: usize,
+    /// The symbol's position in the file, from 0.
+    pub index: usize,
+}
+
+/// The commons of a name: the first one, and the largest size and alignment of all.
+#[derive(Clone, Copy)]
+pub struct Block {
+    /// The first one.
+    pub first: Spot,
+    /// The largest size.
+    pub size: u64,
+    /// The largest alignment.
+    pub align: u64,
+}
+
+/// What is known of a name.
+#[derive(Clone, Copy)]
+pub struct Known {
+    /// Its first entry.
+    pub first: Spot,
+    /// Its first global definition.
+    pub strong: Option<Spot>,
+    /// Its first weak definition.
+    pub weak: Option<Spot>,
+    /// Its commons.
+    pub common: Option<Block>,
+    /// Whether it has an entry that is not weak.
+    pub not_weak: bool,
+}
+
+/// What is known of each name, in the order of the first entries, and the position of each there.
+#[derive(Drop)]
+pub struct KnownNames<'a> {
+    /// The position of each name in `known`.
+    pub positions: BTreeMap<&'a [u8], usize>,
+    /// What is known of each.
+    pub known: Vec<Known>,
+}
+
+/// What stood first, or else this symbol where it passes.
+fn first_of(best: Option<Spot>, passes: bool, file: usize, index: usize) -> Option<Spot>
+    ensures { result ≡ first_or best passes (spot_in file index) }
+{
+    match best {
+        Some(_) => best,
+        None if passes => Some(Spot { file, index }),
+        None => None,
+    }
+}
+
+/// The larger one of two numbers.
+fn larger(most: u64, other: u64) -> u64
+    ensures { IsLargerOf most other result }
+{
+    if most < other { other } else { most }
+}
+
+/// The commons of a name, where one more is known.
+fn joined(
+    name: &[u8],
+    objects: &[Object<'_>],
+    file: usize,
+    index: usize,
+    block: Option<Block>,
+) -> Block
+    requires file { file < length objects.now }
+    requires index { index < length (object_at objects.now file).symbols }
+    requires common { IsCommon objects.now name.now file index }
+    requires before { IsCommonBest objects.now name.now file index block }
+    ensures { IsBlock objects.now name.now file (index + 1) result }
+{
+    let symbol = symbol_of(objects, file, index);
+    match block {
+        Some(block) => Block {
+            first: block.first,
+            size: larger(block.size, symbol.size),
+            align: larger(block.align, symbol.value),
+        },
+        None => Block {
+            first: Spot { file, index },
+            size: symbol.size,
+            align: symbol.value,
+        },
+    }
+}
+
+/// The commons of a name, past one more symbol.
+fn common_past(
+    name: &[u8],
+    objects: &[Object<'_>],
+    file: usize,
+    index: usize,
+    block: Option<Block>,
+) -> Option<Block>
+    requires file { file < length objects.now }
+    requires index { index < length (object_at objects.now file).symbols }
+    requires before { IsCommonBest objects.now name.now file index block }
+    ensures { IsCommonBest objects.now name.now file (index + 1) result }
+{
+    if !is_common_entry(name, objects, file, index) {
+        return block;
+    }
+    Some(joined(name, objects, file, index, block))
+}
+
+/// Whether a name has an entry that is not weak, past one more symbol.
+fn not_weak_past(
+    name: &[u8],
+    objects: &[Object<'_>],
+    file: usize,
+    index: usize,
+    found: bool,
+) -> bool
+    requires file { file < length objects.now }
+    requires index { index < length (object_at objects.now file).symbols }
+    requires before { IsTrue found ↔ SomeBefore (not_weak_row objects.now name.now) file index }
+    ensures { IsTrue result ↔ SomeBefore (not_weak_row objects.now name.now) file (index + 1) }
+{
+    if is_not_weak(name, objects, file, index) {
+        return true;
+    }
+    found
+}
+
+/// What is known of a name, past one more symbol.
+fn known_past(
+    name: &[u8],
+    objects: &[Object<'_>],
+    marks: &[Vec<bool>],
+    file: usize,
+    index: usize,
+    known: Known,
+) -> Known
+    requires file { file < length objects.now }
+    requires index { index < length (object_at objects.now file).symbols }
+    requires marks { AreDiscardMarks objects.now (map (λ row. row.items) marks.now) }
+    requires before { IsKnownBefore objects.now name.now file index known }
+    ensures known { IsKnownBefore objects.now name.now file (index + 1) result }
+    ensures first { result.first ≡ known.first }
+{
+    let strong = is_definition(STB_GLOBAL, name, objects, marks, file, index);
+    let weak = is_definition(STB_WEAK, name, objects, marks, file, index);
+    Known {
+        first: known.first,
+        strong: first_of(known.strong, strong, file, index),
+        weak: first_of(known.weak, weak, file, index),
+        common: common_past(name, objects, file, index, known.common),
+        not_weak: not_weak_past(name, objects, file, index, known.not_weak),
+    }
+}
+
+/// What is known of a name whose first entry is this symbol, before it is looked at.
+fn unknown(file: usize, index: usize) -> Known
+    ensures { result ≡ record { first = spot_in file index; strong = None; weak = None; common = None; not_weak = false } }
+{
+    Known {
+        first: Spot { file, index },
+        strong: None,
+        weak: None,
+        common: None,
+        not_weak: false,
+    }
+}
+
+/// The position of a name that has one, which stays; a further name gets this one.
+fn place_name<'a>(
+    positions: &mut BTreeMap<&'a [u8], usize>,
+    name: &'a [u8],
+    next: usize,
+) -> Result<Option<usize>, AllocError>
+    ensures old { IfOk result (λ old. old ≡ position_by positions.old name.now) }
+    ensures positions { IfOk result (λ old. (q : List ℕ) → position_by positions.new q ≡
+        cond (is_some old) (position_by positions.old q) (cond (bytes_eq name.now q) (Some next) (position_by positions.old q))) }
+{
+    match positions.insert(name, next)? {
+        // One search for a further name; one that stands already gets its position back.
+        Some(place) => {
+            positions.insert(name, place)?;
+            Ok(Some(place))
+        }
+        None => Ok(None),
+    }
+}
+
+/// Whether a symbol is local.
+fn is_local(symbol: &Symbol<'_>) -> bool
+    ensures { IsTrue result ↔ (binding_of (symbol_value symbol.now) ≡ STB_LOCAL) }
+{
+    symbol.binding() == STB_LOCAL
+}
+
+/// Goes past the symbol at `index` of a file.
+fn pass_symbol<'a>(
+    objects: &[Object<'a>],
+    marks: &[Vec<bool>],
+    file: usize,
+    index: usize,
+    names: &mut KnownNames<'a>,
+) -> Result<(), AllocError>
+    requires file { file < length objects.now }
+    requires index { index < length (object_at objects.now file).symbols }
+    requires marks { AreDiscardMarks objects.now (map (λ row. row.items) marks.now) }
+    requires before { AreKnownBefore objects.now file index (position_by names.old.positions) names.old.known.items }
+    ensures { OnOk result (AreKnownBefore objects.now file (index + 1) (position_by names.new.positions) names.new.known.items) }
+{
+    let symbol = symbol_of(objects, file, index);
+    let name = symbol.name;
+    if is_local(&symbol) {
+        return Ok(());
+    }
+    let place = place_name(&mut names.positions, name, names.known.len())?;
+    match place {
+        Some(k) => {
+            let known = known_item(&names.known, k);
+            names.known[k] = known_past(name, objects, marks, file, index, known);
+        }
+        None => {
+            let known = unknown(file, index);
+            names
+                .known
+                .push(known_past(name, objects, marks, file, index, known))?;
+        }
+    }
+    Ok(())
+}
+
+/// Goes past the symbols of a file.
+fn pass_file<'a>(
+    objects: &[Object<'a>],
+    marks: &[Vec<bool>],
+    file: usize,
+    names: &mut KnownNames<'a>,
+) -> Result<(), AllocError>
+    requires file { file < length objects.now }
+    requires marks { AreDiscardMarks objects.now (map (λ row. row.items) marks.now) }
+    requires before { AreKnownBefore objects.now file 0 (position_by names.old.positions) names.old.known.items }
+    ensures { OnOk result (AreKnownBefore objects.now file (length (object_at objects.now file).symbols) (position_by names.new.positions) names.new.known.items) }
+{
+    for index in 0..symbol_count(&objects[file]) {
+        pass_symbol(objects, marks, file, index, names)?;
+    }
+    Ok(())
+}
+
+/// What is known of all names. It takes one search for a name that is new, and two for another.
+pub(crate) fn known_names<'a>(
+    alloc: Global,
+    objects: &[Object<'a>],
+    marks: &[Vec<bool>],
+) -> Result<KnownNames<'a>, AllocError>
+    requires marks { AreDiscardMarks objects.now (map (λ row. row.items) marks.now) }
+    ensures { IfOk result (λ names. AreAllKnown objects.now (position_by names.positions) names.known.items) }
+{
+    let positions = BTreeMap::new(alloc);
+    let known = Vec::new(alloc);
+    let mut names = KnownNames { positions, known };
+    for file in 0..objects.len() {
+        pass_file(objects, marks, file, &mut names)?;
+    }
+    Ok(names)
+}

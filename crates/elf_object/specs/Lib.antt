@@ -1,0 +1,19 @@
+-- The words of the contracts that this door shows, for the contracts of those who stand on it.
+pub use Rattle.elf_object_reader.specs.Denotes
+pub use Rattle.elf_object_reader.specs.FileRules
+pub use Rattle.elf_object_reader.specs.Kept
+pub use Rattle.elf_object_reader.specs.Reading
+pub use Rattle.elf_object_strings.specs.StringTable
+pub use Rattle.elf_object_type.specs.GroupRule
+pub use Rattle.elf_object_type.specs.Object
+pub use Rattle.elf_object_type.specs.ObjectRules
+pub use Rattle.elf_object_type.specs.ObjectView
+pub use Rattle.elf_object_type.specs.Positions
+pub use Rattle.elf_object_type.specs.SectionRules
+pub use Rattle.elf_object_type.specs.SymbolRules
+pub use Rattle.elf_object_type.specs.Widths
+pub use Rattle.elf_object_writer.specs.Laid
+pub use Rattle.elf_object_writer.specs.LayoutView
+pub use Rattle.elf_object_writer.specs.NameTables
+pub use Rattle.elf_object_writer.specs.ObjectWriting
+pub use Rattle.elf_object_writer.specs.PlainSections

@@ -1,0 +1,28 @@
+//! A relocatable ELF-64 file as a typed object (gABI chapter 4): its sections with names and bodies, and its symbols, every reference
+//! between them a position in a list.
+//!
+//! An [`Object`] is made from its [`ObjectParts`], or read from an image by [`object_of`]; it keeps the [`rules`] of objects from then
+//! on. [`lay_out`] tells its canonical layout, and [`write_object`] writes it. One without sections or symbols is written so:
+//!
+//! ```
+//! let parts = ObjectParts {
+//!     order: Order::Little,
+//!     osabi: 0,
+//!     abi: 0,
+//!     machine: 62,
+//!     flags: 0,
+//!     sections: Vec::new(alloc),
+//!     symbols: Vec::new(alloc),
+//! };
+//! let object = Object::new(alloc, parts)?;
+//! write_object(alloc, &object, &mut writer)?;
+//! ```
+#![tactic(auto)]
+
+pub mod rules;
+
+pub use elf_object_reader::object_of;
+pub use elf_object_type::{
+    Body, Info, Object, ObjectFault, ObjectParts, Place, Relocation, Section, Symbol,
+};
+pub use elf_object_writer::{Layout, LayoutFault, ObjectWriteFault, lay_out, write_object};

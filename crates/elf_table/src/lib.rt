@@ -1,0 +1,21 @@
+//! The tables that an ELF-64 image holds: from an image and the index of a section, strings, symbols, relocations and section groups
+//! (gABI chapter 4), notes, dynamic arrays and hash tables (chapter 5).
+//!
+//! A table is accepted exactly where it breaks none of its rules ([`rules`]); else the first rule that it breaks is answered, at its
+//! lowest offset in the file. The names of the symbols in section 3 are read so:
+//!
+//! ```
+//! let image = parse(alloc, &bytes)?;
+//! let symbols = Symbols::new(&image, 3)?;
+//! for symbol in symbols.iter() {
+//!     names.push(symbol.name)?;
+//! }
+//! ```
+#![tactic(auto)]
+
+pub use elf_table_base::rules;
+pub use elf_table_hash::{Hash, HashFault, HashIter, build_hash, elf_hash};
+pub use elf_table_lists::{
+    Dynamic, DynamicIter, Group, GroupIter, Note, NoteIter, Notes, RelocIter, Relocation, Relocs,
+};
+pub use elf_table_symbols::{Place, Strings, Symbol, SymbolIter, Symbols};

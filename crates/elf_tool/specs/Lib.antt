@@ -1,0 +1,24 @@
+-- The words of the contracts that this door shows, for the contracts of those who stand on it.
+pub use Rattle.elf_tool_base.specs.Ending
+pub use Rattle.elf_tool_base.specs.Opener
+pub use Rattle.elf_tool_check.specs.Check
+pub use Rattle.elf_tool_map.specs.Map
+pub use Rattle.elf_tool_map.specs.MapLines
+pub use Rattle.elf_tool_map.specs.ObjectFiles
+pub use Rattle.elf_tool_program.specs.Opening
+pub use Rattle.elf_tool_program.specs.Program
+pub use Rattle.elf_tool_program.specs.Rules
+pub use Rattle.elf_tool_rewrite.specs.Rewrite
+pub use Rattle.elf_tool_rule_file.specs.File
+pub use Rattle.elf_tool_rule_file.specs.RuleLine
+pub use Rattle.elf_tool_show.specs.Show
+pub use Rattle.elf_tool_show.specs.ShowLines
+pub use Rattle.elf_tool_show.specs.TableLines
+pub use Rattle.elf_tool_text.specs.Engine
+pub use Rattle.elf_tool_text.specs.Fault
+pub use Rattle.elf_tool_text.specs.Inputs
+pub use Rattle.elf_tool_text.specs.Line
+pub use Rattle.elf_tool_text.specs.Output
+pub use Rattle.elf_tool_words.specs.Command
+pub use Rattle.elf_tool_words.specs.Number
+pub use Rattle.elf_tool_words.specs.Words

@@ -1,0 +1,21 @@
+//! The program `elfmap` without its surroundings: its engines over any reader and any writer, the words of its command line, files of
+//! relocation rules, and [`run`], the whole program over its words and an [`Opener`] of files.
+//!
+//! ```
+//! // The first word is the program's name; `files` opens names, `out` and `err` take what is written.
+//! let status = run(alloc, &["elfmap", "check", "header.elf"], &mut files, &mut out, &mut err);
+//! assert_eq!(status, Status::Done as u8);
+//! ```
+#![tactic(auto)]
+
+pub use elf_link_field::{Form, Range, RelocRule, Width};
+pub use elf_link_files::Options;
+pub use elf_tool_base::{OpenFault, Opener, Status};
+pub use elf_tool_check::check;
+pub use elf_tool_map::map;
+pub use elf_tool_program::run;
+pub use elf_tool_rewrite::rewrite;
+pub use elf_tool_rule_file::{RulesFault, read_rules};
+pub use elf_tool_show::show;
+pub use elf_tool_text::{Refusal, ToolFault, Verdict};
+pub use elf_tool_words::{Request, WordsFault, read_words};

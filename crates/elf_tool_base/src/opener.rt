@@ -1,0 +1,57 @@
+//! Files by name, of the machine or of a test.
+ghost use Rattle.std.specs.Prelude.{◌≡◌, ℕ, Bool, false, List, None, Option, Some, IfErr, IfOk, IfSome};
+ghost use Rattle.elf_tool_base.specs.Opener.{IsOpenFault};
+
+use std::fs::Files;
+use std::io::Read;
+use std::{fs, io};
+
+/// Why a file gives no reader.
+#[derive(Clone, Copy, Debug, PartialEq, Eq)]
+pub enum OpenFault {
+    /// There is no such file, or it may not be read.
+    Refused,
+    /// A growth was refused.
+    OutOfMemory,
+}
+
+/// What opens files by their names.
+pub trait Opener {
+    /// What an open file is read by.
+    type Input: Read + Drop;
+
+    // The bytes of the file of this name, where they are known.
+    ghost holds: { Self → List ℕ → Option (List ℕ) } = { λ _ _. None };
+
+    // Whether a file of this name is known to open.
+    ghost opens: { Self → List ℕ → Bool } = { λ _ _. false };
+
+    /// A reader of the file's bytes from its beginning on. [`OpenFault::Refused`] comes only for a
+    /// file that is not known to open, [`OpenFault::OutOfMemory`] only where memory is refused. What is known of the files stays, so that
+    /// one that is opened twice gives its bytes twice.
+    fn reader(&mut self, name: &str) -> Result<Self::Input, OpenFault>
+        ensures bytes { IfSome (holds self.old name.now) (λ bytes.
+            IfOk result (λ input. Self.Input.remaining input ≡ Some bytes)) }
+        ensures fault { IfErr result (IsOpenFault (opens self.old name.now)) }
+        ensures kept { holds self.new ≡ holds self.old }
+        ensures still { opens self.new ≡ opens self.old };
+}
+
+/// The machine's files.
+#[derive(Drop)]
+pub struct MachineFiles<'r, R> {
+    /// What opens them.
+    pub files: &'r R,
+}
+
+impl<'r, R: Files> Opener for MachineFiles<'r, R> {
+    type Input = R::File;
+
+    fn reader(&mut self, name: &str) -> Result<R::File, OpenFault> {
+        match fs::open(self.files, name) {
+            Ok(file) => Ok(file),
+            Err(error) if error.kind() == io::ErrorKind::OutOfMemory => Err(OpenFault::OutOfMemory),
+            Err(_) => Err(OpenFault::Refused),
+        }
+    }
+}

@@ -1,0 +1,47 @@
+-- What `rewrite` makes of a file: its object, in canonical layout.
+use Rattle.std.specs.Prelude.{◌≡◌, ◌⊎◌, ◌<◌, ◌≤◌, ℕ, List, [], length, None, Option, Some, Result}
+use Rattle.elf_image_type.specs.Image.{ImageValue, IsImage}
+use Rattle.elf_object_reader.specs.Denotes.{Denotes}
+use Rattle.elf_object_reader.specs.FileRules.{file_rules}
+use Rattle.elf_object_writer.specs.Laid.{Laid}
+use Rattle.elf_object_type.specs.Object.{ObjectValue}
+use Rattle.elf_image_rules.specs.HeaderRules.{MAX_LEN}
+use Rattle.elf_image_rules.specs.ImageRules.{IsFault}
+use Rattle.elf_image_rules.specs.Rows.{FirstIn}
+use Rattle.elf_table_base.specs.Sections.{Sections, sections_of}
+use Rattle.elf_tool_text.specs.Engine.{IsAnsweredWithMemory}
+use Rattle.elf_tool_text.specs.declared.fault.Refusal.TheVariants.{File, Link, TooLong}
+use Rattle.elf_tool_text.specs.declared.fault.ToolFault.{ToolFault}
+use Rattle.elf_tool_text.specs.declared.fault.Verdict.{Verdict}
+use Rattle.elf_tool_text.specs.declared.fault.Verdict.TheVariants.{Done, Refused}
+
+-- of an object: its canonical layout, or that this is too long for a file
+abbrev pub ObjectSays : ObjectValue → Verdict → List ℕ → Type 0
+ObjectSays o Done text = Laid o text × (length text ≤ MAX_LEN)
+ObjectSays o (Refused (File file rule at)) text = ⊥
+ObjectSays o (Refused (Link rule file index entry)) text = ⊥
+ObjectSays o (Refused TooLong) text = ((b : List ℕ) → Laid o b → MAX_LEN < length b) × (text ≡ [])
+
+-- a refusal writes nothing
+abbrev pub RewriteRefuses : (ℕ → ℕ → Type 0) → Verdict → List ℕ → Type 0
+RewriteRefuses IsFirst Done text = ⊥
+RewriteRefuses IsFirst (Refused (File file rule at)) text = IsFirst rule at × (file ≡ 0) × (text ≡ [])
+RewriteRefuses IsFirst (Refused (Link rule file index entry)) text = ⊥
+RewriteRefuses IsFirst (Refused TooLong) text = ⊥
+
+-- of an image with these sections: what is said of the object that it denotes; or the first rule that it breaks as an object,
+-- with its lowest offset
+abbrev pub SectionsSay : Sections → Verdict → List ℕ → Type 0
+SectionsSay f verdict text =
+    (FirstIn (file_rules f) None × ((o : ObjectValue) × Denotes f o × ObjectSays o verdict text))
+    ⊎ RewriteRefuses (λ rule at. FirstIn (file_rules f) (Some (rule, at))) verdict text
+
+-- of a file: what is said of the image that it is; or the first rule that it breaks, with its lowest offset
+abbrev pub RewriteSays : List ℕ → Verdict → List ℕ → Type 0
+RewriteSays b verdict text =
+    ((v : ImageValue) × IsImage v b × SectionsSay (sections_of v) verdict text)
+    ⊎ RewriteRefuses (λ rule at. IsFault b (Some (rule, at))) verdict text
+
+-- a call of `rewrite`
+abbrev pub IsRewritten : Option (List ℕ) → Option (List ℕ) → Option (List ℕ) → Option (List ℕ) → Result Verdict ToolFault → Type 0
+IsRewritten = IsAnsweredWithMemory RewriteSays

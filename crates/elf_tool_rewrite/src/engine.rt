@@ -1,0 +1,75 @@
+//! `rewrite`: the object of a file, in canonical layout.
+ghost use Rattle.std.specs.Prelude.{◌≡◌};
+ghost use Rattle.elf_tool_text.specs.Engine.{IsSaid};
+ghost use Rattle.elf_tool_rewrite.specs.Rewrite.{IsRewritten, ObjectSays, SectionsSay};
+ghost use Rattle.elf_table_base.specs.Sections.{sections_of};
+
+use elf_image_type::{Fault, Image, parse};
+use elf_object_reader::object_of;
+use elf_object_type::Object;
+use elf_object_writer::{ObjectWriteFault, write_object};
+use elf_tool_text::{Refusal, ToolFault, Verdict, read_input};
+use std::alloc::Global;
+use std::io::{Read, Write};
+
+/// Reads a whole file and writes the canonical layout of the object that it denotes.
+///
+/// Where the file is refused nothing is written: the verdict carries the first rule that it breaks, as an image or, with a number
+/// from 40 on, as an object, and its lowest offset; or that the canonical layout is longer than 2^30 bytes. Nothing is out after
+/// [`ToolFault::Read`] and [`ToolFault::OutOfMemory`]; after [`ToolFault::Write`] exactly the first `written` bytes are.
+pub fn rewrite<R: Read, W: Write>(
+    alloc: Global,
+    reader: &mut R,
+    writer: &mut W,
+) -> Result<Verdict, ToolFault>
+    ensures { IsRewritten (R.remaining reader.old) (R.remaining reader.new)
+        (W.contents writer.old) (W.contents writer.new) result }
+{
+    let mut buf = Vec::new(alloc);
+    read_input(reader, &mut buf)?;
+    match parse(alloc, buf.as_slice()) {
+        Ok(image) => rewrite_image(alloc, &image, writer),
+        Err(Fault::Rule { rule, at }) => Ok(refused(rule, at)),
+        Err(Fault::OutOfMemory) => Err(ToolFault::OutOfMemory),
+        // No reader is called while bytes are judged.
+        Err(Fault::Io { .. }) => unreachable!(),
+    }
+}
+
+// The object of an image.
+fn rewrite_image<W: Write>(
+    alloc: Global,
+    image: &Image<'_>,
+    writer: &mut W,
+) -> Result<Verdict, ToolFault>
+    ensures { IsSaid (SectionsSay (sections_of image.now)) (W.contents writer.old) (W.contents writer.new) result }
+{
+    match object_of(alloc, image) {
+        Ok(object) => rewrite_object(alloc, &object, writer),
+        Err(Fault::Rule { rule, at }) => Ok(refused(rule, at)),
+        Err(Fault::OutOfMemory) => Err(ToolFault::OutOfMemory),
+        // Nor while an image is read.
+        Err(Fault::Io { .. }) => unreachable!(),
+    }
+}
+
+fn rewrite_object<W: Write>(
+    alloc: Global,
+    object: &Object<'_>,
+    writer: &mut W,
+) -> Result<Verdict, ToolFault>
+    ensures { IsSaid (ObjectSays object.now) (W.contents writer.old) (W.contents writer.new) result }
+{
+    match write_object(alloc, object, writer) {
+        Ok(()) => Ok(Verdict::Done),
+        Err(ObjectWriteFault::TooLong) => Ok(Verdict::Refused(Refusal::TooLong)),
+        Err(ObjectWriteFault::OutOfMemory) => Err(ToolFault::OutOfMemory),
+        Err(ObjectWriteFault::Io { written }) => Err(ToolFault::Write { written }),
+    }
+}
+
+fn refused(rule: u16, at: u64) -> Verdict
+    ensures { result ≡ Verdict.Refused (Refusal.File 0 rule at) }
+{
+    Verdict::Refused(Refusal::File { file: 0, rule, at })
+}

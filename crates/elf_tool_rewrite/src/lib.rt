@@ -1,0 +1,15 @@
+//! The engine [`rewrite`] of `elfmap`, over any reader and any writer: it reads a whole file, and writes the object that the file
+//! denotes in its canonical layout, or says why it can't.
+//!
+//! ```
+//! // A file that is not relocatable denotes no object: rule 70, at `e_type`.
+//! let mut out = Vec::new(alloc);
+//! let refused = Refusal::File { file: 0, rule: 70, at: 16 };
+//! assert_eq!(rewrite(alloc, &mut program.as_slice(), &mut out), Ok(Verdict::Refused(refused)));
+//! ```
+#![tactic(auto)]
+
+mod engine;
+
+pub use elf_tool_text::{Refusal, ToolFault, Verdict};
+pub use engine::rewrite;
