@@ -6,6 +6,7 @@ use Rattle.elf_link_files.specs.declared.fault.LinkFault.{LinkFault}
 use Rattle.elf_link_files.specs.declared.fault.LinkFault.TheVariants.{Rule, OutOfMemory}
 use Rattle.elf_link_files.specs.declared.site.Site.{Site}
 use Rattle.elf_extent.specs.Least.{Never}
+use Rattle.elf_image_rules.specs.declared.broken.Broken.{Broken}
 use Rattle.elf_image_rules.specs.Rows.{Row}
 use Rattle.elf_link_files.specs.Rows.{IsFirstAt}
 use Rattle.elf_link_map.specs.LinkMap.{LinkMapValue}
