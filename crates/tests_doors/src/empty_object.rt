@@ -35,6 +35,7 @@ fn it_is_written_and_read_back(rt: HostRuntime) -> Result<(), Fail> {
     write_object(alloc, &empty_object(alloc)?, &mut file)?;
     assert_eq!(rt; verdict(file.as_slice()), None);
     let image = parse(alloc, file.as_slice())?;
+    assert_eq!(rt; image.section_count(), 4);
     let symbols = Symbols::new(&image, 1)?;
     assert_eq!(rt; symbols.len(), 1);
     let object = object_of(alloc, &image)?;
