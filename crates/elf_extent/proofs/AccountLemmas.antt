@@ -9,7 +9,7 @@ use Rattle.elf_extent.specs.declared.extent.Piece.{Piece}
 use Rattle.elf_extent.specs.declared.members.Member.{Member}
 use Rattle.elf_extent.specs.Account.{IsGap, Accounts, gap_between}
 use Rattle.elf_extent.specs.Extent.{HasAt, IsHeld, AreDisjoint, AreWithin}
-use Rattle.elf_extent.specs.Members.{AreMembers, EndsBefore}
+use Rattle.elf_extent.specs.Members.{AreMembers}
 use Rattle.elf_extent.proofs.Overlaps.{once, covering_member}
 
 abbrev pub member_start : Member → ℕ
@@ -32,7 +32,7 @@ held_by es n ms given k d x within above below =
 -- of ascending members that share no byte, an earlier one ends before a later one
 pub disjoint_far : (es : List Extent) (n : ℕ) (ms : List Member) → AreDisjoint es → AreMembers es n ms →
     IsNonDecreasingBy member_start ms → (j k : ℕ) (d : Member) → j < k → k < length ms →
-    EndsBefore (get_or ms j d) (get_or ms k d)
+    member_end (get_or ms j d) ≤ member_start (get_or ms k d)
 disjoint_far es n ms disjoint given up j k d lt within =
     let rises = up j k d (omega arith) within in
     let nonempty = (given.each k d within).nonempty in

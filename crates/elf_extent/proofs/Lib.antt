@@ -2,9 +2,11 @@
 mod AccountLaws
 mod AccountLemmas
 pub mod Public
+mod Holders
 mod Least
 mod MembersLemmas
 mod Overlaps
 mod PlaceLaws
 mod PlaceLemmas
 mod SomeAccount
+mod Sweeps

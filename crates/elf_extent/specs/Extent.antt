@@ -1,10 +1,14 @@
 -- Which bytes an extent, and a list of extents, holds.
-use Rattle.std.specs.Prelude.{ℕ, ◌≡◌, ◌<◌, ◌≤◌, ◌+◌, List, Some, slice_get}
+use Rattle.std.specs.Prelude.{ℕ, ◌≡◌, ◌<◌, ◌≤◌, ◌+◌, Bool, List, Some, nat_lt, slice_get}
 use Rattle.elf_extent.specs.declared.extent.Extent.{Extent}
 
 -- the extent holds the byte at offset x; one of length 0 holds none
 abbrev pub Has : Extent → ℕ → Type 0
 Has e x = (e.start ≤ x) × (x < e.start + e.len)
+
+-- whether the extent holds any byte
+abbrev pub holds_any : Extent → Bool
+holds_any e = nat_lt 0 e.len
 
 -- the member at position i of the list holds the byte at x
 abbrev pub HasAt : List Extent → ℕ → ℕ → Type 0

@@ -3,3 +3,4 @@ pub mod Extent
 pub mod Least
 pub mod Members
 pub mod Place
+pub mod Row

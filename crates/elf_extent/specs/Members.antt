@@ -1,6 +1,6 @@
 -- The members of a list of extents that hold a byte, with their indices, in any order.
-use Rattle.std.specs.Prelude.{ℕ, ◌≡◌, ◌≢◌, ◌<◌, ◌≤◌, ◌+◌, List, map, Some, slice_get, slice_index_or, length}
-use Rattle.std.specs.List.{All, AllAdjacentBelow, AllPairs, Contains}
+use Rattle.std.specs.Prelude.{ℕ, ◌≡◌, ◌≢◌, ◌<◌, List, map, Some, slice_get}
+use Rattle.std.specs.List.{All, AllPairs, Contains}
 use Rattle.elf_extent.specs.declared.extent.Extent.{Extent}
 use Rattle.elf_extent.specs.declared.members.Member.{Member}
 
@@ -16,20 +16,3 @@ pub record AreMembers (es : List Extent) (n : ℕ) (ms : List Member) : Type 0 w
   pub all : (i : ℕ) (e : Extent) → i < n → slice_get es i ≡ Some e → 0 < e.len →
       Contains ms (record { index = i; extent = e })
   pub once : AllPairs (λ i j. i ≢ j) (map (λ m. m.index) ms)
-
--- m ends at or below the start of the other
-abbrev pub EndsBefore : Member → Member → Type 0
-EndsBefore m other = m.extent.start + m.extent.len ≤ other.extent.start
-
--- x is the start of the member after k, which begins before member k ends; up to k each member
--- ends before the next
-pub record IsOverlapAt (ms : List Member) (k x : ℕ) : Type 0 where
-  pub within : k + 1 < length ms
-  pub apart : AllAdjacentBelow EndsBefore ms (k + 1)
-  pub start : (d : Member) → x ≡ (slice_index_or ms (k + 1) d).extent.start
-  pub shared : (d : Member) →
-      x < (slice_index_or ms k d).extent.start + (slice_index_or ms k d).extent.len
-
--- x is where the first overlap of neighbours begins
-abbrev pub IsFirstOverlap : List Member → ℕ → Type 0
-IsFirstOverlap ms x = (k : ℕ) × IsOverlapAt ms k x

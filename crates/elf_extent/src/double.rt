@@ -1,13 +1,11 @@
 //! The lowest byte that two members of a list of extents hold.
-ghost use Rattle.std.specs.Prelude.{length, IfOk, MatchOption};
-ghost use Rattle.std.specs.List.{AllAdjacentBelow};
-ghost use Rattle.std.specs.List.Sorted.{IsNonDecreasingBy};
-ghost use Rattle.elf_extent.specs.Extent.{Doubly};
+ghost use Rattle.std.specs.Prelude.{◌≡◌, filter, IfOk};
+ghost use Rattle.elf_extent.specs.Extent.{Doubly, holds_any};
 ghost use Rattle.elf_extent.specs.Least.{IsLowest};
-ghost use Rattle.elf_extent.specs.Members.{EndsBefore, IsFirstOverlap};
 
 use crate::extent::{Extent, OutOfMemory};
-use crate::members::{Member, members_by_start};
+use crate::row::Counted;
+use crate::sweeping::sweep;
 use std::alloc::Global;
 
 /// The lowest offset, in bytes, that two members of the list hold, be they equal or not; None if
@@ -16,24 +14,22 @@ use std::alloc::Global;
 pub fn first_double(alloc: Global, extents: &[Extent]) -> Result<Option<u64>, OutOfMemory>
     ensures { IfOk result (IsLowest (Doubly extents.now)) }
 {
-    let members = members_by_start(alloc, extents)?;
-    Ok(first_overlap(&members))
+    let mut held = nonempty(alloc, extents)?;
+    held.sort_unstable_by_key(|extent| extent.start);
+    Ok(sweep(&mut Counted::new(&held)))
 }
 
-/// The start of the first member that begins before the one before it ends.
-fn first_overlap(members: &[Member]) -> Option<u64>
-    requires { IsNonDecreasingBy (λ m. m.extent.start) members.now }
-    ensures { MatchOption result
-        (AllAdjacentBelow EndsBefore members.now (length members.now))
-        (IsFirstOverlap members.now) }
+/// The extents that hold a byte, in the order of the list.
+fn nonempty(alloc: Global, extents: &[Extent]) -> Result<Vec<Extent>, OutOfMemory>
+    ensures { IfOk result (λ held. held.items ≡ filter holds_any extents.now) }
 {
-    for i in 1..members.len() {
-        let before = &members[i - 1].extent;
-        let after = &members[i].extent;
-        // As the starts ascend, what the two share begins where the later one does.
-        if after.start - before.start < before.len {
-            return Some(after.start);
+    let mut held = Vec::new(alloc);
+    for extent in extents {
+        if extent.len > 0 {
+            let Ok(()) = held.push(*extent) else {
+                return Err(OutOfMemory);
+            };
         }
     }
-    None
+    Ok(held)
 }

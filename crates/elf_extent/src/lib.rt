@@ -20,6 +20,8 @@ pub use laws::{
     some_account,
 };
 pub use placement::{PlaceFault, next_place, place};
+pub use row::{Counted, Row};
+pub use sweeping::sweep;
 
 mod accounting;
 mod double;
@@ -27,3 +29,5 @@ mod extent;
 mod laws;
 mod members;
 mod placement;
+mod row;
+mod sweeping;
