@@ -19,6 +19,7 @@ use Rattle.elf_link_files.specs.Rows.{FirstAmong}
 use Rattle.elf_link_outputs.specs.Placed.{cell}
 use Rattle.elf_link_outputs.specs.Outputs.{live, memory_size}
 use Rattle.elf_link_map.specs.LinkMap.{IsLinkMap, LinkMapValue}
+use Rattle.elf_link_map.specs.Standing.{address_in, or_zero}
 use Rattle.elf_link_relocate.specs.declared.field.Field.{Field}
 use Rattle.elf_link_relocate.specs.Collecting.{field_at}
 use Rattle.elf_link_relocate.specs.Entries.{target_at}
@@ -30,7 +31,7 @@ use Rattle.elf_link_relocate.specs.MapFacts.{IsMapOfSome, IsSoundMap}
 use Rattle.elf_link_relocate.specs.Marking.{IsCovered, IsFieldIn}
 use Rattle.elf_link_relocate.specs.Memory.{HasFieldAt, IsFieldByte, IsMemory}
 use Rattle.elf_link_field.specs.Number.{relocation_number}
-use Rattle.elf_link_relocate.specs.Numbers.{addend_of, address_in, field_address, or_zero}
+use Rattle.elf_link_relocate.specs.Numbers.{addend_of, field_address}
 use Rattle.elf_link_relocate.specs.Patching.{AreRelocated, IsRelocated}
 use Rattle.elf_link_relocate.specs.RelocationRules.{applied_entry_rules}
 use Rattle.elf_link_relocate.specs.Values.{value_at}

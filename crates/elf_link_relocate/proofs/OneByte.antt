@@ -12,12 +12,13 @@ use Rattle.elf_link_files.specs.Rows.{FirstAmong}
 use Rattle.elf_link_outputs.specs.Placed.{cell}
 use Rattle.elf_link_map.specs.Apart.{BeginsAt, StandApart, size_in}
 use Rattle.elf_link_map.specs.LinkMap.{LinkMapValue}
+use Rattle.elf_link_map.specs.Standing.{address_in, or_zero}
 use Rattle.elf_link_map.proofs.Public.{parts_apart}
 use Rattle.elf_link_relocate.specs.Entries.{entry_at, target_at}
 use Rattle.elf_link_relocate.specs.Fields.{HasField, HasOffset, IsWithin, content_in, field_start}
 use Rattle.elf_link_relocate.specs.MapFacts.{IsMapOfSome}
 use Rattle.elf_link_relocate.specs.Memory.{IsContentByte, IsFieldByte, IsMemory, number_byte}
-use Rattle.elf_link_relocate.specs.Numbers.{address_in, number_at, or_zero}
+use Rattle.elf_link_relocate.specs.Numbers.{number_at}
 use Rattle.elf_link_relocate.specs.RelocationRules.{applied_entry_rules, field_out_of_range, fields_overlap}
 use Rattle.elf_link_relocate.proofs.FirstRule.{one_rule}
 use Rattle.elf_link_relocate.proofs.Memories.{content_fits, live_in}
