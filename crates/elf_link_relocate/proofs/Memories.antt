@@ -40,7 +40,7 @@ use Rattle.elf_link_relocate.proofs.AtFields.{position}
 -- ---- the map
 
 pub sound_of : (fs : List ObjectValue) (m : LinkMapValue) → IsMapOfSome fs m → ((opt : Options) → IsLinkMap opt fs m → StandApart fs m) → IsSoundMap fs m
-sound_of fs m (opt, (l, placed, is)) law = record {
+sound_of fs m (opt, (l, placed, is), clean) law = record {
   discarded = is.discarded;
   places = law opt (l, placed, is);
 }
@@ -74,7 +74,7 @@ live_in fs f s f_in is = elim (cases_lt s (length (object_at fs f).sections)) [
       never refl)
 ]
 
-some_number : (g : ℕ → ℤ) (v : Option ℕ) → (v ≡ None → ⊥) → (z : ℤ) × (option_map g v ≡ Some z)
+pub some_number : (g : ℕ → ℤ) (v : Option ℕ) → (v ≡ None → ⊥) → (z : ℤ) × (option_map g v ≡ Some z)
 some_number g None never = absurd (never refl)
 some_number g (Some x) never = (g x, refl)
 
