@@ -13,6 +13,7 @@ pub use Rattle.elf_link_map.specs.Entry
 pub use Rattle.elf_link_map.specs.LinkFaults
 pub use Rattle.elf_link_map.specs.LinkMap
 pub use Rattle.elf_link_map.specs.LinkMapView
+pub use Rattle.elf_link_map.specs.Standing
 pub use Rattle.elf_link_names.specs.Binds
 pub use Rattle.elf_link_names.specs.ChosenCommons
 pub use Rattle.elf_link_names.specs.LinkRules

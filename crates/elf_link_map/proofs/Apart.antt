@@ -24,7 +24,7 @@ use Rattle.elf_link_map.specs.LinkMap.{IsLinkMap, IsLinkPlan, IsMapOf, LinkMapVa
 
 -- ---- the sizes of the parts
 
-abbrev size_at : List ObjectValue → Site → ℕ
+abbrev pub size_at : List ObjectValue → Site → ℕ
 size_at fs p = size_in fs p.file p.index
 
 abbrev sizes : List (ℕ × ℕ) → List ℕ
@@ -43,7 +43,7 @@ output_sizes fs page (o ∷ oss) =
     sym (map-append (size_at fs) o (flat oss))
 
 -- the part of a section that is placed has its size
-part_size : (fs : List ObjectValue) (page : ℕ) (oss : List (List Site)) (cs : List Chosen) (k : ℕ) → k < length (flat oss) →
+pub part_size : (fs : List ObjectValue) (page : ℕ) (oss : List (List Site)) (cs : List Chosen) (k : ℕ) → k < length (flat oss) →
     slice_index (sizes (parts_of fs page (record { outputs = oss; commons = cs }))) k ≡ size_at fs (site_at (flat oss) k)
 part_size fs page oss cs k lt =
     let own = flat_map (output_parts fs page) oss in
@@ -74,15 +74,15 @@ same_some : (a b : ℕ) → ◌≡◌ {A = Option ℕ} (Some a) (Some b) → a �
 same_some a b e = cc
 
 -- section s of file f is placed at position k of a plan, and begins at a
-record StandsAt (l : LinkPlan) (f s a k : ℕ) : Type 0 where
-  within : k < length (placed l.plan)
-  here : site_at (placed l.plan) k ≡ site f s
-  begins : slice_index l.places k ≡ a
+pub record StandsAt (l : LinkPlan) (f s a k : ℕ) : Type 0 where
+  pub within : k < length (placed l.plan)
+  pub here : site_at (placed l.plan) k ≡ site f s
+  pub begins : slice_index l.places k ≡ a
 
 placed_live : (fs : List ObjectValue) (oss : List (List Site)) → AreOutputs fs oss → (k : ℕ) → k < length (flat oss) → live fs (site_at (flat oss) k)
 placed_live fs oss (ps, openers, mem) = all_flat (live fs) oss (λ i lt. members_live fs ps oss i mem lt)
 
-stands : (opt : Options) (fs : List ObjectValue) (l : LinkPlan) (m : LinkMapValue) (f s a : ℕ) → IsLinkPlan opt fs l → IsMapOf opt fs l m →
+pub stands : (opt : Options) (fs : List ObjectValue) (l : LinkPlan) (m : LinkMapValue) (f s a : ℕ) → IsLinkPlan opt fs l → IsMapOf opt fs l m →
     BeginsAt m f s a → (k : ℕ) × StandsAt l f s a k
 stands opt fs l m f s a is of at =
     let (k, lt, file, index) = of.addresses.only f s a at in
@@ -127,7 +127,7 @@ chosen_in : (opt : Options) (fs : List ObjectValue) (l : LinkPlan) (m : LinkMapV
 chosen_in opt fs l m k of lt = let count = of.commons.count in omega arith
 
 -- the common at position k is the part behind all sections and k commons
-common_begins : (opt : Options) (fs : List ObjectValue) (l : LinkPlan) (m : LinkMapValue) (k : ℕ) → IsMapOf opt fs l m → k < length m.commons →
+pub common_begins : (opt : Options) (fs : List ObjectValue) (l : LinkPlan) (m : LinkMapValue) (k : ℕ) → IsMapOf opt fs l m → k < length m.commons →
     (common_at m.commons k).address ≡ slice_index l.places (length (placed l.plan) + k)
 common_begins opt fs l m k of lt = ap (λ (c : CommonValue). c.address) (of.commons.each k (chosen_in opt fs l m k of lt))
 
@@ -140,7 +140,7 @@ common_ends opt fs l m k of lt =
     let same = ap (λ (c : CommonValue). c.size) (of.commons.each k chosen) in
     omega arith
 
-common_in_parts : (opt : Options) (fs : List ObjectValue) (l : LinkPlan) (m : LinkMapValue) (k : ℕ) → IsMapOf opt fs l m → k < length m.commons →
+pub common_in_parts : (opt : Options) (fs : List ObjectValue) (l : LinkPlan) (m : LinkMapValue) (k : ℕ) → IsMapOf opt fs l m → k < length m.commons →
     length (placed l.plan) + k < length (link_parts fs opt l)
 common_in_parts opt fs l m k of lt =
     let chosen = chosen_in opt fs l m k of lt in

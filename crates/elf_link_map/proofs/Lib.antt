@@ -3,6 +3,8 @@ pub mod PlacedCommons
 pub mod Naming
 pub mod Maps
 pub mod Apart
+pub mod Standing
+pub mod Paged
 pub mod OnePlan
 pub mod OneLinkFault
 pub mod OneLinkMap

@@ -4,4 +4,5 @@ pub mod Entry
 pub mod LinkMapView
 pub mod Naming
 pub mod Apart
+pub mod Standing
 pub mod LinkFaults

@@ -1,17 +1,42 @@
 //! What the layers above may know of a link map.
-ghost use Rattle.std.specs.Prelude.{◌≡◌, ℕ, List, Option};
+ghost use Rattle.std.specs.Prelude.{◌≡◌, ℕ, List, None, Option};
 ghost use Rattle.elf_link_files.specs.declared.options.Options.{Options};
 ghost use Rattle.elf_link_files.specs.declared.site.Site.{Site};
 ghost use Rattle.elf_link_map.specs.Apart.{StandApart};
 ghost use Rattle.elf_link_map.specs.LinkFaults.{FirstOfLink};
 ghost use Rattle.elf_link_map.specs.LinkMap.{IsLinkMap, LinkMapValue};
+ghost use Rattle.elf_link_map.specs.Standing.{AreObjects, ArePaged, OutputsStand};
 ghost use Rattle.elf_object_type.specs.Object.{ObjectValue};
+
+use elf_link_files::files::keeps_rules;
+use elf_object_type::Object;
 
 /// In the link map of some objects a section has an address exactly where it is live, the commons stand behind all sections, each
 /// of these parts ends below 2^64, and no address lies in two of them.
 pub fn parts_apart()
     ensures { (opt : Options) (fs : List ObjectValue) (m : LinkMapValue) → IsLinkMap opt fs m → StandApart fs m }
 {}
+
+/// In the link map of some objects each output has members: it begins where the first of them does, they stand in it one behind the other,
+/// and it ends where the last one ends. Each section with an address is a member of one. Outputs ascend, each ends where the next one and
+/// the commons begin, or before, and below 2^64.
+pub fn outputs_stand()
+    ensures { (opt : Options) (fs : List ObjectValue) (m : LinkMapValue) → IsLinkMap opt fs m → OutputsStand fs m }
+{}
+
+/// Where none of rules 1 to 11 stands, the page is a power of two, and each output and the first common begin at a multiple of it.
+pub fn are_paged()
+    ensures { (opt : Options) (fs : List ObjectValue) (m : LinkMapValue) → IsLinkMap opt fs m → FirstOfLink opt fs None → AreObjects fs → ArePaged m }
+{}
+
+/// Each of these objects breaks none of the object rules, as [`are_paged`] asks of them.
+pub fn are_objects(objects: &[Object<'_>])
+    ensures { AreObjects objects.now }
+{
+    for file in 0..objects.len() {
+        keeps_rules(objects, file);
+    }
+}
 
 /// Some objects and options have at most one answer: that no rule of the link stands, or the first one that does, at its first site.
 pub fn one_link_fault()

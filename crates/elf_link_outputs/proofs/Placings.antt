@@ -41,7 +41,7 @@ item_is outputs i v lt at =
     let items : Vec Site → List Site = λ ms. ms.items in
     get_or-map items outputs i v [] lt ∙ ap items (sym at)
 
-start_next : (oss : List (List Site)) (i : ℕ) → i < length oss → start_of oss (suc i) ≡ start_of oss i + length (members_at oss i)
+pub start_next : (oss : List (List Site)) (i : ℕ) → i < length oss → start_of oss (suc i) ≡ start_of oss i + length (members_at oss i)
 start_next [] i lt = absurd (omega arith)
 start_next (o ∷ oss) zero lt = omega (arith, length-append o [])
 start_next (o ∷ oss) (suc i) lt =
@@ -53,11 +53,11 @@ start_more oss i lt = subst (λ (n : ℕ). start_of oss n ≡ start_of oss i + l
 pub within_all : (oss : List (List Site)) (i : ℕ) → i < length oss → start_of oss i + length (members_at oss i) ≤ length (flat oss)
 within_all oss i lt = length-flat_map-take (λ (ms : List Site). ms) oss i [] lt
 
-length-raised : (page : ℕ) (ps : List (ℕ × ℕ)) → length (raised page ps) ≡ length ps
+pub length-raised : (page : ℕ) (ps : List (ℕ × ℕ)) → length (raised page ps) ≡ length ps
 length-raised page [] = refl
 length-raised page (p ∷ ps) = refl
 
-length-outputs : (fs : List ObjectValue) (page : ℕ) (oss : List (List Site)) → length (flat_map (output_parts fs page) oss) ≡ length (flat oss)
+pub length-outputs : (fs : List ObjectValue) (page : ℕ) (oss : List (List Site)) → length (flat_map (output_parts fs page) oss) ≡ length (flat oss)
 length-outputs fs page [] = refl
 length-outputs fs page (o ∷ oss) =
     omega (

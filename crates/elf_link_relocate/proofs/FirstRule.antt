@@ -5,7 +5,7 @@ use Rattle.std.proofs.lemmas.Bool.{cases_lt}
 use Rattle.elf_link_field.specs.declared.rule.RelocRule.{RelocRule}
 use Rattle.elf_link_field.specs.Rule.{HasNoRelocationRule, IsFirstRelocationRule}
 
-same_item : (a b : RelocRule) → Some a ≡ Some b → a ≡ b
+pub same_item : (a b : RelocRule) → Some a ≡ Some b → a ≡ b
 same_item a b e = cc
 
 pub one_rule : (kind : ℕ) (rules : List RelocRule) (r s : RelocRule) → IsFirstRelocationRule kind rules r → IsFirstRelocationRule kind rules s → r ≡ s

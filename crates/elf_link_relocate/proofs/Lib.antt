@@ -1,4 +1,4 @@
--- Lemmas of this crate.
+-- `Public` is for the proofs of the crates above, the others are for those of this one.
 mod Sites
 mod FirstRule
 mod ObjectFacts
@@ -11,3 +11,6 @@ mod AtFields
 mod Patches
 mod Memories
 mod OneByte
+mod SomeByte
+mod MemoryLaws
+pub mod Public

@@ -19,6 +19,7 @@ use Rattle.elf_link_files.specs.Rows.{FirstAmong}
 use Rattle.elf_link_outputs.specs.Placed.{cell}
 use Rattle.elf_link_outputs.specs.Outputs.{live, memory_size}
 use Rattle.elf_link_map.specs.LinkMap.{IsLinkMap, LinkMapValue}
+use Rattle.elf_link_map.specs.Standing.{address_in, or_zero}
 use Rattle.elf_link_relocate.specs.declared.field.Field.{Field}
 use Rattle.elf_link_relocate.specs.Collecting.{field_at}
 use Rattle.elf_link_relocate.specs.Entries.{target_at}
@@ -30,7 +31,7 @@ use Rattle.elf_link_relocate.specs.MapFacts.{IsMapOfSome, IsSoundMap}
 use Rattle.elf_link_relocate.specs.Marking.{IsCovered, IsFieldIn}
 use Rattle.elf_link_relocate.specs.Memory.{HasFieldAt, IsFieldByte, IsMemory}
 use Rattle.elf_link_field.specs.Number.{relocation_number}
-use Rattle.elf_link_relocate.specs.Numbers.{addend_of, address_in, field_address, or_zero}
+use Rattle.elf_link_relocate.specs.Numbers.{addend_of, field_address}
 use Rattle.elf_link_relocate.specs.Patching.{AreRelocated, IsRelocated}
 use Rattle.elf_link_relocate.specs.RelocationRules.{applied_entry_rules}
 use Rattle.elf_link_relocate.specs.Values.{value_at}
@@ -39,7 +40,7 @@ use Rattle.elf_link_relocate.proofs.AtFields.{position}
 -- ---- the map
 
 pub sound_of : (fs : List ObjectValue) (m : LinkMapValue) → IsMapOfSome fs m → ((opt : Options) → IsLinkMap opt fs m → StandApart fs m) → IsSoundMap fs m
-sound_of fs m (opt, (l, placed, is)) law = record {
+sound_of fs m (opt, (l, placed, is), clean) law = record {
   discarded = is.discarded;
   places = law opt (l, placed, is);
 }
@@ -73,7 +74,7 @@ live_in fs f s f_in is = elim (cases_lt s (length (object_at fs f).sections)) [
       never refl)
 ]
 
-some_number : (g : ℕ → ℤ) (v : Option ℕ) → (v ≡ None → ⊥) → (z : ℤ) × (option_map g v ≡ Some z)
+pub some_number : (g : ℕ → ℤ) (v : Option ℕ) → (v ≡ None → ⊥) → (z : ℤ) × (option_map g v ≡ Some z)
 some_number g None never = absurd (never refl)
 some_number g (Some x) never = (g x, refl)
 

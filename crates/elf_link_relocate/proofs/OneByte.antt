@@ -12,18 +12,19 @@ use Rattle.elf_link_files.specs.Rows.{FirstAmong}
 use Rattle.elf_link_outputs.specs.Placed.{cell}
 use Rattle.elf_link_map.specs.Apart.{BeginsAt, StandApart, size_in}
 use Rattle.elf_link_map.specs.LinkMap.{LinkMapValue}
+use Rattle.elf_link_map.specs.Standing.{address_in, or_zero}
 use Rattle.elf_link_map.proofs.Public.{parts_apart}
 use Rattle.elf_link_relocate.specs.Entries.{entry_at, target_at}
 use Rattle.elf_link_relocate.specs.Fields.{HasField, HasOffset, IsWithin, content_in, field_start}
 use Rattle.elf_link_relocate.specs.MapFacts.{IsMapOfSome}
 use Rattle.elf_link_relocate.specs.Memory.{IsContentByte, IsFieldByte, IsMemory, number_byte}
-use Rattle.elf_link_relocate.specs.Numbers.{address_in, number_at, or_zero}
+use Rattle.elf_link_relocate.specs.Numbers.{number_at}
 use Rattle.elf_link_relocate.specs.RelocationRules.{applied_entry_rules, field_out_of_range, fields_overlap}
 use Rattle.elf_link_relocate.proofs.FirstRule.{one_rule}
 use Rattle.elf_link_relocate.proofs.Memories.{content_fits, live_in}
 use Rattle.elf_link_relocate.proofs.Sites.{ordered}
 
-same_place : (a b : ℕ) → ◌≡◌ {A = Option ℕ} (Some a) (Some b) → a ≡ b
+pub same_place : (a b : ℕ) → ◌≡◌ {A = Option ℕ} (Some a) (Some b) → a ≡ b
 same_place a b e = cc
 
 same_value : (a b : ℤ) → Some a ≡ Some b → a ≡ b
@@ -32,7 +33,7 @@ same_value a b e = cc
 module _ (fs : List ObjectValue) (m : LinkMapValue) (rules : List RelocRule) (stand : StandApart fs m)
     (within : Never (field_out_of_range fs rules)) (apart : Never (fields_overlap fs rules)) where
   -- an address is in one section
-  one_section : (f s a k g t b i : ℕ) → BeginsAt m f s a → BeginsAt m g t b → k < size_in fs f s → i < size_in fs g t → a + k ≡ b + i → (f ≡ g) × (s ≡ t)
+  pub one_section : (f s a k g t b i : ℕ) → BeginsAt m f s a → BeginsAt m g t b → k < size_in fs f s → i < size_in fs g t → a + k ≡ b + i → (f ≡ g) × (s ≡ t)
   one_section f s a k g t b i at there k_in i_in same = elim (stand.apart f s a g t b at there) [
     | inl one ↦ one
     | inr away ↦ elim away [
@@ -41,13 +42,13 @@ module _ (fs : List ObjectValue) (m : LinkMapValue) (rules : List RelocRule) (st
     ]
   ]
 
-  within_of : (p : Site) (r : RelocRule) → HasField fs rules p r → IsWithin fs p r
+  pub within_of : (p : Site) (r : RelocRule) → HasField fs rules p r → IsWithin fs p r
   within_of p r has = elim (cases_lt (length (content_in fs p.file (target_at fs p))) (field_start fs p + size_of r.width)) [
     | inl past ↦ absurd (within p (r, has, (λ fits. omega arith)))
     | inr fits ↦ fits
   ]
 
-  begins : (p : Site) (r : RelocRule) → HasField fs rules p r → (a : ℕ) × BeginsAt m p.file (target_at fs p) a
+  pub begins : (p : Site) (r : RelocRule) → HasField fs rules p r → (a : ℕ) × BeginsAt m p.file (target_at fs p) a
   begins p r has = (stand.addressed p.file (target_at fs p)).0 (live_in fs p.file (target_at fs p) has.applied.0.file has.applied.1.1)
 
   same_bytes : (p q : Site) (r s : RelocRule) (k i : ℕ) (y z : ℤ) → p ≡ q → r ≡ s → k ≡ i → y ≡ z → number_byte fs p r y k ≡ number_byte fs q s z i
@@ -107,4 +108,4 @@ module _ (fs : List ObjectValue) (m : LinkMapValue) (rules : List RelocRule) (st
 
 pub one_byte : (fs : List ObjectValue) (m : LinkMapValue) (rules : List RelocRule) → IsMapOfSome fs m → FirstAmong (applied_entry_rules fs m rules) None →
     (x v w : ℕ) → IsMemory fs m rules x v → IsMemory fs m rules x w → v ≡ w
-one_byte fs m rules (opt, is) clean = one_of fs m rules (parts_apart opt fs m is) clean.1.1.0 clean.1.1.1.0
+one_byte fs m rules (opt, is, sound) clean = one_of fs m rules (parts_apart opt fs m is) clean.1.1.0 clean.1.1.1.0

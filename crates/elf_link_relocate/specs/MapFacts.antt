@@ -1,14 +1,15 @@
 -- What relocating needs to know of a link map.
-use Rattle.std.specs.Prelude.{List}
+use Rattle.std.specs.Prelude.{None, List}
 use Rattle.elf_object_type.specs.Object.{ObjectValue}
 use Rattle.elf_link_files.specs.declared.options.Options.{Options}
 use Rattle.elf_link_files.specs.Discarded.{AreDiscardMarks}
 use Rattle.elf_link_map.specs.Apart.{StandApart}
+use Rattle.elf_link_map.specs.LinkFaults.{FirstOfLink}
 use Rattle.elf_link_map.specs.LinkMap.{IsLinkMap, LinkMapValue}
 
--- the map is the one of these objects, for some options
+-- no rule of the link map stands, and the map is the one of these objects, for some options
 abbrev pub IsMapOfSome : List ObjectValue → LinkMapValue → Type 0
-IsMapOfSome fs m = (opt : Options) × IsLinkMap opt fs m
+IsMapOfSome fs m = (opt : Options) × IsLinkMap opt fs m × FirstOfLink opt fs None
 
 -- it tells which sections are discarded, and its sections stand apart
 pub record IsSoundMap (fs : List ObjectValue) (m : LinkMapValue) : Type 0 where

@@ -1,24 +1,16 @@
 -- The number of a field: S + A, or S + A - P. (gABI chapter 4, Relocation.)
-use Rattle.std.specs.Prelude.{ℕ, ◌+◌, if◌then◌else◌, Option, None, Some, ℤ, List, option_map}
+use Rattle.std.specs.Prelude.{ℕ, ◌+◌, if◌then◌else◌, Option, ℤ, List, option_map}
 use Rattle.elf_object_type.specs.Object.{ObjectValue}
 use Rattle.elf_link_field.specs.declared.rule.RelocRule.{RelocRule}
 use Rattle.elf_link_field.specs.Number.{addend_at, relocation_number}
 use Rattle.elf_link_field.specs.Rule.{size_of}
 use Rattle.elf_link_files.specs.declared.site.Site.{Site}
 use Rattle.elf_link_files.specs.Files.{object_at}
-use Rattle.elf_link_outputs.specs.Placed.{cell}
 use Rattle.elf_link_map.specs.LinkMap.{LinkMapValue}
+use Rattle.elf_link_map.specs.Standing.{address_in}
 use Rattle.elf_link_relocate.specs.Entries.{body_at, entry_at, is_rela, target_at}
 use Rattle.elf_link_relocate.specs.Fields.{content_at, field_start}
 use Rattle.elf_link_relocate.specs.Values.{value_at}
-
--- the address of a section; 0 for one without
-abbrev pub or_zero : Option ℕ → ℕ
-or_zero None = 0
-or_zero (Some a) = a
-
-abbrev pub address_in : LinkMapValue → ℕ → ℕ → ℕ
-address_in m f s = or_zero (cell m.addresses f s)
 
 -- P: the address of an entry's field
 abbrev pub field_address : List ObjectValue → LinkMapValue → Site → ℕ

@@ -27,7 +27,9 @@ mod relocating;
 pub mod rules;
 mod values;
 
-pub use laws::one_byte;
+pub use laws::{
+    field_in_content, memory_bytes, memory_in, memory_there, memory_zero, one_byte, some_byte,
+};
 pub use linked::{Identity, Linked};
 pub use relocating::relocate;
 pub use values::binding_value;

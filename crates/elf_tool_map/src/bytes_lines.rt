@@ -114,7 +114,7 @@ struct MemberBytes<'l, 'm, 'a> {
 
 impl<'l, 'm, 'a> Pieces for MemberBytes<'l, 'm, 'a> {
     ghost use Rattle.std.specs.Prelude.{get_or, length};
-    ghost use Rattle.elf_tool_map.specs.Members.{no_member};
+    ghost use Rattle.elf_link_map.specs.Standing.{no_member};
     ghost use Rattle.elf_tool_map.specs.MapLines.{member_bytes};
 
     ghost count = { λ pieces. length pieces.members.now };

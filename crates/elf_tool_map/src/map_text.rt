@@ -128,7 +128,7 @@ struct MemberLines<'l, 'a> {
 
 impl<'l, 'a> Lines for MemberLines<'l, 'a> {
     ghost use Rattle.std.specs.Prelude.{get_or, length};
-    ghost use Rattle.elf_tool_map.specs.Members.{no_member};
+    ghost use Rattle.elf_link_map.specs.Standing.{no_member};
     ghost use Rattle.elf_tool_map.specs.MapLines.{member_text};
 
     ghost count = { λ lines. length lines.members.now };

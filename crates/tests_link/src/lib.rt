@@ -12,4 +12,6 @@ mod file_rules;
 #[cfg(test)]
 mod groups;
 #[cfg(test)]
+mod standing;
+#[cfg(test)]
 mod worked;

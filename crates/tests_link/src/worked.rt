@@ -1,4 +1,8 @@
 //! Objects for the tests, by their parts.
+ghost use Rattle.std.specs.Prelude.{IfOk, None, OnOk};
+ghost use Rattle.elf_link_map.specs.LinkFaults.{FirstOfLink};
+ghost use Rattle.elf_link_map.specs.LinkMap.{IsLinkMap};
+
 use elf_field::Order;
 use elf_link_map::{LinkFault, LinkMap, Member, Options, map};
 use elf_object_type::{
@@ -145,7 +149,10 @@ pub(crate) fn mapped<'a>(
     alloc: Global,
     objects: &[Object<'a>],
     options: &Options<'_>,
-) -> Result<LinkMap<'a>, LinkFault> {
+) -> Result<LinkMap<'a>, LinkFault>
+    ensures sound { OnOk result (FirstOfLink options.now objects.now None) }
+    ensures map { IfOk result (λ m. IsLinkMap options.now objects.now m) }
+{
     map(
         alloc,
         objects,

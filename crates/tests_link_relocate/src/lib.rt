@@ -10,6 +10,8 @@ mod groups;
 #[cfg(test)]
 mod headers;
 #[cfg(test)]
+mod memory;
+#[cfg(test)]
 mod values;
 #[cfg(test)]
 mod worked;

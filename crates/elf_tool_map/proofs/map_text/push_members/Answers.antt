@@ -1,7 +1,7 @@
 use Rattle.std.proofs.Common.{◌≡◌, ◌++◌, List, ℕ, subst}
 use Rattle.std.specs.Prelude.{OnOk}
 use Rattle.elf_tool_map.specs.MapLines.{member_text}
-use Rattle.elf_tool_map.specs.Members.{no_member}
+use Rattle.elf_link_map.specs.Standing.{no_member}
 use Rattle.elf_tool_map.proofs.Items.{by_position}
 use Rattle.elf_tool_map.proofs.map_text.push_members.Goals as goal
 

@@ -1,0 +1,295 @@
+-- Outputs stand apart, and their members stand in them: the members of output k are the parts of the plan from the start of k on.
+use Rattle.std.proofs.Common.{◌≡◌, ℕ, ◌+◌, ◌-◌, ◌<◌, ◌≤◌, List, [], ◌∷◌, get_or, length, map, take, zero, suc, inl, inr, refl, sym, ◌∙◌, ap, subst, arith, length-append}
+use Rattle.std.specs.Prelude.{Option, Some, slice_index}
+use Rattle.std.proofs.lemmas.Bool.{cases_lt}
+use Rattle.std.proofs.lemmas.List.{get_or-map, length-map}
+use Rattle.std.proofs.lemmas.List.Concat.{get_or-flat_map}
+use Rattle.std.proofs.lemmas.Simd.{map-map}
+use Rattle.elf_extent.specs.Place.{Fits, end_of}
+use Rattle.elf_extent.proofs.Public.{above_earlier, above_from}
+use Rattle.elf_object_type.specs.Object.{ObjectValue}
+use Rattle.elf_link_files.specs.declared.options.Options.{Options}
+use Rattle.elf_link_files.specs.declared.site.Site.{Site}
+use Rattle.elf_link_files.specs.Files.{section_in}
+use Rattle.elf_link_files.specs.Listing.{site, site_at}
+use Rattle.elf_link_files.proofs.Public.{site_is}
+use Rattle.elf_link_outputs.specs.declared.output.Member.{Member}
+use Rattle.elf_link_outputs.specs.Outputs.{is_no_bits, live, section_at_site}
+use Rattle.elf_link_outputs.specs.Placed.{IsOutput, OutputValue, cell, member_of, members_at, start_of}
+use Rattle.elf_link_outputs.specs.Plan.{flat, placed}
+use Rattle.elf_link_outputs.proofs.Public.{members_live, outputs_some, parts_long, start_next, within_all}
+use Rattle.elf_link_map.specs.Apart.{BeginsAt, size_in}
+use Rattle.elf_link_map.specs.LinkMap.{IsLinkMap, IsLinkPlan, IsMapOf, LinkMapValue, LinkPlan, link_parts}
+use Rattle.elf_link_map.specs.Standing.{IsMemberAt, MembersStand, OutputsStand, member_address, member_at, member_part, no_member, or_zero, output_at, output_end}
+use Rattle.elf_link_map.proofs.Apart.{common_begins, common_in_parts, part_size, size_at, stands}
+
+-- ---- positions in a list of lists
+
+flat_at : (oss : List (List Site)) (k i : ℕ) → k < length oss → i < length (members_at oss k) →
+    site_at (flat oss) (start_of oss k + i) ≡ site_at (members_at oss k) i
+flat_at oss k i k_in i_in = get_or-flat_map (λ (ms : List Site). ms) oss k i [] (site 0 0) k_in i_in
+
+-- each position of the whole is one of a list
+flat_split : (oss : List (List Site)) (n : ℕ) → n < length (flat oss) →
+    (k i : ℕ) × (k < length oss) × (i < length (members_at oss k)) × (n ≡ start_of oss k + i)
+flat_split [] n lt = absurd (omega arith)
+flat_split (o ∷ oss) n lt = elim (cases_lt n (length o)) [
+  | inl below ↦ (0, n, omega arith, below, omega arith)
+  | inr above ↦ (
+      let (k, i, k_in, i_in, at) = flat_split oss (n - length o) (omega (arith, length-append o (flat oss))) in
+      (suc k, i, omega arith, i_in, omega (arith, length-append o (flat (take k oss)))))
+]
+
+-- a list begins where each one before it has ended, or behind that
+starts_ascend : (oss : List (List Site)) (j k : ℕ) → j < k → k < length oss → start_of oss j + length (members_at oss j) ≤ start_of oss k
+starts_ascend oss j zero lt within = absurd (omega arith)
+starts_ascend oss j (suc k) lt within = elim (cases_lt j k) [
+  | inl below ↦ (let earlier = starts_ascend oss j k below (omega arith) in let next = start_next oss k (omega arith) in omega arith)
+  | inr above ↦ (
+      let same : k ≡ j = omega arith in
+      let next = start_next oss k (omega arith) in
+      subst (λ (n : ℕ). start_of oss n + length (members_at oss n) ≤ start_of oss (suc k)) same (omega arith))
+]
+
+-- places that ascend fit parts that may stand anywhere
+fits_by : {A : Type 0} (size place : A → ℕ) (none : A) (xs : List A) (from : ℕ) → (0 < length xs → from ≤ place (get_or xs 0 none)) →
+    ((i : ℕ) → suc i < length xs → place (get_or xs i none) + size (get_or xs i none) ≤ place (get_or xs (suc i) none)) →
+    Fits (map (λ x. (size x, 1)) xs) from (map place xs)
+fits_by size place none [] from first step = tt
+fits_by size place none (x ∷ xs) from first step = (
+  omega arith,
+  first (omega arith),
+  fits_by size place none xs (place x + size x) (λ some. step 0 (omega arith)) (λ i lt. step (suc i) (omega arith)),
+)
+
+begins_here : (o : Option ℕ) (a : ℕ) → o ≡ Some a → o ≡ Some (or_zero o)
+begins_here o a at = at ∙ ap Some (sym (ap or_zero at))
+
+-- ---- the members of an output
+
+-- member i of output k is this section, which begins and ends where the part so far behind the start of the output does
+record IsPartOf (opt : Options) (fs : List ObjectValue) (l : LinkPlan) (m : LinkMapValue) (k i : ℕ) (p : Member) : Type 0 where
+  same : member_at (output_at m k) i ≡ p
+  here : site_at (members_at l.plan.outputs k) i ≡ site p.file p.section
+  part : start_of l.plan.outputs k + i < length (flat l.plan.outputs)
+  alive : live fs (site p.file p.section)
+  begins : BeginsAt m p.file p.section (slice_index l.places (start_of l.plan.outputs k + i))
+  ends : end_of (link_parts fs opt l) l.places (start_of l.plan.outputs k + i) ≡
+      slice_index l.places (start_of l.plan.outputs k + i) + size_in fs p.file p.section
+
+module _ (opt : Options) (fs : List ObjectValue) (l : LinkPlan) (m : LinkMapValue) (is : IsLinkPlan opt fs l) (of : IsMapOf opt fs l m) where
+  abbrev outputs : List (List Site)
+  outputs = l.plan.outputs
+
+  abbrev start : ℕ → ℕ
+  start k = start_of outputs k
+
+  abbrev count : ℕ → ℕ
+  count k = length (members_at outputs k)
+
+  output_in : (k : ℕ) → k < length m.outputs → k < length outputs
+  output_in k lt = (let many = of.outputs.count in omega arith)
+
+  output_is : (k : ℕ) → k < length m.outputs → IsOutput fs (members_at outputs k) (link_parts fs opt l) l.places (start k) (output_at m k)
+  output_is k lt = of.outputs.each k (output_in k lt)
+
+  many_members : (k : ℕ) → k < length m.outputs → length (output_at m k).members ≡ count k
+  many_members k lt = ap (λ (ms : List Member). length ms) (output_is k lt).members ∙ length-map (members_at outputs k) member_of
+
+  some_members : (k : ℕ) → k < length m.outputs → 0 < count k
+  some_members k lt = (let (ps, openers, mem) = is.plan.outputs in outputs_some fs ps outputs openers mem k (output_in k lt))
+
+  alive_at : (k i : ℕ) → k < length m.outputs → i < count k → live fs (site_at (members_at outputs k) i)
+  alive_at k i lt i_in = (let (ps, openers, mem) = is.plan.outputs in members_live fs ps outputs k mem (output_in k lt) i i_in)
+
+  member_is : (k i : ℕ) → k < length m.outputs → i < count k → member_at (output_at m k) i ≡ member_of (site_at (members_at outputs k) i)
+  member_is k i lt i_in =
+      ap (λ (ms : List Member). get_or ms i no_member) (output_is k lt).members ∙ get_or-map member_of (members_at outputs k) i (site 0 0) no_member i_in
+
+  part_in : (k i : ℕ) → k < length m.outputs → i < count k → start k + i < length (flat outputs)
+  part_in k i lt i_in = (let whole = within_all outputs k (output_in k lt) in omega arith)
+
+  all_parts : (n : ℕ) → n < length (flat outputs) → n < length (link_parts fs opt l)
+  all_parts n lt = (let long = parts_long fs opt.page outputs l.plan.commons in omega arith)
+
+  part_of : (k i : ℕ) → k < length m.outputs → i < count k → IsPartOf opt fs l m k i (member_of (site_at (members_at outputs k) i))
+  part_of k i lt i_in =
+      let p = site_at (members_at outputs k) i in
+      let alive = alive_at k i lt i_in in
+      let here : p ≡ site p.file p.index = site_is p p.file p.index refl refl alive.3 in
+      let part = part_in k i lt i_in in
+      let at = flat_at outputs k i (output_in k lt) i_in in
+      record {
+        same = member_is k i lt i_in;
+        here = here;
+        part = part;
+        alive = subst (live fs) here alive;
+        begins = subst (λ (q : Site). cell m.addresses q.file q.index ≡ Some (slice_index l.places (start k + i))) at (of.addresses.placed (start k + i) part);
+        ends = ap (λ (n : ℕ). slice_index l.places (start k + i) + n) (part_size fs opt.page outputs l.plan.commons (start k + i) part ∙ ap (size_at fs) at);
+      }
+
+  -- the same, of the member as the map has it
+  stands_in : (k i : ℕ) → k < length m.outputs → i < length (output_at m k).members → IsPartOf opt fs l m k i (member_at (output_at m k) i)
+  stands_in k i lt i_in =
+      let many = many_members k lt in
+      let at = part_of k i lt (omega arith) in
+      subst (λ (p : Member). IsPartOf opt fs l m k i p) (sym at.same) at
+
+  address_is : (k i : ℕ) → k < length m.outputs → i < length (output_at m k).members →
+      member_address m (member_at (output_at m k) i) ≡ slice_index l.places (start k + i)
+  address_is k i lt i_in = ap or_zero (stands_in k i lt i_in).begins
+
+  -- all members are of one kind, that of the section that opens the output
+  kind_of : (k i : ℕ) → k < length m.outputs → i < count k → is_no_bits (section_at_site fs (site_at (members_at outputs k) i)).body ≡ (output_at m k).no_bits
+  kind_of k i lt i_in =
+      let (ps, openers, mem) = is.plan.outputs in
+      let many = mem.count in
+      let each = mem.each k (let within = output_in k lt in omega arith) in
+      (each.each i i_in).1.2 ∙ sym (each.each 0 (some_members k lt)).1.2 ∙ sym (output_is k lt).no_bits
+
+  -- the last part of an output
+  abbrev last_of : ℕ → ℕ
+  last_of k = start k + count k - 1
+
+  last_in : (k : ℕ) → k < length m.outputs → last_of k < length (link_parts fs opt l)
+  last_in k lt = (let some = some_members k lt in all_parts (last_of k) (let whole = within_all outputs k (output_in k lt) in omega arith))
+
+  ends_at : (k : ℕ) → k < length m.outputs → output_end m k ≡ end_of (link_parts fs opt l) l.places (last_of k)
+  ends_at k lt = (output_is k lt).end
+
+  members_order : (k : ℕ) → k < length m.outputs →
+      Fits (map (member_part fs) (output_at m k).members) (output_at m k).address (map (member_address m) (output_at m k).members)
+  members_order k lt =
+      let o = output_at m k in
+      let begins = (output_is k lt).address in
+      fits_by (λ (p : Member). size_in fs p.file p.section) (member_address m) no_member o.members o.address
+      (λ some. (
+      let first = address_is k 0 lt some in
+      let same = ap (λ (n : ℕ). slice_index l.places n) (let zero_is : start k + 0 ≡ start k = omega arith in zero_is) in
+      omega arith))
+      (λ i below. (
+      let here = address_is k i lt (omega arith) in
+      let next = address_is k (suc i) lt below in
+      let at = stands_in k (suc i) lt below in
+      let ends = (stands_in k i lt (omega arith)).ends in
+      let above = above_earlier (link_parts fs opt l) opt.base l.places (start k + i) (start k + suc i) is.least.fits (omega arith) (all_parts (start k + suc i) at.part) in
+      omega arith))
+
+  members_last : (k : ℕ) → k < length m.outputs → output_end m k ≡
+      end_of (map (member_part fs) (output_at m k).members) (map (member_address m) (output_at m k).members) (length (output_at m k).members - 1)
+  members_last k lt =
+      let o = output_at m k in
+      let many = many_members k lt in
+      let some = some_members k lt in
+      let n = length o.members - 1 in
+      let within : n < length o.members = omega arith in
+      let here = stands_in k n lt within in
+      let place = address_is k n lt within in
+      let listed = get_or-map (member_address m) o.members n no_member 0 within in
+      let sizes = map-map (λ (q : ℕ × ℕ). q.0) (member_part fs) o.members in
+      let size = ap (λ (xs : List ℕ). slice_index xs n) sizes ∙ get_or-map (λ (p : Member). size_in fs p.file p.section) o.members n no_member 0 within in
+      let same : last_of k ≡ start k + n = omega arith in
+      let at = ap (λ (i : ℕ). end_of (link_parts fs opt l) l.places i) same in
+      let ends = here.ends in
+      let whole = ends_at k lt in
+      omega arith
+
+  members_stand : (k : ℕ) → k < length m.outputs → MembersStand fs m (output_at m k)
+  members_stand k lt =
+      let many = many_members k lt in
+      let some = some_members k lt in
+      record {
+        some = omega arith;
+        live = λ i i_in. (stands_in k i lt i_in).alive;
+        begins = λ i i_in. begins_here _ _ (stands_in k i lt i_in).begins;
+        kind = λ i i_in. subst (λ (p : Member). is_no_bits (section_in fs p.file p.section).body ≡ (output_at m k).no_bits)
+            (sym (member_is k i lt (omega arith))) (kind_of k i lt (omega arith));
+        first = (
+            let here = address_is k 0 lt (omega arith) in
+            let same = ap (λ (n : ℕ). slice_index l.places n) (let zero_is : start k + 0 ≡ start k = omega arith in zero_is) in
+            let begins = (output_is k lt).address in
+            omega arith);
+        order = members_order k lt;
+        last = members_last k lt;
+      }
+
+  -- ---- the law
+
+  holds : (f s a : ℕ) → BeginsAt m f s a → (k i : ℕ) × IsMemberAt m f s k i
+  holds f s a at =
+      let (n, here) = stands opt fs l m f s a is of at in
+      let (k, i, k_in, i_in, split) = flat_split outputs n here.within in
+      let lt : k < length m.outputs = (let many = of.outputs.count in omega arith) in
+      let found = sym (flat_at outputs k i k_in i_in) ∙ ap (site_at (flat outputs)) (sym split) ∙ here.here in
+      (k, i, (lt, (let many = many_members k lt in omega arith), member_is k i lt i_in ∙ ap member_of found))
+
+  behind : (k n : ℕ) → k < length m.outputs → last_of k < n → n < length (link_parts fs opt l) → output_end m k ≤ slice_index l.places n
+  behind k n lt before within =
+      let above = above_earlier (link_parts fs opt l) opt.base l.places (last_of k) n is.least.fits before within in
+      let ends = ends_at k lt in
+      omega arith
+
+  pub stand : OutputsStand fs m
+  stand = record {
+    members = members_stand;
+    holds = holds;
+    within = λ k lt. (let ends = ends_at k lt in let fits = of.fits (last_of k) (last_in k lt) in omega arith);
+    apart = λ j k before lt. (
+        let some = some_members j (omega arith) in
+        let ascend = starts_ascend outputs j k before (output_in k lt) in
+        let later : last_of j < start k = omega arith in
+        let there = all_parts (start k) (let more = some_members k lt in let whole = within_all outputs k (output_in k lt) in omega arith) in
+        let above = behind j (start k) (omega arith) later there in
+        let begins = (output_is k lt).address in
+        omega arith);
+    commons_behind = λ j k lt k_in. (
+        let some = some_members j lt in
+        let whole = within_all outputs j (output_in j lt) in
+        let above = behind j (length (placed l.plan) + k) lt (omega arith) (common_in_parts opt fs l m k of k_in) in
+        let begins = common_begins opt fs l m k of k_in in
+        omega arith);
+  }
+
+pub outputs_stand : (opt : Options) (fs : List ObjectValue) (m : LinkMapValue) → IsLinkMap opt fs m → OutputsStand fs m
+outputs_stand opt fs m (l, is, of) = stand opt fs l m is of
+
+-- ---- a member lies in its output
+
+module _ (fs : List ObjectValue) (m : LinkMapValue) (o : OutputValue) (stand : MembersStand fs m o) where
+  abbrev parts : List (ℕ × ℕ)
+  parts = map (member_part fs) o.members
+
+  abbrev places : List ℕ
+  places = map (member_address m) o.members
+
+  member_begins : (i : ℕ) → i < length o.members → slice_index places i ≡ member_address m (member_at o i)
+  member_begins i lt = get_or-map (member_address m) o.members i no_member 0 lt
+
+  member_ends : (i : ℕ) → i < length o.members →
+      end_of parts places i ≡ member_address m (member_at o i) + size_in fs (member_at o i).file (member_at o i).section
+  member_ends i lt =
+      let begins = member_begins i lt in
+      let sizes = map-map (λ (q : ℕ × ℕ). q.0) (member_part fs) o.members in
+      let size = ap (λ (xs : List ℕ). slice_index xs i) sizes ∙ get_or-map (λ (p : Member). size_in fs p.file p.section) o.members i no_member 0 lt in
+      omega arith
+
+  pub member_within : (i : ℕ) → i < length o.members → (o.address ≤ member_address m (member_at o i)) ×
+      (member_address m (member_at o i) + size_in fs (member_at o i).file (member_at o i).section ≤ o.address + o.length)
+  member_within i lt =
+      let many = length-map o.members (member_part fs) in
+      let from = above_from parts o.address places i stand.order (omega arith) in
+      let begins = member_begins i lt in
+      let ends = member_ends i lt in
+      let last = stand.last in (
+        omega arith,
+        elim (cases_lt i (length o.members - 1)) [
+          | inl before ↦ (
+              let above = above_earlier parts o.address places i (length o.members - 1) stand.order before (omega arith) in
+              let more : slice_index places (length o.members - 1) ≤ end_of parts places (length o.members - 1) = omega arith in
+              omega arith)
+          | inr behind ↦ (
+              let same : i ≡ length o.members - 1 = omega arith in
+              let at = ap (λ (n : ℕ). end_of parts places n) same in
+              omega arith)
+        ],
+      )

@@ -1,0 +1,159 @@
+-- Memory has a byte at each address of an output and of the commons, and none elsewhere: fields lie in contents, contents in outputs.
+use Rattle.std.proofs.Common.{◌≡◌, ℕ, ◌+◌, ◌-◌, ◌<◌, ◌≤◌, List, length, inl, inr, refl, sym, ap, subst, arith}
+use Rattle.std.specs.Prelude.{None}
+use Rattle.std.proofs.lemmas.Bool.{cases_lt}
+use Rattle.elf_field.specs.BytesLaws.{IsBytes-bytes_of}
+use Rattle.elf_extent.specs.Least.{Never}
+use Rattle.elf_object_type.specs.Object.{ObjectValue}
+use Rattle.elf_link_field.specs.declared.rule.RelocRule.{RelocRule}
+use Rattle.elf_link_field.specs.Number.{modulo}
+use Rattle.elf_link_field.specs.Rule.{size_of}
+use Rattle.elf_link_files.specs.Discarded.{AreDiscardMarks}
+use Rattle.elf_link_files.specs.Files.{object_at, section_in}
+use Rattle.elf_link_files.specs.Rows.{FirstAmong}
+use Rattle.elf_link_outputs.specs.declared.output.Member.{Member}
+use Rattle.elf_link_map.specs.Apart.{BeginsAt, StandApart, size_in}
+use Rattle.elf_link_map.specs.LinkMap.{LinkMapValue}
+use Rattle.elf_link_map.specs.Standing.{IsMemberAt, OutputsStand, address_in, member_address, member_at, or_zero, output_at, output_end}
+use Rattle.elf_link_map.proofs.Public.{member_within, outputs_stand, parts_apart}
+use Rattle.elf_link_relocate.specs.Entries.{target_at}
+use Rattle.elf_link_relocate.specs.Fields.{content_in, field_start}
+use Rattle.elf_link_relocate.specs.Linked.{IsLinked, LinkedValue}
+use Rattle.elf_link_relocate.specs.MapFacts.{IsMapOfSome}
+use Rattle.elf_link_relocate.specs.Memory.{HasContentAt, HasFieldAt, HaveBytes, IsInCommons, IsInContent, IsInMember, IsInMemory, IsInNoMember, IsInOutput, IsInOutputAt, IsMemory}
+use Rattle.elf_link_relocate.specs.RelocationRules.{applied_entry_rules, field_out_of_range, fields_overlap, unplaced}
+use Rattle.elf_link_relocate.proofs.Memories.{content_fits}
+use Rattle.elf_link_relocate.proofs.OneByte.{begins, within_of}
+use Rattle.elf_link_relocate.proofs.SomeByte.{IsDecided, content_byte, some_below}
+
+-- ---- sections in outputs
+
+-- a section lies in the output that it is a member of
+section_within : (fs : List ObjectValue) (m : LinkMapValue) (f s a k i : ℕ) → OutputsStand fs m → BeginsAt m f s a → IsMemberAt m f s k i →
+    ((output_at m k).address ≤ a) × (a + size_in fs f s ≤ output_end m k)
+section_within fs m f s a k i outputs at (k_in, i_in, same) =
+    let (from, to) = subst (λ (p : Member). ((output_at m k).address ≤ member_address m p) × (member_address m p + size_in fs p.file p.section ≤ output_end m k)) same
+    (member_within fs m (output_at m k) (outputs.members k k_in) i i_in) in
+    let here : address_in m f s ≡ a = ap or_zero at in
+    (omega arith, omega arith)
+
+-- an address is in one output
+one_output : (fs : List ObjectValue) (m : LinkMapValue) (x j k : ℕ) → OutputsStand fs m → j < length m.outputs → k < length m.outputs →
+    IsInOutputAt m j x → IsInOutputAt m k x → j ≡ k
+one_output fs m x j k outputs j_in k_in (from, to) (start, end) = elim (cases_lt j k) [
+  | inl before ↦ absurd (let apart = outputs.apart j k before k_in in omega arith)
+  | inr above ↦ elim (cases_lt k j) [
+    | inl behind ↦ absurd (let apart = outputs.apart k j behind j_in in omega arith)
+    | inr below ↦ omega arith
+  ]
+]
+
+-- an address is in the content of a member or not
+member_or : (fs : List ObjectValue) (m : LinkMapValue) (k i x : ℕ) → IsDecided (IsInMember fs m k i x)
+member_or fs m k i x =
+    let p = member_at (output_at m k) i in
+    elim (cases_lt x (member_address m p)) [
+      | inl before ↦ inr (λ (from, to). omega arith)
+      | inr from ↦ elim (cases_lt x (member_address m p + length (content_in fs p.file p.section))) [
+        | inl to ↦ inl (from, to)
+        | inr behind ↦ inr (λ (start, to). omega arith)
+      ]
+    ]
+
+module _ (fs : List ObjectValue) (m : LinkMapValue) (rules : List RelocRule) (stand : StandApart fs m) (outputs : OutputsStand fs m)
+    (within : Never (field_out_of_range fs rules)) (apart : Never (fields_overlap fs rules)) where
+  -- a field lies in the content of its target
+  field_content : (x : ℕ) → HasFieldAt fs m rules x → HasContentAt fs m x
+  field_content x (p, r, k, (has, k_in, at)) =
+      let (a, there) = begins fs m rules stand within apart p r has in
+      let here : address_in m p.file (target_at fs p) ≡ a = ap or_zero there in
+      let fits = within_of fs m rules stand within apart p r has in
+      (p.file, target_at fs p, field_start fs p + k, (omega arith, (a, there, omega arith)))
+
+  -- a content lies in the output that its section is a member of
+  content_output : (x f s j : ℕ) → IsInContent fs m x f s j → (k i : ℕ) × IsMemberAt m f s k i × IsInOutputAt m k x
+  content_output x f s j (j_in, (a, there, at)) =
+      let (k, i, member) = outputs.holds f s a there in
+      let (from, to) = section_within fs m f s a k i outputs there member in
+      let fits = content_fits (section_in fs f s).body in
+      (k, i, member, (omega arith, omega arith))
+
+  in_output : (x : ℕ) → HasContentAt fs m x → IsInOutput m x
+  in_output x (f, s, j, content) = (let (k, i, member, here) = content_output x f s j content in (k, member.0, here))
+
+  in_memory : (x v : ℕ) → IsMemory fs m rules x v → IsInMemory m x
+  in_memory x v (inl (p, r, k, at, byte)) = inl (in_output x (field_content x (p, r, k, at)))
+  in_memory x v (inr (none, inl (f, s, k, at, byte))) = inl (in_output x (f, s, k, at))
+  in_memory x v (inr (none, inr (outside, area, zero_is))) = area
+
+  zero_by : (x : ℕ) → (HasContentAt fs m x → ⊥) → IsInMemory m x → IsMemory fs m rules x 0
+  zero_by x none area = inr ((λ field. none (field_content x field)), inr (none, area, refl))
+
+  no_content : (x k : ℕ) → k < length m.outputs → IsInOutputAt m k x → IsInNoMember fs m k x → HasContentAt fs m x → ⊥
+  no_content x k k_in here none (f, s, j, (j_in, (a, there, at))) =
+      let (n, i, member, also) = content_output x f s j (j_in, (a, there, at)) in
+      let same = one_output fs m x n k outputs member.0 k_in also here in
+      let (in_k, i_in, is) = subst (λ (l : ℕ). IsMemberAt m f s l i) same member in
+      let address : address_in m f s ≡ a = ap or_zero there in
+      none i i_in (subst (λ (p : Member). (member_address m p ≤ x) × (x < member_address m p + length (content_in fs p.file p.section))) (sym is)
+      (omega arith, omega arith))
+
+  zero_at : (x k : ℕ) → k < length m.outputs → IsInOutputAt m k x → IsInNoMember fs m k x → IsMemory fs m rules x 0
+  zero_at x k k_in here none = zero_by x (no_content x k k_in here none) (inl (k, k_in, here))
+
+  zero_in_commons : (x : ℕ) → IsInCommons m x → IsMemory fs m rules x 0
+  zero_in_commons x (j, k, j_in, k_in, from, to) = zero_by x
+      (λ (f, s, n, content). (
+      let (l, i, member, (start, end)) = content_output x f s n content in
+      let behind = outputs.commons_behind l j member.0 j_in in
+      omega arith))
+      (inr (j, k, j_in, k_in, from, to))
+
+  module _ (placed : Never (unplaced fs m rules)) (marks : AreDiscardMarks fs m.discarded) where
+    member_byte : (x k i : ℕ) → k < length m.outputs → i < length (output_at m k).members → IsInMember fs m k i x → (v : ℕ) × IsMemory fs m rules x v
+    member_byte x k i k_in i_in (from, to) =
+        let p = member_at (output_at m k) i in
+        let live = (outputs.members k k_in).live i i_in in
+        let a = member_address m p in
+        let (v, memory) = content_byte fs m rules stand within apart placed p.file p.section a (x - a) marks live.0 live.2 ((outputs.members k k_in).begins i i_in) (omega arith) in
+        let whole : a + (x - a) ≡ x = omega arith in
+        (v, subst (λ (y : ℕ). IsMemory fs m rules y v) whole memory)
+
+    byte_there : (x : ℕ) → IsInMemory m x → (v : ℕ) × IsMemory fs m rules x v
+    byte_there x (inr commons) = (0, zero_in_commons x commons)
+    byte_there x (inl (k, k_in, here)) = elim (some_below (λ i. IsInMember fs m k i x) (length (output_at m k).members) (λ i i_in. member_or fs m k i x)) [
+      | inl (i, i_in, there) ↦ member_byte x k i k_in i_in there
+      | inr none ↦ (0, zero_at x k k_in here (λ i i_in there. none (i, i_in, there)))
+    ]
+
+-- ---- the laws
+
+pub field_in_content : (fs : List ObjectValue) (m : LinkMapValue) (rules : List RelocRule) → IsMapOfSome fs m →
+    FirstAmong (applied_entry_rules fs m rules) None → (x : ℕ) → HasFieldAt fs m rules x → HasContentAt fs m x
+field_in_content fs m rules (opt, is, sound) clean =
+    field_content fs m rules (parts_apart opt fs m is) (outputs_stand opt fs m is) clean.1.1.0 clean.1.1.1.0
+
+pub memory_in : (fs : List ObjectValue) (m : LinkMapValue) (rules : List RelocRule) → IsMapOfSome fs m →
+    FirstAmong (applied_entry_rules fs m rules) None → (x v : ℕ) → IsMemory fs m rules x v → IsInMemory m x
+memory_in fs m rules (opt, is, sound) clean = in_memory fs m rules (parts_apart opt fs m is) (outputs_stand opt fs m is) clean.1.1.0 clean.1.1.1.0
+
+pub some_byte : (fs : List ObjectValue) (m : LinkMapValue) (rules : List RelocRule) → IsMapOfSome fs m →
+    FirstAmong (applied_entry_rules fs m rules) None → (x : ℕ) → IsInMemory m x → (v : ℕ) × IsMemory fs m rules x v
+some_byte fs m rules (opt, (l, placed, of), sound) clean =
+    byte_there fs m rules (parts_apart opt fs m (l, placed, of)) (outputs_stand opt fs m (l, placed, of)) clean.1.1.0 clean.1.1.1.0 clean.1.0 of.discarded
+
+pub memory_there : (fs : List ObjectValue) (m : LinkMapValue) (rules : List RelocRule) (l : LinkedValue) → IsMapOfSome fs m → IsLinked fs m rules l →
+    (x : ℕ) → IsInMemory m x → (v : ℕ) × IsMemory fs m rules x v
+memory_there fs m rules l is linked = some_byte fs m rules is linked.sound
+
+pub memory_zero : (fs : List ObjectValue) (m : LinkMapValue) (rules : List RelocRule) → IsMapOfSome fs m →
+    FirstAmong (applied_entry_rules fs m rules) None → (x k : ℕ) → k < length m.outputs → IsInOutputAt m k x → IsInNoMember fs m k x → IsMemory fs m rules x 0
+memory_zero fs m rules (opt, is, sound) clean = zero_at fs m rules (parts_apart opt fs m is) (outputs_stand opt fs m is) clean.1.1.0 clean.1.1.1.0
+
+pub memory_bytes : (fs : List ObjectValue) (m : LinkMapValue) (rules : List RelocRule) → HaveBytes fs → (x v : ℕ) → IsMemory fs m rules x v → v < 256
+memory_bytes fs m rules have x v (inl (p, r, k, at, (z, number, is))) =
+    let n = size_of r.width in
+    let small = IsBytes-bytes_of (object_at fs p.file).order n (modulo n z) k in
+    omega arith
+memory_bytes fs m rules have x v (inr (none, inl (f, s, k, at, is))) = (let small = have f s k in omega arith)
+memory_bytes fs m rules have x v (inr (none, inr (outside, area, is))) = omega arith

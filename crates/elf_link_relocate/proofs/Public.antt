@@ -1,0 +1,3 @@
+-- What the proofs of the crates above may cite: the laws of src/laws.rt, each under its name there.
+pub use Rattle.elf_link_relocate.proofs.MemoryLaws.{field_in_content, memory_bytes, memory_in, memory_there, memory_zero, some_byte}
+pub use Rattle.elf_link_relocate.proofs.OneByte.{one_byte}

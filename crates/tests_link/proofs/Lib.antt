@@ -1,0 +1,2 @@
+-- Lemmas of these tests.
+mod Outputs

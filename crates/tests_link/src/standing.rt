@@ -1,0 +1,80 @@
+//! Where outputs stand, as code asks that knows it by the laws: no difference is below 0, and no page has a rest.
+ghost use Rattle.std.specs.Prelude.{None};
+ghost use Rattle.elf_link_map.specs.LinkFaults.{FirstOfLink};
+ghost use Rattle.elf_link_map.specs.LinkMap.{IsLinkMap};
+
+use crate::worked::{list, mapped, object, options, section};
+use elf_link_map::{LinkMap, Options, are_objects, are_paged, outputs_stand};
+use elf_object_type::{Body, Object, ObjectFault};
+use std::alloc::{AllocError, Global};
+use std::test::Fail;
+
+/// The bytes between each output and the next one.
+fn gaps(
+    alloc: Global,
+    objects: &[Object<'_>],
+    options: &Options<'_>,
+    link: &LinkMap<'_>,
+) -> Result<Vec<u64>, AllocError>
+    requires { IsLinkMap options.now objects.now link.now }
+{
+    outputs_stand();
+    let outputs = link.outputs();
+    let mut gaps = Vec::new(alloc);
+    for k in 1..outputs.len() {
+        let end = outputs[k - 1].address + outputs[k - 1].length;
+        let gap = outputs[k].address - end;
+        gaps.push(gap)?;
+    }
+    Ok(gaps)
+}
+
+/// How many pages lie below each output.
+fn pages_below(
+    alloc: Global,
+    objects: &[Object<'_>],
+    options: &Options<'_>,
+    link: &LinkMap<'_>,
+) -> Result<Vec<u64>, AllocError>
+    requires map { IsLinkMap options.now objects.now link.now }
+    requires sound { FirstOfLink options.now objects.now None }
+{
+    are_objects(objects);
+    are_paged();
+    let outputs = link.outputs();
+    let page = link.page();
+    let mut pages = Vec::new(alloc);
+    for k in 0..outputs.len() {
+        let rest = outputs[k].address % page;
+        prove!(rest == 0);
+        let number = outputs[k].address / page;
+        pages.push(number)?;
+    }
+    Ok(pages)
+}
+
+/// Code, data, and memory without bits.
+fn three_kinds(alloc: Global) -> Result<Object<'static>, ObjectFault> {
+    let sections = list(
+        alloc,
+        [
+            section(b".text", 6, 1, Body::Bits(1, b"\xe8\0\0\0\0\xc3")),
+            section(b".data", 3, 8, Body::Bits(1, b"\x2a")),
+            section(b".bss", 3, 4, Body::NoBits(0x1800)),
+        ],
+    )?;
+    object(alloc, sections, Vec::new(alloc))
+}
+
+#[test]
+fn outputs_stand_at_pages(rt: HostRuntime) -> Result<(), Fail> {
+    let alloc = rt.alloc();
+    let objects = [three_kinds(alloc)?];
+    let options = options(0x1000, 0x1000, None);
+    let link = mapped(alloc, &objects, &options)?;
+    let between = gaps(alloc, &objects, &options, &link)?;
+    let pages = pages_below(alloc, &objects, &options, &link)?;
+    assert_eq!(rt; between.as_slice(), [0xffa, 0xfff].as_slice());
+    assert_eq!(rt; pages.as_slice(), [1, 2, 3].as_slice());
+    Ok(())
+}
