@@ -82,19 +82,13 @@ fn larger(most: u64, other: u64) -> u64
     if most < other { other } else { most }
 }
 
-/// The commons of a name, where one more is known.
-fn joined(
-    name: &[u8],
-    objects: &[Object<'_>],
-    file: usize,
-    index: usize,
-    block: Option<Block>,
-) -> Block
+/// The commons of a name, where this symbol is one more.
+fn joined(objects: &[Object<'_>], file: usize, index: usize, block: Option<Block>) -> Block
     requires file { file < length objects.now }
     requires index { index < length (object_at objects.now file).symbols }
-    requires common { IsCommon objects.now name.now file index }
-    requires before { IsCommonBest objects.now name.now file index block }
-    ensures { IsBlock objects.now name.now file (index + 1) result }
+    requires common { IsCommon objects.now (symbol_in objects.now file index).name file index }
+    requires before { IsCommonBest objects.now (symbol_in objects.now file index).name file index block }
+    ensures { IsBlock objects.now (symbol_in objects.now file index).name file (index + 1) result }
 {
     let symbol = symbol_of(objects, file, index);
     match block {
@@ -111,9 +105,8 @@ fn joined(
     }
 }
 
-/// The commons of a name, past one more symbol.
+/// The commons of a symbol's name, past the symbol.
 fn common_past(
-    name: &[u8],
     objects: &[Object<'_>],
     file: usize,
     index: usize,
@@ -121,37 +114,30 @@ fn common_past(
 ) -> Option<Block>
     requires file { file < length objects.now }
     requires index { index < length (object_at objects.now file).symbols }
-    requires before { IsCommonBest objects.now name.now file index block }
-    ensures { IsCommonBest objects.now name.now file (index + 1) result }
+    requires before { IsCommonBest objects.now (symbol_in objects.now file index).name file index block }
+    ensures { IsCommonBest objects.now (symbol_in objects.now file index).name file (index + 1) result }
 {
-    if !is_common_entry(name, objects, file, index) {
+    if !is_common_entry(objects, file, index) {
         return block;
     }
-    Some(joined(name, objects, file, index, block))
+    Some(joined(objects, file, index, block))
 }
 
-/// Whether a name has an entry that is not weak, past one more symbol.
-fn not_weak_past(
-    name: &[u8],
-    objects: &[Object<'_>],
-    file: usize,
-    index: usize,
-    found: bool,
-) -> bool
+/// Whether a symbol's name has an entry that is not weak, past the symbol.
+fn not_weak_past(objects: &[Object<'_>], file: usize, index: usize, found: bool) -> bool
     requires file { file < length objects.now }
     requires index { index < length (object_at objects.now file).symbols }
-    requires before { IsTrue found ↔ SomeBefore (not_weak_row objects.now name.now) file index }
-    ensures { IsTrue result ↔ SomeBefore (not_weak_row objects.now name.now) file (index + 1) }
+    requires before { IsTrue found ↔ SomeBefore (not_weak_row objects.now (symbol_in objects.now file index).name) file index }
+    ensures { IsTrue result ↔ SomeBefore (not_weak_row objects.now (symbol_in objects.now file index).name) file (index + 1) }
 {
-    if is_not_weak(name, objects, file, index) {
+    if is_not_weak(objects, file, index) {
         return true;
     }
     found
 }
 
-/// What is known of a name, past one more symbol.
+/// What is known of a symbol's name, past the symbol.
 fn known_past(
-    name: &[u8],
     objects: &[Object<'_>],
     marks: &[Vec<bool>],
     file: usize,
@@ -161,18 +147,18 @@ fn known_past(
     requires file { file < length objects.now }
     requires index { index < length (object_at objects.now file).symbols }
     requires marks { AreDiscardMarks objects.now (map (λ row. row.items) marks.now) }
-    requires before { IsKnownBefore objects.now name.now file index known }
-    ensures known { IsKnownBefore objects.now name.now file (index + 1) result }
+    requires before { IsKnownBefore objects.now (symbol_in objects.now file index).name file index known }
+    ensures known { IsKnownBefore objects.now (symbol_in objects.now file index).name file (index + 1) result }
     ensures first { result.first ≡ known.first }
 {
-    let strong = is_definition(STB_GLOBAL, name, objects, marks, file, index);
-    let weak = is_definition(STB_WEAK, name, objects, marks, file, index);
+    let strong = is_definition(STB_GLOBAL, objects, marks, file, index);
+    let weak = is_definition(STB_WEAK, objects, marks, file, index);
     Known {
         first: known.first,
         strong: first_of(known.strong, strong, file, index),
         weak: first_of(known.weak, weak, file, index),
-        common: common_past(name, objects, file, index, known.common),
-        not_weak: not_weak_past(name, objects, file, index, known.not_weak),
+        common: common_past(objects, file, index, known.common),
+        not_weak: not_weak_past(objects, file, index, known.not_weak),
     }
 }
 
@@ -239,13 +225,13 @@ fn pass_symbol<'a>(
     match place {
         Some(k) => {
             let known = known_item(&names.known, k);
-            names.known[k] = known_past(name, objects, marks, file, index, known);
+            names.known[k] = known_past(objects, marks, file, index, known);
         }
         None => {
             let known = unknown(file, index);
             names
                 .known
-                .push(known_past(name, objects, marks, file, index, known))?;
+                .push(known_past(objects, marks, file, index, known))?;
         }
     }
     Ok(())

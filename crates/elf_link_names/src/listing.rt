@@ -92,10 +92,10 @@ fn is_chosen(objects: &[Object<'_>], names: &KnownNames<'_>, file: usize, index:
     requires names { AreAllKnown objects.now (position_by names.now.positions) names.now.known.items }
     ensures { IsTrue result ↔ IsChosen objects.now file index }
 {
-    let name = symbol_of(objects, file, index).name;
-    if !is_common_entry(name, objects, file, index) {
+    if !is_common_entry(objects, file, index) {
         return false;
     }
+    let name = symbol_of(objects, file, index).name;
     match find(objects, names, name) {
         Some(known) => is_chosen_of(known, file, index),
         None => false,

@@ -92,7 +92,7 @@ fn has_two_definitions(
     ensures { IsTrue result ↔ HasTwoDefinitions objects.now file index }
 {
     let name = symbol_of(objects, file, index).name;
-    is_definition(STB_GLOBAL, name, objects, marks, file, index)
+    is_definition(STB_GLOBAL, objects, marks, file, index)
         && has_earlier(name, objects, names, file, index)
 }
 
