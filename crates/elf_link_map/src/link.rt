@@ -95,8 +95,15 @@ pub fn map<'a, S: BuildHasher + Drop>(
         objects,
         &judged.marks,
         &judged.names,
+        &judged.numbers,
     )?;
     let outputs = outputs_of(alloc, objects, &live, hasher)?;
-    let chosen = chosen_commons(alloc, objects, &judged.marks, &judged.names)?;
+    let chosen = chosen_commons(
+        alloc,
+        objects,
+        &judged.marks,
+        &judged.names,
+        &judged.numbers,
+    )?;
     placed_map(alloc, objects, options, judged, &outputs, &chosen)
 }
