@@ -3,5 +3,6 @@ pub mod LinkMap
 pub mod Entry
 pub mod LinkMapView
 pub mod Naming
+pub mod BindingNumbers
 pub mod Apart
 pub mod LinkFaults

@@ -4,7 +4,7 @@ use Rattle.elf_link_files.specs.declared.site.Site.{Site}
 use Rattle.elf_link_files.specs.Listing.{Lists}
 use Rattle.elf_link_names.specs.ChosenCommons.{HaveChosen}
 use Rattle.elf_link_outputs.specs.Outputs.{live}
-use Rattle.elf_link_map.proofs.link.map.Goals as goal
+use Rattle.elf_link_map.proofs.link.map_numbered.Goals as goal
 
 pub outputs_of-requires : goal.outputs_of-requires
 outputs_of-requires g c = record {
