@@ -3,12 +3,12 @@ use Rattle.std.proofs.Common.{◌≡◌, ◌≢◌, ℕ, ◌<◌, Bool, true, fa
 use Rattle.std.specs.Global.{Vec}
 use Rattle.std.specs.Prelude.{cond, Option, None, Some}
 use Rattle.std.specs.Str.{bytes_eq}
-use Rattle.std.proofs.lemmas.List.{get_or-map, get_or_default, length-map}
 use Rattle.std.proofs.lemmas.Slice.Eq.{bytes_eq-Decides}
 use Rattle.elf_field.specs.Abi.{STB_LOCAL}
 use Rattle.elf_object_type.specs.Object.{ObjectValue, binding}
 use Rattle.elf_link_files.specs.Files.{object_at, symbol_in}
-use Rattle.elf_link_names.specs.NameNumbers.{AreNameNumbers, AreNumberRows, IsNumberRow, KeepsPositions}
+use Rattle.elf_link_files.proofs.Public.{table_read}
+use Rattle.elf_link_names.specs.NameNumbers.{AreNameNumbers, AreNumberRows, IsNameNumber, IsNumberRow, KeepsPositions}
 
 -- ---- a name keeps its position
 
@@ -45,11 +45,4 @@ pub number_read : (fs : List ObjectValue) (position : List ℕ → Option ℕ) (
     AreNameNumbers fs position (map (λ r. r.items) rows) → position (symbol_in fs f i).name ≡ Some k
 unfolding AreNameNumbers
 number_read fs position rows row f i k f_in i_in not_local row_is k_is are =
-    let many = length-map rows (λ (r : Vec ℕ). r.items) in
-    let files = are.count in
-    let f_row : f < length rows = omega arith in
-    let here : get_or (map (λ (r : Vec ℕ). r.items) rows) f [] ≡ row.items = get_or-map (λ (r : Vec ℕ). r.items) rows f row [] f_row ∙ ap (λ (r : Vec ℕ). r.items) (sym row_is) in
-    let count = are.each f f_in in
-    let long : length row.items ≡ length (object_at fs f).symbols = ap (λ (xs : List ℕ). length xs) (sym here) ∙ count.count in
-    let i_row : i < length row.items = omega arith in
-    count.each i i_in not_local ∙ ap (λ (n : ℕ). Some n) (ap (λ (xs : List ℕ). get_or xs i 0) here ∙ get_or_default row.items i 0 k i_row ∙ sym k_is)
+    table_read 0 (IsNameNumber fs position) (λ g. length (object_at fs g).symbols) (length fs) rows row f i k f_in i_in row_is k_is are not_local
