@@ -29,5 +29,5 @@ mod values;
 
 pub use laws::one_byte;
 pub use linked::{Identity, Linked};
-pub use relocating::relocate;
+pub use relocating::{relocate, relocate_numbered};
 pub use values::binding_value;
