@@ -3,7 +3,7 @@
 -- the one at its file's index, and its symbols stand in its sections; and that two values are one or not.
 pub use Rattle.elf_link_files.proofs.Earlier.{first_earlier, first_same}
 pub use Rattle.elf_link_files.proofs.FirstSite.{first_in_row}
-pub use Rattle.elf_link_files.proofs.Items.{each_more, one_each}
+pub use Rattle.elf_link_files.proofs.Items.{each_more, one_each, table_read}
 pub use Rattle.elf_link_files.proofs.Listings.{listed_more, listed_past, lists_more, lists_same, once_of, one_before, position_before, site_is}
 pub use Rattle.elf_link_files.proofs.ObjectFacts.{object_is, symbol_placed}
 pub use Rattle.elf_link_files.proofs.OneSite.{one_first, one_found, one_site_list}

@@ -49,32 +49,31 @@ pub(crate) fn is_bad_common(objects: &[Object<'_>], file: usize, index: usize) -
     is_common(symbol.place) && (symbol.binding() != STB_GLOBAL || is_no_power(symbol.value))
 }
 
-/// Whether a symbol has the name and is not local.
-pub(crate) fn is_entry(name: &[u8], objects: &[Object<'_>], file: usize, index: usize) -> bool
+/// Whether a symbol is an entry of its name: not local.
+pub(crate) fn is_entry(objects: &[Object<'_>], file: usize, index: usize) -> bool
     requires file { file < length objects.now }
     requires index { index < length (object_at objects.now file).symbols }
-    ensures { IsTrue result ↔ IsEntry objects.now name.now file index }
+    ensures { IsTrue result ↔ IsEntry objects.now (symbol_in objects.now file index).name file index }
 {
-    let symbol = symbol_of(objects, file, index);
-    symbol.binding() != STB_LOCAL && symbol.name == name
+    symbol_of(objects, file, index).binding() != STB_LOCAL
 }
 
-/// Whether a symbol is a common of the name.
-pub fn is_common_entry(name: &[u8], objects: &[Object<'_>], file: usize, index: usize) -> bool
+/// Whether a symbol is a common of its name.
+pub fn is_common_entry(objects: &[Object<'_>], file: usize, index: usize) -> bool
     requires file { file < length objects.now }
     requires index { index < length (object_at objects.now file).symbols }
-    ensures { IsTrue result ↔ IsCommon objects.now name.now file index }
+    ensures { IsTrue result ↔ IsCommon objects.now (symbol_in objects.now file index).name file index }
 {
-    is_entry(name, objects, file, index) && is_common(symbol_of(objects, file, index).place)
+    is_entry(objects, file, index) && is_common(symbol_of(objects, file, index).place)
 }
 
-/// Whether a symbol is an entry of the name that is not weak.
-pub fn is_not_weak(name: &[u8], objects: &[Object<'_>], file: usize, index: usize) -> bool
+/// Whether a symbol is an entry of its name that is not weak.
+pub fn is_not_weak(objects: &[Object<'_>], file: usize, index: usize) -> bool
     requires file { file < length objects.now }
     requires index { index < length (object_at objects.now file).symbols }
-    ensures { IsTrue result ↔ IsNotWeak objects.now name.now file index }
+    ensures { IsTrue result ↔ IsNotWeak objects.now (symbol_in objects.now file index).name file index }
 {
-    is_entry(name, objects, file, index) && symbol_of(objects, file, index).binding() != STB_WEAK
+    is_entry(objects, file, index) && symbol_of(objects, file, index).binding() != STB_WEAK
 }
 
 /// Whether a place is a definition: absolute, or in a section that is not discarded.
@@ -91,10 +90,9 @@ fn is_defined_at(objects: &[Object<'_>], marks: &[Vec<bool>], file: usize, place
     }
 }
 
-/// Whether a symbol is a definition of the name, of this binding.
+/// Whether a symbol is a definition of its name, of this binding.
 pub fn is_definition(
     bound: u8,
-    name: &[u8],
     objects: &[Object<'_>],
     marks: &[Vec<bool>],
     file: usize,
@@ -103,11 +101,9 @@ pub fn is_definition(
     requires file { file < length objects.now }
     requires index { index < length (object_at objects.now file).symbols }
     requires marks { AreDiscardMarks objects.now (map (λ row. row.items) marks.now) }
-    ensures { IsTrue result ↔ IsDefinition bound objects.now name.now file index }
+    ensures { IsTrue result ↔ IsDefinition bound objects.now (symbol_in objects.now file index).name file index }
 {
     keeps_rules(objects, file);
     let symbol = symbol_of(objects, file, index);
-    symbol.name == name
-        && symbol.binding() == bound
-        && is_defined_at(objects, marks, file, symbol.place)
+    symbol.binding() == bound && is_defined_at(objects, marks, file, symbol.place)
 }

@@ -1,6 +1,7 @@
 -- `Public` is for the proofs of the crates above, the others are for those of this one.
 pub mod PlacedCommons
 pub mod Naming
+pub mod BindingNumbers
 pub mod Maps
 pub mod Apart
 pub mod Standing

@@ -3,6 +3,7 @@ pub mod LinkMap
 pub mod Entry
 pub mod LinkMapView
 pub mod Naming
+pub mod BindingNumbers
 pub mod Apart
 pub mod Standing
 pub mod LinkFaults

@@ -10,10 +10,13 @@ use Rattle.elf_link_outputs.specs.Placed.{CommonValue}
 use Rattle.elf_link_map.specs.declared.bindings.Binding.{Binding}
 use Rattle.elf_link_map.specs.LinkMap.{IsBinding, IsCommonNamed, bound_in, no_name}
 
--- the binding of each name stands at its position
+-- the binding of a name stands at this position
+abbrev pub StandsAt : List (List ℕ × Binding) → List ℕ → ℕ → Type 0
+StandsAt bindings name k = (k < length bindings) × (bound_in bindings name ≡ Some (get_or bindings k no_name).1)
+
+-- that of each name stands at its position
 abbrev pub AreBindingPositions : List (List ℕ × Binding) → (List ℕ → Option ℕ) → Type 0
-AreBindingPositions bindings position = (name : List ℕ) →
-    MatchOption (position name) (bound_in bindings name ≡ None) (λ k. (k < length bindings) × (bound_in bindings name ≡ Some (get_or bindings k no_name).1))
+AreBindingPositions bindings position = (name : List ℕ) → MatchOption (position name) (bound_in bindings name ≡ None) (StandsAt bindings name)
 
 -- the name of the symbol at a site, and what it is bound to
 abbrev pub IsNamedAt : List ObjectValue → List CommonValue → Site → List ℕ × Binding → Type 0

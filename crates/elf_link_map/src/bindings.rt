@@ -11,7 +11,7 @@ ghost use Rattle.elf_link_names.specs.Binds.{AllBound};
 ghost use Rattle.elf_link_outputs.specs.PlacedView.{common_value};
 ghost use Rattle.elf_link_map.specs.LinkMap.{AreBindings, AreNames, IsBinding, IsCommonNamed};
 ghost use Rattle.elf_link_map.specs.LinkMapView.{named_value};
-ghost use Rattle.elf_link_map.specs.Naming.{AreCommonPositions, AreNamedAt, IsNamedAt};
+ghost use Rattle.elf_link_map.specs.Naming.{AreBindingPositions, AreCommonPositions, AreNamedAt, IsNamedAt};
 ghost use Rattle.elf_link_map.specs.Naming.{HaveCommons};
 
 use crate::names::{Named, Names};
@@ -178,6 +178,7 @@ pub(crate) fn all_bindings<'a>(
     requires bound { AllBound objects.now }
     ensures bindings { IfOk result (AreBindings objects.now (map common_value commons.now)) }
     ensures names { IfOk result (AreNames objects.now) }
+    ensures positions { IfOk result (λ all. AreBindingPositions all (position_by names.entry.positions)) }
 {
     let index = common_positions(alloc, commons)?;
     let list = names_of(alloc, objects, commons, &index, &names.known)?;

@@ -6,16 +6,19 @@ ghost use Rattle.elf_link_files.specs.Commons.{AreSymbols};
 ghost use Rattle.elf_link_files.specs.Rows.{FirstAmong};
 ghost use Rattle.elf_link_names.specs.LinkRules.{input_rules};
 ghost use Rattle.elf_link_names.specs.KnownNames.{AreAllKnown};
+ghost use Rattle.elf_link_names.specs.NameNumbers.{AreNameNumbers};
 ghost use Rattle.elf_link_names.specs.Naming.{position_by};
 ghost use Rattle.elf_link_names.specs.ChosenCommons.{AreChosen};
 ghost use Rattle.elf_link_names.specs.ChosenCommons.{HaveChosen};
 ghost use Rattle.elf_link_outputs.specs.Plan.{AreOutputs, flat};
 ghost use Rattle.elf_link_outputs.specs.Planning.{AreAllIn, AreLive, AreSome};
 ghost use Rattle.elf_link_map.specs.LinkFaults.{FirstOfLink, IsLinkFault};
+ghost use Rattle.elf_link_map.specs.BindingNumbers.{AreBindingNumbers};
 ghost use Rattle.elf_link_map.specs.LinkMap.{IsLinkMap};
 
 use crate::bindings::all_bindings;
 use crate::link_map::LinkMap;
+use crate::numbers::NumberedMap;
 use crate::target::entry_target;
 use elf_link_files::{Chosen, LinkFault, Options, Site};
 use elf_link_names::judge::{Judged, judge};
@@ -28,7 +31,7 @@ use elf_object_type::Object;
 use std::alloc::Global;
 use std::hash::BuildHasher;
 
-/// The link map of objects that break none of rules 1 to 9, with these outputs and commons.
+/// The link map of objects that break none of rules 1 to 9, with these outputs and commons, and the numbers of the names.
 fn placed_map<'a>(
     alloc: Global,
     objects: &[Object<'a>],
@@ -36,11 +39,12 @@ fn placed_map<'a>(
     judged: Judged<'a>,
     outputs: &[Vec<Site>],
     chosen: &[Chosen],
-) -> Result<LinkMap<'a>, LinkFault>
+) -> Result<NumberedMap<'a>, LinkFault>
     requires clean { FirstAmong (input_rules options.now objects.now) None }
     requires options { FirstAmong (option_rules options.now objects.now) None }
     requires marks { AreDiscardMarks objects.now (map_list (λ row. row.items) judged.marks.items) }
     requires names { AreAllKnown objects.now (position_by judged.names.positions) judged.names.known.items }
+    requires numbers { AreNameNumbers objects.now (position_by judged.names.positions) (map_list (λ row. row.items) judged.numbers.items) }
     requires outputs { AreOutputs objects.now (map_list (λ ms. ms.items) outputs.now) }
     requires within { AreAllIn objects.now (map_list (λ ms. ms.items) outputs.now) }
     requires some { AreSome (map_list (λ ms. ms.items) outputs.now) }
@@ -49,7 +53,8 @@ fn placed_map<'a>(
     requires symbols { AreSymbols objects.now chosen.now }
     requires all { HaveChosen objects.now chosen.now }
     ensures sound { OnOk result (FirstOfLink options.now objects.now None) }
-    ensures map { IfOk result (λ m. IsLinkMap options.now objects.now m) }
+    ensures map { IfOk result (λ numbered. IsLinkMap options.now objects.now numbered.map) }
+    ensures numbers { IfOk result (λ numbered. AreBindingNumbers objects.now numbered.map (map_list (λ row. row.items) numbered.numbers.items)) }
     ensures err { IfErr result (IsLinkFault options.now objects.now) }
 {
     let sites = placed(alloc, outputs)?;
@@ -60,7 +65,7 @@ fn placed_map<'a>(
     let outputs = placed_outputs(alloc, objects, outputs, &parts, &addressed.places)?;
     let commons = placed_commons(alloc, objects, chosen, &addressed.places, sites.len())?;
     let names = all_bindings(alloc, objects, judged.names, &commons)?;
-    Ok(LinkMap {
+    let map = LinkMap {
         addresses,
         discarded: judged.marks,
         names,
@@ -69,7 +74,45 @@ fn placed_map<'a>(
         base: options.base,
         page: options.page,
         entry: addressed.entry,
+    };
+    Ok(NumberedMap {
+        map,
+        numbers: judged.numbers,
     })
+}
+
+/// The link map of these objects, as [`map`] answers it, with the number of the name of each symbol, which its making takes anyway.
+///
+/// Answers what `map` does where one of the link's rules stands, or memory is refused.
+pub fn map_numbered<'a, S: BuildHasher + Drop>(
+    alloc: Global,
+    objects: &[Object<'a>],
+    options: &Options<'_>,
+    hasher: S,
+) -> Result<NumberedMap<'a>, LinkFault>
+    ensures sound { OnOk result (FirstOfLink options.now objects.now None) }
+    ensures map { IfOk result (λ numbered. IsLinkMap options.now objects.now numbered.map) }
+    ensures numbers { IfOk result (λ numbered. AreBindingNumbers objects.now numbered.map (map_list (λ row. row.items) numbered.numbers.items)) }
+    ensures err { IfErr result (IsLinkFault options.now objects.now) }
+{
+    let judged = judge(alloc, objects, options)?;
+    let live = all_listed(
+        alloc,
+        Listed::LiveSections,
+        objects,
+        &judged.marks,
+        &judged.names,
+        &judged.numbers,
+    )?;
+    let outputs = outputs_of(alloc, objects, &live, hasher)?;
+    let chosen = chosen_commons(
+        alloc,
+        objects,
+        &judged.marks,
+        &judged.names,
+        &judged.numbers,
+    )?;
+    placed_map(alloc, objects, options, judged, &outputs, &chosen)
 }
 
 /// The link map of these objects: where each live section and each common stands, and what each name is bound to.
@@ -88,15 +131,5 @@ pub fn map<'a, S: BuildHasher + Drop>(
     ensures map { IfOk result (λ m. IsLinkMap options.now objects.now m) }
     ensures err { IfErr result (IsLinkFault options.now objects.now) }
 {
-    let judged = judge(alloc, objects, options)?;
-    let live = all_listed(
-        alloc,
-        Listed::LiveSections,
-        objects,
-        &judged.marks,
-        &judged.names,
-    )?;
-    let outputs = outputs_of(alloc, objects, &live, hasher)?;
-    let chosen = chosen_commons(alloc, objects, &judged.marks, &judged.names)?;
-    placed_map(alloc, objects, options, judged, &outputs, &chosen)
+    Ok(map_numbered(alloc, objects, options, hasher)?.map)
 }

@@ -1,10 +1,11 @@
 //! The link map: where everything stands, and what each name is bound to (gABI chapter 4, Sections, Symbol Table).
-ghost use Rattle.std.specs.Prelude.{◌≡◌, map};
+ghost use Rattle.std.specs.Prelude.{◌≡◌, MatchOption, None, map};
 ghost use Rattle.elf_link_files.specs.Discarded.{mark};
 ghost use Rattle.elf_link_outputs.specs.Placed.{cell};
 ghost use Rattle.elf_link_outputs.specs.PlacedView.{common_value, output_value};
 ghost use Rattle.elf_link_map.specs.LinkMap.{bound_in};
 ghost use Rattle.elf_link_map.specs.LinkMapView.{named_value};
+ghost use Rattle.elf_link_map.specs.Naming.{StandsAt};
 
 use crate::bindings::Binding;
 use crate::names::{Named, Names};
@@ -57,6 +58,13 @@ impl<'a> LinkMap<'a> {
         ensures { result ≡ bound_in self.now.bindings name.now }
     {
         self.names.binding(name)
+    }
+
+    /// Where a name stands among [`LinkMap::names`]; None where it is not there.
+    pub(crate) fn position(&self, name: &[u8]) -> Option<usize>
+        ensures { MatchOption result (bound_in self.now.bindings name.now ≡ None) (StandsAt self.now.bindings name.now) }
+    {
+        self.names.position(name)
     }
 
     /// Every name that a symbol has that is not local, with what it is bound to, in the order of the first such symbol of each,

@@ -1,9 +1,9 @@
 //! The names of a link map, with what each is bound to (gABI chapter 4, Symbol Table).
-ghost use Rattle.std.specs.Prelude.{◌≡◌, map};
+ghost use Rattle.std.specs.Prelude.{◌≡◌, MatchOption, None, map};
 ghost use Rattle.elf_link_names.specs.Naming.{position_by};
 ghost use Rattle.elf_link_map.specs.LinkMap.{bound_in};
 ghost use Rattle.elf_link_map.specs.LinkMapView.{named_value};
-ghost use Rattle.elf_link_map.specs.Naming.{AreBindingPositions};
+ghost use Rattle.elf_link_map.specs.Naming.{AreBindingPositions, StandsAt};
 
 use crate::bindings::Binding;
 use std::collections::BTreeMap;
@@ -54,6 +54,13 @@ impl<'a> Names<'a> {
         ensures { map named_value result.now ≡ self.now }
     {
         &self.list
+    }
+
+    /// The position of a name; None where it is not there.
+    pub(crate) fn position(&self, name: &[u8]) -> Option<usize>
+        ensures { MatchOption result (bound_in self.now name.now ≡ None) (StandsAt self.now name.now) }
+    {
+        self.positions.get(name).copied()
     }
 
     /// What a name is bound to; None where it is not there.

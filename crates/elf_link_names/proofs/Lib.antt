@@ -4,5 +4,6 @@ pub mod ChosenCommons
 pub mod BoundNames
 pub mod Naming
 pub mod Tabled
+pub mod NameNumbers
 pub mod OneChoice
 pub mod Public

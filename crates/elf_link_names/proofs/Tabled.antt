@@ -8,7 +8,6 @@ use Rattle.std.specs.Str.{bytes_eq}
 use Rattle.std.proofs.lemmas.Bool.{cases_eq, cases_lt}
 use Rattle.std.proofs.lemmas.List.{get_or-map, get_or_push, get_or-set_other, get_or-set_same, length-map, length-set, map-append}
 use Rattle.std.proofs.lemmas.Map.Text.{is_eq-slice_cmp}
-use Rattle.std.proofs.lemmas.Slice.Eq.{bytes_eq-Decides}
 use Rattle.std.proofs.Math.ListN.{get_or-append}
 use Rattle.std.proofs.Math.Seq.{map-set_same}
 use Rattle.elf_field.specs.Abi.{STB_GLOBAL, STB_LOCAL, STB_WEAK}
@@ -382,14 +381,6 @@ names_file fs f position ks is = record {
 
 pub as_looked : (r s : Option ℕ) (n q : List ℕ) (x : ℕ) → r ≡ cond (is_eq (slice_cmp nat_cmp n q)) (Some x) s → r ≡ cond (bytes_eq n q) (Some x) s
 as_looked r s n q x is = is ∙ ap (λ (e : Bool). cond e (Some x) s) (is_eq-slice_cmp n q)
-
--- a name that has a position gets another one, and then its own again: every name is where it was
-pub stays_looked : (p : List ℕ → Option ℕ) (r s : Option ℕ) (n q : List ℕ) (other place : ℕ) → p n ≡ Some place → r ≡ cond (bytes_eq n q) (Some other) (p q) →
-    s ≡ cond (bytes_eq n q) (Some place) r → s ≡ p q
-stays_looked p r s n q other place found once again = by_name (bytes_eq n q) refl once again where
-  by_name : (same : Bool) → bytes_eq n q ≡ same → r ≡ cond same (Some other) (p q) → s ≡ cond same (Some place) r → s ≡ p q
-  by_name true is once again = again ∙ sym found ∙ ap p ((bytes_eq-Decides n q).0 is)
-  by_name false is once again = again ∙ once
 
 -- ---- all symbols
 

@@ -6,3 +6,4 @@ pub mod LinkRules
 pub mod ChosenCommons
 pub mod Naming
 pub mod KnownNames
+pub mod NameNumbers

@@ -1,11 +1,15 @@
 //! What a name is bound to (gABI chapter 4, Symbol Table).
-ghost use Rattle.std.specs.Prelude.{◌≡◌, ◌<◌, MatchOption, length};
+ghost use Rattle.std.specs.Prelude.{◌≡◌, ◌≢◌, ◌<◌, MatchOption, length, map};
 ghost use Rattle.std.specs.Option.{option_map};
 ghost use Rattle.elf_extent.specs.Least.{Never};
 ghost use Rattle.elf_link_files.specs.Rows.{IsFirstAt};
 ghost use Rattle.elf_link_names.specs.Binds.{Binds, IsUnbound, entries, strong};
 ghost use Rattle.elf_link_names.specs.KnownNames.{AreAllKnown, IsKnownWhole, Makes, known_at, spot_site};
+ghost use Rattle.elf_link_names.specs.NameNumbers.{AreNameNumbers};
 ghost use Rattle.elf_link_names.specs.Naming.{position_by};
+ghost use Rattle.elf_field.specs.Abi.{STB_LOCAL};
+ghost use Rattle.elf_link_files.specs.Files.{object_at, symbol_in};
+ghost use Rattle.elf_object_type.specs.Object.{binding as binding_of};
 
 use crate::choice::Choice;
 use crate::known_names::{Known, KnownNames, Spot};
@@ -31,6 +35,25 @@ pub(crate) fn find(_objects: &[Object<'_>], names: &KnownNames<'_>, name: &[u8])
     }
 }
 
+/// What is known of the name of the symbol at `index` of a file, which is not local.
+#[tactic(auto, unfolding(crate::specs::NameNumbers::AreNameNumbers))]
+pub(crate) fn known_of(
+    _objects: &[Object<'_>],
+    names: &KnownNames<'_>,
+    numbers: &[Vec<usize>],
+    file: usize,
+    index: usize,
+) -> Known
+    requires file { file < length _objects.now }
+    requires index { index < length (object_at _objects.now file).symbols }
+    requires entry { binding_of (symbol_in _objects.now file index) ≢ STB_LOCAL }
+    requires names { AreAllKnown _objects.now (position_by names.now.positions) names.now.known.items }
+    requires numbers { AreNameNumbers _objects.now (position_by names.now.positions) (map (λ row. row.items) numbers.now) }
+    ensures { IsKnownWhole _objects.now (symbol_in _objects.now file index).name result }
+{
+    known_item(&names.known, numbers[file][index])
+}
+
 /// A spot as a site.
 fn site_of(spot: Option<Spot>) -> Option<Site>
     ensures { result ≡ option_map spot_site spot }
@@ -41,19 +64,22 @@ fn site_of(spot: Option<Spot>) -> Option<Site>
     }
 }
 
-/// The first global definition of a name.
+/// The first global definition of the name of the symbol at `index` of a file, which is not local.
 pub(crate) fn first_strong(
     objects: &[Object<'_>],
     names: &KnownNames<'_>,
-    name: &[u8],
+    numbers: &[Vec<usize>],
+    file: usize,
+    index: usize,
 ) -> Option<Site>
-    requires { AreAllKnown objects.now (position_by names.now.positions) names.now.known.items }
-    ensures { MatchOption result (Never (strong objects.now name.now)) (IsFirstAt (strong objects.now name.now)) }
+    requires file { file < length objects.now }
+    requires index { index < length (object_at objects.now file).symbols }
+    requires entry { binding_of (symbol_in objects.now file index) ≢ STB_LOCAL }
+    requires names { AreAllKnown objects.now (position_by names.now.positions) names.now.known.items }
+    requires numbers { AreNameNumbers objects.now (position_by names.now.positions) (map (λ row. row.items) numbers.now) }
+    ensures { MatchOption result (Never (strong objects.now (symbol_in objects.now file index).name)) (IsFirstAt (strong objects.now (symbol_in objects.now file index).name)) }
 {
-    match find(objects, names, name) {
-        Some(known) => site_of(known.strong),
-        None => None,
-    }
+    site_of(known_of(objects, names, numbers, file, index).strong)
 }
 
 /// What a name makes of what is known of it; None where it is bound to nothing.

@@ -5,6 +5,7 @@ ghost use Rattle.elf_link_files.specs.FileRules.{option_rules};
 ghost use Rattle.elf_link_files.specs.Rows.{FirstAmong};
 ghost use Rattle.elf_link_names.specs.LinkRules.{IsInputFault, input_rules};
 ghost use Rattle.elf_link_names.specs.KnownNames.{AreAllKnown};
+ghost use Rattle.elf_link_names.specs.NameNumbers.{AreNameNumbers};
 ghost use Rattle.elf_link_names.specs.Naming.{position_by};
 
 use crate::file_rules::{judge_options, judge_sections, judge_symbols};
@@ -22,6 +23,8 @@ pub struct Judged<'a> {
     pub marks: Vec<Vec<bool>>,
     /// What is known of all names.
     pub names: KnownNames<'a>,
+    /// For each symbol of each file that is not local the position of its name among the known ones.
+    pub numbers: Vec<Vec<usize>>,
 }
 
 /// What is known of the files, where they break none of rules 1 to 9.
@@ -37,13 +40,18 @@ pub fn judge<'a>(
     ensures options { OnOk result (FirstAmong (option_rules options.now objects.now) None) }
     ensures marks { IfOk result (λ judged. AreDiscardMarks objects.now (map (λ row. row.items) judged.marks.items)) }
     ensures names { IfOk result (λ judged. AreAllKnown objects.now (position_by judged.names.positions) judged.names.known.items) }
+    ensures numbers { IfOk result (λ judged. AreNameNumbers objects.now (position_by judged.names.positions) (map (λ row. row.items) judged.numbers.items)) }
     ensures err { IfErr result (IsInputFault options.now objects.now) }
 {
     judge_options(options, objects)?;
     let marks = discarded(alloc, objects)?;
     judge_sections(objects, &marks)?;
     judge_symbols(objects, &marks)?;
-    let names = known_names(alloc, objects, &marks)?;
-    judge_names(objects, &marks, &names)?;
-    Ok(Judged { marks, names })
+    let (names, numbers) = known_names(alloc, objects, &marks)?;
+    judge_names(objects, &marks, &names, &numbers)?;
+    Ok(Judged {
+        marks,
+        names,
+        numbers,
+    })
 }

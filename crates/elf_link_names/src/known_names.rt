@@ -7,6 +7,7 @@ ghost use Rattle.elf_link_files.specs.Discarded.{AreDiscardMarks};
 ghost use Rattle.elf_link_files.specs.Files.{object_at, symbol_in};
 ghost use Rattle.elf_link_names.specs.Binds.{not_weak as not_weak_row};
 ghost use Rattle.elf_link_names.specs.KnownNames.{AreAllKnown, AreKnownBefore, IsBlock, IsCommonBest, IsKnownBefore, IsLargerOf, SomeBefore, first_or, spot_in};
+ghost use Rattle.elf_link_names.specs.NameNumbers.{AreNameNumbers, IsNameNumber, IsNumberRow, KeepsPositions};
 ghost use Rattle.elf_link_names.specs.Naming.{position_by};
 ghost use Rattle.elf_field.specs.Abi.{STB_LOCAL};
 ghost use Rattle.elf_link_files.specs.Symbols.{IsCommon};
@@ -82,19 +83,13 @@ fn larger(most: u64, other: u64) -> u64
     if most < other { other } else { most }
 }
 
-/// The commons of a name, where one more is known.
-fn joined(
-    name: &[u8],
-    objects: &[Object<'_>],
-    file: usize,
-    index: usize,
-    block: Option<Block>,
-) -> Block
+/// The commons of a name, where this symbol is one more.
+fn joined(objects: &[Object<'_>], file: usize, index: usize, block: Option<Block>) -> Block
     requires file { file < length objects.now }
     requires index { index < length (object_at objects.now file).symbols }
-    requires common { IsCommon objects.now name.now file index }
-    requires before { IsCommonBest objects.now name.now file index block }
-    ensures { IsBlock objects.now name.now file (index + 1) result }
+    requires common { IsCommon objects.now (symbol_in objects.now file index).name file index }
+    requires before { IsCommonBest objects.now (symbol_in objects.now file index).name file index block }
+    ensures { IsBlock objects.now (symbol_in objects.now file index).name file (index + 1) result }
 {
     let symbol = symbol_of(objects, file, index);
     match block {
@@ -111,9 +106,8 @@ fn joined(
     }
 }
 
-/// The commons of a name, past one more symbol.
+/// The commons of a symbol's name, past the symbol.
 fn common_past(
-    name: &[u8],
     objects: &[Object<'_>],
     file: usize,
     index: usize,
@@ -121,37 +115,30 @@ fn common_past(
 ) -> Option<Block>
     requires file { file < length objects.now }
     requires index { index < length (object_at objects.now file).symbols }
-    requires before { IsCommonBest objects.now name.now file index block }
-    ensures { IsCommonBest objects.now name.now file (index + 1) result }
+    requires before { IsCommonBest objects.now (symbol_in objects.now file index).name file index block }
+    ensures { IsCommonBest objects.now (symbol_in objects.now file index).name file (index + 1) result }
 {
-    if !is_common_entry(name, objects, file, index) {
+    if !is_common_entry(objects, file, index) {
         return block;
     }
-    Some(joined(name, objects, file, index, block))
+    Some(joined(objects, file, index, block))
 }
 
-/// Whether a name has an entry that is not weak, past one more symbol.
-fn not_weak_past(
-    name: &[u8],
-    objects: &[Object<'_>],
-    file: usize,
-    index: usize,
-    found: bool,
-) -> bool
+/// Whether a symbol's name has an entry that is not weak, past the symbol.
+fn not_weak_past(objects: &[Object<'_>], file: usize, index: usize, found: bool) -> bool
     requires file { file < length objects.now }
     requires index { index < length (object_at objects.now file).symbols }
-    requires before { IsTrue found ↔ SomeBefore (not_weak_row objects.now name.now) file index }
-    ensures { IsTrue result ↔ SomeBefore (not_weak_row objects.now name.now) file (index + 1) }
+    requires before { IsTrue found ↔ SomeBefore (not_weak_row objects.now (symbol_in objects.now file index).name) file index }
+    ensures { IsTrue result ↔ SomeBefore (not_weak_row objects.now (symbol_in objects.now file index).name) file (index + 1) }
 {
-    if is_not_weak(name, objects, file, index) {
+    if is_not_weak(objects, file, index) {
         return true;
     }
     found
 }
 
-/// What is known of a name, past one more symbol.
+/// What is known of a symbol's name, past the symbol.
 fn known_past(
-    name: &[u8],
     objects: &[Object<'_>],
     marks: &[Vec<bool>],
     file: usize,
@@ -161,18 +148,18 @@ fn known_past(
     requires file { file < length objects.now }
     requires index { index < length (object_at objects.now file).symbols }
     requires marks { AreDiscardMarks objects.now (map (λ row. row.items) marks.now) }
-    requires before { IsKnownBefore objects.now name.now file index known }
-    ensures known { IsKnownBefore objects.now name.now file (index + 1) result }
+    requires before { IsKnownBefore objects.now (symbol_in objects.now file index).name file index known }
+    ensures known { IsKnownBefore objects.now (symbol_in objects.now file index).name file (index + 1) result }
     ensures first { result.first ≡ known.first }
 {
-    let strong = is_definition(STB_GLOBAL, name, objects, marks, file, index);
-    let weak = is_definition(STB_WEAK, name, objects, marks, file, index);
+    let strong = is_definition(STB_GLOBAL, objects, marks, file, index);
+    let weak = is_definition(STB_WEAK, objects, marks, file, index);
     Known {
         first: known.first,
         strong: first_of(known.strong, strong, file, index),
         weak: first_of(known.weak, weak, file, index),
-        common: common_past(name, objects, file, index, known.common),
-        not_weak: not_weak_past(name, objects, file, index, known.not_weak),
+        common: common_past(objects, file, index, known.common),
+        not_weak: not_weak_past(objects, file, index, known.not_weak),
     }
 }
 
@@ -199,14 +186,11 @@ fn place_name<'a>(
     ensures positions { IfOk result (λ old. (q : List ℕ) → position_by positions.new q ≡
         cond (is_some old) (position_by positions.old q) (cond (bytes_eq name.now q) (Some next) (position_by positions.old q))) }
 {
-    match positions.insert(name, next)? {
-        // One search for a further name; one that stands already gets its position back.
-        Some(place) => {
-            positions.insert(name, place)?;
-            Ok(Some(place))
-        }
-        None => Ok(None),
+    if let Some(place) = positions.get(name) {
+        return Ok(Some(*place));
     }
+    positions.insert(name, next)?;
+    Ok(None)
 }
 
 /// Whether a symbol is local.
@@ -216,73 +200,86 @@ fn is_local(symbol: &Symbol<'_>) -> bool
     symbol.binding() == STB_LOCAL
 }
 
-/// Goes past the symbol at `index` of a file.
+/// Goes past the symbol at `index` of a file, and answers the number of its name; 0 for a local one.
 fn pass_symbol<'a>(
     objects: &[Object<'a>],
     marks: &[Vec<bool>],
     file: usize,
     index: usize,
     names: &mut KnownNames<'a>,
-) -> Result<(), AllocError>
+) -> Result<usize, AllocError>
     requires file { file < length objects.now }
     requires index { index < length (object_at objects.now file).symbols }
     requires marks { AreDiscardMarks objects.now (map (λ row. row.items) marks.now) }
     requires before { AreKnownBefore objects.now file index (position_by names.old.positions) names.old.known.items }
-    ensures { OnOk result (AreKnownBefore objects.now file (index + 1) (position_by names.new.positions) names.new.known.items) }
+    ensures names { OnOk result (AreKnownBefore objects.now file (index + 1) (position_by names.new.positions) names.new.known.items) }
+    ensures number { IfOk result (IsNameNumber objects.now (position_by names.new.positions) file index) }
+    ensures kept { OnOk result (KeepsPositions (position_by names.old.positions) (position_by names.new.positions)) }
 {
     let symbol = symbol_of(objects, file, index);
     let name = symbol.name;
     if is_local(&symbol) {
-        return Ok(());
+        return Ok(0);
     }
-    let place = place_name(&mut names.positions, name, names.known.len())?;
+    let next = names.known.len();
+    let place = place_name(&mut names.positions, name, next)?;
     match place {
         Some(k) => {
             let known = known_item(&names.known, k);
-            names.known[k] = known_past(name, objects, marks, file, index, known);
+            names.known[k] = known_past(objects, marks, file, index, known);
+            Ok(k)
         }
         None => {
             let known = unknown(file, index);
             names
                 .known
-                .push(known_past(name, objects, marks, file, index, known))?;
+                .push(known_past(objects, marks, file, index, known))?;
+            Ok(next)
         }
     }
-    Ok(())
 }
 
-/// Goes past the symbols of a file.
+/// Goes past the symbols of a file, and answers the number of each one's name.
 fn pass_file<'a>(
+    alloc: Global,
     objects: &[Object<'a>],
     marks: &[Vec<bool>],
     file: usize,
     names: &mut KnownNames<'a>,
-) -> Result<(), AllocError>
+) -> Result<Vec<usize>, AllocError>
     requires file { file < length objects.now }
     requires marks { AreDiscardMarks objects.now (map (λ row. row.items) marks.now) }
     requires before { AreKnownBefore objects.now file 0 (position_by names.old.positions) names.old.known.items }
-    ensures { OnOk result (AreKnownBefore objects.now file (length (object_at objects.now file).symbols) (position_by names.new.positions) names.new.known.items) }
+    ensures names { OnOk result (AreKnownBefore objects.now file (length (object_at objects.now file).symbols) (position_by names.new.positions) names.new.known.items) }
+    ensures numbers { IfOk result (λ row. IsNumberRow objects.now (position_by names.new.positions) file (length (object_at objects.now file).symbols) row.items) }
+    ensures kept { OnOk result (KeepsPositions (position_by names.old.positions) (position_by names.new.positions)) }
 {
-    for index in 0..symbol_count(&objects[file]) {
-        pass_symbol(objects, marks, file, index, names)?;
+    let count = symbol_count(&objects[file]);
+    let mut row = Vec::with_capacity(alloc, count)?;
+    for index in 0..count {
+        row.push(pass_symbol(objects, marks, file, index, names)?)?;
     }
-    Ok(())
+    Ok(row)
 }
 
-/// What is known of all names. It takes one search for a name that is new, and two for another.
+/// What is known of all names, and the number of each symbol's name by file and position. It takes one search for a symbol whose name is
+/// known, and two for another.
+#[tactic(auto, unfolding(crate::specs::NameNumbers::AreNameNumbers))]
 pub(crate) fn known_names<'a>(
     alloc: Global,
     objects: &[Object<'a>],
     marks: &[Vec<bool>],
-) -> Result<KnownNames<'a>, AllocError>
+) -> Result<(KnownNames<'a>, Vec<Vec<usize>>), AllocError>
     requires marks { AreDiscardMarks objects.now (map (λ row. row.items) marks.now) }
-    ensures { IfOk result (λ names. AreAllKnown objects.now (position_by names.positions) names.known.items) }
+    ensures names { IfOk result (λ both. AreAllKnown objects.now (position_by both.0.positions) both.0.known.items) }
+    ensures numbers { IfOk result (λ both. AreNameNumbers objects.now (position_by both.0.positions) (map (λ row. row.items) both.1.items)) }
 {
     let positions = BTreeMap::new(alloc);
     let known = Vec::new(alloc);
     let mut names = KnownNames { positions, known };
+    let mut numbers = Vec::with_capacity(alloc, objects.len())?;
     for file in 0..objects.len() {
-        pass_file(objects, marks, file, &mut names)?;
+        numbers.push(pass_file(alloc, objects, marks, file, &mut names)?)?;
     }
-    Ok(names)
+    Ok((names, numbers))
 }

@@ -5,11 +5,12 @@ ghost use Rattle.elf_link_files.specs.Files.{object_at};
 ghost use Rattle.elf_link_files.specs.Listing.{Lists, UpTo};
 ghost use Rattle.elf_link_names.specs.Listing.{IsChosen, IsListed, listed_count, listed_row};
 ghost use Rattle.elf_link_names.specs.KnownNames.{AreAllKnown, IsChosenOf, IsFirstCommonOf};
+ghost use Rattle.elf_link_names.specs.NameNumbers.{AreNameNumbers};
 ghost use Rattle.elf_link_names.specs.Naming.{position_by};
 
-use crate::bind::find;
+use crate::bind::known_of;
 use crate::known_names::{Known, KnownNames, Spot};
-use elf_link_files::files::{section_count, symbol_count, symbol_of};
+use elf_link_files::files::{section_count, symbol_count};
 use elf_link_files::section_tests::is_live;
 use elf_link_files::symbol_tests::is_common_entry;
 use elf_link_files::{Site, site_in};
@@ -42,6 +43,7 @@ impl Listed {
         objects: &[Object<'_>],
         marks: &[Vec<bool>],
         names: &KnownNames<'_>,
+        numbers: &[Vec<usize>],
         file: usize,
         index: usize,
     ) -> bool
@@ -49,11 +51,12 @@ impl Listed {
         requires index { index < listed_count self (object_at objects.now file) }
         requires marks { AreDiscardMarks objects.now (map (λ row. row.items) marks.now) }
         requires names { AreAllKnown objects.now (position_by names.now.positions) names.now.known.items }
+        requires numbers { AreNameNumbers objects.now (position_by names.now.positions) (map (λ row. row.items) numbers.now) }
         ensures { IsTrue result ↔ IsListed objects.now self file index }
     {
         match self {
             Listed::LiveSections => is_live(objects, marks, file, index),
-            Listed::ChosenCommons => is_chosen(objects, names, file, index),
+            Listed::ChosenCommons => is_chosen(objects, names, numbers, file, index),
         }
     }
 }
@@ -86,20 +89,23 @@ fn is_chosen_of(known: Known, file: usize, index: usize) -> bool
 }
 
 /// Whether a symbol is the first common of its name, which has no global definition.
-fn is_chosen(objects: &[Object<'_>], names: &KnownNames<'_>, file: usize, index: usize) -> bool
+fn is_chosen(
+    objects: &[Object<'_>],
+    names: &KnownNames<'_>,
+    numbers: &[Vec<usize>],
+    file: usize,
+    index: usize,
+) -> bool
     requires file { file < length objects.now }
     requires index { index < length (object_at objects.now file).symbols }
     requires names { AreAllKnown objects.now (position_by names.now.positions) names.now.known.items }
+    requires numbers { AreNameNumbers objects.now (position_by names.now.positions) (map (λ row. row.items) numbers.now) }
     ensures { IsTrue result ↔ IsChosen objects.now file index }
 {
-    let name = symbol_of(objects, file, index).name;
-    if !is_common_entry(name, objects, file, index) {
+    if !is_common_entry(objects, file, index) {
         return false;
     }
-    match find(objects, names, name) {
-        Some(known) => is_chosen_of(known, file, index),
-        None => false,
-    }
+    is_chosen_of(known_of(objects, names, numbers, file, index), file, index)
 }
 
 /// Adds the section or symbol at `index` of a file to what is listed before it, where it is listed.
@@ -108,6 +114,7 @@ fn push_site(
     objects: &[Object<'_>],
     marks: &[Vec<bool>],
     names: &KnownNames<'_>,
+    numbers: &[Vec<usize>],
     file: usize,
     index: usize,
     sites: &mut Vec<Site>,
@@ -116,10 +123,11 @@ fn push_site(
     requires index { index < listed_count what (object_at objects.now file) }
     requires marks { AreDiscardMarks objects.now (map (λ row. row.items) marks.now) }
     requires names { AreAllKnown objects.now (position_by names.now.positions) names.now.known.items }
+    requires numbers { AreNameNumbers objects.now (position_by names.now.positions) (map (λ row. row.items) numbers.now) }
     requires before { Lists (UpTo (listed_row objects.now what) file index) sites.old.items }
     ensures { OnOk result (Lists (UpTo (listed_row objects.now what) file (index + 1)) sites.new.items) }
 {
-    if !what.has(objects, marks, names, file, index) {
+    if !what.has(objects, marks, names, numbers, file, index) {
         return Ok(());
     }
     sites.push(site_in(file, index))?;
@@ -132,17 +140,19 @@ fn push_file(
     objects: &[Object<'_>],
     marks: &[Vec<bool>],
     names: &KnownNames<'_>,
+    numbers: &[Vec<usize>],
     file: usize,
     sites: &mut Vec<Site>,
 ) -> Result<(), AllocError>
     requires file { file < length objects.now }
     requires marks { AreDiscardMarks objects.now (map (λ row. row.items) marks.now) }
     requires names { AreAllKnown objects.now (position_by names.now.positions) names.now.known.items }
+    requires numbers { AreNameNumbers objects.now (position_by names.now.positions) (map (λ row. row.items) numbers.now) }
     requires before { Lists (UpTo (listed_row objects.now what) file 0) sites.old.items }
     ensures { OnOk result (Lists (UpTo (listed_row objects.now what) file (listed_count what (object_at objects.now file))) sites.new.items) }
 {
     for index in 0..what.count(&objects[file]) {
-        push_site(what, objects, marks, names, file, index, sites)?;
+        push_site(what, objects, marks, names, numbers, file, index, sites)?;
     }
     Ok(())
 }
@@ -154,14 +164,16 @@ pub fn all_listed(
     objects: &[Object<'_>],
     marks: &[Vec<bool>],
     names: &KnownNames<'_>,
+    numbers: &[Vec<usize>],
 ) -> Result<Vec<Site>, AllocError>
     requires marks { AreDiscardMarks objects.now (map (λ row. row.items) marks.now) }
     requires names { AreAllKnown objects.now (position_by names.now.positions) names.now.known.items }
+    requires numbers { AreNameNumbers objects.now (position_by names.now.positions) (map (λ row. row.items) numbers.now) }
     ensures { IfOk result (λ sites. Lists (listed_row objects.now what) sites.items) }
 {
     let mut sites = Vec::new(alloc);
     for file in 0..objects.len() {
-        push_file(what, objects, marks, names, file, &mut sites)?;
+        push_file(what, objects, marks, names, numbers, file, &mut sites)?;
     }
     Ok(sites)
 }

@@ -6,6 +6,7 @@ mod Collected
 mod Bodies
 mod Firsts
 mod Grids
+mod NameValues
 mod Marked
 mod AtFields
 mod Patches

@@ -2,7 +2,7 @@
 pub mod Entries
 pub mod Fields
 pub mod Values
-pub mod SymbolValues
+pub mod NameValues
 pub mod Numbers
 pub mod RelocationRules
 pub mod MapFacts

@@ -31,5 +31,5 @@ pub use laws::{
     field_in_content, memory_bytes, memory_in, memory_there, memory_zero, one_byte, some_byte,
 };
 pub use linked::{Identity, Linked};
-pub use relocating::relocate;
+pub use relocating::{relocate, relocate_numbered};
 pub use values::binding_value;

@@ -3,11 +3,13 @@ use elf_link_field::RelocRule;
 use elf_link_map::LinkMap;
 use elf_object_type::Object;
 
-/// The objects of a link, their map, the relocation rules, and the value of each symbol by file and position.
+/// The objects of a link, their map, the relocation rules, the number of each symbol's name by file and position, and the value of
+/// each name by its number.
 #[derive(Drop)]
 pub(crate) struct Linking<'l, 'a> {
     pub objects: &'l [Object<'a>],
     pub map: &'l LinkMap<'a>,
     pub rules: &'l [RelocRule],
-    pub values: Vec<Vec<Option<u128>>>,
+    pub numbers: &'l [Vec<usize>],
+    pub values: Vec<Option<u128>>,
 }

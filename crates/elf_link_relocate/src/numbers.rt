@@ -10,6 +10,7 @@ ghost use Rattle.elf_link_relocate.specs.Values.{IsSmall, reference_value, value
 use crate::entries::{content, entry_of, is_rela, target_of};
 use crate::field::Field;
 use crate::linking::Linking;
+use crate::values::resolved_value;
 use elf_link_field::addend_in;
 use elf_link_map::files::keeps_rules;
 
@@ -22,7 +23,7 @@ fn reference(linking: &Linking<'_, '_>, file: usize, symbol: Option<usize>) -> O
     ensures small { IsSmall result }
 {
     match symbol {
-        Some(index) => linking.values[file][index],
+        Some(index) => resolved_value(linking, file, index),
         None => Some(0),
     }
 }

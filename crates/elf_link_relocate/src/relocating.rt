@@ -1,5 +1,6 @@
 //! The relocation of a link.
-ghost use Rattle.std.specs.Prelude.{IfErr, IfOk};
+ghost use Rattle.std.specs.Prelude.{IfErr, IfOk, map as map_list};
+ghost use Rattle.elf_link_map.specs.BindingNumbers.{AreBindingNumbers};
 ghost use Rattle.elf_link_relocate.specs.Linked.{IsLinked};
 ghost use Rattle.elf_link_relocate.specs.MapFacts.{IsMapOfSome};
 ghost use Rattle.elf_link_relocate.specs.RelocationRules.{IsRelocationFault};
@@ -9,25 +10,25 @@ use crate::judge::judged_fields;
 use crate::linked::Linked;
 use crate::linking::Linking;
 use crate::patching::patch_all;
-use crate::values::all_values;
+use crate::values::name_values;
 use elf_link_field::RelocRule;
-use elf_link_map::{LinkFault, LinkMap, parts_apart};
+use elf_link_map::{LinkFault, LinkMap, name_numbers, parts_apart};
 use elf_object_type::Object;
 use std::alloc::Global;
 
-/// The relocated bytes of these objects, whose link map it is: the number of each applied relocation in its field, by the first
-/// relocation rule of its kind.
+/// The relocated bytes of these objects, as [`relocate`] answers them, by the numbers of the names that `map_numbered` of `elf_link_map`
+/// answers beside the map.
 ///
-/// Answers the first of rules 12 to 16 ([`rules`](crate::rules)) that stands, at its first entry by file, section and position; and
-/// [`LinkFault::OutOfMemory`] only where memory is refused: a value for each symbol, a mark for each byte, a copy of each live
-/// section with bits.
-pub fn relocate<'m, 'a>(
+/// Answers what `relocate` does, which takes memory for the numbers too: a number for each symbol.
+pub fn relocate_numbered<'m, 'a>(
     alloc: Global,
     map: &'m LinkMap<'a>,
     objects: &'m [Object<'a>],
     rules: &'m [RelocRule],
+    numbers: &[Vec<usize>],
 ) -> Result<Linked<'m, 'a>, LinkFault>
-    requires { IsMapOfSome objects.now map.now }
+    requires map { IsMapOfSome objects.now map.now }
+    requires numbers { AreBindingNumbers objects.now map.now (map_list (λ row. row.items) numbers.now) }
     ensures linked { IfOk result (λ linked. IsLinked objects.now map.now rules.now linked) }
     ensures err { IfErr result (IsRelocationFault objects.now map.now rules.now) }
 {
@@ -36,7 +37,8 @@ pub fn relocate<'m, 'a>(
         objects,
         map,
         rules,
-        values: all_values(alloc, objects, map)?,
+        numbers,
+        values: name_values(alloc, objects, map)?,
     };
     let fields = judged_fields(alloc, &linking)?;
     let mut copies = all_copies(alloc, objects, map)?;
@@ -47,4 +49,24 @@ pub fn relocate<'m, 'a>(
         rules,
         copies,
     })
+}
+
+/// The relocated bytes of these objects, whose link map it is: the number of each applied relocation in its field, by the first
+/// relocation rule of its kind.
+///
+/// Answers the first of rules 12 to 16 ([`rules`](crate::rules)) that stands, at its first entry by file, section and position; and
+/// [`LinkFault::OutOfMemory`] only where memory is refused: a number for each symbol, a value for each name, a mark for each byte, a
+/// copy of each live section with bits.
+pub fn relocate<'m, 'a>(
+    alloc: Global,
+    map: &'m LinkMap<'a>,
+    objects: &'m [Object<'a>],
+    rules: &'m [RelocRule],
+) -> Result<Linked<'m, 'a>, LinkFault>
+    requires { IsMapOfSome objects.now map.now }
+    ensures linked { IfOk result (λ linked. IsLinked objects.now map.now rules.now linked) }
+    ensures err { IfErr result (IsRelocationFault objects.now map.now rules.now) }
+{
+    let numbers = name_numbers(alloc, objects, map)?;
+    relocate_numbered(alloc, map, objects, rules, &numbers)
 }

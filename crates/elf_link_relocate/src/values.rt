@@ -1,12 +1,17 @@
 //! The values of symbols at the addresses of a link map (gABI chapter 4, Symbol Table: `st_value`).
-ghost use Rattle.std.specs.Prelude.{◌≡◌, ◌+◌, ◌<◌, IfOk, length, map as map_list};
-ghost use Rattle.elf_link_files.specs.Files.{object_at};
+ghost use Rattle.std.specs.Prelude.{◌≡◌, ◌≢◌, ◌+◌, ◌<◌, IfOk, length};
+ghost use Rattle.elf_field.specs.Abi.{STB_LOCAL};
+ghost use Rattle.elf_link_files.specs.Files.{object_at, symbol_in};
+ghost use Rattle.elf_link_map.specs.Naming.{StandsAt};
+ghost use Rattle.elf_object_type.specs.Object.{binding as binding_of};
 ghost use Rattle.elf_object_type.specs.declared.symbol.Place.TheVariants.{In as InSection};
-ghost use Rattle.elf_link_relocate.specs.SymbolValues.{AreValueRows, IsValueRow};
+ghost use Rattle.elf_link_relocate.specs.LinkingFacts.{IsReady, linked_map, linked_objects};
+ghost use Rattle.elf_link_relocate.specs.NameValues.{AreNameValues};
 ghost use Rattle.elf_link_relocate.specs.Values.{IsSmall, binding_value as binding_value_of, definition_value as definition_value_of, name_value as name_value_of, place_value as place_value_of, resolved_value as resolved_value_of};
 
+use crate::linking::Linking;
 use elf_field::abi::*;
-use elf_link_map::files::{symbol_count, symbol_of};
+use elf_link_map::files::symbol_of;
 use elf_link_map::{Binding, LinkMap};
 use elf_object_type::{Object, Place};
 use std::alloc::{AllocError, Global};
@@ -69,66 +74,58 @@ pub fn binding_value(objects: &[Object<'_>], map: &LinkMap<'_>, binding: Binding
     }
 }
 
-/// The value of a name.
-fn name_value(objects: &[Object<'_>], map: &LinkMap<'_>, name: &[u8]) -> Option<u128>
-    ensures value { result ≡ name_value_of objects.now map.now name.now }
+/// The value of each name, in the order of the names of the map.
+pub(crate) fn name_values(
+    alloc: Global,
+    objects: &[Object<'_>],
+    map: &LinkMap<'_>,
+) -> Result<Vec<Option<u128>>, AllocError>
+    ensures { IfOk result (λ values. AreNameValues objects.now map.now (length map.now.bindings) values.items) }
+{
+    let names = map.names();
+    let mut values = Vec::with_capacity(alloc, names.len())?;
+    for k in 0..names.len() {
+        values.push(binding_value(objects, map, names[k].binding))?;
+    }
+    Ok(values)
+}
+
+/// Where the name of the symbol at `index` of a file, which is not local, stands among the names of the map.
+#[tactic(auto, unfolding(elf_link_map::specs::BindingNumbers::AreBindingNumbers))]
+fn name_number(linking: &Linking<'_, '_>, file: usize, index: usize) -> usize
+    requires ready { IsReady linking.now }
+    requires file { file < length (linked_objects linking.now) }
+    requires index { index < length (object_at (linked_objects linking.now) file).symbols }
+    requires entry { binding_of (symbol_in (linked_objects linking.now) file index) ≢ STB_LOCAL }
+    ensures { StandsAt (linked_map linking.now).bindings (symbol_in (linked_objects linking.now) file index).name result }
+{
+    linking.numbers[file][index]
+}
+
+/// The value of the name of the symbol at `index` of a file, which is not local.
+fn name_value(linking: &Linking<'_, '_>, file: usize, index: usize) -> Option<u128>
+    requires ready { IsReady linking.now }
+    requires file { file < length (linked_objects linking.now) }
+    requires index { index < length (object_at (linked_objects linking.now) file).symbols }
+    requires entry { binding_of (symbol_in (linked_objects linking.now) file index) ≢ STB_LOCAL }
+    ensures value { result ≡ name_value_of (linked_objects linking.now) (linked_map linking.now) (symbol_in (linked_objects linking.now) file index).name }
     ensures small { IsSmall result }
 {
-    match map.binding(name) {
-        Some(binding) => binding_value(objects, map, binding),
-        None => None,
-    }
+    linking.values[name_number(linking, file, index)]
 }
 
 /// The value of a symbol: its own where it is local, and else that of its name.
-fn resolved_value(
-    objects: &[Object<'_>],
-    map: &LinkMap<'_>,
-    file: usize,
-    index: usize,
-) -> Option<u128>
-    requires file { file < length objects.now }
-    requires index { index < length (object_at objects.now file).symbols }
-    ensures value { result ≡ resolved_value_of objects.now map.now file index }
+pub(crate) fn resolved_value(linking: &Linking<'_, '_>, file: usize, index: usize) -> Option<u128>
+    requires ready { IsReady linking.now }
+    requires file { file < length (linked_objects linking.now) }
+    requires index { index < length (object_at (linked_objects linking.now) file).symbols }
+    ensures value { result ≡ resolved_value_of (linked_objects linking.now) (linked_map linking.now) file index }
     ensures small { IsSmall result }
 {
-    let symbol = symbol_of(objects, file, index);
+    let symbol = symbol_of(linking.objects, file, index);
     if symbol.binding() == STB_LOCAL {
-        definition_value(objects, map, file, index)
+        definition_value(linking.objects, linking.map, file, index)
     } else {
-        name_value(objects, map, symbol.name)
+        name_value(linking, file, index)
     }
-}
-
-/// The values of a file's symbols.
-fn file_values(
-    alloc: Global,
-    objects: &[Object<'_>],
-    map: &LinkMap<'_>,
-    file: usize,
-) -> Result<Vec<Option<u128>>, AllocError>
-    requires file { file < length objects.now }
-    ensures { IfOk result (λ row. IsValueRow objects.now map.now file (length (object_at objects.now file).symbols) row.items) }
-{
-    let count = symbol_count(&objects[file]);
-    let mut row = Vec::with_capacity(alloc, count)?;
-    for index in 0..count {
-        row.push(resolved_value(objects, map, file, index))?;
-    }
-    Ok(row)
-}
-
-/// The values of all symbols, by file and position.
-pub(crate) fn all_values(
-    alloc: Global,
-    objects: &[Object<'_>],
-    map: &LinkMap<'_>,
-) -> Result<Vec<Vec<Option<u128>>>, AllocError>
-    ensures { IfOk result (λ rows. AreValueRows objects.now map.now (length objects.now) (map_list (λ row. row.items) rows.items)) }
-{
-    let mut rows = Vec::with_capacity(alloc, objects.len())?;
-    for file in 0..objects.len() {
-        rows.push(file_values(alloc, objects, map, file)?)?;
-    }
-    Ok(rows)
 }

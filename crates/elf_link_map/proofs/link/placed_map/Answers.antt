@@ -4,6 +4,7 @@ use Rattle.std.proofs.lemmas.List.{length-map}
 use Rattle.elf_extent.specs.Place.{EndsFit, Least}
 use Rattle.elf_link_files.specs.declared.site.Site.{Site}
 use Rattle.elf_link_files.specs.Rows.{FirstAmong}
+use Rattle.elf_link_names.specs.Naming.{position_by}
 use Rattle.elf_link_names.proofs.Public.{all_bound}
 use Rattle.elf_link_outputs.specs.declared.common.Common.{Common}
 use Rattle.elf_link_outputs.specs.AddressFault.{IsAddressFault}
@@ -16,6 +17,7 @@ use Rattle.elf_link_map.specs.Entry.{IsEntrySymbolTarget}
 use Rattle.elf_link_map.specs.LinkFaults.{IsLinkFault}
 use Rattle.elf_link_map.specs.LinkMap.{AreBindings}
 use Rattle.elf_link_map.specs.Naming.{HaveCommons}
+use Rattle.elf_link_map.proofs.BindingNumbers.{numbers_bound}
 use Rattle.elf_link_map.proofs.PlacedCommons.{have_commons}
 use Rattle.elf_link_map.proofs.Maps.{fault_of, if_err_map, is_placed, link_plan, places_cover, target_below}
 use Rattle.elf_link_map.proofs.link.placed_map.Goals as goal
@@ -133,3 +135,7 @@ returns-clause-map c =
         entry = subst (λ (ps : List (ℕ × ℕ)). HasValue ps opt.base t c.in_ok-addressed.addressed.entry) parts c.in_ok-addressed.ensures.entry;
       },
     )
+
+pub returns-clause-numbers : goal.returns-clause-numbers
+returns-clause-numbers c =
+    numbers_bound c.args.objects.now _ (position_by c.args.judged.names.positions) _ c.requires.numbers c.in_ok-names.ensures.positions

@@ -9,6 +9,7 @@ use Rattle.elf_link_names.proofs.commons.chosen_commons.Goals as goal
 pub chosen_at-requires : goal.chosen_at-requires
 chosen_at-requires c = record {
   names = c.requires.names;
+  numbers = c.requires.numbers;
   sites = subst (λ (ps : List Site). Lists (listed_row c.args.objects.now ChosenCommons) ps) (sym c.deref.ensures.value) c.in_ok-sites.ensures;
 }
 

@@ -1,19 +1,24 @@
 use Rattle.std.proofs.Common.{ℕ, refl, ap, subst}
 use Rattle.elf_object_type.specs.Object.{SymbolValue}
+use Rattle.elf_link_files.specs.Files.{symbol_in}
 use Rattle.elf_link_names.specs.KnownNames.{IsCommonBest, IsLargerOf}
 use Rattle.elf_link_names.proofs.Tabled.{block_more, block_one}
 use Rattle.elf_link_names.proofs.known_names.joined.Goals as goal
 
 pub returns-in-Some : goal.returns-in-Some
 returns-in-Some c =
+    let fs = c.args.objects.now in
     let b = c.in-Some.block in
-    block_more c.args.objects.now c.args.name.now c.args.file c.args.index b _ c.requires.file c.requires.index c.requires.common refl
+    let name = (symbol_in fs c.args.file c.args.index).name in
+    block_more fs name c.args.file c.args.index b _ c.requires.file c.requires.index c.requires.common refl
     (subst (λ (n : ℕ). IsLargerOf b.size n c.larger.result) (ap (λ (s : SymbolValue). s.size) c.symbol_of-symbol.ensures) c.larger.ensures)
     (subst (λ (n : ℕ). IsLargerOf b.align n c.larger-in-Some.result) (ap (λ (s : SymbolValue). s.value) c.symbol_of-symbol.ensures) c.larger-in-Some.ensures)
-    (subst (IsCommonBest c.args.objects.now c.args.name.now c.args.file c.args.index) c.in-Some.is c.requires.before)
+    (subst (IsCommonBest fs name c.args.file c.args.index) c.in-Some.is c.requires.before)
 
 pub returns-in-None : goal.returns-in-None
 returns-in-None c =
-    block_one c.args.objects.now c.args.name.now c.args.file c.args.index _ c.requires.file c.requires.index c.requires.common refl
+    let fs = c.args.objects.now in
+    let name = (symbol_in fs c.args.file c.args.index).name in
+    block_one fs name c.args.file c.args.index _ c.requires.file c.requires.index c.requires.common refl
     (ap (λ (s : SymbolValue). s.size) c.symbol_of-symbol.ensures) (ap (λ (s : SymbolValue). s.value) c.symbol_of-symbol.ensures)
-    (subst (IsCommonBest c.args.objects.now c.args.name.now c.args.file c.args.index) c.in-None.is c.requires.before)
+    (subst (IsCommonBest fs name c.args.file c.args.index) c.in-None.is c.requires.before)

@@ -1,23 +1,31 @@
-use Rattle.std.proofs.Common.{◌≡◌, ℕ, List, length, ap, subst, arith}
-use Rattle.std.specs.Borrow.{Bor}
-use Rattle.std.specs.Cmp.Lexicographic.{slice_cmp}
-use Rattle.std.specs.Map.{lookup}
-use Rattle.std.specs.Ordering.{is_eq, nat_cmp}
+use Rattle.std.proofs.Common.{◌≡◌, ℕ, [], length, map, subst, arith}
+use Rattle.std.proofs.lemmas.List.{map-append}
+use Rattle.elf_link_files.specs.Files.{object_at}
+use Rattle.elf_link_files.proofs.Public.{each_more}
 use Rattle.elf_link_names.specs.KnownNames.{AreKnownBefore}
+use Rattle.elf_link_names.specs.NameNumbers.{IsNumberRow}
 use Rattle.elf_link_names.specs.Naming.{position_by}
-use Rattle.elf_link_names.proofs.Tabled.{names_empty, names_file}
+use Rattle.elf_link_names.proofs.NameNumbers.{rows_kept}
+use Rattle.elf_link_names.proofs.Tabled.{names_file}
 use Rattle.elf_link_names.proofs.known_names.known_names.Goals as goal
 
-pub loop-file-init : goal.loop-file-init
-loop-file-init c =
-    names_empty c.args.objects.now _ _ c.new-known.ensures.items
-    (λ name. ap (λ (es : List (Bor (List ℕ) × ℕ)). lookup (λ (key : Bor (List ℕ)). is_eq (slice_cmp nat_cmp name key.now)) es) c.new-positions.ensures.empty)
-
 pub loop-file-preserved : goal.loop-file-preserved
-loop-file-preserved c = names_file c.args.objects.now c.loop-file.file _ _ c.in_ok-pass_file.ensures
+loop-file-preserved c =
+    let fs = c.args.objects.now in
+    let n = c.loop-file.file in
+    let old = position_by c.loop-file.names.positions in
+    let now = position_by c.pass_file.new.names.positions in
+    let rows = map (λ row. row.items) c.loop-file.numbers.items in
+    let passed = c.in_ok-pass_file.ensures in
+    record {
+      names = names_file fs n _ _ passed.names;
+      numbers = rw (c.in_ok-push.ensures.items, map-append)
+          (each_more [] (λ f. IsNumberRow fs now f (length (object_at fs f).symbols)) n rows c.in_ok-pass_file.field-0.items passed.numbers
+          (rows_kept fs old now n rows passed.kept c.loop-file.invariant.numbers));
+    }
 
-pub returns : goal.returns
-returns c =
+pub returns-clause-names : goal.returns-clause-names
+returns-clause-names c =
     let fs = c.args.objects.now in
     let end : c.loop-file.file ≡ length fs = omega arith in
-    subst (λ (n : ℕ). AreKnownBefore fs n 0 (position_by c.loop-file.names.positions) c.loop-file.names.known.items) end c.loop-file.invariant
+    subst (λ (n : ℕ). AreKnownBefore fs n 0 (position_by c.loop-file.names.positions) c.loop-file.names.known.items) end c.loop-file.invariant.names

@@ -1,3 +1,4 @@
+use Rattle.elf_link_files.specs.Files.{symbol_in}
 use Rattle.elf_link_files.specs.Symbols.{IsStrong, IsWeak}
 use Rattle.elf_link_names.proofs.Tabled.{best_next}
 use Rattle.elf_link_names.proofs.known_names.known_past.Goals as goal
@@ -5,7 +6,7 @@ use Rattle.elf_link_names.proofs.known_names.known_past.Goals as goal
 pub returns-clause-known : goal.returns-clause-known
 returns-clause-known c =
     let fs = c.args.objects.now in
-    let name = c.args.name.now in
+    let name = (symbol_in fs c.args.file c.args.index).name in
     record {
       strong = best_next fs (IsStrong fs name) c.args.file c.args.index c.args.known.strong _ c.is_definition-strong.result c.requires.file c.requires.index
           c.is_definition-strong.ensures c.first_of.ensures c.requires.before.strong;

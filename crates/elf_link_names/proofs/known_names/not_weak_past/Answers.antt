@@ -1,8 +1,11 @@
 use Rattle.std.proofs.Common.{refl}
+use Rattle.elf_link_files.specs.Files.{symbol_in}
 use Rattle.elf_link_files.specs.Symbols.{IsNotWeak}
 use Rattle.elf_link_names.proofs.Tabled.{found_here}
 use Rattle.elf_link_names.proofs.known_names.not_weak_past.Goals as goal
 
 pub returns-then-is_not_weak : goal.returns-then-is_not_weak
 returns-then-is_not_weak c =
-    found_here c.args.objects.now (IsNotWeak c.args.objects.now c.args.name.now) c.args.file c.args.index c.requires.file c.requires.index (c.if-is_not_weak.ensures.0 refl)
+    let fs = c.args.objects.now in
+    let name = (symbol_in fs c.args.file c.args.index).name in
+    found_here fs (IsNotWeak fs name) c.args.file c.args.index c.requires.file c.requires.index (c.if-is_not_weak.ensures.0 refl)

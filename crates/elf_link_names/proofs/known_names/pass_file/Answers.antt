@@ -1,16 +1,35 @@
 use Rattle.std.proofs.Common.{◌≡◌, ℕ, length, ap, subst, arith}
 use Rattle.elf_object_type.specs.Object.{ObjectValue}
 use Rattle.elf_link_files.specs.Files.{object_at}
-use Rattle.elf_link_files.proofs.Public.{object_is}
+use Rattle.elf_link_files.proofs.Public.{each_more, object_is}
 use Rattle.elf_link_names.specs.KnownNames.{AreKnownBefore}
+use Rattle.elf_link_names.specs.NameNumbers.{IsNameNumber}
 use Rattle.elf_link_names.specs.Naming.{position_by}
+use Rattle.elf_link_names.proofs.NameNumbers.{keeps_on, row_kept}
 use Rattle.elf_link_names.proofs.known_names.pass_file.Goals as goal
 
-pub returns : goal.returns
-returns c =
+pub loop-index-preserved : goal.loop-index-preserved
+loop-index-preserved c =
     let fs = c.args.objects.now in
-    let count = c.symbol_count-index-end.ensures in
+    let f = c.args.file in
+    let first = position_by c.args.names.now.positions in
+    let old = position_by c.loop-index.names.positions in
+    let now = position_by c.pass_symbol.new.names.positions in
+    let passed = c.in_ok-pass_symbol.ensures in
+    let before = c.loop-index.invariant in
+    record {
+      names = passed.names;
+      numbers = rw c.in_ok-push.ensures.items
+          (each_more 0 (IsNameNumber fs now f) c.loop-index.index c.loop-index.row.items c.in_ok-pass_symbol.field-0 passed.number
+          (row_kept fs old now f c.loop-index.index c.loop-index.row.items passed.kept before.numbers));
+      kept = keeps_on first old now before.kept passed.kept;
+    }
+
+pub returns-clause-names : goal.returns-clause-names
+returns-clause-names c =
+    let fs = c.args.objects.now in
+    let count = c.symbol_count-count.ensures in
     let same = ap (λ (o : ObjectValue). length o.symbols) (object_is fs c.args.file c.index-objects-file.result c.requires.file c.index-objects-file.is) in
     let past = c.loop-index-test.false in
     let end : c.loop-index.index ≡ length (object_at fs c.args.file).symbols = omega arith in
-    subst (λ (n : ℕ). AreKnownBefore fs c.args.file n (position_by c.loop-index.names.positions) c.loop-index.names.known.items) end c.loop-index.invariant
+    subst (λ (n : ℕ). AreKnownBefore fs c.args.file n (position_by c.loop-index.names.positions) c.loop-index.names.known.items) end c.loop-index.invariant.names

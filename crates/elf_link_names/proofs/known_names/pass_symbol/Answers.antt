@@ -1,29 +1,34 @@
-use Rattle.std.proofs.Common.{◌≡◌, ◌+◌, ℕ, List, true, false, length, refl, rules, sym, ◌∙◌, ap, subst}
+use Rattle.std.proofs.Common.{◌≡◌, ℕ, List, true, false, length, refl, rules, sym, ◌∙◌, ap, subst}
 use Rattle.std.specs.Prelude.{cond, None, Some}
 use Rattle.std.specs.Str.{bytes_eq}
 use Rattle.elf_field.specs.Abi.{STB_LOCAL}
 use Rattle.elf_object_type.specs.Object.{SymbolValue, binding}
+use Rattle.elf_link_files.specs.Files.{symbol_in}
 use Rattle.elf_link_names.specs.declared.known_names.Known.{Known}
 use Rattle.elf_link_names.specs.KnownNames.{IsKnownBefore, known_at}
 use Rattle.elf_link_names.specs.Naming.{position_by}
+use Rattle.elf_link_names.proofs.NameNumbers.{keeps_new}
 use Rattle.elf_link_names.proofs.Tabled.{known_none, none_placed, names_again, names_local, names_new}
 use Rattle.elf_link_names.proofs.known_names.pass_symbol.Goals as goal
 
-pub returns-then-is_local : goal.returns-then-is_local
-returns-then-is_local c =
+pub returns-then-is_local-clause-names : goal.returns-then-is_local-clause-names
+returns-then-is_local-clause-names c =
     names_local c.args.objects.now c.args.file c.args.index (position_by c.args.names.now.positions) c.args.names.now.known.items
     (subst (λ (s : SymbolValue). binding s ≡ STB_LOCAL) c.symbol_of-symbol.ensures (c.if-is_local.ensures.0 refl)) c.requires.before
 
 pub known_past-requires-in-None-clause-before : goal.known_past-requires-in-None-clause-before
 known_past-requires-in-None-clause-before c =
     let fs = c.args.objects.now in
-    let name = c.symbol_of-symbol.result.name.now in
+    let same = ap (λ (s : SymbolValue). s.name) c.symbol_of-symbol.ensures in
+    let name = (symbol_in fs c.args.file c.args.index).name in
+    let old = position_by c.args.names.now.positions in
     subst (IsKnownBefore fs name c.args.file c.args.index) (sym c.unknown-known.ensures)
     (known_none fs name c.args.file c.args.index
-    (none_placed fs c.args.file c.args.index (position_by c.args.names.now.positions) c.args.names.now.known.items name (sym c.in_ok-place.ensures.old ∙ c.in-None.is) c.requires.before))
+    (none_placed fs c.args.file c.args.index old c.args.names.now.known.items name
+    (subst (λ (n : List ℕ). old n ≡ None) same (sym c.in_ok-place.ensures.old ∙ c.in-None.is)) c.requires.before))
 
-pub returns-in-Some : goal.returns-in-Some
-returns-in-Some c =
+pub returns-in-Some-clause-names : goal.returns-in-Some-clause-names
+returns-in-Some-clause-names c =
     let fs = c.args.objects.now in
     let same = ap (λ (s : SymbolValue). s.name) c.symbol_of-symbol.ensures in
     let old = position_by c.args.names.now.positions in
@@ -31,17 +36,17 @@ returns-in-Some c =
     (λ q. rw c.in-Some.is at (c.in_ok-place.ensures.positions q))
     (subst (λ (n : List ℕ). old n ≡ Some c.in-Some.k) same (sym c.in_ok-place.ensures.old ∙ c.in-Some.is))
     (c.known_past.ensures.first ∙ ap (λ (k : Known). k.first) (c.known_item-known.ensures ∙ ap (λ (ks : List Known). known_at ks c.in-Some.k) c.deref.ensures.value))
-    (subst (λ (n : List ℕ). IsKnownBefore fs n c.args.file (c.args.index + 1) c.known_past.result) same c.known_past.ensures.known) c.requires.before
+    c.known_past.ensures.known c.requires.before
 
-pub returns-in_ok-push-in-None : goal.returns-in_ok-push-in-None
-returns-in_ok-push-in-None c =
+pub returns-in_ok-push-in-None-clause-names : goal.returns-in_ok-push-in-None-clause-names
+returns-in_ok-push-in-None-clause-names c =
     let fs = c.args.objects.now in
     let ks = c.args.names.now.known.items in
     let name = c.symbol_of-symbol.result.name.now in
     let same = ap (λ (s : SymbolValue). s.name) c.symbol_of-symbol.ensures in
     let old = position_by c.args.names.now.positions in
     let now = position_by c.place_name.new.positions in
-    let long : c.len.result ≡ length ks = search rules in
+    let long : c.len-next.result ≡ length ks = search rules in
     rw c.in_ok-push-in-None.ensures.items
     (names_new fs c.args.file c.args.index old now ks c.known_past-in-None.result c.requires.file c.requires.index
     (λ local. (let never : false ≡ true = c.if-is_local.ensures.1 (subst (λ (s : SymbolValue). binding s ≡ STB_LOCAL) (sym c.symbol_of-symbol.ensures) local) in cc))
@@ -49,4 +54,9 @@ returns-in_ok-push-in-None c =
     (subst (λ (m : ℕ). (q : List ℕ) → now q ≡ cond (bytes_eq name q) (Some m) (old q)) long (λ q. rw c.in-None.is at (c.in_ok-place.ensures.positions q))))
     (subst (λ (n : List ℕ). old n ≡ None) same (sym c.in_ok-place.ensures.old ∙ c.in-None.is))
     (c.known_past-in-None.ensures.first ∙ ap (λ (k : Known). k.first) c.unknown-known.ensures)
-    (subst (λ (n : List ℕ). IsKnownBefore fs n c.args.file (c.args.index + 1) c.known_past-in-None.result) same c.known_past-in-None.ensures.known) c.requires.before)
+    c.known_past-in-None.ensures.known c.requires.before)
+
+pub returns-in_ok-push-in-None-clause-kept : goal.returns-in_ok-push-in-None-clause-kept
+returns-in_ok-push-in-None-clause-kept c =
+    keeps_new (position_by c.args.names.now.positions) (position_by c.place_name.new.positions) c.symbol_of-symbol.result.name.now c.len-next.result
+    (sym c.in_ok-place.ensures.old ∙ c.in-None.is) (λ q. rw c.in-None.is at (c.in_ok-place.ensures.positions q))

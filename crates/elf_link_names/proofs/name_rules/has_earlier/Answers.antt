@@ -1,4 +1,5 @@
 use Rattle.std.proofs.Common.{◌≡◌, true, false, refl}
+use Rattle.elf_link_files.specs.Files.{symbol_in}
 use Rattle.elf_link_files.proofs.Public.{first_earlier}
 use Rattle.elf_link_names.specs.Binds.{strong}
 use Rattle.elf_link_names.proofs.name_rules.has_earlier.Goals as goal
@@ -9,7 +10,7 @@ returns-in-Some c =
     let p = c.in-Some.site in
     let first = c.in-Some.ensures in (
       (λ yes. (p.file, p.index, c.is_earlier.ensures.0 yes, first.stands.0, first.stands.1, first.stands.2)),
-      (λ (e, h, before, file, index, is). c.is_earlier.ensures.1 (first_earlier (strong fs c.args.name.now) p e h c.args.file c.args.index first (file, index, is, refl) before)),
+      (λ (e, h, before, file, index, is). c.is_earlier.ensures.1 (first_earlier (strong fs (symbol_in fs c.args.file c.args.index).name) p e h c.args.file c.args.index first (file, index, is, refl) before)),
     )
 
 pub returns-in-None : goal.returns-in-None

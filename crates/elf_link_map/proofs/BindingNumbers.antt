@@ -1,0 +1,35 @@
+-- The number of each symbol's name, from that among the known names, or by a search.
+use Rattle.std.proofs.Common.{◌≡◌, ◌≢◌, ℕ, ◌<◌, List, [], get_or, length, refl, subst}
+use Rattle.std.specs.Prelude.{None, Option, MatchOption}
+use Rattle.elf_field.specs.Abi.{STB_LOCAL}
+use Rattle.elf_object_type.specs.Object.{ObjectValue, binding}
+use Rattle.elf_extent.specs.Least.{Never}
+use Rattle.elf_link_files.specs.declared.options.Options.{Options}
+use Rattle.elf_link_files.specs.Files.{object_at, symbol_in}
+use Rattle.elf_link_files.specs.Listing.{site}
+use Rattle.elf_link_names.specs.Binds.{entries}
+use Rattle.elf_link_names.specs.NameNumbers.{AreNameNumbers}
+use Rattle.elf_link_map.specs.declared.bindings.Binding.{Binding}
+use Rattle.elf_link_map.specs.BindingNumbers.{AreBindingNumbers}
+use Rattle.elf_link_map.specs.LinkMap.{IsBinding, IsLinkMap, LinkMapValue, bound_in}
+use Rattle.elf_link_map.specs.Naming.{AreBindingPositions}
+use Rattle.elf_link_map.proofs.Naming.{position_found}
+
+pub numbers_bound : (fs : List ObjectValue) (m : LinkMapValue) (position : List ℕ → Option ℕ) (rows : List (List ℕ)) → AreNameNumbers fs position rows →
+    AreBindingPositions m.bindings position → AreBindingNumbers fs m rows
+unfolding AreNameNumbers AreBindingNumbers
+numbers_bound fs m position rows are at = record {
+  count = are.count;
+  each = λ f f_in. record {
+    count = (are.each f f_in).count;
+    each = λ i i_in not_local. position_found m.bindings position (symbol_in fs f i).name (get_or (get_or rows f []) i 0) ((are.each f f_in).each i i_in not_local) at;
+  };
+}
+
+-- the name of a symbol that is not local stands in the link map
+pub entry_bound : (fs : List ObjectValue) (m : LinkMapValue) (f i : ℕ) → ((opt : Options) × IsLinkMap opt fs m) → f < length fs →
+    i < length (object_at fs f).symbols → binding (symbol_in fs f i) ≢ STB_LOCAL → bound_in m.bindings (symbol_in fs f i).name ≡ None → ⊥
+entry_bound fs m f i (opt, (l, plan, is)) f_in i_in not_local none =
+    let name = (symbol_in fs f i).name in
+    let never = subst (λ (o : Option Binding). MatchOption o (Never (entries fs name)) (IsBinding fs m.commons name)) none (is.bindings name) in
+    never (site f i) (f_in, i_in, (not_local, refl), refl)
