@@ -29,10 +29,10 @@ pub record_in_part : {A : Type 0} {size : ℕ} {at : Order → List ℕ → ℕ 
     IsRecord size at bytes V → (o : Order) (b : List ℕ) (start len x : ℕ) → x + size ≤ len → at o (take len (drop start b)) x ≡ at o b (start + x)
 record_in_part {size = size} {at = at} laws o b start len x within =
     let rest : take size (drop x (take len (drop start b))) ≡ take size (drop (start + x) b) =
-        ap (λ (n : ℕ). take size (drop x (take n (drop start b)))) (let e : len ≡ x + (len - x) = omega arith in e)
-        ∙ ap (take size) (drop-take x (len - x) (drop start b))
-        ∙ take-take size (len - x) (drop x (drop start b)) (omega arith)
-        ∙ ap (take size) (drop-drop x start b) in
+    ap (λ (n : ℕ). take size (drop x (take n (drop start b)))) (let e : len ≡ x + (len - x) = omega arith in e)
+    ∙ ap (take size) (drop-take x (len - x) (drop start b))
+    ∙ take-take size (len - x) (drop x (drop start b)) (omega arith)
+    ∙ ap (take size) (drop-drop x start b) in
     sym (laws.part o (take len (drop start b)) x) ∙ ap (λ (s : List ℕ). at o s 0) rest ∙ laws.part o b (start + x)
 
 -- the bytes of a record lie in the part of all of them

@@ -22,4 +22,4 @@ returns-in-Err-clause-err g c =
     let le : size * (next + several) ≤ size * c.args.count = mul-le-mul_left size (omega arith) in
     let before = c.loop-next.invariant in
     fault_later _ _ _ _ _ c.args.at (size * c.args.count) _ (size * several) c.in-Err.fault before.kept before.flag
-      (omega arith) (rw c.SIZE-in-loop-next.ensures (omega arith)) c.in-Err.ensures.err
+    (omega arith) (rw c.SIZE-in-loop-next.ensures (omega arith)) c.in-Err.ensures.err

@@ -7,4 +7,4 @@ returns-clause-told g c = λ b table from told begins first.
     let read = c.in_ok-read_exactly.ensures in
     let long : length c.read_exactly.new.buf ≡ g.T.Record.SIZE * c.args.several = search rules in
     table_on g.met.T.Record.laws c.args.order b _ c.args.at table from c.args.several _ _
-      (read.reads.1 b told ∙ ap (λ (n : ℕ). take n (drop c.args.at b)) long) begins c.in_ok-push_records.ensures.told first
+    (read.reads.1 b told ∙ ap (λ (n : ℕ). take n (drop c.args.at b)) long) begins c.in_ok-push_records.ensures.told first
