@@ -1,0 +1,3 @@
+mod EndsIn
+mod Filled
+mod Tables

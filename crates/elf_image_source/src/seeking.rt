@@ -1,0 +1,55 @@
+//! What seeks and reads, as an open file, as a source.
+ghost use Rattle.std.specs.Prelude.{◌≡◌, false};
+
+use crate::source::{Failed, Source};
+use std::io::{Read, Seek, SeekFrom};
+
+/// Seeks to each offset and reads there. It does not tell its bytes. A seek that fails counts as a failed call, an interruption too.
+#[derive(Debug, Drop)]
+pub struct Seeking<F> {
+    inner: F,
+    failed: bool,
+}
+
+impl<F> Seeking<F> {
+    /// A source over this file, no call of which has failed.
+    pub fn new(inner: F) -> Seeking<F>
+        ensures { result.failed ≡ false }
+    {
+        Seeking {
+            inner,
+            failed: false,
+        }
+    }
+}
+
+impl<F: Read + Seek> Source for Seeking<F> {
+    ghost failed = { λ s. s.failed };
+
+    fn length(&mut self) -> Result<u64, Failed> {
+        match self.inner.seek(SeekFrom::End(0)) {
+            Ok(length) => Ok(length),
+            Err(_) => {
+                self.failed = true;
+                Err(Failed)
+            }
+        }
+    }
+
+    fn read_at(&mut self, at: u64, buf: &mut [u8]) -> Result<usize, Failed> {
+        match self.inner.seek(SeekFrom::Start(at)) {
+            Ok(_) => {}
+            Err(_) => {
+                self.failed = true;
+                return Err(Failed);
+            }
+        }
+        match self.inner.read(buf) {
+            Ok(count) => Ok(count),
+            Err(_) => {
+                self.failed = true;
+                Err(Failed)
+            }
+        }
+    }
+}
