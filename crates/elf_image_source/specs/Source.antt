@@ -10,10 +10,10 @@ abbrev pub SaysLength : {E : Type 0} → Option (List ℕ) → Result ℕ E → 
 SaysLength content result = IfOk result (λ len. IfSome content (λ b. len ≡ length b))
 
 -- the first k bytes of a buffer are those of b from an offset on; there are none only where b ends, or none was asked for
-pub record GivesBytes (b : List ℕ) (at k : ℕ) (buf : List ℕ) : Type 0 where
+pub record GivesAt (b : List ℕ) (at k : ℕ) (buf : List ℕ) : Type 0 where
   pub bytes : take k buf ≡ take k (drop at b)
   pub within : 0 < k → at + k ≤ length b
   pub some : k ≡ 0 → 0 < length buf → length b ≤ at
 
 abbrev pub GivesFrom : {E : Type 0} → Option (List ℕ) → ℕ → Result ℕ E → List ℕ → Type 0
-GivesFrom content at result buf = IfOk result (λ k. IfSome content (λ b. GivesBytes b at k buf))
+GivesFrom content at result buf = IfOk result (λ k. IfSome content (λ b. GivesAt b at k buf))

@@ -1,5 +1,5 @@
 use Rattle.std.proofs.Common.{rules, ◌+◌, ◌∙◌, ℕ, List, Option, drop, subst, IfSome}
-use Rattle.elf_image_source.specs.Source.{GivesBytes}
+use Rattle.elf_image_source.specs.Source.{GivesAt}
 use Rattle.elf_image_source.proofs.Filled.{filled_on}
 use Rattle.elf_image_source.proofs.whole.read_exactly.Goals as goal
 
@@ -14,5 +14,5 @@ loop-filled-preserved g c =
       kept = read.kept ∙ before.kept;
       flag = read.flag ∙ before.flag;
       bytes = λ b told. filled_on b _ _ c.args.at n c.in-Ok.count read.front (before.bytes b told)
-          (subst (λ (content : Option (List ℕ)). IfSome content (λ b. GivesBytes b (c.args.at + n) c.in-Ok.count (drop n c.read_more.new.buf))) (before.kept ∙ told) read.bytes);
+          (subst (λ (content : Option (List ℕ)). IfSome content (λ b. GivesAt b (c.args.at + n) c.in-Ok.count (drop n c.read_more.new.buf))) (before.kept ∙ told) read.bytes);
     }
