@@ -1,5 +1,5 @@
 -- The number of each symbol's name, symbol by symbol and file by file.
-use Rattle.std.proofs.Common.{◌≡◌, ◌≢◌, ℕ, ◌<◌, Bool, true, false, List, [], get_or, length, map, refl, sym, ◌∙◌, ap, arith}
+use Rattle.std.proofs.Common.{◌≡◌, ◌≢◌, ℕ, ◌<◌, Bool, true, false, List, [], get_or, length, map, refl, sym, ◌∙◌, ap}
 use Rattle.std.specs.Global.{Vec}
 use Rattle.std.specs.Prelude.{cond, Option, None, Some}
 use Rattle.std.specs.Str.{bytes_eq}

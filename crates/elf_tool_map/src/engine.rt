@@ -2,6 +2,7 @@
 ghost use Rattle.std.specs.Prelude.{Some, option_copied, map as map_list};
 ghost use Rattle.elf_tool_text.specs.Engine.{IsSaid};
 ghost use Rattle.elf_tool_map.specs.Map.{IsMapped, IsThis, LinkSays, MapSays, RelocationSays};
+ghost use Rattle.elf_link_map.specs.BindingNumbers.{AreBindingNumbers};
 ghost use Rattle.elf_link_relocate.specs.MapFacts.{IsMapOfSome};
 ghost use Rattle.elf_tool_map.specs.MapLines.{file_refused_line, link_refused_line};
 
@@ -11,8 +12,8 @@ use crate::map_text::map_text;
 use crate::object_files::{FileFault, objects_of};
 use elf_image_type::write_whole;
 use elf_link_field::RelocRule;
-use elf_link_map::{LinkFault, LinkMap, Options};
-use elf_link_relocate::relocate;
+use elf_link_map::{LinkFault, LinkMap, Options, map_numbered};
+use elf_link_relocate::relocate_numbered;
 use elf_object_type::Object;
 use elf_tool_text::{Refusal, ToolFault, Verdict, read_inputs};
 use std::alloc::Global;
@@ -68,8 +69,8 @@ fn answer_objects<W: Write>(
     ensures { IsSaid (LinkSays options.now (option_copied rules.entry) objects.now) (W.contents writer.old) (W.contents writer.new) result }
 {
     let hasher: BuildHasherDefault<FoldHasher> = BuildHasherDefault::new();
-    match elf_link_map::map(alloc, objects, options, hasher) {
-        Ok(link) => answer_map(alloc, objects, &link, rules, writer),
+    match map_numbered(alloc, objects, options, hasher) {
+        Ok(link) => answer_map(alloc, objects, &link.map, &link.numbers, rules, writer),
         Err(
             LinkFault::Rule {
                 rule,
@@ -86,14 +87,16 @@ fn answer_map<'a, W: Write>(
     alloc: Global,
     objects: &[Object<'a>],
     link: &LinkMap<'a>,
+    numbers: &[Vec<usize>],
     rules: Option<&[RelocRule]>,
     writer: &mut W,
 ) -> Result<Verdict, ToolFault>
-    requires { IsMapOfSome objects.now link.now }
+    requires map { IsMapOfSome objects.now link.now }
+    requires numbers { AreBindingNumbers objects.now link.now (map_list (λ row. row.items) numbers.now) }
     ensures { IsSaid (RelocationSays (option_copied rules.entry) objects.now link.now) (W.contents writer.old) (W.contents writer.new) result }
 {
     match rules {
-        Some(rules) => answer_relocations(alloc, objects, link, rules, writer),
+        Some(rules) => answer_relocations(alloc, objects, link, numbers, rules, writer),
         None => {
             let text = map_text(alloc, objects, link)?;
             tell(Verdict::Done, &text, writer)
@@ -105,13 +108,15 @@ fn answer_relocations<'a, W: Write>(
     alloc: Global,
     objects: &[Object<'a>],
     link: &LinkMap<'a>,
+    numbers: &[Vec<usize>],
     rules: &[RelocRule],
     writer: &mut W,
 ) -> Result<Verdict, ToolFault>
-    requires { IsMapOfSome objects.now link.now }
+    requires map { IsMapOfSome objects.now link.now }
+    requires numbers { AreBindingNumbers objects.now link.now (map_list (λ row. row.items) numbers.now) }
     ensures { IsSaid (RelocationSays (Some rules.now) objects.now link.now) (W.contents writer.old) (W.contents writer.new) result }
 {
-    match relocate(alloc, link, objects, rules) {
+    match relocate_numbered(alloc, link, objects, rules, numbers) {
         Ok(linked) => {
             let text = map_text(alloc, objects, link)?;
             write_relocated(writer, &text, &linked)?;
