@@ -7,7 +7,7 @@ use Rattle.elf_link_map.specs.Apart.{StandApart}
 use Rattle.elf_link_map.specs.LinkFaults.{FirstOfLink}
 use Rattle.elf_link_map.specs.LinkMap.{IsLinkMap, LinkMapValue}
 
--- no rule of the link map stands, and the map is the one of these objects, for some options
+-- none of rules 1 to 11 of the link stands, and the map is the one of these objects, for some options
 abbrev pub IsMapOfSome : List ObjectValue → LinkMapValue → Type 0
 IsMapOfSome fs m = (opt : Options) × IsLinkMap opt fs m × FirstOfLink opt fs None
 
