@@ -14,4 +14,5 @@ mod Memories
 mod OneByte
 mod SomeByte
 mod MemoryLaws
+mod SharedAddresses
 pub mod Public

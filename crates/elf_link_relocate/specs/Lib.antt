@@ -17,3 +17,4 @@ pub mod Linked
 pub mod CopyView
 pub mod Patching
 pub mod LinkedView
+pub mod Sharing

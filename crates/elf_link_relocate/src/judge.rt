@@ -15,6 +15,7 @@ use crate::field_test::{FieldTest, first_field};
 use crate::linking::Linking;
 use crate::marks::first_overlap;
 use crate::rules::FIELDS_OVERLAP;
+use crate::sharing::may_share;
 use elf_link_map::{Broken, LinkFault, Site};
 use std::alloc::Global;
 
@@ -36,18 +37,22 @@ fn refuse_first(
     }
 }
 
-/// Answers rule 15 at the first field that shares a byte with one before it.
+/// Answers rule 15 at the first field that shares a byte with one before it. Which one that is is looked for only where two may share one.
 fn refuse_overlap(
     alloc: Global,
     linking: &Linking<'_, '_>,
     fields: &[Field],
 ) -> Result<(), LinkFault>
+    requires ready { IsReady linking.now }
     requires fields { AreFields (linked_objects linking.now) (relocation_rules_of linking.now) fields.now }
     requires within { AllWithin (linked_objects linking.now) fields.now }
     ensures ok { OnOk result (HasNoOverlap (linked_objects linking.now) fields.now) }
     ensures nowhere { OnOk result (Never (fields_overlap (linked_objects linking.now) (relocation_rules_of linking.now))) }
     ensures err { IfErr result (IsOverlapFault (linked_objects linking.now) (relocation_rules_of linking.now)) }
 {
+    if !may_share(alloc, linking, fields)? {
+        return Ok(());
+    }
     match first_overlap(alloc, linking, fields)? {
         Some(k) => Err(Broken::new(FIELDS_OVERLAP, fields[k].site).into()),
         None => Ok(()),

@@ -25,6 +25,7 @@ mod numbers;
 mod patching;
 mod relocating;
 pub mod rules;
+mod sharing;
 mod values;
 
 pub use laws::{

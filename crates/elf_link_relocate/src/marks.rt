@@ -79,7 +79,8 @@ fn mark_field(
     mark_in(marks, site.file, target, offset, fields[k].rule.width)
 }
 
-/// Rule 15: the first field that shares a byte with one before it. It takes a mark for each byte of all sections.
+/// Rule 15: the first field that shares a byte with one before it. It takes a mark for each byte of all sections, so it is asked only where
+/// two fields may share one.
 pub(crate) fn first_overlap(
     alloc: Global,
     linking: &Linking<'_, '_>,

@@ -72,7 +72,7 @@ pub(crate) fn is_field_out_of_range(linking: &Linking<'_, '_>, field: Field) -> 
 }
 
 /// The address of a field.
-fn field_address(linking: &Linking<'_, '_>, field: Field) -> u64
+pub(crate) fn field_address(linking: &Linking<'_, '_>, field: Field) -> u64
     requires ready { IsReady linking.now }
     requires field { IsFieldOf linking.now field }
     requires within { IsWithin (linked_objects linking.now) field.site field.rule }

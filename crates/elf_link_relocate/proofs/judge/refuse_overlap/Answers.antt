@@ -21,3 +21,10 @@ returns-in-None-clause-nowhere c =
     let rules = relocation_rules_of c.args.linking.now in
     let none = rw c.in-None.is at c.in_ok-k.ensures in
     none_at_field fs rules c.args.fields.now c.requires.fields (SharesEarlier fs rules) (no_overlap fs rules c.args.fields.now c.requires.fields none)
+
+pub returns-then-not-branch-clause-nowhere : goal.returns-then-not-branch-clause-nowhere
+returns-then-not-branch-clause-nowhere c =
+    let fs = linked_objects c.args.linking.now in
+    let rules = relocation_rules_of c.args.linking.now in
+    let none = c.in_ok-may_share.ensures c.if-not-branch.true in
+    none_at_field fs rules c.args.fields.now c.requires.fields (SharesEarlier fs rules) (no_overlap fs rules c.args.fields.now c.requires.fields none)

@@ -1,0 +1,9 @@
+//! Tests of what is read at any place: sources that give a byte a call, and that fail at one call.
+#![tactic(auto)]
+
+#[cfg(test)]
+mod fakes;
+#[cfg(test)]
+mod records;
+#[cfg(test)]
+mod whole_reads;
