@@ -1,8 +1,6 @@
-//! Tests of the small crates: extents, records, string tables, relocations and files of rules.
+//! Tests of the small crates: records, string tables, relocations and files of rules.
 #![tactic(auto)]
 
-#[cfg(test)]
-mod extents;
 #[cfg(test)]
 mod records;
 #[cfg(test)]

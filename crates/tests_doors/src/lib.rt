@@ -10,7 +10,8 @@ pub mod field {
 /// Extents and places.
 pub mod extent {
     pub use elf::extent::{
-        Extent, OutOfMemory, Piece, PlaceFault, account, first_double, next_place, place,
+        Counted, Extent, OutOfMemory, Piece, PlaceFault, Row, account, first_double, next_place,
+        place, sweep,
     };
 }
 

@@ -4,7 +4,7 @@ use Rattle.elf_extent.specs.declared.extent.Extent.{Extent}
 use Rattle.elf_extent.specs.Extent.{Doubly}
 use Rattle.elf_extent.specs.Least.{IsLowest}
 use Rattle.elf_extent.proofs.Public.{disjoint_from_never}
-use Rattle.tests_base.proofs.extents.checked_account.Goals as goal
+use Rattle.tests_extent.proofs.accounts.checked_account.Goals as goal
 
 pub account-requires-clause-disjoint : goal.account-requires-clause-disjoint
 account-requires-clause-disjoint c =
