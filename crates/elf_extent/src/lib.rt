@@ -1,5 +1,6 @@
-//! Extents of a file: the lowest byte that two of them hold, an account of every offset, and the
-//! least places for parts that are laid one after the other. Nothing here is of ELF.
+//! Extents of a file: the lowest byte that two of them hold, found in one sweep over them, an account
+//! of every offset, and the least places for parts that are laid one after the other. Nothing here is
+//! of ELF.
 //!
 //! ```
 //! // The bytes 2 and 3 lie in both extents.
