@@ -114,7 +114,7 @@ fn agrees_with_other_searches_on_three_extents(rt: HostRuntime) -> Result<(), Ou
     Ok(())
 }
 
-// Each end of them first, a million extents are searched in seconds.
+// A million extents, rising and then falling, are searched in seconds.
 #[test]
 fn many_extents_take_no_quadratic_time(rt: HostRuntime) -> Result<(), OutOfMemory> {
     let alloc = rt.alloc();
