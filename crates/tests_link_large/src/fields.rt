@@ -74,16 +74,16 @@ fn first_wrong_file(
     Ok(None)
 }
 
-/// The same of the link of these objects.
+/// The same of the link of these objects by these rules.
 fn wrong_file_of(
     alloc: Global,
     objects: &[Object<'_>],
+    rules: &[RelocRule],
     order: Order,
     base: u64,
 ) -> Result<Option<u8>, LinkFault> {
-    let rules = rules();
     let map = mapped(alloc, objects, base, None)?;
-    let linked = relocate(alloc, &map, objects, &rules)?;
+    let linked = relocate(alloc, &map, objects, rules)?;
     Ok(first_wrong_file(alloc, &linked, order, base)?)
 }
 
@@ -91,7 +91,7 @@ fn wrong_file_of(
 fn wrong_file_from(alloc: Global, order: Order, base: u64) -> Result<Option<u8>, Fail> {
     let digits = digits(alloc)?;
     let objects = files(alloc, digits.as_bytes(), order)?;
-    Ok(wrong_file_of(alloc, &objects, order, base)?)
+    Ok(wrong_file_of(alloc, &objects, &rules(), order, base)?)
 }
 
 #[test]

@@ -44,35 +44,27 @@ fn first_wrong_section(link: &LinkMap<'_>, base: u64) -> Option<u16> {
     None
 }
 
-/// How many outputs the link from this address on has, and the first wrong one.
-fn outputs_from(alloc: Global, order: Order, base: u64) -> Result<(usize, Option<u16>), Fail> {
+/// How many outputs the link from this address on has, the first wrong one, and the first section that stands elsewhere.
+fn places_from(
+    alloc: Global,
+    order: Order,
+    base: u64,
+) -> Result<(usize, Option<u16>, Option<u16>), Fail> {
     let digits = digits(alloc)?;
     let link = linked(alloc, digits.as_bytes(), order, base, 0)?;
-    let wrong = first_wrong_output(&link, digits.as_bytes(), base);
-    Ok((link.outputs().len(), wrong))
-}
-
-/// The first section that stands elsewhere in the link from this address on.
-fn wrong_section_from(alloc: Global, order: Order, base: u64) -> Result<Option<u16>, Fail> {
-    let digits = digits(alloc)?;
-    let link = linked(alloc, digits.as_bytes(), order, base, 0)?;
-    Ok(first_wrong_section(&link, base))
+    let output = first_wrong_output(&link, digits.as_bytes(), base);
+    Ok((
+        link.outputs().len(),
+        output,
+        first_wrong_section(&link, base),
+    ))
 }
 
 #[test]
-fn forty_outputs_stand_at_their_pages(rt: HostRuntime) -> Result<(), Fail> {
+fn forty_outputs_of_264_sections_stand_at_their_pages(rt: HostRuntime) -> Result<(), Fail> {
     for (order, base) in LINKS {
-        let outputs = outputs_from(rt.alloc(), order, base)?;
-        assert_eq!(rt; outputs, (40, None));
-    }
-    Ok(())
-}
-
-#[test]
-fn sections_of_66_files_stand_behind_each_other(rt: HostRuntime) -> Result<(), Fail> {
-    for (order, base) in LINKS {
-        let wrong = wrong_section_from(rt.alloc(), order, base)?;
-        assert_eq!(rt; wrong, None);
+        let places = places_from(rt.alloc(), order, base)?;
+        assert_eq!(rt; places, (40, None, None));
     }
     Ok(())
 }
