@@ -23,11 +23,11 @@ use Rattle.elf_image_rules.specs.ImageRules.{IsFault, KeepsRecordRules, extents_
 use Rattle.elf_image_rules.proofs.Rows.{FirstIn-later, FirstIn-rest, FirstIn-sooner}
 
 -- rules 13 to 32 of a file with this header
-abbrev table_rules_of : List ℕ → Ehdr → List {1} (Ruled ℕ)
+abbrev pub table_rules_of : List ℕ → Ehdr → List {1} (Ruled ℕ)
 table_rules_of b h = header_table_rules (length b) h (sections b h) (segments b h) (names b h)
 
 -- rules 1 to 32 of a file
-abbrev record_rules_of : List ℕ → List {1} (Ruled ℕ)
+abbrev pub record_rules_of : List ℕ → List {1} (Ruled ℕ)
 record_rules_of b = let h = header b in record_rules (length b) h (sections b h) (segments b h) (names b h)
 
 -- what the run of rules 1 to 32 found is the file's fault

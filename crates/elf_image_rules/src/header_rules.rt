@@ -15,9 +15,10 @@ pub const MAX_LEN: u64 = 1 << 30;
 
 /// Rules 1 and 2, of a file of `len` bytes.
 #[tactic(auto, unfolding(crate::specs::HeaderRules::length_rules))]
-pub(crate) fn judge_length(len: u64) -> Result<(), Broken<u64>>
+pub fn judge_length(len: u64) -> Result<(), Broken<u64>>
     ensures fault { FirstIn (length_rules len) (fault_of result) }
     ensures long { OnOk result (EHDR_SIZE ≤ len) }
+    ensures short { OnOk result (len ≤ MAX_LEN) }
 {
     if len > MAX_LEN {
         return Err(Broken::new(TOO_LONG, MAX_LEN));
@@ -30,7 +31,7 @@ pub(crate) fn judge_length(len: u64) -> Result<(), Broken<u64>>
 
 /// Rules 3 to 6, of the identification.
 #[tactic(auto, unfolding(crate::specs::HeaderRules::ident_rules))]
-pub(crate) fn judge_ident(ident: &[u8; EI_NIDENT]) -> Result<(), Broken<u64>>
+pub fn judge_ident(ident: &[u8; EI_NIDENT]) -> Result<(), Broken<u64>>
     ensures { FirstIn (ident_rules ident.now) (fault_of result) }
 {
     for i in 0..MAGIC.len() {
@@ -52,7 +53,7 @@ pub(crate) fn judge_ident(ident: &[u8; EI_NIDENT]) -> Result<(), Broken<u64>>
 
 /// Rules 7 to 12, of the header of a file of `len` bytes.
 #[tactic(auto, unfolding(crate::specs::HeaderRules::header_rules))]
-pub(crate) fn judge_header(header: &Ehdr, len: u64) -> Result<(), Broken<u64>>
+pub fn judge_header(header: &Ehdr, len: u64) -> Result<(), Broken<u64>>
     ensures fault { FirstIn (header_rules len header.now) (fault_of result) }
     ensures first { OnOk result (EHDR_SIZE ≤ len → header.now.e_shoff + SHDR_SIZE ≤ len) }
     ensures nameless { OnOk result (header.now.e_shoff ≡ 0 → header.now.e_shstrndx ≡ 0) }

@@ -36,9 +36,11 @@ pub mod tables;
 
 pub use alignment::is_wrong_alignment;
 pub use broken::Broken;
-pub use header_rules::MAX_LEN;
+pub use header_rules::{MAX_LEN, judge_header, judge_ident, judge_length};
 pub use image_rules::{judge_by_sorting, judge_entries, judge_records, verdict};
 pub use judged_records::JudgedRecords;
 pub use laws::{extents_of_image, fault_of_extents, kept_rules, one_fault};
+pub use program_table_rules::judge_program_table;
 pub use records::{FileRecords, Records, TableRecords};
+pub use section_table_rules::judge_section_table;
 pub use string_table::{TableEnds, ends_of, unclosed_at};

@@ -14,7 +14,7 @@ use elf_field::{Ehdr, Shdr};
 
 /// Rules 18 to 21, of the header and section header 0 of a file of `len` bytes.
 #[tactic(auto, unfolding(crate::specs::ProgramTableRules::program_table_rules))]
-pub(crate) fn judge_program_table(header: &Ehdr, first: &Shdr, len: u64) -> Result<(), Broken<u64>>
+pub fn judge_program_table(header: &Ehdr, first: &Shdr, len: u64) -> Result<(), Broken<u64>>
     requires { header.now.e_shoff + SHDR_SIZE ≤ len }
     ensures fault { FirstIn (program_table_rules len header.now first.now) (fault_of result) }
     ensures inside { OnOk result

@@ -15,7 +15,7 @@ use elf_field::{Ehdr, Shdr};
 
 /// Rules 13 to 17, of the header and section header 0 of a file of `len` bytes.
 #[tactic(auto, unfolding(crate::specs::SectionTableRules::section_table_rules))]
-pub(crate) fn judge_section_table(header: &Ehdr, first: &Shdr, len: u64) -> Result<(), Broken<u64>>
+pub fn judge_section_table(header: &Ehdr, first: &Shdr, len: u64) -> Result<(), Broken<u64>>
     requires { header.now.e_shoff + SHDR_SIZE ≤ len }
     ensures fault { FirstIn (section_table_rules len header.now first.now) (fault_of result) }
     ensures inside { OnOk result (shdr_offset header.now (section_header_count header.now first.now) ≤ len) }

@@ -29,7 +29,7 @@ pub fn header_of(bytes: &[u8]) -> Ehdr
 }
 
 /// What stands for a section header that isn't there.
-pub(crate) const NO_SECTION: Shdr = Shdr {
+pub const NO_SECTION: Shdr = Shdr {
     sh_name: 0,
     sh_type: 0,
     sh_flags: 0,
