@@ -1,4 +1,4 @@
-//! What can stop a call that reads, judges, edits or writes a file.
+//! What can stop a call that reads, judges or writes a file.
 ghost use Rattle.std.specs.Prelude.{◌≡◌, ◌+◌, ◌^◌, ◌<◌};
 
 use elf_extent::OutOfMemory;
@@ -76,20 +76,4 @@ impl WriteFault {
             written: before + self.written,
         }
     }
-}
-
-/// No section has the index: it is 0, or not below the number of section headers.
-#[derive(Clone, Copy, Debug, PartialEq, Eq)]
-pub struct NoSection;
-
-/// Why a section's content can't be replaced; where several hold, the first of them.
-#[derive(Clone, Copy, Debug, PartialEq, Eq)]
-pub enum ReplaceFault {
-    /// The index is 0 or not below the number of section headers, or the section is of type `SHT_NULL`
-    /// or `SHT_NOBITS` and has no content.
-    NoSection,
-    /// The new content is not `sh_size` bytes long.
-    WrongLength,
-    /// The section is the section name string table, which every section's name depends on.
-    NameTable,
 }

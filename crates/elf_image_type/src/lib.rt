@@ -14,6 +14,7 @@
 //! ```
 #![tactic(auto)]
 
+mod edit_fault;
 mod edits;
 pub mod entries;
 mod fault;
@@ -28,7 +29,8 @@ pub mod strings;
 mod writing;
 
 pub use elf_image_rules::verdict;
-pub use fault::{Fault, NoSection, ReplaceFault, WriteFault};
+pub use edit_fault::{NoSection, ReplaceFault};
+pub use fault::{Fault, WriteFault};
 pub use image::Image;
 pub use output::write_whole;
 pub use parsing::parse;
