@@ -17,7 +17,7 @@ pub enum Fault {
 }
 
 impl From<AllocError> for Fault {
-    ghost use Rattle.elf_image_type.specs.declared.fault.Fault.TheVariants.{OutOfMemory};
+    ghost use Rattle.elf_image_stream.specs.declared.fault.Fault.TheVariants.{OutOfMemory};
 
     ghost from_gives = { λ _ fault. fault ≡ OutOfMemory };
 
@@ -27,7 +27,7 @@ impl From<AllocError> for Fault {
 }
 
 impl<T: Drop> From<AllocFailed<T>> for Fault {
-    ghost use Rattle.elf_image_type.specs.declared.fault.Fault.TheVariants.{OutOfMemory};
+    ghost use Rattle.elf_image_stream.specs.declared.fault.Fault.TheVariants.{OutOfMemory};
 
     ghost from_gives = { λ _ fault. fault ≡ OutOfMemory };
 
@@ -37,7 +37,7 @@ impl<T: Drop> From<AllocFailed<T>> for Fault {
 }
 
 impl From<Broken<u64>> for Fault {
-    ghost use Rattle.elf_image_type.specs.declared.fault.Fault.TheVariants.{Rule};
+    ghost use Rattle.elf_image_stream.specs.declared.fault.Fault.TheVariants.{Rule};
 
     ghost from_gives = { λ broken fault. fault ≡ Rule broken.rule broken.at };
 
@@ -50,7 +50,7 @@ impl From<Broken<u64>> for Fault {
 }
 
 impl From<OutOfMemory> for Fault {
-    ghost use Rattle.elf_image_type.specs.declared.fault.Fault.TheVariants.{OutOfMemory};
+    ghost use Rattle.elf_image_stream.specs.declared.fault.Fault.TheVariants.{OutOfMemory};
 
     ghost from_gives = { λ _ fault. fault ≡ OutOfMemory };
 
@@ -67,8 +67,8 @@ pub struct WriteFault {
 }
 
 impl WriteFault {
-    // The fault, where so many other bytes went out before.
-    pub(crate) fn after(self, before: u64) -> WriteFault
+    /// The fault, where so many other bytes went out before.
+    pub fn after(self, before: u64) -> WriteFault
         requires { before + self.written < 2 ^ 64 }
         ensures { result.written ≡ before + self.written }
     {
