@@ -14,9 +14,9 @@ pub use Rattle.elf_image_rules.specs.StringTable
 pub use Rattle.elf_image_rules.specs.Tables
 pub use Rattle.elf_image_type.specs.Image
 pub use Rattle.elf_image_type.specs.Outline
-pub use Rattle.elf_image_type.specs.Output
+pub use Rattle.elf_image_stream.specs.Output
 pub use Rattle.elf_image_type.specs.Parsing
 pub use Rattle.elf_image_type.specs.Parts
-pub use Rattle.elf_image_type.specs.Reading
+pub use Rattle.elf_image_stream.specs.Reading
 pub use Rattle.elf_image_type.specs.Strings
 pub use Rattle.elf_image_type.specs.View

@@ -14,6 +14,5 @@
 #![tactic(auto)]
 
 pub use elf_image_rules::{rules, verdict};
-pub use elf_image_type::{
-    Fault, Image, NoSection, Owner, Part, ReplaceFault, WriteFault, parse, read_to_end, write,
-};
+pub use elf_image_stream::{Fault, WriteFault, read_to_end};
+pub use elf_image_type::{Image, NoSection, Owner, Part, ReplaceFault, parse, write};

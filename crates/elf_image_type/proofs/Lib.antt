@@ -4,14 +4,12 @@ mod Fields
 mod FileParts
 mod Holds
 mod Joins
-mod Moved
 mod Named
 mod OneImage
 mod Parsed
 mod PartsOfImage
 pub mod Public
 mod RelocatableFile
-mod Several
 mod SomeImage
 mod Spread
 mod Standing

@@ -9,4 +9,3 @@ pub use Rattle.elf_image_type.proofs.SomeImage.{some_image}
 pub use Rattle.elf_image_type.proofs.Spread.{in_spread, length-spread, length-unaligned, parts_ascend}
 pub use Rattle.elf_image_type.proofs.Stands.{contents_read, element_made, header_read, sections_read, segments_read}
 pub use Rattle.elf_image_type.proofs.Theorem.{HasTablesOf, Reads, clean_bytes, has_tables_of, image_is_sound, one_list, sound_stands, stands_is_image}
-pub use Rattle.elf_image_type.proofs.Written.{went_err}

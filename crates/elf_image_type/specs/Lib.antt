@@ -3,9 +3,7 @@ pub mod Edits
 pub mod Image
 pub mod Outline
 pub mod OutlineView
-pub mod Output
 pub mod Parts
-pub mod Reading
 pub mod Strings
 pub mod View
 pub mod Parsing

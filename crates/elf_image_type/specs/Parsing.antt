@@ -1,8 +1,8 @@
 -- What `parse` answers for bytes that are no image, or for want of memory.
 use Rattle.std.specs.Prelude.{ℕ, List, Some}
 use Rattle.elf_image_rules.specs.ImageRules.{IsFault, KeepsRecordRules}
-use Rattle.elf_image_type.specs.declared.fault.Fault.{Fault}
-use Rattle.elf_image_type.specs.declared.fault.Fault.TheVariants.{OutOfMemory, Io, Rule}
+use Rattle.elf_image_stream.specs.declared.fault.Fault.{Fault}
+use Rattle.elf_image_stream.specs.declared.fault.Fault.TheVariants.{OutOfMemory, Io, Rule}
 
 -- a rule is the first one that the bytes break, at its lowest offset; want of memory comes only where they keep rules 1
 -- to 32, so that they break rule 33 or none

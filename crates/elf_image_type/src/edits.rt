@@ -3,7 +3,7 @@
 ghost use Rattle.std.specs.Prelude.{◌≡◌, MatchResult, OnErr, OnOk};
 ghost use Rattle.elf_image_type.specs.Edits.{IsReplaceFault, IsReplaceable, IsSectionIndex, with_content, with_entry, with_flags, with_zero_gaps};
 
-use crate::fault::{NoSection, ReplaceFault};
+use crate::edit_fault::{NoSection, ReplaceFault};
 use crate::image::Image;
 use elf_field::abi::{SHT_NOBITS, SHT_NULL};
 

@@ -1,9 +1,8 @@
-//! An ELF-64 file as a value (System V ABI, generic part, chapters 4 and 5): from the bytes of any
-//! reader to the bytes on any writer.
+//! An ELF-64 file as a value (System V ABI, generic part, chapters 4 and 5): from its bytes to the bytes on any writer.
 //!
-//! [`read_to_end`] takes the bytes, [`parse`] judges them and makes an [`Image`], whose accessors tell
-//! the file's records, names, contents and parts and whose edits keep it one, and [`write`] writes it.
-//! The entry of a file that some reader gives is set so:
+//! [`parse`] judges a file's bytes and makes an [`Image`], whose accessors tell the file's records, names, contents and parts and whose
+//! edits keep it one, and [`write`] writes it. The entry of a file that some reader gives is set so, with `read_to_end` of
+//! `elf_image_stream`:
 //!
 //! ```
 //! let mut bytes = Vec::new(alloc);
@@ -14,24 +13,19 @@
 //! ```
 #![tactic(auto)]
 
+mod edit_fault;
 mod edits;
-pub mod entries;
-mod fault;
 mod image;
 pub mod laws;
 mod outline;
-pub mod output;
 mod parsing;
 mod part;
-mod reading;
 pub mod strings;
 mod writing;
 
+pub use edit_fault::{NoSection, ReplaceFault};
 pub use elf_image_rules::verdict;
-pub use fault::{Fault, NoSection, ReplaceFault, WriteFault};
 pub use image::Image;
-pub use output::write_whole;
 pub use parsing::parse;
 pub use part::{Owner, Part};
-pub use reading::read_to_end;
 pub use writing::write;

@@ -5,7 +5,7 @@ ghost use Rattle.elf_image_type.specs.Edits.{flagged};
 ghost use Rattle.elf_image_type.specs.Image.{program_header_of, section_header_of};
 ghost use Rattle.elf_image_type.specs.Outline.{outline_value};
 
-use crate::fault::NoSection;
+use crate::edit_fault::NoSection;
 use crate::part::Part;
 use elf_field::abi::SHN_XINDEX;
 use elf_field::{Ehdr, Order, Phdr, Shdr};

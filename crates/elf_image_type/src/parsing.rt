@@ -9,7 +9,6 @@ ghost use Rattle.elf_image_rules.specs.Tables.{bytes_in, content_extent, file_co
 ghost use Rattle.elf_image_type.specs.Image.{AreRecordsIn, IsImage, owner_index, part_piece, value_extents};
 ghost use Rattle.elf_image_type.specs.Parsing.{IsParseFault};
 
-use crate::fault::Fault;
 use crate::image::Image;
 use crate::outline::Outline;
 use crate::part::{Owner, Part};
@@ -19,6 +18,7 @@ use elf_field::{Ehdr, Phdr, Shdr};
 use elf_image_rules::content::{content_of, extent_of_content};
 use elf_image_rules::rules::SHARED_BYTE;
 use elf_image_rules::{JudgedRecords, judge_records};
+use elf_image_stream::Fault;
 use std::alloc::{AllocError, Global};
 
 /// The image that these bytes are: an ELF-64 file that breaks no rule, its tables copied once and

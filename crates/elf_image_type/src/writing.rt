@@ -2,13 +2,13 @@
 ghost use Rattle.std.specs.Prelude.{◌≡◌, ◌<◌, ℕ, List, length, map};
 ghost use Rattle.elf_image_type.specs.Image.{IsImage, IsSoundImage, joined, part_bytes};
 ghost use Rattle.elf_image_type.specs.Outline.{image_of, placed_part};
-ghost use Rattle.elf_image_type.specs.Output.{Writes};
+ghost use Rattle.elf_image_stream.specs.Output.{Writes};
 
-use crate::fault::WriteFault;
 use crate::image::Image;
 use crate::outline::Outline;
-use crate::output::{write_records, write_whole, write_zeros};
 use crate::part::{Owner, Part};
+use elf_image_stream::WriteFault;
+use elf_image_stream::output::{write_records, write_whole, write_zeros};
 use std::io::Write;
 
 /// Writes the bytes that stand for the image: exactly these, or exactly their first `written` and a

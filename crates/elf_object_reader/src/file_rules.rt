@@ -18,7 +18,8 @@ use crate::reference_rules::{ReferenceRule, lowest_reference};
 use crate::rules::*;
 use elf_field::abi::*;
 use elf_image_rules::Broken;
-use elf_image_type::{Fault, Image};
+use elf_image_stream::Fault;
+use elf_image_type::Image;
 use elf_table_all::{Place, Symbols, Tables};
 use std::alloc::Global;
 

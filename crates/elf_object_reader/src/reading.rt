@@ -1,6 +1,6 @@
 //! A relocatable file read as an object (gABI chapter 4).
 ghost use Rattle.std.specs.Prelude.{◌≡◌, IfErr, IfOk, None};
-ghost use Rattle.elf_image_type.specs.declared.fault.Fault.TheVariants.{OutOfMemory};
+ghost use Rattle.elf_image_stream.specs.declared.fault.Fault.TheVariants.{OutOfMemory};
 ghost use Rattle.elf_object_reader.specs.Denotes.{Denotes};
 ghost use Rattle.elf_object_reader.specs.FileRules.{file_rules, front_rules};
 ghost use Rattle.elf_object_reader.specs.Kept.{left_out};
@@ -17,7 +17,8 @@ use crate::read_bodies::read_sections;
 use crate::read_positions::positions_of;
 use crate::read_symbols::read_symbols;
 use elf_field::abi::*;
-use elf_image_type::{Fault, Image};
+use elf_image_stream::Fault;
+use elf_image_type::Image;
 use elf_object_type::{Object, ObjectParts};
 use elf_table_all::Tables;
 use std::alloc::Global;

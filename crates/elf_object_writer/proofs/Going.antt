@@ -14,10 +14,10 @@ use Rattle.elf_field.proofs.RecordTableLaws.{length-table}
 use Rattle.elf_field.specs.declared.order.Order.{Order}
 use Rattle.elf_field.specs.declared.order.Order.TheVariants.{Little, Big}
 use Rattle.elf_extent.specs.Place.{Fits}
-use Rattle.elf_image_type.specs.declared.fault.WriteFault.{WriteFault}
+use Rattle.elf_image_stream.specs.declared.fault.WriteFault.{WriteFault}
 use Rattle.elf_image_type.specs.FileParts.{spread, unaligned}
 use Rattle.elf_image_type.specs.RelocatableFile.{all_headers, offsets, relocatable_bytes}
-use Rattle.elf_image_type.proofs.Public.{went_err}
+use Rattle.elf_image_stream.proofs.Public.{went_err}
 use Rattle.elf_image_rules.specs.Tables.{order_of}
 use Rattle.elf_object_strings.specs.StringTable.{name_offset}
 use Rattle.elf_object_writer.specs.Laid.{identification, layout_bytes, section_headers}

@@ -3,8 +3,8 @@ use Rattle.std.specs.Prelude.{◌≡◌, ◌<◌, ◌≤◌, ℕ, ◌+◌, ◌-�
 use Rattle.std.specs.Io.KnownBytes.{Appends}
 use Rattle.std.specs.List.{flat_map}
 use Rattle.elf_field.specs.Shdr.{shdr_bytes}
-use Rattle.elf_image_type.specs.declared.fault.WriteFault.{WriteFault}
-use Rattle.elf_image_type.specs.Output.{Writes}
+use Rattle.elf_image_stream.specs.declared.fault.WriteFault.{WriteFault}
+use Rattle.elf_image_stream.specs.Output.{Writes}
 use Rattle.elf_image_type.specs.RelocatableFile.{all_headers}
 use Rattle.elf_image_rules.specs.HeaderRules.{MAX_LEN}
 use Rattle.elf_object_strings.specs.StringTable.{name_offset}

@@ -6,7 +6,7 @@ ghost use Rattle.elf_object_writer.specs.PlainSections.{group_words, index_of, r
 use crate::indexes::index_of;
 use elf_field::abi::*;
 use elf_field::{Rel, Rela};
-use elf_image_type::entries::Entries;
+use elf_image_stream::entries::Entries;
 use elf_object_type::Relocation;
 
 /// The entries of a section of type `SHT_RELA`.

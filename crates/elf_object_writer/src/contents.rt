@@ -1,6 +1,6 @@
 //! The content of each section of an object's canonical layout, onto a writer (gABI chapter 4, Sections).
 ghost use Rattle.std.specs.Prelude.{◌≡◌, ◌<◌, ◌≤◌, ◌^◌, All, length};
-ghost use Rattle.elf_image_type.specs.Output.{Writes};
+ghost use Rattle.elf_image_stream.specs.Output.{Writes};
 ghost use Rattle.elf_object_type.specs.Object.{section_at};
 ghost use Rattle.elf_object_type.specs.ObjectView.{body_value, section_value};
 ghost use Rattle.elf_object_writer.specs.PlacedObject.{HasShortIndexes, HasShortNumbers, IsThere, plain_section};
@@ -14,8 +14,8 @@ use crate::placed_section::PlacedSection;
 use crate::symbol_entries::{IndexWords, SymbolEntries, symbol_count};
 use elf_field::Order;
 use elf_field::abi::*;
-use elf_image_type::entries::write_entries;
-use elf_image_type::{WriteFault, write_whole};
+use elf_image_stream::entries::write_entries;
+use elf_image_stream::{WriteFault, write_whole};
 use elf_object_type::{Body, Relocation, Section};
 use std::io::Write;
 

@@ -2,7 +2,7 @@
 //! Sections).
 ghost use Rattle.std.specs.Prelude.{◌≡◌, ◌<◌, ◌≤◌, ℕ, ◌+◌, ◌-◌, ◌^◌, ◌++◌, IfErr, List, Option, get_or, length, replicate, slice_index};
 ghost use Rattle.elf_field.specs.Ehdr.{ehdr_bytes};
-ghost use Rattle.elf_image_type.specs.Output.{Writes};
+ghost use Rattle.elf_image_stream.specs.Output.{Writes};
 ghost use Rattle.elf_object_writer.specs.Laid.{file_header, layout_bytes};
 ghost use Rattle.elf_object_writer.specs.ObjectWriting.{WritesBehind, header_table};
 ghost use Rattle.elf_object_writer.specs.PlacedObject.{IsThere, plain_section};
@@ -15,9 +15,9 @@ use crate::placed_object::PlacedObject;
 use crate::placed_section::PlacedSection;
 use crate::section_headers::SectionHeaders;
 use elf_field::abi::*;
-use elf_image_type::WriteFault;
-use elf_image_type::entries::write_entries;
-use elf_image_type::output::{write_records, write_zeros};
+use elf_image_stream::WriteFault;
+use elf_image_stream::entries::write_entries;
+use elf_image_stream::output::{write_records, write_zeros};
 use std::io::Write;
 
 /// Writes the bytes of the layout, or exactly the first `written` of them, fewer than all, and a fault.

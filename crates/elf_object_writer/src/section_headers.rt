@@ -18,7 +18,7 @@ use crate::placed_section::PlacedSection;
 use crate::symbol_entries::symbol_count;
 use elf_field::Shdr;
 use elf_field::abi::*;
-use elf_image_type::entries::Entries;
+use elf_image_stream::entries::Entries;
 use elf_object_type::{Body, Info, Symbol};
 
 /// A section header all of whose fields are 0.

@@ -11,7 +11,7 @@ use crate::indexes::{index_word, shndx};
 use crate::placed_object::PlacedObject;
 use elf_field::Sym;
 use elf_field::abi::*;
-use elf_image_type::entries::Entries;
+use elf_image_stream::entries::Entries;
 use elf_object_type::Symbol;
 
 /// The entries of `.symtab`.

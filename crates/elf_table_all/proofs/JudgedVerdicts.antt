@@ -1,7 +1,7 @@
 -- What is answered of a list of rules whose last ones take memory, as a verdict.
 use Rattle.std.proofs.Common.{ℕ, List, Result, Ok, Err}
-use Rattle.elf_image_type.specs.declared.fault.Fault.{Fault}
-use Rattle.elf_image_type.specs.declared.fault.Fault.TheVariants.{Io, OutOfMemory, Rule}
+use Rattle.elf_image_stream.specs.declared.fault.Fault.{Fault}
+use Rattle.elf_image_stream.specs.declared.fault.Fault.TheVariants.{Io, OutOfMemory, Rule}
 use Rattle.elf_image_rules.specs.declared.broken.Broken.{Broken}
 use Rattle.elf_image_rules.specs.Broken.{fault_of}
 use Rattle.elf_image_rules.specs.Rows.{FirstIn, Ruled}

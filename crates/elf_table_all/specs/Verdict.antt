@@ -1,7 +1,7 @@
 -- A judgement that may take memory, as a verdict.
 use Rattle.std.specs.Prelude.{◌≡◌, ℕ, None, Some, Result, Ok, Err}
-use Rattle.elf_image_type.specs.declared.fault.Fault.{Fault}
-use Rattle.elf_image_type.specs.declared.fault.Fault.TheVariants.{OutOfMemory, Io, Rule}
+use Rattle.elf_image_stream.specs.declared.fault.Fault.{Fault}
+use Rattle.elf_image_stream.specs.declared.fault.Fault.TheVariants.{OutOfMemory, Io, Rule}
 use Rattle.elf_image_rules.specs.Broken.{fault_of}
 use Rattle.elf_image_rules.specs.declared.broken.Broken.{Broken}
 

@@ -13,7 +13,8 @@ ghost use Rattle.elf_table_all.specs.TableVerdicts.{AreAllIndexTables, AreVerdic
 ghost use Rattle.elf_table_all.specs.Verdict.{IsUnread, IsVerdictOf};
 
 use elf_image_rules::Broken;
-use elf_image_type::{Fault, Image};
+use elf_image_stream::Fault;
+use elf_image_type::Image;
 use elf_table_base::TableKind;
 use elf_table_hash::judge_hash_table;
 use elf_table_lists::{

@@ -1,8 +1,8 @@
 -- What is answered of a list of rules whose last ones take memory, run by run.
 use Rattle.std.proofs.Common.{◌≡◌, ℕ, None, Some, List, ◌++◌, Result, Ok, Err, sym, subst}
 use Rattle.std.specs.Result.{IsErrAnd}
-use Rattle.elf_image_type.specs.declared.fault.Fault.{Fault}
-use Rattle.elf_image_type.specs.declared.fault.Fault.TheVariants.{Io, OutOfMemory, Rule}
+use Rattle.elf_image_stream.specs.declared.fault.Fault.{Fault}
+use Rattle.elf_image_stream.specs.declared.fault.Fault.TheVariants.{Io, OutOfMemory, Rule}
 use Rattle.elf_image_rules.specs.declared.broken.Broken.{Broken}
 use Rattle.elf_image_rules.specs.Rows.{FirstIn, Ruled}
 use Rattle.elf_image_rules.proofs.Public.{FirstIn-later, FirstIn-sooner}

@@ -2,8 +2,8 @@
 -- that is, at its lowest offset.
 use Rattle.std.specs.Prelude.{ℕ, List, None, Some, Result, Ok, Err}
 use Rattle.elf_image_rules.specs.Rows.{FirstIn, Ruled}
-use Rattle.elf_image_type.specs.declared.fault.Fault.{Fault}
-use Rattle.elf_image_type.specs.declared.fault.Fault.TheVariants.{OutOfMemory, Io, Rule}
+use Rattle.elf_image_stream.specs.declared.fault.Fault.{Fault}
+use Rattle.elf_image_stream.specs.declared.fault.Fault.TheVariants.{OutOfMemory, Io, Rule}
 
 -- of a call that takes no memory: the table is this value, by its view
 abbrev pub IsJudged : {T : Type 0} → List {1} (Ruled ℕ) → (T → Type 0) → Result T Fault → Type 0

@@ -13,7 +13,8 @@ ghost use Rattle.elf_table_hash.specs.Probe.{HasSymbolNamed, IsFirstNamed, IsPro
 use crate::hash_parts::HashParts;
 use crate::hash_rules::judge_hash_table;
 use crate::hash_words::{HashWords, SymbolNames};
-use elf_image_type::{Fault, Image};
+use elf_image_stream::Fault;
+use elf_image_type::Image;
 use elf_table_symbols::SymbolVerdicts;
 use std::alloc::Global;
 use std::marker::Model;

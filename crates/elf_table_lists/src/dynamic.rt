@@ -10,7 +10,8 @@ ghost use Rattle.elf_table_lists.specs.DynamicRules.{dynamic_section_rules};
 use crate::dynamic_entries::{dynamic_entry, first_null_entry};
 use crate::dynamic_rules::judge_dynamic_section;
 use elf_field::{Dyn, Order};
-use elf_image_type::{Fault, Image};
+use elf_image_stream::Fault;
+use elf_image_type::Image;
 use std::marker::Model;
 
 /// The dynamic array of a dynamic section: the list of its entries, which end before the first of tag `DT_NULL`. It borrows

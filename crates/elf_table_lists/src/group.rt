@@ -1,6 +1,6 @@
 //! Section groups (gABI chapter 4, Section Groups).
 ghost use Rattle.std.specs.Prelude.{◌≡◌, ◌<◌, IfErr, None, length, slice_index};
-ghost use Rattle.elf_image_type.specs.declared.fault.Fault.TheVariants.{OutOfMemory};
+ghost use Rattle.elf_image_stream.specs.declared.fault.Fault.TheVariants.{OutOfMemory};
 ghost use Rattle.elf_image_rules.specs.Rows.{FirstIn};
 ghost use Rattle.elf_table_base.specs.Judged.{IsJudgedBehind};
 ghost use Rattle.elf_table_base.specs.Sections.{content, order, sections_of};
@@ -10,7 +10,8 @@ ghost use Rattle.elf_table_lists.specs.MembersLeft.{members_left};
 
 use crate::group_rules::{judge_group_section, member, member_count};
 use elf_field::Order;
-use elf_image_type::{Fault, Image};
+use elf_image_stream::Fault;
+use elf_image_type::Image;
 use elf_table_symbols::{SymbolVerdicts, word};
 use std::alloc::Global;
 use std::marker::Model;

@@ -1,7 +1,7 @@
 //! Rules 55 to 58: the flags, the signature and the members of a section group (gABI chapter 4, Section Groups; Sections:
 //! sh_info, SHF_GROUP).
 ghost use Rattle.std.specs.Prelude.{◌≡◌, ◌↔◌, ◌<◌, ◌+◌, ◌*◌, ◌%◌, IfErr, IfOk, IsTrue, OnErr, length};
-ghost use Rattle.elf_image_type.specs.declared.fault.Fault.TheVariants.{OutOfMemory};
+ghost use Rattle.elf_image_stream.specs.declared.fault.Fault.TheVariants.{OutOfMemory};
 ghost use Rattle.elf_extent.specs.Least.{IsLowest};
 ghost use Rattle.elf_image_rules.specs.Broken.{fault_of};
 ghost use Rattle.elf_image_rules.specs.Rows.{FirstIn};
@@ -15,7 +15,8 @@ ghost use Rattle.elf_table_lists.specs.Groups.{MembersAscend, member as member_o
 use elf_field::Order;
 use elf_field::abi::*;
 use elf_image_rules::Broken;
-use elf_image_type::{Fault, Image};
+use elf_image_stream::Fault;
+use elf_image_type::Image;
 use elf_table_base::rules::*;
 use elf_table_base::{TableKind, judge_own_rules};
 use elf_table_symbols::{SymbolVerdicts, word};

@@ -9,7 +9,8 @@ ghost use Rattle.elf_table_lists.specs.Notes.{notes_of};
 use crate::note::{Note, note_at, note_end};
 use crate::note_rules::judge_note_section;
 use elf_field::Order;
-use elf_image_type::{Fault, Image};
+use elf_image_stream::Fault;
+use elf_image_type::Image;
 use std::marker::Model;
 
 /// A note section: the list of its notes. It borrows from the bytes of the file.

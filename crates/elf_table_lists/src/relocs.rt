@@ -10,7 +10,8 @@ use crate::relocation::{Relocation, relocation_at, relocation_count};
 use crate::relocation_rules::judge_relocation_section;
 use elf_field::Order;
 use elf_field::abi::*;
-use elf_image_type::{Fault, Image};
+use elf_image_stream::Fault;
+use elf_image_type::Image;
 use elf_table_symbols::SymbolVerdicts;
 use std::marker::Model;
 

@@ -10,8 +10,9 @@ ghost use Rattle.elf_table_symbols.specs.StringRules.{linked_string_rules, strin
 
 use elf_field::abi::*;
 use elf_image_rules::{Broken, unclosed_at};
+use elf_image_stream::Fault;
+use elf_image_type::Image;
 use elf_image_type::strings::string_at;
-use elf_image_type::{Fault, Image};
 use elf_table_base::rules::*;
 use std::marker::Model;
 

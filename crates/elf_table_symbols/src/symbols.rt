@@ -16,8 +16,9 @@ use crate::symbol_parts::{SymbolParts, entry};
 use crate::symbol_rules::judge_symbol_table;
 use elf_field::Order;
 use elf_field::abi::*;
+use elf_image_stream::Fault;
+use elf_image_type::Image;
 use elf_image_type::strings::string_at;
-use elf_image_type::{Fault, Image};
 use std::marker::Model;
 
 /// A symbol table: the list of its symbols, symbol 0 among them. It borrows from the bytes of the file, as the names of its

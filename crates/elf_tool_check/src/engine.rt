@@ -7,7 +7,7 @@ ghost use Rattle.elf_tool_check.specs.Check.{CheckSays, IsChecked, file_sections
 ghost use Rattle.elf_tool_text.specs.Line.{ok_line as ok_line_of};
 
 use elf_image_rules::{Broken, JudgedRecords, judge_by_sorting};
-use elf_image_type::write_whole;
+use elf_image_stream::write_whole;
 use elf_tool_text::line::{ok_line, refused_line};
 use elf_tool_text::{Refusal, ToolFault, Verdict, read_input};
 use std::alloc::{AllocError, Global};

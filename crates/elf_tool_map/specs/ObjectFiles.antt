@@ -4,8 +4,8 @@ use Rattle.elf_image_type.specs.Image.{ImageValue, IsImage}
 use Rattle.elf_object_reader.specs.Denotes.{Denotes}
 use Rattle.elf_object_reader.specs.FileRules.{file_rules}
 use Rattle.elf_object_type.specs.Object.{ObjectValue}
-use Rattle.elf_image_type.specs.declared.fault.Fault.{Fault}
-use Rattle.elf_image_type.specs.declared.fault.Fault.TheVariants as fault
+use Rattle.elf_image_stream.specs.declared.fault.Fault.{Fault}
+use Rattle.elf_image_stream.specs.declared.fault.Fault.TheVariants as fault
 use Rattle.elf_image_rules.specs.ImageRules.{IsFault}
 use Rattle.elf_image_rules.specs.Rows.{FirstIn}
 use Rattle.elf_table_base.specs.Sections.{sections_of}

@@ -1,12 +1,12 @@
 //! The lines of relocated bytes, as they go out.
 ghost use Rattle.std.specs.Prelude.{◌≡◌, ◌++◌, ◌∷◌, length};
-ghost use Rattle.elf_image_type.specs.Output.{Writes};
+ghost use Rattle.elf_image_stream.specs.Output.{Writes};
 ghost use Rattle.elf_tool_text.specs.Line.{blank, bytes_text};
 ghost use Rattle.std.specs.List.{flat_map};
 ghost use Rattle.elf_tool_map.specs.MapLines.{bytes_line, bytes_lines, member_bytes};
 ghost use Rattle.elf_tool_text.specs.Sending.{Sends};
 
-use elf_image_type::WriteFault;
+use elf_image_stream::WriteFault;
 use elf_link_map::Member;
 use elf_link_relocate::Linked;
 use elf_tool_text::sending::{Pieces, send, send_all, send_decimal, send_hexadecimal, send_word};

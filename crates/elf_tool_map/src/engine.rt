@@ -10,7 +10,7 @@ use crate::bytes_lines::write_relocated;
 use crate::map_lines::{push_file_refused_line, push_link_refused_line};
 use crate::map_text::map_text;
 use crate::object_files::{FileFault, objects_of};
-use elf_image_type::write_whole;
+use elf_image_stream::write_whole;
 use elf_link_field::RelocRule;
 use elf_link_map::{LinkFault, LinkMap, Options, map_numbered};
 use elf_link_relocate::relocate_numbered;

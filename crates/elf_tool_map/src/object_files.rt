@@ -2,7 +2,8 @@
 ghost use Rattle.std.specs.Prelude.{MatchResult, map};
 ghost use Rattle.elf_tool_map.specs.ObjectFiles.{AreObjectFiles, IsFileFault, IsObjectFile, IsObjectFileFault};
 
-use elf_image_type::{Fault, parse};
+use elf_image_stream::Fault;
+use elf_image_type::parse;
 use elf_object_reader::object_of;
 use elf_object_type::Object;
 use std::alloc::Global;

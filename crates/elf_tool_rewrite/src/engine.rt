@@ -4,7 +4,8 @@ ghost use Rattle.elf_tool_text.specs.Engine.{IsSaid};
 ghost use Rattle.elf_tool_rewrite.specs.Rewrite.{IsRewritten, ObjectSays, SectionsSay};
 ghost use Rattle.elf_table_base.specs.Sections.{sections_of};
 
-use elf_image_type::{Fault, Image, parse};
+use elf_image_stream::Fault;
+use elf_image_type::{Image, parse};
 use elf_object_reader::object_of;
 use elf_object_type::Object;
 use elf_object_writer::{ObjectWriteFault, write_object};

@@ -1,7 +1,7 @@
 -- A text that goes out piece by piece, with the count of the bytes that are out.
 use Rattle.std.specs.Prelude.{◌≡◌, ℕ, ◌+◌, ◌<◌, List, length, take, Option, Result, MatchResult}
 use Rattle.std.specs.Io.KnownBytes.{Appends}
-use Rattle.elf_image_type.specs.declared.fault.WriteFault.{WriteFault}
+use Rattle.elf_image_stream.specs.declared.fault.WriteFault.{WriteFault}
 
 -- behind `out` bytes all of a text went out, which are `all` bytes then
 abbrev pub WentOut : Option (List ℕ) → Option (List ℕ) → ℕ → List ℕ → ℕ → Type 0

@@ -1,7 +1,7 @@
 //! How an engine ends: with a verdict on what it read, or with a fault of its surroundings.
 ghost use Rattle.std.specs.Prelude.{◌≡◌, Some};
 
-use elf_image_type::WriteFault;
+use elf_image_stream::WriteFault;
 use std::alloc::AllocError;
 use std::error::Error;
 use std::fmt;

@@ -6,7 +6,7 @@ ghost use Rattle.elf_tool_text.specs.Engine.{IsReadFaultAfter};
 ghost use Rattle.elf_tool_text.specs.Inputs.{AreRead, IsReadingFault};
 
 use crate::fault::ToolFault;
-use elf_image_type::{Fault, read_to_end};
+use elf_image_stream::{Fault, read_to_end};
 use std::alloc::Global;
 use std::io::Read;
 

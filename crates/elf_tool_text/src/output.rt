@@ -3,7 +3,7 @@ ghost use Rattle.std.specs.Prelude.{◌≡◌, ◌<◌, [], OnOk, length};
 ghost use Rattle.elf_tool_text.specs.Output.{IsBuffered};
 
 use crate::fault::ToolFault;
-use elf_image_type::write_whole;
+use elf_image_stream::write_whole;
 use std::alloc::Global;
 use std::io::Write;
 

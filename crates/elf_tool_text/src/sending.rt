@@ -8,7 +8,7 @@ ghost use Rattle.elf_tool_text.specs.Line.{blank};
 ghost use Rattle.elf_tool_text.specs.Sending.{Sends};
 
 use crate::line::{MOST_DIGITS, put_digits};
-use elf_image_type::{WriteFault, write_whole};
+use elf_image_stream::{WriteFault, write_whole};
 use std::io::Write;
 
 /// How many bytes are made digits at a time.

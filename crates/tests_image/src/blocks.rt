@@ -2,8 +2,8 @@
 //! and no call comes after it.
 use crate::image_faults::OnceFailingWriter;
 use elf_field::{Order, Rela};
-use elf_image_type::WriteFault;
-use elf_image_type::output::{write_padded, write_records, write_zeros};
+use elf_image_stream::WriteFault;
+use elf_image_stream::output::{write_padded, write_records, write_zeros};
 use std::alloc::{AllocError, Global};
 use std::io::ErrorKind;
 use std::process::Abort;

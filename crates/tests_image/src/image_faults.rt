@@ -1,7 +1,8 @@
 //! Readers and writers that move little, fail, or meet a refused growth.
 ghost use Rattle.std.specs.Prelude.{◌<◌, ◌≤◌};
 
-use elf_image_type::{Fault, Image, WriteFault, parse, read_to_end, write, write_whole};
+use elf_image_stream::{Fault, WriteFault, read_to_end, write_whole};
+use elf_image_type::{Image, parse, write};
 use std::alloc::{AllocError, Global};
 use std::io;
 use std::io::{ErrorKind, Read, Write};

@@ -5,10 +5,8 @@ use crate::image_faults::Shelf;
 use elf_field::Order;
 use elf_field::abi::{E_SHNUM_AT, P_VADDR_AT, SH_SIZE_AT};
 use elf_image_rules::rules;
-use elf_image_type::{
-    Fault, Image, NoSection, Owner, Part, ReplaceFault, WriteFault, parse, read_to_end, verdict,
-    write,
-};
+use elf_image_stream::{Fault, WriteFault, read_to_end};
+use elf_image_type::{Image, NoSection, Owner, Part, ReplaceFault, parse, verdict, write};
 use std::alloc::{AllocError, Global};
 use std::io::Read;
 use std::process::Abort;

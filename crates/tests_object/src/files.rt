@@ -1,7 +1,8 @@
 //! Rules 70 to 79: an object file of a group with one member, a section beside it, relocations and a symbol table.
 use elf_field::Order;
 use elf_field::abi::*;
-use elf_image_type::{Fault, parse};
+use elf_image_stream::Fault;
+use elf_image_type::parse;
 use elf_object_reader::{object_of, rules};
 use elf_object_type::{Body, Place, Relocation, Section, Symbol};
 use elf_table_base::rules as table_rules;

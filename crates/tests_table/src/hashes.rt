@@ -2,7 +2,8 @@
 use crate::verdicts::{Table, assert_breaks};
 use elf_field::Order;
 use elf_field::abi::*;
-use elf_image_type::{Fault, parse};
+use elf_image_stream::Fault;
+use elf_image_type::parse;
 use elf_table_all::{Hash, HashFault, build_hash, elf_hash, rules};
 use std::alloc::Global;
 use std::process::Abort;

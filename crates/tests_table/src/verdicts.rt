@@ -1,5 +1,6 @@
 //! Verdicts on one table of a file.
-use elf_image_type::{Fault, parse};
+use elf_image_stream::Fault;
+use elf_image_type::parse;
 use elf_table_all::{Dynamic, Group, Hash, Notes, Relocs, Strings, Symbols};
 use std::alloc::Global;
 use std::process::Abort;

@@ -4,7 +4,8 @@ ghost use Rattle.std.specs.Prelude.{◌<◌, ◌≡◌, length};
 
 use crate::said::{assert_accepts, assert_lines, assert_written_back};
 use elf_field::{Ehdr, Order, Record, Shdr};
-use elf_image_type::{Fault, parse, verdict};
+use elf_image_stream::Fault;
+use elf_image_type::{parse, verdict};
 use elf_tool_program::{Verdict, show};
 use std::alloc::{AllocError, Global};
 use std::io;

@@ -1,5 +1,6 @@
 //! What is said of a file's bytes.
-use elf_image_type::{Fault, parse, write};
+use elf_image_stream::Fault;
+use elf_image_type::{parse, write};
 use elf_tool_program::{Verdict, check, show};
 use std::alloc::Global;
 use std::process::Abort;

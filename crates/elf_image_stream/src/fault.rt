@@ -1,4 +1,4 @@
-//! What can stop a call that reads, judges, edits or writes a file.
+//! What can stop a call that reads, judges or writes a file.
 ghost use Rattle.std.specs.Prelude.{◌≡◌, ◌+◌, ◌^◌, ◌<◌};
 
 use elf_extent::OutOfMemory;
@@ -17,7 +17,7 @@ pub enum Fault {
 }
 
 impl From<AllocError> for Fault {
-    ghost use Rattle.elf_image_type.specs.declared.fault.Fault.TheVariants.{OutOfMemory};
+    ghost use Rattle.elf_image_stream.specs.declared.fault.Fault.TheVariants.{OutOfMemory};
 
     ghost from_gives = { λ _ fault. fault ≡ OutOfMemory };
 
@@ -27,7 +27,7 @@ impl From<AllocError> for Fault {
 }
 
 impl<T: Drop> From<AllocFailed<T>> for Fault {
-    ghost use Rattle.elf_image_type.specs.declared.fault.Fault.TheVariants.{OutOfMemory};
+    ghost use Rattle.elf_image_stream.specs.declared.fault.Fault.TheVariants.{OutOfMemory};
 
     ghost from_gives = { λ _ fault. fault ≡ OutOfMemory };
 
@@ -37,7 +37,7 @@ impl<T: Drop> From<AllocFailed<T>> for Fault {
 }
 
 impl From<Broken<u64>> for Fault {
-    ghost use Rattle.elf_image_type.specs.declared.fault.Fault.TheVariants.{Rule};
+    ghost use Rattle.elf_image_stream.specs.declared.fault.Fault.TheVariants.{Rule};
 
     ghost from_gives = { λ broken fault. fault ≡ Rule broken.rule broken.at };
 
@@ -50,7 +50,7 @@ impl From<Broken<u64>> for Fault {
 }
 
 impl From<OutOfMemory> for Fault {
-    ghost use Rattle.elf_image_type.specs.declared.fault.Fault.TheVariants.{OutOfMemory};
+    ghost use Rattle.elf_image_stream.specs.declared.fault.Fault.TheVariants.{OutOfMemory};
 
     ghost from_gives = { λ _ fault. fault ≡ OutOfMemory };
 
@@ -67,8 +67,8 @@ pub struct WriteFault {
 }
 
 impl WriteFault {
-    // The fault, where so many other bytes went out before.
-    pub(crate) fn after(self, before: u64) -> WriteFault
+    /// The fault, where so many other bytes went out before.
+    pub fn after(self, before: u64) -> WriteFault
         requires { before + self.written < 2 ^ 64 }
         ensures { result.written ≡ before + self.written }
     {
@@ -76,20 +76,4 @@ impl WriteFault {
             written: before + self.written,
         }
     }
-}
-
-/// No section has the index: it is 0, or not below the number of section headers.
-#[derive(Clone, Copy, Debug, PartialEq, Eq)]
-pub struct NoSection;
-
-/// Why a section's content can't be replaced; where several hold, the first of them.
-#[derive(Clone, Copy, Debug, PartialEq, Eq)]
-pub enum ReplaceFault {
-    /// The index is 0 or not below the number of section headers, or the section is of type `SHT_NULL`
-    /// or `SHT_NOBITS` and has no content.
-    NoSection,
-    /// The new content is not `sh_size` bytes long.
-    WrongLength,
-    /// The section is the section name string table, which every section's name depends on.
-    NameTable,
 }

@@ -1,7 +1,7 @@
 use Rattle.std.proofs.Common.{arith}
 use Rattle.std.proofs.lemmas.List.{take-replicate}
-use Rattle.elf_image_type.proofs.Written.{zeros_err, zeros_ok}
-use Rattle.elf_image_type.proofs.output.write_zeros.Goals as goal
+use Rattle.elf_image_stream.proofs.Written.{zeros_err, zeros_ok}
+use Rattle.elf_image_stream.proofs.output.write_zeros.Goals as goal
 
 pub returns-in-Err : goal.returns-in-Err
 returns-in-Err g c = rw c.after.ensures (zeros_err c.args.count c.loop-written.written c.min-size.result c.in-Err.fault.written _ _ _ _ (omega arith)

@@ -1,7 +1,7 @@
 use Rattle.std.proofs.Common.{◌-◌, ◌≤◌}
 use Rattle.std.specs.Prelude.{replicate}
 use Rattle.std.specs.Io.KnownBytes.{Appends}
-use Rattle.elf_image_type.proofs.output.write_zeros.Given as goal
+use Rattle.elf_image_stream.proofs.output.write_zeros.Given as goal
 
 -- exactly the first zeros are out
 abbrev pub invariant-loop-written : goal.invariant-loop-written

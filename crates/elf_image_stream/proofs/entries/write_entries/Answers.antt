@@ -1,8 +1,8 @@
 use Rattle.std.proofs.Common.{◌*◌, take, arith, ap, ◌∙◌}
 use Rattle.std.proofs.lemmas.List.{length-take-le}
 use Rattle.elf_field.proofs.RecordTableLaws.{length-table}
-use Rattle.elf_image_type.proofs.Written.{flat_err, flat_ok}
-use Rattle.elf_image_type.proofs.entries.write_entries.Goals as goal
+use Rattle.elf_image_stream.proofs.Written.{flat_err, flat_ok}
+use Rattle.elf_image_stream.proofs.entries.write_entries.Goals as goal
 
 pub after-requires : goal.after-requires
 after-requires g c =

@@ -1,6 +1,6 @@
 use Rattle.std.proofs.Common.{rules}
-use Rattle.elf_image_type.proofs.Moved.{Appends-more}
-use Rattle.elf_image_type.proofs.output.write_whole.Goals as goal
+use Rattle.elf_image_stream.proofs.Moved.{Appends-more}
+use Rattle.elf_image_stream.proofs.output.write_whole.Goals as goal
 
 pub loop-written-preserved : goal.loop-written-preserved
 loop-written-preserved g c = record {

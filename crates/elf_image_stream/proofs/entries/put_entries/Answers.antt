@@ -1,7 +1,7 @@
 use Rattle.std.proofs.Common.{List, ℕ, drop, length, take, ap, arith, ◌∙◌}
-use Rattle.elf_image_type.proofs.Written.{in_records, length-put_mid, record_put}
-use Rattle.elf_image_type.proofs.Several.{length-several, several_at}
-use Rattle.elf_image_type.proofs.entries.put_entries.Goals as goal
+use Rattle.elf_image_stream.proofs.Written.{in_records, length-put_mid, record_put}
+use Rattle.elf_image_stream.proofs.Several.{length-several, several_at}
+use Rattle.elf_image_stream.proofs.entries.put_entries.Goals as goal
 
 pub loop-i-preserved : goal.loop-i-preserved
 loop-i-preserved g c =

@@ -5,7 +5,7 @@
 //! taken.
 ghost use Rattle.std.specs.Prelude.{◌+◌, ◌*◌, ◌^◌, ◌<◌, ◌≤◌, ◌++◌, length, replicate};
 ghost use Rattle.std.specs.List.{flat_map};
-ghost use Rattle.elf_image_type.specs.Output.{Writes};
+ghost use Rattle.elf_image_stream.specs.Output.{Writes};
 
 use crate::entries::{RecordEntries, write_entries};
 use crate::fault::WriteFault;

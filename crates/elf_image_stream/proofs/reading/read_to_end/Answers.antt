@@ -1,6 +1,6 @@
 use Rattle.std.proofs.Common.{rules}
-use Rattle.elf_image_type.proofs.Moved.{gives_first}
-use Rattle.elf_image_type.proofs.reading.read_to_end.Goals as goal
+use Rattle.elf_image_stream.proofs.Moved.{gives_first}
+use Rattle.elf_image_stream.proofs.reading.read_to_end.Goals as goal
 
 pub returns-clause-whole : goal.returns-clause-whole
 returns-clause-whole g c =

@@ -2,7 +2,7 @@
 //! Groups, Sections).
 ghost use Rattle.std.specs.Prelude.{◌≡◌, ◌<◌, ◌≤◌, ◌+◌, ◌*◌, ◌^◌, drop, get_or, length, take};
 ghost use Rattle.std.specs.List.{flat_map};
-ghost use Rattle.elf_image_type.specs.Output.{Writes};
+ghost use Rattle.elf_image_stream.specs.Output.{Writes};
 
 use crate::fault::WriteFault;
 use crate::output::{BLOCK, write_whole};

@@ -1,6 +1,6 @@
 use Rattle.std.proofs.Common.{◌-◌, ◌≤◌, length, take}
 use Rattle.std.specs.Io.KnownBytes.{Appends}
-use Rattle.elf_image_type.proofs.output.write_whole.Given as goal
+use Rattle.elf_image_stream.proofs.output.write_whole.Given as goal
 
 -- exactly the first bytes are out
 abbrev pub invariant-loop-written : goal.invariant-loop-written

@@ -1,7 +1,7 @@
 use Rattle.std.proofs.Common.{◌+◌, ◌-◌, ◌≤◌, vec_len, take}
 use Rattle.std.specs.Io.KnownBytes.{Consumes}
 use Rattle.elf_image_rules.specs.HeaderRules.{MAX_LEN}
-use Rattle.elf_image_type.proofs.reading.fill.Given as goal
+use Rattle.elf_image_stream.proofs.reading.fill.Given as goal
 
 -- the front of the buffer is what the reader gave
 abbrev pub invariant-loop-filled : goal.invariant-loop-filled

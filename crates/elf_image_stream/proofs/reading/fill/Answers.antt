@@ -1,6 +1,6 @@
 use Rattle.std.proofs.Common.{rules}
-use Rattle.elf_image_type.proofs.Moved.{Consumes-more}
-use Rattle.elf_image_type.proofs.reading.fill.Goals as goal
+use Rattle.elf_image_stream.proofs.Moved.{Consumes-more}
+use Rattle.elf_image_stream.proofs.reading.fill.Goals as goal
 
 pub loop-filled-preserved : goal.loop-filled-preserved
 loop-filled-preserved g c =

@@ -1,6 +1,6 @@
 use Rattle.std.proofs.Common.{◌≡◌, ◌*◌, drop, length, take}
 use Rattle.std.specs.List.{flat_map}
-use Rattle.elf_image_type.proofs.entries.put_entries.Given as goal
+use Rattle.elf_image_stream.proofs.entries.put_entries.Given as goal
 
 -- the first entries stand in the front
 abbrev pub invariant-loop-i : goal.invariant-loop-i

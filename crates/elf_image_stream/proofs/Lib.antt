@@ -1,0 +1,5 @@
+-- The lemmas of this crate. `Public` is for the proofs of the crates above, the others are for those of this one.
+mod Moved
+pub mod Public
+mod Several
+mod Written

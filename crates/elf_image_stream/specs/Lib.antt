@@ -1,0 +1,3 @@
+-- The words of this crate's contracts.
+pub mod Output
+pub mod Reading

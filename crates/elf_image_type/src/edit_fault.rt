@@ -1,0 +1,16 @@
+//! What can stop an edit of an image.
+/// No section has the index: it is 0, or not below the number of section headers.
+#[derive(Clone, Copy, Debug, PartialEq, Eq)]
+pub struct NoSection;
+
+/// Why a section's content can't be replaced; where several hold, the first of them.
+#[derive(Clone, Copy, Debug, PartialEq, Eq)]
+pub enum ReplaceFault {
+    /// The index is 0 or not below the number of section headers, or the section is of type `SHT_NULL`
+    /// or `SHT_NOBITS` and has no content.
+    NoSection,
+    /// The new content is not `sh_size` bytes long.
+    WrongLength,
+    /// The section is the section name string table, which every section's name depends on.
+    NameTable,
+}
