@@ -15,6 +15,7 @@
 
 mod edit_fault;
 mod edits;
+mod extents;
 mod image;
 pub mod laws;
 mod outline;

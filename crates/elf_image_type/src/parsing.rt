@@ -1,21 +1,18 @@
 //! From a file's bytes to its image.
-ghost use Rattle.std.specs.Prelude.{◌≡◌, ◌*◌, ◌<◌, ◌^◌, IfErr, IfOk, length, map};
+ghost use Rattle.std.specs.Prelude.{◌≡◌, IfErr, IfOk, map};
 ghost use Rattle.std.specs.List.{range_with_len};
-ghost use Rattle.elf_extent.specs.Account.{Accounts};
-ghost use Rattle.elf_extent.specs.Extent.{AreDisjoint, AreWithin};
 ghost use Rattle.elf_image_rules.specs.ImageRules.{IsFault};
 ghost use Rattle.elf_image_rules.specs.JudgedRecords.{file_of};
 ghost use Rattle.elf_image_rules.specs.Tables.{bytes_in, content_extent, file_counts, header, sections, segments};
-ghost use Rattle.elf_image_type.specs.Image.{AreRecordsIn, IsImage, owner_index, part_piece, value_extents};
+ghost use Rattle.elf_image_type.specs.Image.{AreRecordsIn, IsImage, value_extents};
 ghost use Rattle.elf_image_type.specs.Parsing.{IsParseFault};
 
+use crate::extents::{account_parts, extents_of};
 use crate::image::Image;
 use crate::outline::Outline;
-use crate::part::{Owner, Part};
-use elf_extent::{Extent, OutOfMemory, Piece, account};
-use elf_field::abi::{EHDR_SIZE, PHDR_SIZE, SHDR_SIZE};
+use elf_extent::Extent;
 use elf_field::{Ehdr, Phdr, Shdr};
-use elf_image_rules::content::{content_of, extent_of_content};
+use elf_image_rules::content::content_of;
 use elf_image_rules::rules::SHARED_BYTE;
 use elf_image_rules::{JudgedRecords, judge_records};
 use elf_image_stream::Fault;
@@ -90,18 +87,6 @@ fn read_tables(alloc: Global, records: &JudgedRecords<'_>) -> Result<Tables, All
     })
 }
 
-/// The parts of a file of `len` bytes with these extents.
-fn account_parts(alloc: Global, extents: &[Extent], len: u64) -> Result<Vec<Part>, AllocError>
-    requires disjoint { AreDisjoint extents.now }
-    requires within { AreWithin extents.now len }
-    ensures { IfOk result (λ parts. Accounts extents.now len 0 (map part_piece parts.items)) }
-{
-    match account(alloc, extents, len) {
-        Ok(pieces) => parts_of(alloc, &pieces),
-        Err(OutOfMemory) => Err(AllocError),
-    }
-}
-
 /// The section headers of a file, in a table of their own.
 fn section_headers(alloc: Global, records: &JudgedRecords<'_>) -> Result<Vec<Shdr>, AllocError>
     ensures { let b = file_of records.now in
@@ -141,60 +126,3 @@ fn contents_of<'a>(
     Ok(contents)
 }
 
-/// The extents of the header, the two tables and the contents.
-fn extents_of(
-    alloc: Global,
-    header: &Ehdr,
-    entries: &[Shdr],
-    segments: &[Phdr],
-) -> Result<Vec<Extent>, AllocError>
-    requires sections { SHDR_SIZE * length entries.now < 2 ^ 64 }
-    requires segments { PHDR_SIZE * length segments.now < 2 ^ 64 }
-    ensures { IfOk result (λ v. v.items ≡ value_extents header.now entries.now segments.now) }
-{
-    let mut extents = Vec::new(alloc);
-    extents.push(Extent {
-        start: 0,
-        len: EHDR_SIZE,
-    })?;
-    extents.push(Extent {
-        start: header.e_shoff,
-        len: SHDR_SIZE * entries.len() as u64,
-    })?;
-    extents.push(Extent {
-        start: header.e_phoff,
-        len: PHDR_SIZE * segments.len() as u64,
-    })?;
-    for entry in entries {
-        extents.push(extent_of_content(entry))?;
-    }
-    Ok(extents)
-}
-
-/// What the extent of this index is of; None is a gap.
-fn owner_of(index: Option<usize>) -> Owner
-    ensures { owner_index result ≡ index }
-{
-    match index {
-        None => Owner::Gap,
-        Some(0) => Owner::Header,
-        Some(1) => Owner::SectionTable,
-        Some(2) => Owner::ProgramTable,
-        Some(index) => Owner::Content(index - 3),
-    }
-}
-
-/// The parts that these pieces are.
-fn parts_of(alloc: Global, pieces: &[Piece]) -> Result<Vec<Part>, AllocError>
-    ensures { IfOk result (λ v. map part_piece v.items ≡ pieces.now) }
-{
-    let mut parts = Vec::new(alloc);
-    for piece in pieces {
-        parts.push(Part {
-            owner: owner_of(piece.owner),
-            start: piece.start,
-            len: piece.len,
-        })?;
-    }
-    Ok(parts)
-}

@@ -1,0 +1,82 @@
+//! What each byte of a file belongs to, by its records.
+ghost use Rattle.std.specs.Prelude.{◌≡◌, ◌*◌, ◌<◌, ◌^◌, IfOk, length, map};
+ghost use Rattle.elf_extent.specs.Account.{Accounts};
+ghost use Rattle.elf_extent.specs.Extent.{AreDisjoint, AreWithin};
+ghost use Rattle.elf_image_type.specs.Image.{owner_index, part_piece, value_extents};
+
+use crate::part::{Owner, Part};
+use elf_extent::{Extent, OutOfMemory, Piece, account};
+use elf_field::abi::{EHDR_SIZE, PHDR_SIZE, SHDR_SIZE};
+use elf_field::{Ehdr, Phdr, Shdr};
+use elf_image_rules::content::extent_of_content;
+use std::alloc::{AllocError, Global};
+
+/// The parts of a file of `len` bytes with these extents.
+pub fn account_parts(alloc: Global, extents: &[Extent], len: u64) -> Result<Vec<Part>, AllocError>
+    requires disjoint { AreDisjoint extents.now }
+    requires within { AreWithin extents.now len }
+    ensures { IfOk result (λ parts. Accounts extents.now len 0 (map part_piece parts.items)) }
+{
+    match account(alloc, extents, len) {
+        Ok(pieces) => parts_of(alloc, &pieces),
+        Err(OutOfMemory) => Err(AllocError),
+    }
+}
+
+/// The extents of the header, the two tables and the contents.
+pub fn extents_of(
+    alloc: Global,
+    header: &Ehdr,
+    entries: &[Shdr],
+    segments: &[Phdr],
+) -> Result<Vec<Extent>, AllocError>
+    requires sections { SHDR_SIZE * length entries.now < 2 ^ 64 }
+    requires segments { PHDR_SIZE * length segments.now < 2 ^ 64 }
+    ensures { IfOk result (λ v. v.items ≡ value_extents header.now entries.now segments.now) }
+{
+    let mut extents = Vec::new(alloc);
+    extents.push(Extent {
+        start: 0,
+        len: EHDR_SIZE,
+    })?;
+    extents.push(Extent {
+        start: header.e_shoff,
+        len: SHDR_SIZE * entries.len() as u64,
+    })?;
+    extents.push(Extent {
+        start: header.e_phoff,
+        len: PHDR_SIZE * segments.len() as u64,
+    })?;
+    for entry in entries {
+        extents.push(extent_of_content(entry))?;
+    }
+    Ok(extents)
+}
+
+/// What the extent of this index is of; None is a gap.
+pub fn owner_of(index: Option<usize>) -> Owner
+    ensures { owner_index result ≡ index }
+{
+    match index {
+        None => Owner::Gap,
+        Some(0) => Owner::Header,
+        Some(1) => Owner::SectionTable,
+        Some(2) => Owner::ProgramTable,
+        Some(index) => Owner::Content(index - 3),
+    }
+}
+
+/// The parts that these pieces are.
+pub fn parts_of(alloc: Global, pieces: &[Piece]) -> Result<Vec<Part>, AllocError>
+    ensures { IfOk result (λ v. map part_piece v.items ≡ pieces.now) }
+{
+    let mut parts = Vec::new(alloc);
+    for piece in pieces {
+        parts.push(Part {
+            owner: owner_of(piece.owner),
+            start: piece.start,
+            len: piece.len,
+        })?;
+    }
+    Ok(parts)
+}
