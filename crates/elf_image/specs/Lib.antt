@@ -12,11 +12,11 @@ pub use Rattle.elf_image_rules.specs.SectionTableRules
 pub use Rattle.elf_image_rules.specs.SegmentRules
 pub use Rattle.elf_image_rules.specs.StringTable
 pub use Rattle.elf_image_rules.specs.Tables
-pub use Rattle.elf_image_type.specs.Image
-pub use Rattle.elf_image_type.specs.Outline
+pub use Rattle.elf_image_outline.specs.Image
+pub use Rattle.elf_image_outline.specs.Outline
 pub use Rattle.elf_image_stream.specs.Output
 pub use Rattle.elf_image_type.specs.Parsing
-pub use Rattle.elf_image_type.specs.Parts
+pub use Rattle.elf_image_outline.specs.Parts
 pub use Rattle.elf_image_stream.specs.Reading
 pub use Rattle.elf_image_type.specs.Strings
 pub use Rattle.elf_image_type.specs.View

@@ -13,6 +13,7 @@
 //! ```
 #![tactic(auto)]
 
+pub use elf_image_outline::{NoSection, Owner, Part, ReplaceFault};
 pub use elf_image_rules::{rules, verdict};
 pub use elf_image_stream::{Fault, WriteFault, read_to_end};
-pub use elf_image_type::{Image, NoSection, Owner, Part, ReplaceFault, parse, write};
+pub use elf_image_type::{Image, parse, write};

@@ -11,11 +11,11 @@ use Rattle.elf_field.specs.ShdrLaws.{shdr_fields_at}
 use Rattle.elf_field.specs.Phdr.{IsPhdrAt}
 use Rattle.elf_field.specs.PhdrLaws.{phdr_fields_at}
 use Rattle.elf_image_rules.specs.Tables.{header, order_of, phdr_offset, sections, segments, shdr_offset}
-use Rattle.elf_image_type.specs.Image.{ImageValue, IsImage, no_program_header, no_section_header, program_header_of, section_header_of}
+use Rattle.elf_image_outline.specs.Image.{ImageValue, IsImage, no_program_header, no_section_header, program_header_of, section_header_of}
 use Rattle.elf_image_rules.proofs.Public.{sections_read_at}
-use Rattle.elf_image_type.proofs.Standing.{clean_of, table_there}
-use Rattle.elf_image_type.proofs.Stands.{element_made}
-use Rattle.elf_image_type.proofs.Theorem.{counted_by_bytes, has_tables_by_bytes}
+use Rattle.elf_image_outline.proofs.Standing.{clean_of, table_there}
+use Rattle.elf_image_outline.proofs.Stands.{element_made}
+use Rattle.elf_image_outline.proofs.Theorem.{counted_by_bytes, has_tables_by_bytes}
 
 pub header_fields : (v : ImageValue) (b : List ℕ) → IsImage v b → IsEhdrAt (order_of v.header.e_ident) b 0 v.header
 unfolding header

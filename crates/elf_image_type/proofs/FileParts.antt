@@ -20,16 +20,16 @@ use Rattle.elf_image_rules.specs.KeepsRules.{KeepsRules}
 use Rattle.elf_image_rules.specs.Rows.{FirstIn}
 use Rattle.elf_image_rules.specs.Tables.{bytes_in, content_extent, header, order_of, program_header_count, section_header_count, sections, segments}
 use Rattle.elf_image_rules.proofs.Public.{rules_unbroken, sections_none}
-use Rattle.elf_image_type.specs.declared.part.Owner.{Owner}
-use Rattle.elf_image_type.specs.declared.part.Owner.TheVariants.{Header, ProgramTable, SectionTable, Content, Gap}
-use Rattle.elf_image_type.specs.Image.{AreRecordsIn, ImageValue, Stands, owner_index, program_header_of, section_header_of, value_extents, value_names, value_rules}
+use Rattle.elf_image_outline.specs.declared.part.Owner.{Owner}
+use Rattle.elf_image_outline.specs.declared.part.Owner.TheVariants.{Header, ProgramTable, SectionTable, Content, Gap}
+use Rattle.elf_image_outline.specs.Image.{AreRecordsIn, ImageValue, Stands, owner_index, program_header_of, section_header_of, value_extents, value_names, value_rules}
 use Rattle.elf_image_type.specs.FileParts.{AreFileParts, FileContents, HasContents, IsWritable, WrittenPart, owner_bytes, owner_start, spread, unaligned, written}
-use Rattle.elf_image_type.proofs.Holds.{length-content, same_len, same_start}
+use Rattle.elf_image_outline.proofs.Holds.{length-content, same_len, same_start}
 use Rattle.elf_image_type.proofs.OneImage.{owner_from}
 use Rattle.elf_image_type.proofs.Spread.{IsBytes-spread, in_spread, same_part}
-use Rattle.elf_image_type.proofs.Standing.{IsCounted, clean_of, extents_are, get_or_at, mapped_at, table_there, within_list}
-use Rattle.elf_image_type.proofs.Stands.{contents_read, element_made, first_of_none, header_read, sections_read, segments_read}
-use Rattle.elf_image_type.proofs.Theorem.{Reads, clean_bytes, has_tables_of}
+use Rattle.elf_image_outline.proofs.Standing.{IsCounted, clean_of, extents_are, get_or_at, mapped_at, table_there, within_list}
+use Rattle.elf_image_outline.proofs.Stands.{contents_read, element_made, first_of_none, header_read, sections_read, segments_read}
+use Rattle.elf_image_outline.proofs.Theorem.{Reads, clean_bytes, has_tables_of}
 
 -- the value with these records and contents, with no parts: the rules look at none
 abbrev value_of : FileContents → ℕ → ImageValue

@@ -8,12 +8,12 @@ use Rattle.elf_extent.specs.declared.extent.Piece.{Piece}
 use Rattle.elf_extent.specs.Account.{Accounts}
 use Rattle.elf_extent.proofs.Public.{one_account}
 use Rattle.elf_image_rules.specs.Tables.{bytes_in, content_extent, program_header_count, section_header_count, sections, segments}
-use Rattle.elf_image_type.specs.declared.part.Owner.{Owner}
-use Rattle.elf_image_type.specs.declared.part.Owner.TheVariants.{Header, ProgramTable, SectionTable, Content, Gap}
-use Rattle.elf_image_type.specs.declared.part.Part.{Part}
-use Rattle.elf_image_type.specs.Image.{ImageValue, IsImage, PlacedPart, gap_in, owner_index, piece_of, value_extents}
-use Rattle.elf_image_type.proofs.Standing.{disjoint_of}
-use Rattle.elf_image_type.proofs.Theorem.{counted_by_bytes}
+use Rattle.elf_image_outline.specs.declared.part.Owner.{Owner}
+use Rattle.elf_image_outline.specs.declared.part.Owner.TheVariants.{Header, ProgramTable, SectionTable, Content, Gap}
+use Rattle.elf_image_outline.specs.declared.part.Part.{Part}
+use Rattle.elf_image_outline.specs.Image.{ImageValue, IsImage, PlacedPart, gap_in, owner_index, piece_of, value_extents}
+use Rattle.elf_image_outline.proofs.Standing.{disjoint_of}
+use Rattle.elf_image_outline.proofs.Theorem.{counted_by_bytes}
 
 -- the owner of an index in the list of extents
 abbrev pub owner_from : Option ℕ → Owner

@@ -7,10 +7,10 @@ use Rattle.elf_extent.specs.Account.{Accounts}
 use Rattle.elf_extent.proofs.Public.{some_account}
 use Rattle.elf_image_rules.specs.ImageRules.{IsFault}
 use Rattle.elf_image_rules.specs.Tables.{bytes_in, content_extent, header, program_header_count, section_header_count, sections, segments}
-use Rattle.elf_image_type.specs.declared.part.Part.{Part}
-use Rattle.elf_image_type.specs.Image.{AreRecordsIn, ImageValue, IsImage, owner_index, part_piece, value_extents}
+use Rattle.elf_image_outline.specs.declared.part.Part.{Part}
+use Rattle.elf_image_outline.specs.Image.{AreRecordsIn, ImageValue, IsImage, owner_index, part_piece, value_extents}
 use Rattle.elf_image_type.proofs.OneImage.{owner_from}
-use Rattle.elf_image_type.proofs.Parsed.{made, made_is_image, tables_disjoint, tables_within}
+use Rattle.elf_image_outline.proofs.Parsed.{made, made_is_image, tables_disjoint, tables_within}
 
 owner_index-owner_from : (o : Option ℕ) → owner_index (owner_from o) ≡ o
 owner_index-owner_from None = refl

@@ -12,9 +12,9 @@ use Rattle.elf_field.specs.Phdr.{IsPhdr, phdr_bytes}
 use Rattle.elf_extent.specs.Place.{Fits}
 use Rattle.elf_image_rules.specs.KeepsRules.{KeepsEachRecordRule}
 use Rattle.elf_image_rules.specs.Tables.{content_extent, order_of, program_header_count, program_header_of, section_header_count, section_header_of}
-use Rattle.elf_image_type.specs.declared.part.Owner.{Owner}
-use Rattle.elf_image_type.specs.declared.part.Owner.TheVariants.{Header, ProgramTable, SectionTable, Content, Gap}
-use Rattle.elf_image_type.specs.Image.{ImageValue, value_names}
+use Rattle.elf_image_outline.specs.declared.part.Owner.{Owner}
+use Rattle.elf_image_outline.specs.declared.part.Owner.TheVariants.{Header, ProgramTable, SectionTable, Content, Gap}
+use Rattle.elf_image_outline.specs.Image.{ImageValue, value_names}
 
 -- ---- the bytes
 

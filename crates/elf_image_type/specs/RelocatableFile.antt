@@ -12,7 +12,7 @@ use Rattle.elf_extent.specs.Place.{Fits}
 use Rattle.elf_image_rules.specs.HeaderRules.{MAX_LEN}
 use Rattle.elf_image_rules.specs.KeepsRules.{EachSectionHeader, IsAlignment, KeepsIdentRules, KeepsNameRules}
 use Rattle.elf_image_rules.specs.Tables.{content_extent, no_section_header, order_of, section_header_of}
-use Rattle.elf_image_type.specs.declared.part.Owner.TheVariants.{Header, SectionTable, Content}
+use Rattle.elf_image_outline.specs.declared.part.Owner.TheVariants.{Header, SectionTable, Content}
 use Rattle.elf_image_type.specs.FileParts.{FileContents, WrittenPart, spread, unaligned}
 
 -- ---- counts and indexes that the header may not hold

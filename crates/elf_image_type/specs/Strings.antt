@@ -2,7 +2,7 @@
 use Rattle.std.specs.Prelude.{ℕ, ◌==◌, if◌then◌else◌, List, [], drop}
 use Rattle.std.specs.List.{before_first}
 use Rattle.elf_field.specs.Abi.{SHT_NULL}
-use Rattle.elf_image_type.specs.Image.{ImageValue, section_header_of, value_names}
+use Rattle.elf_image_outline.specs.Image.{ImageValue, section_header_of, value_names}
 
 -- the bytes of a table from offset x to the first zero, or to its end where there is none
 abbrev pub string : List ℕ → ℕ → List ℕ

@@ -1,11 +1,11 @@
 //! The edits of an image (gABI chapter 4, ELF Header, Sections). Each changes just its own field, content or gaps, and leaves an
 //! image again.
 ghost use Rattle.std.specs.Prelude.{◌≡◌, MatchResult, OnErr, OnOk};
-ghost use Rattle.elf_image_type.specs.Edits.{IsReplaceFault, IsReplaceable, IsSectionIndex, with_content, with_entry, with_flags, with_zero_gaps};
+ghost use Rattle.elf_image_outline.specs.Edits.{IsReplaceFault, IsReplaceable, IsSectionIndex, with_content, with_entry, with_flags, with_zero_gaps};
 
-use crate::edit_fault::{NoSection, ReplaceFault};
 use crate::image::Image;
 use elf_field::abi::{SHT_NOBITS, SHT_NULL};
+use elf_image_outline::{NoSection, ReplaceFault};
 
 impl<'a> Image<'a> {
     /// Sets `e_entry`.

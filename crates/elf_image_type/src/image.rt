@@ -2,16 +2,15 @@
 ghost use Rattle.std.specs.Prelude.{◌≡◌, ◌<◌, ◌≤◌, ◌+◌, ℕ, [], List, get_or, length, map};
 ghost use Rattle.elf_image_rules.specs.HeaderRules.{MAX_LEN};
 ghost use Rattle.elf_image_rules.specs.Tables.{content_extent, name_table, order_of, shdr_offset};
-ghost use Rattle.elf_image_type.specs.Image.{IsImage, IsSoundImage, program_header_of, section_header_of, value_names};
-ghost use Rattle.elf_image_type.specs.Outline.{image_of};
-ghost use Rattle.elf_image_type.specs.Parts.{AreParts};
+ghost use Rattle.elf_image_outline.specs.Image.{IsImage, IsSoundImage, program_header_of, section_header_of, value_names};
+ghost use Rattle.elf_image_outline.specs.Outline.{image_of};
+ghost use Rattle.elf_image_outline.specs.Parts.{AreParts};
 ghost use Rattle.elf_image_type.specs.Strings.{section_name};
 
-use crate::outline::Outline;
-use crate::part::Part;
 use crate::strings::string_at;
 use elf_field::abi::{SHDR_SIZE, SHT_NULL};
 use elf_field::{Ehdr, Order, Phdr, Shdr};
+use elf_image_outline::{Outline, Part};
 use std::marker::Model;
 
 /// An ELF-64 file that breaks no rule, as a value: what [`parse`](crate::parse) makes of the file's
@@ -29,7 +28,7 @@ pub struct Image<'a> {
 }
 
 impl<'a> Model for Image<'a> {
-    ghost use Rattle.elf_image_type.specs.Image.{ImageValue, IsSoundImage};
+    ghost use Rattle.elf_image_outline.specs.Image.{ImageValue, IsSoundImage};
 
     ghost Value = { ImageValue };
 

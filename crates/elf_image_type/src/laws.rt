@@ -10,7 +10,7 @@ ghost use Rattle.elf_field.specs.Shdr.{IsShdrAt};
 ghost use Rattle.elf_image_rules.specs.ImageRules.{IsFault};
 ghost use Rattle.elf_image_rules.specs.Tables.{order_of, phdr_offset, shdr_offset};
 ghost use Rattle.elf_image_type.specs.FileParts.{FileContents, HasContents, IsWritable, WrittenPart, written};
-ghost use Rattle.elf_image_type.specs.Image.{ImageValue, IsImage, IsSoundImage, Stands, program_header_of, section_header_of};
+ghost use Rattle.elf_image_outline.specs.Image.{ImageValue, IsImage, IsSoundImage, Stands, program_header_of, section_header_of};
 ghost use Rattle.elf_image_type.specs.RelocatableFile.{IsRelocatableFile, relocatable_bytes, relocatable_file};
 
 /// An image stands as one list of bytes, and as no other, be it with a fault or without.

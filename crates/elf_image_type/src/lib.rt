@@ -13,20 +13,14 @@
 //! ```
 #![tactic(auto)]
 
-mod edit_fault;
 mod edits;
-mod extents;
 mod image;
 pub mod laws;
-mod outline;
 mod parsing;
-mod part;
 pub mod strings;
 mod writing;
 
-pub use edit_fault::{NoSection, ReplaceFault};
 pub use elf_image_rules::verdict;
 pub use image::Image;
 pub use parsing::parse;
-pub use part::{Owner, Part};
 pub use writing::write;

@@ -4,14 +4,13 @@ ghost use Rattle.std.specs.List.{range_with_len};
 ghost use Rattle.elf_image_rules.specs.ImageRules.{IsFault};
 ghost use Rattle.elf_image_rules.specs.JudgedRecords.{file_of};
 ghost use Rattle.elf_image_rules.specs.Tables.{bytes_in, content_extent, file_counts, header, sections, segments};
-ghost use Rattle.elf_image_type.specs.Image.{AreRecordsIn, IsImage, value_extents};
+ghost use Rattle.elf_image_outline.specs.Image.{AreRecordsIn, IsImage, value_extents};
 ghost use Rattle.elf_image_type.specs.Parsing.{IsParseFault};
 
-use crate::extents::{account_parts, extents_of};
 use crate::image::Image;
-use crate::outline::Outline;
 use elf_extent::Extent;
 use elf_field::{Ehdr, Phdr, Shdr};
+use elf_image_outline::{Outline, account_parts, extents_of};
 use elf_image_rules::content::content_of;
 use elf_image_rules::rules::SHARED_BYTE;
 use elf_image_rules::{JudgedRecords, judge_records};
@@ -125,4 +124,3 @@ fn contents_of<'a>(
     }
     Ok(contents)
 }
-

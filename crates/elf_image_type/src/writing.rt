@@ -1,12 +1,11 @@
 //! An image onto a writer.
 ghost use Rattle.std.specs.Prelude.{◌≡◌, ◌<◌, ℕ, List, length, map};
-ghost use Rattle.elf_image_type.specs.Image.{IsImage, IsSoundImage, joined, part_bytes};
-ghost use Rattle.elf_image_type.specs.Outline.{image_of, placed_part};
+ghost use Rattle.elf_image_outline.specs.Image.{IsImage, IsSoundImage, joined, part_bytes};
+ghost use Rattle.elf_image_outline.specs.Outline.{image_of, placed_part};
 ghost use Rattle.elf_image_stream.specs.Output.{Writes};
 
 use crate::image::Image;
-use crate::outline::Outline;
-use crate::part::{Owner, Part};
+use elf_image_outline::{Outline, Owner, Part};
 use elf_image_stream::WriteFault;
 use elf_image_stream::output::{write_records, write_whole, write_zeros};
 use std::io::Write;

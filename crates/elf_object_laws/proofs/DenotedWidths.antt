@@ -13,7 +13,7 @@ use Rattle.elf_field.specs.RelaLaws.{rela_laws}
 use Rattle.elf_field.specs.Shdr.{IsShdr}
 use Rattle.elf_field.specs.SymLaws.{sym_laws}
 use Rattle.elf_field.specs.declared.order.Order.{Order}
-use Rattle.elf_image_type.specs.Image.{ImageValue, IsSoundImage, value_names}
+use Rattle.elf_image_outline.specs.Image.{ImageValue, IsSoundImage, value_names}
 use Rattle.elf_image_type.specs.Strings.{string}
 use Rattle.elf_image_rules.specs.Tables.{name_table, no_section_header}
 use Rattle.elf_table_base.specs.Sections.{content, order, section, sections_of}

@@ -4,7 +4,7 @@ use Rattle.std.specs.Prelude.{None}
 use Rattle.elf_field.specs.Bytes.{IsBytes}
 use Rattle.elf_field.specs.declared.ehdr.Ehdr.{Ehdr}
 use Rattle.elf_field.specs.declared.shdr.Shdr.{Shdr}
-use Rattle.elf_image_type.specs.Image.{ImageValue, IsImage, Stands}
+use Rattle.elf_image_outline.specs.Image.{ImageValue, IsImage, Stands}
 use Rattle.elf_image_type.proofs.Public.{image_is_sound, relocatable_accepted, relocatable_is_bytes, relocatable_read, some_image}
 use Rattle.elf_image_rules.specs.HeaderRules.{MAX_LEN}
 use Rattle.elf_image_rules.specs.ImageRules.{IsFault}

@@ -7,7 +7,7 @@ use Rattle.elf_field.specs.Abi.{EI_ABIVERSION, EI_OSABI, ELFDATA2MSB, SHT_NULL}
 use Rattle.elf_field.specs.declared.order.Order.{Order}
 use Rattle.elf_field.specs.declared.order.Order.TheVariants.{Little, Big}
 use Rattle.elf_field.specs.declared.shdr.Shdr.{Shdr}
-use Rattle.elf_image_type.specs.Image.{value_names}
+use Rattle.elf_image_outline.specs.Image.{value_names}
 use Rattle.elf_image_type.specs.Strings.{string}
 use Rattle.elf_image_rules.specs.Tables.{order_of}
 use Rattle.elf_object_strings.specs.Names.{HasNoZero}

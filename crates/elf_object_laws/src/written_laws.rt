@@ -1,7 +1,7 @@
 //! What an object is written as is accepted, and read as that object.
 ghost use Rattle.std.specs.Prelude.{◌≡◌, ◌≤◌, ℕ, List, None, length};
 ghost use Rattle.elf_field.specs.Bytes.{IsBytes};
-ghost use Rattle.elf_image_type.specs.Image.{ImageValue, IsImage, Stands};
+ghost use Rattle.elf_image_outline.specs.Image.{ImageValue, IsImage, Stands};
 ghost use Rattle.elf_object_reader.specs.Denotes.{Denotes};
 ghost use Rattle.elf_object_reader.specs.FileRules.{file_rules};
 ghost use Rattle.elf_object_writer.specs.Laid.{Laid};

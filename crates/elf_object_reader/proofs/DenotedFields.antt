@@ -5,7 +5,7 @@ use Rattle.std.proofs.lemmas.Bool.{cases_eq, eqb-true}
 use Rattle.std.proofs.lemmas.List.{get_or-map, length-map}
 use Rattle.elf_extent.specs.Least.{Never}
 use Rattle.elf_field.specs.Abi.{RELA_SIZE, REL_SIZE, SHF_INFO_LINK, relocation_size}
-use Rattle.elf_image_type.specs.Image.{ImageValue, IsSoundImage, program_header_of, section_header_of, value_names}
+use Rattle.elf_image_outline.specs.Image.{ImageValue, IsSoundImage, program_header_of, section_header_of, value_names}
 use Rattle.elf_image_rules.specs.KeepsRules.{KeepsSectionRules}
 use Rattle.elf_image_rules.specs.Rows.{FirstIn}
 use Rattle.elf_image_rules.proofs.Public.{FirstIn-front, rules_kept}

@@ -7,7 +7,7 @@ use Rattle.std.proofs.lemmas.List.{get_or-map, get_or-take, length-map, length-t
 use Rattle.std.proofs.lemmas.List.Sums.{fails_before_first}
 use Rattle.elf_extent.specs.Least.{Never}
 use Rattle.elf_field.specs.Abi.{SHT_NULL}
-use Rattle.elf_image_type.specs.Image.{value_names}
+use Rattle.elf_image_outline.specs.Image.{value_names}
 use Rattle.elf_image_type.specs.Strings.{string}
 use Rattle.elf_object_reader.specs.Denotes.{Denotes, section_denoted}
 use Rattle.elf_object_reader.specs.Kept.{is_kept, kept, left_out, position_of}

@@ -3,7 +3,7 @@ use Rattle.std.proofs.Common.{◌≡◌, ℕ, ◌<◌, Bool, true, false, None, 
 use Rattle.std.specs.Prelude.{◌&&◌, position}
 use Rattle.std.proofs.lemmas.Bool.{cases_lt}
 use Rattle.elf_field.specs.declared.shdr.Shdr.{Shdr}
-use Rattle.elf_image_type.specs.Image.{no_section_header}
+use Rattle.elf_image_outline.specs.Image.{no_section_header}
 use Rattle.elf_table_base.specs.Sections.{Sections, count, section}
 use Rattle.elf_table_symbols.proofs.Public.{lowest_position}
 

@@ -3,7 +3,7 @@ use Rattle.std.proofs.Common.{◌≡◌, ℕ, ◌<◌, ◌⊎◌, ◌||◌, Bool
 use Rattle.std.specs.Prelude.{◌==◌, if◌then◌else◌}
 use Rattle.std.proofs.lemmas.Bool.{eqb-true}
 use Rattle.elf_field.specs.Abi.{SHT_GROUP, SHT_NOBITS, SHT_REL, SHT_RELA}
-use Rattle.elf_image_type.specs.Image.{ImageValue}
+use Rattle.elf_image_outline.specs.Image.{ImageValue}
 use Rattle.elf_image_rules.specs.Rows.{FirstIn}
 use Rattle.elf_object_reader.specs.FileRules.{rules_of_body}
 use Rattle.elf_object_reader.specs.Kept.{body_kind, left_out}

@@ -9,7 +9,7 @@ use Rattle.std.proofs.lemmas.List.FromFn.{get_or-map-range_with_len, map-range_w
 use Rattle.std.proofs.lemmas.List.Quantifiers.{position-Some}
 use Rattle.elf_field.specs.Abi.{SHT_SYMTAB}
 use Rattle.elf_field.specs.declared.shdr.Shdr.{Shdr}
-use Rattle.elf_image_type.specs.Image.{no_section_header}
+use Rattle.elf_image_outline.specs.Image.{no_section_header}
 use Rattle.elf_object_reader.specs.Kept.{is_kept, position_of, symbol_table}
 use Rattle.elf_object_reader.specs.declared.left_out.LeftOut.{LeftOut}
 use Rattle.elf_table_base.specs.Sections.{Sections, count, section}

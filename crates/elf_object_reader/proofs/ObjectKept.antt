@@ -1,6 +1,6 @@
 -- The object that a file denotes which breaks none of its rules: it is one.
 use Rattle.std.proofs.Common.{None}
-use Rattle.elf_image_type.specs.Image.{ImageValue, IsSoundImage}
+use Rattle.elf_image_outline.specs.Image.{ImageValue, IsSoundImage}
 use Rattle.elf_image_rules.specs.Rows.{FirstIn}
 use Rattle.elf_object_reader.specs.Denotes.{Denotes}
 use Rattle.elf_object_reader.specs.FileRules.{file_rules}

@@ -2,7 +2,7 @@
 use Rattle.std.specs.Prelude.{◌≡◌, ℕ, ◌+◌, ◌-◌, ◌*◌, ◌==◌, if◌then◌else◌, Option, None, Some, List, [], bit_and, drop, map, pos, slice_index, unwrap_or}
 use Rattle.elf_field.specs.Abi.{EI_ABIVERSION, EI_OSABI, GRP_COMDAT, SHF_INFO_LINK, SHT_NULL}
 use Rattle.elf_field.specs.declared.shdr.Shdr.{Shdr}
-use Rattle.elf_image_type.specs.Image.{value_names}
+use Rattle.elf_image_outline.specs.Image.{value_names}
 use Rattle.elf_image_type.specs.Strings.{string}
 use Rattle.elf_table_symbols.specs.declared.symbol.Place as table_place
 use Rattle.elf_table_symbols.specs.declared.symbol.Place.TheVariants.{Undefined, Absolute, Common, Reserved, Section}

@@ -3,7 +3,7 @@ use Rattle.std.specs.Prelude.{◌≡◌, ℕ, ◌+◌, List, length, map}
 use Rattle.std.specs.List.{range_with_len}
 use Rattle.elf_object_reader.specs.Kept.{position_of}
 use Rattle.elf_object_reader.specs.declared.left_out.LeftOut.{LeftOut}
-use Rattle.elf_image_type.specs.Image.{ImageValue}
+use Rattle.elf_image_outline.specs.Image.{ImageValue}
 use Rattle.elf_table_base.specs.Sections.{Sections, count, sections_of}
 use Rattle.elf_table_all.specs.TableVerdicts.{AreVerdicts, TablesValue}
 

@@ -1,7 +1,7 @@
 -- The verdicts on all tables of a file, and its index tables.
 use Rattle.std.specs.Prelude.{◌≡◌, ℕ, ◌<◌, Option, None, List, length, get_or}
 use Rattle.elf_image_rules.specs.Rows.{FirstIn}
-use Rattle.elf_image_type.specs.Image.{ImageValue}
+use Rattle.elf_image_outline.specs.Image.{ImageValue}
 use Rattle.elf_table_symbols.specs.declared.index_tables.IndexTables.{IndexTables}
 use Rattle.elf_table_symbols.specs.IndexTable.{AreIndexTables}
 use Rattle.elf_table_base.specs.Sections.{Sections, count}

@@ -8,7 +8,7 @@ ghost use Rattle.elf_field.specs.Rel.{rel_at};
 ghost use Rattle.elf_field.specs.Rela.{rela_at};
 ghost use Rattle.elf_field.specs.Sym.{sym_at};
 ghost use Rattle.elf_field.specs.Word.{word_at};
-ghost use Rattle.elf_image_type.specs.Image.{ImageValue, IsImage};
+ghost use Rattle.elf_image_outline.specs.Image.{ImageValue, IsImage};
 ghost use Rattle.elf_image_rules.specs.Rows.{FirstIn};
 ghost use Rattle.elf_image_rules.specs.Tables.{bytes_in};
 ghost use Rattle.elf_table_base.specs.Sections.{Sections, sections_in, sections_of};

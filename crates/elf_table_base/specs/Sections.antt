@@ -6,7 +6,7 @@ use Rattle.elf_field.specs.declared.order.Order.{Order}
 use Rattle.elf_field.specs.declared.ehdr.Ehdr.{Ehdr}
 use Rattle.elf_field.specs.declared.shdr.Shdr.{Shdr}
 use Rattle.elf_image_rules.specs.Tables.{bytes_in, content_extent, header, order_of, section_header_count, sections, shdr_offset}
-use Rattle.elf_image_type.specs.Image.{ImageValue, section_header_of}
+use Rattle.elf_image_outline.specs.Image.{ImageValue, section_header_of}
 
 pub record Sections : Type 0 where
   pub header : Ehdr

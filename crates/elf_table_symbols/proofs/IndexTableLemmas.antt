@@ -6,7 +6,7 @@ use Rattle.std.proofs.lemmas.Bool.{eq-eqb, eqb-true}
 use Rattle.elf_field.specs.Abi.{SHT_SYMTAB_SHNDX}
 use Rattle.elf_field.specs.declared.shdr.Shdr.{Shdr}
 use Rattle.elf_extent.specs.Least.{IsLowest}
-use Rattle.elf_image_type.specs.Image.{no_section_header}
+use Rattle.elf_image_outline.specs.Image.{no_section_header}
 use Rattle.elf_table_symbols.specs.declared.index_tables.IndexTables.{IndexTables}
 use Rattle.elf_table_symbols.specs.Below.{Below}
 use Rattle.elf_table_symbols.specs.IndexTable.{AreIndexTables, IsIndexTable, IsSecondIndexTable, index_table, noted}

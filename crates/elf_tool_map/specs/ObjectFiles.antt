@@ -1,6 +1,6 @@
 -- What files are as objects.
 use Rattle.std.specs.Prelude.{ℕ, zero, suc, ◌⊎◌, List, [], ◌∷◌, None, Some}
-use Rattle.elf_image_type.specs.Image.{ImageValue, IsImage}
+use Rattle.elf_image_outline.specs.Image.{ImageValue, IsImage}
 use Rattle.elf_object_reader.specs.Denotes.{Denotes}
 use Rattle.elf_object_reader.specs.FileRules.{file_rules}
 use Rattle.elf_object_type.specs.Object.{ObjectValue}

@@ -2,7 +2,7 @@
 use Rattle.std.specs.Prelude.{◌≡◌, ℕ, List, ◌++◌, length, Option, Some, Result}
 use Rattle.std.specs.List.{flat_map, range_with_len}
 use Rattle.elf_image_rules.specs.ImageRules.{IsFault}
-use Rattle.elf_image_type.specs.Image.{ImageValue, IsImage, program_header_of, section_header_of}
+use Rattle.elf_image_outline.specs.Image.{ImageValue, IsImage, program_header_of, section_header_of}
 use Rattle.elf_image_type.specs.Strings.{section_name}
 use Rattle.elf_table_base.specs.Sections.{sections_of}
 use Rattle.elf_table_all.specs.TableVerdicts.{AreVerdicts, TablesValue}

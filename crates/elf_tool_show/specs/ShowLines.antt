@@ -8,9 +8,9 @@ use Rattle.elf_field.specs.declared.ehdr.Ehdr.{Ehdr}
 use Rattle.elf_field.specs.declared.shdr.Shdr.{Shdr}
 use Rattle.elf_field.specs.declared.phdr.Phdr.{Phdr}
 use Rattle.elf_image_rules.specs.Tables.{order_of}
-use Rattle.elf_image_type.specs.declared.part.Owner.{Owner}
-use Rattle.elf_image_type.specs.declared.part.Owner.TheVariants.{Header, ProgramTable, SectionTable, Content, Gap}
-use Rattle.elf_image_type.specs.declared.part.Part.{Part}
+use Rattle.elf_image_outline.specs.declared.part.Owner.{Owner}
+use Rattle.elf_image_outline.specs.declared.part.Owner.TheVariants.{Header, ProgramTable, SectionTable, Content, Gap}
+use Rattle.elf_image_outline.specs.declared.part.Part.{Part}
 use Rattle.elf_tool_text.specs.Line.{hexadecimal, line, name_text}
 
 abbrev pub order_text : Order → List ℕ

@@ -4,8 +4,8 @@ ghost use Rattle.elf_tool_text.specs.Line.{further_words};
 ghost use Rattle.elf_tool_show.specs.ShowLines.{file_line, order_text, owner_words, part_line, section_line, segment_line};
 
 use elf_field::{Ehdr, Order, Phdr, Shdr};
+use elf_image_outline::{Owner, Part};
 use elf_image_rules::tables::order_in;
-use elf_image_type::{Owner, Part};
 use elf_tool_text::line::{
     begin_line, end_line, push_bytes, push_decimal, push_hexadecimal, push_name, push_word,
 };

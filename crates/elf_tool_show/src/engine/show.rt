@@ -9,8 +9,9 @@ ghost use Rattle.elf_tool_show.specs.ShowLines.{part_line};
 
 use super::show_tables::show_tables;
 use crate::show_lines::{push_file_line, push_part_line, push_section_line, push_segment_line};
+use elf_image_outline::Part;
 use elf_image_stream::{Fault, write_whole};
-use elf_image_type::{Image, Part, parse};
+use elf_image_type::{Image, parse};
 use elf_table_all::Tables;
 use elf_tool_text::line::refused_line;
 use elf_tool_text::lines::{Lines, show_lines};

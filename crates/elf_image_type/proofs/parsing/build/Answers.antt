@@ -6,10 +6,10 @@ use Rattle.elf_extent.specs.declared.extent.Extent.{Extent}
 use Rattle.elf_extent.specs.Account.{Accounts}
 use Rattle.elf_extent.specs.Extent.{AreDisjoint, AreWithin}
 use Rattle.elf_image_rules.specs.Tables.{bytes_in, content_extent}
-use Rattle.elf_image_type.specs.Image.{ImageValue, IsImage, IsSoundImage, part_piece}
-use Rattle.elf_image_type.specs.Outline.{OutlineValue, image_of}
-use Rattle.elf_image_type.proofs.Parsed.{made, made_is_image, tables_disjoint, tables_within}
-use Rattle.elf_image_type.proofs.Theorem.{image_is_sound}
+use Rattle.elf_image_outline.specs.Image.{ImageValue, IsImage, IsSoundImage, part_piece}
+use Rattle.elf_image_outline.specs.Outline.{OutlineValue, image_of}
+use Rattle.elf_image_outline.proofs.Parsed.{made, made_is_image, tables_disjoint, tables_within}
+use Rattle.elf_image_outline.proofs.Theorem.{image_is_sound}
 use Rattle.elf_image_type.proofs.parsing.build.Goals as goal
 
 pub account_parts-requires-clause-disjoint : goal.account_parts-requires-clause-disjoint

@@ -1,6 +1,6 @@
-use Rattle.elf_image_type.specs.Image.{joined}
+use Rattle.elf_image_outline.specs.Image.{joined}
 use Rattle.elf_image_type.specs.View.{view_of}
-use Rattle.elf_image_type.proofs.Theorem.{joined_is_image}
+use Rattle.elf_image_outline.proofs.Theorem.{joined_is_image}
 use Rattle.elf_image_type.proofs.writing.write.Goals as goal
 
 pub returns : goal.returns

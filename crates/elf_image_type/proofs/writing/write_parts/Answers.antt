@@ -1,7 +1,7 @@
 use Rattle.std.proofs.Common.{List, ℕ, ap, subst, take_all, ◌∙◌}
 use Rattle.std.specs.List.{flat_map}
 use Rattle.std.specs.Io.KnownBytes.{Appends}
-use Rattle.elf_image_type.proofs.Written.{bytes_in_parts, joined_parts, out_fits, part_in, parts_err}
+use Rattle.elf_image_outline.proofs.Written.{bytes_in_parts, joined_parts, out_fits, part_in, parts_err}
 use Rattle.elf_image_type.proofs.writing.write_parts.Goals as goal
 
 pub write_part-requires-clause-some : goal.write_part-requires-clause-some

@@ -1,8 +1,8 @@
 use Rattle.std.proofs.Common.{map, take}
 use Rattle.std.specs.List.{flat_map}
 use Rattle.std.specs.Io.KnownBytes.{Appends}
-use Rattle.elf_image_type.specs.Image.{part_bytes}
-use Rattle.elf_image_type.specs.Outline.{image_of, placed_part}
+use Rattle.elf_image_outline.specs.Image.{part_bytes}
+use Rattle.elf_image_outline.specs.Outline.{image_of, placed_part}
 use Rattle.elf_image_type.proofs.writing.write_parts.Given as goal
 
 -- exactly the first parts are out

@@ -1,8 +1,8 @@
 use Rattle.std.proofs.Common.{arith, refl}
 use Rattle.std.proofs.lemmas.List.{map-set}
-use Rattle.elf_image_type.specs.Edits.{IsReplaceable}
+use Rattle.elf_image_outline.specs.Edits.{IsReplaceable}
 use Rattle.elf_image_type.specs.View.{view_of}
-use Rattle.elf_image_type.proofs.Edited.{sound-replaced}
+use Rattle.elf_image_outline.proofs.Edited.{sound-replaced}
 use Rattle.elf_image_type.proofs.image.Image.replace.Goals as goal
 
 pub invariant_of-self : goal.invariant_of-self

@@ -1,5 +1,5 @@
 use Rattle.std.proofs.Common.{arith}
-use Rattle.elf_image_type.proofs.Edited.{sound-with_entry}
+use Rattle.elf_image_outline.proofs.Edited.{sound-with_entry}
 use Rattle.elf_image_type.proofs.image.Image.set_entry.Goals as goal
 
 pub invariant_of-self : goal.invariant_of-self

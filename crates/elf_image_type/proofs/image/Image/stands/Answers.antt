@@ -1,6 +1,6 @@
 use Rattle.std.proofs.Common.{List, ℕ, subst}
-use Rattle.elf_image_type.specs.Image.{ImageValue, IsImage, joined}
-use Rattle.elf_image_type.proofs.Theorem.{joined_is_image}
+use Rattle.elf_image_outline.specs.Image.{ImageValue, IsImage, joined}
+use Rattle.elf_image_outline.proofs.Theorem.{joined_is_image}
 use Rattle.elf_image_type.proofs.image.Image.stands.Goals as goal
 
 pub returns : goal.returns

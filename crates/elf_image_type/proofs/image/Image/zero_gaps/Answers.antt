@@ -1,4 +1,4 @@
-use Rattle.elf_image_type.proofs.Edited.{image-zeroed, sound-with_zero_gaps}
+use Rattle.elf_image_outline.proofs.Edited.{image-zeroed, sound-with_zero_gaps}
 use Rattle.elf_image_type.proofs.image.Image.zero_gaps.Goals as goal
 
 pub invariant_of-self : goal.invariant_of-self

@@ -3,8 +3,8 @@ use Rattle.std.specs.List.{flat_map}
 use Rattle.std.proofs.lemmas.List.Folds.{flat_map-map}
 use Rattle.std.proofs.lemmas.Result.{err_from_is_err_and}
 use Rattle.elf_field.specs.declared.ehdr.Ehdr.{Ehdr}
-use Rattle.elf_image_type.specs.Image.{ImageValue, PlacedPart}
-use Rattle.elf_image_type.specs.declared.part.Part.{Part}
+use Rattle.elf_image_outline.specs.Image.{ImageValue, PlacedPart}
+use Rattle.elf_image_outline.specs.declared.part.Part.{Part}
 use Rattle.elf_table_all.specs.TableVerdicts.{TablesValue}
 use Rattle.elf_tool_show.specs.TableLines.{all_table_lines}
 use Rattle.elf_tool_text.specs.Output.{Buffers, IsCutShort}

@@ -17,9 +17,9 @@ use Rattle.elf_image_rules.specs.Rows.{Ruled, FirstIn}
 use Rattle.elf_image_rules.specs.Tables.{bytes_in, content_extent, header, name_table, order_of, phdr_offset, program_header_count, section_header_count, sections, segments, shdr_offset}
 pub use Rattle.elf_image_rules.specs.Tables.{no_program_header, no_section_header, program_header_of, section_header_of}
 use Rattle.elf_image_rules.specs.ImageRules.{image_rules, rules_in}
-use Rattle.elf_image_type.specs.declared.part.Owner.{Owner}
-use Rattle.elf_image_type.specs.declared.part.Owner.TheVariants.{Header, ProgramTable, SectionTable, Content, Gap}
-use Rattle.elf_image_type.specs.declared.part.Part.{Part}
+use Rattle.elf_image_outline.specs.declared.part.Owner.{Owner}
+use Rattle.elf_image_outline.specs.declared.part.Owner.TheVariants.{Header, ProgramTable, SectionTable, Content, Gap}
+use Rattle.elf_image_outline.specs.declared.part.Part.{Part}
 
 -- a part of the file, and its own bytes where it is a gap (none where it has an owner)
 pub record PlacedPart : Type 0 where

@@ -24,11 +24,11 @@ use Rattle.elf_image_rules.specs.ProgramTableRules.{program_table_rules}
 use Rattle.elf_image_rules.specs.SectionRules.{section_header_rules}
 use Rattle.elf_image_rules.specs.SectionTableRules.{section_table_rules}
 use Rattle.elf_image_rules.specs.SegmentRules.{segment_rules}
-use Rattle.elf_image_type.specs.declared.part.Part.{Part}
-use Rattle.elf_image_type.specs.Image.{ImageValue, IsSoundImage, PlacedPart, gap_len, no_section_header, piece_of, program_header_of, section_header_of, value_extents, value_names}
-use Rattle.elf_image_type.specs.Edits.{IsReplaceable, flagged, with_content, with_entry, with_flags, with_zero_gaps, zeroed}
-use Rattle.elf_image_type.specs.Outline.{OutlineValue, image_of, placed_part}
-use Rattle.elf_image_type.proofs.Named.{content_len}
+use Rattle.elf_image_outline.specs.declared.part.Part.{Part}
+use Rattle.elf_image_outline.specs.Image.{ImageValue, IsSoundImage, PlacedPart, gap_len, no_section_header, piece_of, program_header_of, section_header_of, value_extents, value_names}
+use Rattle.elf_image_outline.specs.Edits.{IsReplaceable, flagged, with_content, with_entry, with_flags, with_zero_gaps, zeroed}
+use Rattle.elf_image_outline.specs.Outline.{OutlineValue, image_of, placed_part}
+use Rattle.elf_image_outline.proofs.Named.{content_len}
 
 -- ---- lists with one element set
 

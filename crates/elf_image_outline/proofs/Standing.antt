@@ -13,7 +13,7 @@ use Rattle.elf_image_rules.specs.OverlapRule.{extents}
 use Rattle.elf_image_rules.specs.Rows.{FirstIn}
 use Rattle.elf_image_rules.specs.SoundTables.{HasSoundTables}
 use Rattle.elf_image_rules.proofs.Public.{clean_records, content_some, extents_disjoint, sound_tables}
-use Rattle.elf_image_type.specs.Image.{AreWithinBytes, ImageValue, IsSoundImage, value_rules, no_section_header, section_header_of, program_header_of, value_extents, value_names}
+use Rattle.elf_image_outline.specs.Image.{AreWithinBytes, ImageValue, IsSoundImage, value_rules, no_section_header, section_header_of, program_header_of, value_extents, value_names}
 
 -- ---- lists by index
 

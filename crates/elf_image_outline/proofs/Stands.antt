@@ -21,12 +21,12 @@ use Rattle.elf_field.specs.ShdrLaws.{shdr_laws}
 use Rattle.elf_field.specs.PhdrLaws.{phdr_laws}
 use Rattle.elf_extent.specs.declared.extent.Extent.{Extent}
 use Rattle.elf_image_rules.specs.Tables.{bytes_in, content_extent, header, order_of, program_header_count, section_header_count, sections, segments}
-use Rattle.elf_image_type.specs.declared.part.Owner.{Owner}
-use Rattle.elf_image_type.specs.declared.part.Owner.TheVariants.{Header, ProgramTable, SectionTable, Content, Gap}
-use Rattle.elf_image_type.specs.Image.{ImageValue, IsSoundImage, PlacedPart, Stands, gap_in, gap_len, if_gap, joined, no_section_header, owned_bytes, part_bytes, section_header_of}
-use Rattle.elf_image_type.proofs.Holds.{holds_content, holds_header, holds_sections, holds_segments, in_joined, length-joined}
+use Rattle.elf_image_outline.specs.declared.part.Owner.{Owner}
+use Rattle.elf_image_outline.specs.declared.part.Owner.TheVariants.{Header, ProgramTable, SectionTable, Content, Gap}
+use Rattle.elf_image_outline.specs.Image.{ImageValue, IsSoundImage, PlacedPart, Stands, gap_in, gap_len, if_gap, joined, no_section_header, owned_bytes, part_bytes, section_header_of}
+use Rattle.elf_image_outline.proofs.Holds.{holds_content, holds_header, holds_sections, holds_segments, in_joined, length-joined}
 use Rattle.elf_image_rules.proofs.Public.{sections_none, sections_read_at}
-use Rattle.elf_image_type.proofs.Standing.{clean_of, counted_of, records_within, table_there}
+use Rattle.elf_image_outline.proofs.Standing.{clean_of, counted_of, records_within, table_there}
 use Rattle.elf_field.proofs.RecordTableLaws.{IsBytes-table, entries_read, record_read}
 
 -- ---- the joined parts are bytes

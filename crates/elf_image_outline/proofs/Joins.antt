@@ -5,7 +5,7 @@ use Rattle.std.proofs.lemmas.List.{drop-drop, drop_at, take_at, take-append-drop
 use Rattle.std.proofs.Math.ListN.{drop_of_length-le}
 use Rattle.elf_extent.specs.declared.extent.Extent.{Extent}
 use Rattle.elf_extent.specs.Account.{Accounts}
-use Rattle.elf_image_type.specs.Image.{PlacedPart, piece_of}
+use Rattle.elf_image_outline.specs.Image.{PlacedPart, piece_of}
 
 -- each part's bytes are as many as its length
 abbrev pub HaveLengths : (PlacedPart → List ℕ) → List PlacedPart → Type 0

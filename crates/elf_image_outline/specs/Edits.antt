@@ -4,9 +4,9 @@ use Rattle.std.specs.Prelude.{◌≡◌, ◌≢◌, ℕ, ◌<◌, List, length, 
 use Rattle.elf_field.specs.Abi.{SHT_NOBITS, SHT_NULL}
 use Rattle.elf_field.specs.declared.shdr.Shdr.{Shdr}
 use Rattle.elf_image_rules.specs.Tables.{name_table}
-use Rattle.elf_image_type.specs.Image.{ImageValue, PlacedPart, gap_len, section_header_of}
-use Rattle.elf_image_type.specs.declared.edit_fault.ReplaceFault.{ReplaceFault}
-use Rattle.elf_image_type.specs.declared.edit_fault.ReplaceFault.TheVariants.{NoSection, WrongLength, NameTable}
+use Rattle.elf_image_outline.specs.Image.{ImageValue, PlacedPart, gap_len, section_header_of}
+use Rattle.elf_image_outline.specs.declared.edit_fault.ReplaceFault.{ReplaceFault}
+use Rattle.elf_image_outline.specs.declared.edit_fault.ReplaceFault.TheVariants.{NoSection, WrongLength, NameTable}
 
 -- with another e_entry
 abbrev pub with_entry : ImageValue → ℕ → ImageValue

@@ -1,6 +1,6 @@
 -- What contracts see of an outline.
-use Rattle.elf_image_type.specs.declared.outline.Outline.TheInside.{Inside}
-use Rattle.elf_image_type.specs.Outline.{OutlineValue}
+use Rattle.elf_image_outline.specs.declared.outline.Outline.TheInside.{Inside}
+use Rattle.elf_image_outline.specs.Outline.{OutlineValue}
 
 abbrev pub outline_view : Inside → OutlineValue
 outline_view a = record {

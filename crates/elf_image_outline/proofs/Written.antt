@@ -8,12 +8,12 @@ use Rattle.elf_image_rules.specs.HeaderRules.{MAX_LEN}
 use Rattle.elf_image_stream.proofs.Public.{flat_err}
 use Rattle.elf_extent.specs.declared.extent.Extent.{Extent}
 use Rattle.elf_extent.specs.Account.{Accounts}
-use Rattle.elf_image_type.specs.declared.part.Part.{Part}
-use Rattle.elf_image_type.specs.Image.{ImageValue, IsSoundImage, PlacedPart, joined, part_bytes, piece_of}
-use Rattle.elf_image_type.specs.Outline.{OutlineValue, image_of, placed_part}
-use Rattle.elf_image_type.proofs.Joins.{HaveLengths}
-use Rattle.elf_image_type.proofs.Standing.{clean_of, counted_of}
-use Rattle.elf_image_type.proofs.Holds.{length-joined, lengths_of}
+use Rattle.elf_image_outline.specs.declared.part.Part.{Part}
+use Rattle.elf_image_outline.specs.Image.{ImageValue, IsSoundImage, PlacedPart, joined, part_bytes, piece_of}
+use Rattle.elf_image_outline.specs.Outline.{OutlineValue, image_of, placed_part}
+use Rattle.elf_image_outline.proofs.Joins.{HaveLengths}
+use Rattle.elf_image_outline.proofs.Standing.{clean_of, counted_of}
+use Rattle.elf_image_outline.proofs.Holds.{length-joined, lengths_of}
 
 -- a part begins where the ones before it end, and has as many bytes as its length says, and some
 pub record IsPartAt (f : PlacedPart → List ℕ) (z : Bool) (file : List ℕ) (ps : List Part) (at k : ℕ) (p : Part) : Type 0 where

@@ -3,10 +3,10 @@ use Rattle.std.specs.Prelude.{◌≡◌, ◌<◌, ◌≤◌, ℕ, ◌+◌, ◌*�
 use Rattle.elf_field.specs.Abi.{EHDR_SIZE, PHDR_SIZE, SHDR_SIZE}
 use Rattle.elf_extent.specs.Account.{IsGap}
 use Rattle.elf_image_rules.specs.Tables.{content_extent}
-use Rattle.elf_image_type.specs.declared.part.Owner.{Owner}
-use Rattle.elf_image_type.specs.declared.part.Owner.TheVariants.{Header, ProgramTable, SectionTable, Content, Gap}
-use Rattle.elf_image_type.specs.declared.part.Part.{Part}
-use Rattle.elf_image_type.specs.Image.{ImageValue, section_header_of, value_extents}
+use Rattle.elf_image_outline.specs.declared.part.Owner.{Owner}
+use Rattle.elf_image_outline.specs.declared.part.Owner.TheVariants.{Header, ProgramTable, SectionTable, Content, Gap}
+use Rattle.elf_image_outline.specs.declared.part.Part.{Part}
+use Rattle.elf_image_outline.specs.Image.{ImageValue, section_header_of, value_extents}
 
 -- part k is p and holds the offset x, and no other part does
 pub record IsOnlyPartAt (ps : List Part) (x k : ℕ) (p : Part) : Type 0 where

@@ -6,13 +6,13 @@ use Rattle.elf_extent.specs.declared.extent.Piece.{Piece}
 use Rattle.elf_extent.specs.Account.{IsOwned}
 use Rattle.elf_extent.proofs.Public.{IsPiece, in_piece, piece_at, pieces_ascend}
 use Rattle.elf_image_rules.specs.Tables.{content_extent}
-use Rattle.elf_image_type.specs.declared.part.Owner.{Owner}
-use Rattle.elf_image_type.specs.declared.part.Owner.TheVariants.{Header, ProgramTable, SectionTable, Content, Gap}
-use Rattle.elf_image_type.specs.declared.part.Part.{Part}
-use Rattle.elf_image_type.specs.Image.{ImageValue, IsSoundImage, PlacedPart, no_section_header, owner_index, part_piece, piece_of, section_header_of, value_extents}
-use Rattle.elf_image_type.specs.Parts.{AreParts, IsExtentOf, IsOnlyPartAt}
-use Rattle.elf_image_type.proofs.Holds.{same_len, same_start}
-use Rattle.elf_image_type.proofs.Standing.{get_or_at, mapped_at, within_list}
+use Rattle.elf_image_outline.specs.declared.part.Owner.{Owner}
+use Rattle.elf_image_outline.specs.declared.part.Owner.TheVariants.{Header, ProgramTable, SectionTable, Content, Gap}
+use Rattle.elf_image_outline.specs.declared.part.Part.{Part}
+use Rattle.elf_image_outline.specs.Image.{ImageValue, IsSoundImage, PlacedPart, no_section_header, owner_index, part_piece, piece_of, section_header_of, value_extents}
+use Rattle.elf_image_outline.specs.Parts.{AreParts, IsExtentOf, IsOnlyPartAt}
+use Rattle.elf_image_outline.proofs.Holds.{same_len, same_start}
+use Rattle.elf_image_outline.proofs.Standing.{get_or_at, mapped_at, within_list}
 
 -- where a list has an element, the mapped one has its image
 at_mapped : {A B : Type 0} (f : A → B) (xs : List A) (k : ℕ) (x : A) → slice_get xs k ≡ Some x → slice_get (map f xs) k ≡ Some (f x)

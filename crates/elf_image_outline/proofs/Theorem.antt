@@ -23,15 +23,15 @@ use Rattle.elf_extent.proofs.Public.{accounts_le}
 use Rattle.elf_image_rules.specs.Rows.{FirstIn}
 use Rattle.elf_image_rules.specs.ImageRules.{image_rules, rules_in}
 use Rattle.elf_image_rules.specs.Tables.{bytes_in, content_extent, header, name_table, names, names_at, order_of, program_header_count, section_header_count, sections, segments}
-use Rattle.elf_image_type.specs.declared.part.Owner.{Owner}
-use Rattle.elf_image_type.specs.declared.part.Owner.TheVariants.{Header, ProgramTable, SectionTable, Content, Gap}
-use Rattle.elf_image_type.specs.Image.{AreRecordsIn, ImageValue, IsImage, IsSoundImage, PlacedPart, Stands, gap_in, gap_len, if_gap, joined, no_program_header, no_section_header, owned_bytes, owner_index, part_bytes, piece_of, program_header_of, section_header_of, value_extents, value_names, value_rules}
+use Rattle.elf_image_outline.specs.declared.part.Owner.{Owner}
+use Rattle.elf_image_outline.specs.declared.part.Owner.TheVariants.{Header, ProgramTable, SectionTable, Content, Gap}
+use Rattle.elf_image_outline.specs.Image.{AreRecordsIn, ImageValue, IsImage, IsSoundImage, PlacedPart, Stands, gap_in, gap_len, if_gap, joined, no_program_header, no_section_header, owned_bytes, owner_index, part_bytes, piece_of, program_header_of, section_header_of, value_extents, value_names, value_rules}
 use Rattle.elf_image_rules.proofs.Public.{clean_records, sections_none, sections_read_at, sound_tables, table_some}
-use Rattle.elf_image_type.proofs.Holds as holds
-use Rattle.elf_image_type.proofs.Joins.{flat_parts_are}
+use Rattle.elf_image_outline.proofs.Holds as holds
+use Rattle.elf_image_outline.proofs.Joins.{flat_parts_are}
 use Rattle.elf_image_rules.proofs.Public.{Agree, same_clean}
-use Rattle.elf_image_type.proofs.Standing.{IsCounted, clean_of, content_within, counted_of, table_there}
-use Rattle.elf_image_type.proofs.Stands.{content_is, element_made, first_of_none, joined_stands}
+use Rattle.elf_image_outline.proofs.Standing.{IsCounted, clean_of, content_within, counted_of, table_there}
+use Rattle.elf_image_outline.proofs.Stands.{content_is, element_made, first_of_none, joined_stands}
 use Rattle.elf_field.proofs.RecordTableLaws.{entries_bytes, entries_fit, record_bytes}
 
 -- ---- what stands and its byte list break the same rules

@@ -18,11 +18,11 @@ use Rattle.elf_extent.specs.declared.extent.Piece.{Piece}
 use Rattle.elf_extent.specs.Account.{Accounts, IsOwned}
 use Rattle.elf_extent.proofs.Public.{piece_for}
 use Rattle.elf_image_rules.specs.Tables.{content_extent, order_of}
-use Rattle.elf_image_type.specs.declared.part.Owner.{Owner}
-use Rattle.elf_image_type.specs.declared.part.Owner.TheVariants.{Header, ProgramTable, SectionTable, Content, Gap}
-use Rattle.elf_image_type.specs.Image.{ImageValue, IsSoundImage, PlacedPart, gap_len, if_gap, joined, owned_bytes, owner_index, part_bytes, piece_of, value_extents}
-use Rattle.elf_image_type.proofs.Joins.{HaveLengths, in_flat_parts, length-flat_parts}
-use Rattle.elf_image_type.proofs.Standing.{at_index, counted_of, disjoint_of, mapped_at, within_of}
+use Rattle.elf_image_outline.specs.declared.part.Owner.{Owner}
+use Rattle.elf_image_outline.specs.declared.part.Owner.TheVariants.{Header, ProgramTable, SectionTable, Content, Gap}
+use Rattle.elf_image_outline.specs.Image.{ImageValue, IsSoundImage, PlacedPart, gap_len, if_gap, joined, owned_bytes, owner_index, part_bytes, piece_of, value_extents}
+use Rattle.elf_image_outline.proofs.Joins.{HaveLengths, in_flat_parts, length-flat_parts}
+use Rattle.elf_image_outline.proofs.Standing.{at_index, counted_of, disjoint_of, mapped_at, within_of}
 use Rattle.elf_field.proofs.RecordTableLaws.{length-table}
 
 -- ---- each part's bytes are as many as its length

@@ -18,12 +18,12 @@ use Rattle.elf_image_rules.specs.OverlapRule.{contents, extents, shared_fault}
 use Rattle.elf_image_rules.proofs.Public.{fault_of_extents}
 use Rattle.elf_image_rules.specs.ImageRules.{IsFault, KeepsRecordRules, extents_of_file}
 use Rattle.elf_image_rules.specs.Tables.{bytes_in, content_extent, header, program_header_count, section_header_count, sections, segments}
-use Rattle.elf_image_type.specs.declared.part.Part.{Part}
-use Rattle.elf_image_type.specs.Image.{AreRecordsIn, ImageValue, IsImage, PlacedPart, gap_in, part_piece, piece_of, value_extents}
-use Rattle.elf_image_type.specs.Outline.{image_of, outline_value, placed_part}
+use Rattle.elf_image_outline.specs.declared.part.Part.{Part}
+use Rattle.elf_image_outline.specs.Image.{AreRecordsIn, ImageValue, IsImage, PlacedPart, gap_in, part_piece, piece_of, value_extents}
+use Rattle.elf_image_outline.specs.Outline.{image_of, outline_value, placed_part}
 use Rattle.elf_image_rules.proofs.Public.{sections_there, sound_file}
-use Rattle.elf_image_type.proofs.Standing.{disjoint_of, records_within, within_of}
-use Rattle.elf_image_type.proofs.Theorem.{Reads, counted_by_reads}
+use Rattle.elf_image_outline.proofs.Standing.{disjoint_of, records_within, within_of}
+use Rattle.elf_image_outline.proofs.Theorem.{Reads, counted_by_reads}
 
 -- the value that these tables, contents and parts make
 abbrev pub made : List ℕ → Ehdr → List Shdr → List Phdr → List (List ℕ) → List Part → ImageValue

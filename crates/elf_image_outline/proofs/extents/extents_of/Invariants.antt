@@ -1,7 +1,7 @@
 use Rattle.std.proofs.Common.{◌≡◌, ◌∷◌, ◌*◌, length, map, take}
 use Rattle.elf_field.specs.Abi.{EHDR_SIZE, PHDR_SIZE, SHDR_SIZE}
 use Rattle.elf_image_rules.specs.Tables.{content_extent}
-use Rattle.elf_image_type.proofs.extents.extents_of.Given as goal
+use Rattle.elf_image_outline.proofs.extents.extents_of.Given as goal
 
 abbrev pub invariant-loop-entry : goal.invariant-loop-entry
 invariant-loop-entry l = l.extents.items ≡

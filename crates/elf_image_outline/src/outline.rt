@@ -1,9 +1,9 @@
 //! The records and the parts of a file, without its contents.
 ghost use Rattle.std.specs.Prelude.{◌≡◌, ◌<◌, ◌≤◌, true, OnErr, OnOk, length, set};
 ghost use Rattle.elf_image_rules.specs.Tables.{name_table, order_of};
-ghost use Rattle.elf_image_type.specs.Edits.{flagged};
-ghost use Rattle.elf_image_type.specs.Image.{program_header_of, section_header_of};
-ghost use Rattle.elf_image_type.specs.Outline.{outline_value};
+ghost use Rattle.elf_image_outline.specs.Edits.{flagged};
+ghost use Rattle.elf_image_outline.specs.Image.{program_header_of, section_header_of};
+ghost use Rattle.elf_image_outline.specs.Outline.{outline_value};
 
 use crate::edit_fault::NoSection;
 use crate::part::Part;
@@ -24,11 +24,11 @@ pub struct Outline {
 }
 
 impl Model for Outline {
-    ghost use Rattle.elf_image_type.specs.Outline.{OutlineValue};
+    ghost use Rattle.elf_image_outline.specs.Outline.{OutlineValue};
 
     ghost Value = { OutlineValue };
 
-    ghost use Rattle.elf_image_type.specs.OutlineView.{outline_view};
+    ghost use Rattle.elf_image_outline.specs.OutlineView.{outline_view};
 
     ghost view = { outline_view };
 }

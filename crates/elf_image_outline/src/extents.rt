@@ -2,7 +2,7 @@
 ghost use Rattle.std.specs.Prelude.{◌≡◌, ◌*◌, ◌<◌, ◌^◌, IfOk, length, map};
 ghost use Rattle.elf_extent.specs.Account.{Accounts};
 ghost use Rattle.elf_extent.specs.Extent.{AreDisjoint, AreWithin};
-ghost use Rattle.elf_image_type.specs.Image.{owner_index, part_piece, value_extents};
+ghost use Rattle.elf_image_outline.specs.Image.{owner_index, part_piece, value_extents};
 
 use crate::part::{Owner, Part};
 use elf_extent::{Extent, OutOfMemory, Piece, account};

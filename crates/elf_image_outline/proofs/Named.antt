@@ -8,8 +8,8 @@ use Rattle.elf_image_rules.specs.HeaderRules.{MAX_LEN}
 use Rattle.elf_field.specs.Abi.{SHDR_SIZE, SHN_XINDEX}
 use Rattle.elf_field.specs.declared.shdr.Shdr.{Shdr}
 use Rattle.elf_image_rules.specs.Tables.{content_extent, name_table, shdr_offset}
-use Rattle.elf_image_type.specs.Image.{ImageValue, IsSoundImage, no_section_header, section_header_of, value_names}
-use Rattle.elf_image_type.proofs.Standing.{clean_of, content_within, counted_of, table_there}
+use Rattle.elf_image_outline.specs.Image.{ImageValue, IsSoundImage, no_section_header, section_header_of, value_names}
+use Rattle.elf_image_outline.proofs.Standing.{clean_of, content_within, counted_of, table_there}
 
 -- there is a content for each section header
 pub contents_count : (v : ImageValue) → IsSoundImage v → length v.contents ≡ length v.sections

@@ -1,0 +1,11 @@
+-- The lemmas of this crate.
+pub mod Standing
+pub mod Stands
+pub mod Holds
+pub mod Joins
+pub mod Theorem
+pub mod Named
+pub mod Edited
+pub mod Parsed
+pub mod Written
+pub mod PartsOfImage

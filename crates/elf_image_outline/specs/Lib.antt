@@ -1,0 +1,6 @@
+-- The words of this crate's contracts.
+pub mod Image
+pub mod Outline
+pub mod OutlineView
+pub mod Edits
+pub mod Parts
