@@ -9,3 +9,6 @@ pub mod Edited
 pub mod Parsed
 pub mod Written
 pub mod PartsOfImage
+pub mod NamesRead
+pub mod ScanRules
+pub mod TableRules

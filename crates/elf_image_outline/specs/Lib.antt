@@ -4,3 +4,4 @@ pub mod Outline
 pub mod OutlineView
 pub mod Edits
 pub mod Parts
+pub mod Scanning

@@ -3,6 +3,7 @@ use Rattle.std.specs.Prelude.{ℕ, Bool, false, if◌then◌else◌, List, map, 
 use Rattle.elf_field.specs.declared.ehdr.Ehdr.{Ehdr}
 use Rattle.elf_field.specs.declared.shdr.Shdr.{Shdr}
 use Rattle.elf_field.specs.declared.phdr.Phdr.{Phdr}
+use Rattle.elf_image_rules.specs.Tables.{bytes_in, content_extent}
 use Rattle.elf_image_outline.specs.declared.part.Part.{Part}
 use Rattle.elf_image_outline.specs.Image.{ImageValue, PlacedPart, gap_in, gap_len}
 
@@ -33,3 +34,11 @@ image_of o contents file = record {
   contents = contents;
   parts = map (placed_part o.zeroed file) o.parts;
 }
+
+-- the contents of an outline's sections in the bytes of a file
+abbrev pub contents_in : OutlineValue → List ℕ → List (List ℕ)
+contents_in o b = map (λ s. bytes_in b (content_extent s)) o.sections
+
+-- the image of an outline, with the contents and the gaps that the bytes of a file have
+abbrev pub image_in : OutlineValue → List ℕ → ImageValue
+image_in o b = image_of o (contents_in o b) b

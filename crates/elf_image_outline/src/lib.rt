@@ -5,10 +5,16 @@
 
 mod edit_fault;
 mod extents;
+mod judged;
 mod outline;
 mod part;
+mod scan_head;
+mod scan_names;
+mod scan_tables;
+mod scanning;
 
 pub use edit_fault::{NoSection, ReplaceFault};
 pub use extents::{account_parts, extents_of};
 pub use outline::Outline;
 pub use part::{Owner, Part};
+pub use scanning::scan;

@@ -5,6 +5,8 @@ use Rattle.elf_field.specs.declared.order.Order.{Order}
 use Rattle.elf_field.specs.Bytes.{IsBytes}
 use Rattle.elf_image_rules.specs.declared.string_table.TableEnds.{TableEnds}
 use Rattle.elf_image_rules.specs.StringTable.{AreEnds}
+use Rattle.elf_image_stream.specs.declared.fault.Fault.{Fault}
+use Rattle.elf_image_stream.specs.declared.fault.Fault.TheVariants.{Io as FailedAt, OutOfMemory as NoMemory}
 use Rattle.elf_image_source.specs.declared.whole.ReadFault.{ReadFault}
 use Rattle.elf_image_source.specs.declared.records.RecordsFault.{RecordsFault}
 use Rattle.elf_image_source.specs.declared.records.RecordsFault.TheVariants.{Io, OutOfMemory}
@@ -44,6 +46,11 @@ pub record HasTable {T : Type 0} (record_at : List ℕ → ℕ → T) (IsValid :
 abbrev pub IsRecordsFault : Option (List ℕ) → Bool → Bool → ℕ → ℕ → RecordsFault → Type 0
 IsRecordsFault content old new at n OutOfMemory = new ≡ old
 IsRecordsFault content old new at n (Io failed_at) = HasFailed content new at n failed_at
+
+-- the same as a fault of a file
+abbrev pub records_fault : RecordsFault → Fault
+records_fault OutOfMemory = NoMemory
+records_fault (Io at) = FailedAt at
 
 -- the byte at an offset, and the flag is left; or a read failed
 abbrev pub ReadsByte : Option (List ℕ) → Bool → Bool → ℕ → Result ℕ ReadFault → Type 0

@@ -6,6 +6,7 @@ ghost use Rattle.elf_image_source.specs.Reads.{Extends, HasTable, IsRecordsFault
 use crate::source::Source;
 use crate::whole::{ReadFault, read_exactly};
 use elf_field::{Order, Record, get_at};
+use elf_image_stream::Fault;
 use std::alloc::{AllocError, AllocFailed, Global};
 
 /// No record of the format is longer, in bytes.
@@ -50,6 +51,19 @@ impl<T: Drop> From<AllocFailed<T>> for RecordsFault {
 
     fn from(_refused: AllocFailed<T>) -> RecordsFault {
         RecordsFault::OutOfMemory
+    }
+}
+
+impl From<RecordsFault> for Fault {
+    ghost use Rattle.elf_image_source.specs.Reads.{records_fault};
+
+    ghost from_gives = { λ refused fault. fault ≡ records_fault refused };
+
+    fn from(refused: RecordsFault) -> Fault {
+        match refused {
+            RecordsFault::OutOfMemory => Fault::OutOfMemory,
+            RecordsFault::Io { at } => Fault::Io { at },
+        }
     }
 }
 

@@ -4,12 +4,23 @@ ghost use Rattle.elf_image_source.specs.Source.{Flags, GivesFrom};
 ghost use Rattle.elf_image_source.specs.Reads.{Reads};
 
 use crate::source::{Failed, Source};
+use elf_image_stream::Fault;
 
 /// A call of a source failed, or gave no byte where more were to come.
 #[derive(Clone, Copy, Debug, PartialEq, Eq)]
 pub struct ReadFault {
     /// The offset, in bytes, that the call was asked for.
     pub at: u64,
+}
+
+impl From<ReadFault> for Fault {
+    ghost use Rattle.elf_image_stream.specs.declared.fault.Fault.TheVariants.{Io};
+
+    ghost from_gives = { λ failed fault. fault ≡ Io failed.at };
+
+    fn from(failed: ReadFault) -> Fault {
+        Fault::Io { at: failed.at }
+    }
 }
 
 /// One read at an offset into `buf` behind its first `filled` bytes, which stay.

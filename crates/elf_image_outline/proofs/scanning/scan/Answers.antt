@@ -1,0 +1,30 @@
+use Rattle.std.proofs.Common.{rules, ◌≡◌, ◌∙◌, List, subst, sym}
+use Rattle.elf_image_rules.specs.Tables.{header}
+use Rattle.elf_image_outline.specs.Image.{AreRecordsIn, IsImage}
+use Rattle.elf_image_outline.specs.Outline.{OutlineValue, image_in}
+use Rattle.elf_image_outline.proofs.NamesRead.{image_of_tables, stops_of_tables}
+use Rattle.elf_image_outline.proofs.ScanRules.{scans_fault}
+use Rattle.elf_image_outline.proofs.scanning.scan.Goals as goal
+
+pub returns-in_err-parts-clause-told : goal.returns-in_err-parts-clause-told
+returns-in_err-parts-clause-told g c b told are =
+    let t = c.in_ok-tables.tables in
+    let has = c.in_ok-tables.ensures.tables in
+    let (says, is) = c.in_ok-head.ensures.told b told in
+    let records = c.in_ok-tables.ensures.told b (c.in_ok-head.ensures.kept ∙ told) says is in
+    let ends = c.in_ok-ends.ensures.told b (c.in_ok-tables.ensures.kept ∙ c.in_ok-head.ensures.kept ∙ told) says has records in
+    scans_fault b _ _ c.in_err-parts.field-0.0 _
+    (stops_of_tables c.in_ok-head.head.len b _ t.header t.counts t.sections.items t.segments.items c.in_err-parts.field-0.0 says has records
+    (c.in_err-parts.ensures.err _ ends))
+    c.from_residual-in_err-parts.ensures.1
+
+pub returns-clause-told : goal.returns-clause-told
+returns-clause-told g c b told are =
+    let t = c.in_ok-tables.tables in
+    let has = c.in_ok-tables.ensures.tables in
+    let (says, is) = c.in_ok-head.ensures.told b told in
+    let records = c.in_ok-tables.ensures.told b (c.in_ok-head.ensures.kept ∙ told) says is in
+    let ends = c.in_ok-ends.ensures.told b (c.in_ok-tables.ensures.kept ∙ c.in_ok-head.ensures.kept ∙ told) says has records in
+    subst (λ (o : OutlineValue). IsImage (image_in o b) b) (sym c.new.ensures)
+    (image_of_tables c.in_ok-head.head.len b t.header t.counts t.sections.items t.segments.items c.in_ok-parts.parts.items says are has records
+    (c.in_ok-parts.ensures.ok _ ends))

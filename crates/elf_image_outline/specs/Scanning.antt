@@ -1,0 +1,79 @@
+-- What the stages of a scan answer: a scan reads a source as an image, without its contents.
+use Rattle.std.specs.Prelude.{◌≡◌, ◌≢◌, ◌≤◌, ◌<◌, ◌^◌, ◌==◌, if◌then◌else◌, ℕ, Bool, true, List, None, Some, Result, Ok, Err, length, map}
+use Rattle.std.specs.List.{AllByRecursion}
+use Rattle.elf_field.specs.Ehdr.{IsEhdr}
+use Rattle.elf_field.specs.Phdr.{IsPhdr}
+use Rattle.elf_field.specs.Shdr.{IsShdr}
+use Rattle.elf_field.specs.declared.ehdr.Ehdr.{Ehdr}
+use Rattle.elf_field.specs.declared.phdr.Phdr.{Phdr}
+use Rattle.elf_field.specs.declared.shdr.Shdr.{Shdr}
+use Rattle.elf_extent.specs.Account.{Accounts}
+use Rattle.elf_extent.specs.declared.extent.Extent.{Extent}
+use Rattle.elf_image_rules.specs.HeaderRules.{MAX_LEN, header_rules, ident_rules, length_rules}
+use Rattle.elf_image_rules.specs.ImageRules.{IsFault, image_rules, record_rules}
+use Rattle.elf_image_rules.specs.ProgramTableRules.{program_table_rules}
+use Rattle.elf_image_rules.specs.Rows.{FirstIn}
+use Rattle.elf_image_rules.specs.SectionTableRules.{section_table_rules}
+use Rattle.elf_image_rules.specs.Tables.{content_extent, counts_in, phdr_offset, program_header_of, section_header_of, shdr_offset}
+use Rattle.elf_image_rules.specs.declared.tables.Counts.{Counts}
+use Rattle.elf_image_outline.specs.Image.{part_piece, value_extents}
+use Rattle.elf_image_outline.specs.declared.part.Part.{Part}
+use Rattle.elf_image_stream.specs.declared.fault.Fault.{Fault}
+use Rattle.elf_image_stream.specs.declared.fault.Fault.TheVariants.{Io, OutOfMemory, Rule}
+
+-- of every source: only where a read failed may the flag be another one, so nothing but Io is answered after a failure
+abbrev pub Leaves : {T : Type 0} → Bool → Bool → Result T Fault → Type 0
+Leaves old new (Ok t) = new ≡ old
+Leaves old new (Err OutOfMemory) = new ≡ old
+Leaves old new (Err (Io at)) = Unit {0}
+Leaves old new (Err (Rule number at)) = new ≡ old
+
+-- of a source that tells its bytes b: why there is no answer. It is the first rule that they break, or a call of the source failed
+abbrev pub Stops : List ℕ → Bool → Fault → Type 0
+Stops b new OutOfMemory = Unit {0}
+Stops b new (Io at) = new ≡ true
+Stops b new (Rule number at) = IsFault b (Some (number, at))
+
+abbrev pub Scans : {T : Type 0} → List ℕ → Bool → (T → Type 0) → Result T Fault → Type 0
+Scans b new IsAnswer (Ok t) = IsAnswer t
+Scans b new IsAnswer (Err fault) = Stops b new fault
+
+-- rules 1 to 12: the length and the header
+pub record KeepsHeadRules (len : ℕ) (h : Ehdr) : Type 0 where
+  pub lengths : FirstIn (length_rules len) None
+  pub ident : FirstIn (ident_rules h.e_ident) None
+  pub header : FirstIn (header_rules len h) None
+  -- by rule 9
+  pub nameless : h.e_shoff ≡ 0 → h.e_shstrndx ≡ 0
+
+-- where the section name string table of index k stands; 0 is none
+abbrev pub names_extent : List Shdr → ℕ → Extent
+names_extent ss k = if k == 0 then record { start = 0; len = 0 } else content_extent (section_header_of ss k)
+
+-- rules 1 to 21, with the tables that the header and section header 0 lead to
+pub record HasTables (len : ℕ) (h : Ehdr) (c : Counts) (ss : List Shdr) (gs : List Phdr) : Type 0 where
+  pub short : len ≤ MAX_LEN
+  pub head : KeepsHeadRules len h
+  pub section_table : FirstIn (section_table_rules len h (section_header_of ss 0)) None
+  pub program_table : FirstIn (program_table_rules len h (section_header_of ss 0)) None
+  pub counts : c ≡ counts_in h (section_header_of ss 0)
+  pub section_count : length ss ≡ c.sections
+  pub segment_count : length gs ≡ c.segments
+  pub sections_inside : shdr_offset h c.sections ≤ len
+  pub segments_inside : 0 < c.segments → phdr_offset h c.segments ≤ len
+  pub small : c.name_table < 2 ^ 32
+  pub named : h.e_shoff ≢ 0 → c.name_table < c.sections
+  pub valid_header : IsEhdr h
+  pub valid_sections : AllByRecursion IsShdr ss
+  pub valid_segments : AllByRecursion IsPhdr gs
+
+-- of such tables and a name table: the first rule that they break; memory is asked for where they keep rules 1 to 32
+abbrev pub BreaksTables : ℕ → Ehdr → List Shdr → List Phdr → List ℕ → Fault → Type 0
+BreaksTables len h ss gs names OutOfMemory = FirstIn (record_rules len h (section_header_of ss) (program_header_of gs) names) None
+BreaksTables len h ss gs names (Io at) = ⊥
+BreaksTables len h ss gs names (Rule number at) = FirstIn (image_rules len h (section_header_of ss) (program_header_of gs) names) (Some (number, at))
+
+-- they break none, and these are the parts of a file that has them
+pub record KeepTables (len : ℕ) (h : Ehdr) (ss : List Shdr) (gs : List Phdr) (names : List ℕ) (ps : List Part) : Type 0 where
+  pub clean : FirstIn (image_rules len h (section_header_of ss) (program_header_of gs) names) None
+  pub accounts : Accounts (value_extents h ss gs) len 0 (map part_piece ps)

@@ -1,0 +1,45 @@
+//! Rules 22 to 33 of tables in memory, and the parts of a file that has such tables.
+ghost use Rattle.std.specs.Prelude.{◌≡◌, ◌≤◌, ◌<◌, ◌+◌, ◌^◌, ℕ, List, IfErr, IfOk};
+ghost use Rattle.elf_image_outline.specs.Scanning.{BreaksTables, HasTables, KeepTables};
+ghost use Rattle.elf_image_rules.specs.StringTable.{AreEnds};
+ghost use Rattle.elf_image_rules.specs.Tables.{section_header_of};
+
+use crate::extents::{account_parts, extents_of};
+use crate::part::Part;
+use crate::scan_tables::Tables;
+use elf_extent::first_double;
+use elf_image_rules::rules::SHARED_BYTE;
+use elf_image_rules::{TableEnds, TableRecords, judge_entries};
+use elf_image_stream::Fault;
+use std::alloc::Global;
+
+/// The parts of a file of `len` bytes with these tables, and a section name string table with these ends; else the first of rules 22 to 33
+/// that they break. Memory is asked for where they keep rules 22 to 32.
+pub(crate) fn judged_parts(
+    alloc: Global,
+    len: u64,
+    tables: &Tables,
+    ends: TableEnds,
+) -> Result<Vec<Part>, Fault>
+    requires tables { HasTables len tables.now.header tables.now.counts tables.now.sections.items tables.now.segments.items }
+    requires some { (names : List ℕ) × AreEnds ends names }
+    requires place { 0 < ends.len → (section_header_of tables.now.sections.items tables.now.counts.name_table).sh_offset + ends.len ≤ len }
+    ensures ok { IfOk result (λ parts. (names : List ℕ) → AreEnds ends names →
+        KeepTables len tables.now.header tables.now.sections.items tables.now.segments.items names parts.items) }
+    ensures err { IfErr result (λ fault. (names : List ℕ) → AreEnds ends names →
+        BreaksTables len tables.now.header tables.now.sections.items tables.now.segments.items names fault) }
+{
+    let records = TableRecords {
+        sections: &tables.sections,
+        segments: &tables.segments,
+    };
+    judge_entries(&records, &tables.header, tables.counts, ends, len)?;
+    let extents = extents_of(alloc, &tables.header, &tables.sections, &tables.segments)?;
+    match first_double(alloc, &extents)? {
+        Some(at) => Err(Fault::Rule {
+            rule: SHARED_BYTE,
+            at,
+        }),
+        None => Ok(account_parts(alloc, &extents, len)?),
+    }
+}

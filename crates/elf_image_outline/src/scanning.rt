@@ -1,0 +1,41 @@
+//! A source as an image, without its contents.
+ghost use Rattle.std.specs.Prelude.{◌≡◌, ℕ, List, Some};
+ghost use Rattle.elf_field.specs.Bytes.{IsBytes};
+ghost use Rattle.elf_image_outline.specs.Image.{IsImage};
+ghost use Rattle.elf_image_outline.specs.Outline.{image_in};
+ghost use Rattle.elf_image_outline.specs.Scanning.{Leaves, Scans};
+
+use crate::judged::judged_parts;
+use crate::outline::Outline;
+use crate::scan_head::scan_head;
+use crate::scan_names::scan_names;
+use crate::scan_tables::scan_tables;
+use elf_image_source::Source;
+use elf_image_stream::Fault;
+use std::alloc::Global;
+
+/// The records and the parts of an ELF-64 file that breaks no rule, read of a source: the header, the two tables and the ends of the section
+/// name string table are read, and no other byte.
+///
+/// [`Fault::Rule`] is the first of rules 1 to 33 that the bytes break, at the lowest offset where they break it. [`Fault::Io`] is the offset
+/// that a call was asked for which failed, or which gave no byte where the length says that there is one; after a failed call nothing else
+/// is answered. [`Fault::OutOfMemory`] comes only where memory is refused, which is asked for from rule 22 on: for the two tables, and a
+/// list of the extents of the file.
+pub fn scan<S: Source>(alloc: Global, source: &mut S) -> Result<Outline, Fault>
+    ensures kept { S.content source.new ≡ S.content source.old }
+    ensures flag { Leaves (S.failed source.old) (S.failed source.new) result }
+    ensures told { (b : List ℕ) → S.content source.old ≡ Some b → IsBytes b →
+        Scans b (S.failed source.new) (λ outline. IsImage (image_in outline b) b) result }
+{
+    let head = scan_head(source)?;
+    let tables = scan_tables(alloc, source, &head)?;
+    let ends = scan_names(source, head.len, &tables)?;
+    let parts = judged_parts(alloc, head.len, &tables, ends)?;
+    Ok(Outline::new(
+        head.len,
+        tables.header,
+        tables.sections,
+        tables.segments,
+        parts,
+    ))
+}
