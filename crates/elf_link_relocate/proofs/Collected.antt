@@ -1,5 +1,5 @@
 -- Lists of fields that grow entry by entry.
-use Rattle.std.proofs.Common.{◌≡◌, ◌≢◌, ℕ, ◌+◌, ◌<◌, ◌⊎◌, List, [], ◌∷◌, ◌++◌, length, inl, inr, refl, sym, ◌∙◌, ap, subst, arith, length-append}
+use Rattle.std.proofs.Common.{◌≡◌, ℕ, ◌+◌, ◌<◌, ◌⊎◌, List, [], ◌∷◌, ◌++◌, length, inl, inr, refl, sym, ◌∙◌, ap, subst, arith, length-append}
 use Rattle.std.proofs.lemmas.Bool.{cases_lt}
 use Rattle.std.proofs.lemmas.List.{get_or_push}
 use Rattle.std.proofs.Math.ListN.{get_or-append}
@@ -17,6 +17,28 @@ use Rattle.elf_link_relocate.specs.Fields.{HasField}
 use Rattle.elf_link_relocate.specs.RelocationRules.{no_rule}
 use Rattle.elf_link_relocate.proofs.FirstRule.{one_rule, ruled}
 use Rattle.elf_link_relocate.proofs.Sites.{none_before}
+
+-- ---- a list with one more field
+
+pub kept : (ds : List Field) (new : Field) (k : ℕ) → k < length ds → field_at (ds ++ new ∷ []) k ≡ field_at ds k
+kept ds new k lt = get_or-append ds (new ∷ []) no_field k lt
+
+pub last : (ds : List Field) (new : Field) (k : ℕ) → length ds ≡ k → field_at (ds ++ new ∷ []) k ≡ new
+last ds new k end = get_or_push ds new no_field k end
+
+pub longer : (ds : List Field) (new : Field) → length (ds ++ new ∷ []) ≡ length ds + 1
+longer ds new = simp length-append
+
+pub pushed : (P : Field → Type 0) (ds : List Field) (new : Field) → ((k : ℕ) → k < length ds → P (field_at ds k)) → P new → (k : ℕ) →
+    k < length (ds ++ new ∷ []) → P (field_at (ds ++ new ∷ []) k)
+pushed P ds new each here k lt =
+    let long = longer ds new in
+    elim (cases_lt k (length ds)) [
+      | inl below ↦ subst P (sym (kept ds new k below)) (each k below)
+      | inr above ↦ (let end : length ds ≡ k = omega arith in subst P (sym (last ds new k end)) here)
+    ]
+
+-- ---- the fields before a site
 
 pub fields_none : (fs : List ObjectValue) (rules : List RelocRule) → AreFieldsBefore fs rules (entry_site 0 0 0) []
 fields_none fs rules = record {
@@ -63,56 +85,32 @@ module _ (fs : List ObjectValue) (rules : List RelocRule) (p : Site) (next : Sit
     ruled = rules_more;
   }
 
-  abbrev new : Field
-  new = record { site = p; rule = r }
-
-  kept : (k : ℕ) → k < length ds → field_at (ds ++ new ∷ []) k ≡ field_at ds k
-  kept k lt = get_or-append ds (new ∷ []) no_field k lt
-
-  last : (k : ℕ) → length ds ≡ k → field_at (ds ++ new ∷ []) k ≡ new
-  last k end = get_or_push ds new no_field k end
-
-  longer : length (ds ++ new ∷ []) ≡ length ds + 1
-  longer = simp length-append
-
   -- one more field
-  pub fields_more : IsApplied fs p → r.form ≢ NoForm → Before p next → AreFieldsBefore fs rules next (ds ++ new ∷ [])
-  fields_more applied form here = record {
-    each = λ k lt. (
-        let long = longer in
-        elim (cases_lt k (length ds)) [
-          | inl below ↦ subst (λ (d : Field). HasField fs rules d.site d.rule) (sym (kept k below)) (is.each k below)
-          | inr above ↦ (
-              let end : length ds ≡ k = omega arith in
-              subst (λ (d : Field). HasField fs rules d.site d.rule) (sym (last k end)) (record { applied = applied; rule = first; form = form }))
-        ]);
-    before = λ k lt. (
-        let long = longer in
-        elim (cases_lt k (length ds)) [
-          | inl below ↦ subst (λ (d : Field). Before d.site next) (sym (kept k below)) (into (field_at ds k).site (is.before k below))
-          | inr above ↦ (let end : length ds ≡ k = omega arith in subst (λ (d : Field). Before d.site next) (sym (last k end)) here)
-        ]);
-    all = λ q s has before. (
-        let long = longer in
-        elim (split q before) [
-          | inl earlier ↦ (let (k, lt, at) = is.all q s has earlier in (k, omega arith, ap (λ (d : Field). d.site) (kept k lt) ∙ at))
-          | inr same ↦ (length ds, omega arith, ap (λ (d : Field). d.site) (last (length ds) refl) ∙ sym same)
-        ]);
-    order = λ j k lt within. (
-        let long = longer in
-        elim (cases_lt k (length ds)) [
-          | inl below ↦ (
-              let j_below : j < length ds = omega arith in
-              subst (λ (d : Field). Before d.site (field_at (ds ++ new ∷ []) k).site) (sym (kept j j_below))
-              (subst (λ (d : Field). Before (field_at ds j).site d.site) (sym (kept k below)) (is.order j k lt below)))
-          | inr above ↦ (
-              let end : length ds ≡ k = omega arith in
-              let j_below : j < length ds = omega arith in
-              subst (λ (d : Field). Before d.site (field_at (ds ++ new ∷ []) k).site) (sym (kept j j_below))
-              (subst (λ (d : Field). Before (field_at ds j).site d.site) (sym (last k end)) (is.before j j_below)))
-        ]);
-    ruled = rules_more;
-  }
+  pub fields_more : (new : Field) → new.site ≡ p → HasField fs rules new.site new.rule → Before p next → AreFieldsBefore fs rules next (ds ++ new ∷ [])
+  fields_more new at has here =
+      let here_new = subst (λ (u : Site). Before u next) (sym at) here in
+      record {
+        each = pushed (λ d. HasField fs rules d.site d.rule) ds new is.each has;
+        before = pushed (λ d. Before d.site next) ds new (λ k lt. into (field_at ds k).site (is.before k lt)) here_new;
+        all = λ q s its before. (
+            let long = longer ds new in
+            elim (split q before) [
+              | inl earlier ↦ (let (k, lt, there) = is.all q s its earlier in (k, omega arith, ap (λ (d : Field). d.site) (kept ds new k lt) ∙ there))
+              | inr same ↦ (length ds, omega arith, ap (λ (d : Field). d.site) (last ds new (length ds) refl) ∙ (at ∙ sym same))
+            ]);
+        order = λ j k lt within. (
+            let long = longer ds new in
+            let j_below : j < length ds = omega arith in
+            subst (λ (d : Field). Before d.site (field_at (ds ++ new ∷ []) k).site) (sym (kept ds new j j_below))
+            (elim (cases_lt k (length ds)) [
+              | inl below ↦ subst (λ (d : Field). Before (field_at ds j).site d.site) (sym (kept ds new k below)) (is.order j k lt below)
+              | inr above ↦ (
+                  let end : length ds ≡ k = omega arith in
+                  subst (λ (d : Field). Before (field_at ds j).site d.site) (sym (last ds new k end))
+                  (subst (λ (u : Site). Before (field_at ds j).site u) (sym at) (is.before j j_below)))
+            ]));
+        ruled = rules_more;
+      }
 
 -- rule 12 stands at an entry behind those that have relocation rules
 pub first_unruled : (fs : List ObjectValue) (rules : List RelocRule) (p : Site) (ds : List Field) → IsApplied fs p → HasNoRelocationRule (entry_at fs p).kind rules →

@@ -3,6 +3,7 @@ mod Sites
 mod FirstRule
 mod ObjectFacts
 mod Collected
+mod Found
 mod Bodies
 mod Firsts
 mod Grids
@@ -15,4 +16,5 @@ mod OneByte
 mod SomeByte
 mod MemoryLaws
 mod SharedAddresses
+mod Ascending
 pub mod Public

@@ -1,10 +1,11 @@
 -- Copies with one more number in its field.
 use Rattle.std.proofs.Common.{◌≡◌, ◌≢◌, ℕ, ◌+◌, ◌<◌, ◌≤◌, ◌⊎◌, ℤ, List, [], ◌∷◌, zero, suc, get_or, length, inl, inr, refl, sym, ◌∙◌, ap, subst, arith}
-use Rattle.std.specs.Prelude.{Option, None, Some, slice_index}
+use Rattle.std.specs.Prelude.{Option, None, Some, option_map, slice_index}
 use Rattle.std.proofs.lemmas.Bool.{cases_eq, cases_lt}
 use Rattle.elf_object_type.specs.Object.{ObjectValue}
 use Rattle.elf_object_type.specs.ObjectRules.{IsObject}
 use Rattle.elf_link_field.specs.declared.rule.RelocRule.{RelocRule}
+use Rattle.elf_link_field.specs.Number.{relocation_number}
 use Rattle.elf_link_field.specs.Patch.{IsPatched}
 use Rattle.elf_link_field.specs.Rule.{size_of}
 use Rattle.elf_link_files.specs.declared.site.Site.{Site}
@@ -14,13 +15,15 @@ use Rattle.elf_link_relocate.specs.Linked.{HasLiveBits}
 use Rattle.elf_link_relocate.specs.declared.field.Field.{Field}
 use Rattle.elf_link_relocate.specs.Collecting.{field_at}
 use Rattle.elf_link_relocate.specs.Entries.{target_at}
-use Rattle.elf_link_relocate.specs.Fields.{HasField, HasOffset, content_in, field_start}
+use Rattle.elf_link_relocate.specs.Fields.{HasField, HasOffset, IsWithin, content_in, field_start}
 use Rattle.elf_link_relocate.specs.Grid.{IsGrid, IsSectionIn, item, with}
 use Rattle.elf_link_relocate.specs.Judged.{AreJudged}
+use Rattle.elf_link_relocate.specs.LinkingFacts.{IsRead}
 use Rattle.elf_link_relocate.specs.Marking.{IsCovered, IsFieldIn}
 use Rattle.elf_link_relocate.specs.Memory.{number_byte}
-use Rattle.elf_link_relocate.specs.Numbers.{number_at}
+use Rattle.elf_link_relocate.specs.Numbers.{addend_of, field_address, number_at}
 use Rattle.elf_link_relocate.specs.Patching.{AreAllCopies, AreRelocated, IsCopy, IsRelocated}
+use Rattle.elf_link_relocate.specs.Values.{value_at}
 use Rattle.elf_link_relocate.proofs.Grids.{grid_with, item_here, item_other}
 use Rattle.elf_link_relocate.proofs.ObjectFacts.{target_has_bits, target_section}
 
@@ -83,6 +86,17 @@ same_bytes a b e = cc
 
 same_number : (a b : ℤ) → Some a ≡ Some b → a ≡ b
 same_number a b e = cc
+
+-- the number that a field carries is its number
+number_in : (g : ℕ → ℤ) (v : Option ℕ) (n : ℤ) → (v ≡ None → ⊥) → ((z : ℤ) → option_map g v ≡ Some z → z ≡ n) → option_map g v ≡ Some n
+number_in g None n never is = absurd (never refl)
+number_in g (Some x) n never is = ap (λ (z : ℤ). Some z) (is (g x) refl)
+
+pub number_there : (fs : List ObjectValue) (m : LinkMapValue) (d : Field) → (value_at fs m d.site ≡ None → ⊥) → IsWithin fs d.site d.rule →
+    IsRead fs m d → number_at fs m d.site d.rule ≡ Some d.number
+number_there fs m d placed within read =
+    number_in (λ (value : ℕ). relocation_number d.rule.form value (addend_of fs d.site d.rule) (field_address fs m d.site)) (value_at fs m d.site) d.number placed
+    (read.number within)
 
 -- the target of a field is live and has bits
 pub target_live : (fs : List ObjectValue) (rules : List RelocRule) (p : Site) (r : RelocRule) → HasField fs rules p r → IsObject (object_at fs p.file) →

@@ -1,7 +1,6 @@
 -- Fields that share a byte share an address.
-use Rattle.std.proofs.Common.{◌≡◌, ◌<◌, ◌≤◌, ◌+◌, ◌-◌, ℕ, List, Some, length, map, get_or, slice_get, ap, refl, ◌∙◌, arith, option_map}
+use Rattle.std.proofs.Common.{◌≡◌, ◌<◌, ◌+◌, ℕ, List, Some, length, map, slice_get, ap, refl, ◌∙◌, arith, option_map}
 use Rattle.std.proofs.lemmas.Option.{slice_get-get_or, slice_get-map}
-use Rattle.elf_extent.specs.declared.extent.Extent.{Extent}
 use Rattle.elf_extent.specs.Extent.{Doubly, HasAt}
 use Rattle.elf_extent.specs.Least.{Never}
 use Rattle.elf_object_type.specs.Object.{ObjectValue}
@@ -10,9 +9,8 @@ use Rattle.elf_link_map.specs.Standing.{address_in}
 use Rattle.elf_link_relocate.specs.declared.field.Field.{Field}
 use Rattle.elf_link_relocate.specs.Collecting.{field_at, no_field}
 use Rattle.elf_link_relocate.specs.Entries.{target_at}
-use Rattle.elf_link_relocate.specs.Fields.{HasOffset, field_start}
+use Rattle.elf_link_relocate.specs.Fields.{HasOffset}
 use Rattle.elf_link_relocate.specs.Marking.{HasNoOverlap}
-use Rattle.elf_link_relocate.specs.Numbers.{field_address}
 use Rattle.elf_link_relocate.specs.Sharing.{field_extent}
 
 -- the extent at a position of the list

@@ -1,5 +1,5 @@
 -- The fields before a site: what the code has listed on its way through the entries.
-use Rattle.std.specs.Prelude.{◌≡◌, ℕ, ◌<◌, List, get_or, length}
+use Rattle.std.specs.Prelude.{◌≡◌, ℕ, ◌<◌, pos, List, get_or, length}
 use Rattle.elf_object_type.specs.Object.{ObjectValue}
 use Rattle.elf_link_field.specs.declared.rule.Form.TheVariants.{Abs}
 use Rattle.elf_link_field.specs.declared.rule.Range.TheVariants.{Signed}
@@ -16,7 +16,13 @@ entry_site f s e = record { file = f; index = s; entry = e }
 
 -- the one that stands for a field that isn't there
 abbrev pub no_field : Field
-no_field = record { site = entry_site 0 0 0; rule = record { kind = 0; form = Abs; width = W1; range = Signed } }
+no_field = record {
+  site = entry_site 0 0 0;
+  rule = record { kind = 0; form = Abs; width = W1; range = Signed };
+  target = 0;
+  offset = 0;
+  number = pos 0;
+}
 
 abbrev pub field_at : List Field → ℕ → Field
 field_at ds k = get_or ds k no_field

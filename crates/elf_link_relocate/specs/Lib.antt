@@ -9,6 +9,7 @@ pub mod MapFacts
 pub mod LinkingFacts
 pub mod Collecting
 pub mod FieldTests
+pub mod Found
 pub mod Grid
 pub mod Marking
 pub mod Judged

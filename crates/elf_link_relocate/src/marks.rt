@@ -3,11 +3,11 @@ ghost use Rattle.std.specs.Prelude.{◌≡◌, ◌↔◌, ◌+◌, ◌<◌, ◌�
 ghost use Rattle.elf_link_files.specs.Files.{object_at};
 ghost use Rattle.elf_link_relocate.specs.Collecting.{AreFields};
 ghost use Rattle.elf_link_relocate.specs.Grid.{item};
-ghost use Rattle.elf_link_relocate.specs.LinkingFacts.{linked_objects, relocation_rules_of};
+ghost use Rattle.elf_link_relocate.specs.LinkingFacts.{AreRead, linked_map, linked_objects, relocation_rules_of};
 ghost use Rattle.elf_link_relocate.specs.Marking.{AllWithin, AreMarksFor, AreUnmarkedRows, HasNoOverlap, IsFirstOverlappingField, IsMarkedIn, IsUnmarkedRow, SharesBefore, marks_view, row_view};
 ghost use Rattle.elf_link_field.specs.Rule.{size_of};
 
-use crate::entries::{content, entry_of, target_of};
+use crate::entries::content;
 use crate::field::Field;
 use crate::linking::Linking;
 use elf_link_field::{Width, mark};
@@ -66,17 +66,22 @@ fn mark_field(
     marks: &mut Vec<Vec<Vec<bool>>>,
 ) -> bool
     requires fields { AreFields (linked_objects linking.now) (relocation_rules_of linking.now) fields.now }
+    requires read { AreRead (linked_objects linking.now) (linked_map linking.now) fields.now }
     requires within { AllWithin (linked_objects linking.now) fields.now }
     requires below { k < length fields.now }
     requires before { AreMarksFor (linked_objects linking.now) fields.now k (marks_view marks.old.items) }
     ensures taken { IsTrue result ↔ SharesBefore (linked_objects linking.now) fields.now k }
     ensures marks { AreMarksFor (linked_objects linking.now) fields.now (k + 1) (marks_view marks.new.items) }
 {
-    let site = fields[k].site;
-    keeps_rules(linking.objects, site.file);
-    let target = target_of(linking.objects, site);
-    let offset = entry_of(linking.objects, site).offset as usize;
-    mark_in(marks, site.file, target, offset, fields[k].rule.width)
+    let field = fields[k];
+    keeps_rules(linking.objects, field.site.file);
+    mark_in(
+        marks,
+        field.site.file,
+        field.target,
+        field.offset,
+        field.rule.width,
+    )
 }
 
 /// Rule 15: the first field that shares a byte with one before it. It takes a mark for each byte of all sections, so it is asked only where
@@ -87,6 +92,7 @@ pub(crate) fn first_overlap(
     fields: &[Field],
 ) -> Result<Option<usize>, AllocError>
     requires fields { AreFields (linked_objects linking.now) (relocation_rules_of linking.now) fields.now }
+    requires read { AreRead (linked_objects linking.now) (linked_map linking.now) fields.now }
     requires within { AllWithin (linked_objects linking.now) fields.now }
     ensures { IfOk result (λ found. MatchOption found (HasNoOverlap (linked_objects linking.now) fields.now) (IsFirstOverlappingField (linked_objects linking.now) fields.now)) }
 {

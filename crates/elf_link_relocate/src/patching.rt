@@ -7,10 +7,8 @@ ghost use Rattle.elf_link_relocate.specs.Patching.{AreRelocated, HasRoom, IsPatc
 ghost use Rattle.elf_link_field.specs.Rule.{size_of};
 
 use crate::copies::Copies;
-use crate::entries::{entry_of, target_of};
 use crate::field::Field;
 use crate::linking::Linking;
-use crate::numbers::number_of;
 use elf_field::Order;
 use elf_link_field::{Width, patch, patched_field};
 use elf_link_map::files::keeps_rules;
@@ -47,21 +45,15 @@ fn patch_field(linking: &Linking<'_, '_>, fields: &[Field], k: usize, copies: &m
     let field = fields[k];
     patched_field();
     keeps_rules(linking.objects, field.site.file);
-    let target = target_of(linking.objects, field.site);
-    let offset = entry_of(linking.objects, field.site).offset as usize;
-    let order = linking.objects[field.site.file].order();
-    match number_of(linking, field) {
-        Some(number) => patch_in(
-            order,
-            copies,
-            field.site.file,
-            target,
-            offset,
-            field.rule.width,
-            number,
-        ),
-        None => unreachable!(),
-    }
+    patch_in(
+        linking.objects[field.site.file].order(),
+        copies,
+        field.site.file,
+        field.target,
+        field.offset,
+        field.rule.width,
+        field.number,
+    );
 }
 
 /// Puts the number of each field into it, in one pass.

@@ -10,7 +10,6 @@ use crate::judge::judged_fields;
 use crate::linked::Linked;
 use crate::linking::Linking;
 use crate::patching::patch_all;
-use crate::values::name_values;
 use elf_link_field::RelocRule;
 use elf_link_map::{LinkFault, LinkMap, name_numbers, parts_apart};
 use elf_object_type::Object;
@@ -19,7 +18,7 @@ use std::alloc::Global;
 /// The relocated bytes of these objects, as [`relocate`] answers them, by the numbers of the names that `map_numbered` of `elf_link_map`
 /// answers beside the map.
 ///
-/// Answers what `relocate` does, which takes memory for the numbers too: a number for each symbol.
+/// Answers what [`relocate`] answers. Memory is asked for as there, but for the numbers.
 pub fn relocate_numbered<'m, 'a>(
     alloc: Global,
     map: &'m LinkMap<'a>,
@@ -37,10 +36,8 @@ pub fn relocate_numbered<'m, 'a>(
         objects,
         map,
         rules,
-        numbers,
-        values: name_values(alloc, objects, map)?,
     };
-    let fields = judged_fields(alloc, &linking)?;
+    let fields = judged_fields(alloc, &linking, numbers)?;
     let mut copies = all_copies(alloc, objects, map)?;
     patch_all(&linking, &fields, &mut copies);
     Ok(Linked {

@@ -1,9 +1,9 @@
 //! Whether two fields share a byte.
-ghost use Rattle.std.specs.Prelude.{◌≡◌, false, IfOk, map};
+ghost use Rattle.std.specs.Prelude.{◌≡◌, ◌↔◌, false, true, IfOk, IsTrue, length, map};
 ghost use Rattle.elf_link_relocate.specs.Collecting.{AreFields};
-ghost use Rattle.elf_link_relocate.specs.LinkingFacts.{IsReady, linked_map, linked_objects, relocation_rules_of};
+ghost use Rattle.elf_link_relocate.specs.LinkingFacts.{AreRead, IsReady, linked_map, linked_objects, relocation_rules_of};
 ghost use Rattle.elf_link_relocate.specs.Marking.{AllWithin, HasNoOverlap};
-ghost use Rattle.elf_link_relocate.specs.Sharing.{field_extent};
+ghost use Rattle.elf_link_relocate.specs.Sharing.{AreAscending, StandsBehind, field_extent};
 
 use crate::field::Field;
 use crate::linking::Linking;
@@ -19,6 +19,7 @@ fn field_extents(
 ) -> Result<Vec<Extent>, AllocError>
     requires ready { IsReady linking.now }
     requires fields { AreFields (linked_objects linking.now) (relocation_rules_of linking.now) fields.now }
+    requires read { AreRead (linked_objects linking.now) (linked_map linking.now) fields.now }
     requires within { AllWithin (linked_objects linking.now) fields.now }
     ensures { IfOk result (λ v. v.items ≡ map (field_extent (linked_objects linking.now) (linked_map linking.now)) fields.now) }
 {
@@ -32,8 +33,36 @@ fn field_extents(
     Ok(extents)
 }
 
-/// Whether two fields may share a byte: where this is false none do. It sorts the fields by their addresses, of which fields of one section
-/// share one exactly where they share a byte.
+/// Whether a field stands behind another one: in a later file or section, or behind its end.
+fn is_behind(before: Field, field: Field) -> bool
+    ensures { IsTrue result ↔ StandsBehind before field }
+{
+    if before.site.file != field.site.file {
+        return before.site.file < field.site.file;
+    }
+    if before.target != field.target {
+        return before.target < field.target;
+    }
+    match field.offset.checked_sub(before.offset) {
+        Some(gap) => gap >= before.rule.width.size(),
+        None => false,
+    }
+}
+
+/// Whether each field stands behind the one before it, as assemblers and compilers list them.
+fn are_ascending(fields: &[Field]) -> bool
+    ensures { result ≡ true → AreAscending fields.now (length fields.now) }
+{
+    for k in 1..fields.len() {
+        if !is_behind(fields[k - 1], fields[k]) {
+            return false;
+        }
+    }
+    true
+}
+
+/// Whether two fields may share a byte: where this is false none do. Only where they are not in ascending order it takes memory, and sorts
+/// them by their addresses, of which fields of one section share one exactly where they share a byte.
 pub(crate) fn may_share(
     alloc: Global,
     linking: &Linking<'_, '_>,
@@ -41,9 +70,13 @@ pub(crate) fn may_share(
 ) -> Result<bool, AllocError>
     requires ready { IsReady linking.now }
     requires fields { AreFields (linked_objects linking.now) (relocation_rules_of linking.now) fields.now }
+    requires read { AreRead (linked_objects linking.now) (linked_map linking.now) fields.now }
     requires within { AllWithin (linked_objects linking.now) fields.now }
     ensures { IfOk result (λ shared. shared ≡ false → HasNoOverlap (linked_objects linking.now) fields.now) }
 {
+    if are_ascending(fields) {
+        return Ok(false);
+    }
     let extents = field_extents(alloc, linking, fields)?;
     match first_double(alloc, &extents) {
         Ok(Some(_)) => Ok(true),

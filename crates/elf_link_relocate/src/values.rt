@@ -5,11 +5,11 @@ ghost use Rattle.elf_link_files.specs.Files.{object_at, symbol_in};
 ghost use Rattle.elf_link_map.specs.Naming.{StandsAt};
 ghost use Rattle.elf_object_type.specs.Object.{binding as binding_of};
 ghost use Rattle.elf_object_type.specs.declared.symbol.Place.TheVariants.{In as InSection};
-ghost use Rattle.elf_link_relocate.specs.LinkingFacts.{IsReady, linked_map, linked_objects};
+ghost use Rattle.elf_link_relocate.specs.LinkingFacts.{AreValues, linked_map, linked_objects};
 ghost use Rattle.elf_link_relocate.specs.NameValues.{AreNameValues};
 ghost use Rattle.elf_link_relocate.specs.Values.{IsSmall, binding_value as binding_value_of, definition_value as definition_value_of, name_value as name_value_of, place_value as place_value_of, resolved_value as resolved_value_of};
 
-use crate::linking::Linking;
+use crate::linking::{Linking, Values};
 use elf_field::abi::*;
 use elf_link_map::files::symbol_of;
 use elf_link_map::{Binding, LinkMap};
@@ -92,31 +92,41 @@ pub(crate) fn name_values(
 
 /// Where the name of the symbol at `index` of a file, which is not local, stands among the names of the map.
 #[tactic(auto, unfolding(elf_link_map::specs::BindingNumbers::AreBindingNumbers))]
-fn name_number(linking: &Linking<'_, '_>, file: usize, index: usize) -> usize
-    requires ready { IsReady linking.now }
+fn name_number(linking: &Linking<'_, '_>, values: &Values<'_>, file: usize, index: usize) -> usize
+    requires values { AreValues (linked_objects linking.now) (linked_map linking.now) values.now }
     requires file { file < length (linked_objects linking.now) }
     requires index { index < length (object_at (linked_objects linking.now) file).symbols }
     requires entry { binding_of (symbol_in (linked_objects linking.now) file index) ≢ STB_LOCAL }
     ensures { StandsAt (linked_map linking.now).bindings (symbol_in (linked_objects linking.now) file index).name result }
 {
-    linking.numbers[file][index]
+    values.numbers[file][index]
 }
 
 /// The value of the name of the symbol at `index` of a file, which is not local.
-fn name_value(linking: &Linking<'_, '_>, file: usize, index: usize) -> Option<u128>
-    requires ready { IsReady linking.now }
+fn name_value(
+    linking: &Linking<'_, '_>,
+    values: &Values<'_>,
+    file: usize,
+    index: usize,
+) -> Option<u128>
+    requires values { AreValues (linked_objects linking.now) (linked_map linking.now) values.now }
     requires file { file < length (linked_objects linking.now) }
     requires index { index < length (object_at (linked_objects linking.now) file).symbols }
     requires entry { binding_of (symbol_in (linked_objects linking.now) file index) ≢ STB_LOCAL }
     ensures value { result ≡ name_value_of (linked_objects linking.now) (linked_map linking.now) (symbol_in (linked_objects linking.now) file index).name }
     ensures small { IsSmall result }
 {
-    linking.values[name_number(linking, file, index)]
+    values.names[name_number(linking, values, file, index)]
 }
 
 /// The value of a symbol: its own where it is local, and else that of its name.
-pub(crate) fn resolved_value(linking: &Linking<'_, '_>, file: usize, index: usize) -> Option<u128>
-    requires ready { IsReady linking.now }
+pub(crate) fn resolved_value(
+    linking: &Linking<'_, '_>,
+    values: &Values<'_>,
+    file: usize,
+    index: usize,
+) -> Option<u128>
+    requires values { AreValues (linked_objects linking.now) (linked_map linking.now) values.now }
     requires file { file < length (linked_objects linking.now) }
     requires index { index < length (object_at (linked_objects linking.now) file).symbols }
     ensures value { result ≡ resolved_value_of (linked_objects linking.now) (linked_map linking.now) file index }
@@ -126,6 +136,6 @@ pub(crate) fn resolved_value(linking: &Linking<'_, '_>, file: usize, index: usiz
     if symbol.binding() == STB_LOCAL {
         definition_value(linking.objects, linking.map, file, index)
     } else {
-        name_value(linking, file, index)
+        name_value(linking, values, file, index)
     }
 }

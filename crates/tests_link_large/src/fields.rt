@@ -23,7 +23,7 @@ fn rules() -> [RelocRule; 5] {
 }
 
 /// Adds the lowest bytes of a number, this many, in this order.
-fn push_number(
+pub(crate) fn push_number(
     order: Order,
     number: u64,
     count: usize,

@@ -2,6 +2,10 @@
 #![tactic(auto)]
 
 #[cfg(test)]
+mod addends;
+#[cfg(test)]
+mod commons;
+#[cfg(test)]
 mod fields;
 #[cfg(test)]
 mod files;

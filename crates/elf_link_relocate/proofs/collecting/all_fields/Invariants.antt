@@ -1,5 +1,7 @@
-use Rattle.elf_link_relocate.specs.Collecting.{AreFieldsBefore, entry_site}
+use Rattle.elf_link_relocate.specs.Collecting.{entry_site}
+use Rattle.elf_link_relocate.specs.Found.{AreFoundBefore}
+use Rattle.elf_link_relocate.specs.LinkingFacts.{linked_map, linked_objects, relocation_rules_of}
 use Rattle.elf_link_relocate.proofs.collecting.all_fields.Given as goal
 
 abbrev pub invariant-loop-file : goal.invariant-loop-file
-invariant-loop-file l = AreFieldsBefore l.objects l.rules (entry_site l.file 0 0) l.fields.items
+invariant-loop-file l = AreFoundBefore (linked_objects l.linking) (linked_map l.linking) (relocation_rules_of l.linking) (entry_site l.file 0 0) l.fields

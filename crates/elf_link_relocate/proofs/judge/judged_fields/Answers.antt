@@ -13,7 +13,8 @@ returns-clause-fields c =
     let m = linked_map c.args.linking.now in
     record {
       fields = c.in_ok-fields.ensures.fields;
+      read = c.in_ok-fields.ensures.read;
       placed = subst (λ (ds : List Field). HasNone (IsUnplaced fs m) ds) c.deref.ensures.value c.in_ok-refuse_first.ensures.ok;
-      within = all_within fs c.in_ok-fields.fields.items (subst (λ (ds : List Field). HasNone (IsFieldOutOfRange fs) ds) c.deref-2.ensures.value c.in_ok-refuse_first-2.ensures.ok);
+      within = all_within fs c.in_ok-fields.fields.list.items (subst (λ (ds : List Field). HasNone (IsFieldOutOfRange fs) ds) c.deref-2.ensures.value c.in_ok-refuse_first-2.ensures.ok);
       apart = subst (λ (ds : List Field). HasNoOverlap fs ds) c.deref-3.ensures.value c.in_ok-refuse_overlap.ensures.ok;
     }

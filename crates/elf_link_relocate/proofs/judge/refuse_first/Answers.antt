@@ -5,11 +5,11 @@ use Rattle.elf_link_relocate.proofs.judge.refuse_first.Goals as goal
 
 pub returns-in-Some-clause-err : goal.returns-in-Some-clause-err
 returns-in-Some-clause-err c =
-    let l = c.args.linking.now in
+    let l = c.args._linking.now in
     rw c.new.ensures
-    (c.rule.ensures, first_at_field (linked_objects l) (relocation_rules_of l) c.args.fields.now c.requires.fields (BreaksFieldTest (linked_objects l) (linked_map l) c.args.test) c.in-Some.k c.in-Some.ensures)
+    (c.rule.ensures, first_at_field (linked_objects l) (relocation_rules_of l) c.args.fields.now c.requires.fields (BreaksFieldTest (linked_objects l) (linked_map l) c.args.test) c.in-Some.k (rw c.in-Some.is at c.requires.first))
 
 pub returns-in-None-clause-nowhere : goal.returns-in-None-clause-nowhere
 returns-in-None-clause-nowhere c =
-    let l = c.args.linking.now in
-    none_at_field (linked_objects l) (relocation_rules_of l) c.args.fields.now c.requires.fields (BreaksFieldTest (linked_objects l) (linked_map l) c.args.test) c.in-None.ensures
+    let l = c.args._linking.now in
+    none_at_field (linked_objects l) (relocation_rules_of l) c.args.fields.now c.requires.fields (BreaksFieldTest (linked_objects l) (linked_map l) c.args.test) (rw c.in-None.is at c.requires.first)

@@ -18,14 +18,14 @@ mark_in-requires-clause-section c =
     let fs = linked_objects c.args.linking.now in
     let p = (field_at c.args.fields.now c.args.k).site in
     let there = target_section fs p (c.requires.fields.each c.args.k c.requires.below).applied.0 c.keeps_rules.ensures in
-    rw (c.target_of-target.ensures, c.requires.before.grid.sections p.file there.0) there.1
+    rw ((c.requires.read c.args.k c.requires.below).place.target, c.requires.before.grid.sections p.file there.0) there.1
 
 pub mark_in-requires-clause-field : goal.mark_in-requires-clause-field
 mark_in-requires-clause-field c =
     let fs = linked_objects c.args.linking.now in
     let p = (field_at c.args.fields.now c.args.k).site in
     let there = target_section fs p (c.requires.fields.each c.args.k c.requires.below).applied.0 c.keeps_rules.ensures in
-    rw (c.target_of-target.ensures, c.entry_of-offset.ensures, c.requires.before.long p.file (target_at fs p) there)
+    rw ((c.requires.read c.args.k c.requires.below).place.target, (c.requires.read c.args.k c.requires.below).place.offset, c.requires.before.long p.file (target_at fs p) there)
     (c.requires.within c.args.k c.requires.below)
 
 pub returns-clause-taken : goal.returns-clause-taken
@@ -33,7 +33,7 @@ returns-clause-taken c =
     let fs = linked_objects c.args.linking.now in
     let p = (field_at c.args.fields.now c.args.k).site in
     let there = target_section fs p (c.requires.fields.each c.args.k c.requires.below).applied.0 c.keeps_rules.ensures in
-    let (after, same, taken, marked) = rw (c.target_of-target.ensures, c.entry_of-offset.ensures) at c.mark_in.ensures in (
+    let (after, same, taken, marked) = rw ((c.requires.read c.args.k c.requires.below).place.target, (c.requires.read c.args.k c.requires.below).place.offset) at c.mark_in.ensures in (
       (λ is. taken_shares fs c.args.fields.now c.args.k (marks_view c.args.marks.now.items) there c.requires.before (taken.0 is)),
       (λ shares. taken.1 (shares_taken fs c.args.fields.now c.args.k (marks_view c.args.marks.now.items) there c.requires.before shares)),
     )
@@ -43,5 +43,5 @@ returns-clause-marks c =
     let fs = linked_objects c.args.linking.now in
     let p = (field_at c.args.fields.now c.args.k).site in
     let there = target_section fs p (c.requires.fields.each c.args.k c.requires.below).applied.0 c.keeps_rules.ensures in
-    let (after, same, taken, marked) = rw (c.target_of-target.ensures, c.entry_of-offset.ensures) at c.mark_in.ensures in
+    let (after, same, taken, marked) = rw ((c.requires.read c.args.k c.requires.below).place.target, (c.requires.read c.args.k c.requires.below).place.offset) at c.mark_in.ensures in
     rw same (marks_more fs c.args.fields.now c.args.k (marks_view c.args.marks.now.items) after there c.requires.before marked)

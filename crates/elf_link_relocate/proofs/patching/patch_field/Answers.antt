@@ -11,7 +11,7 @@ use Rattle.elf_link_relocate.specs.Collecting.{field_at}
 use Rattle.elf_link_field.specs.Rule.{size_of}
 use Rattle.elf_link_relocate.specs.Entries.{target_at}
 use Rattle.elf_link_relocate.specs.Fields.{field_start}
-use Rattle.elf_link_relocate.proofs.Patches.{copy_long, relocated_more, target_live}
+use Rattle.elf_link_relocate.proofs.Patches.{copy_long, number_there, relocated_more, target_live}
 use Rattle.elf_link_relocate.proofs.patching.patch_field.Goals as goal
 
 pub patch_in-requires-clause-file : goal.patch_in-requires-clause-file
@@ -25,7 +25,7 @@ patch_in-requires-clause-section c =
     let fs = linked_objects c.args.linking.now in
     let d = field_at c.args.fields.now c.args.k in
     let live = target_live fs (relocation_rules_of c.args.linking.now) d.site d.rule (c.requires.fields.fields.each c.args.k c.requires.below) c.keeps_rules.ensures in
-    rw (c.target_of-target.ensures, c.requires.before.grid.sections d.site.file live.0.0) live.0.1
+    rw ((c.requires.fields.read c.args.k c.requires.below).place.target, c.requires.before.grid.sections d.site.file live.0.0) live.0.1
 
 pub patch_in-requires-clause-room : goal.patch_in-requires-clause-room
 patch_in-requires-clause-room c =
@@ -36,7 +36,7 @@ patch_in-requires-clause-room c =
     let (after, at, relocated) = c.requires.before.each _ _ live in
     let long = relocated.long in
     let within = c.requires.fields.within k c.requires.below in
-    rw (c.target_of-target.ensures, c.entry_of-offset.ensures) (after, at, omega arith)
+    rw ((c.requires.fields.read c.args.k c.requires.below).place.target, (c.requires.fields.read c.args.k c.requires.below).place.offset) (after, at, omega arith)
 
 pub returns : goal.returns
 returns c =
@@ -45,15 +45,17 @@ returns c =
     let k = c.args.k in
     let d = field_at c.args.fields.now k in
     let has = c.requires.fields.fields.each k c.requires.below in
+    let read = c.requires.fields.read k c.requires.below in
     let live = target_live fs (relocation_rules_of c.args.linking.now) d.site d.rule has c.keeps_rules.ensures in
     let object = sym (object_is fs d.site.file c.index-linking-field.result has.applied.0.file c.index-linking-field.is ∙ c.index-linking-field.is) in
-    let order = c.order-order.ensures ∙ ap (λ (o : ObjectValue). o.order) object in
-    let fits : FitsSigned w128 c.in-Some.number = search rules in
-    let (copy, at, new) = simp (c.target_of-target.ensures, c.entry_of-offset.ensures, order, to_z-of_z, fits) at c.patch_in.ensures in
+    let order = c.order.ensures ∙ ap (λ (o : ObjectValue). o.order) object in
+    let fits : FitsSigned w128 d.number = search rules in
+    let (copy, at, new) = simp (read.place.target, read.place.offset, order, to_z-of_z, fits) at c.patch_in.ensures in
     let long = copy_long fs m c.args.fields.now k d.site.file (target_at fs d.site) (copies_view c.args.copies.now.items) copy c.requires.before live at in
     let within = c.requires.fields.within k c.requires.below in
+    let number = number_there fs m d (c.requires.fields.placed k c.requires.below) within read in
     let o = (object_at fs d.site.file).order in
-    let put = c.patched_field.ensures o copy (field_start fs d.site) (size_of d.rule.width) c.in-Some.number (omega arith) in
+    let put = c.patched_field.ensures o copy (field_start fs d.site) (size_of d.rule.width) d.number (omega arith) in
     rw new
-    (relocated_more fs m (relocation_rules_of c.args.linking.now) c.args.fields.now k c.in-Some.number c.requires.fields c.requires.below (sym c.in-Some.ensures)
+    (relocated_more fs m (relocation_rules_of c.args.linking.now) c.args.fields.now k d.number c.requires.fields c.requires.below number
     (copies_view c.args.copies.now.items) copy _ live at put c.requires.before)

@@ -6,24 +6,14 @@ use Rattle.elf_link_relocate.proofs.Memories.{linked_of, sound_of}
 use Rattle.elf_link_relocate.proofs.Patches.{relocated_none}
 use Rattle.elf_link_relocate.proofs.relocating.relocate_numbered.Goals as goal
 
-pub judged_fields-requires : goal.judged_fields-requires
-judged_fields-requires c = record {
-  ready = record {
-    sound = sound_of c.args.objects.now c.args.map.now c.requires.map (λ opt. c.parts_apart.ensures opt c.args.objects.now c.args.map.now);
-    numbers = c.requires.numbers;
-    values = c.in_ok-name_values.ensures;
-  };
-}
+pub judged_fields-requires-clause-ready : goal.judged_fields-requires-clause-ready
+judged_fields-requires-clause-ready c = sound_of c.args.objects.now c.args.map.now c.requires.map (λ opt. c.parts_apart.ensures opt c.args.objects.now c.args.map.now)
 
 pub all_copies-requires : goal.all_copies-requires
 all_copies-requires c = sound_of c.args.objects.now c.args.map.now c.requires.map (λ opt. c.parts_apart.ensures opt c.args.objects.now c.args.map.now)
 
 pub patch_all-requires-clause-ready : goal.patch_all-requires-clause-ready
-patch_all-requires-clause-ready c = record {
-  sound = sound_of c.args.objects.now c.args.map.now c.requires.map (λ opt. c.parts_apart.ensures opt c.args.objects.now c.args.map.now);
-  numbers = c.requires.numbers;
-  values = c.in_ok-name_values.ensures;
-}
+patch_all-requires-clause-ready c = sound_of c.args.objects.now c.args.map.now c.requires.map (λ opt. c.parts_apart.ensures opt c.args.objects.now c.args.map.now)
 
 pub patch_all-requires-clause-before : goal.patch_all-requires-clause-before
 patch_all-requires-clause-before c =
