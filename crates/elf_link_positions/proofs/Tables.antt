@@ -85,7 +85,7 @@ pub past_table : (hash : List ℕ → ℕ) (slots : List (Option Slot)) (old now
 past_table hash slots old now there n next taken placed table = record {
   some = table.some;
   free = λ q none. (let other = not_same n q (λ same. (let never : Free ≡ Taken =
-          sym (ap (λ o. seen o q) none) ∙ subst (λ m. seen (slot_of hash slots m) m ≡ Taken) same taken in cc)) in
+      sym (ap (λ o. seen o q) none) ∙ subst (λ m. seen (slot_of hash slots m) m ≡ Taken) same taken in cc)) in
       placed q ∙ ap (λ t. cond (is_some there) (old q) (cond t (Some next) (old q))) other ∙ sym (either_way (is_some there) (old q)) ∙ table.free q none);
 }
 

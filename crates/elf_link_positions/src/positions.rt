@@ -46,7 +46,10 @@ fn place_behind<'a>(
     let home = home_of(upper_of(name), second.len());
     match look(second, home, name) {
         Seen::Free => {
-            second[home] = Some(Slot { name, position: next });
+            second[home] = Some(Slot {
+                name,
+                position: next,
+            });
             Ok(None)
         }
         Seen::Here(k) => Ok(Some(k)),
@@ -110,7 +113,10 @@ impl<'a> NamePositions<'a> {
         let home = home_of(hash, self.first.len());
         match look(&self.first, home, name) {
             Seen::Free => {
-                self.first[home] = Some(Slot { name, position: next });
+                self.first[home] = Some(Slot {
+                    name,
+                    position: next,
+                });
                 Ok(None)
             }
             Seen::Here(k) => Ok(Some(k)),
