@@ -1,12 +1,12 @@
 //! The names of a link map, with what each is bound to (gABI chapter 4, Symbol Table).
 ghost use Rattle.std.specs.Prelude.{◌≡◌, MatchOption, None, map};
-ghost use Rattle.elf_link_names.specs.Naming.{position_by};
+ghost use Rattle.elf_link_positions.specs.Slots.{position_of};
 ghost use Rattle.elf_link_map.specs.LinkMap.{bound_in};
 ghost use Rattle.elf_link_map.specs.LinkMapView.{named_value};
 ghost use Rattle.elf_link_map.specs.Naming.{AreBindingPositions, StandsAt};
 
 use crate::bindings::Binding;
-use std::collections::BTreeMap;
+use elf_link_positions::NamePositions;
 use std::marker::Model;
 
 /// A name that is not local, and what it is bound to.
@@ -22,7 +22,7 @@ pub struct Named<'a> {
 #[derive(Debug, Drop)]
 pub(crate) struct Names<'a> {
     list: Vec<Named<'a>>,
-    positions: BTreeMap<&'a [u8], usize>,
+    positions: NamePositions<'a>,
 }
 
 impl<'a> Model for Names<'a> {
@@ -31,19 +31,19 @@ impl<'a> Model for Names<'a> {
 
     ghost Value = { List (List ℕ × Binding) };
 
-    ghost use Rattle.elf_link_names.specs.Naming.{position_by};
+    ghost use Rattle.elf_link_positions.specs.Slots.{position_of};
     ghost use Rattle.elf_link_map.specs.LinkMapView.{named_value};
     ghost use Rattle.elf_link_map.specs.Naming.{AreBindingPositions};
 
     ghost view = { λ a. map named_value a.list.items };
 
-    ghost invariant = { λ a. AreBindingPositions (map named_value a.list.items) (position_by a.positions) };
+    ghost invariant = { λ a. AreBindingPositions (map named_value a.list.items) (position_of a.positions) };
 }
 
 impl<'a> Names<'a> {
     /// These names, whose positions are known.
-    pub(crate) fn new(list: Vec<Named<'a>>, positions: BTreeMap<&'a [u8], usize>) -> Names<'a>
-        requires { AreBindingPositions (map named_value list.items) (position_by positions) }
+    pub(crate) fn new(list: Vec<Named<'a>>, positions: NamePositions<'a>) -> Names<'a>
+        requires { AreBindingPositions (map named_value list.items) (position_of positions) }
         ensures { result ≡ map named_value list.entry.items }
     {
         Names { list, positions }
@@ -60,7 +60,7 @@ impl<'a> Names<'a> {
     pub(crate) fn position(&self, name: &[u8]) -> Option<usize>
         ensures { MatchOption result (bound_in self.now name.now ≡ None) (StandsAt self.now name.now) }
     {
-        self.positions.get(name).copied()
+        self.positions.get(name)
     }
 
     /// What a name is bound to; None where it is not there.
@@ -68,7 +68,7 @@ impl<'a> Names<'a> {
         ensures { result ≡ bound_in self.now name.now }
     {
         match self.positions.get(name) {
-            Some(k) => Some(self.list[*k].binding),
+            Some(k) => Some(self.list[k].binding),
             None => None,
         }
     }

@@ -6,7 +6,7 @@ ghost use Rattle.elf_link_files.specs.Commons.{AreSymbols};
 ghost use Rattle.elf_link_names.specs.Binds.{Binds};
 ghost use Rattle.elf_link_names.specs.ChosenCommons.{IsCommonOf};
 ghost use Rattle.elf_link_names.specs.KnownNames.{AreAllKnown};
-ghost use Rattle.elf_link_names.specs.Naming.{position_by};
+ghost use Rattle.elf_link_positions.specs.Slots.{position_of as name_position};
 ghost use Rattle.elf_link_names.specs.ChosenCommons.{HaveChosen};
 ghost use Rattle.elf_link_outputs.specs.declared.addresses.Target.TheVariants.{Part};
 ghost use Rattle.elf_link_outputs.specs.Addresses.{IsTargetBelow};
@@ -124,7 +124,7 @@ fn name_target(
     commons: &[Chosen],
     name: &[u8],
 ) -> Target
-    requires names { AreAllKnown objects.now (position_by names.now.positions) names.now.known.items }
+    requires names { AreAllKnown objects.now (name_position names.now.positions) names.now.known.items }
     requires symbols { AreSymbols objects.now commons.now }
     requires commons { HaveChosen objects.now commons.now }
     requires fits { length sites.now + length commons.now < 2 ^ 64 }
@@ -145,7 +145,7 @@ pub(crate) fn entry_target(
     commons: &[Chosen],
     name: Option<&[u8]>,
 ) -> Target
-    requires names { AreAllKnown objects.now (position_by names.now.positions) names.now.known.items }
+    requires names { AreAllKnown objects.now (name_position names.now.positions) names.now.known.items }
     requires symbols { AreSymbols objects.now commons.now }
     requires commons { HaveChosen objects.now commons.now }
     requires fits { length sites.now + length commons.now < 2 ^ 64 }

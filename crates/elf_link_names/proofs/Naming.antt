@@ -1,13 +1,8 @@
 -- Names by position, in the order of their first entries.
 use Rattle.std.proofs.Common.{◌≡◌, ℕ, ◌+◌, ◌<◌, ◌⊎◌, Bool, List, length, inl, inr, refl, sym, ◌∙◌, ap, subst, arith}
-use Rattle.std.specs.Borrow.{Bor}
-use Rattle.std.specs.Prelude.{cond, if◌then◌else◌, Option, None, Some, MatchOption}
-use Rattle.std.specs.Cmp.Lexicographic.{slice_cmp}
-use Rattle.std.specs.Map.{lookup}
-use Rattle.std.specs.Ordering.{is_eq, nat_cmp}
+use Rattle.std.specs.Prelude.{if◌then◌else◌, Option, None, Some, MatchOption}
 use Rattle.std.specs.Str.{bytes_eq}
 use Rattle.std.proofs.lemmas.Bool.{cases_eq, cases_lt}
-use Rattle.std.proofs.lemmas.Map.Text.{is_eq-slice_cmp}
 use Rattle.std.proofs.lemmas.Slice.Eq.{bytes_eq-Decides}
 use Rattle.elf_field.specs.Abi.{STB_LOCAL}
 use Rattle.elf_object_type.specs.Object.{ObjectValue, binding}
@@ -22,14 +17,6 @@ use Rattle.elf_link_names.specs.Listing.{first_entries}
 use Rattle.elf_link_names.specs.Naming.{ArePositionsOf}
 
 -- ---- a name is noted at its position
-
-pub position_updates : (old now : List (Bor (List ℕ) × ℕ)) (n q : List ℕ) (k : ℕ) →
-    lookup (λ (key : Bor (List ℕ)). is_eq (slice_cmp nat_cmp q key.now)) now ≡
-    cond (is_eq (slice_cmp nat_cmp n q)) (Some k) (lookup (λ (key : Bor (List ℕ)). is_eq (slice_cmp nat_cmp q key.now)) old) →
-    lookup (λ (key : Bor (List ℕ)). is_eq (slice_cmp nat_cmp q key.now)) now ≡
-    (if bytes_eq n q then Some k else lookup (λ (key : Bor (List ℕ)). is_eq (slice_cmp nat_cmp q key.now)) old)
-position_updates old now n q k is =
-    is ∙ ap (λ (t : Bool). cond t (Some k) (lookup (λ (key : Bor (List ℕ)). is_eq (slice_cmp nat_cmp q key.now)) old)) (is_eq-slice_cmp n q)
 
 pub positions_none : (fs : List ObjectValue) (ps : List Site) (position : List ℕ → Option ℕ) → ((q : List ℕ) → position q ≡ None) → ArePositionsOf fs ps 0 position
 positions_none fs ps position empty name =

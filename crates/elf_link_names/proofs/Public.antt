@@ -2,6 +2,6 @@
 -- rules 6 and 9 don't stand; that there is one list of chosen commons; and what is known of all names.
 pub use Rattle.elf_link_names.proofs.Bound.{bound_excludes}
 pub use Rattle.elf_link_names.proofs.BoundNames.{all_bound}
-pub use Rattle.elf_link_names.proofs.Naming.{entry_listed, entry_there, names_once, position_updates}
+pub use Rattle.elf_link_names.proofs.Naming.{entry_listed, entry_there, names_once}
 pub use Rattle.elf_link_names.proofs.OneChoice.{one_choice, one_chosen, one_common}
 pub use Rattle.elf_link_names.proofs.Tabled.{site_known, whole_all, whole_firsts, whole_places}

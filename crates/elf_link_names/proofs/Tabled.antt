@@ -377,11 +377,6 @@ names_file fs f position ks is = record {
   each = λ k lt. known_file fs (name_at fs (site_at (map first_site ks) k)) f (known_at ks k) (is.each k lt);
 }
 
--- ---- a position that stands, or a new one
-
-pub as_looked : (r s : Option ℕ) (n q : List ℕ) (x : ℕ) → r ≡ cond (is_eq (slice_cmp nat_cmp n q)) (Some x) s → r ≡ cond (bytes_eq n q) (Some x) s
-as_looked r s n q x is = is ∙ ap (λ (e : Bool). cond e (Some x) s) (is_eq-slice_cmp n q)
-
 -- ---- all symbols
 
 best_whole : (fs : List ObjectValue) (P : ℕ → ℕ → Type 0) (best : Option Spot) → IsBest (AtSymbol fs P) (length fs) 0 best → IsWholeBest (AtSymbol fs P) best

@@ -1,14 +1,13 @@
 //! What is known of each name, from one pass over all symbols: its first definitions, its commons, and what else needs it
 //! (gABI chapter 4, Symbol Table).
-ghost use Rattle.std.specs.Prelude.{◌≡◌, ◌↔◌, ◌+◌, ◌<◌, None, Some, false, ℕ, List, IfOk, IsTrue, MatchOption, OnOk, cond, is_some, length, map};
-ghost use Rattle.std.specs.Str.{bytes_eq};
+ghost use Rattle.std.specs.Prelude.{◌≡◌, ◌↔◌, ◌+◌, ◌<◌, None, Some, false, ℕ, List, IfOk, IsTrue, MatchOption, OnOk, length, map};
 ghost use Rattle.elf_object_type.specs.ObjectView.{symbol_value};
 ghost use Rattle.elf_link_files.specs.Discarded.{AreDiscardMarks};
 ghost use Rattle.elf_link_files.specs.Files.{object_at, symbol_in};
 ghost use Rattle.elf_link_names.specs.Binds.{not_weak as not_weak_row};
 ghost use Rattle.elf_link_names.specs.KnownNames.{AreAllKnown, AreKnownBefore, IsBlock, IsCommonBest, IsKnownBefore, IsLargerOf, SomeBefore, first_or, spot_in};
 ghost use Rattle.elf_link_names.specs.NameNumbers.{AreNameNumbers, IsNameNumber, IsNumberRow, KeepsPositions};
-ghost use Rattle.elf_link_names.specs.Naming.{position_by};
+ghost use Rattle.elf_link_positions.specs.Slots.{position_of};
 ghost use Rattle.elf_field.specs.Abi.{STB_LOCAL};
 ghost use Rattle.elf_link_files.specs.Symbols.{IsCommon};
 ghost use Rattle.elf_object_type.specs.Object.{binding as binding_of};
@@ -17,9 +16,9 @@ use crate::bind::known_item;
 use elf_field::abi::*;
 use elf_link_files::files::{symbol_count, symbol_of};
 use elf_link_files::symbol_tests::{is_common_entry, is_definition, is_not_weak};
+use elf_link_positions::NamePositions;
 use elf_object_type::{Object, Symbol};
 use std::alloc::{AllocError, Global};
-use std::collections::BTreeMap;
 
 /// A symbol, by file and position.
 #[derive(Clone, Copy)]
@@ -60,7 +59,7 @@ pub struct Known {
 #[derive(Drop)]
 pub struct KnownNames<'a> {
     /// The position of each name in `known`.
-    pub positions: BTreeMap<&'a [u8], usize>,
+    pub positions: NamePositions<'a>,
     /// What is known of each.
     pub known: Vec<Known>,
 }
@@ -176,23 +175,6 @@ fn unknown(file: usize, index: usize) -> Known
     }
 }
 
-/// The position of a name that has one, which stays; a further name gets this one.
-fn place_name<'a>(
-    positions: &mut BTreeMap<&'a [u8], usize>,
-    name: &'a [u8],
-    next: usize,
-) -> Result<Option<usize>, AllocError>
-    ensures old { IfOk result (λ old. old ≡ position_by positions.old name.now) }
-    ensures positions { IfOk result (λ old. (q : List ℕ) → position_by positions.new q ≡
-        cond (is_some old) (position_by positions.old q) (cond (bytes_eq name.now q) (Some next) (position_by positions.old q))) }
-{
-    if let Some(place) = positions.get(name) {
-        return Ok(Some(*place));
-    }
-    positions.insert(name, next)?;
-    Ok(None)
-}
-
 /// Whether a symbol is local.
 fn is_local(symbol: &Symbol<'_>) -> bool
     ensures { IsTrue result ↔ (binding_of (symbol_value symbol.now) ≡ STB_LOCAL) }
@@ -211,10 +193,10 @@ fn pass_symbol<'a>(
     requires file { file < length objects.now }
     requires index { index < length (object_at objects.now file).symbols }
     requires marks { AreDiscardMarks objects.now (map (λ row. row.items) marks.now) }
-    requires before { AreKnownBefore objects.now file index (position_by names.old.positions) names.old.known.items }
-    ensures names { OnOk result (AreKnownBefore objects.now file (index + 1) (position_by names.new.positions) names.new.known.items) }
-    ensures number { IfOk result (IsNameNumber objects.now (position_by names.new.positions) file index) }
-    ensures kept { OnOk result (KeepsPositions (position_by names.old.positions) (position_by names.new.positions)) }
+    requires before { AreKnownBefore objects.now file index (position_of names.old.positions) names.old.known.items }
+    ensures names { OnOk result (AreKnownBefore objects.now file (index + 1) (position_of names.new.positions) names.new.known.items) }
+    ensures number { IfOk result (IsNameNumber objects.now (position_of names.new.positions) file index) }
+    ensures kept { OnOk result (KeepsPositions (position_of names.old.positions) (position_of names.new.positions)) }
 {
     let symbol = symbol_of(objects, file, index);
     let name = symbol.name;
@@ -222,7 +204,7 @@ fn pass_symbol<'a>(
         return Ok(0);
     }
     let next = names.known.len();
-    let place = place_name(&mut names.positions, name, next)?;
+    let place = names.positions.place(name, next)?;
     match place {
         Some(k) => {
             let known = known_item(&names.known, k);
@@ -249,10 +231,10 @@ fn pass_file<'a>(
 ) -> Result<Vec<usize>, AllocError>
     requires file { file < length objects.now }
     requires marks { AreDiscardMarks objects.now (map (λ row. row.items) marks.now) }
-    requires before { AreKnownBefore objects.now file 0 (position_by names.old.positions) names.old.known.items }
-    ensures names { OnOk result (AreKnownBefore objects.now file (length (object_at objects.now file).symbols) (position_by names.new.positions) names.new.known.items) }
-    ensures numbers { IfOk result (λ row. IsNumberRow objects.now (position_by names.new.positions) file (length (object_at objects.now file).symbols) row.items) }
-    ensures kept { OnOk result (KeepsPositions (position_by names.old.positions) (position_by names.new.positions)) }
+    requires before { AreKnownBefore objects.now file 0 (position_of names.old.positions) names.old.known.items }
+    ensures names { OnOk result (AreKnownBefore objects.now file (length (object_at objects.now file).symbols) (position_of names.new.positions) names.new.known.items) }
+    ensures numbers { IfOk result (λ row. IsNumberRow objects.now (position_of names.new.positions) file (length (object_at objects.now file).symbols) row.items) }
+    ensures kept { OnOk result (KeepsPositions (position_of names.old.positions) (position_of names.new.positions)) }
 {
     let count = symbol_count(&objects[file]);
     let mut row = Vec::with_capacity(alloc, count)?;
@@ -262,8 +244,16 @@ fn pass_file<'a>(
     Ok(row)
 }
 
-/// What is known of all names, and the number of each symbol's name by file and position. It takes one search for a symbol whose name is
-/// known, and two for another.
+/// How many symbols the files have, for room: no more names are known. It stops at the largest number.
+fn all_symbol_count(objects: &[Object<'_>]) -> usize {
+    let mut count: usize = 0;
+    for file in 0..objects.len() {
+        count = count.saturating_add(symbol_count(&objects[file]));
+    }
+    count
+}
+
+/// What is known of all names, and the number of each symbol's name by file and position. It takes one search a symbol.
 #[tactic(auto, unfolding(crate::specs::NameNumbers::AreNameNumbers))]
 pub(crate) fn known_names<'a>(
     alloc: Global,
@@ -271,10 +261,10 @@ pub(crate) fn known_names<'a>(
     marks: &[Vec<bool>],
 ) -> Result<(KnownNames<'a>, Vec<Vec<usize>>), AllocError>
     requires marks { AreDiscardMarks objects.now (map (λ row. row.items) marks.now) }
-    ensures names { IfOk result (λ both. AreAllKnown objects.now (position_by both.0.positions) both.0.known.items) }
-    ensures numbers { IfOk result (λ both. AreNameNumbers objects.now (position_by both.0.positions) (map (λ row. row.items) both.1.items)) }
+    ensures names { IfOk result (λ both. AreAllKnown objects.now (position_of both.0.positions) both.0.known.items) }
+    ensures numbers { IfOk result (λ both. AreNameNumbers objects.now (position_of both.0.positions) (map (λ row. row.items) both.1.items)) }
 {
-    let positions = BTreeMap::new(alloc);
+    let positions = NamePositions::new(alloc, all_symbol_count(objects))?;
     let known = Vec::new(alloc);
     let mut names = KnownNames { positions, known };
     let mut numbers = Vec::with_capacity(alloc, objects.len())?;

@@ -1,7 +1,7 @@
 use Rattle.std.proofs.Common.{◌≡◌, ℕ, map, rules, sym, subst}
 use Rattle.std.specs.Prelude.{Option, MatchOption}
 use Rattle.elf_link_files.proofs.Public.{match_map}
-use Rattle.elf_link_names.specs.Naming.{position_by}
+use Rattle.elf_link_positions.specs.Ordered.{position_by}
 use Rattle.elf_link_outputs.specs.PlacedView.{common_value}
 use Rattle.elf_link_map.specs.LinkMap.{IsCommonNamed}
 use Rattle.elf_link_map.proofs.bindings.common_named.Goals as goal

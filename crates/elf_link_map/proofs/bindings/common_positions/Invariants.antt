@@ -1,5 +1,5 @@
 use Rattle.std.proofs.Common.{map}
-use Rattle.elf_link_names.specs.Naming.{position_by}
+use Rattle.elf_link_positions.specs.Ordered.{position_by}
 use Rattle.elf_link_outputs.specs.PlacedView.{common_value}
 use Rattle.elf_link_map.specs.Naming.{AreCommonPositionsBelow}
 use Rattle.elf_link_map.proofs.bindings.common_positions.Given as goal

@@ -1,4 +1,4 @@
-use Rattle.elf_link_names.proofs.Public.{position_updates}
+use Rattle.elf_link_positions.proofs.Public.{position_updates}
 use Rattle.elf_link_map.proofs.bindings.note_position.Goals as goal
 
 pub returns : goal.returns

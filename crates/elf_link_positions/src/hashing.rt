@@ -1,0 +1,31 @@
+//! The hash of a name, and its place in a table.
+ghost use Rattle.std.specs.Prelude.{◌≡◌, ◌<◌, ◌%◌};
+ghost use Rattle.elf_link_positions.specs.Slots.{name_hash, upper_hash};
+
+use std::hash::{FoldHasher, Hasher};
+
+/// The hash of a name. It reads eight bytes at a time.
+#[tactic(auto, unfolding(crate::specs::Slots::name_hash))]
+pub(crate) fn hash_of(name: &[u8]) -> u64
+    ensures { result ≡ name_hash name.now }
+{
+    let mut hasher = FoldHasher::default();
+    hasher.write(name);
+    hasher.finish()
+}
+
+/// The upper half of the hash of a name.
+#[tactic(auto, unfolding(crate::specs::Slots::upper_hash))]
+pub(crate) fn upper_of(name: &[u8]) -> u64
+    ensures { result ≡ upper_hash name.now }
+{
+    hash_of(name) / 0x1_0000_0000
+}
+
+/// The place of a hash among so many.
+pub(crate) fn home_of(hash: u64, count: usize) -> usize
+    requires { 0 < count }
+    ensures { result ≡ hash % count }
+{
+    (hash % count as u64) as usize
+}
