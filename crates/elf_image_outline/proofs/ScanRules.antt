@@ -1,5 +1,5 @@
 -- The runs of rules that the stages of a scan judge are the rules of the file that the source tells.
-use Rattle.std.proofs.Common.{◌≡◌, ◌≢◌, ◌≤◌, ◌<◌, ◌+◌, ℕ, Bool, None, Some, Option, Result, Ok, Err, List, ◌++◌, length, map, take, drop, refl, sym, ap, subst, ◌∙◌, inl, inr, arith}
+use Rattle.std.proofs.Common.{◌≡◌, ◌<◌, ℕ, Bool, None, Some, Option, Result, Ok, Err, List, length, map, take, drop, refl, sym, ap, subst, ◌∙◌, inl, inr, arith}
 use Rattle.std.specs.Prelude.{IfSome}
 use Rattle.std.specs.List.{range_with_len}
 use Rattle.std.proofs.lemmas.Bool.{cases_eq}
@@ -16,13 +16,12 @@ use Rattle.elf_field.specs.declared.phdr.Phdr.{Phdr}
 use Rattle.elf_field.specs.declared.shdr.Shdr.{Shdr}
 use Rattle.elf_image_rules.specs.declared.broken.Broken.{Broken}
 use Rattle.elf_image_rules.specs.HeaderRules.{header_rules, ident_rules, length_rules}
-use Rattle.elf_image_rules.specs.ImageRules.{IsFault}
 use Rattle.elf_image_rules.specs.Rows.{FirstIn}
 use Rattle.elf_image_rules.specs.ProgramTableRules.{program_table_rules}
 use Rattle.elf_image_rules.specs.SectionTableRules.{section_table_rules}
-use Rattle.elf_image_rules.specs.Tables.{counts_in, header, order_of, phdr_offset, program_header_count, section_header_count, sections, segments, shdr_offset}
+use Rattle.elf_image_rules.specs.Tables.{counts_in, header, order_of, program_header_count, section_header_count, sections, segments, shdr_offset}
 use Rattle.elf_image_rules.specs.declared.tables.Counts.{Counts}
-use Rattle.elf_image_rules.proofs.Public.{FirstIn-sooner, fault_of_records, from_header, from_ident, from_length, from_program_table, from_section_table, from_tables, record_rules_of, sections_read_at, table_rules_of, table_some}
+use Rattle.elf_image_rules.proofs.Public.{FirstIn-sooner, fault_of_records, from_header, from_ident, from_length, from_program_table, from_section_table, from_tables, record_rules_of, sections_read_at, table_some}
 use Rattle.elf_image_source.specs.Reads.{table_at}
 use Rattle.elf_image_stream.specs.declared.fault.Fault.{Fault}
 use Rattle.elf_image_stream.specs.declared.fault.Fault.TheVariants.{Rule}

@@ -1,15 +1,13 @@
 -- The rules of tables in memory: the runs that are judged are all rules of an image that has such tables.
-use Rattle.std.proofs.Common.{◌≡◌, ◌≤◌, ◌<◌, ◌+◌, ℕ, None, Some, Option, Result, Ok, Err, List, length, refl, sym, ap, subst, ◌∙◌, inl, arith}
+use Rattle.std.proofs.Common.{◌≡◌, ℕ, None, Some, Option, Result, Ok, Err, List, refl, sym, ap, subst, ◌∙◌, inl}
 use Rattle.std.specs.Prelude.{IfErr}
 use Rattle.std.specs.Result.{IsErrAnd}
 use Rattle.elf_field.specs.declared.ehdr.Ehdr.{Ehdr}
 use Rattle.elf_field.specs.declared.phdr.Phdr.{Phdr}
 use Rattle.elf_field.specs.declared.shdr.Shdr.{Shdr}
-use Rattle.elf_extent.specs.Account.{Accounts}
-use Rattle.elf_extent.specs.Extent.{AreDisjoint, AreWithin, Doubly}
+use Rattle.elf_extent.specs.Extent.{AreWithin, Doubly}
 use Rattle.elf_extent.specs.Least.{IsLowest}
 use Rattle.elf_extent.specs.declared.extent.Extent.{Extent}
-use Rattle.elf_extent.proofs.Public.{disjoint_from_never}
 use Rattle.elf_image_rules.specs.HeaderRules.{header_rules, ident_rules, length_rules}
 use Rattle.elf_image_rules.specs.ImageRules.{header_entry_rules, header_table_rules, image_rules, record_rules}
 use Rattle.elf_image_rules.specs.OverlapRule.{extents}
@@ -20,7 +18,7 @@ use Rattle.elf_image_rules.specs.Tables.{program_header_count, program_header_of
 use Rattle.elf_image_rules.specs.declared.tables.Counts.{Counts}
 use Rattle.elf_image_rules.proofs.Public.{FirstIn-later, FirstIn-sooner, extents_within, sound_tables}
 use Rattle.elf_image_stream.specs.declared.fault.Fault.{Fault}
-use Rattle.elf_image_stream.specs.declared.fault.Fault.TheVariants.{OutOfMemory, Rule}
+use Rattle.elf_image_stream.specs.declared.fault.Fault.TheVariants.{Rule}
 use Rattle.elf_image_outline.specs.Image.{value_extents}
 use Rattle.elf_image_outline.specs.Scanning.{BreaksTables, HasTables}
 use Rattle.elf_image_outline.proofs.Standing.{extents_are}

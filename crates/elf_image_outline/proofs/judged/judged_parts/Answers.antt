@@ -1,4 +1,4 @@
-use Rattle.std.proofs.Common.{rules, ◌≡◌, ◌∙◌, None, List, ap₂, map, subst, sym}
+use Rattle.std.proofs.Common.{◌≡◌, ◌∙◌, None, List, ap₂, map, subst, sym}
 use Rattle.elf_extent.specs.Account.{Accounts}
 use Rattle.elf_extent.specs.Extent.{Doubly}
 use Rattle.elf_extent.specs.Least.{IsLowest}

@@ -1,4 +1,4 @@
-use Rattle.std.proofs.Common.{rules, ◌≡◌, ◌∙◌, length, sym}
+use Rattle.std.proofs.Common.{◌≡◌, ◌∙◌}
 use Rattle.elf_image_rules.specs.Tables.{header}
 use Rattle.elf_image_outline.proofs.ScanRules.{header_broken, header_of_block, ident_broken, length_broken, scans_rule, told_length}
 use Rattle.elf_image_outline.proofs.scan_head.scan_head.Goals as goal

@@ -1,5 +1,4 @@
-use Rattle.std.proofs.Common.{rules, ◌≡◌, ◌-◌, ◌∙◌, ℕ, min, List, ap, subst, sym}
-use Rattle.elf_extent.specs.declared.extent.Extent.{Extent}
+use Rattle.std.proofs.Common.{◌≡◌, ◌-◌, ◌∙◌, ℕ, min, ap, subst, sym}
 use Rattle.elf_image_rules.specs.StringTable.{AreEnds}
 use Rattle.elf_image_rules.specs.Tables.{bytes_in}
 use Rattle.elf_image_outline.proofs.NamesRead.{ends_there, names_are}

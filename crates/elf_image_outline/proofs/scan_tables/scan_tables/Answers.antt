@@ -1,5 +1,4 @@
-use Rattle.std.proofs.Common.{rules, ◌≡◌, ◌≤◌, ◌+◌, ◌*◌, ◌∙◌, ℕ, List, length, subst, ap, arith}
-use Rattle.elf_field.specs.Abi.{SHDR_SIZE}
+use Rattle.std.proofs.Common.{◌≡◌, ◌≤◌, ◌∙◌, length, ap, arith}
 use Rattle.elf_image_rules.specs.declared.tables.Counts.{Counts}
 use Rattle.elf_image_rules.specs.Tables.{sections, shdr_offset}
 use Rattle.elf_image_outline.proofs.ScanRules.{first_at, program_table_broken, scans_fault, scans_rule, section_table_broken, tables_read}

@@ -1,6 +1,5 @@
-use Rattle.std.proofs.Common.{rules, ◌≡◌, ◌∙◌, List, subst, sym}
-use Rattle.elf_image_rules.specs.Tables.{header}
-use Rattle.elf_image_outline.specs.Image.{AreRecordsIn, IsImage}
+use Rattle.std.proofs.Common.{◌∙◌, subst, sym}
+use Rattle.elf_image_outline.specs.Image.{IsImage}
 use Rattle.elf_image_outline.specs.Outline.{OutlineValue, image_in}
 use Rattle.elf_image_outline.proofs.NamesRead.{image_of_tables, stops_of_tables}
 use Rattle.elf_image_outline.proofs.ScanRules.{scans_fault}
