@@ -7,7 +7,7 @@ ghost use Rattle.elf_link_names.specs.Binds.{Binds, IsUnbound};
 ghost use Rattle.elf_link_names.specs.Listing.{first_entries};
 ghost use Rattle.elf_link_names.specs.KnownNames.{AreAllKnown, AreKnownWhole, IsKnownWhole, first_site};
 ghost use Rattle.elf_link_positions.specs.Ordered.{position_by};
-ghost use Rattle.elf_link_positions.specs.Slots.{position_of};
+ghost use Rattle.elf_link_positions.specs.Slots.{name_position};
 ghost use Rattle.elf_link_names.specs.Binds.{AllBound};
 ghost use Rattle.elf_link_outputs.specs.PlacedView.{common_value};
 ghost use Rattle.elf_link_map.specs.LinkMap.{AreBindings, AreNames, IsBinding, IsCommonNamed};
@@ -174,12 +174,12 @@ pub(crate) fn all_bindings<'a>(
     names: KnownNames<'a>,
     commons: &[Common<'_>],
 ) -> Result<Names<'a>, AllocError>
-    requires known { AreAllKnown objects.now (position_of names.positions) names.known.items }
+    requires known { AreAllKnown objects.now (name_position names.positions) names.known.items }
     requires commons { HaveCommons objects.now (map common_value commons.now) }
     requires bound { AllBound objects.now }
     ensures bindings { IfOk result (AreBindings objects.now (map common_value commons.now)) }
     ensures names { IfOk result (AreNames objects.now) }
-    ensures positions { IfOk result (λ all. AreBindingPositions all (position_of names.entry.positions)) }
+    ensures positions { IfOk result (λ all. AreBindingPositions all (name_position names.entry.positions)) }
 {
     let index = common_positions(alloc, commons)?;
     let list = names_of(alloc, objects, commons, &index, &names.known)?;

@@ -7,7 +7,7 @@ ghost use Rattle.elf_link_files.specs.Rows.{FirstAmong};
 ghost use Rattle.elf_link_names.specs.LinkRules.{input_rules};
 ghost use Rattle.elf_link_names.specs.KnownNames.{AreAllKnown};
 ghost use Rattle.elf_link_names.specs.NameNumbers.{AreNameNumbers};
-ghost use Rattle.elf_link_positions.specs.Slots.{position_of};
+ghost use Rattle.elf_link_positions.specs.Slots.{name_position};
 ghost use Rattle.elf_link_names.specs.ChosenCommons.{AreChosen};
 ghost use Rattle.elf_link_names.specs.ChosenCommons.{HaveChosen};
 ghost use Rattle.elf_link_outputs.specs.Plan.{AreOutputs, flat};
@@ -43,8 +43,8 @@ fn placed_map<'a>(
     requires clean { FirstAmong (input_rules options.now objects.now) None }
     requires options { FirstAmong (option_rules options.now objects.now) None }
     requires marks { AreDiscardMarks objects.now (map_list (λ row. row.items) judged.marks.items) }
-    requires names { AreAllKnown objects.now (position_of judged.names.positions) judged.names.known.items }
-    requires numbers { AreNameNumbers objects.now (position_of judged.names.positions) (map_list (λ row. row.items) judged.numbers.items) }
+    requires names { AreAllKnown objects.now (name_position judged.names.positions) judged.names.known.items }
+    requires numbers { AreNameNumbers objects.now (name_position judged.names.positions) (map_list (λ row. row.items) judged.numbers.items) }
     requires outputs { AreOutputs objects.now (map_list (λ ms. ms.items) outputs.now) }
     requires within { AreAllIn objects.now (map_list (λ ms. ms.items) outputs.now) }
     requires some { AreSome (map_list (λ ms. ms.items) outputs.now) }

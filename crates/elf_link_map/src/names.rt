@@ -1,6 +1,6 @@
 //! The names of a link map, with what each is bound to (gABI chapter 4, Symbol Table).
 ghost use Rattle.std.specs.Prelude.{◌≡◌, MatchOption, None, map};
-ghost use Rattle.elf_link_positions.specs.Slots.{position_of};
+ghost use Rattle.elf_link_positions.specs.Slots.{name_position};
 ghost use Rattle.elf_link_map.specs.LinkMap.{bound_in};
 ghost use Rattle.elf_link_map.specs.LinkMapView.{named_value};
 ghost use Rattle.elf_link_map.specs.Naming.{AreBindingPositions, StandsAt};
@@ -31,19 +31,19 @@ impl<'a> Model for Names<'a> {
 
     ghost Value = { List (List ℕ × Binding) };
 
-    ghost use Rattle.elf_link_positions.specs.Slots.{position_of};
+    ghost use Rattle.elf_link_positions.specs.Slots.{name_position};
     ghost use Rattle.elf_link_map.specs.LinkMapView.{named_value};
     ghost use Rattle.elf_link_map.specs.Naming.{AreBindingPositions};
 
     ghost view = { λ a. map named_value a.list.items };
 
-    ghost invariant = { λ a. AreBindingPositions (map named_value a.list.items) (position_of a.positions) };
+    ghost invariant = { λ a. AreBindingPositions (map named_value a.list.items) (name_position a.positions) };
 }
 
 impl<'a> Names<'a> {
     /// These names, whose positions are known.
     pub(crate) fn new(list: Vec<Named<'a>>, positions: NamePositions<'a>) -> Names<'a>
-        requires { AreBindingPositions (map named_value list.items) (position_of positions) }
+        requires { AreBindingPositions (map named_value list.items) (name_position positions) }
         ensures { result ≡ map named_value list.entry.items }
     {
         Names { list, positions }

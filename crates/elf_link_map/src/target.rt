@@ -6,7 +6,7 @@ ghost use Rattle.elf_link_files.specs.Commons.{AreSymbols};
 ghost use Rattle.elf_link_names.specs.Binds.{Binds};
 ghost use Rattle.elf_link_names.specs.ChosenCommons.{IsCommonOf};
 ghost use Rattle.elf_link_names.specs.KnownNames.{AreAllKnown};
-ghost use Rattle.elf_link_positions.specs.Slots.{position_of as name_position};
+ghost use Rattle.elf_link_positions.specs.Slots.{name_position};
 ghost use Rattle.elf_link_names.specs.ChosenCommons.{HaveChosen};
 ghost use Rattle.elf_link_outputs.specs.declared.addresses.Target.TheVariants.{Part};
 ghost use Rattle.elf_link_outputs.specs.Addresses.{IsTargetBelow};

@@ -6,7 +6,7 @@ ghost use Rattle.elf_link_files.specs.Rows.{IsFirstAt};
 ghost use Rattle.elf_link_names.specs.Binds.{Binds, IsUnbound, entries, strong};
 ghost use Rattle.elf_link_names.specs.KnownNames.{AreAllKnown, IsKnownWhole, Makes, known_at, spot_site};
 ghost use Rattle.elf_link_names.specs.NameNumbers.{AreNameNumbers};
-ghost use Rattle.elf_link_positions.specs.Slots.{position_of};
+ghost use Rattle.elf_link_positions.specs.Slots.{name_position};
 ghost use Rattle.elf_field.specs.Abi.{STB_LOCAL};
 ghost use Rattle.elf_link_files.specs.Files.{object_at, symbol_in};
 ghost use Rattle.elf_object_type.specs.Object.{binding as binding_of};
@@ -26,7 +26,7 @@ pub fn known_item(known: &[Known], k: usize) -> Known
 
 /// What is known of a name; None where it has no entry.
 pub(crate) fn find(_objects: &[Object<'_>], names: &KnownNames<'_>, name: &[u8]) -> Option<Known>
-    requires { AreAllKnown _objects.now (position_of names.now.positions) names.now.known.items }
+    requires { AreAllKnown _objects.now (name_position names.now.positions) names.now.known.items }
     ensures { MatchOption result (Never (entries _objects.now name.now)) (IsKnownWhole _objects.now name.now) }
 {
     match names.positions.get(name) {
@@ -47,8 +47,8 @@ pub(crate) fn known_of(
     requires file { file < length _objects.now }
     requires index { index < length (object_at _objects.now file).symbols }
     requires entry { binding_of (symbol_in _objects.now file index) ≢ STB_LOCAL }
-    requires names { AreAllKnown _objects.now (position_of names.now.positions) names.now.known.items }
-    requires numbers { AreNameNumbers _objects.now (position_of names.now.positions) (map (λ row. row.items) numbers.now) }
+    requires names { AreAllKnown _objects.now (name_position names.now.positions) names.now.known.items }
+    requires numbers { AreNameNumbers _objects.now (name_position names.now.positions) (map (λ row. row.items) numbers.now) }
     ensures { IsKnownWhole _objects.now (symbol_in _objects.now file index).name result }
 {
     known_item(&names.known, numbers[file][index])
@@ -75,8 +75,8 @@ pub(crate) fn first_strong(
     requires file { file < length objects.now }
     requires index { index < length (object_at objects.now file).symbols }
     requires entry { binding_of (symbol_in objects.now file index) ≢ STB_LOCAL }
-    requires names { AreAllKnown objects.now (position_of names.now.positions) names.now.known.items }
-    requires numbers { AreNameNumbers objects.now (position_of names.now.positions) (map (λ row. row.items) numbers.now) }
+    requires names { AreAllKnown objects.now (name_position names.now.positions) names.now.known.items }
+    requires numbers { AreNameNumbers objects.now (name_position names.now.positions) (map (λ row. row.items) numbers.now) }
     ensures { MatchOption result (Never (strong objects.now (symbol_in objects.now file index).name)) (IsFirstAt (strong objects.now (symbol_in objects.now file index).name)) }
 {
     site_of(known_of(objects, names, numbers, file, index).strong)
@@ -112,7 +112,7 @@ pub fn choice_of(known: Known) -> Option<Choice>
 
 /// What the name is bound to; None where it is bound to nothing.
 pub fn bind(objects: &[Object<'_>], names: &KnownNames<'_>, name: &[u8]) -> Option<Choice>
-    requires { AreAllKnown objects.now (position_of names.now.positions) names.now.known.items }
+    requires { AreAllKnown objects.now (name_position names.now.positions) names.now.known.items }
     ensures { MatchOption result (IsUnbound objects.now name.now) (Binds objects.now name.now) }
 {
     match find(objects, names, name) {

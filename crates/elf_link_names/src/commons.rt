@@ -8,7 +8,7 @@ ghost use Rattle.elf_link_names.specs.declared.listing.Listed.TheVariants.{Chose
 ghost use Rattle.elf_link_names.specs.Listing.{listed_row};
 ghost use Rattle.elf_link_names.specs.KnownNames.{AreAllKnown};
 ghost use Rattle.elf_link_names.specs.NameNumbers.{AreNameNumbers};
-ghost use Rattle.elf_link_positions.specs.Slots.{position_of};
+ghost use Rattle.elf_link_positions.specs.Slots.{name_position};
 ghost use Rattle.elf_link_names.specs.ChosenCommons.{AreChosen, AreChosenAt, IsOfLargest};
 ghost use Rattle.elf_link_names.specs.ChosenCommons.{HaveChosen};
 
@@ -27,8 +27,8 @@ fn chosen_for(
     site: Site,
 ) -> Chosen
     requires site { listed_row objects.now ChosenCommons site }
-    requires names { AreAllKnown objects.now (position_of names.now.positions) names.now.known.items }
-    requires numbers { AreNameNumbers objects.now (position_of names.now.positions) (map (λ row. row.items) numbers.now) }
+    requires names { AreAllKnown objects.now (name_position names.now.positions) names.now.known.items }
+    requires numbers { AreNameNumbers objects.now (name_position names.now.positions) (map (λ row. row.items) numbers.now) }
     ensures site { result.site ≡ site }
     ensures largest { IsOfLargest objects.now result }
 {
@@ -51,8 +51,8 @@ fn chosen_at(
     numbers: &[Vec<usize>],
     sites: &[Site],
 ) -> Result<Vec<Chosen>, AllocError>
-    requires names { AreAllKnown objects.now (position_of names.now.positions) names.now.known.items }
-    requires numbers { AreNameNumbers objects.now (position_of names.now.positions) (map (λ row. row.items) numbers.now) }
+    requires names { AreAllKnown objects.now (name_position names.now.positions) names.now.known.items }
+    requires numbers { AreNameNumbers objects.now (name_position names.now.positions) (map (λ row. row.items) numbers.now) }
     requires sites { Lists (listed_row objects.now ChosenCommons) sites.now }
     ensures { IfOk result (λ commons. AreChosenAt objects.now sites.now (length sites.now) commons.items) }
 {
@@ -72,8 +72,8 @@ pub fn chosen_commons(
     numbers: &[Vec<usize>],
 ) -> Result<Vec<Chosen>, AllocError>
     requires marks { AreDiscardMarks objects.now (map (λ row. row.items) marks.now) }
-    requires names { AreAllKnown objects.now (position_of names.now.positions) names.now.known.items }
-    requires numbers { AreNameNumbers objects.now (position_of names.now.positions) (map (λ row. row.items) numbers.now) }
+    requires names { AreAllKnown objects.now (name_position names.now.positions) names.now.known.items }
+    requires numbers { AreNameNumbers objects.now (name_position names.now.positions) (map (λ row. row.items) numbers.now) }
     ensures chosen { IfOk result (λ commons. AreChosen objects.now commons.items) }
     ensures symbols { IfOk result (λ commons. AreSymbols objects.now commons.items) }
     ensures all { IfOk result (λ commons. HaveChosen objects.now commons.items) }

@@ -6,7 +6,7 @@ ghost use Rattle.elf_link_files.specs.Rows.{FirstAmong};
 ghost use Rattle.elf_link_names.specs.LinkRules.{IsInputFault, input_rules};
 ghost use Rattle.elf_link_names.specs.KnownNames.{AreAllKnown};
 ghost use Rattle.elf_link_names.specs.NameNumbers.{AreNameNumbers};
-ghost use Rattle.elf_link_positions.specs.Slots.{position_of};
+ghost use Rattle.elf_link_positions.specs.Slots.{name_position};
 
 use crate::file_rules::{judge_options, judge_sections, judge_symbols};
 use crate::known_names::{KnownNames, known_names};
@@ -39,8 +39,8 @@ pub fn judge<'a>(
     ensures sound { OnOk result (FirstAmong (input_rules options.now objects.now) None) }
     ensures options { OnOk result (FirstAmong (option_rules options.now objects.now) None) }
     ensures marks { IfOk result (λ judged. AreDiscardMarks objects.now (map (λ row. row.items) judged.marks.items)) }
-    ensures names { IfOk result (λ judged. AreAllKnown objects.now (position_of judged.names.positions) judged.names.known.items) }
-    ensures numbers { IfOk result (λ judged. AreNameNumbers objects.now (position_of judged.names.positions) (map (λ row. row.items) judged.numbers.items)) }
+    ensures names { IfOk result (λ judged. AreAllKnown objects.now (name_position judged.names.positions) judged.names.known.items) }
+    ensures numbers { IfOk result (λ judged. AreNameNumbers objects.now (name_position judged.names.positions) (map (λ row. row.items) judged.numbers.items)) }
     ensures err { IfErr result (IsInputFault options.now objects.now) }
 {
     judge_options(options, objects)?;

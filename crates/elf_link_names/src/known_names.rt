@@ -7,7 +7,7 @@ ghost use Rattle.elf_link_files.specs.Files.{object_at, symbol_in};
 ghost use Rattle.elf_link_names.specs.Binds.{not_weak as not_weak_row};
 ghost use Rattle.elf_link_names.specs.KnownNames.{AreAllKnown, AreKnownBefore, IsBlock, IsCommonBest, IsKnownBefore, IsLargerOf, SomeBefore, first_or, spot_in};
 ghost use Rattle.elf_link_names.specs.NameNumbers.{AreNameNumbers, IsNameNumber, IsNumberRow, KeepsPositions};
-ghost use Rattle.elf_link_positions.specs.Slots.{position_of};
+ghost use Rattle.elf_link_positions.specs.Slots.{name_position};
 ghost use Rattle.elf_field.specs.Abi.{STB_LOCAL};
 ghost use Rattle.elf_link_files.specs.Symbols.{IsCommon};
 ghost use Rattle.elf_object_type.specs.Object.{binding as binding_of};
@@ -193,10 +193,10 @@ fn pass_symbol<'a>(
     requires file { file < length objects.now }
     requires index { index < length (object_at objects.now file).symbols }
     requires marks { AreDiscardMarks objects.now (map (λ row. row.items) marks.now) }
-    requires before { AreKnownBefore objects.now file index (position_of names.old.positions) names.old.known.items }
-    ensures names { OnOk result (AreKnownBefore objects.now file (index + 1) (position_of names.new.positions) names.new.known.items) }
-    ensures number { IfOk result (IsNameNumber objects.now (position_of names.new.positions) file index) }
-    ensures kept { OnOk result (KeepsPositions (position_of names.old.positions) (position_of names.new.positions)) }
+    requires before { AreKnownBefore objects.now file index (name_position names.old.positions) names.old.known.items }
+    ensures names { OnOk result (AreKnownBefore objects.now file (index + 1) (name_position names.new.positions) names.new.known.items) }
+    ensures number { IfOk result (IsNameNumber objects.now (name_position names.new.positions) file index) }
+    ensures kept { OnOk result (KeepsPositions (name_position names.old.positions) (name_position names.new.positions)) }
 {
     let symbol = symbol_of(objects, file, index);
     let name = symbol.name;
@@ -231,10 +231,10 @@ fn pass_file<'a>(
 ) -> Result<Vec<usize>, AllocError>
     requires file { file < length objects.now }
     requires marks { AreDiscardMarks objects.now (map (λ row. row.items) marks.now) }
-    requires before { AreKnownBefore objects.now file 0 (position_of names.old.positions) names.old.known.items }
-    ensures names { OnOk result (AreKnownBefore objects.now file (length (object_at objects.now file).symbols) (position_of names.new.positions) names.new.known.items) }
-    ensures numbers { IfOk result (λ row. IsNumberRow objects.now (position_of names.new.positions) file (length (object_at objects.now file).symbols) row.items) }
-    ensures kept { OnOk result (KeepsPositions (position_of names.old.positions) (position_of names.new.positions)) }
+    requires before { AreKnownBefore objects.now file 0 (name_position names.old.positions) names.old.known.items }
+    ensures names { OnOk result (AreKnownBefore objects.now file (length (object_at objects.now file).symbols) (name_position names.new.positions) names.new.known.items) }
+    ensures numbers { IfOk result (λ row. IsNumberRow objects.now (name_position names.new.positions) file (length (object_at objects.now file).symbols) row.items) }
+    ensures kept { OnOk result (KeepsPositions (name_position names.old.positions) (name_position names.new.positions)) }
 {
     let count = symbol_count(&objects[file]);
     let mut row = Vec::with_capacity(alloc, count)?;
@@ -261,8 +261,8 @@ pub(crate) fn known_names<'a>(
     marks: &[Vec<bool>],
 ) -> Result<(KnownNames<'a>, Vec<Vec<usize>>), AllocError>
     requires marks { AreDiscardMarks objects.now (map (λ row. row.items) marks.now) }
-    ensures names { IfOk result (λ both. AreAllKnown objects.now (position_of both.0.positions) both.0.known.items) }
-    ensures numbers { IfOk result (λ both. AreNameNumbers objects.now (position_of both.0.positions) (map (λ row. row.items) both.1.items)) }
+    ensures names { IfOk result (λ both. AreAllKnown objects.now (name_position both.0.positions) both.0.known.items) }
+    ensures numbers { IfOk result (λ both. AreNameNumbers objects.now (name_position both.0.positions) (map (λ row. row.items) both.1.items)) }
 {
     let positions = NamePositions::new(alloc, all_symbol_count(objects))?;
     let known = Vec::new(alloc);

@@ -6,7 +6,7 @@ ghost use Rattle.elf_link_files.specs.Listing.{Lists, UpTo};
 ghost use Rattle.elf_link_names.specs.Listing.{IsChosen, IsListed, listed_count, listed_row};
 ghost use Rattle.elf_link_names.specs.KnownNames.{AreAllKnown, IsChosenOf, IsFirstCommonOf};
 ghost use Rattle.elf_link_names.specs.NameNumbers.{AreNameNumbers};
-ghost use Rattle.elf_link_positions.specs.Slots.{position_of};
+ghost use Rattle.elf_link_positions.specs.Slots.{name_position};
 
 use crate::bind::known_of;
 use crate::known_names::{Known, KnownNames, Spot};
@@ -50,8 +50,8 @@ impl Listed {
         requires file { file < length objects.now }
         requires index { index < listed_count self (object_at objects.now file) }
         requires marks { AreDiscardMarks objects.now (map (λ row. row.items) marks.now) }
-        requires names { AreAllKnown objects.now (position_of names.now.positions) names.now.known.items }
-        requires numbers { AreNameNumbers objects.now (position_of names.now.positions) (map (λ row. row.items) numbers.now) }
+        requires names { AreAllKnown objects.now (name_position names.now.positions) names.now.known.items }
+        requires numbers { AreNameNumbers objects.now (name_position names.now.positions) (map (λ row. row.items) numbers.now) }
         ensures { IsTrue result ↔ IsListed objects.now self file index }
     {
         match self {
@@ -98,8 +98,8 @@ fn is_chosen(
 ) -> bool
     requires file { file < length objects.now }
     requires index { index < length (object_at objects.now file).symbols }
-    requires names { AreAllKnown objects.now (position_of names.now.positions) names.now.known.items }
-    requires numbers { AreNameNumbers objects.now (position_of names.now.positions) (map (λ row. row.items) numbers.now) }
+    requires names { AreAllKnown objects.now (name_position names.now.positions) names.now.known.items }
+    requires numbers { AreNameNumbers objects.now (name_position names.now.positions) (map (λ row. row.items) numbers.now) }
     ensures { IsTrue result ↔ IsChosen objects.now file index }
 {
     if !is_common_entry(objects, file, index) {
@@ -122,8 +122,8 @@ fn push_site(
     requires file { file < length objects.now }
     requires index { index < listed_count what (object_at objects.now file) }
     requires marks { AreDiscardMarks objects.now (map (λ row. row.items) marks.now) }
-    requires names { AreAllKnown objects.now (position_of names.now.positions) names.now.known.items }
-    requires numbers { AreNameNumbers objects.now (position_of names.now.positions) (map (λ row. row.items) numbers.now) }
+    requires names { AreAllKnown objects.now (name_position names.now.positions) names.now.known.items }
+    requires numbers { AreNameNumbers objects.now (name_position names.now.positions) (map (λ row. row.items) numbers.now) }
     requires before { Lists (UpTo (listed_row objects.now what) file index) sites.old.items }
     ensures { OnOk result (Lists (UpTo (listed_row objects.now what) file (index + 1)) sites.new.items) }
 {
@@ -146,8 +146,8 @@ fn push_file(
 ) -> Result<(), AllocError>
     requires file { file < length objects.now }
     requires marks { AreDiscardMarks objects.now (map (λ row. row.items) marks.now) }
-    requires names { AreAllKnown objects.now (position_of names.now.positions) names.now.known.items }
-    requires numbers { AreNameNumbers objects.now (position_of names.now.positions) (map (λ row. row.items) numbers.now) }
+    requires names { AreAllKnown objects.now (name_position names.now.positions) names.now.known.items }
+    requires numbers { AreNameNumbers objects.now (name_position names.now.positions) (map (λ row. row.items) numbers.now) }
     requires before { Lists (UpTo (listed_row objects.now what) file 0) sites.old.items }
     ensures { OnOk result (Lists (UpTo (listed_row objects.now what) file (listed_count what (object_at objects.now file))) sites.new.items) }
 {
@@ -167,8 +167,8 @@ pub fn all_listed(
     numbers: &[Vec<usize>],
 ) -> Result<Vec<Site>, AllocError>
     requires marks { AreDiscardMarks objects.now (map (λ row. row.items) marks.now) }
-    requires names { AreAllKnown objects.now (position_of names.now.positions) names.now.known.items }
-    requires numbers { AreNameNumbers objects.now (position_of names.now.positions) (map (λ row. row.items) numbers.now) }
+    requires names { AreAllKnown objects.now (name_position names.now.positions) names.now.known.items }
+    requires numbers { AreNameNumbers objects.now (name_position names.now.positions) (map (λ row. row.items) numbers.now) }
     ensures { IfOk result (λ sites. Lists (listed_row objects.now what) sites.items) }
 {
     let mut sites = Vec::new(alloc);

@@ -11,7 +11,7 @@ ghost use Rattle.elf_link_files.specs.Symbols.{IsPlaceIn, IsUndefinedAt};
 ghost use Rattle.elf_link_names.specs.Binds.{IsUnbound};
 ghost use Rattle.elf_link_names.specs.KnownNames.{AreAllKnown};
 ghost use Rattle.elf_link_names.specs.NameNumbers.{AreNameNumbers};
-ghost use Rattle.elf_link_positions.specs.Slots.{position_of};
+ghost use Rattle.elf_link_positions.specs.Slots.{name_position};
 ghost use Rattle.elf_link_names.specs.NameRules.{BreaksName, HasEarlier, HasNoName, HasTwoDefinitions, IsFirstName, IsUndefinedName, link_name_rules};
 
 use crate::bind::{choice_of, first_strong, known_of};
@@ -47,8 +47,8 @@ impl NameRule {
         requires file { file < length objects.now }
         requires index { index < length (object_at objects.now file).symbols }
         requires marks { AreDiscardMarks objects.now (map (λ row. row.items) marks.now) }
-        requires names { AreAllKnown objects.now (position_of names.now.positions) names.now.known.items }
-        requires numbers { AreNameNumbers objects.now (position_of names.now.positions) (map (λ row. row.items) numbers.now) }
+        requires names { AreAllKnown objects.now (name_position names.now.positions) names.now.known.items }
+        requires numbers { AreNameNumbers objects.now (name_position names.now.positions) (map (λ row. row.items) numbers.now) }
         ensures { IsTrue result ↔ BreaksName objects.now self file index }
     {
         match self {
@@ -80,8 +80,8 @@ fn has_earlier(
     requires file { file < length objects.now }
     requires index { index < length (object_at objects.now file).symbols }
     requires entry { binding_of (symbol_in objects.now file index) ≢ STB_LOCAL }
-    requires names { AreAllKnown objects.now (position_of names.now.positions) names.now.known.items }
-    requires numbers { AreNameNumbers objects.now (position_of names.now.positions) (map (λ row. row.items) numbers.now) }
+    requires names { AreAllKnown objects.now (name_position names.now.positions) names.now.known.items }
+    requires numbers { AreNameNumbers objects.now (name_position names.now.positions) (map (λ row. row.items) numbers.now) }
     ensures { IsTrue result ↔ HasEarlier objects.now (symbol_in objects.now file index).name file index }
 {
     match first_strong(objects, names, numbers, file, index) {
@@ -102,8 +102,8 @@ fn has_two_definitions(
     requires file { file < length objects.now }
     requires index { index < length (object_at objects.now file).symbols }
     requires marks { AreDiscardMarks objects.now (map (λ row. row.items) marks.now) }
-    requires names { AreAllKnown objects.now (position_of names.now.positions) names.now.known.items }
-    requires numbers { AreNameNumbers objects.now (position_of names.now.positions) (map (λ row. row.items) numbers.now) }
+    requires names { AreAllKnown objects.now (name_position names.now.positions) names.now.known.items }
+    requires numbers { AreNameNumbers objects.now (name_position names.now.positions) (map (λ row. row.items) numbers.now) }
     ensures { IsTrue result ↔ HasTwoDefinitions objects.now file index }
 {
     is_definition(STB_GLOBAL, objects, marks, file, index)
@@ -135,8 +135,8 @@ fn is_unbound(
     requires file { file < length objects.now }
     requires index { index < length (object_at objects.now file).symbols }
     requires entry { binding_of (symbol_in objects.now file index) ≢ STB_LOCAL }
-    requires names { AreAllKnown objects.now (position_of names.now.positions) names.now.known.items }
-    requires numbers { AreNameNumbers objects.now (position_of names.now.positions) (map (λ row. row.items) numbers.now) }
+    requires names { AreAllKnown objects.now (name_position names.now.positions) names.now.known.items }
+    requires numbers { AreNameNumbers objects.now (name_position names.now.positions) (map (λ row. row.items) numbers.now) }
     ensures { IsTrue result ↔ IsUnbound objects.now (symbol_in objects.now file index).name }
 {
     match choice_of(known_of(objects, names, numbers, file, index)) {
@@ -157,8 +157,8 @@ fn is_undefined_name(
     requires file { file < length objects.now }
     requires index { index < length (object_at objects.now file).symbols }
     requires marks { AreDiscardMarks objects.now (map (λ row. row.items) marks.now) }
-    requires names { AreAllKnown objects.now (position_of names.now.positions) names.now.known.items }
-    requires numbers { AreNameNumbers objects.now (position_of names.now.positions) (map (λ row. row.items) numbers.now) }
+    requires names { AreAllKnown objects.now (name_position names.now.positions) names.now.known.items }
+    requires numbers { AreNameNumbers objects.now (name_position names.now.positions) (map (λ row. row.items) numbers.now) }
     ensures { IsTrue result ↔ IsUndefinedName objects.now file index }
 {
     keeps_rules(objects, file);
@@ -179,8 +179,8 @@ fn first_name_in(
 ) -> Option<usize>
     requires file { file < length objects.now }
     requires marks { AreDiscardMarks objects.now (map (λ row. row.items) marks.now) }
-    requires names { AreAllKnown objects.now (position_of names.now.positions) names.now.known.items }
-    requires numbers { AreNameNumbers objects.now (position_of names.now.positions) (map (λ row. row.items) numbers.now) }
+    requires names { AreAllKnown objects.now (name_position names.now.positions) names.now.known.items }
+    requires numbers { AreNameNumbers objects.now (name_position names.now.positions) (map (λ row. row.items) numbers.now) }
     ensures { MatchOption result (HasNoName objects.now rule file) (IsFirstName objects.now rule file) }
 {
     for index in 0..symbol_count(&objects[file]) {
@@ -200,8 +200,8 @@ fn first_name(
     numbers: &[Vec<usize>],
 ) -> Option<Site>
     requires marks { AreDiscardMarks objects.now (map (λ row. row.items) marks.now) }
-    requires names { AreAllKnown objects.now (position_of names.now.positions) names.now.known.items }
-    requires numbers { AreNameNumbers objects.now (position_of names.now.positions) (map (λ row. row.items) numbers.now) }
+    requires names { AreAllKnown objects.now (name_position names.now.positions) names.now.known.items }
+    requires numbers { AreNameNumbers objects.now (name_position names.now.positions) (map (λ row. row.items) numbers.now) }
     ensures { MatchOption result (Never (AtSymbol objects.now (BreaksName objects.now rule))) (IsFirstAt (AtSymbol objects.now (BreaksName objects.now rule))) }
 {
     for file in 0..objects.len() {
@@ -220,8 +220,8 @@ pub(crate) fn judge_names(
     numbers: &[Vec<usize>],
 ) -> Result<(), Broken<Site>>
     requires marks { AreDiscardMarks objects.now (map (λ row. row.items) marks.now) }
-    requires names { AreAllKnown objects.now (position_of names.now.positions) names.now.known.items }
-    requires numbers { AreNameNumbers objects.now (position_of names.now.positions) (map (λ row. row.items) numbers.now) }
+    requires names { AreAllKnown objects.now (name_position names.now.positions) names.now.known.items }
+    requires numbers { AreNameNumbers objects.now (name_position names.now.positions) (map (λ row. row.items) numbers.now) }
     ensures { FirstAmong (link_name_rules objects.now) (fault_of result) }
 {
     if let Some(site) = first_name(NameRule::TwoDefinitions, objects, marks, names, numbers) {

@@ -53,8 +53,8 @@ abbrev pub behind : Positions → List ℕ → Option ℕ
 behind p = position_in upper_hash p.second (position_among p.more)
 
 -- where a name stands
-unfoldable pub position_of : Positions → List ℕ → Option ℕ
-position_of p = position_in name_hash p.first (behind p)
+unfoldable pub name_position : Positions → List ℕ → Option ℕ
+name_position p = position_in name_hash p.first (behind p)
 
 pub record AreTables (p : Positions) : Type 0 where
   pub first : IsTable name_hash p.first (behind p)

@@ -1,7 +1,7 @@
 //! Where each name of a link stands.
 ghost use Rattle.std.specs.Prelude.{◌≡◌, ◌<◌, ℕ, None, List, IfOk, OnErr, length};
 ghost use Rattle.elf_link_positions.specs.Ordered.{IsPlaced, position_by};
-ghost use Rattle.elf_link_positions.specs.Slots.{IsTable, position_in, position_of, upper_hash};
+ghost use Rattle.elf_link_positions.specs.Slots.{IsTable, position_in, name_position, upper_hash};
 
 use crate::hashing::{hash_of, home_of, upper_of};
 use crate::ordered::place_ordered;
@@ -76,9 +76,9 @@ fn get_behind(
 
 impl<'a> NamePositions<'a> {
     /// No names, with room for so many.
-    #[tactic(auto, unfolding(crate::specs::Slots::position_of))]
+    #[tactic(auto, unfolding(crate::specs::Slots::name_position))]
     pub fn new(alloc: Global, room: usize) -> Result<NamePositions<'a>, AllocError>
-        ensures { IfOk result (λ positions. (q : List ℕ) → position_of positions q ≡ None) }
+        ensures { IfOk result (λ positions. (q : List ℕ) → name_position positions q ≡ None) }
     {
         let first = vec![in alloc; None; room.max(1)]?;
         let second = vec![in alloc; None; (room / 2).max(1)]?;
@@ -91,9 +91,9 @@ impl<'a> NamePositions<'a> {
     }
 
     /// The position of a name; None where it has none.
-    #[tactic(auto, unfolding(crate::specs::Slots::position_of))]
+    #[tactic(auto, unfolding(crate::specs::Slots::name_position))]
     pub fn get(&self, name: &[u8]) -> Option<usize>
-        ensures { result ≡ position_of self.now name.now }
+        ensures { result ≡ name_position self.now name.now }
     {
         let hash = hash_of(name);
         match look(&self.first, home_of(hash, self.first.len()), name) {
@@ -104,10 +104,10 @@ impl<'a> NamePositions<'a> {
     }
 
     /// The position of a name that has one, which stays; a further name gets this one.
-    #[tactic(auto, unfolding(crate::specs::Slots::position_of))]
+    #[tactic(auto, unfolding(crate::specs::Slots::name_position))]
     pub fn place(&mut self, name: &'a [u8], next: usize) -> Result<Option<usize>, AllocError>
-        ensures old { IfOk result (λ old. old ≡ position_of self.old name.now) }
-        ensures placed { IfOk result (λ old. IsPlaced old name.now next (position_of self.old) (position_of self.new)) }
+        ensures old { IfOk result (λ old. old ≡ name_position self.old name.now) }
+        ensures placed { IfOk result (λ old. IsPlaced old name.now next (name_position self.old) (name_position self.new)) }
     {
         let hash = hash_of(name);
         let home = home_of(hash, self.first.len());

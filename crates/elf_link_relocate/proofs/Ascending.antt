@@ -6,7 +6,7 @@ use Rattle.elf_link_map.specs.LinkMap.{LinkMapValue}
 use Rattle.elf_link_relocate.specs.declared.field.Field.{Field}
 use Rattle.elf_link_relocate.specs.Collecting.{field_at}
 use Rattle.elf_link_relocate.specs.Fields.{Share}
-use Rattle.elf_link_relocate.specs.LinkingFacts.{AreRead, IsInTarget}
+use Rattle.elf_link_relocate.specs.LinkingFacts.{AreFieldsRead, IsInTarget}
 use Rattle.elf_link_relocate.specs.Marking.{HasNoOverlap}
 use Rattle.elf_link_relocate.specs.Sharing.{AreAscending, StandsBehind}
 
@@ -52,7 +52,7 @@ behind_apart fs d e at there (inr (file, inr (section, end))) ((same, target), (
     let second = there.offset in
     omega arith
 
-pub ascending_apart : (fs : List ObjectValue) (m : LinkMapValue) (ds : List Field) → AreRead fs m ds → AreAscending ds (length ds) → HasNoOverlap fs ds
+pub ascending_apart : (fs : List ObjectValue) (m : LinkMapValue) (ds : List Field) → AreFieldsRead fs m ds → AreAscending ds (length ds) → HasNoOverlap fs ds
 ascending_apart fs m ds read are k lt (j, below, share) =
     let j_in : j < length ds = omega arith in
     behind_apart fs (field_at ds j) (field_at ds k) (read j j_in).place (read k lt).place (behind_all ds are j k below lt) share

@@ -13,13 +13,13 @@ use Rattle.elf_link_relocate.specs.declared.field.Fields.{Fields}
 use Rattle.elf_link_relocate.specs.declared.field.Judged.{Judged}
 use Rattle.elf_link_relocate.specs.declared.field_test.FieldTest.TheVariants.{FieldOutOfRange, Unplaced, ValueOutOfRange}
 use Rattle.elf_link_relocate.specs.Entries.{entry_at}
-use Rattle.elf_link_relocate.specs.LinkingFacts.{AreRead, IsRead}
+use Rattle.elf_link_relocate.specs.LinkingFacts.{AreFieldsRead, IsRead}
 use Rattle.elf_link_relocate.specs.Numbers.{number_at}
 use Rattle.elf_link_relocate.specs.RelocationRules.{IsValueOutOfRange}
 use Rattle.elf_link_relocate.specs.Collecting.{AreFieldsBefore, entry_site}
 use Rattle.elf_link_relocate.specs.Fields.{IsWithin}
 use Rattle.elf_link_relocate.specs.FieldTests.{BreaksFieldTest, HasNone, IsFirst}
-use Rattle.elf_link_relocate.specs.Found.{AreFoundBefore, IsJudged, first_of}
+use Rattle.elf_link_relocate.specs.Found.{AreFoundBefore, IsJudgedField, first_of}
 use Rattle.elf_link_relocate.proofs.Collected.{fields_more, fields_none, kept, last, longer, pushed}
 use Rattle.elf_link_relocate.proofs.Sites.{before_more, before_next, itself_next}
 
@@ -64,7 +64,7 @@ found_none fs m rules found none unplaced out refused =
     let ds = found.list.items in
     record {
       before = subst (λ (now : List Field). AreFieldsBefore fs rules (entry_site 0 0 0) now) (sym none) (fields_none fs rules);
-      read = subst (λ (now : List Field). AreRead fs m now) (sym none) (λ k lt. absurd (omega arith));
+      read = subst (λ (now : List Field). AreFieldsRead fs m now) (sym none) (λ k lt. absurd (omega arith));
       firsts = record {
         unplaced = first_none (BreaksFieldTest fs m Unplaced) ds found.unplaced none unplaced;
         out_of_range = first_none (BreaksFieldTest fs m FieldOutOfRange) ds found.out_of_range none out;
@@ -79,7 +79,7 @@ first_now : (P : Site → RelocRule → Type 0) (ds now : List Field) (new : Fie
 first_now P ds now new before after broken longer next first is = rw (longer, next) (first_more P ds new before broken first is)
 
 pub found_more : (fs : List ObjectValue) (m : LinkMapValue) (rules : List RelocRule) (p : Site) (found : Fields) (j : Judged) (next : Fields) →
-    IsJudged fs m rules p j → AreFoundBefore fs m rules p found →
+    IsJudgedField fs m rules p j → AreFoundBefore fs m rules p found →
     next.list.items ≡ found.list.items ++ j.field ∷ [] → next.unplaced ≡ first_of found.unplaced j.unplaced (length found.list.items) →
     next.out_of_range ≡ first_of found.out_of_range j.out_of_range (length found.list.items) →
     next.refused ≡ first_of found.refused j.refused (length found.list.items) →
@@ -93,7 +93,7 @@ found_more fs m rules p found j next is old items unplaced out refused =
       before = subst (λ (l : List Field). AreFieldsBefore fs rules stop l) (sym items)
           (fields_more fs rules p stop j.field.rule ds (λ q. before_more q p.file p.index p.entry) (λ q. before_next q p.file p.index p.entry) rule old.before
           j.field is.site is.has (itself_next p.file p.index p.entry));
-      read = subst (λ (l : List Field). AreRead fs m l) (sym items) (pushed (IsRead fs m) ds j.field old.read is.read);
+      read = subst (λ (l : List Field). AreFieldsRead fs m l) (sym items) (pushed (IsRead fs m) ds j.field old.read is.read);
       firsts = record {
         unplaced = first_now (BreaksFieldTest fs m Unplaced) ds now j.field found.unplaced next.unplaced j.unplaced items unplaced old.firsts.unplaced is.unplaced;
         out_of_range = first_now (BreaksFieldTest fs m FieldOutOfRange) ds now j.field found.out_of_range next.out_of_range j.out_of_range items out

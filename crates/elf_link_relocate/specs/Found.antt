@@ -12,7 +12,7 @@ use Rattle.elf_link_relocate.specs.declared.field_test.FieldTest.TheVariants.{Fi
 use Rattle.elf_link_relocate.specs.Collecting.{AreFieldsBefore}
 use Rattle.elf_link_relocate.specs.Fields.{HasField}
 use Rattle.elf_link_relocate.specs.FieldTests.{BreaksFieldTest, HasNone, IsFirst}
-use Rattle.elf_link_relocate.specs.LinkingFacts.{AreRead, IsRead}
+use Rattle.elf_link_relocate.specs.LinkingFacts.{AreFieldsRead, IsRead}
 
 -- the first position of a list that is n long and gets one more
 abbrev pub first_of : Option ℕ → Bool → ℕ → Option ℕ
@@ -21,7 +21,7 @@ first_of None true n = Some n
 first_of None false n = None
 
 -- the field of the entry at a site, and which rules it breaks
-pub record IsJudged (fs : List ObjectValue) (m : LinkMapValue) (rules : List RelocRule) (p : Site) (j : Judged) : Type 0 where
+pub record IsJudgedField (fs : List ObjectValue) (m : LinkMapValue) (rules : List RelocRule) (p : Site) (j : Judged) : Type 0 where
   pub site : j.field.site ≡ p
   pub has : HasField fs rules j.field.site j.field.rule
   pub read : IsRead fs m j.field
@@ -42,5 +42,5 @@ pub record AreFirsts (fs : List ObjectValue) (m : LinkMapValue) (found : Fields)
 -- the fields before the site, with what they carry
 pub record AreFoundBefore (fs : List ObjectValue) (m : LinkMapValue) (rules : List RelocRule) (stop : Site) (found : Fields) : Type 0 where
   pub before : AreFieldsBefore fs rules stop found.list.items
-  pub read : AreRead fs m found.list.items
+  pub read : AreFieldsRead fs m found.list.items
   pub firsts : AreFirsts fs m found

@@ -9,14 +9,14 @@ use Rattle.elf_link_map.specs.LinkMap.{LinkMapValue}
 use Rattle.elf_link_relocate.specs.declared.field.Field.{Field}
 use Rattle.elf_link_relocate.specs.Collecting.{AreFields, entry_site}
 use Rattle.elf_link_relocate.specs.FieldTests.{HasNone}
-use Rattle.elf_link_relocate.specs.LinkingFacts.{AreRead}
+use Rattle.elf_link_relocate.specs.LinkingFacts.{AreFieldsRead}
 use Rattle.elf_link_relocate.specs.Marking.{AllWithin, HasNoOverlap}
 use Rattle.elf_link_relocate.specs.RelocationRules.{IsUnplaced, fields_overlap}
 
 -- all fields, with what they carry; each has a number, ends within its target, and shares no byte with another
 pub record AreJudged (fs : List ObjectValue) (m : LinkMapValue) (rules : List RelocRule) (ds : List Field) : Type 0 where
   pub fields : AreFields fs rules ds
-  pub read : AreRead fs m ds
+  pub read : AreFieldsRead fs m ds
   pub placed : HasNone (IsUnplaced fs m) ds
   pub within : AllWithin fs ds
   pub apart : HasNoOverlap fs ds

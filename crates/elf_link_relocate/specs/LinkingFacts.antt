@@ -42,5 +42,5 @@ pub record IsRead (fs : List ObjectValue) (m : LinkMapValue) (d : Field) : Type 
   pub place : IsInTarget fs d
   pub number : IsWithin fs d.site d.rule → (z : ℤ) → number_at fs m d.site d.rule ≡ Some z → z ≡ d.number
 
-abbrev pub AreRead : List ObjectValue → LinkMapValue → List Field → Type 0
-AreRead fs m ds = (k : ℕ) → k < length ds → IsRead fs m (field_at ds k)
+abbrev pub AreFieldsRead : List ObjectValue → LinkMapValue → List Field → Type 0
+AreFieldsRead fs m ds = (k : ℕ) → k < length ds → IsRead fs m (field_at ds k)

@@ -5,8 +5,8 @@ ghost use Rattle.elf_link_map.specs.BindingNumbers.{AreBindingNumbers};
 ghost use Rattle.elf_link_relocate.specs.Collecting.{AreFields, entry_site};
 ghost use Rattle.elf_link_relocate.specs.Entries.{IsApplied};
 ghost use Rattle.elf_link_relocate.specs.FieldTests.{IsRuleFault, NoneUnruled};
-ghost use Rattle.elf_link_relocate.specs.Found.{AreFirsts, AreFoundBefore, IsJudged, first_of as first_of_list};
-ghost use Rattle.elf_link_relocate.specs.LinkingFacts.{AreRead, AreValues, IsReady, linked_map, linked_objects, relocation_rules_of};
+ghost use Rattle.elf_link_relocate.specs.Found.{AreFirsts, AreFoundBefore, IsJudgedField, first_of as first_of_list};
+ghost use Rattle.elf_link_relocate.specs.LinkingFacts.{AreFieldsRead, AreValues, IsReady, linked_map, linked_objects, relocation_rules_of};
 
 use crate::entries::{are_applied, entry_of};
 use crate::field::{Fields, Judged};
@@ -37,7 +37,7 @@ fn push_field(
     judged: Judged,
     fields: &mut Fields,
 ) -> Result<(), LinkFault>
-    requires judged { IsJudged (linked_objects linking.now) (linked_map linking.now) (relocation_rules_of linking.now) site judged }
+    requires judged { IsJudgedField (linked_objects linking.now) (linked_map linking.now) (relocation_rules_of linking.now) site judged }
     requires before { AreFoundBefore (linked_objects linking.now) (linked_map linking.now) (relocation_rules_of linking.now) site fields.old }
     ensures ok { OnOk result (AreFoundBefore (linked_objects linking.now) (linked_map linking.now) (relocation_rules_of linking.now) (entry_site site.file site.index (site.entry + 1)) fields.new) }
     ensures err { IfErr result (IsRuleFault (linked_objects linking.now) (relocation_rules_of linking.now)) }
@@ -142,7 +142,7 @@ pub(crate) fn all_fields(
     requires ready { IsReady linking.now }
     requires numbers { AreBindingNumbers (linked_objects linking.now) (linked_map linking.now) (map_list (λ row. row.items) numbers.now) }
     ensures fields { IfOk result (λ fields. AreFields (linked_objects linking.now) (relocation_rules_of linking.now) fields.list.items) }
-    ensures read { IfOk result (λ fields. AreRead (linked_objects linking.now) (linked_map linking.now) fields.list.items) }
+    ensures read { IfOk result (λ fields. AreFieldsRead (linked_objects linking.now) (linked_map linking.now) fields.list.items) }
     ensures firsts { IfOk result (AreFirsts (linked_objects linking.now) (linked_map linking.now)) }
     ensures ruled { OnOk result (NoneUnruled (linked_objects linking.now) (relocation_rules_of linking.now)) }
     ensures err { IfErr result (IsRuleFault (linked_objects linking.now) (relocation_rules_of linking.now)) }

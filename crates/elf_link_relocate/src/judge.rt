@@ -7,7 +7,7 @@ ghost use Rattle.elf_link_map.specs.BindingNumbers.{AreBindingNumbers};
 ghost use Rattle.elf_link_relocate.specs.FieldTests.{BreaksFieldTest, HasNone, IsTestFault, test_row};
 ghost use Rattle.elf_link_relocate.specs.Found.{IsFirstBroken};
 ghost use Rattle.elf_link_relocate.specs.Judged.{AreJudged, IsOverlapFault};
-ghost use Rattle.elf_link_relocate.specs.LinkingFacts.{AreRead, IsReady, linked_map, linked_objects, relocation_rules_of};
+ghost use Rattle.elf_link_relocate.specs.LinkingFacts.{AreFieldsRead, IsReady, linked_map, linked_objects, relocation_rules_of};
 ghost use Rattle.elf_link_relocate.specs.Marking.{AllWithin, HasNoOverlap};
 ghost use Rattle.elf_link_relocate.specs.RelocationRules.{IsRelocationFault, applied_entry_rules, fields_overlap};
 
@@ -48,7 +48,7 @@ fn refuse_overlap(
 ) -> Result<(), LinkFault>
     requires ready { IsReady linking.now }
     requires fields { AreFields (linked_objects linking.now) (relocation_rules_of linking.now) fields.now }
-    requires read { AreRead (linked_objects linking.now) (linked_map linking.now) fields.now }
+    requires read { AreFieldsRead (linked_objects linking.now) (linked_map linking.now) fields.now }
     requires within { AllWithin (linked_objects linking.now) fields.now }
     ensures ok { OnOk result (HasNoOverlap (linked_objects linking.now) fields.now) }
     ensures nowhere { OnOk result (Never (fields_overlap (linked_objects linking.now) (relocation_rules_of linking.now))) }

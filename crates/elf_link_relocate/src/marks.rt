@@ -3,7 +3,7 @@ ghost use Rattle.std.specs.Prelude.{◌≡◌, ◌↔◌, ◌+◌, ◌<◌, ◌�
 ghost use Rattle.elf_link_files.specs.Files.{object_at};
 ghost use Rattle.elf_link_relocate.specs.Collecting.{AreFields};
 ghost use Rattle.elf_link_relocate.specs.Grid.{item};
-ghost use Rattle.elf_link_relocate.specs.LinkingFacts.{AreRead, linked_map, linked_objects, relocation_rules_of};
+ghost use Rattle.elf_link_relocate.specs.LinkingFacts.{AreFieldsRead, linked_map, linked_objects, relocation_rules_of};
 ghost use Rattle.elf_link_relocate.specs.Marking.{AllWithin, AreMarksFor, AreUnmarkedRows, HasNoOverlap, IsFirstOverlappingField, IsMarkedIn, IsUnmarkedRow, SharesBefore, marks_view, row_view};
 ghost use Rattle.elf_link_field.specs.Rule.{size_of};
 
@@ -66,7 +66,7 @@ fn mark_field(
     marks: &mut Vec<Vec<Vec<bool>>>,
 ) -> bool
     requires fields { AreFields (linked_objects linking.now) (relocation_rules_of linking.now) fields.now }
-    requires read { AreRead (linked_objects linking.now) (linked_map linking.now) fields.now }
+    requires read { AreFieldsRead (linked_objects linking.now) (linked_map linking.now) fields.now }
     requires within { AllWithin (linked_objects linking.now) fields.now }
     requires below { k < length fields.now }
     requires before { AreMarksFor (linked_objects linking.now) fields.now k (marks_view marks.old.items) }
@@ -92,7 +92,7 @@ pub(crate) fn first_overlap(
     fields: &[Field],
 ) -> Result<Option<usize>, AllocError>
     requires fields { AreFields (linked_objects linking.now) (relocation_rules_of linking.now) fields.now }
-    requires read { AreRead (linked_objects linking.now) (linked_map linking.now) fields.now }
+    requires read { AreFieldsRead (linked_objects linking.now) (linked_map linking.now) fields.now }
     requires within { AllWithin (linked_objects linking.now) fields.now }
     ensures { IfOk result (λ found. MatchOption found (HasNoOverlap (linked_objects linking.now) fields.now) (IsFirstOverlappingField (linked_objects linking.now) fields.now)) }
 {

@@ -2,7 +2,7 @@
 ghost use Rattle.std.specs.Prelude.{◌≡◌, ◌↔◌, ◌^◌, ◌<◌, IfSome, IsTrue, Some, pos, neg_ℤ, ◌<ℤ◌, ◌≤ℤ◌, length};
 ghost use Rattle.elf_link_files.specs.Files.{object_at};
 ghost use Rattle.elf_link_relocate.specs.Fields.{HasField, IsWithin, content_at};
-ghost use Rattle.elf_link_relocate.specs.Found.{IsJudged};
+ghost use Rattle.elf_link_relocate.specs.Found.{IsJudgedField};
 ghost use Rattle.elf_link_relocate.specs.LinkingFacts.{AreValues, IsInTarget, IsReady, linked_map, linked_objects, relocation_rules_of};
 ghost use Rattle.elf_link_relocate.specs.Numbers.{addend_of as addend_at, field_address as field_address_of, number_at};
 ghost use Rattle.elf_link_relocate.specs.RelocationRules.{IsFieldOutOfRange};
@@ -148,7 +148,7 @@ pub(crate) fn judged_field(
     requires ready { IsReady linking.now }
     requires values { AreValues (linked_objects linking.now) (linked_map linking.now) values.now }
     requires field { HasField (linked_objects linking.now) (relocation_rules_of linking.now) site rule }
-    ensures { IsJudged (linked_objects linking.now) (linked_map linking.now) (relocation_rules_of linking.now) site result }
+    ensures { IsJudgedField (linked_objects linking.now) (linked_map linking.now) (relocation_rules_of linking.now) site result }
 {
     let field = field_of(linking, site, rule);
     let out_of_range = is_field_out_of_range(linking, field);

@@ -1,7 +1,7 @@
 //! Whether two fields share a byte.
 ghost use Rattle.std.specs.Prelude.{◌≡◌, ◌↔◌, false, true, IfOk, IsTrue, length, map};
 ghost use Rattle.elf_link_relocate.specs.Collecting.{AreFields};
-ghost use Rattle.elf_link_relocate.specs.LinkingFacts.{AreRead, IsReady, linked_map, linked_objects, relocation_rules_of};
+ghost use Rattle.elf_link_relocate.specs.LinkingFacts.{AreFieldsRead, IsReady, linked_map, linked_objects, relocation_rules_of};
 ghost use Rattle.elf_link_relocate.specs.Marking.{AllWithin, HasNoOverlap};
 ghost use Rattle.elf_link_relocate.specs.Sharing.{AreAscending, StandsBehind, field_extent};
 
@@ -19,7 +19,7 @@ fn field_extents(
 ) -> Result<Vec<Extent>, AllocError>
     requires ready { IsReady linking.now }
     requires fields { AreFields (linked_objects linking.now) (relocation_rules_of linking.now) fields.now }
-    requires read { AreRead (linked_objects linking.now) (linked_map linking.now) fields.now }
+    requires read { AreFieldsRead (linked_objects linking.now) (linked_map linking.now) fields.now }
     requires within { AllWithin (linked_objects linking.now) fields.now }
     ensures { IfOk result (λ v. v.items ≡ map (field_extent (linked_objects linking.now) (linked_map linking.now)) fields.now) }
 {
@@ -70,7 +70,7 @@ pub(crate) fn may_share(
 ) -> Result<bool, AllocError>
     requires ready { IsReady linking.now }
     requires fields { AreFields (linked_objects linking.now) (relocation_rules_of linking.now) fields.now }
-    requires read { AreRead (linked_objects linking.now) (linked_map linking.now) fields.now }
+    requires read { AreFieldsRead (linked_objects linking.now) (linked_map linking.now) fields.now }
     requires within { AllWithin (linked_objects linking.now) fields.now }
     ensures { IfOk result (λ shared. shared ≡ false → HasNoOverlap (linked_objects linking.now) fields.now) }
 {

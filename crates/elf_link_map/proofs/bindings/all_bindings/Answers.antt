@@ -2,7 +2,7 @@ use Rattle.std.proofs.Common.{ℕ, List, length, map, sym, subst}
 use Rattle.std.proofs.lemmas.List.{length-map}
 use Rattle.elf_link_names.specs.declared.known_names.Known.{Known}
 use Rattle.elf_link_names.specs.KnownNames.{AreKnownWhole, first_site}
-use Rattle.elf_link_positions.specs.Slots.{position_of}
+use Rattle.elf_link_positions.specs.Slots.{name_position}
 use Rattle.elf_link_names.proofs.Public.{whole_all, whole_firsts, whole_places}
 use Rattle.elf_link_outputs.specs.PlacedView.{common_value}
 use Rattle.elf_link_map.specs.declared.bindings.Binding.{Binding}
@@ -14,14 +14,14 @@ use Rattle.elf_link_map.proofs.bindings.all_bindings.Goals as goal
 
 pub names_of-requires-clause-known : goal.names_of-requires-clause-known
 names_of-requires-clause-known c =
-    subst (AreKnownWhole c.args.objects.now) (sym c.deref.ensures.value) (whole_all c.args.objects.now (position_of c.args.names.positions) c.args.names.known.items c.requires.known)
+    subst (AreKnownWhole c.args.objects.now) (sym c.deref.ensures.value) (whole_all c.args.objects.now (name_position c.args.names.positions) c.args.names.known.items c.requires.known)
 
 pub new-requires : goal.new-requires
 new-requires c =
     let fs = c.args.objects.now in
     let cs = map common_value c.args.commons.now in
     let ks = c.args.names.known.items in
-    let position = position_of c.args.names.positions in
+    let position = name_position c.args.names.positions in
     let bs = map named_value c.in_ok-list.list.items in
     let ps = map first_site ks in
     positions_are fs cs ps bs position (whole_firsts fs position ks c.requires.known)
@@ -34,7 +34,7 @@ returns-clause-bindings c =
     let fs = c.args.objects.now in
     let cs = map common_value c.args.commons.now in
     let ks = c.args.names.known.items in
-    let position = position_of c.args.names.positions in
+    let position = name_position c.args.names.positions in
     let bs = map named_value c.in_ok-list.list.items in
     let ps = map first_site ks in
     subst (AreBindings fs cs) (sym c.new.ensures)
@@ -48,7 +48,7 @@ returns-clause-names c =
     let fs = c.args.objects.now in
     let cs = map common_value c.args.commons.now in
     let ks = c.args.names.known.items in
-    let position = position_of c.args.names.positions in
+    let position = name_position c.args.names.positions in
     let bs = map named_value c.in_ok-list.list.items in
     let ps = map first_site ks in
     subst (AreNames fs) (sym c.new.ensures)
@@ -61,7 +61,7 @@ returns-clause-positions c =
     let fs = c.args.objects.now in
     let cs = map common_value c.args.commons.now in
     let ks = c.args.names.known.items in
-    let position = position_of c.args.names.positions in
+    let position = name_position c.args.names.positions in
     let bs = map named_value c.in_ok-list.list.items in
     let ps = map first_site ks in
     subst (λ (all : List (List ℕ × Binding)). AreBindingPositions all position) (sym c.new.ensures)

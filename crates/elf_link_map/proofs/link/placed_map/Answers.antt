@@ -4,7 +4,7 @@ use Rattle.std.proofs.lemmas.List.{length-map}
 use Rattle.elf_extent.specs.Place.{EndsFit, Least}
 use Rattle.elf_link_files.specs.declared.site.Site.{Site}
 use Rattle.elf_link_files.specs.Rows.{FirstAmong}
-use Rattle.elf_link_positions.specs.Slots.{position_of}
+use Rattle.elf_link_positions.specs.Slots.{name_position}
 use Rattle.elf_link_names.proofs.Public.{all_bound}
 use Rattle.elf_link_outputs.specs.declared.common.Common.{Common}
 use Rattle.elf_link_outputs.specs.AddressFault.{IsAddressFault}
@@ -138,4 +138,4 @@ returns-clause-map c =
 
 pub returns-clause-numbers : goal.returns-clause-numbers
 returns-clause-numbers c =
-    numbers_bound c.args.objects.now _ (position_of c.args.judged.names.positions) _ c.requires.numbers c.in_ok-names.ensures.positions
+    numbers_bound c.args.objects.now _ (name_position c.args.judged.names.positions) _ c.requires.numbers c.in_ok-names.ensures.positions

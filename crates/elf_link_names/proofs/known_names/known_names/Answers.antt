@@ -4,7 +4,7 @@ use Rattle.elf_link_files.specs.Files.{object_at}
 use Rattle.elf_link_files.proofs.Public.{each_more}
 use Rattle.elf_link_names.specs.KnownNames.{AreKnownBefore}
 use Rattle.elf_link_names.specs.NameNumbers.{IsNumberRow}
-use Rattle.elf_link_positions.specs.Slots.{position_of}
+use Rattle.elf_link_positions.specs.Slots.{name_position}
 use Rattle.elf_link_names.proofs.NameNumbers.{rows_kept}
 use Rattle.elf_link_names.proofs.Tabled.{names_file}
 use Rattle.elf_link_names.proofs.known_names.known_names.Goals as goal
@@ -13,8 +13,8 @@ pub loop-file-preserved : goal.loop-file-preserved
 loop-file-preserved c =
     let fs = c.args.objects.now in
     let n = c.loop-file.file in
-    let old = position_of c.loop-file.names.positions in
-    let now = position_of c.pass_file.new.names.positions in
+    let old = name_position c.loop-file.names.positions in
+    let now = name_position c.pass_file.new.names.positions in
     let rows = map (λ row. row.items) c.loop-file.numbers.items in
     let passed = c.in_ok-pass_file.ensures in
     record {
@@ -28,4 +28,4 @@ pub returns-clause-names : goal.returns-clause-names
 returns-clause-names c =
     let fs = c.args.objects.now in
     let end : c.loop-file.file ≡ length fs = omega arith in
-    subst (λ (n : ℕ). AreKnownBefore fs n 0 (position_of c.loop-file.names.positions) c.loop-file.names.known.items) end c.loop-file.invariant.names
+    subst (λ (n : ℕ). AreKnownBefore fs n 0 (name_position c.loop-file.names.positions) c.loop-file.names.known.items) end c.loop-file.invariant.names

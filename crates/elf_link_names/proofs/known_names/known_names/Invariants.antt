@@ -1,11 +1,11 @@
 use Rattle.std.proofs.Common.{map}
 use Rattle.elf_link_names.specs.KnownNames.{AreKnownBefore}
 use Rattle.elf_link_names.specs.NameNumbers.{AreNumberRows}
-use Rattle.elf_link_positions.specs.Slots.{position_of}
+use Rattle.elf_link_positions.specs.Slots.{name_position}
 use Rattle.elf_link_names.proofs.known_names.known_names.Given as goal
 
 abbrev pub invariant-loop-file : goal.invariant-loop-file
 invariant-loop-file l = record {
-  names : AreKnownBefore l.objects l.file 0 (position_of l.names.positions) l.names.known.items;
-  numbers : AreNumberRows l.objects (position_of l.names.positions) l.file (map (λ row. row.items) l.numbers.items);
+  names : AreKnownBefore l.objects l.file 0 (name_position l.names.positions) l.names.known.items;
+  numbers : AreNumberRows l.objects (name_position l.names.positions) l.file (map (λ row. row.items) l.numbers.items);
 }

@@ -4,7 +4,7 @@ use Rattle.elf_link_files.specs.Files.{object_at}
 use Rattle.elf_link_files.proofs.Public.{each_more, object_is}
 use Rattle.elf_link_names.specs.KnownNames.{AreKnownBefore}
 use Rattle.elf_link_names.specs.NameNumbers.{IsNameNumber}
-use Rattle.elf_link_positions.specs.Slots.{position_of}
+use Rattle.elf_link_positions.specs.Slots.{name_position}
 use Rattle.elf_link_names.proofs.NameNumbers.{keeps_on, row_kept}
 use Rattle.elf_link_names.proofs.known_names.pass_file.Goals as goal
 
@@ -12,9 +12,9 @@ pub loop-index-preserved : goal.loop-index-preserved
 loop-index-preserved c =
     let fs = c.args.objects.now in
     let f = c.args.file in
-    let first = position_of c.args.names.now.positions in
-    let old = position_of c.loop-index.names.positions in
-    let now = position_of c.pass_symbol.new.names.positions in
+    let first = name_position c.args.names.now.positions in
+    let old = name_position c.loop-index.names.positions in
+    let now = name_position c.pass_symbol.new.names.positions in
     let passed = c.in_ok-pass_symbol.ensures in
     let before = c.loop-index.invariant in
     record {
@@ -32,4 +32,4 @@ returns-clause-names c =
     let same = ap (λ (o : ObjectValue). length o.symbols) (object_is fs c.args.file c.index-objects-file.result c.requires.file c.index-objects-file.is) in
     let past = c.loop-index-test.false in
     let end : c.loop-index.index ≡ length (object_at fs c.args.file).symbols = omega arith in
-    subst (λ (n : ℕ). AreKnownBefore fs c.args.file n (position_of c.loop-index.names.positions) c.loop-index.names.known.items) end c.loop-index.invariant.names
+    subst (λ (n : ℕ). AreKnownBefore fs c.args.file n (name_position c.loop-index.names.positions) c.loop-index.names.known.items) end c.loop-index.invariant.names

@@ -1,11 +1,11 @@
 use Rattle.elf_link_names.specs.KnownNames.{AreKnownBefore}
 use Rattle.elf_link_names.specs.NameNumbers.{IsNumberRow, KeepsPositions}
-use Rattle.elf_link_positions.specs.Slots.{position_of}
+use Rattle.elf_link_positions.specs.Slots.{name_position}
 use Rattle.elf_link_names.proofs.known_names.pass_file.Given as goal
 
 abbrev pub invariant-loop-index : goal.invariant-loop-index
 invariant-loop-index l = record {
-  names : AreKnownBefore l.objects l.file l.index (position_of l.names.positions) l.names.known.items;
-  numbers : IsNumberRow l.objects (position_of l.names.positions) l.file l.index l.row.items;
-  kept : KeepsPositions (position_of l.fn.names.positions) (position_of l.names.positions);
+  names : AreKnownBefore l.objects l.file l.index (name_position l.names.positions) l.names.known.items;
+  numbers : IsNumberRow l.objects (name_position l.names.positions) l.file l.index l.row.items;
+  kept : KeepsPositions (name_position l.fn.names.positions) (name_position l.names.positions);
 }

@@ -1,7 +1,7 @@
 use Rattle.std.proofs.Common.{◌≡◌, length, map, rules, arith}
 use Rattle.std.specs.Prelude.{Some, vec_len}
 use Rattle.std.proofs.lemmas.List.{length-map}
-use Rattle.elf_link_positions.specs.Slots.{position_of}
+use Rattle.elf_link_positions.specs.Slots.{name_position}
 use Rattle.elf_link_map.specs.LinkMapView.{named_value}
 use Rattle.elf_link_map.proofs.Naming.{position_found}
 use Rattle.elf_link_map.proofs.names.Names.binding.Goals as goal
@@ -9,7 +9,7 @@ use Rattle.elf_link_map.proofs.names.Names.binding.Goals as goal
 pub index-requires : goal.index-requires
 index-requires c =
     let list = c.self.inside.list in
-    let position = position_of c.self.inside.positions in
+    let position = name_position c.self.inside.positions in
     let at : position c.args.name.now ≡ Some c.in-Some.k = search rules in
     let found = position_found (map named_value list.items) position c.args.name.now c.in-Some.k at c.self.invariant in
     let below = found.0 in
