@@ -1,19 +1,20 @@
 -- The members of a list: one extent more, and in another order.
-use Rattle.std.proofs.Common.{◌≡◌, ◌≢◌, ℕ, ◌+◌, ◌<◌, ◌≤◌, List, [], ◌∷◌, ◌++◌, map, length, Some, inl, inr, ap, sym, subst, ◌∙◌, arith}
+use Rattle.std.proofs.Common.{◌≡◌, ◌≢◌, ℕ, ◌+◌, ◌<◌, ◌≤◌, Bool, true, false, cond, List, [], ◌∷◌, ◌++◌, filter, map, length, get_or, take, Some, inl, inr, ap, sym, subst, ◌∙◌, arith}
 use Rattle.std.specs.Prelude.{slice_get, nat_eq}
 use Rattle.std.specs.List.{AllPairs, Contains}
-use Rattle.std.specs.List.Sorted.{IsPermutation}
+use Rattle.std.specs.List.Sorted.{IsNonDecreasingBy, IsPermutation}
 use Rattle.std.proofs.lemmas.Bool.{cases_lt}
 use Rattle.std.proofs.lemmas.Bool.Decides.{Decides-eqb, nat_tests}
-use Rattle.std.proofs.lemmas.List.{get_or-map, map_push, length-map}
-use Rattle.std.proofs.lemmas.List.Elements.{All-push, All-weaker, Contains-append_left, Contains-push}
+use Rattle.std.proofs.lemmas.List.{append-nil, get_or-map, map_push, length-map}
+use Rattle.std.proofs.lemmas.List.Elements.{All-push, filter_more, All-weaker, Contains-append_left, Contains-push}
 use Rattle.std.proofs.lemmas.List.Quantifiers.{all_pairs_push}
 use Rattle.std.proofs.lemmas.List.Sorted.{All-permutation, Contains-permutation, IsPermutation-map}
 use Rattle.std.proofs.lemmas.Map.Keys.{IsDistinct-IsPermutation}
 use Rattle.std.proofs.lemmas.Map.Made.{AllPairs-from_IsDistinct, IsDistinct-from_AllPairs}
-use Rattle.std.proofs.lemmas.Option.{same_Some}
+use Rattle.std.proofs.lemmas.Option.{get_or_from_slice_get, same_Some, slice_get_within}
 use Rattle.elf_extent.specs.declared.extent.Extent.{Extent}
 use Rattle.elf_extent.specs.declared.members.Member.{Member}
+use Rattle.elf_extent.specs.Extent.{holds_any}
 use Rattle.elf_extent.specs.Members.{IsMember, AreMembers}
 
 -- before the first extent there is no member
@@ -72,6 +73,42 @@ members_more es n ms e here holds given =
           let low = given.below k m inside in
           omega arith));
     }
+
+-- what is gathered so are the extents that hold a byte, in the order of the list
+abbrev extents_of : List Member → List Extent
+extents_of ms = map (λ m. m.extent) ms
+
+held_next : (es : List Extent) (n : ℕ) (e : Extent) → slice_get es n ≡ Some e →
+    filter holds_any (take (n + 1) es) ≡ filter holds_any (take n es) ++ cond (holds_any e) (e ∷ []) []
+held_next es n e here =
+    let is : get_or es n e ≡ e = get_or_from_slice_get es n e e here in
+    filter_more holds_any es n e (slice_get_within es n e here)
+    ∙ ap (λ (x : Extent). filter holds_any (take n es) ++ cond (holds_any x) (x ∷ []) []) is
+
+pub held_skip : (es : List Extent) (n : ℕ) (ms : List Member) (e : Extent) → slice_get es n ≡ Some e → e.len ≤ 0 →
+    extents_of ms ≡ filter holds_any (take n es) → extents_of ms ≡ filter holds_any (take (n + 1) es)
+held_skip es n ms e here none held =
+    let test : holds_any e ≡ false = grind (arith, nat_tests) in
+    held ∙ sym (append-nil (filter holds_any (take n es)))
+    ∙ ap (λ (b : Bool). filter holds_any (take n es) ++ cond b (e ∷ []) []) (sym test) ∙ sym (held_next es n e here)
+
+pub held_more : (es : List Extent) (n : ℕ) (ms : List Member) (e : Extent) → slice_get es n ≡ Some e → 0 < e.len →
+    extents_of ms ≡ filter holds_any (take n es) → extents_of (ms ++ record { index = n; extent = e } ∷ []) ≡ filter holds_any (take (n + 1) es)
+held_more es n ms e here some held =
+    let m : Member = record { index = n; extent = e } in
+    let test : holds_any e ≡ true = grind (arith, nat_tests) in
+    map_push (λ (k : Member). k.extent) ms m ∙ ap (λ (xs : List Extent). xs ++ e ∷ []) held
+    ∙ ap (λ (b : Bool). filter holds_any (take n es) ++ cond b (e ∷ []) []) (sym test) ∙ sym (held_next es n e here)
+
+-- the extents of members that ascend do
+pub ascending_extents : (ms : List Member) → IsNonDecreasingBy (λ m. m.extent.start) ms → IsNonDecreasingBy (λ e. e.start) (extents_of ms)
+ascending_extents [] up i j d le below = absurd (omega arith)
+ascending_extents (m ∷ ms) up i j d le below =
+    let extent : Member → Extent = λ k. k.extent in
+    let within : j < length (m ∷ ms) = omega (arith, length-map (m ∷ ms) extent) in
+    let first = get_or-map extent (m ∷ ms) i m d (omega arith) in
+    let second = get_or-map extent (m ∷ ms) j m d within in
+    rw (first, second) (up i j m le within)
 
 -- members in another order are members
 pub members_permuted : (es : List Extent) (n : ℕ) (ms ns : List Member) →

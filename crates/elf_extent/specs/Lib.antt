@@ -4,3 +4,4 @@ pub mod Least
 pub mod Members
 pub mod Place
 pub mod Row
+pub mod SortedExtents

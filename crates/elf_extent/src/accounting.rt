@@ -4,7 +4,7 @@ ghost use Rattle.elf_extent.specs.Account.{Accounts, gap_between};
 ghost use Rattle.elf_extent.specs.Extent.{AreDisjoint, AreWithin};
 
 use crate::extent::{Extent, OutOfMemory, Piece};
-use crate::members::members_by_start;
+use crate::sorted::SortedExtents;
 use std::alloc::Global;
 
 /// The pieces that hold every offset below `total` exactly once, in ascending order, none of them
@@ -18,18 +18,28 @@ pub fn account(alloc: Global, extents: &[Extent], total: u64) -> Result<Vec<Piec
     requires within { AreWithin extents.now total }
     ensures { IfOk result (λ pieces. Accounts extents.now total 0 pieces.items) }
 {
-    let members = members_by_start(alloc, extents)?;
-    let mut pieces = Vec::new(alloc);
-    let mut at = 0;
-    for member in &members {
-        let Extent { start, len } = member.extent;
-        push_gap(&mut pieces, at, start)?;
-        let owner = Some(member.index);
-        push_piece(&mut pieces, Piece { owner, start, len })?;
-        at = start + len;
+    SortedExtents::new(alloc, extents)?.account(alloc, total)
+}
+
+impl<'a> SortedExtents<'a> {
+    /// The [`account`] of these extents, which share no byte and end at or below `total`.
+    pub fn account(&self, alloc: Global, total: u64) -> Result<Vec<Piece>, OutOfMemory>
+        requires disjoint { AreDisjoint self.now }
+        requires within { AreWithin self.now total }
+        ensures { IfOk result (λ pieces. Accounts self.now total 0 pieces.items) }
+    {
+        let mut pieces = Vec::new(alloc);
+        let mut at = 0;
+        for member in self.members() {
+            let Extent { start, len } = member.extent;
+            push_gap(&mut pieces, at, start)?;
+            let owner = Some(member.index);
+            push_piece(&mut pieces, Piece { owner, start, len })?;
+            at = start + len;
+        }
+        push_gap(&mut pieces, at, total)?;
+        Ok(pieces)
     }
-    push_gap(&mut pieces, at, total)?;
-    Ok(pieces)
 }
 
 /// Adds the gap from `start` to `end`, if it is not empty.

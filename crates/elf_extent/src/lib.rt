@@ -22,6 +22,7 @@ pub use laws::{
 };
 pub use placement::{PlaceFault, next_place, place};
 pub use row::{Counted, Row};
+pub use sorted::SortedExtents;
 pub use sweeping::sweep;
 
 mod accounting;
@@ -31,4 +32,5 @@ mod laws;
 mod members;
 mod placement;
 mod row;
+mod sorted;
 mod sweeping;

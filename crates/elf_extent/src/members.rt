@@ -1,6 +1,7 @@
 //! The extents of a list that hold a byte, in ascending order of their starts.
-ghost use Rattle.std.specs.Prelude.{length, IfOk};
-ghost use Rattle.std.specs.List.Sorted.{IsNonDecreasingBy};
+ghost use Rattle.std.specs.Prelude.{◌≡◌, filter, length, map, IfOk};
+ghost use Rattle.std.specs.List.Sorted.{IsNonDecreasingBy, IsPermutation};
+ghost use Rattle.elf_extent.specs.Extent.{holds_any};
 ghost use Rattle.elf_extent.specs.Members.{AreMembers};
 
 use crate::extent::{Extent, OutOfMemory};
@@ -16,6 +17,7 @@ pub struct Member {
 /// The extents that hold a byte, ascending by start.
 pub fn members_by_start(alloc: Global, extents: &[Extent]) -> Result<Vec<Member>, OutOfMemory>
     ensures members { IfOk result (λ ms. AreMembers extents.now (length extents.now) ms.items) }
+    ensures held { IfOk result (λ ms. IsPermutation (filter holds_any extents.now) (map (λ m. m.extent) ms.items)) }
     ensures ascending { IfOk result (λ ms. IsNonDecreasingBy (λ m. m.extent.start) ms.items) }
 {
     let mut members = members_in_order(alloc, extents)?;
@@ -25,7 +27,8 @@ pub fn members_by_start(alloc: Global, extents: &[Extent]) -> Result<Vec<Member>
 
 /// The extents that hold a byte, in the order of the list.
 fn members_in_order(alloc: Global, extents: &[Extent]) -> Result<Vec<Member>, OutOfMemory>
-    ensures { IfOk result (λ ms. AreMembers extents.now (length extents.now) ms.items) }
+    ensures members { IfOk result (λ ms. AreMembers extents.now (length extents.now) ms.items) }
+    ensures held { IfOk result (λ ms. map (λ m. m.extent) ms.items ≡ filter holds_any extents.now) }
 {
     let mut members = Vec::new(alloc);
     for (index, extent) in extents.iter().enumerate() {

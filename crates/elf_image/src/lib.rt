@@ -2,7 +2,8 @@
 //!
 //! [`read_to_end`] takes the bytes; [`verdict`] answers the first rule ([`rules`]) that they break, at its lowest offset in the file;
 //! [`parse`] makes an [`Image`] of bytes that break none, whose accessors tell the records, names, contents and parts and whose edits
-//! keep it an image; and [`write`] writes it. The entry of a file that some reader gives is set so:
+//! keep it an image; and [`write`] writes it. [`scan`] answers the same of a [`Source`] that is read at any place, and keeps an
+//! [`Outline`]: the records and parts, without the contents. The entry of a file that some reader gives is set so:
 //!
 //! ```
 //! let mut bytes = Vec::new(alloc);
@@ -13,7 +14,8 @@
 //! ```
 #![tactic(auto)]
 
-pub use elf_image_outline::{NoSection, Owner, Part, ReplaceFault};
+pub use elf_image_outline::{NoSection, Outline, Owner, Part, ReplaceFault, scan};
 pub use elf_image_rules::{rules, verdict};
+pub use elf_image_source::{Bytes, Failed, Seeking, Source};
 pub use elf_image_stream::{Fault, WriteFault, read_to_end};
 pub use elf_image_type::{Image, parse, write};

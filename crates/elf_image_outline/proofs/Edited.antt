@@ -42,7 +42,7 @@ all_at P [] i d all within = absurd (omega arith)
 all_at P (x ∷ xs) zero d all within = all.0
 all_at P (x ∷ xs) (suc i) d all within = all_at P xs i d all.1 (omega arith)
 
-map-set_same : {A B : Type 0} (f : A → B) (xs : List A) (i : ℕ) (y d : A) → f y ≡ f (get_or xs i d) → map f (set xs i y) ≡ map f xs
+pub map-set_same : {A B : Type 0} (f : A → B) (xs : List A) (i : ℕ) (y d : A) → f y ≡ f (get_or xs i d) → map f (set xs i y) ≡ map f xs
 map-set_same f [] i y d same = refl
 map-set_same f (x ∷ xs) zero y d same = ap (λ (z : _). z ∷ map f xs) same
 map-set_same f (x ∷ xs) (suc i) y d same = ap (λ (zs : List _). f x ∷ zs) (map-set_same f xs i y d same)
@@ -180,7 +180,7 @@ sound-with_content v i content sound within long other are = record {
 
 -- ---- the gaps
 
-IsBytes-zeros : (n : ℕ) → IsBytes (replicate n 0)
+pub IsBytes-zeros : (n : ℕ) → IsBytes (replicate n 0)
 IsBytes-zeros zero = IsBytes-nil
 IsBytes-zeros (suc n) = IsBytes-cons 0 (replicate n 0) (lit< tt) (IsBytes-zeros n)
 

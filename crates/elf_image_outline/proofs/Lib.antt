@@ -12,3 +12,4 @@ pub mod PartsOfImage
 pub mod NamesRead
 pub mod ScanRules
 pub mod TableRules
+pub mod Blank

@@ -52,7 +52,7 @@ section_same b h ss gs k records below =
     element_made (sections b h) ss no_section_header n (sym records.section_headers) k (omega arith)
 
 -- without a section table there is no name table
-unnamed : (h : Ehdr) (first : Shdr) → h.e_shstrndx ≡ 0 → name_table h first ≡ 0
+pub unnamed : (h : Ehdr) (first : Shdr) → h.e_shstrndx ≡ 0 → name_table h first ≡ 0
 unnamed h first none = rw none refl
 
 -- the file's names are the bytes where the table of section header names says

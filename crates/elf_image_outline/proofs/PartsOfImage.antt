@@ -15,7 +15,7 @@ use Rattle.elf_image_outline.proofs.Holds.{same_len, same_start}
 use Rattle.elf_image_outline.proofs.Standing.{get_or_at, mapped_at, within_list}
 
 -- where a list has an element, the mapped one has its image
-at_mapped : {A B : Type 0} (f : A → B) (xs : List A) (k : ℕ) (x : A) → slice_get xs k ≡ Some x → slice_get (map f xs) k ≡ Some (f x)
+pub at_mapped : {A B : Type 0} (f : A → B) (xs : List A) (k : ℕ) (x : A) → slice_get xs k ≡ Some x → slice_get (map f xs) k ≡ Some (f x)
 at_mapped f [] k x here = absurd (let none : None ≡ Some x = here in cc)
 at_mapped f (y ∷ ys) zero x here = let same : y ≡ x = cc in ap (λ (z : _). Some (f z)) same
 at_mapped f (y ∷ ys) (suc k) x here = at_mapped f ys k x here

@@ -5,26 +5,30 @@ ghost use Rattle.elf_extent.specs.Extent.{AreDisjoint, AreWithin};
 ghost use Rattle.elf_image_outline.specs.Image.{owner_index, part_piece, value_extents};
 
 use crate::part::{Owner, Part};
-use elf_extent::{Extent, OutOfMemory, Piece, account};
+use elf_extent::{Extent, OutOfMemory, Piece, SortedExtents};
 use elf_field::abi::{EHDR_SIZE, PHDR_SIZE, SHDR_SIZE};
 use elf_field::{Ehdr, Phdr, Shdr};
 use elf_image_rules::content::extent_of_content;
 use std::alloc::{AllocError, Global};
 
 /// The parts of a file of `len` bytes with these extents.
-pub fn account_parts(alloc: Global, extents: &[Extent], len: u64) -> Result<Vec<Part>, AllocError>
-    requires disjoint { AreDisjoint extents.now }
-    requires within { AreWithin extents.now len }
-    ensures { IfOk result (λ parts. Accounts extents.now len 0 (map part_piece parts.items)) }
+pub(crate) fn account_parts(
+    alloc: Global,
+    sorted: &SortedExtents<'_>,
+    len: u64,
+) -> Result<Vec<Part>, AllocError>
+    requires disjoint { AreDisjoint sorted.now }
+    requires within { AreWithin sorted.now len }
+    ensures { IfOk result (λ parts. Accounts sorted.now len 0 (map part_piece parts.items)) }
 {
-    match account(alloc, extents, len) {
+    match sorted.account(alloc, len) {
         Ok(pieces) => parts_of(alloc, &pieces),
         Err(OutOfMemory) => Err(AllocError),
     }
 }
 
 /// The extents of the header, the two tables and the contents.
-pub fn extents_of(
+pub(crate) fn extents_of(
     alloc: Global,
     header: &Ehdr,
     entries: &[Shdr],
@@ -54,7 +58,7 @@ pub fn extents_of(
 }
 
 /// What the extent of this index is of; None is a gap.
-pub fn owner_of(index: Option<usize>) -> Owner
+fn owner_of(index: Option<usize>) -> Owner
     ensures { owner_index result ≡ index }
 {
     match index {
@@ -67,7 +71,7 @@ pub fn owner_of(index: Option<usize>) -> Owner
 }
 
 /// The parts that these pieces are.
-pub fn parts_of(alloc: Global, pieces: &[Piece]) -> Result<Vec<Part>, AllocError>
+fn parts_of(alloc: Global, pieces: &[Piece]) -> Result<Vec<Part>, AllocError>
     ensures { IfOk result (λ v. map part_piece v.items ≡ pieces.now) }
 {
     let mut parts = Vec::new(alloc);

@@ -1,13 +1,14 @@
 //! Rules 22 to 33 of tables in memory, and the parts of a file that has such tables.
-ghost use Rattle.std.specs.Prelude.{◌≡◌, ◌≤◌, ◌<◌, ◌+◌, ◌^◌, ℕ, List, IfErr, IfOk};
-ghost use Rattle.elf_image_outline.specs.Scanning.{BreaksTables, HasTables, KeepTables};
+ghost use Rattle.std.specs.Prelude.{◌≡◌, ◌≤◌, ◌<◌, ◌+◌, ◌-◌, ◌^◌, ℕ, List, IfErr, IfOk, min};
+ghost use Rattle.elf_image_outline.specs.Outline.{IsSoundOutline, outline_value};
+ghost use Rattle.elf_image_outline.specs.Scanning.{BreaksTables, HasTables, KeepTables, names_extent};
 ghost use Rattle.elf_image_rules.specs.StringTable.{AreEnds};
 ghost use Rattle.elf_image_rules.specs.Tables.{section_header_of};
 
 use crate::extents::{account_parts, extents_of};
 use crate::part::Part;
 use crate::scan_tables::Tables;
-use elf_extent::first_double;
+use elf_extent::SortedExtents;
 use elf_image_rules::rules::SHARED_BYTE;
 use elf_image_rules::{TableEnds, TableRecords, judge_entries};
 use elf_image_stream::Fault;
@@ -24,8 +25,11 @@ pub(crate) fn judged_parts(
     requires tables { HasTables len tables.now.header tables.now.counts tables.now.sections.items tables.now.segments.items }
     requires some { (names : List ℕ) × AreEnds ends names }
     requires place { 0 < ends.len → (section_header_of tables.now.sections.items tables.now.counts.name_table).sh_offset + ends.len ≤ len }
+    requires clipped { let names = names_extent tables.now.sections.items tables.now.counts.name_table in ends.len ≡ min (len - names.start) names.len }
     ensures ok { IfOk result (λ parts. (names : List ℕ) → AreEnds ends names →
         KeepTables len tables.now.header tables.now.sections.items tables.now.segments.items names parts.items) }
+    ensures sound { IfOk result (λ parts.
+        IsSoundOutline (outline_value len tables.now.header tables.now.sections.items tables.now.segments.items parts.items)) }
     ensures err { IfErr result (λ fault. (names : List ℕ) → AreEnds ends names →
         BreaksTables len tables.now.header tables.now.sections.items tables.now.segments.items names fault) }
 {
@@ -35,11 +39,12 @@ pub(crate) fn judged_parts(
     };
     judge_entries(&records, &tables.header, tables.counts, ends, len)?;
     let extents = extents_of(alloc, &tables.header, &tables.sections, &tables.segments)?;
-    match first_double(alloc, &extents)? {
+    let sorted = SortedExtents::new(alloc, &extents)?;
+    match sorted.first_double() {
         Some(at) => Err(Fault::Rule {
             rule: SHARED_BYTE,
             at,
         }),
-        None => Ok(account_parts(alloc, &extents, len)?),
+        None => Ok(account_parts(alloc, &sorted, len)?),
     }
 }

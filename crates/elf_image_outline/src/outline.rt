@@ -1,9 +1,11 @@
 //! The records and the parts of a file, without its contents.
-ghost use Rattle.std.specs.Prelude.{◌≡◌, ◌<◌, ◌≤◌, true, OnErr, OnOk, length, set};
+ghost use Rattle.std.specs.Prelude.{◌≡◌, ◌<◌, ◌≤◌, ℕ, List, true, OnErr, OnOk, length, set};
+ghost use Rattle.elf_image_rules.specs.HeaderRules.{MAX_LEN};
 ghost use Rattle.elf_image_rules.specs.Tables.{name_table, order_of};
 ghost use Rattle.elf_image_outline.specs.Edits.{flagged};
 ghost use Rattle.elf_image_outline.specs.Image.{program_header_of, section_header_of};
-ghost use Rattle.elf_image_outline.specs.Outline.{outline_value};
+ghost use Rattle.elf_image_outline.specs.Outline.{IsOutlineOf, IsSoundOutline, blank_image, outline_value};
+ghost use Rattle.elf_image_outline.specs.Parts.{AreParts};
 
 use crate::edit_fault::NoSection;
 use crate::part::Part;
@@ -12,7 +14,10 @@ use elf_field::{Ehdr, Order, Phdr, Shdr};
 use elf_image_rules::tables::order_in;
 use std::marker::Model;
 
-/// The header, the section headers and program headers, and the parts of a file.
+/// An ELF-64 file that breaks no rule, without its contents and gaps: its header, its section headers and program headers, and what each of
+/// its bytes belongs to. It is what [`scan`](crate::scan) reads of a source.
+///
+/// No accessor and no edit takes memory. Offsets and lengths are in bytes.
 #[derive(Drop)]
 pub struct Outline {
     len: u64,
@@ -24,24 +29,35 @@ pub struct Outline {
 }
 
 impl Model for Outline {
-    ghost use Rattle.elf_image_outline.specs.Outline.{OutlineValue};
+    ghost use Rattle.elf_image_outline.specs.Outline.{IsSoundOutline, OutlineValue};
 
     ghost Value = { OutlineValue };
 
     ghost use Rattle.elf_image_outline.specs.OutlineView.{outline_view};
 
     ghost view = { outline_view };
+
+    ghost invariant = { λ a. IsSoundOutline (outline_view a) };
+}
+
+/// Sets `sh_flags` of a section header.
+fn flag(sections: &mut Vec<Shdr>, i: usize, flags: u64)
+    requires { i < length sections.old.items }
+    ensures { sections.new.items ≡ flagged sections.old.items i flags }
+{
+    sections[i].sh_flags = flags;
 }
 
 impl Outline {
     /// An outline as read, of a file of `len` bytes.
-    pub fn new(
+    pub(crate) fn new(
         len: u64,
         header: Ehdr,
         sections: Vec<Shdr>,
         segments: Vec<Phdr>,
         parts: Vec<Part>,
     ) -> Outline
+        requires { IsSoundOutline (outline_value len header sections.items segments.items parts.items) }
         ensures { result ≡ outline_value len header sections.items segments.items parts.items }
     {
         Outline {
@@ -54,40 +70,68 @@ impl Outline {
         }
     }
 
-    /// The length of the file, in bytes.
+    /// Promises that the outline is of an image by itself, with zeros for contents and gaps. It does nothing.
+    pub fn stands(&self)
+        ensures { IsSoundOutline self.now }
+    {
+        let _ = &self.parts;
+    }
+
+    /// The length of the file, in bytes; no edit changes it.
     pub fn len(&self) -> u64
-        ensures { result ≡ self.now.len }
+        ensures value { result ≡ self.now.len }
+        ensures short { result ≤ MAX_LEN }
     {
         self.len
     }
 
-    /// The byte order of the file.
+    /// The byte order, as identification byte 5 says it (gABI chapter 4, Data Encoding).
     pub fn order(&self) -> Order
         ensures { result ≡ order_of self.now.header.e_ident }
     {
         order_in(&self.header.e_ident)
     }
 
+    /// The ELF header (gABI chapter 4, ELF Header).
     pub fn header(&self) -> Ehdr
         ensures { result ≡ self.now.header }
     {
         self.header
     }
 
+    /// How many section headers there are, number 0 among them; 0 without a section header table.
+    pub fn section_count(&self) -> usize
+        ensures { result ≡ length self.now.sections }
+    {
+        self.sections.len()
+    }
+
+    /// How many program headers there are.
+    pub fn segment_count(&self) -> usize
+        ensures { result ≡ length self.now.segments }
+    {
+        self.segments.len()
+    }
+
+    /// The section headers, number 0 as it stands in the file (gABI chapter 4, Sections).
     pub fn sections(&self) -> &[Shdr]
         ensures { result.now ≡ self.now.sections }
     {
         &self.sections
     }
 
+    /// The program headers (gABI chapter 5, Program Header).
     pub fn segments(&self) -> &[Phdr]
         ensures { result.now ≡ self.now.segments }
     {
         &self.segments
     }
 
+    /// What each byte of the file belongs to: the parts in ascending order, none of them empty, each
+    /// byte in just one.
     pub fn parts(&self) -> &[Part]
-        ensures { result.now ≡ self.now.parts }
+        ensures value { result.now ≡ self.now.parts }
+        ensures parts { AreParts (blank_image self.now) result.now }
     {
         &self.parts
     }
@@ -99,6 +143,7 @@ impl Outline {
         self.zeroed
     }
 
+    /// Section header `i`, which is below [`section_count`](Outline::section_count).
     pub fn section(&self, i: usize) -> Shdr
         requires { i < length self.now.sections }
         ensures { result ≡ section_header_of self.now.sections i }
@@ -106,6 +151,7 @@ impl Outline {
         self.sections[i]
     }
 
+    /// Program header `j`, which is below [`segment_count`](Outline::segment_count).
     pub fn segment(&self, j: usize) -> Phdr
         requires { j < length self.now.segments }
         ensures { result ≡ program_header_of self.now.segments j }
@@ -113,7 +159,7 @@ impl Outline {
         self.segments[j]
     }
 
-    /// The index of the section name string table, 0 for none; where `e_shstrndx` is `SHN_XINDEX`,
+    /// The index of the section name string table, 0 for none (gABI chapter 4, ELF Header: `e_shstrndx`); where that is `SHN_XINDEX`,
     /// the one that section header 0 says in `sh_link`.
     pub fn name_table(&self) -> u32
         ensures { result ≡ name_table self.now.header (section_header_of self.now.sections 0) }
@@ -129,27 +175,31 @@ impl Outline {
 
     /// Sets `e_entry`.
     pub fn set_entry(&mut self, entry: u64)
-        ensures { let h = self.old.header in self.new ≡ record self.old { header = record h { e_entry = entry } } }
+        ensures value { let h = self.old.header in self.new ≡ record self.old { header = record h { e_entry = entry } } }
+        ensures still { (b : List ℕ) → IsOutlineOf self.old b → IsOutlineOf self.new b }
     {
         self.header.e_entry = entry;
     }
 
-    /// Sets `sh_flags` of section `i`.
+    /// Sets `sh_flags` of section `i`. Answers `NoSection`, and changes nothing, where `i` is 0 or not
+    /// below [`section_count`](Outline::section_count).
     pub fn set_flags(&mut self, i: usize, flags: u64) -> Result<(), NoSection>
         ensures ok { OnOk result ((0 < i) × (i < length self.old.sections) ×
             (self.new ≡ record self.old { sections = flagged self.old.sections i flags })) }
         ensures err { OnErr result ((¬ ((0 < i) × (i < length self.old.sections))) × (self.new ≡ self.old)) }
+        ensures still { (b : List ℕ) → IsOutlineOf self.old b → IsOutlineOf self.new b }
     {
         if i == 0 || i >= self.sections.len() {
             return Err(NoSection);
         }
-        self.sections[i].sh_flags = flags;
+        flag(&mut self.sections, i, flags);
         Ok(())
     }
 
-    /// Lets every gap count as zeros.
+    /// Sets every byte of every gap to 0: they count as zeros, whatever the file has there.
     pub fn zero_gaps(&mut self)
-        ensures { self.new ≡ record self.old { zeroed = true } }
+        ensures value { self.new ≡ record self.old { zeroed = true } }
+        ensures still { (b : List ℕ) → IsOutlineOf self.old b → IsOutlineOf self.new b }
     {
         self.zeroed = true;
     }

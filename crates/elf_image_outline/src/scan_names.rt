@@ -1,5 +1,5 @@
 //! The ends of a source's section name string table (gABI chapter 4, String Table).
-ghost use Rattle.std.specs.Prelude.{◌≡◌, ◌≤◌, ◌<◌, ◌+◌, ℕ, List, Some, IfOk, length};
+ghost use Rattle.std.specs.Prelude.{◌≡◌, ◌≤◌, ◌<◌, ◌+◌, ◌-◌, ℕ, List, Some, IfOk, length, min};
 ghost use Rattle.elf_image_outline.specs.Image.{AreRecordsIn};
 ghost use Rattle.elf_image_outline.specs.Scanning.{HasTables, Leaves, Scans, names_extent};
 ghost use Rattle.elf_image_rules.specs.StringTable.{AreEnds};
@@ -34,6 +34,8 @@ pub(crate) fn scan_names<S: Source>(
     ensures some { IfOk result (λ ends. (names : List ℕ) × AreEnds ends names) }
     ensures place { IfOk result (λ ends. 0 < ends.len →
         (section_header_of tables.now.sections.items tables.now.counts.name_table).sh_offset + ends.len ≤ len) }
+    ensures clipped { let names = names_extent tables.now.sections.items tables.now.counts.name_table in
+        IfOk result (λ ends. ends.len ≡ min (len - names.start) names.len) }
     ensures told { (b : List ℕ) → S.content source.old ≡ Some b → len ≡ length b →
         HasTables len tables.now.header tables.now.counts tables.now.sections.items tables.now.segments.items →
         AreRecordsIn b tables.now.header tables.now.sections.items tables.now.segments.items →

@@ -1,8 +1,8 @@
 //! A source as an image, without its contents.
-ghost use Rattle.std.specs.Prelude.{◌≡◌, ℕ, List, Some};
+ghost use Rattle.std.specs.Prelude.{◌≡◌, ℕ, List, Some, IfOk};
 ghost use Rattle.elf_field.specs.Bytes.{IsBytes};
 ghost use Rattle.elf_image_outline.specs.Image.{IsImage};
-ghost use Rattle.elf_image_outline.specs.Outline.{image_in};
+ghost use Rattle.elf_image_outline.specs.Outline.{IsOutlineOf, image_in};
 ghost use Rattle.elf_image_outline.specs.Scanning.{Leaves, Scans};
 
 use crate::judged::judged_parts;
@@ -26,6 +26,7 @@ pub fn scan<S: Source>(alloc: Global, source: &mut S) -> Result<Outline, Fault>
     ensures flag { Leaves (S.failed source.old) (S.failed source.new) result }
     ensures told { (b : List ℕ) → S.content source.old ≡ Some b → IsBytes b →
         Scans b (S.failed source.new) (λ outline. IsImage (image_in outline b) b) result }
+    ensures of { (b : List ℕ) → S.content source.old ≡ Some b → IsBytes b → IfOk result (λ outline. IsOutlineOf outline b) }
 {
     let head = scan_head(source)?;
     let tables = scan_tables(alloc, source, &head)?;

@@ -10,16 +10,16 @@ pub mod field {
 /// Extents and places.
 pub mod extent {
     pub use elf::extent::{
-        Counted, Extent, OutOfMemory, Piece, PlaceFault, Row, account, first_double, next_place,
-        place, sweep,
+        Counted, Extent, OutOfMemory, Piece, PlaceFault, Row, SortedExtents, account, first_double,
+        next_place, place, sweep,
     };
 }
 
 /// Images.
 pub mod image {
     pub use elf::image::{
-        Fault, Image, NoSection, Owner, Part, ReplaceFault, WriteFault, parse, read_to_end, rules,
-        verdict, write,
+        Bytes, Failed, Fault, Image, NoSection, Outline, Owner, Part, ReplaceFault, Seeking,
+        Source, WriteFault, parse, read_to_end, rules, scan, verdict, write,
     };
 }
 

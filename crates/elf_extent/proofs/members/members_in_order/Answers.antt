@@ -1,7 +1,5 @@
-use Rattle.std.proofs.Common.{◌+◌, sym, subst}
 use Rattle.std.proofs.lemmas.Option.{slice_get-get_or}
-use Rattle.elf_extent.specs.Members.{AreMembers}
-use Rattle.elf_extent.proofs.MembersLemmas.{members_more, members_skip}
+use Rattle.elf_extent.proofs.MembersLemmas.{held_more, held_skip, members_more, members_skip}
 use Rattle.elf_extent.proofs.members.members_in_order.Goals as goal
 use Rattle.elf_extent.proofs.members.members_in_order.Goals.{then-extent-gt0+in-Ok, else-extent-gt0}
 
@@ -11,11 +9,17 @@ loop-index-preserved c =
     let n = c.loop-index.index in
     elim c.if-extent-gt0.branch [
       | then-extent-gt0+in-Ok w ↦
-          rw w.members-is (subst (AreMembers es (n + 1)) (sym w.in-Ok.ensures.items)
-          (members_more es n _ _ (slice_get-get_or es n _ c.loop-index-test.true)
-          w.if-extent-gt0.true c.loop-index.invariant))
+          rw (w.members-is, w.in-Ok.ensures.items) (record {
+            members = members_more es n _ _ (slice_get-get_or es n _ c.loop-index-test.true)
+                w.if-extent-gt0.true c.loop-index.invariant.members;
+            held = held_more es n _ _ (slice_get-get_or es n _ c.loop-index-test.true)
+                w.if-extent-gt0.true c.loop-index.invariant.held;
+          })
       | else-extent-gt0 w ↦
-          rw w.members-is
-          (members_skip es n _ _ (slice_get-get_or es n _ c.loop-index-test.true)
-          w.if-extent-gt0.false c.loop-index.invariant)
+          rw w.members-is (record {
+            members = members_skip es n _ _ (slice_get-get_or es n _ c.loop-index-test.true)
+                w.if-extent-gt0.false c.loop-index.invariant.members;
+            held = held_skip es n _ _ (slice_get-get_or es n _ c.loop-index-test.true)
+                w.if-extent-gt0.false c.loop-index.invariant.held;
+          })
     ]

@@ -3,6 +3,7 @@ use Rattle.elf_image_outline.specs.Image.{IsImage}
 use Rattle.elf_image_outline.specs.Outline.{OutlineValue, image_in}
 use Rattle.elf_image_outline.proofs.NamesRead.{image_of_tables, stops_of_tables}
 use Rattle.elf_image_outline.proofs.ScanRules.{scans_fault}
+use Rattle.elf_image_outline.proofs.Theorem.{image_is_sound}
 use Rattle.elf_image_outline.proofs.scanning.scan.Goals as goal
 
 pub returns-in_err-parts-clause-told : goal.returns-in_err-parts-clause-told
@@ -27,3 +28,6 @@ returns-clause-told g c b told are =
     subst (λ (o : OutlineValue). IsImage (image_in o b) b) (sym c.new.ensures)
     (image_of_tables c.in_ok-head.head.len b t.header t.counts t.sections.items t.segments.items c.in_ok-parts.parts.items says are has records
     (c.in_ok-parts.ensures.ok _ ends))
+
+pub returns-clause-of : goal.returns-clause-of
+returns-clause-of g c b told are = image_is_sound _ b (returns-clause-told g c b told are)
