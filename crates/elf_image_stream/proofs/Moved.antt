@@ -1,9 +1,12 @@
 -- What moved from a reader, or to a writer, call by call.
-use Rattle.std.proofs.Common.{◌≡◌, ℕ, ◌+◌, ◌-◌, ◌≤◌, ◌⊎◌, inl, inr, List, ◌++◌, Option, None, Some, Result, Ok, Err, IfSome, OnOk, length, take, drop, sym, ap, ◌∙◌, append-nil, take_all, take-add}
+use Rattle.std.proofs.Common.{◌≡◌, ℕ, ◌+◌, ◌-◌, ◌≤◌, ◌⊎◌, inl, inr, List, [], ◌++◌, Option, None, Some, Result, Ok, Err, IfSome, OnOk, length, take, drop, sym, ap, ◌∙◌, append-nil, append_assoc, length-append, take_all, take-add}
 use Rattle.std.proofs.lemmas.List.{take_rest}
+use native.Mathlib.Numerals.{unary_clauses}
+use native.Mathlib.Omega.{arith}
 use lib.Seq.{take-append_seam}
-use Rattle.std.proofs.KnownBytes.{Consumes-trans, Appends-trans}
-use Rattle.std.specs.Io.KnownBytes.{Appends, Consumes, IsAtEnd}
+use Rattle.std.proofs.KnownBytes.{Consumes-kept, Consumes-nil, Consumes-trans, Appends-trans}
+use Rattle.std.specs.Io.KnownBytes.{Appends, Consumes, IsAtEnd, Keeps}
+use Rattle.elf_image_stream.specs.Reading.{IsReadBehind}
 
 -- what one more write took follows what was out
 pub Appends-more : (a b c : Option (List ℕ)) (bytes : List ℕ) (n m : ℕ) → Appends a b (take n bytes)
@@ -12,10 +15,32 @@ Appends-more a b c bytes n m before write =
     let rest = rw take_rest at write in
     rw take-add (Appends-trans a b c _ _ before rest)
 
+-- before the first read nothing stands behind what was there
+pub nothing_read : (a : Option (List ℕ)) (old : List ℕ) (n : ℕ) → length old ≤ n → IsReadBehind a a old (take n old)
+nothing_read a old n within = record { given = []; behind = take_all n old within ∙ sym (append-nil old); taken = Consumes-nil a }
+
 -- what one more read gave follows what was read
-pub Consumes-more : (a b c : Option (List ℕ)) (old mid new : List ℕ) (n m : ℕ) → take n mid ≡ take n old → take n new ≡ take n mid
-    → Consumes a b (take n old) → Consumes b c (take m (drop n new)) → Consumes a c (take (n + m) new)
-Consumes-more a b c old mid new n m room front before read = rw take-add (Consumes-trans a b c (take n new) (take m (drop n new)) (rw (front, room) before) read)
+pub read_more : (a b c : Option (List ℕ)) (front old mid new : List ℕ) (n m : ℕ) → take n mid ≡ take n old → take n new ≡ take n mid
+    → IsReadBehind a b front (take n old) → Consumes b c (take m (drop n new)) → IsReadBehind a c front (take (n + m) new)
+read_more a b c front old mid new n m room kept before read = record {
+  given = before.given ++ take m (drop n new);
+  behind = take-add n m new ∙ ap (λ l. l ++ take m (drop n new)) (kept ∙ room ∙ before.behind) ∙ append_assoc front before.given (take m (drop n new));
+  taken = Consumes-trans a b c before.given (take m (drop n new)) before.taken read;
+}
+
+-- a read that gave nothing
+pub read_none : (a b c : Option (List ℕ)) (front old mid new : List ℕ) (n : ℕ) → take n mid ≡ take n old → take n new ≡ take n mid
+    → IsReadBehind a b front (take n old) → Consumes b c [] → IsReadBehind a c front (take n new)
+read_none a b c front old mid new n room kept before none = record {
+  given = before.given ++ [];
+  behind = kept ∙ room ∙ before.behind ∙ ap (λ l. front ++ l) (sym (append-nil before.given));
+  taken = Consumes-trans a b c before.given [] before.taken none;
+}
+
+-- a read that failed gave nothing
+pub read_failed : (a b c : Option (List ℕ)) (front old mid new : List ℕ) (n : ℕ) → take n mid ≡ take n old → take n new ≡ take n mid
+    → IsReadBehind a b front (take n old) → Keeps b c → IsReadBehind a c front (take n new)
+read_failed a b c front old mid new n room kept before same = read_none a b c front old mid new n room kept before (Consumes-kept b b c [] (Consumes-nil b) same)
 
 -- a reader that is at its end, or gave n bytes, gave its first n
 pub gives_first : {U E : Type 0} (a b : Option (List ℕ)) (result : Result U E) (xs : List ℕ) (n : ℕ) → Consumes a b xs → length xs ≤ n
@@ -27,3 +52,24 @@ gives_first (Some bytes) (Some rest) (Ok u) xs n taken within (inl end) =
     let all : bytes ≡ xs = taken ∙ ap (λ l. xs ++ l) end ∙ append-nil xs in
     rw all (sym (take_all n xs within))
 gives_first (Some bytes) (Some rest) (Ok u) xs n taken within (inr long) = rw (taken, ← long) (sym (take-append_seam xs rest))
+
+-- a reader that is at its end, or filled what holds at most n bytes, gave its first bytes, up to n in all
+pub gives_up_to : {U E : Type 0} (a b : Option (List ℕ)) (result : Result U E) (old new : List ℕ) (n : ℕ) → IsReadBehind a b old new → length new ≤ n
+    → OnOk result (IsAtEnd b ⊎ (length new ≡ n)) → OnOk result (IfSome a (λ bytes. new ≡ old ++ take (n - length old) bytes))
+gives_up_to a b (Err e) old new n read within ends = tt
+gives_up_to None b (Ok u) old new n read within ends = tt
+gives_up_to {E = E} (Some bytes) b (Ok u) old new n read within ends =
+    let counted : length new ≡ length old + length read.given = rw read.behind (length-append old read.given) in
+    let most : length read.given ≤ n - length old = omega (arith, counted, within) in
+    read.behind ∙ ap (λ l. old ++ l) (gives_first {E = E} (Some bytes) b (Ok u) read.given (n - length old) read.taken most (full ends counted))
+  where
+    full : IsAtEnd b ⊎ (length new ≡ n) → length new ≡ length old + length read.given → IsAtEnd b ⊎ (length read.given ≡ n - length old)
+    full (inl end) counted = inl end
+    full (inr whole) counted = inr (omega (arith, whole, counted))
+
+-- behind nothing stands what was given
+pub behind_nothing : {U E : Type 0} (a : Option (List ℕ)) (result : Result U E) (old new : List ℕ) (n : ℕ) → old ≡ []
+    → OnOk result (IfSome a (λ bytes. new ≡ old ++ take (n - length old) bytes)) → OnOk result (IfSome a (λ bytes. new ≡ take n bytes))
+behind_nothing a (Err e) old new n empty told = tt
+behind_nothing None (Ok u) old new n empty told = tt
+behind_nothing (Some bytes) (Ok u) old new n empty told = simp unary_clauses at (rw empty at told)

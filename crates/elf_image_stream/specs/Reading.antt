@@ -1,5 +1,6 @@
 -- What reading a whole file answers besides its bytes.
-use Rattle.std.specs.Prelude.{◌≡◌, ℕ}
+use Rattle.std.specs.Prelude.{◌≡◌, ℕ, List, Option, ◌++◌}
+use Rattle.std.specs.Io.KnownBytes.{Consumes}
 use Rattle.elf_image_stream.specs.declared.fault.Fault.{Fault}
 use Rattle.elf_image_stream.specs.declared.fault.Fault.TheVariants.{OutOfMemory, Io, Rule}
 
@@ -8,3 +9,9 @@ abbrev pub IsReadFault : Fault → ℕ → Type 0
 IsReadFault OutOfMemory count = Unit {0}
 IsReadFault (Io at) count = at ≡ count
 IsReadFault (Rule rule at) count = ⊥
+
+-- what a buffer holds anew is what it held, and behind it what the reader gave
+pub record IsReadBehind (before after : Option (List ℕ)) (old new : List ℕ) : Type 0 where
+  pub given : List ℕ
+  pub behind : new ≡ old ++ given
+  pub taken : Consumes before after given

@@ -1,8 +1,8 @@
 //! All bytes of a reader, however its reads are cut.
-ghost use Rattle.std.specs.Prelude.{◌≡◌, ◌+◌, ◌<◌, ◌≤◌, ◌⊎◌, [], length, take, drop, vec_len, IfErr, IfOk, IfSome, OnErr, OnOk};
+ghost use Rattle.std.specs.Prelude.{◌≡◌, ◌+◌, ◌-◌, ◌<◌, ◌≤◌, ◌⊎◌, [], ◌++◌, length, take, drop, vec_len, IfErr, IfOk, IfSome, OnErr, OnOk};
 ghost use Rattle.std.specs.Io.KnownBytes.{Consumes, IsAtEnd, Keeps};
 ghost use Rattle.elf_image_rules.specs.HeaderRules.{MAX_LEN};
-ghost use Rattle.elf_image_stream.specs.Reading.{IsReadFault};
+ghost use Rattle.elf_image_stream.specs.Reading.{IsReadBehind, IsReadFault};
 
 use crate::fault::Fault;
 use std::alloc::AllocError;
@@ -42,21 +42,41 @@ pub fn read_to_end<R: Read>(reader: &mut R, buf: &mut Vec<u8>) -> Result<(), Fau
     ensures whole { OnOk result (IfSome (R.remaining reader.old)
         (λ bytes. buf.new.items ≡ take (MAX_LEN + 1) bytes)) }
 {
+    resume(reader, buf)
+}
+
+/// Reads on, behind what `buf` holds, at most 2^30 + 1 bytes at the call, until a read gives 0 bytes or `buf` holds 2^30 + 1 bytes. So
+/// a call after [`Fault::OutOfMemory`] goes on where the reading stopped.
+///
+/// After a fault too `buf` holds what it held, and behind it exactly the bytes that the reader gave, in order. Any error of the
+/// reader, an interruption too, is [`Fault::Io`] at the count of all these bytes; a refused growth is [`Fault::OutOfMemory`], and
+/// loses no byte, since the room for a read is made before it.
+pub fn resume<R: Read>(reader: &mut R, buf: &mut Vec<u8>) -> Result<(), Fault>
+    requires room { vec_len buf.old ≤ MAX_LEN + 1 }
+    ensures taken { IsReadBehind (R.remaining reader.old) (R.remaining reader.new) buf.old.items buf.new.items }
+    ensures limit { vec_len buf.new ≤ MAX_LEN + 1 }
+    ensures ok { OnOk result (IsAtEnd (R.remaining reader.new) ⊎ (vec_len buf.new ≡ MAX_LEN + 1)) }
+    ensures fault { IfErr result (λ e. IsReadFault e (vec_len buf.new)) }
+
+    // A reader that tells its bytes gives them all, up to the limit.
+    ensures whole { OnOk result (IfSome (R.remaining reader.old)
+        (λ bytes. buf.new.items ≡ buf.old.items ++ take (MAX_LEN + 1 - length buf.old.items) bytes)) }
+{
     let (filled, result) = fill(reader, buf);
     buf.truncate(filled);
     result
 }
 
-// The bytes read, as the front of `buf`, whose rest is room: how many there are, and why it stopped.
+// What `buf` held and the bytes read, as the front of `buf`, whose rest is room: how many these are, and why it stopped.
 fn fill<R: Read>(reader: &mut R, buf: &mut Vec<u8>) -> (usize, Result<(), Fault>)
-    requires { buf.old.items ≡ [] }
+    requires room { vec_len buf.old ≤ MAX_LEN + 1 }
     ensures within { result.0 ≤ vec_len buf.new }
-    ensures taken { Consumes (R.remaining reader.old) (R.remaining reader.new) (take result.0 buf.new.items) }
+    ensures taken { IsReadBehind (R.remaining reader.old) (R.remaining reader.new) buf.old.items (take result.0 buf.new.items) }
     ensures limit { result.0 ≤ MAX_LEN + 1 }
     ensures ok { OnOk result.1 (IsAtEnd (R.remaining reader.new) ⊎ (result.0 ≡ MAX_LEN + 1)) }
     ensures fault { IfErr result.1 (λ e. IsReadFault e result.0) }
 {
-    let mut filled = 0;
+    let mut filled = buf.len();
     while filled < MOST_BYTES {
         // Room comes first, so that a refused growth loses no byte.
         let Ok(()) = make_room(buf, filled) else {

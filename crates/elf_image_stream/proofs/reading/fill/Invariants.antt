@@ -1,15 +1,15 @@
 use Rattle.std.proofs.Common.{◌+◌, ◌-◌, ◌≤◌, vec_len, take}
-use Rattle.std.specs.Io.KnownBytes.{Consumes}
+use Rattle.elf_image_stream.specs.Reading.{IsReadBehind}
 use Rattle.elf_image_rules.specs.HeaderRules.{MAX_LEN}
 use Rattle.elf_image_stream.proofs.reading.fill.Given as goal
 
--- the front of the buffer is what the reader gave
+-- the front of the buffer is what it held, and what the reader gave
 abbrev pub invariant-loop-filled : goal.invariant-loop-filled
 invariant-loop-filled g l = record {
   within : l.filled ≤ vec_len l.buf;
   limit : l.filled ≤ MAX_LEN + 1;
   room : vec_len l.buf ≤ MAX_LEN + 1;
-  taken : Consumes (g.R.Read.remaining l.initial.reader) (g.R.Read.remaining l.reader) (take l.filled l.buf.items);
+  taken : IsReadBehind (g.R.Read.remaining l.initial.reader) (g.R.Read.remaining l.reader) l.initial.buf.items (take l.filled l.buf.items);
 }
 
 abbrev pub decreases-loop-filled : goal.decreases-loop-filled

@@ -1,8 +1,13 @@
-use Rattle.std.proofs.Common.{rules}
-use Rattle.elf_image_stream.proofs.Moved.{gives_first}
+use Rattle.std.proofs.Common.{[]}
+use Rattle.elf_image_stream.specs.Reading.{IsReadBehind}
+use Rattle.elf_image_stream.proofs.Moved.{behind_nothing}
 use Rattle.elf_image_stream.proofs.reading.read_to_end.Goals as goal
+
+pub returns-clause-taken : goal.returns-clause-taken
+returns-clause-taken g c =
+    let read : IsReadBehind (g.R.Read.remaining c.args.reader.now) (g.R.Read.remaining c.resume.new.reader) [] c.resume.new.buf.items = rw (← c.requires) c.resume.ensures.taken in
+    rw read.behind read.taken
 
 pub returns-clause-whole : goal.returns-clause-whole
 returns-clause-whole g c =
-    gives_first (g.R.Read.remaining c.args.reader.now) (g.R.Read.remaining c.fill-filled.new.reader) c.fill-filled.result.1 c.truncate.new.self.items 1073741825 (search rules)
-    (search rules) (search rules)
+    behind_nothing (g.R.Read.remaining c.args.reader.now) c.resume.result c.args.buf.now.items c.resume.new.buf.items 1073741825 c.requires c.resume.ensures.whole
