@@ -1,12 +1,12 @@
 -- Bytes that are copied piece by piece, and what is out when a piece fails.
-use Rattle.std.proofs.Common.{◌≡◌, ◌≤◌, ◌<◌, ◌+◌, ◌-◌, ℕ, Bool, true, List, ◌++◌, length, take, drop, Option, Some, Result, Ok, Err, refl, sym, ap, ap₂, subst, ◌∙◌, arith, length-append, length-drop, take-add}
+use Rattle.std.proofs.Common.{◌≡◌, ◌≤◌, ◌<◌, ◌+◌, ◌-◌, ℕ, Bool, true, false, List, ◌++◌, length, take, drop, Option, Some, Result, Ok, Err, refl, sym, ap, ap₂, subst, ◌∙◌, arith, length-append, length-drop, take-add}
 use Rattle.std.specs.Result.{IsErrAnd}
 use Rattle.std.specs.Io.KnownBytes.{Appends}
 use Rattle.std.proofs.KnownBytes.{Appends-trans}
-use Rattle.std.proofs.lemmas.List.{drop-drop, drop_at, length-take, take-append-le, take_at}
+use Rattle.std.proofs.lemmas.List.{drop-drop, drop_at, length-take, length-take-le, take-append-le, take_at}
 use Rattle.elf_image_copy.specs.declared.fault.CopyFault.{CopyFault}
 use Rattle.elf_image_copy.specs.declared.fault.CopyFault.TheVariants.{Read, Write}
-use Rattle.elf_image_copy.specs.Copying.{Copies, CopiedOut, FlagsCopy, ReadsBehind, bytes_out, later}
+use Rattle.elf_image_copy.specs.Copying.{AnswersFlag, Copies, CopiedOut, FlagsCopy, ReadsBehind, bytes_out, later}
 
 -- m bytes went out, and n more behind them
 pub out_more : (content now a b c : Option (List ℕ)) (m n : ℕ) (f g h : List ℕ → List ℕ) → now ≡ content → CopiedOut content a b m f → CopiedOut now b c n g →
@@ -86,3 +86,39 @@ pub flag_failed : (content : Option (List ℕ)) (old new : Bool) (at : ℕ) (res
     ((b : List ℕ) → content ≡ Some b → new ≡ true) → FlagsCopy content old new result
 flag_failed content old new at (Ok u) is fails = absurd is
 flag_failed content old new at (Err fault) is fails = subst (λ (f : CopyFault). FlagsCopy content old new (Err f)) (sym is) fails
+
+-- records or zeros that the source has no part in
+pub out_own : (content a b : Option (List ℕ)) (len : ℕ) (own : List ℕ) (bytes : List ℕ → List ℕ) → length own ≡ len → ((x : List ℕ) → own ≡ bytes x) → Appends a b own →
+    CopiedOut content a b len bytes
+out_own content a b len own bytes long same went = record { out = own; many = long; appends = went; are = λ x told. same x }
+
+pub copies_own : (content a b : Option (List ℕ)) (len n : ℕ) (own : List ℕ) (bytes : List ℕ → List ℕ) (result : Result (Unit {0}) CopyFault) → length own ≡ len →
+    ((x : List ℕ) → own ≡ bytes x) → (n < length own) × Appends a b (take n own) → IsErrAnd result (λ fault. fault ≡ Write n) → Copies content a b len bytes result
+copies_own content a b len n own bytes (Ok u) long same failed is = absurd is
+copies_own content a b len n own bytes (Err fault) long same (below, went) is =
+    let out : Copies content a b len bytes (Err (Write n)) = (
+        omega arith,
+        record {
+          out = take n own;
+          many = length-take-le n own (omega arith);
+          appends = went;
+          are = λ x told. ap (take n) (same x);
+        },
+    ) in
+    subst (λ (f : CopyFault). Copies content a b len bytes (Err f)) (sym is) out
+
+-- the same bytes, as another function of those of the source
+pub copies_as : (content a b : Option (List ℕ)) (len : ℕ) (f g : List ℕ → List ℕ) (result : Result (Unit {0}) CopyFault) → ((x : List ℕ) → content ≡ Some x → f x ≡ g x) →
+    Copies content a b len f result → Copies content a b len g result
+copies_as content a b len f g (Ok u) same went = record { out = went.out; many = went.many; appends = went.appends; are = λ x told. went.are x told ∙ same x told }
+copies_as content a b len f g (Err fault) same (below, went) =
+    (below, record { out = went.out; many = went.many; appends = went.appends; are = λ x told. went.are x told ∙ ap (take (bytes_out fault)) (same x told) })
+
+pub out_count : (content a b : Option (List ℕ)) (m n : ℕ) (bytes : List ℕ → List ℕ) → m ≡ n → CopiedOut content a b m bytes → CopiedOut content a b n bytes
+out_count content a b m n bytes same went = subst (λ (k : ℕ). CopiedOut content a b k bytes) same went
+
+-- the flag that is left, or set by a failed read, tells whether one is answered
+pub flag_answered : (content : Option (List ℕ)) (old new : Bool) (result : Result (Unit {0}) CopyFault) → FlagsCopy content old new result → AnswersFlag content old new result
+flag_answered content old new (Ok u) left b told clear = (λ is. absurd is, λ set. absurd (let e : false ≡ true = sym clear ∙ sym left ∙ set in cc))
+flag_answered content old new (Err (Write n)) left b told clear = (λ is. absurd is, λ set. absurd (let e : false ≡ true = sym clear ∙ sym left ∙ set in cc))
+flag_answered content old new (Err (Read at n)) fails b told clear = (λ is. fails b told, λ set. tt)

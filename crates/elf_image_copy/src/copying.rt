@@ -32,8 +32,9 @@ fn copy_part<S: Source, W: Write>(
         Owner::Header => Ok(write_records(writer, outline.order(), &[outline.header()])?),
         Owner::SectionTable => Ok(write_records(writer, outline.order(), outline.sections())?),
         Owner::ProgramTable => Ok(write_records(writer, outline.order(), outline.segments())?),
+        Owner::Content(_) => copy_range(source, writer, part.start, part.len),
         Owner::Gap if outline.is_zeroed() => Ok(write_zeros(writer, part.len)?),
-        Owner::Content(_) | Owner::Gap => copy_range(source, writer, part.start, part.len),
+        Owner::Gap => copy_range(source, writer, part.start, part.len),
     }
 }
 
