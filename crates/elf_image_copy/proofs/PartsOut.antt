@@ -1,5 +1,5 @@
 -- The parts of an outline go out one after the other: its own records and zeros, and what its source has at their offsets.
-use Rattle.std.proofs.Common.{◌≡◌, ◌≤◌, ◌<◌, ◌+◌, ◌^◌, ℕ, suc, Bool, true, false, Option, Some, List, [], ◌∷◌, ◌++◌, length, take, drop, map, get_or, refl, sym, ap, ap₂, subst, ◌∙◌, arith, drop-cons, length-append, length-drop, Result, Ok, Err}
+use Rattle.std.proofs.Common.{◌≡◌, ◌≤◌, ◌<◌, ◌+◌, ◌^◌, ℕ, suc, Bool, true, false, Option, Some, List, [], ◌∷◌, ◌++◌, length, take, drop, map, get_or, refl, sym, ap, ap₂, subst, ◌∙◌, arith, drop-cons, length-append, length-drop, take_all, zero-add, Result, Ok, Err}
 use Rattle.std.specs.Prelude.{replicate, slice_get}
 use Rattle.std.specs.List.{flat_map}
 use Rattle.std.proofs.lemmas.Grind.{flat_map-append}
@@ -24,8 +24,8 @@ use Rattle.elf_image_outline.proofs.Standing.{get_or_at, within_list}
 use Rattle.elf_image_outline.proofs.Stands.{content_is}
 use Rattle.elf_image_outline.proofs.Written.{IsPartAt, joined_parts, part_in}
 use Rattle.elf_image_copy.specs.declared.fault.CopyFault.{CopyFault}
-use Rattle.elf_image_copy.specs.Copying.{CopiedOut, Copies, bytes_out, later}
-use Rattle.elf_image_copy.proofs.Out.{copies_after, out_count, out_more}
+use Rattle.elf_image_copy.specs.Copying.{CopiedOut, Copies, ReadsBehind, bytes_out, later}
+use Rattle.elf_image_copy.proofs.Out.{behind_after, copies_after, out_count, out_more}
 
 -- the bytes of a part with zeros for contents and gaps, and with those of the source
 abbrev pub blank_bytes : OutlineValue → Part → List ℕ
@@ -154,14 +154,28 @@ parts_failed o ps k d content now a b c fault sound same within moved before fai
     (λ x. sym (joined_parts o (contents_in o x) x ps same) ∙ flat_splits (told_bytes o x) ps k d within)
 
 -- all of them
-pub parts_all : (o : OutlineValue) (ps : List Part) (content a b : Option (List ℕ)) → IsSoundOutline o → ps ≡ o.parts →
-    CopiedOut content a b (length (flat_map (blank_bytes o) ps)) (λ x. flat_map (told_bytes o x) ps) → CopiedOut content a b o.len (bytes_of_outline o)
-parts_all o ps content a b sound same went =
+pub parts_all : (o : OutlineValue) (ps : List Part) (k : ℕ) (content a b : Option (List ℕ)) → IsSoundOutline o → ps ≡ o.parts → length ps ≤ k →
+    CopiedOut content a b (length (flat_map (blank_bytes o) (take k ps))) (λ x. flat_map (told_bytes o x) (take k ps)) → CopiedOut content a b o.len (bytes_of_outline o)
+parts_all o ps k content a b sound same past went =
     let blank = record o { zeroed = true } in
     let cs = map (λ s. replicate (content_extent s).len 0) o.sections in
+    let all = subst (λ (qs : List Part). CopiedOut content a b (length (flat_map (blank_bytes o) qs)) (λ x. flat_map (told_bytes o x) qs)) (take_all k ps past) went in
     let whole : length (flat_map (blank_bytes o) ps) ≡ o.len = ap (λ (s : List ℕ). length s) (joined_parts blank cs [] ps same) ∙ length-joined (blank_image o) sound in
-    let out = out_count content a b _ o.len _ whole went in
+    let out = out_count content a b _ o.len (λ x. flat_map (told_bytes o x) ps) whole all in
     record { out = out.out; many = out.many; appends = out.appends; are = λ x told. out.are x told ∙ joined_parts o (contents_in o x) x ps same }
 
 pub part_fits : (o : OutlineValue) (k : ℕ) (p : Part) → IsSoundOutline o → slice_get o.parts k ≡ Some p → p.start + p.len < 2 ^ 64
 part_fits o k p sound here = let within = part_within o k p sound here in let short = outline_short o sound in omega arith
+
+-- what is said of part k, of the file
+pub failed_fits : (o : OutlineValue) (ps : List Part) (k : ℕ) (d : Part) (content b c : Option (List ℕ)) (bytes : List ℕ → List ℕ) (fault : CopyFault) → IsSoundOutline o → ps ≡ o.parts →
+    k < length ps → Copies content b c (get_or ps k d).len bytes (Err fault) → (get_or ps k d).start + bytes_out fault < 2 ^ 64
+failed_fits o ps k d content b c bytes fault sound same within (below, failed) =
+    let fits = part_fits o k (get_or ps k d) sound (at_index o ps k d same within) in omega arith
+
+pub parts_behind : (block : ℕ) (o : OutlineValue) (ps : List Part) (k : ℕ) (d : Part) (fault : CopyFault) → IsSoundOutline o → ps ≡ o.parts → k < length ps →
+    ReadsBehind block (get_or ps k d).start (get_or ps k d).len (Err fault) → ReadsBehind block 0 o.len (Err (later (get_or ps k d).start fault))
+parts_behind block o ps k d fault sound same within is =
+    let p = get_or ps k d in
+    behind_after block 0 p.start p.len o.len fault (part_within o k p sound (at_index o ps k d same within))
+    (subst (λ (n : ℕ). ReadsBehind block n p.len (Err fault)) (sym (zero-add p.start)) is)
