@@ -1,12 +1,12 @@
 -- Bytes that are copied piece by piece, and what is out when a piece fails.
-use Rattle.std.proofs.Common.{◌≡◌, ◌≤◌, ◌<◌, ◌+◌, ◌-◌, ℕ, Bool, true, false, List, ◌++◌, length, take, drop, Option, Some, Result, Ok, Err, refl, sym, ap, ap₂, subst, ◌∙◌, arith, length-append, length-drop, take-add}
+use Rattle.std.proofs.Common.{◌≡◌, ◌≤◌, ◌<◌, ◌+◌, ◌-◌, ℕ, Bool, true, List, ◌++◌, length, take, drop, Option, Some, Result, Ok, Err, sym, ap, ap₂, subst, ◌∙◌, arith, length-append, take-add}
 use Rattle.std.specs.Result.{IsErrAnd}
 use Rattle.std.specs.Io.KnownBytes.{Appends}
 use Rattle.std.proofs.KnownBytes.{Appends-trans}
 use Rattle.std.proofs.lemmas.List.{drop-drop, drop_at, length-take, length-take-le, take-append-le, take_at}
 use Rattle.elf_image_copy.specs.declared.fault.CopyFault.{CopyFault}
 use Rattle.elf_image_copy.specs.declared.fault.CopyFault.TheVariants.{Read, Write}
-use Rattle.elf_image_copy.specs.Copying.{AnswersFlag, Copies, CopiedOut, FlagsCopy, ReadsBehind, bytes_out, later}
+use Rattle.elf_image_copy.specs.Copying.{Copies, CopiedOut, FlagsCopy, ReadsBehind, bytes_out, later}
 
 -- m bytes went out, and n more behind them
 pub out_more : (content now a b c : Option (List ℕ)) (m n : ℕ) (f g h : List ℕ → List ℕ) → now ≡ content → CopiedOut content a b m f → CopiedOut now b c n g →
@@ -19,7 +19,7 @@ out_more content now a b c m n f g h same before went joins = record {
 }
 
 -- m bytes went out, and n of the next piece, which has more
-pub out_some : (content now a b c : Option (List ℕ)) (m n : ℕ) (f g rest h : List ℕ → List ℕ) → now ≡ content → CopiedOut content a b m f →
+out_some : (content now a b c : Option (List ℕ)) (m n : ℕ) (f g rest h : List ℕ → List ℕ) → now ≡ content → CopiedOut content a b m f →
     CopiedOut now b c n (λ x. take n (g x)) → ((x : List ℕ) → content ≡ Some x → n ≤ length (g x)) → ((x : List ℕ) → h x ≡ f x ++ (g x ++ rest x)) →
     CopiedOut content a c (m + n) (λ x. take (m + n) (h x))
 out_some content now a b c m n f g rest h same before failed long splits = record {
@@ -32,12 +32,12 @@ out_some content now a b c m n f g rest h same before failed long splits = recor
       let count : length (f x) ≡ m = ap (λ (s : List ℕ). length s) (sym first) ∙ before.many in
       ap₂ (λ (s t : List ℕ). s ++ t) first next
       ∙ sym (ap (take (m + n)) (splits x) ∙ take-add m n (f x ++ (g x ++ rest x))
-          ∙ ap₂ (λ (s t : List ℕ). s ++ t) (take_at (f x) (g x ++ rest x) m count)
-              (ap (take n) (drop_at (f x) (g x ++ rest x) m count) ∙ take-append-le n (g x) (rest x) (long x told)));
+      ∙ ap₂ (λ (s t : List ℕ). s ++ t) (take_at (f x) (g x ++ rest x) m count)
+      (ap (take n) (drop_at (f x) (g x ++ rest x) m count) ∙ take-append-le n (g x) (rest x) (long x told)));
 }
 
 -- the first n of some bytes are n, so there are as many
-pub long_enough : (n : ℕ) (xs ys : List ℕ) → length xs ≡ n → xs ≡ take n ys → n ≤ length ys
+long_enough : (n : ℕ) (xs ys : List ℕ) → length xs ≡ n → xs ≡ take n ys → n ≤ length ys
 long_enough n xs ys many are =
     let count = length-take n ys in
     let same : length (take n ys) ≡ n = ap (λ (s : List ℕ). length s) (sym are) ∙ many in
@@ -55,15 +55,6 @@ copies_after content now a b c m len total f g rest h (Write n) same within befo
   out_some content now a b c m n f g rest h same before failed (λ x told. long_enough n failed.out (g x) failed.many (failed.are x (same ∙ told))) splits,
 )
 
--- so many bytes out fit
-pub fits_after : (content now b c : Option (List ℕ)) (m len : ℕ) (g : List ℕ → List ℕ) (fault : CopyFault) → Copies now b c len g (Err fault) → m + bytes_out fault < m + len
-fits_after content now b c m len g fault (below, failed) = omega arith
-
-pub flags_after : (content now : Option (List ℕ)) (old mid new : Bool) (m : ℕ) (fault : CopyFault) → now ≡ content → mid ≡ old →
-    FlagsCopy now mid new (Err fault) → FlagsCopy content old new (Err (later m fault))
-flags_after content now old mid new m (Read at n) same left fails = λ x told. fails x (same ∙ told)
-flags_after content now old mid new m (Write n) same left fails = fails ∙ left
-
 pub behind_after : (block start m size len : ℕ) (fault : CopyFault) → m + size ≤ len → ReadsBehind block (start + m) size (Err fault) → ReadsBehind block start len (Err (later m fault))
 behind_after block start m size len (Read at n) within (above, near, below) = (omega arith, omega arith, omega arith)
 behind_after block start m size len (Write n) within is = tt
@@ -78,8 +69,8 @@ range_splits b start m n len within =
     ap (λ (k : ℕ). take k (drop start b)) (let e : len ≡ m + (n + (len - (m + n))) = omega arith in e)
     ∙ sym (range_more b start m (n + (len - (m + n))))
     ∙ ap (λ (s : List ℕ). take m (drop start b) ++ s)
-        (sym (range_more b (start + m) n (len - (m + n)))
-        ∙ ap (λ (k : ℕ). take n (drop (start + m) b) ++ take (len - (m + n)) (drop k b)) (let e : start + m + n ≡ start + (m + n) = omega arith in e))
+    (sym (range_more b (start + m) n (len - (m + n)))
+    ∙ ap (λ (k : ℕ). take n (drop (start + m) b) ++ take (len - (m + n)) (drop k b)) (let e : start + m + n ≡ start + (m + n) = omega arith in e))
 
 -- a read failed before anything went out
 pub flag_failed : (content : Option (List ℕ)) (old new : Bool) (at : ℕ) (result : Result (Unit {0}) CopyFault) → IsErrAnd result (λ fault. fault ≡ Read at 0) →
@@ -97,13 +88,13 @@ pub copies_own : (content a b : Option (List ℕ)) (len n : ℕ) (own : List ℕ
 copies_own content a b len n own bytes (Ok u) long same failed is = absurd is
 copies_own content a b len n own bytes (Err fault) long same (below, went) is =
     let out : Copies content a b len bytes (Err (Write n)) = (
-        omega arith,
-        record {
-          out = take n own;
-          many = length-take-le n own (omega arith);
-          appends = went;
-          are = λ x told. ap (take n) (same x);
-        },
+      omega arith,
+      record {
+        out = take n own;
+        many = length-take-le n own (omega arith);
+        appends = went;
+        are = λ x told. ap (take n) (same x);
+      },
     ) in
     subst (λ (f : CopyFault). Copies content a b len bytes (Err f)) (sym is) out
 
@@ -116,9 +107,3 @@ copies_as content a b len f g (Err fault) same (below, went) =
 
 pub out_count : (content a b : Option (List ℕ)) (m n : ℕ) (bytes : List ℕ → List ℕ) → m ≡ n → CopiedOut content a b m bytes → CopiedOut content a b n bytes
 out_count content a b m n bytes same went = subst (λ (k : ℕ). CopiedOut content a b k bytes) same went
-
--- the flag that is left, or set by a failed read, tells whether one is answered
-pub flag_answered : (content : Option (List ℕ)) (old new : Bool) (result : Result (Unit {0}) CopyFault) → FlagsCopy content old new result → AnswersFlag content old new result
-flag_answered content old new (Ok u) left b told clear = (λ is. absurd is, λ set. absurd (let e : false ≡ true = sym clear ∙ sym left ∙ set in cc))
-flag_answered content old new (Err (Write n)) left b told clear = (λ is. absurd is, λ set. absurd (let e : false ≡ true = sym clear ∙ sym left ∙ set in cc))
-flag_answered content old new (Err (Read at n)) fails b told clear = (λ is. fails b told, λ set. tt)

@@ -1,5 +1,5 @@
 -- The parts of an outline go out one after the other: its own records and zeros, and what its source has at their offsets.
-use Rattle.std.proofs.Common.{◌≡◌, ◌≤◌, ◌<◌, ◌+◌, ◌^◌, ℕ, suc, Bool, true, false, Option, Some, List, [], ◌∷◌, ◌++◌, length, take, drop, map, get_or, refl, sym, ap, ap₂, subst, ◌∙◌, arith, drop-cons, length-append, length-drop, take_all, zero-add, Result, Ok, Err}
+use Rattle.std.proofs.Common.{◌≡◌, ◌≤◌, ◌<◌, ◌+◌, ◌^◌, ℕ, suc, Bool, true, false, Option, Some, List, [], ◌∷◌, ◌++◌, length, take, drop, map, get_or, refl, sym, ap, ap₂, subst, ◌∙◌, arith, drop-cons, length-append, length-drop, take_all, zero-add, Err}
 use Rattle.std.specs.Prelude.{replicate, slice_get}
 use Rattle.std.specs.List.{flat_map}
 use Rattle.std.proofs.lemmas.Grind.{flat_map-append}
@@ -9,12 +9,12 @@ use Rattle.elf_field.specs.Ehdr.{ehdr_bytes}
 use Rattle.elf_field.specs.Phdr.{phdr_bytes}
 use Rattle.elf_field.specs.Shdr.{shdr_bytes}
 use Rattle.elf_image_rules.specs.HeaderRules.{MAX_LEN}
-use Rattle.elf_image_rules.specs.Tables.{bytes_in, content_extent, order_of}
+use Rattle.elf_image_rules.specs.Tables.{content_extent, order_of}
 use Rattle.elf_image_outline.specs.declared.part.Owner.{Owner}
 use Rattle.elf_image_outline.specs.declared.part.Owner.TheVariants.{Header, ProgramTable, SectionTable, Content, Gap}
 use Rattle.elf_image_outline.specs.declared.part.Part.{Part}
-use Rattle.elf_image_outline.specs.Image.{ImageValue, IsSoundImage, PlacedPart, owned_bytes, part_bytes, section_header_of}
-use Rattle.elf_image_outline.specs.Outline.{IsOutlineOf, IsSoundOutline, OutlineValue, blank_image, bytes_of_outline, contents_in, image_in, image_of, placed_part}
+use Rattle.elf_image_outline.specs.Image.{ImageValue, PlacedPart, owned_bytes, part_bytes}
+use Rattle.elf_image_outline.specs.Outline.{IsOutlineOf, IsSoundOutline, OutlineValue, blank_image, bytes_of_outline, contents_in, image_in, placed_part}
 use Rattle.elf_image_outline.specs.Parts.{IsExtentOf}
 use Rattle.elf_image_outline.proofs.Edited.{parts-placed}
 use Rattle.elf_image_outline.proofs.Holds.{length-joined}
@@ -47,11 +47,11 @@ pub own_whole : (o : OutlineValue) (k : ℕ) (p : Part) (own : List ℕ) → IsS
 own_whole o k p own sound here is = ap (λ (s : List ℕ). length s) is ∙ blank_whole o k p sound here
 
 -- it ends within the file
-pub part_within : (o : OutlineValue) (k : ℕ) (p : Part) → IsSoundOutline o → slice_get o.parts k ≡ Some p → p.start + p.len ≤ o.len
+part_within : (o : OutlineValue) (k : ℕ) (p : Part) → IsSoundOutline o → slice_get o.parts k ≡ Some p → p.start + p.len ≤ o.len
 part_within o k p sound here =
     (are_parts (blank_image o) sound).within k p (subst (λ (ps : List Part). slice_get ps k ≡ Some p) (parts-placed true [] o.parts) here)
 
-pub outline_short : (o : OutlineValue) → IsSoundOutline o → o.len ≤ MAX_LEN
+outline_short : (o : OutlineValue) → IsSoundOutline o → o.len ≤ MAX_LEN
 outline_short o sound = len_short (blank_image o) sound
 
 -- ---- the outline's own bytes
@@ -117,7 +117,7 @@ flat_splits f ps k d within =
     ap (flat_map f) (sym (take-append-drop k ps)) ∙ flat_map-append f (take k ps) (drop k ps)
     ∙ ap (λ (qs : List Part). flat_map f (take k ps) ++ flat_map f qs) (drop_here ps k d within)
 
-pub start_of : (o : OutlineValue) (ps : List Part) (k : ℕ) (d : Part) → IsSoundOutline o → ps ≡ o.parts → k < length ps →
+start_of : (o : OutlineValue) (ps : List Part) (k : ℕ) (d : Part) → IsSoundOutline o → ps ≡ o.parts → k < length ps →
     length (flat_map (blank_bytes o) (take k ps)) ≡ (get_or ps k d).start
 start_of o ps k d sound same within =
     let P : List Part → Type 0 = λ qs. k < length qs → length (flat_map (blank_bytes o) (take k qs)) ≡ (get_or qs k d).start in

@@ -1,4 +1,4 @@
-use Rattle.std.proofs.Common.{[], ◌∷◌, List, ℕ, rules, true}
+use Rattle.std.proofs.Common.{[], ◌∷◌, ◌∙◌, sym, true}
 use Rattle.std.specs.Prelude.{replicate}
 use Rattle.std.specs.List.{flat_map}
 use Rattle.std.proofs.lemmas.List.{length-replicate}
@@ -80,7 +80,7 @@ returns-in_err-write_zeros-in-Gap-clause-copies g c =
     let p = c.args.part in
     let own = replicate p.len 0 in
     copies_own _ _ _ p.len _ own _ _ (length-replicate p.len 0)
-    (λ b. zeroed_part (image_in o b) o.zeroed b p (search rules) c.in-Gap.is) c.in_err-write_zeros-in-Gap.ensures c.from_residual-in_err-write_zeros-in-Gap.ensures.1
+    (λ b. zeroed_part (image_in o b) o.zeroed b p (sym c.is_zeroed.ensures ∙ c.if-is_zeroed.true) c.in-Gap.is) c.in_err-write_zeros-in-Gap.ensures c.from_residual-in_err-write_zeros-in-Gap.ensures.1
 
 pub copy_range-requires-in-Gap-2-clause-fits : goal.copy_range-requires-in-Gap-2-clause-fits
 copy_range-requires-in-Gap-2-clause-fits g c = part_fits c.args.outline.now c.requires.part.0 c.args.part c.requires.sound c.requires.part.1
@@ -88,7 +88,7 @@ copy_range-requires-in-Gap-2-clause-fits g c = part_fits c.args.outline.now c.re
 pub copy_range-requires-in-Gap-2-clause-within : goal.copy_range-requires-in-Gap-2-clause-within
 copy_range-requires-in-Gap-2-clause-within g c b told =
     let o = c.args.outline.now in
-    told_within o b c.requires.part.0 c.args.part (c.requires.of b told) c.requires.part.1 (gap_part o b c.args.part (search rules) c.in-Gap-2.is)
+    told_within o b c.requires.part.0 c.args.part (c.requires.of b told) c.requires.part.1 (gap_part o b c.args.part (sym c.is_zeroed.ensures ∙ c.if-is_zeroed.false) c.in-Gap-2.is)
 
 pub returns-in-Content-clause-copies : goal.returns-in-Content-clause-copies
 returns-in-Content-clause-copies g c =

@@ -1,4 +1,4 @@
-use Rattle.std.proofs.Common.{◌+◌, ◌≤◌, arith, length, rules, subst, sym, ℕ}
+use Rattle.std.proofs.Common.{◌+◌, ◌≤◌, length, subst, sym, ℕ}
 use Rattle.elf_image_copy.proofs.Out.{flag_failed}
 use Rattle.elf_image_copy.proofs.range.copy_block.Goals as goal
 
