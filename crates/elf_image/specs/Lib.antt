@@ -1,4 +1,5 @@
 -- The words of the contracts that this door shows, for the contracts of those who stand on it.
+pub use Rattle.elf_image_copy.specs.Copying
 pub use Rattle.elf_image_rules.specs.Broken
 pub use Rattle.elf_image_rules.specs.HeaderRules
 pub use Rattle.elf_image_rules.specs.ImageRules
@@ -12,11 +13,14 @@ pub use Rattle.elf_image_rules.specs.SectionTableRules
 pub use Rattle.elf_image_rules.specs.SegmentRules
 pub use Rattle.elf_image_rules.specs.StringTable
 pub use Rattle.elf_image_rules.specs.Tables
+pub use Rattle.elf_image_outline.specs.Edits
 pub use Rattle.elf_image_outline.specs.Image
 pub use Rattle.elf_image_outline.specs.Outline
 pub use Rattle.elf_image_stream.specs.Output
 pub use Rattle.elf_image_type.specs.Parsing
 pub use Rattle.elf_image_outline.specs.Parts
+pub use Rattle.elf_image_outline.specs.Scanning
+pub use Rattle.elf_image_source.specs.Source
 pub use Rattle.elf_image_stream.specs.Reading
 pub use Rattle.elf_image_type.specs.Strings
 pub use Rattle.elf_image_type.specs.View

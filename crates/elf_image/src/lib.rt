@@ -14,6 +14,7 @@
 //! ```
 #![tactic(auto)]
 
+pub use elf_image_copy::{CopyFault, copy_image};
 pub use elf_image_outline::{NoSection, Outline, Owner, Part, ReplaceFault, scan};
 pub use elf_image_rules::{rules, verdict};
 pub use elf_image_source::{Bytes, Failed, Seeking, Source};

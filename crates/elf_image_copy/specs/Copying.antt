@@ -1,0 +1,50 @@
+-- What a copy from a source onto a writer answers, and what is out then.
+use Rattle.std.specs.Prelude.{◌≡◌, ◌<◌, ◌≤◌, ◌+◌, ℕ, Bool, true, false, List, length, take, Option, Some, Result, Ok, Err}
+use Rattle.std.specs.Io.KnownBytes.{Appends}
+use Rattle.elf_image_copy.specs.declared.fault.CopyFault.{CopyFault}
+use Rattle.elf_image_copy.specs.declared.fault.CopyFault.TheVariants.{Read, Write}
+
+-- how many bytes are out
+abbrev pub bytes_out : CopyFault → ℕ
+bytes_out (Read at written) = written
+bytes_out (Write written) = written
+
+-- the same fault behind so many other bytes
+abbrev pub later : ℕ → CopyFault → CopyFault
+later before (Read at written) = Read at (before + written)
+later before (Write written) = Write (before + written)
+
+-- so many bytes went out; and where the source tells its bytes b, just these of b
+pub record CopiedOut (content old new : Option (List ℕ)) (count : ℕ) (bytes : List ℕ → List ℕ) : Type 0 where
+  pub out : List ℕ
+  pub many : length out ≡ count
+  pub appends : Appends old new out
+  pub are : (b : List ℕ) → content ≡ Some b → out ≡ bytes b
+
+-- all of the bytes went out, or exactly the first `written` of them, fewer than all
+abbrev pub Copies : Option (List ℕ) → Option (List ℕ) → Option (List ℕ) → ℕ → (List ℕ → List ℕ) → Result (Unit {0}) CopyFault → Type 0
+Copies content old new len bytes (Ok u) = CopiedOut content old new len bytes
+Copies content old new len bytes (Err fault) = (bytes_out fault < len) × CopiedOut content old new (bytes_out fault) (λ b. take (bytes_out fault) (bytes b))
+
+-- the source's flag is left, but for a read that failed; and then, where the source tells its bytes, it stands
+abbrev pub FlagsCopy : Option (List ℕ) → Bool → Bool → Result (Unit {0}) CopyFault → Type 0
+FlagsCopy content old new (Ok u) = new ≡ old
+FlagsCopy content old new (Err (Write written)) = new ≡ old
+FlagsCopy content old new (Err (Read at written)) = (b : List ℕ) → content ≡ Some b → new ≡ true
+
+-- a read of len bytes from start on failed at one of them, in the block behind those that are out
+abbrev pub ReadsBehind : ℕ → ℕ → ℕ → Result (Unit {0}) CopyFault → Type 0
+ReadsBehind block start len (Ok u) = Unit
+ReadsBehind block start len (Err (Write written)) = Unit
+ReadsBehind block start len (Err (Read at written)) = (start + written ≤ at) × (at < start + written + block) × (at < start + len)
+
+-- a read failed
+abbrev pub IsReadFailure : Result (Unit {0}) CopyFault → Type 0
+IsReadFailure (Ok u) = ⊥
+IsReadFailure (Err (Write written)) = ⊥
+IsReadFailure (Err (Read at written)) = Unit
+
+-- of a source that tells its bytes, and no call of which failed before: a failed read is answered exactly if its flag stands
+abbrev pub AnswersFlag : Option (List ℕ) → Bool → Bool → Result (Unit {0}) CopyFault → Type 0
+AnswersFlag content old new result =
+    (b : List ℕ) → content ≡ Some b → old ≡ false → (IsReadFailure result → new ≡ true) × (new ≡ true → IsReadFailure result)

@@ -1,0 +1,58 @@
+//! What can stop a copy.
+ghost use Rattle.std.specs.Prelude.{◌≡◌, ◌<◌, ◌+◌, ◌^◌};
+ghost use Rattle.elf_image_copy.specs.Copying.{bytes_out, later};
+
+use elf_image_source::ReadFault;
+use elf_image_stream::WriteFault;
+
+/// Why an image was not copied whole. Exactly its first `written` bytes are out.
+#[derive(Clone, Copy, Debug, PartialEq, Eq)]
+pub enum CopyFault {
+    /// A call of the source failed that was asked for this offset in the file, or gave no byte where more were to come.
+    Read { at: u64, written: u64 },
+    /// A call of the writer failed, or took none of the bytes that it was offered.
+    Write { written: u64 },
+}
+
+impl From<ReadFault> for CopyFault {
+    ghost use Rattle.elf_image_copy.specs.declared.fault.CopyFault.TheVariants.{Read};
+
+    ghost from_gives = { λ failed fault. fault ≡ Read failed.at 0 };
+
+    fn from(failed: ReadFault) -> CopyFault {
+        CopyFault::Read {
+            at: failed.at,
+            written: 0,
+        }
+    }
+}
+
+impl From<WriteFault> for CopyFault {
+    ghost use Rattle.elf_image_copy.specs.declared.fault.CopyFault.TheVariants.{Write};
+
+    ghost from_gives = { λ failed fault. fault ≡ Write failed.written };
+
+    fn from(failed: WriteFault) -> CopyFault {
+        CopyFault::Write {
+            written: failed.written,
+        }
+    }
+}
+
+impl CopyFault {
+    /// The fault, where so many other bytes went out before.
+    pub(crate) fn after(self, before: u64) -> CopyFault
+        requires { before + bytes_out self < 2 ^ 64 }
+        ensures { result ≡ later before self }
+    {
+        match self {
+            CopyFault::Read { at, written } => CopyFault::Read {
+                at,
+                written: before + written,
+            },
+            CopyFault::Write { written } => CopyFault::Write {
+                written: before + written,
+            },
+        }
+    }
+}
