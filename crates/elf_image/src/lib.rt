@@ -1,9 +1,10 @@
 //! An ELF-64 file as a value (System V ABI, generic part, chapters 4 and 5): from the bytes of any reader to the bytes on any writer.
 //!
-//! [`read_to_end`] takes the bytes; [`verdict`] answers the first rule ([`rules`]) that they break, at its lowest offset in the file;
-//! [`parse`] makes an [`Image`] of bytes that break none, whose accessors tell the records, names, contents and parts and whose edits
-//! keep it an image; and [`write`] writes it. [`scan`] answers the same of a [`Source`] that is read at any place, and keeps an
-//! [`Outline`]: the records and parts, without the contents. The entry of a file that some reader gives is set so:
+//! [`read_to_end`] takes the bytes, and [`resume`] goes on where memory was refused; [`verdict`] answers the first rule ([`rules`]) that
+//! they break, at its lowest offset in the file; [`parse`] makes an [`Image`] of bytes that break none, whose accessors tell the records,
+//! names, contents and parts and whose edits keep it an image; and [`write`] writes it. [`scan`] answers the same of a [`Source`] that is
+//! read at any place, and keeps an [`Outline`]: the records and parts, without the contents, by which [`copy_image`] writes the file with
+//! the edits of the outline. The entry of a file that some reader gives is set so:
 //!
 //! ```
 //! let mut bytes = Vec::new(alloc);
@@ -18,5 +19,5 @@ pub use elf_image_copy::{CopyFault, copy_image};
 pub use elf_image_outline::{NoSection, Outline, Owner, Part, ReplaceFault, scan};
 pub use elf_image_rules::{rules, verdict};
 pub use elf_image_source::{Bytes, Failed, Seeking, Source};
-pub use elf_image_stream::{Fault, WriteFault, read_to_end};
+pub use elf_image_stream::{Fault, WriteFault, read_to_end, resume};
 pub use elf_image_type::{Image, parse, write};

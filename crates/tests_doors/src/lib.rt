@@ -18,8 +18,9 @@ pub mod extent {
 /// Images.
 pub mod image {
     pub use elf::image::{
-        Bytes, Failed, Fault, Image, NoSection, Outline, Owner, Part, ReplaceFault, Seeking,
-        Source, WriteFault, parse, read_to_end, rules, scan, verdict, write,
+        Bytes, CopyFault, Failed, Fault, Image, NoSection, Outline, Owner, Part, ReplaceFault,
+        Seeking, Source, WriteFault, copy_image, parse, read_to_end, resume, rules, scan, verdict,
+        write,
     };
 }
 
