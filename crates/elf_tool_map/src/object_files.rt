@@ -30,7 +30,9 @@ pub(crate) fn objects_of<'a>(
         let object = match object_in(alloc, &files[file]) {
             Ok(object) => object,
             Err(Fault::Rule { rule, at }) => return Err(FileFault::Refused { file, rule, at }),
-            Err(_) => return Err(FileFault::OutOfMemory),
+            Err(Fault::OutOfMemory) => return Err(FileFault::OutOfMemory),
+            // Nothing is read.
+            Err(Fault::Io { .. }) => unreachable!(),
         };
         let Ok(()) = objects.push(object) else {
             return Err(FileFault::OutOfMemory);
