@@ -47,7 +47,7 @@ impl Write for Against<'_> {
         }
         let count = buf.len().min(self.room).min(self.rest.len());
         let (expected, rest) = self.rest.split_at(count);
-        self.agrees = self.agrees && buf[..count] == *expected;
+        self.agrees = self.agrees && &buf[..count] == expected;
         self.rest = rest;
         self.room -= count;
         self.taken = self.taken.saturating_add(count);
