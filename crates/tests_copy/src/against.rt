@@ -2,13 +2,15 @@
 use std::io;
 use std::io::{ErrorKind, Write};
 
-/// Takes all bytes that it is offered, while they are those that are to come. The call of number `failing`, counted from 1, fails, and so
-/// does every call where there is no room left.
+/// Takes bytes, at most `piece` a call, and tells whether they are those that are to come. The call of number `failing`, counted from 1,
+/// fails, or takes no byte where `takes_none`, and so does every call where there is no room left.
 #[derive(Drop)]
 pub struct Against<'a> {
     rest: &'a [u8],
+    pub piece: usize,
     pub room: usize,
     pub failing: u64,
+    pub takes_none: bool,
     pub calls: u64,
     pub flushes: u64,
     /// The most bytes of a call.
@@ -22,8 +24,10 @@ impl<'a> Against<'a> {
     pub fn new(expected: &'a [u8]) -> Against<'a> {
         Against {
             rest: expected,
+            piece: expected.len(),
             room: expected.len(),
             failing: 0,
+            takes_none: false,
             calls: 0,
             flushes: 0,
             longest: 0,
@@ -43,9 +47,13 @@ impl Write for Against<'_> {
         self.calls = self.calls.saturating_add(1);
         self.longest = self.longest.max(buf.len());
         if self.calls == self.failing || self.room == 0 {
+            if self.takes_none {
+                return Ok(0);
+            }
             return Err(ErrorKind::Other.into());
         }
-        let count = buf.len().min(self.room).min(self.rest.len());
+        let offered = buf.len().min(self.piece);
+        let count = offered.min(self.room).min(self.rest.len());
         let (expected, rest) = self.rest.split_at(count);
         self.agrees = self.agrees && &buf[..count] == expected;
         self.rest = rest;

@@ -24,14 +24,18 @@ fn a_filled_gap_is_zeroed(rt: HostRuntime) -> Result<(), Fail> {
 
 /// The header, the tables and both contents come as they are in the file, and so does the gap.
 #[test]
-fn a_source_of_a_byte_a_call_is_copied(rt: HostRuntime) -> Result<(), Fail> {
+fn a_file_is_copied_byte_by_byte(rt: HostRuntime) -> Result<(), Fail> {
     let file = two_of_each(Order::Big);
     let outline = scan(rt.alloc(), &mut Bytes(&file))?;
     let mut source = Cut::new(&file, 1);
     let mut writer = Against::new(&file);
+    writer.piece = 1;
     assert_eq!(rt; copy_image(&outline, &mut source, &mut writer), Ok(()));
     assert!(rt; writer.is_whole());
-    assert_eq!(rt; (source.calls, writer.flushes), (4 + 4 + 8, 0));
+    assert_eq!(rt;
+        (source.calls, writer.calls, writer.flushes),
+        (4 + 4 + 8, 384, 0)
+    );
     Ok(())
 }
 

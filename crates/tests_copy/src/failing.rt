@@ -57,12 +57,14 @@ fn each_failed_read_is_answered(rt: HostRuntime) -> Result<(), Fail> {
 fn each_failed_write_is_answered(rt: HostRuntime) -> Result<(), Fail> {
     let file = call();
     let outline = scan(rt.alloc(), &mut Bytes(&file))?;
-    for k in 0..OUT.len() {
+    for k in 0..2 * OUT.len() {
+        let written = OUT[k / 2];
         let mut writer = Against::new(&file);
-        writer.failing = k as u64 + 1;
+        writer.failing = k as u64 / 2 + 1;
+        writer.takes_none = k % 2 == 1;
         let copied = copy_image(&outline, &mut Cut::new(&file, 4096), &mut writer);
-        assert_eq!(rt; copied, Err(CopyFault::Write { written: OUT[k] }));
-        assert_eq!(rt; (writer.agrees, writer.taken as u64), (true, OUT[k]));
+        assert_eq!(rt; copied, Err(CopyFault::Write { written }));
+        assert_eq!(rt; (writer.agrees, writer.taken as u64), (true, written));
     }
     Ok(())
 }
