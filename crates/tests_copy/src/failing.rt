@@ -8,8 +8,8 @@ use std::test::Fail;
 use tests_files::call;
 use tests_source::Cut;
 
-/// The offsets that a source of 24 bytes a call is asked for, and how many bytes are out then: six bytes of `.text`, a gap, the relocations,
-/// three symbols, their names, those of the sections in two calls, and a gap.
+/// The offsets that a source of 24 bytes a call is asked for, and how many bytes are out then: six bytes of `.text`, a gap, the
+/// relocations, three symbols, their names, those of the sections in two calls, and a gap.
 const ASKED: [(u64, u64); 10] = [
     (64, 64),
     (70, 70),
