@@ -14,6 +14,7 @@ pub enum CopyFault {
     Write { written: u64 },
 }
 
+// No byte is out of those that were to be read.
 impl From<ReadFault> for CopyFault {
     ghost use Rattle.elf_image_copy.specs.declared.fault.CopyFault.TheVariants.{Read};
 

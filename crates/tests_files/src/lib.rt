@@ -13,8 +13,8 @@ mod image_files;
 use elf_field::Order;
 pub use fakes::{Failure, PIECE, Pieces, Sink, Source};
 pub use image_files::{
-    empty_contents, empty_object, filled_gap, header_alone, long_parts, one_section, one_segment,
-    two_of_each,
+    call, empty_contents, empty_object, filled_gap, header_alone, long_parts, one_section,
+    one_segment, two_of_each,
 };
 
 /// A field: its offset in the file, its width in bytes and its value.

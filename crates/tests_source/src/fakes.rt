@@ -10,6 +10,8 @@ pub struct Cut<'a> {
     pub failing: u64,
     pub gives_none: bool,
     pub calls: u64,
+    /// The most bytes that a call was asked for.
+    pub longest: usize,
     pub failed: bool,
 }
 
@@ -21,6 +23,7 @@ impl<'a> Cut<'a> {
             failing: 0,
             gives_none: false,
             calls: 0,
+            longest: 0,
             failed: false,
         }
     }
@@ -35,6 +38,7 @@ impl Source for Cut<'_> {
 
     fn read_at(&mut self, at: u64, buf: &mut [u8]) -> Result<usize, Failed> {
         self.calls = self.calls.saturating_add(1);
+        self.longest = self.longest.max(buf.len());
         if self.calls == self.failing {
             if self.gives_none {
                 return Ok(0);

@@ -1,7 +1,6 @@
 //! Tests of what is read at any place, and of scans: sources that give a byte a call, and that fail at one call.
 #![tactic(auto)]
 
-#[cfg(test)]
 mod fakes;
 #[cfg(test)]
 mod records;
@@ -9,3 +8,5 @@ mod records;
 mod scans;
 #[cfg(test)]
 mod whole_reads;
+
+pub use fakes::Cut;

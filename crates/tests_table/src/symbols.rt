@@ -8,81 +8,12 @@ use elf_image_type::parse;
 use elf_table_all::{Place, Relocation, Relocs, Strings, Symbol, Symbols, Tables, rules};
 use std::alloc::Global;
 use std::process::Abort;
-use tests_files::{Field, set, set_header};
-
-/// The object of one function that calls another one: `.text`, its relocations, two symbols and their names, as laid out by
-/// the offsets and sizes of its sections.
-const CALL: [Field; 44] = [
-    (40, 8, 232),
-    (58, 2, 64),
-    (60, 2, 6),
-    (62, 2, 5),
-    (72, 8, 1),
-    (80, 8, 0x2_0000_0002),
-    (88, 8, u64::MAX - 3),
-    (120, 4, 1),
-    (124, 1, 0x10),
-    (126, 2, 1),
-    (144, 4, 6),
-    (148, 1, 0x10),
-    (296, 4, 1),
-    (300, 4, 1),
-    (304, 8, 6),
-    (320, 8, 64),
-    (328, 8, 6),
-    (344, 8, 1),
-    (360, 4, 7),
-    (364, 4, 4),
-    (384, 8, 72),
-    (392, 8, 24),
-    (400, 4, 3),
-    (404, 4, 1),
-    (408, 8, 8),
-    (416, 8, 24),
-    (424, 4, 18),
-    (428, 4, 2),
-    (448, 8, 96),
-    (456, 8, 72),
-    (464, 4, 4),
-    (468, 4, 1),
-    (472, 8, 8),
-    (480, 8, 24),
-    (488, 4, 26),
-    (492, 4, 3),
-    (512, 8, 168),
-    (520, 8, 13),
-    (536, 8, 1),
-    (552, 4, 34),
-    (556, 4, 3),
-    (576, 8, 181),
-    (584, 8, 44),
-    (600, 8, 1),
-];
+use tests_files::{Field, call, set, set_header};
 
 /// The section header of its relocations, section 2, and that of its symbol table, section 3.
 pub(crate) const RELOCS_HEADER: u64 = 232 + 2 * SHDR_SIZE;
 
 const SYMBOLS_OF_RELOCS: u64 = RELOCS_HEADER + SHDR_SIZE;
-
-/// Puts bytes into a file.
-fn put(file: &mut [u8], at: usize, bytes: &[u8]) {
-    if at <= file.len() && bytes.len() <= file.len() - at {
-        file[at..at + bytes.len()].copy_from_slice(bytes);
-    }
-}
-
-fn call() -> [u8; 616] {
-    let mut file = [0; 616];
-    set_header(&mut file, Order::Little, &CALL);
-    put(&mut file, 64, &[0xe8, 0, 0, 0, 0, 0xc3]);
-    put(&mut file, 168, b"\0main\0callee\0");
-    put(
-        &mut file,
-        181,
-        b"\0.text\0.rela.text\0.symtab\0.strtab\0.shstrtab\0",
-    );
-    file
-}
 
 /// A file without names, with a symbol table of three symbols at 64, its string table at 136, its index table at 140, one
 /// more section of a word, and the section headers at 156.
