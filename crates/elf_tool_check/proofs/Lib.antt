@@ -1,1 +1,2 @@
--- The lemmas of this crate: none of its own.
+-- The lemmas of this crate.
+mod Scanned

@@ -1,3 +1,4 @@
 -- The words of this crate's contracts.
 pub mod Check
+pub mod CheckSource
 pub mod CheckProgram
