@@ -1,5 +1,5 @@
 -- What `check_source` says of a source.
-use Rattle.std.specs.Prelude.{◌≡◌, ℕ, Bool, true, false, List, length, Option, None, Some, Result, Ok, Err}
+use Rattle.std.specs.Prelude.{◌≡◌, ℕ, Bool, true, false, List, length, Option, Some, Result, Ok, Err}
 use Rattle.std.specs.Io.KnownBytes.{Keeps}
 use Rattle.elf_field.specs.Bytes.{IsBytes}
 use Rattle.elf_image_outline.specs.Image.{IsImage}
@@ -61,6 +61,6 @@ IsScanStopped content failed (Write written) = ⊥
 IsScanStopped content failed OutOfMemory = Unit {0}
 
 -- the line of an outline, or of the rule
-abbrev pub line_of : Result OutlineValue (Broken ℕ) → List ℕ
-line_of (Ok outline) = ok_line outline.len (length outline.sections) (length outline.segments)
-line_of (Err broken) = refused_line broken.rule broken.at
+abbrev pub line_of_scan : Result OutlineValue (Broken ℕ) → List ℕ
+line_of_scan (Ok outline) = ok_line outline.len (length outline.sections) (length outline.segments)
+line_of_scan (Err broken) = refused_line broken.rule broken.at

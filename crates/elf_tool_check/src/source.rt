@@ -3,7 +3,7 @@ ghost use Rattle.std.specs.Prelude.{◌≡◌, ℕ, List, Ok, Some, IfErr, IfOk,
 ghost use Rattle.elf_field.specs.Bytes.{IsBytes};
 ghost use Rattle.elf_image_rules.specs.Broken.{fault_of};
 ghost use Rattle.elf_tool_check.specs.Check.{verdict_of};
-ghost use Rattle.elf_tool_check.specs.CheckSource.{IsScanStopped, IsScanned, IsSourceSaid, LeavesFlag, line_of};
+ghost use Rattle.elf_tool_check.specs.CheckSource.{IsScanStopped, IsScanned, IsSourceSaid, LeavesFlag, line_of_scan};
 
 use elf_image_outline::{Outline, scan};
 use elf_image_rules::Broken;
@@ -53,11 +53,8 @@ fn judged_by_scan<S: Source>(
     }
 }
 
-fn line_on_scan(
-    alloc: Global,
-    judged: &Result<Outline, Broken<u64>>,
-) -> Result<String, AllocError>
-    ensures { IfOk result (λ line. string_bytes line ≡ line_of judged.now) }
+fn line_on_scan(alloc: Global, judged: &Result<Outline, Broken<u64>>) -> Result<String, AllocError>
+    ensures { IfOk result (λ line. string_bytes line ≡ line_of_scan judged.now) }
 {
     match judged {
         Ok(outline) => line_on_outline(alloc, outline),
@@ -66,7 +63,7 @@ fn line_on_scan(
 }
 
 fn line_on_outline(alloc: Global, outline: &Outline) -> Result<String, AllocError>
-    ensures { IfOk result (λ line. string_bytes line ≡ line_of (Ok outline.now)) }
+    ensures { IfOk result (λ line. string_bytes line ≡ line_of_scan (Ok outline.now)) }
 {
     let sections = outline.section_count() as u64;
     let segments = outline.segment_count() as u64;

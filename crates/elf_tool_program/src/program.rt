@@ -10,7 +10,7 @@ use crate::opening::open_all;
 use crate::rules::{NoRules, rules_of};
 use elf_link_field::RelocRule;
 use elf_tool_base::{OpenFault, Opener, Status, fail, misused, no_request, status_of, unopened};
-use elf_tool_check::check_file;
+use elf_tool_check::{check_file, check_file_by_seeking};
 use elf_tool_map::{Options, map};
 use elf_tool_rewrite::rewrite;
 use elf_tool_rule_file::RulesFault;
@@ -51,6 +51,7 @@ fn ending<S: AsStr, O: Opener, W: Write, E: Write>(
 {
     match read_words(alloc, words) {
         Ok(Request::Check { file }) => check_file(alloc, file, files, out, err),
+        Ok(Request::CheckSource { file }) => check_file_by_seeking(alloc, file, files, out, err),
         Ok(Request::Show { file }) => show_file(alloc, file, files, out, err),
         Ok(Request::Rewrite { file }) => rewrite_file(alloc, file, files, out, err),
         Ok(

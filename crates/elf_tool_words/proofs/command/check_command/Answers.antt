@@ -12,7 +12,7 @@ pub returns-clause-shape : goal.returns-clause-shape
 unfolding check
 returns-clause-shape c = IfOk-weaker c.arg.result _ _
     (λ r added. ap (λ (a : App). a.top) (added.shape c.seek.ensures.local ∙ ap (with_rule (app_of c.in_ok-command.command)) c.seek.ensures.rule)
-        ∙ ap with_seek c.in_ok-command.ensures.shape)
+    ∙ ap with_seek c.in_ok-command.ensures.shape)
     c.arg.ensures
 
 pub returns-clause-local : goal.returns-clause-local
