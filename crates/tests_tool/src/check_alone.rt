@@ -24,7 +24,11 @@ fn accepts_a_file(rt: HostRuntime) {
 
 #[test]
 fn seeks_in_a_file(rt: HostRuntime) {
-    let ran = run_on(rt.alloc(), &["elfmap", "check", "--seek", "a.o"], &HEADER[..63]);
+    let ran = run_on(
+        rt.alloc(),
+        &["elfmap", "check", "--seek", "a.o"],
+        &HEADER[..63],
+    );
     assert_ran(&rt, &ran, 1, "refused 2 63\n", "");
 }
 

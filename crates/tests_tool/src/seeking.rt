@@ -159,18 +159,39 @@ fn a_shared_byte_is_refused(rt: HostRuntime) {
 }
 
 /// The line of ten bytes goes out in two calls, and is not flushed; the call of this number, from 0, is the last.
-fn assert_written(rt: &impl Abort, alloc: Global, fails_at: usize, answer: Result<Verdict, ToolFault>, text: &[u8]) {
+fn assert_written(
+    rt: &impl Abort,
+    alloc: Global,
+    fails_at: usize,
+    answer: Result<Verdict, ToolFault>,
+    text: &[u8],
+) {
     let mut source = Tape::new(HEADER, 0);
     let mut writer = Sink::new(fails_at, None);
     assert_eq!(rt; check_source(alloc, &mut source, &mut writer), answer);
-    assert_eq!(rt; (writer.text(), writer.empty_calls, writer.flushes), (text, 0, 0));
+    assert_eq!(rt;
+        (writer.text(), writer.empty_calls, writer.flushes),
+        (text, 0, 0)
+    );
 }
 
 #[test]
 fn a_write_that_fails_is_told_with_what_is_out(rt: HostRuntime) {
     let line = b"ok 64 0 0\n";
-    assert_written(&rt, rt.alloc(), 0, Err(ToolFault::Write { written: 0 }), b"");
-    assert_written(&rt, rt.alloc(), 1, Err(ToolFault::Write { written: 8 }), &line[..8]);
+    assert_written(
+        &rt,
+        rt.alloc(),
+        0,
+        Err(ToolFault::Write { written: 0 }),
+        b"",
+    );
+    assert_written(
+        &rt,
+        rt.alloc(),
+        1,
+        Err(ToolFault::Write { written: 8 }),
+        &line[..8],
+    );
     assert_written(&rt, rt.alloc(), 100, Ok(Verdict::Done), line);
 }
 
