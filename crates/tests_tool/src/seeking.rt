@@ -65,6 +65,7 @@ impl Source for Tape<'_> {
 }
 
 /// Has one file, under every name, and no reader of it.
+#[derive(Drop)]
 struct Reel<'a> {
     bytes: &'a [u8],
     len: u64,
