@@ -11,7 +11,8 @@
 pub use elf_link_field::{Form, Range, RelocRule, Width};
 pub use elf_link_files::Options;
 pub use elf_tool_base::{OpenFault, Opener, Status};
-pub use elf_tool_check::{check, check_source};
+pub use elf_tool_check::check;
+pub use elf_tool_check_source::check_source;
 pub use elf_tool_map::map;
 pub use elf_tool_program::run;
 pub use elf_tool_rewrite::rewrite;

@@ -1,2 +1,1 @@
--- The lemmas of this crate.
-mod Scanned
+-- The lemmas of this crate: none of its own.

@@ -1,4 +1,3 @@
 -- The words of this crate's contracts.
 pub mod Check
-pub mod CheckSource
 pub mod CheckProgram

@@ -1,6 +1,5 @@
-//! The command `check` by itself, from the words of a command line to an exit status: its engines, [`check`] over a reader and
-//! [`check_source`] over a source, and [`run_check`], the program that has this command alone. `elf_tool_program`, the program with all
-//! commands, takes `check_file` and `check_file_by_seeking` from here.
+//! The command `check` by itself, from the words of a command line to an exit status: its engine, [`check`], and [`run_check`], the
+//! program that has this command alone. `elf_tool_program`, the program with all commands, takes `check_file` from here.
 //!
 //! ```
 //! // A header alone is a file of 64 bytes without sections and segments.
@@ -13,10 +12,8 @@
 mod engine;
 mod machine;
 mod program;
-mod source;
 
 pub use elf_tool_text::{Refusal, ToolFault, Verdict};
 pub use engine::check;
 pub use machine::{check_on_machine, words_of};
-pub use program::{check_file, check_file_by_seeking, run_check};
-pub use source::check_source;
+pub use program::{check_file, run_check};

@@ -3,11 +3,9 @@ ghost use Rattle.std.specs.Prelude.{◌≡◌, map as map_list};
 ghost use Rattle.elf_tool_check.specs.Check.{IsChecked};
 ghost use Rattle.elf_tool_base.specs.Ending.{EndsFile, code_of};
 ghost use Rattle.elf_tool_check.specs.CheckProgram.{EndsCheck};
-ghost use Rattle.elf_tool_check.specs.CheckSource.{IsSourceChecked};
 ghost use Rattle.elf_tool_base.specs.declared.ending.Status.{Status as Ending};
 
 use crate::engine::check;
-use crate::source::check_source;
 use elf_tool_base::{Opener, Status, misused, no_request, status_of, unopened};
 use elf_tool_words::{Request, read_words};
 use std::alloc::Global;
@@ -44,7 +42,6 @@ fn ending<S: AsStr, O: Opener, W: Write, E: Write>(
 {
     match read_words(alloc, words) {
         Ok(Request::Check { file }) => check_file(alloc, file, files, out, err),
-        Ok(Request::CheckSource { file }) => check_file_by_seeking(alloc, file, files, out, err),
         Ok(_) => misused("this program has the command check alone", err),
         Err(fault) => no_request(&fault, err),
     }
@@ -63,23 +60,6 @@ pub fn check_file<O: Opener, W: Write, E: Write>(
 {
     match files.reader(file) {
         Ok(mut input) => status_of(check(alloc, &mut input, out), err),
-        Err(fault) => unopened(fault, file, err),
-    }
-}
-
-/// Opens the file of this name as a source and calls [`check_source`] on it. Answers how the program ends.
-pub fn check_file_by_seeking<O: Opener, W: Write, E: Write>(
-    alloc: Global,
-    file: &str,
-    files: &mut O,
-    out: &mut W,
-    err: &mut E,
-) -> Status
-    ensures { EndsFile IsSourceChecked (O.holds files.old file.now) (O.opens files.old file.now)
-        (W.contents out.old) (W.contents out.new) result }
-{
-    match files.source(file) {
-        Ok(mut source) => status_of(check_source(alloc, &mut source, out), err),
         Err(fault) => unopened(fault, file, err),
     }
 }

@@ -1,9 +1,9 @@
-//! `check` of a source: the same verdict, of what the check needs to read alone.
+//! `check` over a source: the same verdict, of what the check needs to read alone.
 ghost use Rattle.std.specs.Prelude.{◌≡◌, ℕ, List, Ok, Some, IfErr, IfOk, string_bytes};
 ghost use Rattle.elf_field.specs.Bytes.{IsBytes};
 ghost use Rattle.elf_image_rules.specs.Broken.{fault_of};
 ghost use Rattle.elf_tool_check.specs.Check.{verdict_of};
-ghost use Rattle.elf_tool_check.specs.CheckSource.{IsScanStopped, IsScanned, IsSourceSaid, LeavesFlag, line_of_scan};
+ghost use Rattle.elf_tool_check_source.specs.CheckSource.{IsScanStopped, IsScanned, IsSourceSaid, LeavesFlag, line_of_scan};
 
 use elf_image_outline::{Outline, scan};
 use elf_image_rules::Broken;
@@ -15,7 +15,7 @@ use std::alloc::{AllocError, Global};
 use std::io::Write;
 
 /// Reads the header, the two tables and the ends of the section name string table of a source, and no other byte, and writes the line that
-/// [`check`](crate::check) writes on the whole file.
+/// [`check`](elf_tool_check::check) writes on the whole file.
 ///
 /// The verdict is what the line says. Nothing is out after [`ToolFault::Read`], which has the offset that the call was asked for which
 /// failed, or which gave no byte where the length says that there is one, and after [`ToolFault::OutOfMemory`]; after [`ToolFault::Write`]
