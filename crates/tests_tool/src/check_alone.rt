@@ -23,16 +23,6 @@ fn accepts_a_file(rt: HostRuntime) {
 }
 
 #[test]
-fn seeks_in_a_file(rt: HostRuntime) {
-    let ran = run_on(
-        rt.alloc(),
-        &["elfmap", "check", "--seek", "a.o"],
-        &HEADER[..63],
-    );
-    assert_ran(&rt, &ran, 1, "refused 2 63\n", "");
-}
-
-#[test]
 fn refuses_a_file(rt: HostRuntime) {
     let ran = run_on(rt.alloc(), &["elfmap", "check", "a.o"], &HEADER[..63]);
     assert_ran(&rt, &ran, 1, "refused 2 63\n", "");
@@ -46,7 +36,8 @@ fn tells_a_file_that_cannot_be_opened(rt: HostRuntime) {
 
 #[test]
 fn other_commands_are_wrong_usage(rt: HostRuntime) {
-    let rows: [&[&str]; 3] = [
+    let rows: [&[&str]; 4] = [
+        &["elfmap", "check", "--seek", "a.o"],
         &["elfmap", "show", "a.o"],
         &["elfmap", "rewrite", "a.o"],
         &["elfmap", "map", "--base", "0", "--page", "1", "a.o"],
