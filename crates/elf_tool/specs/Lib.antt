@@ -2,6 +2,7 @@
 pub use Rattle.elf_tool_base.specs.Ending
 pub use Rattle.elf_tool_base.specs.Opener
 pub use Rattle.elf_tool_check.specs.Check
+pub use Rattle.elf_tool_check_source.specs.CheckSource
 pub use Rattle.elf_tool_map.specs.Map
 pub use Rattle.elf_tool_map.specs.MapLines
 pub use Rattle.elf_tool_map.specs.ObjectFiles

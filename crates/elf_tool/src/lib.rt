@@ -1,4 +1,4 @@
-//! The program `elfmap` without its surroundings: its engines over any reader and any writer, the words of its command line, files of
+//! The program `elfmap` without its surroundings: its engines over any reader or source and any writer, the words of its command line, files of
 //! relocation rules, and [`run`], the whole program over its words and an [`Opener`] of files.
 //!
 //! ```
@@ -12,6 +12,7 @@ pub use elf_link_field::{Form, Range, RelocRule, Width};
 pub use elf_link_files::Options;
 pub use elf_tool_base::{OpenFault, Opener, Status};
 pub use elf_tool_check::check;
+pub use elf_tool_check_source::check_source;
 pub use elf_tool_map::map;
 pub use elf_tool_program::run;
 pub use elf_tool_rewrite::rewrite;

@@ -2,11 +2,12 @@
 ghost use Rattle.std.specs.Prelude.{◌≡◌, ℕ, Bool, false, List, None, Option, Some, IfErr, IfOk, IfSome};
 ghost use Rattle.elf_tool_base.specs.Opener.{IsOpenFault};
 
-use std::fs::Files;
+use elf_image_source::{Seeking, Source};
+use std::fs::{Files, OpenFile};
 use std::io::Read;
 use std::{fs, io};
 
-/// Why a file gives no reader.
+/// Why a file gives no reader and no source.
 #[derive(Clone, Copy, Debug, PartialEq, Eq)]
 pub enum OpenFault {
     /// There is no such file, or it may not be read.
@@ -19,6 +20,9 @@ pub enum OpenFault {
 pub trait Opener {
     /// What an open file is read by.
     type Input: Read + Drop;
+
+    /// What an open file is sought and read by.
+    type Seek: Source + Drop;
 
     // The bytes of the file of this name, where they are known.
     ghost holds: { Self → List ℕ → Option (List ℕ) } = { λ _ _. None };
@@ -35,6 +39,16 @@ pub trait Opener {
         ensures fault { IfErr result (IsOpenFault (opens self.old name.now)) }
         ensures kept { holds self.new ≡ holds self.old }
         ensures still { opens self.new ≡ opens self.old };
+
+    /// A source of the file's bytes, no call of which has failed. It fails as [`reader`](Opener::reader) does, and what is known of the
+    /// files stays.
+    fn source(&mut self, name: &str) -> Result<Self::Seek, OpenFault>
+        ensures bytes { IfSome (holds self.old name.now) (λ bytes.
+            IfOk result (λ source. Self.Seek.content source ≡ Some bytes)) }
+        ensures unfailed { IfOk result (λ source. Self.Seek.failed source ≡ false) }
+        ensures fault { IfErr result (IsOpenFault (opens self.old name.now)) }
+        ensures kept { holds self.new ≡ holds self.old }
+        ensures still { opens self.new ≡ opens self.old };
 }
 
 /// The machine's files.
@@ -44,14 +58,30 @@ pub struct MachineFiles<'r, R> {
     pub files: &'r R,
 }
 
+// Opens a file to read it.
+fn open<R: Files>(files: &R, name: &str) -> Result<R::File, OpenFault> {
+    match fs::open(files, name) {
+        Ok(file) => Ok(file),
+        Err(error) if error.kind() == io::ErrorKind::OutOfMemory => Err(OpenFault::OutOfMemory),
+        Err(_) => Err(OpenFault::Refused),
+    }
+}
+
 impl<'r, R: Files> Opener for MachineFiles<'r, R> {
     type Input = R::File;
 
+    type Seek = Seeking<R::File>;
+
     fn reader(&mut self, name: &str) -> Result<R::File, OpenFault> {
-        match fs::open(self.files, name) {
-            Ok(file) => Ok(file),
-            Err(error) if error.kind() == io::ErrorKind::OutOfMemory => Err(OpenFault::OutOfMemory),
-            Err(_) => Err(OpenFault::Refused),
+        open(self.files, name)
+    }
+
+    // A folder has no bytes, and yet a length on some file systems: it is no source.
+    fn source(&mut self, name: &str) -> Result<Seeking<R::File>, OpenFault> {
+        let file = open(self.files, name)?;
+        match file.metadata() {
+            Ok(metadata) if metadata.is_dir() => Err(OpenFault::Refused),
+            _ => Ok(Seeking::new(file)),
         }
     }
 }

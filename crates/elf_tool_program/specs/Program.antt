@@ -3,6 +3,7 @@ use Rattle.std.specs.Prelude.{◌≡◌, ◌⊎◌, ℕ, Bool, List, map, Option
 use Rattle.std.specs.Io.KnownBytes.{Keeps}
 use Rattle.clap.specs.Walk.{Text}
 use Rattle.elf_tool_check.specs.Check.{IsChecked}
+use Rattle.elf_tool_check_source.specs.CheckSource.{IsSourceChecked}
 use Rattle.elf_tool_base.specs.Ending.{EndsFile, EndsWords, ending_of}
 use Rattle.elf_tool_map.specs.Map.{IsMapped}
 use Rattle.elf_tool_rewrite.specs.Rewrite.{IsRewritten}
@@ -20,7 +21,7 @@ use Rattle.elf_tool_base.specs.declared.ending.Status.TheVariants.{Usage, Failed
 use Rattle.elf_tool_program.specs.declared.rules.NoRules.{NoRules}
 use Rattle.elf_tool_program.specs.declared.rules.NoRules.TheVariants as no_rules
 use Rattle.elf_tool_words.specs.declared.words.Request.{Request}
-use Rattle.elf_tool_words.specs.declared.words.Request.TheVariants.{Check, Show, Rewrite, Map}
+use Rattle.elf_tool_words.specs.declared.words.Request.TheVariants.{Check, CheckSource, Show, Rewrite, Map}
 use Rattle.elf_tool_words.specs.declared.words.WordsFault.{WordsFault}
 
 -- files were opened, and `map` was called on their readers; or one of them gave no reader, and nothing is out
@@ -48,6 +49,7 @@ EndsMap opt holds opens (Some file) names old new status =
 -- each command, over the files' known bytes by name, and which are known to open
 abbrev pub EndsRequest : (Text → Option (List ℕ)) → (Text → Bool) → Option (List ℕ) → Option (List ℕ) → Request → Status → Type 0
 EndsRequest holds opens old new (Check file) status = EndsFile IsChecked (holds file.now) (opens file.now) old new status
+EndsRequest holds opens old new (CheckSource file) status = EndsFile IsSourceChecked (holds file.now) (opens file.now) old new status
 EndsRequest holds opens old new (Show file) status = EndsFile IsShown (holds file.now) (opens file.now) old new status
 EndsRequest holds opens old new (Rewrite file) status = EndsFile IsRewritten (holds file.now) (opens file.now) old new status
 EndsRequest holds opens old new (Map base page rules files) status =

@@ -2,6 +2,7 @@
 ghost use Rattle.std.specs.Prelude.{◌≡◌, Some, map as map_list, option_copied};
 ghost use Rattle.elf_tool_base.specs.Ending.{EndsFile, code_of, ending_of};
 ghost use Rattle.elf_tool_base.specs.declared.ending.Status.{Status as Ending};
+ghost use Rattle.elf_tool_check_source.specs.CheckSource.{IsSourceChecked};
 ghost use Rattle.elf_tool_rewrite.specs.Rewrite.{IsRewritten};
 ghost use Rattle.elf_tool_show.specs.Show.{IsShown};
 ghost use Rattle.elf_tool_program.specs.Program.{EndsFiles, EndsMap, EndsRun, unruled};
@@ -11,6 +12,7 @@ use crate::rules::{NoRules, rules_of};
 use elf_link_field::RelocRule;
 use elf_tool_base::{OpenFault, Opener, Status, fail, misused, no_request, status_of, unopened};
 use elf_tool_check::check_file;
+use elf_tool_check_source::check_source;
 use elf_tool_map::{Options, map};
 use elf_tool_rewrite::rewrite;
 use elf_tool_rule_file::RulesFault;
@@ -51,6 +53,7 @@ fn ending<S: AsStr, O: Opener, W: Write, E: Write>(
 {
     match read_words(alloc, words) {
         Ok(Request::Check { file }) => check_file(alloc, file, files, out, err),
+        Ok(Request::CheckSource { file }) => check_file_by_seeking(alloc, file, files, out, err),
         Ok(Request::Show { file }) => show_file(alloc, file, files, out, err),
         Ok(Request::Rewrite { file }) => rewrite_file(alloc, file, files, out, err),
         Ok(
@@ -72,6 +75,23 @@ fn ending<S: AsStr, O: Opener, W: Write, E: Write>(
             }
         }
         Err(fault) => no_request(&fault, err),
+    }
+}
+
+/// Opens the file of this name as a source and calls [`check_source`] on it. Answers how the program ends.
+fn check_file_by_seeking<O: Opener, W: Write, E: Write>(
+    alloc: Global,
+    file: &str,
+    files: &mut O,
+    out: &mut W,
+    err: &mut E,
+) -> Status
+    ensures { EndsFile IsSourceChecked (O.holds files.old file.now) (O.opens files.old file.now)
+        (W.contents out.old) (W.contents out.new) result }
+{
+    match files.source(file) {
+        Ok(mut source) => status_of(check_source(alloc, &mut source, out), err),
+        Err(fault) => unopened(fault, file, err),
     }
 }
 

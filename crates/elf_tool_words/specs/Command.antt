@@ -1,6 +1,6 @@
 -- The program's command: what its words may be, in the words of clap.
 use Rattle.std.specs.Prelude.{◌≡◌, ◌⊎◌, true, false, Some, List, [], ◌∷◌, codes}
-use Rattle.clap.specs.declared.builder.action.ArgAction.TheVariants.{Append}
+use Rattle.clap.specs.declared.builder.action.ArgAction.TheVariants.{Append, SetTrue}
 use Rattle.clap.specs.Simple.{App, Shape, new_rule, new_shape}
 use Rattle.clap.specs.Walk.{Rule, Text}
 
@@ -12,8 +12,13 @@ file = record (new_rule (codes "FILE")) { required = true }
 abbrev pub file_command : Text → Shape
 file_command name = record (new_shape name) { rules = file ∷ [] }
 
+-- `--seek`, which may be left out
+abbrev pub seek : Rule
+seek = record (new_rule (codes "seek")) { long = Some (codes "seek"); action = Some SetTrue }
+
+-- `check [--seek] FILE`
 unfoldable pub check : Shape
-check = file_command (codes "check")
+check = record (new_shape (codes "check")) { rules = file ∷ seek ∷ [] }
 
 unfoldable pub show : Shape
 show = file_command (codes "show")

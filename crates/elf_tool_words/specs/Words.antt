@@ -1,5 +1,6 @@
 -- What the words of a command line ask for: clap's definition of their matches, read.
-use Rattle.std.specs.Prelude.{◌≡◌, ◌≢◌, ◌⊎◌, ◌<◌, ◌≤◌, ℕ, List, [], Option, None, Some, codes, length, map, option_copied, unwrap_or}
+use Rattle.std.specs.Prelude.{◌≡◌, ◌≢◌, ◌⊎◌, ◌<◌, ◌≤◌, ℕ, Bool, true, false, List, [], Option, None, Some, codes, length, map, option_copied, unwrap_or}
+use Rattle.std.specs.Str.{bytes_eq}
 use Rattle.clap.specs.Faults.{fault_of}
 use Rattle.clap.specs.Kinds.{IsAmong}
 use Rattle.clap.specs.Simple.{subcommand_of}
@@ -10,7 +11,7 @@ use Rattle.clap.specs.declared.error.kind.ErrorKind.TheVariants as kind
 use Rattle.elf_tool_words.specs.Command.{elfmap}
 use Rattle.elf_tool_words.specs.Number.{number_of}
 use Rattle.elf_tool_words.specs.declared.words.Request.{Request}
-use Rattle.elf_tool_words.specs.declared.words.Request.TheVariants.{Check, Show, Rewrite, Map}
+use Rattle.elf_tool_words.specs.declared.words.Request.TheVariants.{Check, CheckSource, Show, Rewrite, Map}
 use Rattle.elf_tool_words.specs.declared.words.WordsFault.{WordsFault}
 use Rattle.elf_tool_words.specs.declared.words.WordsFault.TheVariants.{Words, TooManyFiles, BadNumber, OutOfMemory}
 
@@ -21,6 +22,10 @@ text_of id rows = unwrap_or (first_of id rows) []
 -- all values of an argument
 abbrev pub texts_of : Text → List Row → List Text
 texts_of id rows = unwrap_or (all_of id rows) []
+
+-- whether a flag is given: its value is `true` then, and else `false`
+abbrev pub is_set : Text → List Row → Bool
+is_set id rows = bytes_eq (text_of id rows) (codes "true")
 
 -- the files that a command names, and the numbers of `--base` and `--page`, where these are some
 abbrev pub files_of : List Row → List Text
@@ -36,9 +41,10 @@ page_of rows = number_of (text_of (codes "P") rows)
 abbrev pub rule_file_of : List Row → Option Text
 rule_file_of = first_of (codes "RULES")
 
--- the command of this name, with these matches, is the request: one equation a command
+-- the command of this name, with these matches, is the request: one equation a request
 abbrev pub Asks : Text → List Row → Request → Type 0
-Asks name rows (Check file) = (name ≡ codes "check") × (file.now ≡ text_of (codes "FILE") rows)
+Asks name rows (Check file) = (name ≡ codes "check") × (file.now ≡ text_of (codes "FILE") rows) × (is_set (codes "seek") rows ≡ false)
+Asks name rows (CheckSource file) = (name ≡ codes "check") × (file.now ≡ text_of (codes "FILE") rows) × (is_set (codes "seek") rows ≡ true)
 Asks name rows (Show file) = (name ≡ codes "show") × (file.now ≡ text_of (codes "FILE") rows)
 Asks name rows (Rewrite file) = (name ≡ codes "rewrite") × (file.now ≡ text_of (codes "FILE") rows)
 Asks name rows (Map base page rules files) =

@@ -5,7 +5,7 @@ ghost use Rattle.clap.specs.Simple.{with_subcommand};
 ghost use Rattle.clap.specs.Words.{app_of, shape_of};
 ghost use Rattle.clap.specs.declared.builder.command.Command.TheViews.{out-Command as fields_of};
 ghost use Rattle.clap.specs.Walk.{rule_of};
-ghost use Rattle.elf_tool_words.specs.Command.{base as base_rule, elfmap as elfmap_app, file_command as file_shape, files as files_rule, map_command as map_shape, page as page_rule, rules_file as rules_rule};
+ghost use Rattle.elf_tool_words.specs.Command.{base as base_rule, check as check_shape, elfmap as elfmap_app, file_command as file_shape, files as files_rule, map_command as map_shape, page as page_rule, rules_file as rules_rule, seek as seek_rule};
 
 use clap::{Arg, ArgAction, Command};
 use std::alloc::{AllocError, Global};
@@ -18,13 +18,7 @@ pub(crate) fn elfmap<'a>(alloc: Global) -> Result<Command<'a>, AllocError>
         .about("Checks, shows, rewrites and links ELF-64 object files")
         .subcommand_required(true)
         .disable_help_subcommand(true);
-    let command = with_file_command(
-        alloc,
-        command,
-        "check",
-        "Tells whether FILE is an ELF-64 file, or the first rule that it breaks and where",
-        "The file to check",
-    )?;
+    let command = with_check_command(alloc, command)?;
     let command = with_file_command(
         alloc,
         command,
@@ -40,6 +34,36 @@ pub(crate) fn elfmap<'a>(alloc: Global) -> Result<Command<'a>, AllocError>
         "The relocatable file to rewrite",
     )?;
     command.subcommand(map_command(alloc)?)
+}
+
+// The command with the subcommand `check`.
+fn with_check_command<'a>(alloc: Global, command: Command<'a>) -> Result<Command<'a>, AllocError>
+    ensures { IfOk result (λ more. app_of more ≡ with_subcommand (app_of command.entry) check_shape) }
+{
+    command.subcommand(check_command(alloc)?)
+}
+
+fn check_command<'a>(alloc: Global) -> Result<Command<'a>, AllocError>
+    ensures shape { IfOk result (λ command. shape_of command ≡ check_shape) }
+    ensures local { IfOk result (λ command. (fields_of command).has_globals ≡ false) }
+{
+    let command = file_command(
+        alloc,
+        "check",
+        "Tells whether FILE is an ELF-64 file, or the first rule that it breaks and where",
+        "The file to check",
+    )?;
+    command.arg(seek(alloc))
+}
+
+fn seek<'a>(alloc: Global) -> Arg<'a>
+    ensures rule { rule_of result ≡ seek_rule }
+    ensures local { result.global ≡ false }
+{
+    Arg::new(alloc, "seek")
+        .long("seek")
+        .help("Seeks in FILE, and reads what the check needs of it alone")
+        .action(ArgAction::SetTrue)
 }
 
 // The command with one more subcommand, whose one argument is a file.

@@ -3,7 +3,7 @@ ghost use Rattle.std.specs.Prelude.{◌≡◌, [], IfErr, IfOk, OnOk, codes, map
 ghost use Rattle.clap.specs.Walk.{first_of};
 ghost use Rattle.clap.specs.Words.{fault_of, found_of, rows_of, subcommand_of, subcommand_rows_of};
 ghost use Rattle.elf_tool_words.specs.Command.{IsNameIn, elfmap as elfmap_app};
-ghost use Rattle.elf_tool_words.specs.Words.{Asks, CommandRefuses, IsAskedBy, IsRefusedBy, text_of, texts_of};
+ghost use Rattle.elf_tool_words.specs.Words.{Asks, CommandRefuses, IsAskedBy, IsRefusedBy, is_set as is_set_in, text_of, texts_of};
 
 use crate::command::elfmap;
 use crate::number::number_of;
@@ -17,6 +17,10 @@ use std::convert::AsStr;
 pub enum Request<'a> {
     /// Tell whether the file of this name is an ELF-64 file.
     Check {
+        file: &'a str,
+    },
+    /// Tell the same of the file of this name, which is sought in, and not read whole.
+    CheckSource {
         file: &'a str,
     },
     /// Show what is in the file of this name.
@@ -118,9 +122,7 @@ fn request_of<'a>(
     ensures err { IfErr result (CommandRefuses name.now (rows_of (found_of matches.now))) }
 {
     match name {
-        "check" => Ok(Request::Check {
-            file: file_in(matches),
-        }),
+        "check" => Ok(check_request(matches)),
         "show" => Ok(Request::Show {
             file: file_in(matches),
         }),
@@ -129,6 +131,18 @@ fn request_of<'a>(
         }),
         "map" => map_request(alloc, matches),
         _ => unreachable!(),
+    }
+}
+
+// The request of `check`.
+fn check_request<'a>(matches: &ArgMatches<'a>) -> Request<'a>
+    ensures { Asks (codes "check") (rows_of (found_of matches.now)) result }
+{
+    let file = file_in(matches);
+    if is_set(matches, "seek") {
+        Request::CheckSource { file }
+    } else {
+        Request::Check { file }
     }
 }
 
@@ -160,6 +174,13 @@ fn file_in<'a>(matches: &ArgMatches<'a>) -> &'a str
     ensures { result.now ≡ text_of (codes "FILE") (rows_of (found_of matches.now)) }
 {
     text_at(matches, "FILE")
+}
+
+// Whether a flag is given.
+fn is_set(matches: &ArgMatches<'_>, id: &str) -> bool
+    ensures { result ≡ is_set_in id.now (rows_of (found_of matches.now)) }
+{
+    text_at(matches, id) == "true"
 }
 
 // The value of an argument, empty where it has none.

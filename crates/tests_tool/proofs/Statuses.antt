@@ -1,5 +1,5 @@
 -- What the program's exit status says of a file whose bytes are known.
-use Rattle.std.proofs.Common.{◌≡◌, ◌∙◌, ℕ, ◌^◌, ◌≤◌, inl, inr, true, List, [], ◌∷◌, ◌++◌, Option, Some, None, Result, Ok, Err, length, ap, sym, subst, arith, length-append}
+use Rattle.std.proofs.Common.{◌≡◌, ◌∙◌, ℕ, ◌^◌, ◌≤◌, inl, inr, true, false, List, [], ◌∷◌, ◌++◌, Option, Some, None, Result, Ok, Err, length, ap, sym, subst, arith, length-append}
 use Rattle.std.proofs.lemmas.List.{append-nil}
 use Rattle.std.specs.Prelude.{codes}
 use Rattle.std.specs.Io.KnownBytes.{Consumes}
@@ -15,9 +15,10 @@ use Rattle.elf_tool_text.specs.declared.fault.Refusal.TheVariants.{File, Link, T
 use Rattle.elf_tool_text.specs.declared.fault.ToolFault.{ToolFault}
 use Rattle.elf_tool_text.specs.declared.fault.Verdict.{Verdict}
 use Rattle.elf_tool_text.specs.declared.fault.Verdict.TheVariants.{Done, Refused}
+use Rattle.elf_tool_words.specs.Words.{is_set}
 use Rattle.elf_tool_words.specs.Command.{check, elfmap, map_command, rewrite, show}
 use Rattle.elf_tool_program.specs.Program.{EndsRun}
-use Rattle.elf_tool_words.specs.declared.words.Request.TheVariants.{Check, Show, Rewrite, Map}
+use Rattle.elf_tool_words.specs.declared.words.Request.TheVariants.{Check, CheckSource, Show, Rewrite, Map}
 use Rattle.elf_tool_words.specs.declared.words.WordsFault.TheVariants as words_fault
 
 -- some rule is broken
@@ -101,6 +102,18 @@ asks_check : (name : Text) (rows : List Row) → subcommand_of elfmap check_word
 unfolding check show rewrite map_command elfmap walked
 asks_check name rows entered = sym (ap name_of entered)
 
+-- the rows beside a name
+abbrev rows_of : Option (Text × List Row) → List Row
+rows_of None = []
+rows_of (Some p) = p.1
+
+asks_no_seek : (name : Text) (rows : List Row) → subcommand_of elfmap check_words ≡ Some (name, rows) → is_set (codes "seek") rows ≡ false
+unfolding check show rewrite map_command elfmap walked
+asks_no_seek name rows entered = sym (ap (λ (o : Option (Text × List Row)). is_set (codes "seek") (rows_of o)) entered)
+
+no_seek : (name : Text) (rows : List Row) → subcommand_of elfmap check_words ≡ Some (name, rows) → is_set (codes "seek") rows ≡ true → ⊥
+no_seek name rows entered given = let both : false ≡ true = sym (asks_no_seek name rows entered) ∙ given in cc
+
 no_rewrite : (name : Text) → name ≡ codes "check" → name ≡ codes "rewrite" → ⊥
 no_rewrite name one other = let both : codes "check" ≡ codes "rewrite" = sym one ∙ other in cc
 
@@ -112,6 +125,7 @@ checked_says : (bytes : List ℕ) (old new : Option (List ℕ)) (status : Status
     → EndsRun check_words (λ name. Some bytes) (λ name. true) old new status → Tells status bytes
 checked_says bytes old new status short (inl (Check file, asked, inl (input, rest, answer, known, call, is))) =
     status_says CheckSays check_says bytes input rest old new answer status short known call.answered is
+checked_says bytes old new status short (inl (CheckSource file, asked, ends)) = absurd (no_seek asked.name asked.rows asked.entered asked.holds.2)
 checked_says bytes old new status short (inl (Show file, asked, inl (input, rest, answer, known, call, is))) =
     status_says ShowSays show_says bytes input rest old new answer status short known call is
 checked_says bytes old new status short (inl (Rewrite file, asked, ends)) = absurd (no_rewrite asked.name (asks_check asked.name asked.rows asked.entered) asked.holds.0)

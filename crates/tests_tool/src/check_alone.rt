@@ -36,7 +36,8 @@ fn tells_a_file_that_cannot_be_opened(rt: HostRuntime) {
 
 #[test]
 fn other_commands_are_wrong_usage(rt: HostRuntime) {
-    let rows: [&[&str]; 3] = [
+    let rows: [&[&str]; 4] = [
+        &["elfmap", "check", "--seek", "a.o"],
         &["elfmap", "show", "a.o"],
         &["elfmap", "rewrite", "a.o"],
         &["elfmap", "map", "--base", "0", "--page", "1", "a.o"],

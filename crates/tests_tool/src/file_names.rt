@@ -1,5 +1,6 @@
 //! The word for the file is the name that is opened, as it stands.
 use crate::program::HEADER;
+use elf_image_source::Bytes;
 use elf_tool_program::{MachineFiles, OpenFault, Opener, run};
 use std::alloc::Global;
 use std::io::Read;
@@ -16,6 +17,8 @@ struct OneName<'a> {
 impl<'a> Opener for OneName<'a> {
     type Input = &'static [u8];
 
+    type Seek = Bytes<'static>;
+
     fn reader(&mut self, name: &str) -> Result<&'static [u8], OpenFault> {
         self.asked = self.asked.saturating_add(1);
         if name == self.name {
@@ -23,6 +26,10 @@ impl<'a> Opener for OneName<'a> {
         } else {
             Err(self.fault)
         }
+    }
+
+    fn source(&mut self, name: &str) -> Result<Bytes<'static>, OpenFault> {
+        Ok(Bytes(self.reader(name)?))
     }
 }
 
@@ -59,6 +66,9 @@ fn opens_the_name_as_it_stands(rt: HostRuntime) {
             asked: 0,
         };
         let words = ["elfmap", "check", "--", name];
+        assert_runs(&rt, rt.alloc(), &words, &mut files, 0, "ok 64 0 0\n", "");
+        files.asked = 0;
+        let words = ["elfmap", "check", "--seek", "--", name];
         assert_runs(&rt, rt.alloc(), &words, &mut files, 0, "ok 64 0 0\n", "");
     }
 }
@@ -125,5 +135,12 @@ fn the_files_of_the_machine(rt: HostRuntime) {
             Ok(_) => assert!(rt; opens, "{name}"),
             Err(fault) => assert_eq!(rt; (fault, opens), (OpenFault::Refused, false), "{name}"),
         }
+        assert_eq!(rt; files.source(name).is_ok(), opens, "{name}");
     }
+}
+
+#[test]
+fn a_folder_of_the_machine_is_no_source(rt: HostRuntime) {
+    let mut files = MachineFiles { files: &rt };
+    assert!(rt; matches!(files.source("/"), Err(OpenFault::Refused)));
 }

@@ -4,6 +4,7 @@ ghost use Rattle.std.specs.Prelude.{◌≡◌, ℕ, ◌≤◌, length, None, Som
 ghost use Rattle.elf_image_rules.specs.HeaderRules.{MAX_LEN};
 ghost use Rattle.elf_image_rules.specs.ImageRules.{IsFault};
 
+use elf_image_source::Bytes;
 use elf_tool_program::{OpenFault, Opener, run};
 use std::alloc::Global;
 use std::io;
@@ -45,12 +46,18 @@ impl<'a> KnownFile<'a> {
 impl<'a> Opener for KnownFile<'a> {
     type Input = KnownBytes<'a>;
 
+    type Seek = Bytes<'a>;
+
     ghost holds = { λ files _. Some files.bytes.now };
 
     ghost opens = { λ _ _. true };
 
     fn reader(&mut self, _name: &str) -> Result<KnownBytes<'a>, OpenFault> {
         Ok(KnownBytes { bytes: self.bytes })
+    }
+
+    fn source(&mut self, _name: &str) -> Result<Bytes<'a>, OpenFault> {
+        Ok(Bytes(self.bytes))
     }
 }
 

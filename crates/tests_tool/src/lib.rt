@@ -19,6 +19,8 @@ mod program;
 #[cfg(test)]
 mod said;
 #[cfg(test)]
+mod seeking;
+#[cfg(test)]
 mod two_of_each;
 
 pub use known_files::{KnownBytes, KnownFile, status_of_check};

@@ -1,5 +1,6 @@
 //! The whole program over fakes: what it answers, writes and says for each way that it can end.
 use elf_field::Order;
+use elf_image_source::Bytes;
 use elf_tool_program::{OpenFault, Opener, ToolFault, check, refuse_words, run, show};
 use std::alloc::Global;
 use std::io;
@@ -28,6 +29,8 @@ pub(crate) struct Folder<'a> {
 impl<'a> Opener for Folder<'a> {
     type Input = Pieces<'a>;
 
+    type Seek = Bytes<'a>;
+
     fn reader(&mut self, name: &str) -> Result<Pieces<'a>, OpenFault> {
         match name {
             "a.o" => Ok(Pieces {
@@ -35,6 +38,13 @@ impl<'a> Opener for Folder<'a> {
                 piece: self.piece,
                 failure: self.failure,
             }),
+            _ => Err(OpenFault::Refused),
+        }
+    }
+
+    fn source(&mut self, name: &str) -> Result<Bytes<'a>, OpenFault> {
+        match name {
+            "a.o" => Ok(Bytes(self.bytes)),
             _ => Err(OpenFault::Refused),
         }
     }
@@ -146,7 +156,15 @@ fn ends_as_the_file_has_it(rt: HostRuntime) {
     let show: &[&str] = &["elfmap", "show", "a.o"];
     let other: &[&str] = &["elfmap", "check", "b.o"];
     let shown = "file little 1 62 0x0 0x0\npart 0x0 0x40 header\n";
-    let rows: [Row<'_>; 8] = [
+    let seek: &[&str] = &["elfmap", "check", "--seek", "a.o"];
+    let seek_behind: &[&str] = &["elfmap", "check", "a.o", "--seek"];
+    let seek_other: &[&str] = &["elfmap", "check", "--seek", "b.o"];
+    let rows: [Row<'_>; 13] = [
+        (seek, HEADER, 0, "ok 64 0 0\n", ""),
+        (seek_behind, HEADER, 0, "ok 64 0 0\n", ""),
+        (seek, &HEADER[..63], 1, "refused 2 63\n", ""),
+        (seek, &wrong, 1, "refused 3 3\n", ""),
+        (seek_other, HEADER, 3, "", "cannot open b.o\n"),
         (check, HEADER, 0, "ok 64 0 0\n", ""),
         (after_dashes, HEADER, 0, "ok 64 0 0\n", ""),
         (check, &HEADER[..63], 1, "refused 2 63\n", ""),
@@ -162,8 +180,11 @@ fn ends_as_the_file_has_it(rt: HostRuntime) {
 // How clap words its errors is clap's own: the end of each text is looked at.
 #[test]
 fn refuses_other_words(rt: HostRuntime) {
-    let rows: [&[&str]; 6] = [
+    let rows: [&[&str]; 9] = [
         &["elfmap", "check"],
+        &["elfmap", "check", "--seek"],
+        &["elfmap", "check", "--seek", "--seek", "a.o"],
+        &["elfmap", "show", "--seek", "a.o"],
         &["elfmap", "check", "a.o", "a.o"],
         &["elfmap", "dump", "a.o"],
         &["elfmap", "help"],

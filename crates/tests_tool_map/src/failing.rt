@@ -54,6 +54,7 @@ fn a_write_that_fails_is_told_with_what_is_out(rt: HostRuntime) -> Result<(), Fa
         assert_eq!(rt; answer, Err(ToolFault::Write { written }), "call {call}");
         assert!(rt; LINES.starts_with(writer.text()), "call {call}");
         assert_eq!(rt; writer.text().len(), call * PIECE, "call {call}");
+        assert_eq!(rt; (writer.empty_calls, writer.flushes), (0, 0), "call {call}");
     }
     Ok(())
 }
@@ -73,5 +74,6 @@ fn a_refused_growth_leaves_nothing_out(rt: HostRuntime) -> Result<(), Fail> {
     };
     assert!(rt; matches!(answer, Ok(Verdict::Done) | Err(ToolFault::OutOfMemory)));
     assert_eq!(rt; writer.text(), whole);
+    assert_eq!(rt; (writer.empty_calls, writer.flushes), (0, 0));
     Ok(())
 }

@@ -1,4 +1,5 @@
 //! Files that don't open.
+use elf_image_source::Bytes;
 use elf_tool_program::{OpenFault, Opener, run};
 use std::io::ErrorKind;
 use tests_files::Source;
@@ -13,12 +14,19 @@ struct Desk {
 impl Opener for Desk {
     type Input = Source<'static>;
 
+    type Seek = Bytes<'static>;
+
     fn reader(&mut self, name: &str) -> Result<Source<'static>, OpenFault> {
         self.asked = self.asked.saturating_add(1);
         if name.starts_with("no") {
             return Err(OpenFault::Refused);
         }
         Ok(Source::new(b"", 0, Some(ErrorKind::Other)))
+    }
+
+    // `map` seeks in no file.
+    fn source(&mut self, _name: &str) -> Result<Bytes<'static>, OpenFault> {
+        Err(OpenFault::Refused)
     }
 }
 

@@ -1,5 +1,6 @@
 //! `map --rules`: the words, and the program on a file of rules.
 use crate::worked::callee;
+use elf_image_source::Bytes;
 use elf_tool_program::{OpenFault, Opener, Request, read_words, run};
 use std::alloc::Global;
 use std::io::ErrorKind;
@@ -24,6 +25,8 @@ struct Folder<'a> {
 impl<'a> Opener for Folder<'a> {
     type Input = Source<'a>;
 
+    type Seek = Bytes<'a>;
+
     fn reader(&mut self, name: &str) -> Result<Source<'a>, OpenFault> {
         self.asked = self.asked.saturating_add(1);
         if name == "r" {
@@ -32,6 +35,11 @@ impl<'a> Opener for Folder<'a> {
         if name.starts_with("a") {
             return Ok(Source::new(self.object, 1000, None));
         }
+        Err(OpenFault::Refused)
+    }
+
+    // `map` seeks in no file.
+    fn source(&mut self, _name: &str) -> Result<Bytes<'a>, OpenFault> {
         Err(OpenFault::Refused)
     }
 }
@@ -172,6 +180,24 @@ fn ends_as_the_file_of_rules_has_it(rt: HostRuntime) -> Result<(), Fail> {
         let said = if status == 0 { LINES } else { b"".as_slice() };
         assert_eq!(rt; end.out.as_slice(), said, "{name}");
     }
+    Ok(())
+}
+
+#[test]
+fn each_file_is_opened_once(rt: HostRuntime) -> Result<(), Fail> {
+    let object = callee(rt.alloc(), 0)?;
+    let words = [
+        "elfmap", "map", "--base", "4096", "--page", "1", "a.o", "a-2.o",
+    ];
+    let mut files = Folder {
+        rules: b"",
+        fails_at: 1000,
+        object: &object,
+        asked: 0,
+    };
+    let end = run_on(rt.alloc(), &words, &mut files);
+    assert_eq!(rt; (end.status, files.asked), (1, 2));
+    assert_eq!(rt; end.out.as_slice(), b"refused 8 1 0 0\n".as_slice());
     Ok(())
 }
 

@@ -1,0 +1,66 @@
+-- What `check_source` says of a source.
+use Rattle.std.specs.Prelude.{◌≡◌, ℕ, Bool, true, false, List, length, Option, Some, Result, Ok, Err}
+use Rattle.std.specs.Io.KnownBytes.{Keeps}
+use Rattle.elf_field.specs.Bytes.{IsBytes}
+use Rattle.elf_image_outline.specs.Image.{IsImage}
+use Rattle.elf_image_outline.specs.Outline.{OutlineValue, image_in}
+use Rattle.elf_image_rules.specs.ImageRules.{IsFault}
+use Rattle.elf_image_rules.specs.declared.broken.Broken.{Broken}
+use Rattle.elf_tool_base.specs.Ending.{Call}
+use Rattle.elf_tool_check.specs.Check.{CheckSays}
+use Rattle.elf_tool_text.specs.Engine.{IsSaid}
+use Rattle.elf_tool_text.specs.Line.{ok_line, refused_line}
+use Rattle.elf_tool_text.specs.declared.fault.Refusal.TheVariants.{File, Link, TooLong}
+use Rattle.elf_tool_text.specs.declared.fault.ToolFault.{ToolFault}
+use Rattle.elf_tool_text.specs.declared.fault.ToolFault.TheVariants.{Read, Write, OutOfMemory}
+use Rattle.elf_tool_text.specs.declared.fault.Verdict.{Verdict}
+use Rattle.elf_tool_text.specs.declared.fault.Verdict.TheVariants.{Done, Refused}
+
+-- the line of a verdict on one file: `ok` with a length and counts, or `refused` with the rule and the offset that the verdict carries
+abbrev pub IsCheckLine : Verdict → List ℕ → Type 0
+IsCheckLine Done text = (len sections segments : ℕ) × (text ≡ ok_line len sections segments)
+IsCheckLine (Refused (File file rule at)) text = (file ≡ 0) × (text ≡ refused_line rule at)
+IsCheckLine (Refused (Link rule file index entry)) text = ⊥
+IsCheckLine (Refused TooLong) text = ⊥
+
+-- of every source the line of the verdict; of one that tells its bytes, what `check` says of these
+abbrev pub SourceSays : Option (List ℕ) → Verdict → List ℕ → Type 0
+SourceSays content verdict text = IsCheckLine verdict text × ((b : List ℕ) → content ≡ Some b → IsBytes b → CheckSays b verdict text)
+
+-- what is said is written, or exactly the first `written` bytes of it, or for want of memory nothing; and nothing where a read failed: of a
+-- source that tells its bytes only after a failed call
+abbrev pub IsSourceSaid : Option (List ℕ) → Bool → Option (List ℕ) → Option (List ℕ) → Result Verdict ToolFault → Type 0
+IsSourceSaid content failed old new (Ok verdict) = IsSaid (SourceSays content) old new (Ok verdict)
+IsSourceSaid content failed old new (Err (Read at)) = Keeps old new × ((b : List ℕ) → content ≡ Some b → IsBytes b → failed ≡ true)
+IsSourceSaid content failed old new (Err (Write written)) = IsSaid (SourceSays content) old new (Err (Write written))
+IsSourceSaid content failed old new (Err OutOfMemory) = Keeps old new
+
+-- the flag of a source: only where a read failed may it be another one
+abbrev pub LeavesFlag : {T : Type 0} → Bool → Bool → Result T ToolFault → Type 0
+LeavesFlag old new (Ok t) = new ≡ old
+LeavesFlag old new (Err (Read at)) = Unit {0}
+LeavesFlag old new (Err (Write written)) = new ≡ old
+LeavesFlag old new (Err OutOfMemory) = new ≡ old
+
+-- a call of `check_source` on a source that was just opened, so that no call of it had failed
+abbrev pub IsSourceChecked : Call
+IsSourceChecked content after old new result =
+    (failed : Bool) × (after ≡ content) × LeavesFlag false failed result × IsSourceSaid content failed old new result
+
+-- ---- what was scanned
+
+-- an outline of the image that stands as these bytes, or the first rule that they break
+abbrev pub IsScanned : List ℕ → Result OutlineValue (Broken ℕ) → Type 0
+IsScanned b (Ok outline) = IsImage (image_in outline b) b
+IsScanned b (Err broken) = IsFault b (Some (broken.rule, broken.at))
+
+-- why there is neither: a call of the source failed, or memory was refused
+abbrev pub IsScanStopped : Option (List ℕ) → Bool → ToolFault → Type 0
+IsScanStopped content failed (Read at) = (b : List ℕ) → content ≡ Some b → IsBytes b → failed ≡ true
+IsScanStopped content failed (Write written) = ⊥
+IsScanStopped content failed OutOfMemory = Unit {0}
+
+-- the line of an outline, or of the rule
+abbrev pub line_of_scan : Result OutlineValue (Broken ℕ) → List ℕ
+line_of_scan (Ok outline) = ok_line outline.len (length outline.sections) (length outline.segments)
+line_of_scan (Err broken) = refused_line broken.rule broken.at
