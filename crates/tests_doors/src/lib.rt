@@ -53,8 +53,8 @@ pub mod link {
 pub mod tool {
     pub use elf::tool::{
         Form, OpenFault, Opener, Options, Range, Refusal, RelocRule, Request, RulesFault, Status,
-        ToolFault, Verdict, Width, WordsFault, check, map, read_rules, read_words, rewrite, run,
-        show,
+        ToolFault, Verdict, Width, WordsFault, check, check_source, map, read_rules, read_words,
+        rewrite, run, show,
     };
 }
 
