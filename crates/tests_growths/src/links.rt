@@ -1,0 +1,75 @@
+//! The link of files, and their relocated bytes.
+ghost use Rattle.std.specs.Prelude.{IfOk};
+ghost use Rattle.elf_link_relocate.specs.MapFacts.{IsMapOfSome};
+
+use crate::said::{Said, of_fault, say};
+use elf_image_stream::Fault;
+use elf_image_type::parse;
+use elf_link_field::RelocRule;
+use elf_link_map::{LinkFault, LinkMap, Options, map};
+use elf_link_relocate::relocate;
+use elf_object_reader::object_of;
+use elf_object_type::Object;
+use elf_tool_rule_file::{RulesFault, read_rules};
+use std::alloc::{AllocError, Global};
+use std::hash::{BuildHasherDefault, DefaultHasher};
+use std::io::Write;
+
+/// The calls on these files, where they are objects, by the relocation rules of a file.
+pub fn calls<W: Write>(alloc: Global, files: &[Vec<u8>], rules: &[u8], out: &mut W) {
+    let rules = match read_rules(alloc, rules) {
+        Ok(rules) => rules,
+        Err(RulesFault::OutOfMemory) => return say(out, "read_rules", Said::Memory),
+        Err(RulesFault::BadLine { .. }) => return say(out, "read_rules", Said::Refused),
+    };
+    say(out, "read_rules", Said::Done(rules.len() as u64));
+    match objects_of(alloc, files) {
+        Ok(objects) => on_objects(alloc, &objects, &rules, out),
+        Err(fault) => say(out, "objects", of_fault(fault)),
+    }
+}
+
+fn objects_of<'a>(alloc: Global, files: &'a [Vec<u8>]) -> Result<Vec<Object<'a>>, Fault> {
+    let mut objects = Vec::new(alloc);
+    for file in files {
+        let image = parse(alloc, file.as_slice())?;
+        objects.push(object_of(alloc, &image)?)?;
+    }
+    Ok(objects)
+}
+
+/// The link map of these objects, each output at a multiple of a page.
+fn mapped<'a>(alloc: Global, objects: &[Object<'a>]) -> Result<LinkMap<'a>, LinkFault>
+    ensures { IfOk result (λ m. IsMapOfSome objects.now m) }
+{
+    let options = Options {
+        base: 0x40_0000,
+        page: 0x1000,
+        entry: None,
+    };
+    map(
+        alloc,
+        objects,
+        &options,
+        BuildHasherDefault::<DefaultHasher>::new(),
+    )
+}
+
+fn on_objects<W: Write>(alloc: Global, objects: &[Object<'_>], rules: &[RelocRule], out: &mut W) {
+    let map = match mapped(alloc, objects) {
+        Ok(map) => map,
+        Err(LinkFault::OutOfMemory) => return say(out, "map", Said::Memory),
+        Err(_) => return say(out, "map", Said::Refused),
+    };
+    say(out, "map", Said::Done(map.outputs().len() as u64));
+    match relocate(alloc, &map, objects, rules) {
+        Ok(linked) => say(out, "relocate", Said::Done(linked.rules().len() as u64)),
+        Err(LinkFault::OutOfMemory) => say(out, "relocate", Said::Memory),
+        Err(_) => say(out, "relocate", Said::Refused),
+    }
+    say(
+        out,
+        "LinkMap::commons",
+        Said::Done(map.commons().len() as u64),
+    );
+}

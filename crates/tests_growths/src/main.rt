@@ -1,0 +1,59 @@
+//! `tests_growths RULES FILE..`: makes each call of the library that takes memory, of records and extents by themselves and of these files,
+//! and prints a line on each: which it was, and a number that tells its answer, or `out of memory`, or `refused`. Behind them it prints what
+//! is asked of the values that came out, which takes no memory. `scripts/failing-calls` runs it with growths refused.
+#![tactic(auto)]
+
+mod extents;
+mod images;
+mod links;
+mod said;
+mod words;
+
+use elf_image_stream::{Fault, read_to_end, resume};
+use said::{Said, of_fault, say};
+use std::alloc::{AllocError, Global};
+use std::io::{Read, Write};
+use std::process::ExitCode;
+use std::{env, fs, io};
+
+fn main(rt: HostRuntime) -> io::Result<ExitCode> {
+    let alloc = rt.alloc();
+    let mut out = rt.stdout();
+    extents::calls(alloc, &mut out);
+    words::calls(alloc, &mut out);
+    let words: Vec<String> = env::args(&rt)?.collect(alloc)?;
+    let [_, rules, names @ ..] = words.as_slice() else {
+        return Ok(ExitCode::from(2));
+    };
+    let rules = read(alloc, &mut fs::open(&rt, rules.as_str())?, &mut out)?;
+    let mut files = Vec::new(alloc);
+    for name in names {
+        let file = read(alloc, &mut fs::open(&rt, name.as_str())?, &mut out)?;
+        images::calls(alloc, &file, &mut out);
+        files.push(file)?;
+    }
+    links::calls(alloc, &files, &rules, &mut out);
+    Ok(ExitCode::from(0))
+}
+
+/// All bytes of a reader. A growth that is refused is asked for once more, and then nothing that was read is lost.
+fn read<R: Read, W: Write>(
+    alloc: Global,
+    reader: &mut R,
+    out: &mut W,
+) -> Result<Vec<u8>, AllocError> {
+    let mut bytes = Vec::new(alloc);
+    let first = read_to_end(reader, &mut bytes);
+    let ended = match first {
+        Err(Fault::OutOfMemory) => {
+            say(out, "read_to_end", Said::Memory);
+            resume(reader, &mut bytes)
+        }
+        ended => ended,
+    };
+    match ended {
+        Ok(()) => say(out, "read_to_end", Said::Done(bytes.len() as u64)),
+        Err(fault) => say(out, "read_to_end", of_fault(fault)),
+    }
+    Ok(bytes)
+}
