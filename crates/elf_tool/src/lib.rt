@@ -1,5 +1,5 @@
-//! The program `elfmap` without its surroundings: its engines over any reader or source and any writer, the words of its command line, files of
-//! relocation rules, and [`run`], the whole program over its words and an [`Opener`] of files.
+//! The program `elfmap` without its surroundings: its engines over any reader or source and any writer, the words of its command line,
+//! files of relocation rules, and [`run`], the whole program over its words and an [`Opener`] of files.
 //!
 //! ```
 //! // The first word is the program's name; `files` opens names, `out` and `err` take what is written.

@@ -79,3 +79,20 @@ pub fn status_of_check(alloc: Global, bytes: &[u8]) -> u8
         &mut err,
     )
 }
+
+/// The same of `elfmap check --seek`, of a file of any length.
+pub fn status_of_check_by_seeking(alloc: Global, bytes: &[u8]) -> u8
+    ensures done { result ≡ 0 → IsFault bytes.now None }
+    ensures refused { result ≡ 1 → (fault : ℕ × ℕ) × IsFault bytes.now (Some fault) }
+{
+    let mut files = KnownFile { bytes };
+    let mut out = Vec::new(alloc);
+    let mut err = Vec::new(alloc);
+    run(
+        alloc,
+        &["elfmap", "check", "--seek", "a.o"],
+        &mut files,
+        &mut out,
+        &mut err,
+    )
+}

@@ -23,4 +23,4 @@ mod seeking;
 #[cfg(test)]
 mod two_of_each;
 
-pub use known_files::{KnownBytes, KnownFile, status_of_check};
+pub use known_files::{KnownBytes, KnownFile, status_of_check, status_of_check_by_seeking};

@@ -10,8 +10,8 @@ use std::alloc::Global;
 use std::process::Abort;
 use tests_files::{Sink, one_section, set};
 
-/// The offsets that a check of the file of one section asks for: its length, the header, section header 0, the section headers, and the ends
-/// of the section name string table.
+/// The offsets that a check of the file of one section asks for: its length, the header, section header 0, the section headers, and the
+/// ends of the section name string table.
 const ASKED: [u64; 6] = [0, 0, 136, 136, 97, 129];
 
 /// Says that it has `len` bytes. Its call of number `failing`, counted from 1, fails.
