@@ -24,7 +24,10 @@ pub fn calls<W: Write>(alloc: Global, files: &[Vec<u8>], rules: &[u8], out: &mut
     };
     say(out, "read_rules", Said::Done(rules.len() as u64));
     match objects_of(alloc, files) {
-        Ok(objects) => on_objects(alloc, &objects, &rules, out),
+        Ok(objects) => {
+            say(out, "objects", Said::Done(objects.len() as u64));
+            on_objects(alloc, &objects, &rules, out);
+        }
         Err(fault) => say(out, "objects", of_fault(fault)),
     }
 }

@@ -11,7 +11,7 @@ mod words;
 
 use elf_image_stream::{Fault, read_to_end, resume};
 use said::{Said, of_fault, say};
-use std::alloc::{AllocError, Global};
+use std::alloc::Global;
 use std::io::{Read, Write};
 use std::process::ExitCode;
 use std::{env, fs, io};
@@ -25,10 +25,14 @@ fn main(rt: HostRuntime) -> io::Result<ExitCode> {
     let [_, rules, names @ ..] = words.as_slice() else {
         return Ok(ExitCode::from(2));
     };
-    let rules = read(alloc, &mut fs::open(&rt, rules.as_str())?, &mut out)?;
+    let Ok(rules) = read(alloc, &mut fs::open(&rt, rules.as_str())?, &mut out) else {
+        return Ok(ExitCode::from(3));
+    };
     let mut files = Vec::new(alloc);
     for name in names {
-        let file = read(alloc, &mut fs::open(&rt, name.as_str())?, &mut out)?;
+        let Ok(file) = read(alloc, &mut fs::open(&rt, name.as_str())?, &mut out) else {
+            return Ok(ExitCode::from(3));
+        };
         images::calls(alloc, &file, &mut out);
         files.push(file)?;
     }
@@ -36,24 +40,20 @@ fn main(rt: HostRuntime) -> io::Result<ExitCode> {
     Ok(ExitCode::from(0))
 }
 
-/// All bytes of a reader. A growth that is refused is asked for once more, and then nothing that was read is lost.
-fn read<R: Read, W: Write>(
-    alloc: Global,
-    reader: &mut R,
-    out: &mut W,
-) -> Result<Vec<u8>, AllocError> {
+/// All bytes of a reader. Where a growth is refused it is asked for once more, and nothing that was read is lost.
+fn read<R: Read, W: Write>(alloc: Global, reader: &mut R, out: &mut W) -> Result<Vec<u8>, Fault> {
     let mut bytes = Vec::new(alloc);
-    let first = read_to_end(reader, &mut bytes);
-    let ended = match first {
+    let ended = match read_to_end(reader, &mut bytes) {
         Err(Fault::OutOfMemory) => {
             say(out, "read_to_end", Said::Memory);
             resume(reader, &mut bytes)
         }
         ended => ended,
     };
-    match ended {
-        Ok(()) => say(out, "read_to_end", Said::Done(bytes.len() as u64)),
-        Err(fault) => say(out, "read_to_end", of_fault(fault)),
+    if let Err(fault) = ended {
+        say(out, "read_to_end", of_fault(fault));
+        return Err(fault);
     }
+    say(out, "read_to_end", Said::Done(bytes.len() as u64));
     Ok(bytes)
 }
