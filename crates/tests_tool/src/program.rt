@@ -195,23 +195,20 @@ fn a_failed_write_is_told_with_what_is_out(rt: HostRuntime) {
     }
 }
 
+/// The status and the text that the program ends with where the machine gives no words.
+fn assert_refused(rt: &impl Abort, kind: ErrorKind, status: u8, told: &str) {
+    let mut err = Shelf::new(ROOM, None);
+    let ended = refuse_words(&io::Error::from(kind), &mut err);
+    assert_eq!(rt; (ended, err.text()), (status, told.as_bytes()));
+}
+
 #[test]
 fn words_that_the_machine_does_not_give(rt: HostRuntime) {
-    let rows = [
-        (
-            ErrorKind::InvalidData,
-            2,
-            "error: the words of the command line are not UTF-8\n",
-        ),
-        (ErrorKind::OutOfMemory, 3, "out of memory\n"),
-        // The text of any other error is std's own.
-        (ErrorKind::Other, 3, "other error\n"),
-    ];
-    for (kind, status, told) in rows {
-        let mut err = Shelf::new(ROOM, None);
-        let ended = refuse_words(&io::Error::from(kind), &mut err);
-        assert_eq!(rt; (ended, err.text()), (status, told.as_bytes()));
-    }
+    let told = "error: the words of the command line are not UTF-8\n";
+    assert_refused(&rt, ErrorKind::InvalidData, 2, told);
+    assert_refused(&rt, ErrorKind::OutOfMemory, 3, "out of memory\n");
+    // The text of any other error is std's own.
+    assert_refused(&rt, ErrorKind::Other, 3, "other error\n");
 }
 
 // The tests are also run with the Nth growth refused (`rt try --test --fail-alloc N`): then this

@@ -1,5 +1,7 @@
 //! Objects, their link maps and relocation rules, by their parts.
-ghost use Rattle.std.specs.Prelude.{IfOk};
+ghost use Rattle.std.specs.Prelude.{IfOk, None, OnOk};
+ghost use Rattle.elf_link_map.specs.LinkFaults.{FirstOfLink};
+ghost use Rattle.elf_link_map.specs.LinkMap.{IsLinkMap};
 ghost use Rattle.elf_link_relocate.specs.MapFacts.{IsMapOfSome};
 
 use elf_field::Order;
@@ -17,6 +19,20 @@ pub(crate) const WEAK: u8 = 0x20;
 
 /// The size of an entry with its addend.
 const RELA_SIZE: u64 = 24;
+
+/// A section.
+pub(crate) fn section<'a>(name: &'a [u8], flags: u64, align: u64, body: Body<'a>) -> Section<'a> {
+    Section {
+        name,
+        flags,
+        addr: 0,
+        align,
+        entsize: 0,
+        link: None,
+        info: Info::Number(0),
+        body,
+    }
+}
 
 /// A section of data in memory, with these bytes.
 pub(crate) fn data<'a>(name: &'a [u8], content: &'a [u8]) -> Section<'a> {
@@ -99,7 +115,25 @@ pub(crate) fn rule(kind: u32, form: Form, width: Width, range: Range) -> RelocRu
     }
 }
 
-/// The link map of these objects, from this address on, each output at a multiple of 0x1000.
+/// The link map of these objects.
+pub(crate) fn mapped_by<'a>(
+    alloc: Global,
+    objects: &[Object<'a>],
+    options: &Options<'_>,
+) -> Result<LinkMap<'a>, LinkFault>
+    ensures sound { OnOk result (FirstOfLink options.now objects.now None) }
+    ensures map { IfOk result (λ m. IsLinkMap options.now objects.now m) }
+    ensures some { IfOk result (λ m. IsMapOfSome objects.now m) }
+{
+    map(
+        alloc,
+        objects,
+        options,
+        BuildHasherDefault::<DefaultHasher>::new(),
+    )
+}
+
+/// That from this address on, each output at a multiple of 0x1000.
 pub(crate) fn mapped<'a>(
     alloc: Global,
     objects: &[Object<'a>],
@@ -113,10 +147,5 @@ pub(crate) fn mapped<'a>(
         page: 0x1000,
         entry,
     };
-    map(
-        alloc,
-        objects,
-        &options,
-        BuildHasherDefault::<DefaultHasher>::new(),
-    )
+    mapped_by(alloc, objects, &options)
 }

@@ -1,7 +1,7 @@
 //! The fields of the large link.
 ghost use Rattle.std.specs.Prelude.{◌≤◌};
 
-use crate::files::{FILES, LINKS, address_of, digits, files};
+use crate::large::files::{FILES, LINKS, address_of, digits, files};
 use crate::parts::{list, mapped, rule};
 use elf_field::Order;
 use elf_link_field::{Form, Range, RelocRule, Width};

@@ -1,7 +1,7 @@
 //! Forty thousand fields of one, two, four and eight bytes, whose addends stand in them.
 ghost use Rattle.std.specs.Prelude.{◌<◌};
 
-use crate::fields::push_number;
+use crate::large::fields::push_number;
 use crate::parts::{GLOBAL, data, list, mapped, object, rule, symbol};
 use elf_field::Order;
 use elf_link_field::{Form, Range, RelocRule, Width};

@@ -1,4 +1,4 @@
-use Rattle.tests_link_relocate.proofs.memory.memory_is_one.Goals as goal
+use Rattle.tests_link.proofs.memory.memory_is_one.Goals as goal
 
 pub returns : goal.returns
 returns c fs m rules l is linked have x area =

@@ -4,7 +4,7 @@ use Rattle.elf_link_map.specs.Standing.{member_at, output_at}
 use Rattle.elf_link_outputs.specs.Outputs.{is_no_bits}
 use Rattle.elf_link_relocate.specs.Fields.{content_of}
 use Rattle.elf_object_type.specs.Object.{BodyValue, bits, no_bits, relocs, group}
-use Rattle.tests_link_relocate.proofs.memory.memory_without_bits.Goals as goal
+use Rattle.tests_link.proofs.memory.memory_without_bits.Goals as goal
 
 -- a body without bits has no content
 no_content : (b : BodyValue) → is_no_bits b ≡ true → length (content_of b) ≡ 0

@@ -1,5 +1,5 @@
 use Rattle.std.proofs.Common.{inr, refl}
-use Rattle.tests_link_relocate.proofs.memory.memory_without_content.Goals as goal
+use Rattle.tests_link.proofs.memory.memory_without_content.Goals as goal
 
 pub returns : goal.returns
 returns c fs m rules is clean x area none =
