@@ -1,5 +1,5 @@
 //! A function in one file that is called in another.
-use crate::parts::{GLOBAL, list, mapped_by, object, relocs, rule, section, symbol};
+use crate::parts::{GLOBAL, holds, list, mapped_by, object, relocs, rule, section, symbol};
 use elf_field::Order;
 use elf_link_field::{Form, Range, Width};
 use elf_link_map::{Binding, LinkFault, LinkMap, Member, Named, Options, rules};
@@ -202,41 +202,41 @@ fn no_entry_is_answered_at_no_site(rt: HostRuntime) -> Result<(), Fail> {
     Ok(())
 }
 
-#[test]
-fn maps_no_files(rt: HostRuntime) -> Result<(), Fail> {
+/// How many outputs, commons and names the link of no files has.
+fn counts_of_none(alloc: Global) -> Result<[usize; 3], LinkFault> {
     let none: [Object<'static>; 0] = [];
-    let link = mapped_by(rt.alloc(), &none, &options(0x1000, None))?;
-    assert_eq!(rt;
-        [
-            link.outputs().len(),
-            link.commons().len(),
-            link.names().len()
-        ],
-        [0; 3]
-    );
-    Ok(())
+    let link = mapped_by(alloc, &none, &options(0x1000, None))?;
+    Ok([
+        link.outputs().len(),
+        link.commons().len(),
+        link.names().len(),
+    ])
 }
 
-/// The bytes of section 0 of the first file, once they are relocated.
-fn bytes_of(alloc: Global, objects: &[Object<'_>]) -> Result<Option<Vec<u8>>, LinkFault> {
+#[test]
+fn maps_no_files(rt: HostRuntime) {
+    assert_eq!(rt; counts_of_none(rt.alloc()), Ok([0; 3]));
+}
+
+/// Whether the call is relocated in section 0 of the first file.
+fn has_the_call(alloc: Global, objects: &[Object<'_>]) -> Result<bool, LinkFault> {
     let map = mapped_by(alloc, objects, &options(1, None))?;
     let rules = [rule(2, Form::Pc, Width::W4, Range::Signed)];
     let linked = relocate(alloc, &map, objects, &rules)?;
-    match linked.bytes(0, 0) {
-        Some(bytes) => Ok(Some(bytes.to_vec(alloc)?)),
-        None => Ok(None),
-    }
+    Ok(holds(&linked, b"\xe8\x01\0\0\0\xc3"))
+}
+
+/// The same of both files.
+fn both_have_the_call(alloc: Global) -> Result<Result<bool, LinkFault>, ObjectFault> {
+    let objects = files(alloc)?;
+    Ok(has_the_call(alloc, &objects))
 }
 
 // The tests are also run with each growth refused in turn (`rt try --test --fail-alloc N`): then this one sees want of memory, and
 // no other answer in its place.
 #[test]
 fn a_refused_growth_of_a_link_is_told(rt: HostRuntime) -> Result<(), Fail> {
-    let objects = files(rt.alloc())?;
-    let is_told = match bytes_of(rt.alloc(), &objects) {
-        Ok(bytes) => bytes.as_deref() == Some(b"\xe8\x01\0\0\0\xc3".as_slice()),
-        Err(fault) => fault == LinkFault::OutOfMemory,
-    };
-    assert!(rt; is_told);
+    let answer = both_have_the_call(rt.alloc())?;
+    assert!(rt; matches!(answer, Ok(true) | Err(LinkFault::OutOfMemory)));
     Ok(())
 }

@@ -7,6 +7,7 @@ ghost use Rattle.elf_link_relocate.specs.MapFacts.{IsMapOfSome};
 use elf_field::Order;
 use elf_link_field::{Form, Range, RelocRule, Width};
 use elf_link_map::{LinkFault, LinkMap, Options, map};
+use elf_link_relocate::Linked;
 use elf_object_type::{
     Body, Info, Object, ObjectFault, ObjectParts, Place, Relocation, Section, Symbol,
 };
@@ -113,6 +114,11 @@ pub(crate) fn rule(kind: u32, form: Form, width: Width, range: Range) -> RelocRu
         width,
         range,
     }
+}
+
+/// Whether section 0 of the first file has these bytes.
+pub(crate) fn holds(linked: &Linked<'_, '_>, bytes: &[u8]) -> bool {
+    linked.bytes(0, 0) == Some(bytes)
 }
 
 /// The link map of these objects.

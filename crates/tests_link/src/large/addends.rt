@@ -2,7 +2,7 @@
 ghost use Rattle.std.specs.Prelude.{◌<◌};
 
 use crate::large::fields::push_number;
-use crate::parts::{GLOBAL, data, list, mapped, object, rule, symbol};
+use crate::parts::{GLOBAL, data, holds, list, mapped, object, rule, symbol};
 use elf_field::Order;
 use elf_link_field::{Form, Range, RelocRule, Width};
 use elf_link_map::LinkFault;
@@ -102,10 +102,7 @@ fn leaves(alloc: Global, objects: &[Object<'_>], bytes: &[u8]) -> Result<bool, L
     let map = mapped(alloc, objects, 0x1000, None)?;
     let rules = rules();
     let linked = relocate(alloc, &map, objects, &rules)?;
-    match linked.bytes(0, 0) {
-        Some(found) => Ok(found == bytes),
-        None => Ok(false),
-    }
+    Ok(holds(&linked, bytes))
 }
 
 /// Whether each field holds the symbol's value and the addend that stood in it.

@@ -52,22 +52,26 @@ fn first_wrong(link: &LinkMap<'_>) -> Option<usize> {
     None
 }
 
+/// How many names the link has, the first one that is bound otherwise, and the bindings of the last one and of none.
+fn told(link: &LinkMap<'_>) -> (usize, Option<usize>, [Option<Binding>; 2]) {
+    let bindings = [link.binding(b"0999999"), link.binding(b"1000000")];
+    (link.names().len(), first_wrong(link), bindings)
+}
+
+/// The same of the link of all symbols.
+fn told_of_all(alloc: Global) -> Result<(usize, Option<usize>, [Option<Binding>; 2]), Fail> {
+    let names = names(alloc)?;
+    let link = linked(alloc, names.as_bytes())?;
+    Ok(told(&link))
+}
+
 #[test]
 fn a_million_names(rt: HostRuntime) -> Result<(), Fail> {
-    let names = names(rt.alloc())?;
-    let link = linked(rt.alloc(), names.as_bytes())?;
     let last = Binding::Strong {
         file: 0,
         symbol: 999_999,
     };
-    assert_eq!(rt;
-        (
-            link.names().len(),
-            first_wrong(&link),
-            link.binding(b"0999999"),
-            link.binding(b"1000000")
-        ),
-        (COUNT, None, Some(last), None)
-    );
+    let told = told_of_all(rt.alloc())?;
+    assert_eq!(rt; told, (COUNT, None, [Some(last), None]));
     Ok(())
 }
