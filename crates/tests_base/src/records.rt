@@ -156,15 +156,8 @@ fn assert_header_layout(rt: &impl Abort, order: Order) {
     let read = (Ehdr::get(order, &RULER[..64]), record.e_ident.as_slice());
     assert_eq!(rt;
         (read, copy.as_slice(), wrong),
-        ((record, &RULER[..16]), &RULER[..64], None),
-        "{order:?}"
+        ((record, &RULER[..16]), &RULER[..64], None)
     );
-}
-
-#[test]
-fn header_layout(rt: HostRuntime) {
-    assert_header_layout(&rt, Order::Little);
-    assert_header_layout(&rt, Order::Big);
 }
 
 /// The fields of a section header.
@@ -191,15 +184,8 @@ fn assert_section_layout(rt: &impl Abort, order: Order) {
     let read = Shdr::get(order, &RULER[..64]);
     assert_eq!(rt;
         (read, copy.as_slice(), wrong),
-        (record, &RULER[..64], None),
-        "{order:?}"
+        (record, &RULER[..64], None)
     );
-}
-
-#[test]
-fn section_header_layout(rt: HostRuntime) {
-    assert_section_layout(&rt, Order::Little);
-    assert_section_layout(&rt, Order::Big);
 }
 
 /// The fields of a program header.
@@ -224,15 +210,8 @@ fn assert_segment_layout(rt: &impl Abort, order: Order) {
     let read = Phdr::get(order, &RULER[..56]);
     assert_eq!(rt;
         (read, copy.as_slice(), wrong),
-        (record, &RULER[..56], None),
-        "{order:?}"
+        (record, &RULER[..56], None)
     );
-}
-
-#[test]
-fn program_header_layout(rt: HostRuntime) {
-    assert_segment_layout(&rt, Order::Little);
-    assert_segment_layout(&rt, Order::Big);
 }
 
 /// The fields of a symbol.
@@ -255,15 +234,8 @@ fn assert_symbol_layout(rt: &impl Abort, order: Order) {
     let read = Sym::get(order, &RULER[..24]);
     assert_eq!(rt;
         (read, copy.as_slice(), wrong),
-        (record, &RULER[..24], None),
-        "{order:?}"
+        (record, &RULER[..24], None)
     );
-}
-
-#[test]
-fn symbol_layout(rt: HostRuntime) {
-    assert_symbol_layout(&rt, Order::Little);
-    assert_symbol_layout(&rt, Order::Big);
 }
 
 /// The fields of a relocation.
@@ -279,15 +251,8 @@ fn assert_rel_layout(rt: &impl Abort, order: Order) {
     let read = Rel::get(order, &RULER[..16]);
     assert_eq!(rt;
         (read, copy.as_slice(), wrong),
-        (record, &RULER[..16], None),
-        "{order:?}"
+        (record, &RULER[..16], None)
     );
-}
-
-#[test]
-fn relocation_layout(rt: HostRuntime) {
-    assert_rel_layout(&rt, Order::Little);
-    assert_rel_layout(&rt, Order::Big);
 }
 
 /// The fields of a relocation with an addend.
@@ -307,15 +272,8 @@ fn assert_rela_layout(rt: &impl Abort, order: Order) {
     let read = Rela::get(order, &RULER[..24]);
     assert_eq!(rt;
         (read, copy.as_slice(), wrong),
-        (record, &RULER[..24], None),
-        "{order:?}"
+        (record, &RULER[..24], None)
     );
-}
-
-#[test]
-fn relocation_with_addend_layout(rt: HostRuntime) {
-    assert_rela_layout(&rt, Order::Little);
-    assert_rela_layout(&rt, Order::Big);
 }
 
 /// The fields of an entry of the dynamic array.
@@ -331,15 +289,21 @@ fn assert_entry_layout(rt: &impl Abort, order: Order) {
     let read = Dyn::get(order, &RULER[..16]);
     assert_eq!(rt;
         (read, copy.as_slice(), wrong),
-        (record, &RULER[..16], None),
-        "{order:?}"
+        (record, &RULER[..16], None)
     );
 }
 
 #[test]
-fn dynamic_entry_layout(rt: HostRuntime) {
-    assert_entry_layout(&rt, Order::Little);
-    assert_entry_layout(&rt, Order::Big);
+fn each_record_has_its_fields_where_the_ruler_says(rt: HostRuntime) {
+    for order in [Order::Little, Order::Big] {
+        assert_header_layout(&rt, order);
+        assert_section_layout(&rt, order);
+        assert_segment_layout(&rt, order);
+        assert_symbol_layout(&rt, order);
+        assert_rel_layout(&rt, order);
+        assert_rela_layout(&rt, order);
+        assert_entry_layout(&rt, order);
+    }
 }
 
 #[test]

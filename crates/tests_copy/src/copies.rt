@@ -6,7 +6,7 @@ use elf_image_outline::scan;
 use elf_image_source::Bytes;
 use std::process::Abort;
 use std::test::Fail;
-use tests_files::{call, empty_object, filled_gap, long_parts, one_section, set, two_of_each};
+use tests_files::{caller, empty_object, filled_gap, long_parts, one_section, set, two_of_each};
 use tests_source::Cut;
 
 #[test]
@@ -77,7 +77,7 @@ fn edits_are_copied(rt: HostRuntime) -> Result<(), Fail> {
 /// A content that changed since the scan goes out as it is, and so does a gap; the records are those that were read.
 #[test]
 fn a_source_that_changed_is_copied(rt: HostRuntime) -> Result<(), Fail> {
-    let file = call();
+    let file = caller();
     let outline = scan(rt.alloc(), &mut Bytes(&file))?;
     let mut expected = file;
     set(&mut expected, Order::Little, &[(64, 1, 0x90), (70, 2, 1)]);

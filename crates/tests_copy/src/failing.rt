@@ -5,7 +5,7 @@ use elf_image_outline::{Outline, scan};
 use elf_image_source::Bytes;
 use std::process::Abort;
 use std::test::Fail;
-use tests_files::call;
+use tests_files::caller;
 use tests_source::Cut;
 
 /// The offsets that a source of 24 bytes a call is asked for, and how many bytes are out then: six bytes of `.text`, a gap, the
@@ -40,7 +40,7 @@ fn copy_through(
 
 #[test]
 fn each_failed_read_is_answered(rt: HostRuntime) -> Result<(), Fail> {
-    let file = call();
+    let file = caller();
     let outline = scan(rt.alloc(), &mut Bytes(&file))?;
     for k in 0..2 * ASKED.len() {
         let (at, written) = ASKED[k / 2];
@@ -55,7 +55,7 @@ fn each_failed_read_is_answered(rt: HostRuntime) -> Result<(), Fail> {
 
 #[test]
 fn each_failed_write_is_answered(rt: HostRuntime) -> Result<(), Fail> {
-    let file = call();
+    let file = caller();
     let outline = scan(rt.alloc(), &mut Bytes(&file))?;
     for k in 0..2 * OUT.len() {
         let written = OUT[k / 2];
@@ -71,7 +71,7 @@ fn each_failed_write_is_answered(rt: HostRuntime) -> Result<(), Fail> {
 
 #[test]
 fn a_full_writer_has_the_first_bytes(rt: HostRuntime) -> Result<(), Fail> {
-    let file = call();
+    let file = caller();
     let outline = scan(rt.alloc(), &mut Bytes(&file))?;
     let mut writer = Against::new(&file);
     writer.room = 100;
@@ -84,7 +84,7 @@ fn a_full_writer_has_the_first_bytes(rt: HostRuntime) -> Result<(), Fail> {
 /// The file ends in its symbol table since the scan.
 #[test]
 fn a_source_that_got_shorter_is_told(rt: HostRuntime) -> Result<(), Fail> {
-    let file = call();
+    let file = caller();
     let outline = scan(rt.alloc(), &mut Bytes(&file))?;
     let mut source = Cut::new(&file[..100], 4096);
     let copied = copy_through(&outline, &file, &mut source, 96);

@@ -60,55 +60,6 @@ const ONE_SECTION: [Field; 29] = [
     (424, 8, 33),
     (440, 8, 1),
 ];
-
-/// Those of an object of one function that calls another one: `.text`, its relocations, two symbols and their names.
-const CALL: [Field; 44] = [
-    (40, 8, 232),
-    (58, 2, 64),
-    (60, 2, 6),
-    (62, 2, 5),
-    (72, 8, 1),
-    (80, 8, 0x2_0000_0002),
-    (88, 8, u64::MAX - 3),
-    (120, 4, 1),
-    (124, 1, 0x10),
-    (126, 2, 1),
-    (144, 4, 6),
-    (148, 1, 0x10),
-    (296, 4, 1),
-    (300, 4, 1),
-    (304, 8, 6),
-    (320, 8, 64),
-    (328, 8, 6),
-    (344, 8, 1),
-    (360, 4, 7),
-    (364, 4, 4),
-    (384, 8, 72),
-    (392, 8, 24),
-    (400, 4, 3),
-    (404, 4, 1),
-    (408, 8, 8),
-    (416, 8, 24),
-    (424, 4, 18),
-    (428, 4, 2),
-    (448, 8, 96),
-    (456, 8, 72),
-    (464, 4, 4),
-    (468, 4, 1),
-    (472, 8, 8),
-    (480, 8, 24),
-    (488, 4, 26),
-    (492, 4, 3),
-    (512, 8, 168),
-    (520, 8, 13),
-    (536, 8, 1),
-    (552, 4, 34),
-    (556, 4, 3),
-    (576, 8, 181),
-    (584, 8, 44),
-    (600, 8, 1),
-];
-
 /// Those of a file with a section of size 0 and one without bytes in the file, both far past its end.
 const EMPTY_CONTENTS: [Field; 10] = [
     (40, 8, 64),
@@ -216,28 +167,6 @@ pub fn one_section(order: Order) -> [u8; 456] {
     let mut file = [0; 456];
     set_header(&mut file, order, &ONE_SECTION);
     file[97..130].copy_from_slice(b"\0.text\0.symtab\0.strtab\0.shstrtab\0");
-    file
-}
-
-/// Puts bytes into a file.
-fn put(file: &mut [u8], at: usize, bytes: &[u8]) {
-    if at <= file.len() && bytes.len() <= file.len() - at {
-        file[at..at + bytes.len()].copy_from_slice(bytes);
-    }
-}
-
-/// An object of one function that calls another one: `.text` at 64, its relocations at 72, symbols at 96, their names at 168, the sections'
-/// names at 181, and the section headers at 232; gaps at 70 and 225.
-pub fn call() -> [u8; 616] {
-    let mut file = [0; 616];
-    set_header(&mut file, Order::Little, &CALL);
-    put(&mut file, 64, &[0xe8, 0, 0, 0, 0, 0xc3]);
-    put(&mut file, 168, b"\0main\0callee\0");
-    put(
-        &mut file,
-        181,
-        b"\0.text\0.rela.text\0.symtab\0.strtab\0.shstrtab\0",
-    );
     file
 }
 

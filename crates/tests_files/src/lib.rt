@@ -9,13 +9,15 @@
 
 mod fakes;
 mod image_files;
+mod object_files;
 
 use elf_field::Order;
 pub use fakes::{Failure, PIECE, Pieces, Sink, Source};
 pub use image_files::{
-    call, empty_contents, empty_object, filled_gap, header_alone, long_parts, one_section,
-    one_segment, two_of_each,
+    empty_contents, empty_object, filled_gap, header_alone, long_parts, one_section, one_segment,
+    two_of_each,
 };
+pub use object_files::{callee, caller};
 
 /// A field: its offset in the file, its width in bytes and its value.
 pub type Field = (u64, usize, u64);

@@ -3,39 +3,11 @@ ghost use Rattle.std.specs.Prelude.{◌<◌, ◌≤◌};
 
 use elf_image_stream::{Fault, WriteFault, read_to_end, write_whole};
 use elf_image_type::{Image, parse, write};
-use std::alloc::{AllocError, Global};
+use std::alloc::Global;
 use std::io;
 use std::io::{ErrorKind, Read, Write};
 use std::process::Abort;
-use tests_files::{Pieces, filled_gap, long_parts};
-
-/// Takes at most `piece` bytes at a time, up to `room` of them, and then fails, or takes none.
-#[derive(Drop)]
-pub struct Shelf {
-    pub bytes: Vec<u8>,
-    pub piece: usize,
-    pub room: usize,
-    pub failure: Option<ErrorKind>,
-}
-
-impl Write for Shelf {
-    fn write(&mut self, buf: &[u8]) -> io::Result<usize> {
-        let count = self.piece.min(buf.len()).min(self.room);
-        if count == 0 {
-            return match self.failure {
-                Some(kind) => Err(io::Error::from(kind)),
-                None => Ok(0),
-            };
-        }
-        self.room -= count;
-        self.bytes.extend_from_slice(&buf[..count])?;
-        Ok(count)
-    }
-
-    fn flush(&mut self) -> io::Result<()> {
-        Err(io::Error::from(ErrorKind::Other))
-    }
-}
+use tests_files::{Pieces, empty_object, filled_gap, long_parts};
 
 /// Gives `left` bytes, as many a call as fit.
 #[derive(Drop)]
@@ -169,14 +141,9 @@ fn read_in_pieces(
     answer: Result<(), Fault>,
 ) {
     let bytes = reader.bytes;
-    let piece = reader.piece;
     let mut buf = Vec::new(alloc);
     let told = read_to_end(&mut reader, &mut buf);
-    assert_eq!(rt;
-        (told, buf.as_slice()),
-        (answer, bytes),
-        "pieces of {piece}"
-    );
+    assert_eq!(rt; (told, buf.as_slice()), (answer, bytes));
 }
 
 #[test]
@@ -205,15 +172,9 @@ fn read_up_to_a_failure(rt: &impl Abort, alloc: Global, given: usize, kind: Erro
 }
 
 #[test]
-fn keeps_the_bytes_before_an_interrupted_read(rt: HostRuntime) {
-    for given in 0..=TEXT.len() {
-        read_up_to_a_failure(&rt, rt.alloc(), given, ErrorKind::Interrupted);
-    }
-}
-
-#[test]
 fn keeps_the_bytes_before_a_failed_read(rt: HostRuntime) {
     for given in 0..=TEXT.len() {
+        read_up_to_a_failure(&rt, rt.alloc(), given, ErrorKind::Interrupted);
         read_up_to_a_failure(&rt, rt.alloc(), given, ErrorKind::Other);
     }
 }
@@ -239,65 +200,6 @@ fn a_refused_growth_loses_no_byte(rt: HostRuntime) {
     for whole in [300_000, 6_000_000] {
         read_all_or_as_many_as_fit(&rt, rt.alloc(), whole);
     }
-}
-
-/// What a write of the text answers where there is this room.
-fn answer_within(room: usize) -> Result<(), WriteFault> {
-    if room == TEXT.len() {
-        return Ok(());
-    }
-    let written = room as u64;
-    Err(WriteFault { written })
-}
-
-/// Writes the text to a shelf that takes `piece` bytes a call and has this room: all of it, or what is out is told.
-fn write_to_a_shelf(
-    rt: &impl Abort,
-    alloc: Global,
-    piece: usize,
-    room: usize,
-    failure: Option<ErrorKind>,
-) -> Result<(), AllocError>
-    requires { room ≤ 32 }
-{
-    let mut shelf = Shelf {
-        bytes: Vec::with_capacity(alloc, TEXT.len())?,
-        piece,
-        room,
-        failure,
-    };
-    let answer = write_whole(&mut shelf, TEXT);
-    assert_eq!(rt;
-        (answer, shelf.bytes.as_slice()),
-        (answer_within(room), &TEXT[..room]),
-        "room for {room}"
-    );
-    Ok(())
-}
-
-#[test]
-fn writes_all_bytes_up_to_a_write_of_none(rt: HostRuntime) -> Result<(), AllocError> {
-    for room in 0..=TEXT.len() {
-        write_to_a_shelf(&rt, rt.alloc(), 1, room, None)?;
-        write_to_a_shelf(&rt, rt.alloc(), 100, room, None)?;
-    }
-    Ok(())
-}
-
-#[test]
-fn writes_all_bytes_up_to_an_interrupted_write(rt: HostRuntime) -> Result<(), AllocError> {
-    for room in 0..=TEXT.len() {
-        write_to_a_shelf(&rt, rt.alloc(), 5, room, Some(ErrorKind::Interrupted))?;
-    }
-    Ok(())
-}
-
-#[test]
-fn writes_all_bytes_up_to_a_failed_write(rt: HostRuntime) -> Result<(), AllocError> {
-    for room in 0..=TEXT.len() {
-        write_to_a_shelf(&rt, rt.alloc(), 5, room, Some(ErrorKind::Other))?;
-    }
-    Ok(())
 }
 
 // ---- a reader and a writer that fail at one call alone
@@ -334,12 +236,6 @@ fn read_once_failing(rt: &impl Abort, alloc: Global, before: usize, failure: Opt
 fn a_failed_read_is_not_tried_again(rt: HostRuntime) {
     for before in 0..33 {
         read_once_failing(&rt, rt.alloc(), before, Some(ErrorKind::Other));
-    }
-}
-
-#[test]
-fn an_interrupted_read_is_not_tried_again(rt: HostRuntime) {
-    for before in 0..33 {
         read_once_failing(&rt, rt.alloc(), before, Some(ErrorKind::Interrupted));
     }
 }
@@ -358,8 +254,7 @@ fn read_in_calls(rt: &impl Abort, alloc: Global, piece: usize, calls: usize) {
     let answer = read_to_end(&mut reader, &mut buf);
     assert_eq!(rt;
         (answer, reader.calls, reader.empty_calls),
-        (Ok(()), calls, 0),
-        "pieces of {piece}"
+        (Ok(()), calls, 0)
     );
 }
 
@@ -405,19 +300,7 @@ fn write_once_failing(rt: &impl Abort, alloc: Global, before: usize, failure: Op
 fn a_failed_write_is_not_tried_again(rt: HostRuntime) {
     for before in 0..32 {
         write_once_failing(&rt, rt.alloc(), before, Some(ErrorKind::Other));
-    }
-}
-
-#[test]
-fn an_interrupted_write_is_not_tried_again(rt: HostRuntime) {
-    for before in 0..32 {
         write_once_failing(&rt, rt.alloc(), before, Some(ErrorKind::Interrupted));
-    }
-}
-
-#[test]
-fn a_write_of_no_bytes_is_not_tried_again(rt: HostRuntime) {
-    for before in 0..32 {
         write_once_failing(&rt, rt.alloc(), before, None);
     }
 }
@@ -438,65 +321,66 @@ fn assert_image_stops(
     assert_stopped(rt, &writer, answer, bytes, before);
 }
 
-/// Writes an image of 376 bytes, whose write behind each number of bytes alone fails in turn.
+/// Writes an image of 376 bytes, whose write behind each number of bytes alone fails in turn; and again, with its gap zeroed.
 fn write_image_once_failing(
     rt: &impl Abort,
     alloc: Global,
     failure: Option<ErrorKind>,
 ) -> Result<(), Fault> {
     let file = filled_gap();
-    let image = parse(alloc, &file)?;
+    let mut image = parse(alloc, &file)?;
     for before in 0..376 {
         assert_image_stops(rt, alloc, &image, &file, before, failure);
+    }
+    image.zero_gaps();
+    for before in 0..376 {
+        assert_image_stops(rt, alloc, &image, &empty_object(), before, failure);
     }
     Ok(())
 }
 
 #[test]
 fn an_image_stops_at_a_failed_write(rt: HostRuntime) -> Result<(), Fault> {
-    write_image_once_failing(&rt, rt.alloc(), Some(ErrorKind::Other))
-}
-
-#[test]
-fn an_image_stops_at_an_interrupted_write(rt: HostRuntime) -> Result<(), Fault> {
-    write_image_once_failing(&rt, rt.alloc(), Some(ErrorKind::Interrupted))
-}
-
-#[test]
-fn an_image_stops_at_a_write_of_no_bytes(rt: HostRuntime) -> Result<(), Fault> {
+    write_image_once_failing(&rt, rt.alloc(), Some(ErrorKind::Other))?;
+    write_image_once_failing(&rt, rt.alloc(), Some(ErrorKind::Interrupted))?;
     write_image_once_failing(&rt, rt.alloc(), None)
 }
 
 // ---- what a writer is offered
 
-#[test]
-fn contents_and_gaps_are_offered_whole(rt: HostRuntime) -> Result<(), Fault> {
-    let file = long_parts();
-    let image = parse(rt.alloc(), &file)?;
-    let mut writer = taking_all(rt.alloc());
-    let answer = write(&image, &mut writer);
-    let bytes = writer.bytes.as_slice();
+/// A writer that takes all is offered parts of these lengths, and then has these bytes.
+fn assert_offers(
+    rt: &impl Abort,
+    alloc: Global,
+    image: &Image<'_>,
+    bytes: &[u8],
+    offers: &[usize],
+) {
+    let mut writer = taking_all(alloc);
+    let answer = write(image, &mut writer);
+    let is_written = writer.bytes.as_slice() == bytes;
     assert_eq!(rt;
-        (answer, bytes, writer.offers.as_slice(), writer.flushes),
-        (Ok(()), file.as_slice(), [64, 128, 9000, 9000].as_slice(), 0)
+        (answer, is_written, writer.offers.as_slice(), writer.flushes),
+        (Ok(()), true, offers, 0)
     );
-    Ok(())
 }
 
+/// The file of long parts, with zeros in its gap.
+fn zeroed_parts() -> [u8; 18192] {
+    let mut file = long_parts();
+    file[192..9192].fill(0);
+    file
+}
+
+// Contents and gaps are offered whole, zeros in blocks.
 #[test]
-fn zeros_are_offered_in_blocks(rt: HostRuntime) -> Result<(), Fault> {
+fn parts_are_offered(rt: HostRuntime) -> Result<(), Fault> {
     let file = long_parts();
     let mut image = parse(rt.alloc(), &file)?;
+    assert_offers(&rt, rt.alloc(), &image, &file, &[64, 128, 9000, 9000]);
     image.zero_gaps();
-    let mut writer = taking_all(rt.alloc());
-    let answer = write(&image, &mut writer);
-    let gap = writer.bytes.get(192..9192).unwrap_or(&[]);
-    let zeros = gap.iter().all(|byte| *byte == 0);
     let offers = [64, 128, 4096, 4096, 808, 9000];
-    assert_eq!(rt;
-        (answer, writer.offers.as_slice(), zeros, gap.len()),
-        (Ok(()), offers.as_slice(), true, 9000)
-    );
+    assert_offers(&rt, rt.alloc(), &image, &zeroed_parts(), &offers);
     Ok(())
 }
 

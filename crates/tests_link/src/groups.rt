@@ -1,130 +1,92 @@
-//! Two COMDAT groups of one signature.
-use crate::worked::{
-    GLOBAL, call, flatly_mapped, list, mapped, members_of, name_of, numbers_of, object, options,
-    section, symbol,
-};
-use elf_link_map::{Binding, LinkMap};
-use elf_object_type::{Body, Object, ObjectFault, Place, Section};
-use std::alloc::{AllocError, Global};
+//! Two COMDAT groups of one signature, linked by a hasher that spreads no keys: no clause names the hasher.
+use crate::parts::{GLOBAL, list, object, section, symbol};
+use elf_field::Order;
+use elf_link_map::{Binding, LinkMap, Options, map};
+use elf_object_type::{Body, Info, Object, ObjectFault, Place, Section};
+use std::alloc::Global;
+use std::hash::{BuildHasher, Hasher};
+use std::process::Abort;
 use std::test::Fail;
 
-/// A group of one function.
-fn group(alloc: Global) -> Result<Body<'static>, AllocError> {
-    Ok(Body::Group {
-        comdat: true,
-        signature: 0,
-        members: list(alloc, [1])?,
-    })
+/// A hasher that gives 0 for every key, so that all keys meet.
+#[derive(Clone, Copy, Debug)]
+pub(crate) struct Flat {
+    pub state: u64,
 }
 
-/// The group and its function.
-fn callee_sections(alloc: Global) -> Result<Vec<Section<'static>>, AllocError> {
-    let group = group(alloc)?;
-    list(
-        alloc,
-        [
-            section(b".group", 0, 4, group),
-            section(b".text.f", 0x206, 1, Body::Bits(1, b"\xc3")),
-        ],
-    )
+impl Hasher for Flat {
+    ghost write = { λ s _. s };
+
+    ghost finish = { λ _. 0 };
+
+    fn finish(&self) -> u64 {
+        0
+    }
+
+    fn write(&mut self, _bytes: &[u8]) {}
 }
 
-/// The group and its function, and behind it the caller.
-fn caller_sections(alloc: Global) -> Result<Vec<Section<'static>>, AllocError> {
-    let group = group(alloc)?;
-    let relocs = call(alloc, 2, 0)?;
-    list(
-        alloc,
-        [
-            section(b".group", 0, 4, group),
-            section(b".text.f", 0x206, 1, Body::Bits(1, b"\xc3")),
-            section(b".text", 6, 1, Body::Bits(1, b"\xe8\0\0\0\0")),
-            section(b".rela.text", 0, 8, relocs),
-        ],
-    )
+impl BuildHasher for Flat {
+    type Hasher = Flat;
+
+    ghost build_hasher = { λ _. record { state = 0 } };
+
+    fn build_hasher(&self) -> Flat {
+        Flat { state: 0 }
+    }
 }
 
-/// The file of these sections.
-fn file(alloc: Global, sections: Vec<Section<'static>>) -> Result<Object<'static>, ObjectFault> {
-    let symbols = list(alloc, [symbol(b"f", GLOBAL, Place::In(1), 0, 0)])?;
-    object(alloc, sections, symbols)
+/// A group of one function, and that function.
+fn file(alloc: Global) -> Result<Object<'static>, ObjectFault> {
+    let members = list(alloc, [1])?;
+    let group = Section {
+        entsize: 4,
+        info: Info::Number(0),
+        ..section(
+            b".group",
+            0,
+            4,
+            Body::Group {
+                comdat: true,
+                signature: 0,
+                members,
+            },
+        )
+    };
+    let text = section(b".text.f", 0x206, 1, Body::Bits(1, b"\xc3"));
+    let symbols = list(alloc, [symbol(b"f", GLOBAL, Place::In(1), 0)])?;
+    object(alloc, Order::Little, list(alloc, [group, text])?, symbols)
 }
 
-/// A file of the group alone, and one that calls its function too.
-fn files(alloc: Global) -> Result<[Object<'static>; 2], ObjectFault> {
-    Ok([
-        file(alloc, callee_sections(alloc)?)?,
-        file(alloc, caller_sections(alloc)?)?,
-    ])
-}
-
-/// Their link map, by std's hasher.
+/// The link map of two such files.
 fn linked(alloc: Global) -> Result<LinkMap<'static>, Fail> {
-    let objects = files(alloc)?;
-    Ok(mapped(alloc, &objects, &options(0x1000, 1, None))?)
+    let objects = [file(alloc)?, file(alloc)?];
+    let options = Options {
+        base: 0x1000,
+        page: 1,
+        entry: None,
+    };
+    Ok(map(alloc, &objects, &options, Flat { state: 0 })?)
 }
 
-/// Their link map, by a hasher that spreads no keys.
-fn flatly_linked(alloc: Global) -> Result<LinkMap<'static>, Fail> {
-    let objects = files(alloc)?;
-    Ok(flatly_mapped(alloc, &objects, &options(0x1000, 1, None))?)
+fn assert_kept(rt: &impl Abort, link: &LinkMap<'_>) {
+    let discarded = [link.discarded(0, 1), link.discarded(1, 1)];
+    let addresses = [link.address(0, 1), link.address(1, 1)];
+    let binding = Binding::Strong { file: 0, symbol: 0 };
+    assert_eq!(rt;
+        (
+            link.outputs().len(),
+            discarded,
+            addresses,
+            link.binding(b"f")
+        ),
+        (1, [false, true], [Some(0x1000), None], Some(binding))
+    );
 }
 
 #[test]
 fn keeps_the_first_group_alone(rt: HostRuntime) -> Result<(), Fail> {
     let link = linked(rt.alloc())?;
-    let outputs = (
-        link.outputs().len(),
-        numbers_of(&link, 0),
-        numbers_of(&link, 1),
-    );
-    let names = [name_of(&link, 0), name_of(&link, 1)];
-    let addresses = [link.address(0, 1), link.address(1, 1), link.address(1, 2)];
-    let discarded = [
-        link.discarded(0, 1),
-        link.discarded(1, 1),
-        link.discarded(1, 2),
-    ];
-    let members = members_of(&link, 0).map(|members| members.len());
-    assert_eq!(rt;
-        (
-            outputs,
-            names,
-            members,
-            addresses,
-            discarded,
-            link.binding(b"f")
-        ),
-        (
-            (2, Some((0x1000, 1, 6)), Some((0x1001, 5, 6))),
-            [Some(b".text.f".as_slice()), Some(b".text".as_slice())],
-            Some(1),
-            [Some(0x1000), None, Some(0x1001)],
-            [false, true, false],
-            Some(Binding::Strong { file: 0, symbol: 0 })
-        )
-    );
-    Ok(())
-}
-
-#[test]
-fn maps_alike_where_all_keys_meet(rt: HostRuntime) -> Result<(), Fail> {
-    let link = flatly_linked(rt.alloc())?;
-    assert_eq!(rt;
-        (
-            link.outputs().len(),
-            numbers_of(&link, 0),
-            numbers_of(&link, 1),
-            link.address(0, 1),
-            link.address(1, 2)
-        ),
-        (
-            2,
-            Some((0x1000, 1, 6)),
-            Some((0x1001, 5, 6)),
-            Some(0x1000),
-            Some(0x1001)
-        )
-    );
+    assert_kept(&rt, &link);
     Ok(())
 }

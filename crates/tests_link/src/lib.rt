@@ -1,4 +1,5 @@
-//! Tests of the link map: worked objects, and where their sections, commons and names stand.
+//! Tests of the link: of its map and of its relocated bytes what is told to code that calls them, laws put together, and large links. Worked
+//! links, and one of each rule that breaks it, stand in `cases/links.txt`.
 #![tactic(auto)]
 
 #[cfg(test)]
@@ -6,12 +7,14 @@ mod calls;
 #[cfg(test)]
 mod commons;
 #[cfg(test)]
-mod edges;
-#[cfg(test)]
-mod file_rules;
-#[cfg(test)]
 mod groups;
 #[cfg(test)]
-mod standing;
+mod headers;
 #[cfg(test)]
-mod worked;
+mod large;
+#[cfg(test)]
+mod memory;
+#[cfg(test)]
+mod parts;
+#[cfg(test)]
+mod standing;

@@ -3,8 +3,9 @@ ghost use Rattle.std.specs.Prelude.{None};
 ghost use Rattle.elf_link_map.specs.LinkFaults.{FirstOfLink};
 ghost use Rattle.elf_link_map.specs.LinkMap.{IsLinkMap};
 
-use crate::worked::{list, mapped, object, options, section};
-use elf_link_map::{LinkMap, Options, are_objects, are_paged, outputs_stand};
+use crate::parts::{list, mapped_by, object, section};
+use elf_field::Order;
+use elf_link_map::{LinkFault, LinkMap, Options, are_objects, are_paged, outputs_stand};
 use elf_object_type::{Body, Object, ObjectFault};
 use std::alloc::{AllocError, Global};
 use std::test::Fail;
@@ -63,18 +64,31 @@ fn three_kinds(alloc: Global) -> Result<Object<'static>, ObjectFault> {
             section(b".bss", 3, 4, Body::NoBits(0x1800)),
         ],
     )?;
-    object(alloc, sections, Vec::new(alloc))
+    object(alloc, Order::Little, sections, Vec::new(alloc))
+}
+
+/// Whether the outputs of these objects stand so.
+fn stand(alloc: Global, objects: &[Object<'_>]) -> Result<bool, LinkFault> {
+    let options = Options {
+        base: 0x1000,
+        page: 0x1000,
+        entry: None,
+    };
+    let link = mapped_by(alloc, objects, &options)?;
+    let between = gaps(alloc, objects, &options, &link)?;
+    let below = pages_below(alloc, objects, &options, &link)?;
+    Ok(between.as_slice() == [0xffa, 0xfff].as_slice() && below.as_slice() == [1, 2, 3].as_slice())
+}
+
+/// The same of the three kinds.
+fn three_kinds_stand(alloc: Global) -> Result<bool, Fail> {
+    let objects = [three_kinds(alloc)?];
+    Ok(stand(alloc, &objects)?)
 }
 
 #[test]
 fn outputs_stand_at_pages(rt: HostRuntime) -> Result<(), Fail> {
-    let alloc = rt.alloc();
-    let objects = [three_kinds(alloc)?];
-    let options = options(0x1000, 0x1000, None);
-    let link = mapped(alloc, &objects, &options)?;
-    let between = gaps(alloc, &objects, &options, &link)?;
-    let pages = pages_below(alloc, &objects, &options, &link)?;
-    assert_eq!(rt; between.as_slice(), [0xffa, 0xfff].as_slice());
-    assert_eq!(rt; pages.as_slice(), [1, 2, 3].as_slice());
+    let stand = three_kinds_stand(rt.alloc())?;
+    assert!(rt; stand);
     Ok(())
 }

@@ -2,71 +2,49 @@
 use crate::writers::{Counter, Shelf, taking};
 use crate::written::{object, one_section, one_section_file, section};
 use elf_field::Order;
-use elf_object_type::Body;
+use elf_object_type::{Body, Object};
 use elf_object_writer::{ObjectWriteFault, write_object};
 use std::alloc::Global;
 use std::io::ErrorKind;
 use std::process::Abort;
 use std::test::Fail;
 
-#[test]
-fn writes_one_byte_a_call(rt: HostRuntime) -> Result<(), Fail> {
-    let alloc = rt.alloc();
-    let object = one_section(alloc, Order::Big)?;
-    let mut writer = taking(alloc, 1);
-    write_object(alloc, &object, &mut writer)?;
-    assert_eq!(rt;
-        writer.bytes.as_slice(),
-        one_section_file(Order::Big).as_slice()
-    );
-    assert_eq!(rt; writer.calls, 456);
-    Ok(())
-}
-
-/// Writes the object to a writer that takes one byte a call, and whose call behind so many bytes alone fails, or takes nothing:
-/// that is the answer, and no call comes after it.
+/// Writes the object to a writer that takes so many bytes a call, and whose call of this number, behind so many bytes, alone fails, or takes
+/// nothing: that is the answer, and no call comes after it.
 fn assert_stopped(
     rt: &impl Abort,
     alloc: Global,
-    written: u16,
+    object: &Object<'_>,
+    piece: usize,
+    failing: usize,
+    out: u16,
     failure: Option<ErrorKind>,
-) -> Result<(), Fail> {
-    let object = one_section(alloc, Order::Little)?;
-    let failing = written as usize + 1;
+) {
     let mut writer = Shelf {
         failing,
         failure,
-        ..taking(alloc, 1)
+        ..taking(alloc, piece)
     };
-    let answer = write_object(alloc, &object, &mut writer);
-    let written = written as u64;
-    assert_eq!(rt; answer, Err(ObjectWriteFault::Io { written }));
+    let answer = write_object(alloc, object, &mut writer);
+    let written = u64::from(out);
     let file = one_section_file(Order::Little);
-    assert_eq!(rt; Some(writer.bytes.as_slice()), file.get(..written as usize));
-    assert_eq!(rt; writer.calls, failing);
-    Ok(())
+    let is_out = Some(writer.bytes.as_slice()) == file.get(..out as usize);
+    assert_eq!(rt;
+        (answer, is_out, writer.calls),
+        (Err(ObjectWriteFault::Io { written }), true, failing)
+    );
 }
 
 #[test]
-fn a_failed_write_is_not_tried_again(rt: HostRuntime) -> Result<(), Fail> {
-    for written in 0..456 {
-        assert_stopped(&rt, rt.alloc(), written, Some(ErrorKind::Other))?;
-    }
-    Ok(())
-}
-
-#[test]
-fn an_interrupted_write_is_not_tried_again(rt: HostRuntime) -> Result<(), Fail> {
-    for written in 0..456 {
-        assert_stopped(&rt, rt.alloc(), written, Some(ErrorKind::Interrupted))?;
-    }
-    Ok(())
-}
-
-#[test]
-fn a_write_of_no_bytes_fails(rt: HostRuntime) -> Result<(), Fail> {
-    for written in 0..456 {
-        assert_stopped(&rt, rt.alloc(), written, None)?;
+fn a_write_that_fails_is_not_tried_again(rt: HostRuntime) -> Result<(), Fail> {
+    let alloc = rt.alloc();
+    let object = one_section(alloc, Order::Little)?;
+    for out in 0..456 {
+        let failing = out as usize + 1;
+        let interrupted = Some(ErrorKind::Interrupted);
+        assert_stopped(&rt, alloc, &object, 1, failing, out, Some(ErrorKind::Other));
+        assert_stopped(&rt, alloc, &object, 1, failing, out, interrupted);
+        assert_stopped(&rt, alloc, &object, 1, failing, out, None);
     }
     Ok(())
 }
@@ -77,42 +55,35 @@ fn a_write_of_no_bytes_fails(rt: HostRuntime) -> Result<(), Fail> {
 fn each_call_fails_alone(rt: HostRuntime) -> Result<(), Fail> {
     let alloc = rt.alloc();
     let object = one_section(alloc, Order::Little)?;
-    let file = one_section_file(Order::Little);
-    let mut failing = 1;
-    for written in [0, 64, 65, 72, 96, 97, 130, 136] {
-        let mut writer = Shelf {
-            failing,
-            failure: Some(ErrorKind::Other),
-            ..taking(alloc, usize::MAX)
-        };
-        let answer = write_object(alloc, &object, &mut writer);
-        assert_eq!(rt; answer, Err(ObjectWriteFault::Io { written }));
-        assert_eq!(rt; Some(writer.bytes.as_slice()), file.get(..written as usize));
-        assert_eq!(rt; writer.calls, failing);
-        failing = failing.saturating_add(1);
+    for (call, out) in [0, 64, 65, 72, 96, 97, 130, 136].iter().enumerate() {
+        let failing = call.saturating_add(1);
+        let failure = Some(ErrorKind::Other);
+        assert_stopped(&rt, alloc, &object, usize::MAX, failing, *out, failure);
     }
     Ok(())
+}
+
+/// What a write of an object of this alignment comes to, and how many bytes are out.
+fn outcome(alloc: Global, align: u64) -> Result<(Result<(), ObjectWriteFault>, usize), Fail> {
+    let bits = section(b".text", 6, align, Body::Bits(1, b"\xc3"));
+    let object = object(alloc, Order::Little, vec![in alloc; bits]?, Vec::new(alloc))?;
+    let mut writer = Counter { taken: 0 };
+    let answer = write_object(alloc, &object, &mut writer);
+    Ok((answer, writer.taken))
 }
 
 // An object that is too long is not written, nor is one that memory is refused for. The tests are also run with the Nth growth
 // refused (`rt try --test --fail-alloc N`): then an answer here may be want of memory.
 #[test]
 fn nothing_is_written_of_what_is_refused(rt: HostRuntime) -> Result<(), Fail> {
-    let alloc = rt.alloc();
-    for (align, out) in [(1 << 20, 1_048_968), (1 << 30, 0)] {
-        let bits = section(b".text", 6, align, Body::Bits(1, b"\xc3"));
-        let object = object(alloc, Order::Little, vec![in alloc; bits]?, Vec::new(alloc))?;
-        let mut writer = Counter { taken: 0 };
-        match write_object(alloc, &object, &mut writer) {
-            Ok(()) => assert_eq!(rt; writer.taken, out),
-            Err(ObjectWriteFault::TooLong) => {
-                assert_eq!(rt; (out, writer.taken), (0, 0));
-            }
-            Err(fault) => {
-                assert_eq!(rt; fault, ObjectWriteFault::OutOfMemory);
-                assert_eq!(rt; writer.taken, 0);
-            }
-        }
+    let rows = [
+        (1 << 20, (Ok(()), 1_048_968)),
+        (1 << 30, (Err(ObjectWriteFault::TooLong), 0)),
+    ];
+    let refused = (Err(ObjectWriteFault::OutOfMemory), 0);
+    for (align, expected) in rows {
+        let found = outcome(rt.alloc(), align)?;
+        assert!(rt; found == expected || found == refused);
     }
     Ok(())
 }

@@ -1,11 +1,9 @@
 //! Objects around the first reserved section index, 0xff00, as they are written.
-use crate::writers::taking;
 use crate::written::{function, object, section};
 use elf_field::Order;
 use elf_object_type::{Body, Place, Symbol};
 use elf_object_writer::write_object;
 use std::alloc::Global;
-use std::process::Abort;
 use std::test::Fail;
 
 /// The file of an object of so many sections with empty names and contents, and of these symbols.
@@ -15,9 +13,9 @@ fn file_of(alloc: Global, count: usize, symbols: Vec<Symbol<'static>>) -> Result
         sections.push(section(b"", 0, 1, Body::Bits(1, b"")))?;
     }
     let object = object(alloc, Order::Little, sections, symbols)?;
-    let mut writer = taking(alloc, usize::MAX);
-    write_object(alloc, &object, &mut writer)?;
-    Ok(writer.bytes)
+    let mut bytes = Vec::new(alloc);
+    write_object(alloc, &object, &mut bytes)?;
+    Ok(bytes)
 }
 
 /// The number at an offset in a file, least significant byte first.
@@ -33,33 +31,38 @@ fn number(file: &[u8], at: usize, width: u32) -> u64 {
     number
 }
 
-/// Tells whether a file is so long and has these numbers, each given by its offset, its width and its value.
-fn assert_file(rt: &impl Abort, file: &[u8], length: usize, fields: &[(usize, u32, u64)]) {
-    assert_eq!(rt; file.len(), length);
-    for (at, width, value) in fields {
-        assert_eq!(rt; number(file, *at, *width), *value);
-    }
+/// Whether a file is so long and has these numbers, each given by its offset, its width and its value.
+fn has_fields(file: &[u8], length: usize, fields: &[(usize, u32, u64)]) -> bool {
+    file.len() == length
+        && fields
+            .iter()
+            .all(|(at, width, value)| number(file, *at, *width) == *value)
+}
+
+/// Whether the file of so many sections is so long, and has these numbers for its count of section headers and the index of its name table,
+/// in the header and in section header 0.
+fn counts(alloc: Global, count: usize, length: usize, numbers: [u64; 4]) -> Result<bool, Fail> {
+    let file = file_of(alloc, count, Vec::new(alloc))?;
+    let table = number(&file, 40, 8) as usize;
+    let [e_shnum, e_shstrndx, size, link] = numbers;
+    let fields = [
+        (60, 2, e_shnum),
+        (62, 2, e_shstrndx),
+        (table.saturating_add(32), 8, size),
+        (table.saturating_add(40), 4, link),
+    ];
+    Ok(has_fields(&file, length, &fields))
 }
 
 // Section header 0 holds a count or an index that is a reserved one.
 #[test]
 fn counts_that_the_header_cannot_hold(rt: HostRuntime) -> Result<(), Fail> {
-    let expected = [
-        (65_275, 4_177_976, 0xfeff, 0xfefe, 0, 0),
-        (65_276, 4_178_040, 0, 0xfeff, 65_280, 0),
-        (65_277, 4_178_104, 0, 0xffff, 65_281, 65_280),
+    let found = [
+        counts(rt.alloc(), 65_275, 4_177_976, [0xfeff, 0xfefe, 0, 0])?,
+        counts(rt.alloc(), 65_276, 4_178_040, [0, 0xfeff, 65_280, 0])?,
+        counts(rt.alloc(), 65_277, 4_178_104, [0, 0xffff, 65_281, 65_280])?,
     ];
-    for (count, length, e_shnum, e_shstrndx, size, link) in expected {
-        let file = file_of(rt.alloc(), count, Vec::new(rt.alloc()))?;
-        let table = number(&file, 40, 8) as usize;
-        let fields = [
-            (60, 2, e_shnum),
-            (62, 2, e_shstrndx),
-            (table.saturating_add(32), 8, size),
-            (table.saturating_add(40), 4, link),
-        ];
-        assert_file(&rt, &file, length, &fields);
-    }
+    assert_eq!(rt; found, [true; 3]);
     Ok(())
 }
 
@@ -80,10 +83,10 @@ fn a_symbol_below_the_reserved_indexes(rt: HostRuntime) -> Result<(), Fail> {
         (symbols + 40, 4, 65_282),
         (symbols + 64 + 4, 4, 3),
     ];
-    assert_file(&rt, &file, 4_178_320, &fields);
+    let names = b"\0f\0\0.symtab\0.strtab\0.shstrtab\0".as_slice();
     assert_eq!(rt;
-        file.get(112..142),
-        Some(b"\0f\0\0.symtab\0.strtab\0.shstrtab\0".as_slice())
+        (has_fields(&file, 4_178_320, &fields), file.get(112..142)),
+        (true, Some(names))
     );
     Ok(())
 }
@@ -107,8 +110,10 @@ fn a_symbol_among_the_reserved_indexes(rt: HostRuntime) -> Result<(), Fail> {
         (index_table + 48, 8, 4),
         (index_table + 56, 8, 4),
     ];
-    assert_file(&rt, &file, 4_178_408, &fields);
     let names = b"\0f\0\0.symtab\0.symtab_shndx\0.strtab\0.shstrtab\0".as_slice();
-    assert_eq!(rt; file.get(120..164), Some(names));
+    assert_eq!(rt;
+        (has_fields(&file, 4_178_408, &fields), file.get(120..164)),
+        (true, Some(names))
+    );
     Ok(())
 }

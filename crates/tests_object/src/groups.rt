@@ -1,8 +1,7 @@
 //! Rule 6 of objects: groups of two sections.
-use crate::parts::{bits, fault_of, section, symbol};
-use elf_object_type::{Body, ObjectFault, Place, Section, Symbol, rules};
-use std::alloc::{AllocError, Global};
-use std::test::Fail;
+use crate::parts::{bits, fault_of, list, section, symbol};
+use elf_object_type::{Body, ObjectFault, Place, Section, rules};
+use std::alloc::Global;
 
 /// A group of these members.
 fn group(members: Vec<usize>) -> Section<'static> {
@@ -14,51 +13,50 @@ fn group(members: Vec<usize>) -> Section<'static> {
     section(0, 4, body)
 }
 
-fn signature(alloc: Global) -> Result<Vec<Symbol<'static>>, AllocError> {
-    Ok(vec![in alloc; symbol(1, Place::Undef)]?)
+/// The fault of an object of these sections, and a symbol that signs their groups.
+fn judged(alloc: Global, sections: Vec<Section<'static>>) -> Result<(), ObjectFault> {
+    let symbols = list(alloc, [symbol(1, Place::Undef)])?;
+    fault_of(alloc, sections, symbols)
 }
 
-/// The fault of an object of a group of these members, and two sections of these flags.
-fn fault_of_group(
-    alloc: Global,
-    members: [usize; 2],
-    flags: u64,
-) -> Result<Option<ObjectFault>, AllocError> {
+/// That of a group of these members, and two sections of these flags.
+fn judged_group(alloc: Global, members: [usize; 2], flags: u64) -> Result<(), ObjectFault> {
     let [first, second] = members;
-    let sections = vec![in alloc;
-        group(vec![in alloc; first, second]?),
-        bits(flags),
-        bits(0x200),
-    ]?;
-    Ok(fault_of(alloc, sections, signature(alloc)?))
+    let group = group(list(alloc, [first, second])?);
+    judged(alloc, list(alloc, [group, bits(flags), bits(0x200)])?)
+}
+
+/// That of two groups of one member, the same section.
+fn judged_twice(alloc: Global) -> Result<(), ObjectFault> {
+    let first = group(list(alloc, [2])?);
+    let second = group(list(alloc, [2])?);
+    judged(alloc, list(alloc, [first, second, bits(0x200)])?)
 }
 
 #[test]
-fn judges_the_positions_of_members(rt: HostRuntime) -> Result<(), Fail> {
-    let alloc = rt.alloc();
-    let past = Some(ObjectFault::Section {
+fn judges_the_positions_of_members(rt: HostRuntime) {
+    let judged = [
+        judged_group(rt.alloc(), [1, 2], 0x200),
+        judged_group(rt.alloc(), [1, 9], 0x200),
+    ];
+    let past = ObjectFault::Section {
         rule: rules::WRONG_POSITION,
         position: 0,
-    });
-    assert_eq!(rt; fault_of_group(alloc, [1, 2], 0x200)?, None);
-    assert_eq!(rt; fault_of_group(alloc, [1, 9], 0x200)?, past);
-    Ok(())
+    };
+    assert_eq!(rt; judged, [Ok(()), Err(past)]);
 }
 
 #[test]
-fn wrong_membership_is_answered_at_the_group(rt: HostRuntime) -> Result<(), Fail> {
-    let alloc = rt.alloc();
+fn wrong_membership_is_answered_at_the_group(rt: HostRuntime) {
+    // Named twice, the group itself, without the flag GROUP, and a member of an earlier group too.
+    let judged = [
+        judged_group(rt.alloc(), [1, 1], 0x200),
+        judged_group(rt.alloc(), [0, 1], 0x200),
+        judged_group(rt.alloc(), [1, 2], 2),
+        judged_twice(rt.alloc()),
+    ];
     let rule = rules::WRONG_MEMBERSHIP;
-    let fault = Some(ObjectFault::Section { rule, position: 0 });
-    // Named twice, the group itself, and without the flag GROUP.
-    for (members, flags) in [([1, 1], 0x200), ([0, 1], 0x200), ([1, 2], 2)] {
-        assert_eq!(rt; fault_of_group(alloc, members, flags)?, fault);
-    }
-    // A member of an earlier group too.
-    let first = group(vec![in alloc; 2]?);
-    let second = group(vec![in alloc; 2]?);
-    let sections = vec![in alloc; first, second, bits(0x200)]?;
-    let fault = Some(ObjectFault::Section { rule, position: 1 });
-    assert_eq!(rt; fault_of(alloc, sections, signature(alloc)?), fault);
-    Ok(())
+    let first = Err(ObjectFault::Section { rule, position: 0 });
+    let second = Err(ObjectFault::Section { rule, position: 1 });
+    assert_eq!(rt; judged, [first, first, first, second]);
 }

@@ -3,7 +3,6 @@ use elf_field::Order;
 use elf_object_type::{Body, Info, Object, ObjectParts, Section};
 use elf_object_writer::{LayoutFault, lay_out};
 use std::alloc::Global;
-use std::process::Abort;
 use std::test::Fail;
 
 // An object of so many sections with these contents, all of one name, flags and alignment, without symbols.
@@ -39,49 +38,62 @@ fn object_of<'a>(
     Ok(Object::new(alloc, parts)?)
 }
 
-#[test]
-fn an_empty_object(rt: HostRuntime) -> Result<(), Fail> {
-    let alloc = rt.alloc();
-    let layout = lay_out(alloc, &object_of(alloc, 0, b"", b"", 0)?)?;
-    assert_eq!(rt; layout.section_count(), 4);
-    assert_eq!(rt; layout.length(), 376);
-    assert_eq!(rt; layout.table(), 120);
-    Ok(())
+/// Of the layout of such an object how many sections its file has, how long it is, and where its section header table stands.
+fn numbers(
+    alloc: Global,
+    count: usize,
+    name: &[u8],
+    content: &[u8],
+    align: u64,
+) -> Result<(usize, u64, u64), Fail> {
+    let object = object_of(alloc, count, name, content, align)?;
+    let layout = lay_out(alloc, &object)?;
+    Ok((layout.section_count(), layout.length(), layout.table()))
 }
 
 #[test]
-fn one_section(rt: HostRuntime) -> Result<(), Fail> {
-    let alloc = rt.alloc();
-    let layout = lay_out(alloc, &object_of(alloc, 1, b".text", b"\xc3", 16)?)?;
-    assert_eq!(rt; layout.section_count(), 5);
-    assert_eq!(rt; layout.length(), 456);
-    assert_eq!(rt; layout.table(), 136);
+fn of_no_section_and_of_one(rt: HostRuntime) -> Result<(), Fail> {
+    let empty = numbers(rt.alloc(), 0, b"", b"", 0)?;
+    let one = numbers(rt.alloc(), 1, b".text", b"\xc3", 16)?;
+    assert_eq!(rt; [empty, one], [(4, 376, 120), (5, 456, 136)]);
     Ok(())
 }
 
 // Around the first reserved index a section more takes a section header more, and nothing else.
 #[test]
-fn many_sections(rt: HostRuntime) -> Result<(), Fail> {
-    let alloc = rt.alloc();
-    for (count, length) in [
-        (65_275, 4_177_976),
-        (65_276, 4_178_040),
-        (65_277, 4_178_104),
-    ] {
-        let layout = lay_out(alloc, &object_of(alloc, count, b"", b"", 1)?)?;
-        assert_eq!(rt; layout.section_count(), count + 4);
-        assert_eq!(rt; layout.length(), length);
-    }
+fn of_many_sections(rt: HostRuntime) -> Result<(), Fail> {
+    let found = [
+        numbers(rt.alloc(), 65_275, b"", b"", 1)?,
+        numbers(rt.alloc(), 65_276, b"", b"", 1)?,
+        numbers(rt.alloc(), 65_277, b"", b"", 1)?,
+    ];
+    let expected = [
+        (65_279, 4_177_976, 120),
+        (65_280, 4_178_040, 120),
+        (65_281, 4_178_104, 120),
+    ];
+    assert_eq!(rt; found, expected);
     Ok(())
+}
+
+/// The fault of the layout of such an object, without names.
+fn fault(
+    alloc: Global,
+    count: usize,
+    content: &[u8],
+    align: u64,
+) -> Result<Option<LayoutFault>, Fail> {
+    let object = object_of(alloc, count, b"", content, align)?;
+    Ok(lay_out(alloc, &object).err())
 }
 
 // An empty content is placed too, and may make the layout too long.
 #[test]
 fn too_long(rt: HostRuntime) -> Result<(), Fail> {
-    let alloc = rt.alloc();
-    let found = lay_out(alloc, &object_of(alloc, 1, b"", b"", 1 << 30)?);
-    assert_eq!(rt; found.err(), Some(LayoutFault::TooLong));
-    let found = lay_out(alloc, &object_of(alloc, 2, b"", b"\0", 1 << 63)?);
-    assert_eq!(rt; found.err(), Some(LayoutFault::TooLong));
+    let faults = [
+        fault(rt.alloc(), 1, b"", 1 << 30)?,
+        fault(rt.alloc(), 2, b"\0", 1 << 63)?,
+    ];
+    assert_eq!(rt; faults, [Some(LayoutFault::TooLong); 2]);
     Ok(())
 }

@@ -4,7 +4,14 @@ use elf_object_type::{
     Body, Info, Object, ObjectFault, ObjectParts, Place, Relocation, Section, Symbol, rules,
 };
 use std::alloc::{AllocError, Global};
-use std::test::Fail;
+
+/// These items, in a vector.
+pub(crate) fn list<T: Drop, const N: usize>(
+    alloc: Global,
+    items: [T; N],
+) -> Result<Vec<T>, AllocError> {
+    Ok(Vec::from_array(alloc, items)?)
+}
 
 /// A section of this body, with entries of this size.
 pub(crate) fn section(flags: u64, entsize: u64, body: Body<'static>) -> Section<'static> {
@@ -65,12 +72,12 @@ fn symbols(alloc: Global) -> Result<Vec<Symbol<'static>>, AllocError> {
     Ok(vec![in alloc; symbol(0, Place::In(0)), symbol(1, Place::Undef)]?)
 }
 
-/// The fault of an object of these sections and symbols.
+/// Whether these sections and symbols are an object, or their fault.
 pub(crate) fn fault_of(
     alloc: Global,
     sections: Vec<Section<'static>>,
     symbols: Vec<Symbol<'static>>,
-) -> Option<ObjectFault> {
+) -> Result<(), ObjectFault> {
     let parts = ObjectParts {
         order: Order::Little,
         osabi: 0,
@@ -80,156 +87,153 @@ pub(crate) fn fault_of(
         sections,
         symbols,
     };
-    match Object::new(alloc, parts) {
-        Ok(_) => None,
-        Err(fault) => Some(fault),
-    }
-}
-
-fn in_section(rule: u16, position: usize) -> Option<ObjectFault> {
-    Some(ObjectFault::Section { rule, position })
-}
-
-#[test]
-fn accepts_parts_that_break_no_rule(rt: HostRuntime) -> Result<(), Fail> {
-    let alloc = rt.alloc();
-    assert_eq!(rt;
-        fault_of(alloc, sections(alloc, true, 24)?, symbols(alloc)?),
-        None
-    );
-    assert_eq!(rt;
-        fault_of(alloc, sections(alloc, false, 16)?, symbols(alloc)?),
-        None
-    );
-    assert_eq!(rt; fault_of(alloc, Vec::new(alloc), Vec::new(alloc)), None);
+    Object::new(alloc, parts)?;
     Ok(())
 }
 
-#[test]
-fn zero_in_section_name_is_answered_at_the_section(rt: HostRuntime) -> Result<(), Fail> {
-    let alloc = rt.alloc();
+/// That of the three sections with relocations of this kind and size, and the two symbols.
+fn judged(alloc: Global, rela: bool, entsize: u64) -> Result<(), ObjectFault> {
+    let sections = sections(alloc, rela, entsize)?;
+    fault_of(alloc, sections, symbols(alloc)?)
+}
+
+/// That of the three sections, with this one at this position, and the two symbols.
+fn judged_with(
+    alloc: Global,
+    position: usize,
+    section: Section<'static>,
+) -> Result<(), ObjectFault> {
     let mut sections = sections(alloc, true, 24)?;
-    if let Some(section) = sections.get_mut(1) {
-        section.name = b"a\0";
+    if let Some(place) = sections.get_mut(position) {
+        *place = section;
     }
+    fault_of(alloc, sections, symbols(alloc)?)
+}
+
+fn in_section(rule: u16, position: usize) -> Result<(), ObjectFault> {
+    Err(ObjectFault::Section { rule, position })
+}
+
+#[test]
+fn accepts_parts_that_break_no_rule(rt: HostRuntime) {
+    let alloc = rt.alloc();
+    let judged = [
+        judged(alloc, true, 24),
+        judged(alloc, false, 16),
+        fault_of(alloc, Vec::new(alloc), Vec::new(alloc)),
+    ];
+    assert_eq!(rt; judged, [Ok(()); 3]);
+}
+
+#[test]
+fn zero_in_section_name_is_answered_at_the_section(rt: HostRuntime) {
+    let named = Section {
+        name: b"a\0",
+        ..bits(6)
+    };
+    let judged = judged_with(rt.alloc(), 1, named);
+    assert_eq!(rt; judged, in_section(rules::ZERO_IN_SECTION_NAME, 1));
+}
+
+#[test]
+fn wrong_bits_type_is_answered_at_the_section(rt: HostRuntime) {
+    let typed = section(6, 0, Body::Bits(11, b""));
+    let judged = judged_with(rt.alloc(), 0, typed);
+    assert_eq!(rt; judged, in_section(rules::WRONG_BITS_TYPE, 0));
+}
+
+/// The fault of the sections, with one of this alignment and address in the middle.
+fn judged_at(alloc: Global, align: u64, addr: u64) -> Result<(), ObjectFault> {
+    let aligned = Section {
+        align,
+        addr,
+        ..bits(6)
+    };
+    judged_with(alloc, 1, aligned)
+}
+
+#[test]
+fn wrong_alignment_is_answered_at_the_section(rt: HostRuntime) {
+    let judged = [judged_at(rt.alloc(), 3, 0), judged_at(rt.alloc(), 8, 4)];
+    assert_eq!(rt; judged, [in_section(rules::WRONG_ALIGNMENT, 1); 2]);
+}
+
+/// The fault of the sections, with these relocations behind them.
+fn judged_relocs(
+    alloc: Global,
+    rela: bool,
+    entsize: u64,
+    target: usize,
+    addend: i64,
+) -> Result<(), ObjectFault> {
+    let relocs = Body::Relocs {
+        rela,
+        target,
+        entries: list(alloc, [entry(addend)])?,
+    };
+    judged_with(alloc, 2, section(0, entsize, relocs))
+}
+
+#[test]
+fn wrong_position_is_answered_at_the_section(rt: HostRuntime) {
+    // A section without bits has no relocations.
+    let judged = judged_relocs(rt.alloc(), true, 24, 1, 0);
+    assert_eq!(rt; judged, in_section(rules::WRONG_POSITION, 2));
+}
+
+#[test]
+fn wrong_field_is_answered_at_the_section(rt: HostRuntime) {
+    // A number where the flag says section, entries of another size, and REL with an addend.
+    let judged = [
+        judged_with(rt.alloc(), 0, bits(0x46)),
+        judged_relocs(rt.alloc(), false, 24, 0, 0),
+        judged_relocs(rt.alloc(), false, 16, 0, -4),
+    ];
+    let rule = rules::WRONG_FIELD;
     assert_eq!(rt;
-        fault_of(alloc, sections, symbols(alloc)?),
-        in_section(rules::ZERO_IN_SECTION_NAME, 1)
+        judged,
+        [
+            in_section(rule, 0),
+            in_section(rule, 2),
+            in_section(rule, 2)
+        ]
     );
-    Ok(())
-}
-
-#[test]
-fn wrong_bits_type_is_answered_at_the_section(rt: HostRuntime) -> Result<(), Fail> {
-    let alloc = rt.alloc();
-    let mut sections = sections(alloc, true, 24)?;
-    if let Some(section) = sections.get_mut(0) {
-        section.body = Body::Bits(11, b"");
-    }
-    assert_eq!(rt;
-        fault_of(alloc, sections, symbols(alloc)?),
-        in_section(rules::WRONG_BITS_TYPE, 0)
-    );
-    Ok(())
-}
-
-#[test]
-fn wrong_alignment_is_answered_at_the_section(rt: HostRuntime) -> Result<(), Fail> {
-    let alloc = rt.alloc();
-    for (align, addr) in [(3, 0), (8, 4)] {
-        let mut sections = sections(alloc, true, 24)?;
-        if let Some(section) = sections.get_mut(1) {
-            section.align = align;
-            section.addr = addr;
-        }
-        assert_eq!(rt;
-            fault_of(alloc, sections, symbols(alloc)?),
-            in_section(rules::WRONG_ALIGNMENT, 1)
-        );
-    }
-    Ok(())
-}
-
-#[test]
-fn wrong_position_is_answered_at_the_section(rt: HostRuntime) -> Result<(), Fail> {
-    let alloc = rt.alloc();
-    let mut sections = sections(alloc, true, 24)?;
-    if let Some(section) = sections.get_mut(2) {
-        section.body = Body::Relocs {
-            rela: true,
-            target: 1,
-            entries: Vec::new(alloc),
-        };
-    }
-    assert_eq!(rt;
-        fault_of(alloc, sections, symbols(alloc)?),
-        in_section(rules::WRONG_POSITION, 2)
-    );
-    Ok(())
-}
-
-#[test]
-fn wrong_field_is_answered_at_the_section(rt: HostRuntime) -> Result<(), Fail> {
-    let alloc = rt.alloc();
-    // A number where the flag says section.
-    let mut numbered = sections(alloc, true, 24)?;
-    if let Some(section) = numbered.get_mut(0) {
-        section.flags = 0x46;
-    }
-    // Entries of another size, and REL with an addend.
-    let wide = sections(alloc, false, 24)?;
-    let mut added = sections(alloc, false, 16)?;
-    if let Some(section) = added.get_mut(2) {
-        section.body = Body::Relocs {
-            rela: false,
-            target: 0,
-            entries: vec![in alloc; entry(-4)]?,
-        };
-    }
-    for (sections, position) in [(numbered, 0), (wide, 2), (added, 2)] {
-        assert_eq!(rt;
-            fault_of(alloc, sections, symbols(alloc)?),
-            in_section(rules::WRONG_FIELD, position)
-        );
-    }
-    Ok(())
 }
 
 /// The fault of an object of these two symbols.
-fn fault_of_symbols(
+fn judged_symbols(
     alloc: Global,
     first: Symbol<'static>,
     second: Symbol<'static>,
-) -> Result<Option<ObjectFault>, AllocError> {
-    let symbols = vec![in alloc; first, second]?;
-    Ok(fault_of(alloc, sections(alloc, true, 24)?, symbols))
+) -> Result<(), ObjectFault> {
+    let sections = sections(alloc, true, 24)?;
+    fault_of(alloc, sections, list(alloc, [first, second])?)
 }
 
-fn at_symbol(rule: u16, position: usize) -> Option<ObjectFault> {
-    Some(ObjectFault::Symbol { rule, position })
-}
-
-#[test]
-fn zero_in_symbol_name_is_answered_at_the_symbol(rt: HostRuntime) -> Result<(), Fail> {
-    let mut named = symbol(0, Place::In(0));
-    named.name = b"f\0";
-    let fault = fault_of_symbols(rt.alloc(), named, symbol(1, Place::Undef))?;
-    assert_eq!(rt; fault, at_symbol(rules::ZERO_IN_SYMBOL_NAME, 0));
-    Ok(())
+fn at_symbol(rule: u16, position: usize) -> Result<(), ObjectFault> {
+    Err(ObjectFault::Symbol { rule, position })
 }
 
 #[test]
-fn wrong_place_is_answered_at_the_symbol(rt: HostRuntime) -> Result<(), Fail> {
+fn zero_in_symbol_name_is_answered_at_the_symbol(rt: HostRuntime) {
+    let named = Symbol {
+        name: b"f\0",
+        ..symbol(0, Place::In(0))
+    };
+    let judged = judged_symbols(rt.alloc(), named, symbol(1, Place::Undef));
+    assert_eq!(rt; judged, at_symbol(rules::ZERO_IN_SYMBOL_NAME, 0));
+}
+
+#[test]
+fn wrong_place_is_answered_at_the_symbol(rt: HostRuntime) {
     let past = symbol(0, Place::In(3));
-    let fault = fault_of_symbols(rt.alloc(), past, symbol(1, Place::Undef))?;
-    assert_eq!(rt; fault, at_symbol(rules::WRONG_PLACE, 0));
-    Ok(())
+    let judged = judged_symbols(rt.alloc(), past, symbol(1, Place::Undef));
+    assert_eq!(rt; judged, at_symbol(rules::WRONG_PLACE, 0));
 }
 
 #[test]
-fn misplaced_local_is_answered_at_the_symbol(rt: HostRuntime) -> Result<(), Fail> {
+fn misplaced_local_is_answered_at_the_symbol(rt: HostRuntime) {
     let late = symbol(0, Place::Common);
-    let fault = fault_of_symbols(rt.alloc(), symbol(1, Place::Abs), late)?;
-    assert_eq!(rt; fault, at_symbol(rules::MISPLACED_LOCAL, 1));
-    Ok(())
+    let judged = judged_symbols(rt.alloc(), symbol(1, Place::Abs), late);
+    assert_eq!(rt; judged, at_symbol(rules::MISPLACED_LOCAL, 1));
 }

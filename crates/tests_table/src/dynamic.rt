@@ -1,12 +1,11 @@
-//! Rules 63 and 64: dynamic sections, of a file that names one library.
-use crate::verdicts::{Table, assert_breaks};
+//! Rules 40 to 44, 63 and 64: dynamic sections, of a file that names one library.
+use crate::verdicts::{Row, Table, assert_breaks};
 use elf_field::abi::*;
 use elf_field::{Dyn, Order};
 use elf_image_stream::Fault;
 use elf_image_type::parse;
 use elf_table_all::{Dynamic, rules};
 use std::alloc::Global;
-use std::process::Abort;
 use tests_files::{Field, set, set_header};
 
 /// A dynamic section of two entries at 64, its string table at 96, and the section headers at 104.
@@ -30,7 +29,7 @@ const DYNAMIC: [Field; 16] = [
 ];
 
 /// The section header of the dynamic section, section 1.
-pub(crate) const DYNAMIC_HEADER: u64 = 104 + SHDR_SIZE;
+const DYNAMIC_HEADER: u64 = 104 + SHDR_SIZE;
 
 fn dynamic() -> [u8; 296] {
     let mut file = [0; 296];
@@ -38,45 +37,68 @@ fn dynamic() -> [u8; 296] {
     file
 }
 
-/// The entries are one, which names the library.
-fn assert_names_one_library(rt: &impl Abort, dynamic: &Dynamic<'_>) {
-    assert_eq!(rt; dynamic.len(), 1);
+/// Whether the entries are one, which names the library.
+fn names_one_library(dynamic: &Dynamic<'_>) -> bool {
     let library = Dyn { d_tag: 1, d_un: 1 };
-    assert_eq!(rt; (dynamic.entry(0), dynamic.iter().count()), (library, 1));
+    dynamic.len() == 1 && dynamic.entry(0) == library && dynamic.iter().count() == 1
+}
+
+/// The same of a file's section 1.
+fn file_names_one_library(alloc: Global, file: &[u8]) -> Result<bool, Fault> {
+    let image = parse(alloc, file)?;
+    if image.section_count() < 2 {
+        return Ok(false);
+    }
+    let dynamic = Dynamic::new(&image, 1)?;
+    Ok(names_one_library(&dynamic))
 }
 
 #[test]
-fn tells_the_entries_before_the_end(rt: HostRuntime) -> Result<(), Fault> {
-    let file = dynamic();
-    let image = parse(rt.alloc(), &file)?;
-    assert!(rt; image.section_count() > 1);
-    assert_names_one_library(&rt, &Dynamic::new(&image, 1)?);
-    Ok(())
+fn tells_the_entries_before_the_end(rt: HostRuntime) {
+    let names = file_names_one_library(rt.alloc(), &dynamic());
+    assert_eq!(rt; names, Ok(true));
 }
 
-/// The dynamic section of the file with these fields breaks this rule first, at this offset.
-pub(crate) fn assert_dynamic_breaks(
-    rt: &impl Abort,
-    alloc: Global,
-    fields: &[Field],
-    rule: u16,
-    at: u64,
-) {
-    let mut file = dynamic();
-    set(&mut file, Order::Little, fields);
-    assert_breaks(rt, alloc, &file, 1, Table::Dynamic, rule, at);
-}
+const ROWS: [Row; 8] = [
+    (
+        &[(DYNAMIC_HEADER + SH_TYPE_AT, 4, 1)],
+        rules::WRONG_TABLE_TYPE,
+        DYNAMIC_HEADER + SH_TYPE_AT,
+    ),
+    (&[(96, 1, 1)], rules::UNCLOSED_STRING_TABLE, 96),
+    (&[(101, 1, 1)], rules::UNCLOSED_STRING_TABLE, 101),
+    (
+        &[(DYNAMIC_HEADER + SH_ENTSIZE_AT, 8, 8)],
+        rules::WRONG_ENTRY_SIZE,
+        DYNAMIC_HEADER + SH_ENTSIZE_AT,
+    ),
+    (
+        &[(DYNAMIC_HEADER + SH_SIZE_AT, 8, 31)],
+        rules::PARTIAL_ENTRY,
+        DYNAMIC_HEADER + SH_SIZE_AT,
+    ),
+    (
+        &[(DYNAMIC_HEADER + SH_LINK_AT, 4, 1)],
+        rules::WRONG_LINK,
+        DYNAMIC_HEADER + SH_LINK_AT,
+    ),
+    (
+        &[(DYNAMIC_HEADER + SH_SIZE_AT, 8, 16)],
+        rules::NO_NULL_ENTRY,
+        DYNAMIC_HEADER + SH_SIZE_AT,
+    ),
+    (
+        &[(64 + D_UN_AT, 8, 6)],
+        rules::DYNAMIC_STRING_PAST_END,
+        64 + D_UN_AT,
+    ),
+];
 
 #[test]
-fn no_null_entry_is_answered_at_the_size(rt: HostRuntime) {
-    let at = DYNAMIC_HEADER + SH_SIZE_AT;
-    let rule = rules::NO_NULL_ENTRY;
-    assert_dynamic_breaks(&rt, rt.alloc(), &[(at, 8, 16)], rule, at);
-}
-
-#[test]
-fn dynamic_string_past_end_is_answered_at_the_value(rt: HostRuntime) {
-    let at = 64 + D_UN_AT;
-    let rule = rules::DYNAMIC_STRING_PAST_END;
-    assert_dynamic_breaks(&rt, rt.alloc(), &[(at, 8, 6)], rule, at);
+fn each_rule_is_answered_where_it_is_broken(rt: HostRuntime) {
+    for (fields, rule, at) in ROWS {
+        let mut file = dynamic();
+        set(&mut file, Order::Little, fields);
+        assert_breaks(&rt, rt.alloc(), &file, 1, Table::Dynamic, rule, at);
+    }
 }

@@ -1,12 +1,11 @@
-//! Rules 55 to 58: section groups, of a file of one group.
-use crate::verdicts::{Table, assert_breaks};
+//! Rules 40, 42 to 44 and 55 to 58: section groups, of a file of one group.
+use crate::verdicts::{Row, Table, assert_breaks};
 use elf_field::Order;
 use elf_field::abi::*;
 use elf_image_stream::Fault;
 use elf_image_type::parse;
 use elf_table_all::{Group, Tables, rules};
 use std::alloc::Global;
-use std::process::Abort;
 use tests_files::{Field, set, set_header};
 
 /// A group of one section, at 64 with room for a further member; that section at 76; two symbols at 80 and their names at 128; and
@@ -49,13 +48,13 @@ const GROUP: [Field; 34] = [
 ];
 
 /// The section header of the group, section 1.
-pub(crate) const GROUP_HEADER: u64 = 136 + SHDR_SIZE;
+const GROUP_HEADER: u64 = 136 + SHDR_SIZE;
 
 /// That of the member, section 2.
 const MEMBER_HEADER: u64 = GROUP_HEADER + SHDR_SIZE;
 
 /// That of the symbol table, section 3.
-pub(crate) const SIGNATURES_HEADER: u64 = MEMBER_HEADER + SHDR_SIZE;
+const SIGNATURES_HEADER: u64 = MEMBER_HEADER + SHDR_SIZE;
 
 fn group() -> [u8; 456] {
     let mut file = [0; 456];
@@ -63,23 +62,27 @@ fn group() -> [u8; 456] {
     file
 }
 
-/// The group has section 2 alone, and symbol 1 signs it.
-fn assert_one_member(rt: &impl Abort, group: &Group<'_>) {
-    assert_eq!(rt; group.len(), 1);
-    assert_eq!(rt;
-        [group.flags(), group.signature(), group.entry(0)],
-        [1, 1, 2]
-    );
-    assert_eq!(rt; group.iter().count(), 1);
+/// Whether the group has section 2 alone, and symbol 1 signs it.
+fn has_one_member(group: &Group<'_>) -> bool {
+    group.len() == 1
+        && [group.flags(), group.signature(), group.entry(0)] == [1, 1, 2]
+        && group.iter().count() == 1
+}
+
+/// The same of a file's section 1.
+fn file_has_one_member(alloc: Global, file: &[u8]) -> Result<bool, Fault> {
+    let image = parse(alloc, file)?;
+    if image.section_count() < 2 {
+        return Ok(false);
+    }
+    let group = Group::new(alloc, &image, 1)?;
+    Ok(has_one_member(&group))
 }
 
 #[test]
-fn tells_a_group_and_its_members(rt: HostRuntime) -> Result<(), Fault> {
-    let file = group();
-    let image = parse(rt.alloc(), &file)?;
-    assert!(rt; image.section_count() > 1);
-    assert_one_member(&rt, &Group::new(rt.alloc(), &image, 1)?);
-    Ok(())
+fn tells_a_group_and_its_members(rt: HostRuntime) {
+    let has = file_has_one_member(rt.alloc(), &group());
+    assert_eq!(rt; has, Ok(true));
 }
 
 /// Whether section 1 of the file is refused when all tables are judged.
@@ -93,60 +96,60 @@ fn is_refused_with_the_other_tables(alloc: Global, file: &[u8]) -> Result<bool, 
 }
 
 #[test]
-fn judges_a_group_with_the_other_tables(rt: HostRuntime) -> Result<(), Fault> {
+fn judges_a_group_with_the_other_tables(rt: HostRuntime) {
     let mut file = group();
     file[424] = 2;
-    assert_eq!(rt; is_refused_with_the_other_tables(rt.alloc(), &file)?, true);
+    let refused = is_refused_with_the_other_tables(rt.alloc(), &file);
+    assert_eq!(rt; refused, Ok(true));
     let rule = rules::UNCLOSED_STRING_TABLE;
     assert_breaks(&rt, rt.alloc(), &file, 1, Table::Group, rule, 129);
-    Ok(())
 }
 
-/// The group of the file with these fields breaks this rule first, at this offset.
-pub(crate) fn assert_group_breaks(
-    rt: &impl Abort,
-    alloc: Global,
-    fields: &[Field],
-    rule: u16,
-    at: u64,
-) {
-    let mut file = group();
-    set(&mut file, Order::Little, fields);
-    assert_breaks(rt, alloc, &file, 1, Table::Group, rule, at);
-}
+const TYPE_AT: u64 = GROUP_HEADER + SH_TYPE_AT;
+
+const SIZE_AT: u64 = GROUP_HEADER + SH_SIZE_AT;
+
+const INFO_AT: u64 = GROUP_HEADER + SH_INFO_AT;
+
+const ROWS: [Row; 13] = [
+    (&[(TYPE_AT, 4, 1)], rules::WRONG_TABLE_TYPE, TYPE_AT),
+    (
+        &[(GROUP_HEADER + SH_ENTSIZE_AT, 8, 8)],
+        rules::WRONG_ENTRY_SIZE,
+        GROUP_HEADER + SH_ENTSIZE_AT,
+    ),
+    (
+        &[(SIGNATURES_HEADER + SH_ENTSIZE_AT, 8, 16)],
+        rules::WRONG_ENTRY_SIZE,
+        SIGNATURES_HEADER + SH_ENTSIZE_AT,
+    ),
+    (&[(SIZE_AT, 8, 6)], rules::PARTIAL_ENTRY, SIZE_AT),
+    // The table that the group links to is no SYMTAB.
+    (
+        &[(SIGNATURES_HEADER + SH_TYPE_AT, 4, 11)],
+        rules::WRONG_LINK,
+        GROUP_HEADER + SH_LINK_AT,
+    ),
+    (&[(SIZE_AT, 8, 0)], rules::EMPTY_GROUP, SIZE_AT),
+    (&[(64, 4, 2)], rules::WRONG_GROUP_FLAGS, 64),
+    (&[(INFO_AT, 4, 0)], rules::WRONG_SIGNATURE, INFO_AT),
+    (&[(INFO_AT, 4, 2)], rules::WRONG_SIGNATURE, INFO_AT),
+    // The group itself, no section, one without the flag GROUP, and one named twice.
+    (&[(68, 4, 1)], rules::WRONG_MEMBER, 68),
+    (&[(68, 4, 5)], rules::WRONG_MEMBER, 68),
+    (
+        &[(MEMBER_HEADER + SH_FLAGS_AT, 8, 6)],
+        rules::WRONG_MEMBER,
+        68,
+    ),
+    (&[(SIZE_AT, 8, 12)], rules::WRONG_MEMBER, 72),
+];
 
 #[test]
-fn empty_group_is_answered_at_the_size(rt: HostRuntime) {
-    let at = GROUP_HEADER + SH_SIZE_AT;
-    assert_group_breaks(&rt, rt.alloc(), &[(at, 8, 0)], rules::EMPTY_GROUP, at);
-}
-
-#[test]
-fn wrong_group_flags_is_answered_at_the_flags(rt: HostRuntime) {
-    let rule = rules::WRONG_GROUP_FLAGS;
-    assert_group_breaks(&rt, rt.alloc(), &[(64, 4, 2)], rule, 64);
-}
-
-#[test]
-fn wrong_signature_is_answered_at_the_info(rt: HostRuntime) {
-    let at = GROUP_HEADER + SH_INFO_AT;
-    for symbol in [0, 2] {
-        let fields = [(at, 4, symbol)];
-        assert_group_breaks(&rt, rt.alloc(), &fields, rules::WRONG_SIGNATURE, at);
-    }
-}
-
-#[test]
-fn wrong_member_is_answered_at_its_word(rt: HostRuntime) {
-    let rows = [
-        // The group itself, and no section.
-        ((68, 4, 1), 68),
-        ((68, 4, 5), 68),
-        // Without the flag GROUP, and named twice.
-        ((MEMBER_HEADER + SH_FLAGS_AT, 8, 6), 68),
-        ((GROUP_HEADER + SH_SIZE_AT, 8, 12), 72),
-    ];
-    for (field, at) in rows {
-        assert_group_breaks(&rt, rt.alloc(), &[field], rules::WRONG_MEMBER, at);
+fn each_rule_is_answered_where_it_is_broken(rt: HostRuntime) {
+    for (fields, rule, at) in ROWS {
+        let mut file = group();
+        set(&mut file, Order::Little, fields);
+        assert_breaks(&rt, rt.alloc(), &file, 1, Table::Group, rule, at);
     }
 }

@@ -1,13 +1,11 @@
-//! Rules 65 to 69: hash tables, of three names.
-use crate::verdicts::{Table, assert_breaks};
+//! Rules 40, 42 to 45 and 65 to 69: hash tables, of three names.
+use crate::verdicts::{Row, Table, assert_breaks};
 use elf_field::Order;
 use elf_field::abi::*;
 use elf_image_stream::Fault;
 use elf_image_type::parse;
 use elf_table_all::{Hash, HashFault, build_hash, elf_hash, rules};
 use std::alloc::Global;
-use std::process::Abort;
-use std::test::Fail;
 use tests_files::{Field, set, set_header};
 
 /// A hash table of two buckets at 64, four symbols at 96, their names at 192, and the section headers at 208.
@@ -49,10 +47,10 @@ const HASH: [Field; 34] = [
 ];
 
 /// The section header of the hash table, section 1.
-pub(crate) const HASH_HEADER: u64 = 208 + SHDR_SIZE;
+const HASH_HEADER: u64 = 208 + SHDR_SIZE;
 
 /// That of its symbol table, section 2.
-pub(crate) const SYMBOLS_OF_HASH: u64 = HASH_HEADER + SHDR_SIZE;
+const SYMBOLS_OF_HASH: u64 = HASH_HEADER + SHDR_SIZE;
 
 /// The words of the buckets' count and of the chain words'; behind them stand the buckets, at 72, and the chain words, at 80.
 const BUCKET_COUNT_AT: u64 = 64;
@@ -76,107 +74,119 @@ fn hashes_names(rt: HostRuntime) {
     assert_eq!(rt; hashes, [0, 0x0779_05a6, 0x0006_cf04, 0x0b09_985c]);
 }
 
-fn assert_finds_each_name(rt: &impl Abort, hash: &Hash<'_>) {
+/// Whether each name is found, and no other, after so many looks.
+fn finds_each_name(hash: &Hash<'_>) -> bool {
     let found = [
         hash.find(b"printf"),
         hash.find(b"exit"),
         hash.find(b"b"),
         hash.find(b""),
     ];
-    assert_eq!(rt; found, [Some(1), Some(2), None, None]);
     let probed = [hash.probe(b"exit"), hash.probe(b"a"), hash.probe(b"b")];
-    assert_eq!(rt; probed, [(Some(2), 2), (Some(3), 1), (None, 2)]);
+    found == [Some(1), Some(2), None, None] && probed == [(Some(2), 2), (Some(3), 1), (None, 2)]
 }
 
-fn assert_words(rt: &impl Abort, hash: &Hash<'_>) {
-    assert_eq!(rt; (hash.nbucket(), hash.nchain(), hash.len()), (2, 4, 8));
-    assert_eq!(rt; (hash.entry(3), hash.iter().count()), (3, 8));
+/// Whether it has these words.
+fn has_words(hash: &Hash<'_>) -> bool {
+    (hash.nbucket(), hash.nchain(), hash.len()) == (2, 4, 8)
+        && hash.entry(3) == 3
+        && hash.iter().count() == 8
 }
 
-#[test]
-fn finds_each_name_and_tells_the_words(rt: HostRuntime) -> Result<(), Fault> {
-    let file = hash();
-    let image = parse(rt.alloc(), &file)?;
-    assert!(rt; image.section_count() > 1);
-    let hash = Hash::new(rt.alloc(), &image, 1)?;
-    assert_finds_each_name(&rt, &hash);
-    assert_words(&rt, &hash);
-    Ok(())
-}
-
-/// The hash table of the file with these fields breaks this rule first, at this offset.
-pub(crate) fn assert_hash_breaks(
-    rt: &impl Abort,
-    alloc: Global,
-    fields: &[Field],
-    rule: u16,
-    at: u64,
-) {
-    let mut file = hash();
-    set(&mut file, Order::Little, fields);
-    assert_breaks(rt, alloc, &file, 1, Table::Hash, rule, at);
+/// Both of a file's section 1.
+fn told(alloc: Global, file: &[u8]) -> Result<[bool; 2], Fault> {
+    let image = parse(alloc, file)?;
+    if image.section_count() < 2 {
+        return Ok([false; 2]);
+    }
+    let hash = Hash::new(alloc, &image, 1)?;
+    Ok([finds_each_name(&hash), has_words(&hash)])
 }
 
 #[test]
-fn wrong_hash_size_is_answered_at_the_size(rt: HostRuntime) {
-    let at = HASH_HEADER + SH_SIZE_AT;
-    for field in [(at, 8, 4), (at, 8, 28), (BUCKET_COUNT_AT, 4, 3)] {
-        assert_hash_breaks(&rt, rt.alloc(), &[field], rules::WRONG_HASH_SIZE, at);
+fn finds_each_name_and_tells_the_words(rt: HostRuntime) {
+    assert_eq!(rt; told(rt.alloc(), &hash()), Ok([true; 2]));
+}
+
+const SIZE_AT: u64 = HASH_HEADER + SH_SIZE_AT;
+
+const ROWS: [Row; 14] = [
+    (
+        &[(HASH_HEADER + SH_TYPE_AT, 4, 1)],
+        rules::WRONG_TABLE_TYPE,
+        HASH_HEADER + SH_TYPE_AT,
+    ),
+    (
+        &[(HASH_HEADER + SH_ENTSIZE_AT, 8, 8)],
+        rules::WRONG_ENTRY_SIZE,
+        HASH_HEADER + SH_ENTSIZE_AT,
+    ),
+    (&[(SIZE_AT, 8, 30)], rules::PARTIAL_ENTRY, SIZE_AT),
+    (
+        &[(HASH_HEADER + SH_LINK_AT, 4, 3)],
+        rules::WRONG_LINK,
+        HASH_HEADER + SH_LINK_AT,
+    ),
+    (
+        &[(SYMBOLS_OF_HASH + SH_INFO_AT, 4, 0)],
+        rules::WRONG_LOCAL_COUNT,
+        SYMBOLS_OF_HASH + SH_INFO_AT,
+    ),
+    (&[(SIZE_AT, 8, 4)], rules::WRONG_HASH_SIZE, SIZE_AT),
+    (&[(SIZE_AT, 8, 28)], rules::WRONG_HASH_SIZE, SIZE_AT),
+    (&[(BUCKET_COUNT_AT, 4, 3)], rules::WRONG_HASH_SIZE, SIZE_AT),
+    // Each count with the other one as large as the size wants it.
+    (
+        &[(BUCKET_COUNT_AT, 4, 0), (CHAIN_COUNT_AT, 4, 6)],
+        rules::WRONG_HASH_COUNT,
+        BUCKET_COUNT_AT,
+    ),
+    (
+        &[(BUCKET_COUNT_AT, 4, 3), (CHAIN_COUNT_AT, 4, 3)],
+        rules::WRONG_HASH_COUNT,
+        CHAIN_COUNT_AT,
+    ),
+    (&[(72, 4, 4)], rules::HASH_WORD_PAST_END, 72),
+    (&[(92, 4, 4)], rules::HASH_WORD_PAST_END, 92),
+    (&[(88, 4, 1)], rules::ENDLESS_CHAIN, 72),
+    (&[(84, 4, 0)], rules::SYMBOL_OFF_CHAIN, 88),
+];
+
+#[test]
+fn each_rule_is_answered_where_it_is_broken(rt: HostRuntime) {
+    for (fields, rule, at) in ROWS {
+        let mut file = hash();
+        set(&mut file, Order::Little, fields);
+        assert_breaks(&rt, rt.alloc(), &file, 1, Table::Hash, rule, at);
     }
 }
 
-#[test]
-fn wrong_hash_count_is_answered_at_its_word(rt: HostRuntime) {
-    // Each with the other count as large as the size wants it.
-    let none = [(BUCKET_COUNT_AT, 4, 0), (CHAIN_COUNT_AT, 4, 6)];
-    let rule = rules::WRONG_HASH_COUNT;
-    assert_hash_breaks(&rt, rt.alloc(), &none, rule, BUCKET_COUNT_AT);
-    let three = [(BUCKET_COUNT_AT, 4, 3), (CHAIN_COUNT_AT, 4, 3)];
-    assert_hash_breaks(&rt, rt.alloc(), &three, rule, CHAIN_COUNT_AT);
-}
-
-#[test]
-fn hash_word_past_end_is_answered_at_the_word(rt: HostRuntime) {
-    let rule = rules::HASH_WORD_PAST_END;
-    assert_hash_breaks(&rt, rt.alloc(), &[(72, 4, 4)], rule, 72);
-    assert_hash_breaks(&rt, rt.alloc(), &[(92, 4, 4)], rule, 92);
-}
-
-#[test]
-fn endless_chain_is_answered_at_the_bucket(rt: HostRuntime) {
-    let rule = rules::ENDLESS_CHAIN;
-    assert_hash_breaks(&rt, rt.alloc(), &[(88, 4, 1)], rule, 72);
-}
-
-#[test]
-fn symbol_off_chain_is_answered_at_its_chain_word(rt: HostRuntime) {
-    let rule = rules::SYMBOL_OFF_CHAIN;
-    assert_hash_breaks(&rt, rt.alloc(), &[(84, 4, 0)], rule, 88);
-}
-
-#[test]
-fn builds_a_hash_table(rt: HostRuntime) -> Result<(), Fail> {
+/// Whether these words are built of four names, and these of none.
+fn are_built(alloc: Global) -> Result<[bool; 2], HashFault> {
     let names: [&[u8]; 4] = [b"", b"printf", b"exit", b"a"];
-    let words = build_hash(rt.alloc(), &names, 2)?;
-    assert_eq!(rt; words.as_slice(), [2, 4, 1, 3, 0, 2, 0, 0].as_slice());
+    let words = build_hash(alloc, &names, 2)?;
     let none: [&[u8]; 1] = [b""];
-    assert_eq!(rt;
-        build_hash(rt.alloc(), &none, 1)?.as_slice(),
-        [1, 1, 0, 0].as_slice()
-    );
-    Ok(())
+    let empty = build_hash(alloc, &none, 1)?;
+    Ok([
+        words.as_slice() == [2, 4, 1, 3, 0, 2, 0, 0].as_slice(),
+        empty.as_slice() == [1, 1, 0, 0].as_slice(),
+    ])
+}
+
+#[test]
+fn builds_a_hash_table(rt: HostRuntime) {
+    assert_eq!(rt; are_built(rt.alloc()), Ok([true; 2]));
 }
 
 #[test]
 fn builds_none_without_a_bucket_or_of_too_many(rt: HostRuntime) {
     let none: [&[u8]; 1] = [b""];
-    assert_eq!(rt;
+    let faults = [
         build_hash(rt.alloc(), &none, 0).err(),
-        Some(HashFault::NoBuckets)
-    );
-    let many = 0x0100_0001;
+        build_hash(rt.alloc(), &none, 0x0100_0001).err(),
+    ];
     assert_eq!(rt;
-        build_hash(rt.alloc(), &none, many).err(),
-        Some(HashFault::TooMany)
+        faults,
+        [Some(HashFault::NoBuckets), Some(HashFault::TooMany)]
     );
 }

@@ -1,4 +1,4 @@
-//! Tests of the tables that a file holds: for each rule one that has the rule's name.
+//! Tests of the tables that a file holds: for each rule a row that has the rule's name.
 #![tactic(auto)]
 
 #[cfg(test)]
@@ -9,8 +9,6 @@ mod groups;
 mod hashes;
 #[cfg(test)]
 mod notes;
-#[cfg(test)]
-mod shared_rules;
 #[cfg(test)]
 mod symbols;
 #[cfg(test)]

@@ -1,12 +1,11 @@
-//! Rules 59 to 62: note sections, of a file of one note.
-use crate::verdicts::{Table, assert_breaks};
+//! Rules 40 and 59 to 62: note sections, of a file of one note.
+use crate::verdicts::{Row, Table, assert_breaks};
 use elf_field::Order;
 use elf_field::abi::*;
 use elf_image_stream::Fault;
 use elf_image_type::parse;
 use elf_table_all::{Note, Notes, rules};
 use std::alloc::Global;
-use std::process::Abort;
 use tests_files::{Field, set, set_header};
 
 /// A note section of one note, whose 20 bytes stand at 64, and the section headers at 88.
@@ -26,7 +25,7 @@ const NOTE: [Field; 12] = [
 ];
 
 /// The section header of the notes, section 1.
-pub(crate) const NOTES_HEADER: u64 = 88 + SHDR_SIZE;
+const NOTES_HEADER: u64 = 88 + SHDR_SIZE;
 
 /// The note's two sizes.
 const NAME_SIZE_AT: u64 = 64 + N_NAMESZ_AT;
@@ -39,61 +38,67 @@ fn note() -> [u8; 216] {
     file
 }
 
-fn assert_one_note(rt: &impl Abort, notes: &Notes<'_>) {
+/// Whether they are the one note.
+fn are_one_note(notes: &Notes<'_>) -> bool {
     let note = Note {
         note_type: 1,
         name: b"GNU",
         desc: b"\xaa\xbb\xcc",
     };
     let mut iter = notes.iter();
-    assert_eq!(rt; [iter.next(), iter.next()], [Some(note), None]);
+    [iter.next(), iter.next()] == [Some(note), None]
 }
 
-#[test]
-fn tells_each_note(rt: HostRuntime) -> Result<(), Fault> {
-    let file = note();
-    let image = parse(rt.alloc(), &file)?;
-    assert!(rt; image.section_count() > 1);
-    assert_one_note(&rt, &Notes::new(&image, 1)?);
-    Ok(())
-}
-
-/// The notes of the file with these fields break this rule first, at this offset.
-pub(crate) fn assert_notes_break(
-    rt: &impl Abort,
-    alloc: Global,
-    fields: &[Field],
-    rule: u16,
-    at: u64,
-) {
-    let mut file = note();
-    set(&mut file, Order::Little, fields);
-    assert_breaks(rt, alloc, &file, 1, Table::Notes, rule, at);
-}
-
-#[test]
-fn partial_note_is_answered_at_its_start(rt: HostRuntime) {
-    let fields = [(NOTES_HEADER + SH_SIZE_AT, 8, 11)];
-    assert_notes_break(&rt, rt.alloc(), &fields, rules::PARTIAL_NOTE, 64);
-}
-
-#[test]
-fn note_name_past_end_is_answered_at_its_size(rt: HostRuntime) {
-    let fields = [(NAME_SIZE_AT, 4, 0xffff_ffff)];
-    let rule = rules::NOTE_NAME_PAST_END;
-    assert_notes_break(&rt, rt.alloc(), &fields, rule, NAME_SIZE_AT);
-}
-
-#[test]
-fn note_desc_past_end_is_answered_at_its_size(rt: HostRuntime) {
-    let rule = rules::NOTE_DESC_PAST_END;
-    for field in [(NOTES_HEADER + SH_SIZE_AT, 8, 19), (NAME_SIZE_AT, 4, 5)] {
-        assert_notes_break(&rt, rt.alloc(), &[field], rule, DESC_SIZE_AT);
+/// The same of a file's section 1.
+fn file_has_one_note(alloc: Global, file: &[u8]) -> Result<bool, Fault> {
+    let image = parse(alloc, file)?;
+    if image.section_count() < 2 {
+        return Ok(false);
     }
+    let notes = Notes::new(&image, 1)?;
+    Ok(are_one_note(&notes))
 }
 
 #[test]
-fn unclosed_note_name_is_answered_at_its_last_byte(rt: HostRuntime) {
-    let rule = rules::UNCLOSED_NOTE_NAME;
-    assert_notes_break(&rt, rt.alloc(), &[(NAME_SIZE_AT, 4, 3)], rule, 78);
+fn tells_each_note(rt: HostRuntime) {
+    let has = file_has_one_note(rt.alloc(), &note());
+    assert_eq!(rt; has, Ok(true));
+}
+
+const ROWS: [Row; 6] = [
+    (
+        &[(NOTES_HEADER + SH_TYPE_AT, 4, 1)],
+        rules::WRONG_TABLE_TYPE,
+        NOTES_HEADER + SH_TYPE_AT,
+    ),
+    (
+        &[(NOTES_HEADER + SH_SIZE_AT, 8, 11)],
+        rules::PARTIAL_NOTE,
+        64,
+    ),
+    (
+        &[(NAME_SIZE_AT, 4, 0xffff_ffff)],
+        rules::NOTE_NAME_PAST_END,
+        NAME_SIZE_AT,
+    ),
+    (
+        &[(NOTES_HEADER + SH_SIZE_AT, 8, 19)],
+        rules::NOTE_DESC_PAST_END,
+        DESC_SIZE_AT,
+    ),
+    (
+        &[(NAME_SIZE_AT, 4, 5)],
+        rules::NOTE_DESC_PAST_END,
+        DESC_SIZE_AT,
+    ),
+    (&[(NAME_SIZE_AT, 4, 3)], rules::UNCLOSED_NOTE_NAME, 78),
+];
+
+#[test]
+fn each_rule_is_answered_where_it_is_broken(rt: HostRuntime) {
+    for (fields, rule, at) in ROWS {
+        let mut file = note();
+        set(&mut file, Order::Little, fields);
+        assert_breaks(&rt, rt.alloc(), &file, 1, Table::Notes, rule, at);
+    }
 }

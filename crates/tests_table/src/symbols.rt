@@ -1,17 +1,16 @@
-//! Rules 45 to 54: symbol tables and relocations, of an object of a call, and of a file that has every part of a symbol table.
-use crate::hashes::{SYMBOLS_OF_HASH, assert_hash_breaks};
-use crate::verdicts::{Table, assert_breaks, verdict_of};
+//! Rules 40 to 54: symbol tables and relocations, of an object of a call, and of a file that has every part of a symbol table.
+use crate::verdicts::{Row, Table, assert_breaks, verdict_of};
 use elf_field::Order;
 use elf_field::abi::*;
 use elf_image_stream::Fault;
-use elf_image_type::parse;
+use elf_image_type::{Image, parse};
 use elf_table_all::{Place, Relocation, Relocs, Strings, Symbol, Symbols, Tables, rules};
 use std::alloc::Global;
 use std::process::Abort;
-use tests_files::{Field, call, set, set_header};
+use tests_files::{Field, caller, set, set_header};
 
 /// The section header of its relocations, section 2, and that of its symbol table, section 3.
-pub(crate) const RELOCS_HEADER: u64 = 232 + 2 * SHDR_SIZE;
+const RELOCS_HEADER: u64 = 232 + 2 * SHDR_SIZE;
 
 const SYMBOLS_OF_RELOCS: u64 = RELOCS_HEADER + SHDR_SIZE;
 
@@ -50,9 +49,9 @@ const SYMBOLS: [Field; 29] = [
 ];
 
 /// The section headers of the symbol table, section 1, of the index table, section 3, and of the section behind it.
-pub(crate) const SYMBOLS_HEADER: u64 = 156 + SHDR_SIZE;
+const SYMBOLS_HEADER: u64 = 156 + SHDR_SIZE;
 
-pub(crate) const INDEX_TABLE_HEADER: u64 = SYMBOLS_HEADER + 2 * SHDR_SIZE;
+const INDEX_TABLE_HEADER: u64 = SYMBOLS_HEADER + 2 * SHDR_SIZE;
 
 const LAST_HEADER: u64 = INDEX_TABLE_HEADER + SHDR_SIZE;
 
@@ -65,7 +64,7 @@ const WORD_1: u64 = 140 + WORD_SIZE;
 
 const WORD_2: u64 = WORD_1 + WORD_SIZE;
 
-pub(crate) fn symbols(order: Order) -> [u8; 476] {
+fn symbols(order: Order) -> [u8; 476] {
     let mut file = [0; 476];
     set_header(&mut file, order, &SYMBOLS);
     file
@@ -83,14 +82,8 @@ fn main_symbol() -> Symbol<'static> {
     }
 }
 
-fn assert_strings(rt: &impl Abort, strings: &Strings<'_>) {
-    let told = [
-        strings.get(1),
-        strings.get(6),
-        strings.get(8),
-        strings.get(12),
-        strings.get(13),
-    ];
+/// Whether they are the strings of the symbols of the call.
+fn are_strings(strings: &Strings<'_>) -> bool {
     let expected: [Option<&[u8]>; 5] = [
         Some(b"main"),
         Some(b"callee"),
@@ -98,35 +91,63 @@ fn assert_strings(rt: &impl Abort, strings: &Strings<'_>) {
         Some(b""),
         None,
     ];
-    assert_eq!(rt; told, expected);
+    let told = [
+        strings.get(1),
+        strings.get(6),
+        strings.get(8),
+        strings.get(12),
+        strings.get(13),
+    ];
+    told == expected
 }
 
-#[test]
-fn tells_the_strings_of_a_string_table(rt: HostRuntime) -> Result<(), Fault> {
-    let file = call();
-    let image = parse(rt.alloc(), &file)?;
-    assert!(rt; image.section_count() > 4);
-    assert_strings(&rt, &Strings::new(&image, 4)?);
-    Ok(())
-}
-
-fn assert_symbols(rt: &impl Abort, symbols: &Symbols<'_>) {
-    assert_eq!(rt; symbols.len(), 3);
-    assert_eq!(rt; symbols.entry(1), main_symbol());
+/// Whether they are its symbols.
+fn are_symbols(symbols: &Symbols<'_>) -> bool {
+    if symbols.len() != 3 {
+        return false;
+    }
     let callee = symbols.entry(2);
-    assert_eq!(rt;
-        (callee.name, callee.place, symbols.iter().count()),
-        (b"callee".as_slice(), Place::Undefined, 3)
-    );
+    symbols.entry(1) == main_symbol()
+        && callee.name == b"callee".as_slice()
+        && callee.place == Place::Undefined
+        && symbols.iter().count() == 3
+}
+
+/// Whether they are its one relocation.
+fn are_relocations(relocs: &Relocs<'_>) -> bool {
+    let relocation = Relocation {
+        offset: 1,
+        symbol: 2,
+        relocation_type: 2,
+        addend: Some(-4),
+    };
+    relocs.len() == 1 && relocs.entry(0) == relocation && relocs.iter().count() == 1
+}
+
+/// Whether the tables of an image are so.
+fn are_of_the_call(image: &Image<'_>) -> Result<[bool; 3], Fault> {
+    if image.section_count() < 5 {
+        return Ok([false; 3]);
+    }
+    let relocs = Relocs::new(image, 2)?;
+    let symbols = Symbols::new(image, 3)?;
+    let strings = Strings::new(image, 4)?;
+    Ok([
+        are_relocations(&relocs),
+        are_symbols(&symbols),
+        are_strings(&strings),
+    ])
+}
+
+/// The same of a file.
+fn told(alloc: Global, file: &[u8]) -> Result<[bool; 3], Fault> {
+    let image = parse(alloc, file)?;
+    are_of_the_call(&image)
 }
 
 #[test]
-fn tells_each_symbol(rt: HostRuntime) -> Result<(), Fault> {
-    let file = call();
-    let image = parse(rt.alloc(), &file)?;
-    assert!(rt; image.section_count() > 3);
-    assert_symbols(&rt, &Symbols::new(&image, 3)?);
-    Ok(())
+fn tells_each_relocation_symbol_and_string(rt: HostRuntime) {
+    assert_eq!(rt; told(rt.alloc(), &caller()), Ok([true; 3]));
 }
 
 /// Whether sections 0 and 3 of the file are kept when all tables are judged, None where they are not there.
@@ -140,32 +161,11 @@ fn are_kept_with_the_other_tables(alloc: Global, file: &[u8]) -> Result<Option<[
 }
 
 #[test]
-fn judges_every_table_of_an_image(rt: HostRuntime) -> Result<(), Fault> {
-    let file = call();
-    let kept = are_kept_with_the_other_tables(rt.alloc(), &file)?;
-    let of_other_type = verdict_of(rt.alloc(), &file, 4, Table::Symbols);
-    assert_eq!(rt; (kept, of_other_type.is_err()), (Some([true; 2]), true));
-    Ok(())
-}
-
-fn assert_one_relocation(rt: &impl Abort, relocs: &Relocs<'_>) {
-    assert_eq!(rt; relocs.len(), 1);
-    let relocation = Relocation {
-        offset: 1,
-        symbol: 2,
-        relocation_type: 2,
-        addend: Some(-4),
-    };
-    assert_eq!(rt; (relocs.entry(0), relocs.iter().count()), (relocation, 1));
-}
-
-#[test]
-fn tells_each_relocation(rt: HostRuntime) -> Result<(), Fault> {
-    let file = call();
-    let image = parse(rt.alloc(), &file)?;
-    assert!(rt; image.section_count() > 2);
-    assert_one_relocation(&rt, &Relocs::new(&image, 2)?);
-    Ok(())
+fn judges_every_table_of_an_image(rt: HostRuntime) {
+    let file = caller();
+    let kept = are_kept_with_the_other_tables(rt.alloc(), &file);
+    let of_other_type = verdict_of(rt.alloc(), &file, 4, Table::Symbols).is_err();
+    assert_eq!(rt; (kept, of_other_type), (Ok(Some([true; 2])), true));
 }
 
 /// What a table tells lives as long as the file's bytes: longer than the image and the table.
@@ -193,10 +193,11 @@ fn string_behind(alloc: Global, file: &[u8]) -> Result<Option<&[u8]>, Fault> {
 #[test]
 fn names_outlive_the_image(rt: HostRuntime) {
     let file = symbols(Order::Little);
-    assert_eq!(rt; name_of_symbol_2(rt.alloc(), &file), Ok(b"b".as_slice()));
+    let name = name_of_symbol_2(rt.alloc(), &file);
+    let string = string_behind(rt.alloc(), &file);
     assert_eq!(rt;
-        string_behind(rt.alloc(), &file),
-        Ok(Some(b"ab".as_slice()))
+        (name, string),
+        (Ok(b"b".as_slice()), Ok(Some(b"ab".as_slice())))
     );
 }
 
@@ -206,132 +207,202 @@ fn accepts_the_file_unbroken(rt: HostRuntime) {
     assert_eq!(rt; verdict_of(rt.alloc(), &file, 1, Table::Symbols), Ok(()));
 }
 
-/// The symbol table of the file with these fields breaks this rule first, at this offset, in either byte order.
-pub(crate) fn assert_symbols_break(
-    rt: &impl Abort,
-    alloc: Global,
-    fields: &[Field],
-    rule: u16,
-    at: u64,
-) {
-    for order in [Order::Little, Order::Big] {
-        let mut file = symbols(order);
-        set(&mut file, order, fields);
-        assert_breaks(rt, alloc, &file, 1, Table::Symbols, rule, at);
-    }
-}
+/// The type, the size and the count of locals of its symbol table.
+const TYPE_AT: u64 = SYMBOLS_HEADER + SH_TYPE_AT;
 
-/// The relocations of the object of a call with these fields break this rule first, at this offset.
-pub(crate) fn assert_relocs_break(
-    rt: &impl Abort,
-    alloc: Global,
-    fields: &[Field],
-    rule: u16,
-    at: u64,
-) {
-    let mut file = call();
-    set(&mut file, Order::Little, fields);
-    assert_breaks(rt, alloc, &file, 2, Table::Relocs, rule, at);
-}
+const SIZE_AT: u64 = SYMBOLS_HEADER + SH_SIZE_AT;
 
-#[test]
-fn symbol_0_not_null_is_answered_at_the_size_or_its_byte(rt: HostRuntime) {
-    let no_locals = (SYMBOLS_HEADER + SH_INFO_AT, 4, 0);
-    let size_at = SYMBOLS_HEADER + SH_SIZE_AT;
-    let rule = rules::SYMBOL_0_NOT_NULL;
-    let fields = [(size_at, 8, 0), no_locals];
-    assert_symbols_break(&rt, rt.alloc(), &fields, rule, size_at);
-    let fields = [(87, 1, 1), no_locals];
-    assert_symbols_break(&rt, rt.alloc(), &fields, rule, 87);
-}
+const LOCALS_AT: u64 = SYMBOLS_HEADER + SH_INFO_AT;
 
-#[test]
-fn wrong_local_count_is_answered_at_the_info(rt: HostRuntime) {
-    let at = SYMBOLS_HEADER + SH_INFO_AT;
-    let rule = rules::WRONG_LOCAL_COUNT;
-    for count in [0, 4] {
-        let fields = [(at, 4, count), (SYMBOL_1 + ST_NAME_AT, 4, 4)];
-        assert_symbols_break(&rt, rt.alloc(), &fields, rule, at);
-    }
-    // Of the symbol table that a hash table links to.
-    let at = SYMBOLS_OF_HASH + SH_INFO_AT;
-    assert_hash_breaks(&rt, rt.alloc(), &[(at, 4, 0)], rule, at);
-}
+/// The section indexes of symbols 1 and 2, and the name of the latter.
+const SECTION_1: u64 = SYMBOL_1 + ST_SHNDX_AT;
 
-#[test]
-fn misplaced_binding_is_answered_at_the_binding(rt: HostRuntime) {
-    let count_at = SYMBOLS_HEADER + SH_INFO_AT;
-    let rule = rules::MISPLACED_BINDING;
-    let fields = [(count_at, 4, 3), (SYMBOL_1 + ST_NAME_AT, 4, 4)];
-    assert_symbols_break(&rt, rt.alloc(), &fields, rule, SYMBOL_2 + ST_INFO_AT);
-    let fields = [(count_at, 4, 1), (SYMBOL_2 + ST_NAME_AT, 4, 4)];
-    assert_symbols_break(&rt, rt.alloc(), &fields, rule, SYMBOL_1 + ST_INFO_AT);
-    // Of the symbol table that relocations link to.
-    let fields = [(SYMBOLS_OF_RELOCS + SH_INFO_AT, 4, 3)];
-    assert_relocs_break(&rt, rt.alloc(), &fields, rule, 120 + ST_INFO_AT);
-}
+const SECTION_2: u64 = SYMBOL_2 + ST_SHNDX_AT;
 
-#[test]
-fn symbol_name_past_end_is_answered_at_the_name(rt: HostRuntime) {
-    let at = SYMBOL_2 + ST_NAME_AT;
-    let fields = [(at, 4, 4), (SYMBOL_2 + ST_SHNDX_AT, 2, 5)];
-    let rule = rules::SYMBOL_NAME_PAST_END;
-    assert_symbols_break(&rt, rt.alloc(), &fields, rule, at);
-}
+const NAME_2: u64 = SYMBOL_2 + ST_NAME_AT;
 
-#[test]
-fn second_index_table_is_answered_at_its_link(rt: HostRuntime) {
-    let at = LAST_HEADER + SH_LINK_AT;
-    let fields = [(LAST_HEADER + SH_TYPE_AT, 4, 18), (at, 4, 1)];
-    let rule = rules::SECOND_INDEX_TABLE;
-    assert_symbols_break(&rt, rt.alloc(), &fields, rule, at);
-}
+/// The size of the index table, and that of its entries; and the link of the section behind it.
+const WORDS_SIZE_AT: u64 = INDEX_TABLE_HEADER + SH_SIZE_AT;
 
-#[test]
-fn wrong_index_table_size_is_answered_at_either_size(rt: HostRuntime) {
-    let size_at = INDEX_TABLE_HEADER + SH_SIZE_AT;
-    let entsize_at = INDEX_TABLE_HEADER + SH_ENTSIZE_AT;
-    let rule = rules::WRONG_INDEX_TABLE_SIZE;
-    let fields = [(size_at, 8, 8), (entsize_at, 8, 8)];
-    assert_symbols_break(&rt, rt.alloc(), &fields, rule, size_at);
-    let fields = [(entsize_at, 8, 8), (SYMBOL_1 + ST_SHNDX_AT, 2, 5)];
-    assert_symbols_break(&rt, rt.alloc(), &fields, rule, entsize_at);
-}
+const WORD_SIZE_AT: u64 = INDEX_TABLE_HEADER + SH_ENTSIZE_AT;
 
-#[test]
-fn wrong_symbol_section_is_answered_at_its_index(rt: HostRuntime) {
-    let at = SYMBOL_1 + ST_SHNDX_AT;
-    let rule = rules::WRONG_SYMBOL_SECTION;
-    let fields = [(at, 2, 5), (WORD_1, 4, 1)];
-    assert_symbols_break(&rt, rt.alloc(), &fields, rule, at);
+const LAST_LINK_AT: u64 = LAST_HEADER + SH_LINK_AT;
+
+/// Of the symbol table.
+const ROWS: [Row; 22] = [
+    (&[(TYPE_AT, 4, 1)], rules::WRONG_TABLE_TYPE, TYPE_AT),
+    (
+        &[(136, 1, 1), (139, 1, 1)],
+        rules::UNCLOSED_STRING_TABLE,
+        136,
+    ),
+    (
+        &[(139, 1, 1), (64, 1, 1)],
+        rules::UNCLOSED_STRING_TABLE,
+        139,
+    ),
+    (
+        &[(SYMBOLS_HEADER + SH_ENTSIZE_AT, 8, 23)],
+        rules::WRONG_ENTRY_SIZE,
+        SYMBOLS_HEADER + SH_ENTSIZE_AT,
+    ),
+    (&[(SIZE_AT, 8, 71)], rules::PARTIAL_ENTRY, SIZE_AT),
+    (
+        &[(SYMBOLS_HEADER + SH_LINK_AT, 4, 5)],
+        rules::WRONG_LINK,
+        SYMBOLS_HEADER + SH_LINK_AT,
+    ),
+    (
+        &[(SYMBOLS_HEADER + SH_LINK_AT, 4, 3), (139, 1, 1)],
+        rules::WRONG_LINK,
+        SYMBOLS_HEADER + SH_LINK_AT,
+    ),
+    (
+        &[(SIZE_AT, 8, 0), (LOCALS_AT, 4, 0)],
+        rules::SYMBOL_0_NOT_NULL,
+        SIZE_AT,
+    ),
+    (
+        &[(87, 1, 1), (LOCALS_AT, 4, 0)],
+        rules::SYMBOL_0_NOT_NULL,
+        87,
+    ),
+    (
+        &[(LOCALS_AT, 4, 0), (SYMBOL_1 + ST_NAME_AT, 4, 4)],
+        rules::WRONG_LOCAL_COUNT,
+        LOCALS_AT,
+    ),
+    (
+        &[(LOCALS_AT, 4, 4), (SYMBOL_1 + ST_NAME_AT, 4, 4)],
+        rules::WRONG_LOCAL_COUNT,
+        LOCALS_AT,
+    ),
+    (
+        &[(LOCALS_AT, 4, 3), (SYMBOL_1 + ST_NAME_AT, 4, 4)],
+        rules::MISPLACED_BINDING,
+        SYMBOL_2 + ST_INFO_AT,
+    ),
+    (
+        &[(LOCALS_AT, 4, 1), (NAME_2, 4, 4)],
+        rules::MISPLACED_BINDING,
+        SYMBOL_1 + ST_INFO_AT,
+    ),
+    (
+        &[(NAME_2, 4, 4), (SECTION_2, 2, 5)],
+        rules::SYMBOL_NAME_PAST_END,
+        NAME_2,
+    ),
+    (
+        &[(LAST_HEADER + SH_TYPE_AT, 4, 18), (LAST_LINK_AT, 4, 1)],
+        rules::SECOND_INDEX_TABLE,
+        LAST_LINK_AT,
+    ),
+    (
+        &[(WORDS_SIZE_AT, 8, 8), (WORD_SIZE_AT, 8, 8)],
+        rules::WRONG_INDEX_TABLE_SIZE,
+        WORDS_SIZE_AT,
+    ),
+    (
+        &[(WORD_SIZE_AT, 8, 8), (SECTION_1, 2, 5)],
+        rules::WRONG_INDEX_TABLE_SIZE,
+        WORD_SIZE_AT,
+    ),
+    (
+        &[(SECTION_1, 2, 5), (WORD_1, 4, 1)],
+        rules::WRONG_SYMBOL_SECTION,
+        SECTION_1,
+    ),
     // Its index stands in an index table, and there is none.
-    let at = SYMBOL_2 + ST_SHNDX_AT;
-    let fields = [(INDEX_TABLE_HEADER + SH_TYPE_AT, 4, 1), (at, 2, 0xffff)];
-    assert_symbols_break(&rt, rt.alloc(), &fields, rule, at);
+    (
+        &[
+            (INDEX_TABLE_HEADER + SH_TYPE_AT, 4, 1),
+            (SECTION_2, 2, 0xffff),
+        ],
+        rules::WRONG_SYMBOL_SECTION,
+        SECTION_2,
+    ),
+    (
+        &[(WORD_1, 4, 1), (WORD_2, 4, 1)],
+        rules::WRONG_INDEX_WORD,
+        WORD_1,
+    ),
+    (&[(SECTION_2, 2, 0xffff)], rules::WRONG_INDEX_WORD, WORD_2),
+    (
+        &[(SECTION_2, 2, 0xffff), (WORD_2, 4, 0xff00)],
+        rules::WRONG_INDEX_WORD,
+        WORD_2,
+    ),
+];
+
+/// Of the relocations of the call.
+const RELOCS_ROWS: [Row; 7] = [
+    (
+        &[(RELOCS_HEADER + SH_TYPE_AT, 4, 2)],
+        rules::WRONG_TABLE_TYPE,
+        RELOCS_HEADER + SH_TYPE_AT,
+    ),
+    (&[(168, 1, 1)], rules::UNCLOSED_STRING_TABLE, 168),
+    (
+        &[(RELOCS_HEADER + SH_ENTSIZE_AT, 8, 16)],
+        rules::WRONG_ENTRY_SIZE,
+        RELOCS_HEADER + SH_ENTSIZE_AT,
+    ),
+    (
+        &[(RELOCS_HEADER + SH_LINK_AT, 4, 4)],
+        rules::WRONG_LINK,
+        RELOCS_HEADER + SH_LINK_AT,
+    ),
+    // Of the symbol table that they link to.
+    (
+        &[(SYMBOLS_OF_RELOCS + SH_INFO_AT, 4, 3)],
+        rules::MISPLACED_BINDING,
+        120 + ST_INFO_AT,
+    ),
+    (
+        &[(RELOCS_HEADER + SH_INFO_AT, 4, 6)],
+        rules::WRONG_TARGET,
+        RELOCS_HEADER + SH_INFO_AT,
+    ),
+    (
+        &[(72 + R_INFO_AT, 8, 0x3_0000_0002)],
+        rules::WRONG_RELOCATION_SYMBOL,
+        72 + R_INFO_AT,
+    ),
+];
+
+/// The symbol table of the file with these fields breaks its rule first, in this byte order.
+fn assert_symbols_break(rt: &impl Abort, alloc: Global, order: Order, row: &Row) {
+    let (fields, rule, at) = *row;
+    let mut file = symbols(order);
+    set(&mut file, order, fields);
+    assert_breaks(rt, alloc, &file, 1, Table::Symbols, rule, at);
 }
 
 #[test]
-fn wrong_index_word_is_answered_at_the_word(rt: HostRuntime) {
-    let extended = (SYMBOL_2 + ST_SHNDX_AT, 2, 0xffff);
-    let rule = rules::WRONG_INDEX_WORD;
-    let fields = [(WORD_1, 4, 1), (WORD_2, 4, 1)];
-    assert_symbols_break(&rt, rt.alloc(), &fields, rule, WORD_1);
-    assert_symbols_break(&rt, rt.alloc(), &[extended], rule, WORD_2);
-    let fields = [extended, (WORD_2, 4, 0xff00)];
-    assert_symbols_break(&rt, rt.alloc(), &fields, rule, WORD_2);
+fn each_rule_is_answered_where_it_is_broken(rt: HostRuntime) {
+    for row in &ROWS {
+        assert_symbols_break(&rt, rt.alloc(), Order::Little, row);
+        assert_symbols_break(&rt, rt.alloc(), Order::Big, row);
+    }
 }
 
 #[test]
-fn wrong_target_is_answered_at_the_info(rt: HostRuntime) {
-    let at = RELOCS_HEADER + SH_INFO_AT;
-    let rule = rules::WRONG_TARGET;
-    assert_relocs_break(&rt, rt.alloc(), &[(at, 4, 6)], rule, at);
+fn each_rule_of_relocations_is_answered_where_it_is_broken(rt: HostRuntime) {
+    for (fields, rule, at) in RELOCS_ROWS {
+        let mut file = caller();
+        set(&mut file, Order::Little, fields);
+        assert_breaks(&rt, rt.alloc(), &file, 2, Table::Relocs, rule, at);
+    }
 }
 
 #[test]
-fn wrong_relocation_symbol_is_answered_at_the_symbol(rt: HostRuntime) {
-    let at = 72 + R_INFO_AT;
-    let fields = [(at, 8, 0x3_0000_0002)];
-    let rule = rules::WRONG_RELOCATION_SYMBOL;
-    assert_relocs_break(&rt, rt.alloc(), &fields, rule, at);
+fn each_rule_of_strings_is_answered_where_it_is_broken(rt: HostRuntime) {
+    let mut file = symbols(Order::Big);
+    // The index table is no string table.
+    let at = INDEX_TABLE_HEADER + SH_TYPE_AT;
+    let rule = rules::WRONG_TABLE_TYPE;
+    assert_breaks(&rt, rt.alloc(), &file, 3, Table::Strings, rule, at);
+    file[139] = 1;
+    let rule = rules::UNCLOSED_STRING_TABLE;
+    assert_breaks(&rt, rt.alloc(), &file, 2, Table::Strings, rule, 139);
 }

@@ -1,9 +1,10 @@
 //! Verdicts on one table of a file.
 use elf_image_stream::Fault;
-use elf_image_type::parse;
+use elf_image_type::{Image, parse};
 use elf_table_all::{Dynamic, Group, Hash, Notes, Relocs, Strings, Symbols};
 use std::alloc::Global;
 use std::process::Abort;
+use tests_files::Field;
 
 /// The table that a section is taken for.
 #[derive(Clone, Copy)]
@@ -17,6 +18,22 @@ pub(crate) enum Table {
     Symbols,
 }
 
+/// The fault of a section that is taken for such a table; one that isn't there has none.
+fn fault_of(alloc: Global, image: &Image<'_>, index: usize, table: Table) -> Option<Fault> {
+    if image.section_count() <= index {
+        return None;
+    }
+    match table {
+        Table::Dynamic => Dynamic::new(image, index).err(),
+        Table::Group => Group::new(alloc, image, index).err(),
+        Table::Hash => Hash::new(alloc, image, index).err(),
+        Table::Notes => Notes::new(image, index).err(),
+        Table::Relocs => Relocs::new(image, index).err(),
+        Table::Strings => Strings::new(image, index).err(),
+        Table::Symbols => Symbols::new(image, index).err(),
+    }
+}
+
 /// Whether section `index` of the file is such a table; a section that isn't there is one.
 pub(crate) fn verdict_of(
     alloc: Global,
@@ -25,20 +42,14 @@ pub(crate) fn verdict_of(
     table: Table,
 ) -> Result<(), Fault> {
     let image = parse(alloc, file)?;
-    if image.section_count() <= index {
-        return Ok(());
+    match fault_of(alloc, &image, index, table) {
+        Some(fault) => Err(fault),
+        None => Ok(()),
     }
-    let fault = match table {
-        Table::Dynamic => Dynamic::new(&image, index).err(),
-        Table::Group => Group::new(alloc, &image, index).err(),
-        Table::Hash => Hash::new(alloc, &image, index).err(),
-        Table::Notes => Notes::new(&image, index).err(),
-        Table::Relocs => Relocs::new(&image, index).err(),
-        Table::Strings => Strings::new(&image, index).err(),
-        Table::Symbols => Symbols::new(&image, index).err(),
-    };
-    fault.map_or(Ok(()), Err)
 }
+
+/// Fields that are changed in a file, the rule that a table of it breaks then first, and where.
+pub(crate) type Row = (&'static [Field], u16, u64);
 
 /// Section `index` of the file is no such table: it breaks this rule first, at this offset.
 pub(crate) fn assert_breaks(

@@ -26,23 +26,32 @@ fn failure_of(k: usize) -> Option<ErrorKind> {
     }
 }
 
+/// The check of a header whose read of this number fails so: that is the answer, and no call comes after it.
+fn assert_read_fails(rt: &impl Abort, alloc: Global, call: usize, kind: ErrorKind) {
+    let mut reader = Source::new(HEADER, call, Some(kind));
+    let mut writer = Sink::new(100, None);
+    let answer = check(alloc, &mut reader, &mut writer);
+    let at = call.saturating_mul(PIECE) as u64;
+    let calls = [
+        reader.calls,
+        reader.empty_calls,
+        writer.calls,
+        writer.flushes,
+    ];
+    assert_eq!(rt;
+        (answer, calls),
+        (
+            Err(ToolFault::Read { at }),
+            [call.saturating_add(1), 0, 0, 0]
+        )
+    );
+}
+
 // Eight calls give the header's bytes, and a ninth asks for the end, once.
 #[test]
 fn a_read_that_fails_once_is_not_tried_again(rt: HostRuntime) {
     for k in 0..27 {
-        let call = k / 3;
-        let mut reader = Source::new(HEADER, call, Some(FAILURES[k % 3]));
-        let mut writer = Sink::new(100, None);
-        let answer = check(rt.alloc(), &mut reader, &mut writer);
-        let at = (call * PIECE) as u64;
-        assert_eq!(rt; answer, Err(ToolFault::Read { at }), "call {k}");
-        let calls = [
-            reader.calls,
-            reader.empty_calls,
-            writer.calls,
-            writer.flushes,
-        ];
-        assert_eq!(rt; calls, [call + 1, 0, 0, 0], "call {k}");
+        assert_read_fails(&rt, rt.alloc(), k / 3, FAILURES[k % 3]);
     }
 }
 
@@ -54,8 +63,7 @@ fn assert_ends(rt: &impl Abort, alloc: Global, call: usize, line: &str) {
     let calls = (reader.calls, reader.empty_calls);
     assert_eq!(rt;
         (is_done, writer.text(), calls),
-        (call == 8, line.as_bytes(), (call.saturating_add(1), 0)),
-        "call {call}"
+        (call == 8, line.as_bytes(), (call.saturating_add(1), 0))
     );
 }
 

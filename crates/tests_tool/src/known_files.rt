@@ -34,15 +34,6 @@ pub struct KnownFile<'a> {
     bytes: &'a [u8],
 }
 
-impl<'a> KnownFile<'a> {
-    /// One of these bytes.
-    pub fn new(bytes: &'a [u8]) -> KnownFile<'a>
-        ensures { result.bytes.now ≡ bytes.now }
-    {
-        KnownFile { bytes }
-    }
-}
-
 impl<'a> Opener for KnownFile<'a> {
     type Input = KnownBytes<'a>;
 

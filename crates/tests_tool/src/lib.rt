@@ -1,4 +1,5 @@
-//! Tests that cross crates.
+//! Tests of the program and its commands, over readers, writers and openers that fail, and of files of many sections and segments. What
+//! a command answers of a file whose reader and writer are sound stands in `cases/`.
 #![tactic(auto)]
 
 #[cfg(test)]
@@ -15,12 +16,16 @@ mod many_sections;
 #[cfg(test)]
 mod many_segments;
 #[cfg(test)]
+mod map_calls;
+#[cfg(test)]
 mod program;
+#[cfg(test)]
+mod rewrite_calls;
 #[cfg(test)]
 mod said;
 #[cfg(test)]
 mod seeking;
 #[cfg(test)]
-mod two_of_each;
+mod words;
 
 pub use known_files::{KnownBytes, KnownFile, status_of_check, status_of_check_by_seeking};

@@ -1,7 +1,7 @@
 //! What is said of a file's bytes.
 use elf_image_stream::Fault;
 use elf_image_type::{parse, write};
-use elf_tool_program::{Verdict, check, show};
+use elf_tool_program::{Verdict, check};
 use std::alloc::Global;
 use std::process::Abort;
 
@@ -12,24 +12,6 @@ pub(crate) fn assert_accepts(rt: &impl Abort, alloc: Global, mut bytes: &[u8], l
     assert_eq!(rt;
         (answer, said.as_slice()),
         (Ok(Verdict::Done), line.as_bytes())
-    );
-}
-
-/// `check` refuses the file with this line.
-pub(crate) fn assert_refuses(rt: &impl Abort, alloc: Global, mut bytes: &[u8], line: &str) {
-    let mut said = Vec::new(alloc);
-    let answer = check(alloc, &mut bytes, &mut said);
-    let is_refused = matches!(answer, Ok(Verdict::Refused(_)));
-    assert_eq!(rt; (is_refused, said.as_slice()), (true, line.as_bytes()));
-}
-
-/// `show` accepts the file with this text.
-pub(crate) fn assert_shows(rt: &impl Abort, alloc: Global, mut bytes: &[u8], text: &str) {
-    let mut said = Vec::new(alloc);
-    let answer = show(alloc, &mut bytes, &mut said);
-    assert_eq!(rt;
-        (answer, said.as_slice()),
-        (Ok(Verdict::Done), text.as_bytes())
     );
 }
 

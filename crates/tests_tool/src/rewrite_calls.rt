@@ -1,0 +1,72 @@
+//! `rewrite` over readers and writers that fail at one call alone: the answer is exact, and no call comes after it.
+use elf_tool_program::{ToolFault, Verdict, rewrite};
+use std::alloc::Global;
+use std::io::ErrorKind;
+use std::process::Abort;
+use tests_files::{Failure, PIECE, Sink, Source, empty_object};
+
+/// How many calls give the 376 bytes of the empty object; one more asks for the end.
+const READS: usize = 47;
+
+/// The reader fails at this call.
+fn assert_read_fails(rt: &impl Abort, alloc: Global, call: usize) {
+    let file = empty_object();
+    let mut reader = Source::new(&file, call, Some(ErrorKind::Interrupted));
+    let mut writer = Sink::new(1000, None);
+    let answer = rewrite(alloc, &mut reader, &mut writer);
+    let at = call.saturating_mul(PIECE) as u64;
+    let calls = [reader.calls, reader.empty_calls, writer.calls];
+    assert_eq!(rt;
+        (answer, calls),
+        (Err(ToolFault::Read { at }), [call.saturating_add(1), 0, 0])
+    );
+}
+
+#[test]
+fn a_read_that_fails_is_told_with_its_place(rt: HostRuntime) {
+    for call in 0..READS + 1 {
+        assert_read_fails(&rt, rt.alloc(), call);
+    }
+}
+
+/// The writer fails so at this call.
+fn assert_write_fails(rt: &impl Abort, alloc: Global, call: usize, failure: Failure) {
+    let file = empty_object();
+    let mut writer = Sink::new(call, failure);
+    let answer = rewrite(alloc, &mut file.as_slice(), &mut writer);
+    let written = writer.text().len() as u64;
+    let begins = file.starts_with(writer.text());
+    let calls = [writer.calls, writer.flushes];
+    assert_eq!(rt;
+        (answer, begins, calls),
+        (
+            Err(ToolFault::Write { written }),
+            true,
+            [call.saturating_add(1), 0]
+        )
+    );
+}
+
+#[test]
+fn a_write_that_fails_is_told_with_what_is_out(rt: HostRuntime) {
+    let failures = [Some(ErrorKind::Other), None];
+    for k in 0..80 {
+        assert_write_fails(&rt, rt.alloc(), k / 2, failures[k % 2]);
+    }
+}
+
+// The reader cuts the file as it likes. The tests are also run with the Nth growth refused (`rt try --test --fail-alloc N`): then this one
+// sees want of memory with nothing out.
+#[test]
+fn a_refused_growth_leaves_nothing_out(rt: HostRuntime) {
+    let file = empty_object();
+    let mut reader = Source::new(&file, 1000, None);
+    let mut writer = Sink::new(1000, None);
+    let answer = rewrite(rt.alloc(), &mut reader, &mut writer);
+    let (answers, whole) = match answer {
+        Ok(Verdict::Done) => (Ok(Verdict::Done), file.as_slice()),
+        _ => (Err(ToolFault::OutOfMemory), b"".as_slice()),
+    };
+    let calls = [writer.empty_calls, writer.flushes];
+    assert_eq!(rt; (answer, writer.text(), calls), (answers, whole, [0, 0]));
+}
