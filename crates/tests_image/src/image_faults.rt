@@ -1,7 +1,7 @@
 //! Readers and writers that move little, fail, or meet a refused growth.
 ghost use Rattle.std.specs.Prelude.{◌<◌, ◌≤◌};
 
-use elf_image_stream::{Fault, WriteFault, read_to_end, write_whole};
+use elf_image_stream::{Fault, WriteFault, read_to_end, resume, write_whole};
 use elf_image_type::{Image, parse, write};
 use std::alloc::Global;
 use std::io;
@@ -237,6 +237,28 @@ fn a_failed_read_is_not_tried_again(rt: HostRuntime) {
     for before in 0..33 {
         read_once_failing(&rt, rt.alloc(), before, Some(ErrorKind::Other));
         read_once_failing(&rt, rt.alloc(), before, Some(ErrorKind::Interrupted));
+    }
+}
+
+/// A reading fails behind so many bytes, and goes on from there.
+fn resume_behind(rt: &impl Abort, alloc: Global, before: usize)
+    requires { before ≤ 32 }
+{
+    let failure = Some(ErrorKind::Other);
+    let mut reader = failing_reader(1, before + 1, failure);
+    let mut buf = Vec::new(alloc);
+    let first = read_to_end(&mut reader, &mut buf);
+    let second = resume(&mut reader, &mut buf);
+    assert_eq!(rt;
+        (first, second, buf.as_slice()),
+        (answer_behind(before, failure), Ok(()), TEXT)
+    );
+}
+
+#[test]
+fn a_reading_goes_on_where_it_stopped(rt: HostRuntime) {
+    for before in 0..33 {
+        resume_behind(&rt, rt.alloc(), before);
     }
 }
 

@@ -1,17 +1,19 @@
 //! Objects of so many sections that their count, and then the index of their section name string
 //! table too, stand in section header 0.
-ghost use Rattle.std.specs.Prelude.{◌<◌, ◌≡◌, length};
+ghost use Rattle.std.specs.Prelude.{◌<◌, ◌≡◌, false, length};
 
 use crate::said::{assert_accepts, assert_lines, assert_written_back};
 use elf_field::{Ehdr, Order, Record, Shdr};
+use elf_image_source::{Bytes, Failed, Source};
 use elf_image_stream::Fault;
 use elf_image_type::{parse, verdict};
-use elf_tool_program::{Verdict, show};
+use elf_tool_program::{Verdict, check_source, show};
 use std::alloc::{AllocError, Global};
 use std::io;
 use std::io::Write;
 use std::process::Abort;
 use std::test::Fail;
+use tests_files::Sink;
 
 /// The offset of the section header table: behind the symbol table's one entry, the empty string
 /// table, the name table and four bytes of padding.
@@ -139,6 +141,33 @@ fn counts_in_the_header_and_in_section_header_0(rt: HostRuntime) -> Result<(), F
     for (count, len, names, line) in rows {
         assert_object(&rt, rt.alloc(), count, len, names, line)?;
     }
+    Ok(())
+}
+
+/// Gives a byte a call.
+#[derive(Drop)]
+struct Bytewise<'a>(&'a [u8]);
+
+impl Source for Bytewise<'_> {
+    ghost failed = { λ _. false };
+
+    fn length(&mut self) -> Result<u64, Failed> {
+        Ok(self.0.len() as u64)
+    }
+
+    fn read_at(&mut self, at: u64, buf: &mut [u8]) -> Result<usize, Failed> {
+        let most = buf.len().min(1);
+        Bytes(self.0).read_at(at, &mut buf[..most])
+    }
+}
+
+#[test]
+fn is_sought_by_a_byte_a_call(rt: HostRuntime) -> Result<(), Fail> {
+    let file = object(rt.alloc(), 65_277)?;
+    let mut out = Sink::new(1000, None);
+    let answer = check_source(rt.alloc(), &mut Bytewise(&file), &mut out);
+    let line = b"ok 4178104 65281 0\n".as_slice();
+    assert_eq!(rt; (answer, out.text()), (Ok(Verdict::Done), line));
     Ok(())
 }
 
