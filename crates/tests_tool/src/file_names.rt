@@ -93,22 +93,23 @@ fn names_the_file_that_does_not_open(rt: HostRuntime) {
 
 #[test]
 fn an_opener_that_wants_memory(rt: HostRuntime) {
-    for command in ["check", "show"] {
+    let rows: [&[&str]; 6] = [
+        &["elfmap", "check", "b.o"],
+        &["elfmap", "check", "--seek", "b.o"],
+        &["elfmap", "show", "b.o"],
+        &["elfmap", "rewrite", "b.o"],
+        &["elfmap", "map", "--base", "0", "--page", "1", "b.o"],
+        &[
+            "elfmap", "map", "--base", "0", "--page", "1", "--rules", "r", "a.o",
+        ],
+    ];
+    for words in rows {
         let mut files = OneName {
             name: "a.o",
             fault: OpenFault::OutOfMemory,
             asked: 0,
         };
-        let words = ["elfmap", command, "b.o"];
-        assert_runs(
-            &rt,
-            rt.alloc(),
-            &words,
-            &mut files,
-            3,
-            "",
-            "out of memory\n",
-        );
+        assert_runs(&rt, rt.alloc(), words, &mut files, 3, "", "out of memory\n");
     }
 }
 
