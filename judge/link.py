@@ -105,7 +105,8 @@ def bad_symbol(link):
 
 
 def bad_common(link):
-    return [(f, k, 0) for f, k, it in link.symbols() if it.reserved == COMMON and (binding_of(it) != GLOBAL or not is_power_of_two(it.value))]
+    return [(f, k, 0) for f, k, it in link.symbols()
+            if it.reserved == COMMON and (binding_of(it) != GLOBAL or not is_power_of_two(it.value))]
 
 
 def two_definitions(link):
@@ -296,7 +297,8 @@ def word(name):
 
 def rules_of(text):
     """The relocation rules of a file of rules: kind, form, width in bytes, and the numbers that it admits."""
-    return [(int(kind), form, int(width), numbers) for kind, form, width, numbers in (line.split(" ") for line in text.decode().splitlines())]
+    lines_of = [line.split(" ") for line in text.decode().splitlines()]
+    return [(int(kind), form, int(width), numbers) for kind, form, width, numbers in lines_of]
 
 
 def first_standing(rules, link):

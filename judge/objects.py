@@ -1,6 +1,6 @@
-"""Rules 70 to 79 of docs/RULES.md, on a file that is read as an object: each is a function of its name there, which gives every offset where
-the file breaks it; then the object that a file denotes, and the canonical layout of an object. A rule is asked only of a file that keeps those
-before it."""
+"""Rules 70 to 79 of docs/RULES.md, on a file that is read as an object: each is a function of its name there, which gives every offset
+where the file breaks it; then the object that a file denotes, and the canonical layout of an object. A rule is asked only of a file that
+keeps those before it."""
 import image
 import tables
 from records import *
@@ -150,8 +150,8 @@ def object_of(content):
         it = f.section(i)
         is_plain = it.sh_type not in (GROUP, *RELOCATIONS)
         sections.append(Value(
-            name=string(names, it.sh_name), type=it.sh_type, flags=it.sh_flags, addr=it.sh_addr, align=it.sh_addralign, entsize=it.sh_entsize,
-            link=position.get(it.sh_link) if is_plain else None,
+            name=string(names, it.sh_name), type=it.sh_type, flags=it.sh_flags, addr=it.sh_addr, align=it.sh_addralign,
+            entsize=it.sh_entsize, link=position.get(it.sh_link) if is_plain else None,
             info=position[it.sh_info] if it.sh_type in RELOCATIONS or is_plain and it.sh_flags & SHF_INFO_LINK else it.sh_info,
             body=body_of(f, i, position)))
     table = symbol_table(f)
@@ -189,8 +189,9 @@ def record(order, layout, **fields):
 def content_of(o, it):
     """The bytes of a section in the file."""
     if it.type in RELOCATIONS:
-        return b"".join(record(o.order, RELOCATION, r_offset=offset, r_info=symbol * 2 ** 32 + kind, r_addend=addend)[:tables.ENTRY_SIZE[it.type]]
-                        for offset, symbol, kind, addend in it.body)
+        entries = [record(o.order, RELOCATION, r_offset=offset, r_info=symbol * 2 ** 32 + kind, r_addend=addend)
+                   for offset, symbol, kind, addend in it.body]
+        return b"".join(entry[:tables.ENTRY_SIZE[it.type]] for entry in entries)
     if it.type == GROUP:
         flags, members = it.body
         return b"".join(word.to_bytes(4, o.order) for word in [flags, *(p + 1 for p in members)])
@@ -210,9 +211,11 @@ def laid(o):
     has_index_table = any(it.section is not None and index_of(it) >= LORESERVE for it in o.symbols)
     strings = table + 1 + has_index_table
     names, name_at = string_table([it.name for it in o.symbols])
-    entries = [bytes(24)] + [record(o.order, SYMBOL, st_name=name_at[it.name], st_info=it.info, st_other=it.other, st_value=it.value, st_size=it.size,
-                                    st_shndx=XINDEX if it.section is not None and index >= LORESERVE else index)
-                             for it, index in zip(o.symbols, indexes)]
+    entries = [bytes(24)]
+    for it, index in zip(o.symbols, indexes):
+        place = XINDEX if it.section is not None and index >= LORESERVE else index
+        entries.append(record(o.order, SYMBOL, st_name=name_at[it.name], st_info=it.info, st_other=it.other, st_shndx=place,
+                              st_value=it.value, st_size=it.size))
     locals_ = sum(it.info // 16 == 0 for it in o.symbols)
     parts = []
     for it in o.sections:
@@ -240,14 +243,14 @@ def placed(o, parts, name_at):
     for name, content, size, fields in parts:
         if size is None:
             file += bytes(-len(file) % max(1, fields["sh_addralign"]))
-        headers.append(record(o.order, SECTION_HEADER, sh_name=name_at[name], sh_offset=len(file), sh_size=len(content) if size is None else size,
-                              **fields))
+        headers.append(record(o.order, SECTION_HEADER, sh_name=name_at[name], sh_offset=len(file),
+                              sh_size=len(content) if size is None else size, **fields))
         file += content
     file += bytes(-len(file) % 8)
     count = 1 + len(parts)
     first = record(o.order, SECTION_HEADER, sh_size=count if count >= LORESERVE else 0, sh_link=count - 1 if count - 1 >= LORESERVE else 0)
     file[:64] = record(o.order, HEADER, e_type=ET_REL, e_machine=o.machine, e_version=1, e_shoff=len(file), e_flags=o.flags, e_ehsize=64,
-                       e_shentsize=64, e_shnum=count if count < LORESERVE else 0, e_shstrndx=min(count - 1, XINDEX) if count - 1 < LORESERVE else XINDEX)
+                       e_shentsize=64, e_shnum=count if count < LORESERVE else 0, e_shstrndx=count - 1 if count - 1 < LORESERVE else XINDEX)
     file[:9] = b"\x7fELF\2" + bytes([1 if o.order == "little" else 2, 1, o.osabi, o.abi])
     return bytes(file) + first + b"".join(headers)
 

@@ -1,4 +1,5 @@
-"""What `elfmap show` says of a file: a line on the file, on each of its parts, on each section and segment, and on each entry of a table."""
+"""What `elfmap show` says of a file: a line on the file, on each of its parts, on each section and segment, and on each entry of a
+table."""
 import image
 import tables
 from link import word
@@ -80,8 +81,8 @@ def hash_lines(f, i):
     yield f"hash {i} {len(buckets)} {len(chains)}"
 
 
-TABLE_LINES = {SYMTAB: symbol_lines, DYNSYM: symbol_lines, RELA: relocation_lines, REL: relocation_lines, GROUP: group_lines, NOTE: note_lines,
-               DYNAMIC_SECTION: dynamic_lines, HASH: hash_lines}
+TABLE_LINES = {SYMTAB: symbol_lines, DYNSYM: symbol_lines, RELA: relocation_lines, REL: relocation_lines, GROUP: group_lines,
+               NOTE: note_lines, DYNAMIC_SECTION: dynamic_lines, HASH: hash_lines}
 
 
 def lines(f):
