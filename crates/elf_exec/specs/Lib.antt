@@ -1,0 +1,4 @@
+-- The words of this crate's contracts.
+pub mod Loads
+pub mod ExecLaid
+pub mod ExecWriting
