@@ -2,3 +2,5 @@
 pub mod Loads
 pub mod ExecLaid
 pub mod ExecWriting
+pub mod PlacedExec
+pub mod Pieces
