@@ -3,5 +3,7 @@
 #![tactic(auto)]
 
 mod sending;
+mod zeros;
 
 pub use sending::{Pieces, send, send_all};
+pub use zeros::send_zeros;

@@ -1,5 +1,5 @@
 //! Pieces one after the other.
-ghost use Rattle.std.specs.Prelude.{◌<◌};
+ghost use Rattle.std.specs.Prelude.{◌≡◌, ◌<◌};
 ghost use Rattle.std.specs.List.{flat_map, range_with_len};
 ghost use Rattle.elf_image_sending.specs.Sending.{Sends};
 
