@@ -4,12 +4,13 @@ ghost use Rattle.elf_image_stream.specs.Output.{Writes};
 ghost use Rattle.elf_tool_text.specs.Line.{blank, bytes_text};
 ghost use Rattle.std.specs.List.{flat_map};
 ghost use Rattle.elf_tool_map.specs.MapLines.{bytes_line, bytes_lines, member_bytes};
-ghost use Rattle.elf_tool_text.specs.Sending.{Sends};
+ghost use Rattle.elf_image_sending.specs.Sending.{Sends};
 
+use elf_image_sending::{Pieces, send, send_all};
 use elf_image_stream::WriteFault;
 use elf_link_map::Member;
 use elf_link_relocate::Linked;
-use elf_tool_text::sending::{Pieces, send, send_all, send_decimal, send_hexadecimal, send_word};
+use elf_tool_text::sending::{send_decimal, send_hexadecimal, send_word};
 use std::io::Write;
 
 /// Writes a text and behind it the lines of the relocated bytes, or exactly the first `written` bytes of both together, fewer than

@@ -1,11 +1,10 @@
 -- Of a text that goes out in pieces.
-use Rattle.std.proofs.Common.{◌≡◌, ◌∙◌, ℕ, ◌+◌, ◌<◌, ◌≤◌, List, [], ◌∷◌, ◌++◌, Option, Result, Ok, Err, OnOk, length, take, drop, get_or, sym, ap, subst, arith, append_assoc, length-append, take_all, zero-add}
-use Rattle.std.specs.List.{flat_map, range_with_len}
+use Rattle.std.proofs.Common.{◌≡◌, ◌∙◌, ℕ, ◌+◌, ◌<◌, ◌≤◌, List, [], ◌∷◌, ◌++◌, Option, Result, Ok, Err, OnOk, length, take, drop, get_or, sym, ap, subst, arith, append_assoc, length-append, take_all}
+use Rattle.std.specs.List.{flat_map}
 use Rattle.std.specs.Io.KnownBytes.{Appends}
 use Rattle.std.proofs.KnownBytes.{Appends-nil, Appends-trans}
 use Rattle.std.proofs.Math.Seq.{take-append-add}
 use Rattle.std.proofs.lemmas.List.{append-nil, take-append-drop, take-append-le, take_more}
-use Rattle.std.proofs.lemmas.List.FromFn.{get_or-range_with_len, length-range_with_len}
 use Rattle.std.proofs.lemmas.List.Concat.{flat_map-append}
 use Rattle.elf_tool_text.specs.Engine.{IsBegun, IsWritten}
 use Rattle.elf_tool_text.specs.Output.{Buffers, IsBuffered, IsCutShort}
@@ -174,14 +173,3 @@ module _ {X : Type 0} (f : X → List ℕ) (xs : List X) (i : ℕ) (d : X) (with
 pub all_lines_buffered : {X : Type 0} (f : X → List ℕ) (xs : List X) (i : ℕ) (a b : Option (List ℕ)) (o p : Output) → length xs ≤ i
     → Buffers a b o p (flat_map f (take i xs)) → Buffers a b o p (flat_map f xs)
 all_lines_buffered f xs i a b o p past sent = subst (Buffers a b o p) (ap (flat_map f) (take_all i xs past)) sent
-
--- ---- indexes from 0 on
-
-pub is_index : (i end n : ℕ) → i < end → end ≡ n → i < length (range_with_len 0 n)
-is_index i end n below same = let long = length-range_with_len 0 n in omega arith
-
-pub no_index : (i end n : ℕ) → end ≤ i → end ≡ n → length (range_with_len 0 n) ≤ i
-no_index i end n past same = let long = length-range_with_len 0 n in omega arith
-
-pub line_at : (f : ℕ → List ℕ) (i end n : ℕ) (line : List ℕ) → i < end → end ≡ n → line ≡ f i → line ≡ f (get_or (range_with_len 0 n) i 0)
-line_at f i end n line below same is = is ∙ ap f (sym (get_or-range_with_len 0 n i 0 (omega arith) ∙ zero-add i))

@@ -4,4 +4,3 @@ pub mod Fault
 pub mod Inputs
 pub mod Line
 pub mod Output
-pub mod Sending

@@ -1,6 +1,6 @@
 use Rattle.std.proofs.lemmas.Result.{err_from_is_err_and}
-use Rattle.elf_tool_text.proofs.SentPieces.{piece_out, piece_stopped, pieces_out}
-use Rattle.elf_tool_text.proofs.sending.send_all.Goals as goal
+use Rattle.elf_image_sending.proofs.SentPieces.{piece_out, piece_stopped, pieces_out}
+use Rattle.elf_image_sending.proofs.sending.send_all.Goals as goal
 
 pub returns-in_err-all : goal.returns-in_err-all
 returns-in_err-all g c =

@@ -1,7 +1,7 @@
 use Rattle.std.proofs.Common.{take}
 use Rattle.std.specs.List.{flat_map, range_with_len}
-use Rattle.elf_tool_text.specs.Sending.{WentOut}
-use Rattle.elf_tool_text.proofs.sending.send_all.Given as goal
+use Rattle.elf_image_sending.specs.Sending.{WentOut}
+use Rattle.elf_image_sending.proofs.sending.send_all.Given as goal
 
 -- the first texts are out
 abbrev pub invariant-loop-j : goal.invariant-loop-j

@@ -1,0 +1,113 @@
+-- The executable of a link: the one list of bytes that it is written as.
+-- (gABI chapter 4, ELF Header; chapter 5, Program Header; where they leave a place open, the layout is this project's profile.)
+use Rattle.std.specs.Prelude.{◌≡◌, ℕ, ◌+◌, ◌-◌, ◌*◌, ◌<◌, ◌==◌, if◌then◌else◌, List, [], ◌∷◌, ◌++◌, length, map, replicate, slice_index}
+use Rattle.std.specs.List.{flat_map}
+use Rattle.elf_field.specs.Abi.{EHDR_SIZE, EI_NIDENT, EI_PAD, ELFCLASS64, ELFDATA2LSB, ELFDATA2MSB, ET_EXEC, EV_CURRENT, MAGIC, PHDR_SIZE, PT_LOAD}
+use Rattle.elf_field.specs.declared.ehdr.Ehdr.{Ehdr}
+use Rattle.elf_field.specs.declared.order.Order.{Order}
+use Rattle.elf_field.specs.declared.order.Order.TheVariants.{Little, Big}
+use Rattle.elf_field.specs.declared.phdr.Phdr.{Phdr}
+use Rattle.elf_field.specs.Ehdr.{ehdr_bytes}
+use Rattle.elf_field.specs.Phdr.{phdr_bytes}
+use Rattle.elf_extent.specs.Place.{Least}
+use Rattle.elf_image_type.specs.FileParts.{spread}
+use Rattle.elf_object_type.specs.Object.{ObjectValue}
+use Rattle.elf_link_field.specs.declared.rule.RelocRule.{RelocRule}
+use Rattle.elf_link_files.specs.Items.{AreEach}
+use Rattle.elf_link_map.specs.LinkMap.{LinkMapValue}
+use Rattle.elf_link_relocate.specs.declared.linked.Identity.{Identity}
+use Rattle.elf_link_relocate.specs.Linked.{identity_of}
+use Rattle.elf_link_relocate.specs.Memory.{IsMemory}
+use Rattle.elf_exec.specs.declared.load.Load.{Load}
+use Rattle.elf_exec.specs.Loads.{load_in, loads}
+
+-- ---- the parts behind the header and the program header table: the bytes of each segment
+
+-- p_filesz: a segment without bits has none in the file
+abbrev pub file_size : Load → ℕ
+file_size load = if load.no_bits then 0 else load.size
+
+-- the bytes as (size, alignment): those of a segment with bits begin at a multiple of the page
+abbrev pub load_part : ℕ → Load → ℕ × ℕ
+load_part page load = (file_size load, if load.no_bits then 1 else page)
+
+unfoldable pub load_parts : LinkMapValue → List (ℕ × ℕ)
+load_parts m = map (load_part m.page) (loads m)
+
+-- where they may begin: at the end of the program header table
+abbrev pub bytes_from : LinkMapValue → ℕ
+bytes_from m = EHDR_SIZE + PHDR_SIZE * length (loads m)
+
+-- a segment's bytes are those of memory from its address on
+pub record AreLoadBytes (fs : List ObjectValue) (m : LinkMapValue) (rules : List RelocRule) (load : Load) (bytes : List ℕ) : Type 0 where
+  pub long : length bytes ≡ file_size load
+  pub memory : (k : ℕ) → k < length bytes → IsMemory fs m rules (load.address + k) (slice_index bytes k)
+
+-- ---- the records
+
+-- of segments whose bytes are at these places
+abbrev pub program_header : ℕ → Load → ℕ → Phdr
+program_header page load place = record {
+  p_type = PT_LOAD;
+  p_flags = load.flags;
+  p_offset = if load.no_bits then 0 else place;
+  p_vaddr = load.address;
+  p_paddr = load.address;
+  p_filesz = file_size load;
+  p_memsz = load.size;
+  p_align = page;
+}
+
+abbrev pub program_headers : ℕ → List Load → List ℕ → List Phdr
+program_headers page [] places = []
+program_headers page (load ∷ ls) [] = []
+program_headers page (load ∷ ls) (place ∷ places) = program_header page load place ∷ program_headers page ls places
+
+abbrev pub encoding : Order → ℕ
+encoding Little = ELFDATA2LSB
+encoding Big = ELFDATA2MSB
+
+abbrev pub identification : Identity → List ℕ
+identification i = MAGIC ++ (ELFCLASS64 ∷ encoding i.order ∷ EV_CURRENT ∷ i.osabi ∷ i.abi ∷ replicate (EI_NIDENT - EI_PAD) 0)
+
+-- the header of a file with this entry and so many segments, whose program header table stands behind it; a table without entries
+-- is none; there is no section header table
+abbrev pub exec_header : Identity → ℕ → ℕ → Ehdr
+exec_header i entry count = record {
+  e_ident = identification i;
+  e_type = ET_EXEC;
+  e_machine = i.machine;
+  e_version = EV_CURRENT;
+  e_entry = entry;
+  e_phoff = if count == 0 then 0 else EHDR_SIZE;
+  e_shoff = 0;
+  e_flags = i.flags;
+  e_ehsize = EHDR_SIZE;
+  e_phentsize = if count == 0 then 0 else PHDR_SIZE;
+  e_phnum = count;
+  e_shentsize = 0;
+  e_shnum = 0;
+  e_shstrndx = 0;
+}
+
+-- ---- the file
+
+unfoldable pub header_bytes : List ObjectValue → LinkMapValue → List ℕ
+header_bytes fs m = let i = identity_of fs in ehdr_bytes i.order (exec_header i m.entry (length (loads m)))
+
+unfoldable pub table_bytes : List ObjectValue → LinkMapValue → List ℕ → List ℕ
+table_bytes fs m places = flat_map (phdr_bytes (identity_of fs).order) (program_headers m.page (loads m) places)
+
+-- the header, the program header table, and the bytes of the segments at these places, with zeros between
+unfoldable pub exec_bytes : List ObjectValue → LinkMapValue → List ℕ → List (List ℕ) → List ℕ
+exec_bytes fs m places contents =
+    spread 0 (0 ∷ EHDR_SIZE ∷ places) (header_bytes fs m ∷ table_bytes fs m places ∷ contents)
+
+-- b is the executable of these objects, their map and relocation rules: the bytes of each segment are memory's, and its parts are as
+-- low as they can be
+pub record ExecLaid (fs : List ObjectValue) (m : LinkMapValue) (rules : List RelocRule) (b : List ℕ) : Type 0 where
+  pub places : List ℕ
+  pub contents : List (List ℕ)
+  pub least : Least (load_parts m) (bytes_from m) places
+  pub memory : AreEach [] (λ j. AreLoadBytes fs m rules (load_in m j)) (length (loads m)) contents
+  pub bytes : b ≡ exec_bytes fs m places contents

@@ -1,0 +1,39 @@
+-- What writing an executable does to what a writer holds.
+use Rattle.std.specs.Prelude.{◌≡◌, ◌<◌, ◌≤◌, ◌⊎◌, ℕ, List, length, Option, Result, Ok, Err, MatchResult}
+use Rattle.elf_field.specs.Abi.{PN_XNUM}
+use Rattle.elf_image_rules.specs.HeaderRules.{MAX_LEN}
+use Rattle.elf_image_stream.specs.declared.fault.WriteFault.{WriteFault}
+use Rattle.elf_image_stream.specs.Output.{Writes}
+use Rattle.elf_link_relocate.specs.Linked.{IsLinked, LinkedValue}
+use Rattle.elf_link_relocate.specs.MapFacts.{IsMapOfSome}
+use Rattle.elf_exec.specs.declared.fault.ExecFault.{ExecFault}
+use Rattle.elf_exec.specs.declared.fault.ExecFault.TheVariants.{TooLong, OutOfMemory, Io}
+use Rattle.elf_exec.specs.ExecLaid.{ExecLaid}
+use Rattle.elf_exec.specs.Loads.{loads}
+
+-- the map and the relocated bytes are those of these objects, for some options, and no rule of the link stands
+pub record IsReady (l : LinkedValue) : Type 0 where
+  pub map : IsMapOfSome l.objects l.map
+  pub linked : IsLinked l.objects l.map l.rules l
+
+-- b is the executable of relocated bytes
+abbrev pub IsExec : LinkedValue → List ℕ → Type 0
+IsExec l b = ExecLaid l.objects l.map l.rules b
+
+-- there are more segments than e_phnum can tell (gABI chapter 5: PN_XNUM), or the executable is longer than the longest file
+abbrev pub IsTooLong : LinkedValue → Type 0
+IsTooLong l = (PN_XNUM ≤ length (loads l.map)) ⊎ ((b : List ℕ) × IsExec l b × (MAX_LEN < length b))
+
+-- the bytes of the executable go out, or exactly the first of them and then the writer fails; it is not too long
+abbrev pub WritesExec : LinkedValue → Option (List ℕ) → Option (List ℕ) → Result Unit WriteFault → Type 0
+WritesExec l before after result =
+    (b : List ℕ) × IsExec l b × (length (loads l.map) < PN_XNUM) × (length b ≤ MAX_LEN) × Writes before after b result
+
+-- each fault with when it comes, and what it leaves; want of memory says nothing else
+abbrev pub IsExecFault : LinkedValue → Option (List ℕ) → Option (List ℕ) → ExecFault → Type 0
+IsExecFault l before after TooLong = (after ≡ before) × IsTooLong l
+IsExecFault l before after OutOfMemory = after ≡ before
+IsExecFault l before after (Io written) = WritesExec l before after (Err (record { written = written }))
+
+abbrev pub IsExecWritten : {T : Type 0} → LinkedValue → Option (List ℕ) → Option (List ℕ) → Result T ExecFault → Type 0
+IsExecWritten l before after result = MatchResult result (λ _. WritesExec l before after (Ok tt)) (IsExecFault l before after)

@@ -1,0 +1,6 @@
+-- The words of this crate's contracts.
+pub mod Loads
+pub mod ExecLaid
+pub mod ExecWriting
+pub mod PlacedExec
+pub mod Pieces

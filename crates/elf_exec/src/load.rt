@@ -1,0 +1,110 @@
+//! The segments of an executable (gABI chapter 5, Program Header).
+ghost use Rattle.std.specs.Prelude.{◌≡◌, IfOk, map as map_list};
+ghost use Rattle.elf_link_outputs.specs.PlacedView.{common_value, output_value};
+ghost use Rattle.elf_exec.specs.ExecLaid.{file_size};
+ghost use Rattle.elf_exec.specs.Loads.{EndInTime, commons_load, load_at, loads, output_load, segment_flags};
+
+use elf_field::abi::*;
+use elf_link_map::{Common, LinkMap, Output};
+use std::alloc::{AllocError, Global};
+
+/// A stretch of memory that is a segment of type `PT_LOAD`: an output section, or the commons.
+#[derive(Clone, Copy, Debug, PartialEq, Eq)]
+pub(crate) struct Load {
+    /// The position of the output section; of the commons, which stand behind them, the number of output sections.
+    pub(crate) position: usize,
+    /// Where it begins (`p_vaddr`).
+    pub(crate) address: u64,
+    /// How many bytes of memory it takes (`p_memsz`).
+    pub(crate) size: u64,
+    /// Its permissions (`p_flags`).
+    pub(crate) flags: u32,
+    /// Whether all these bytes are 0, and none stands in the file.
+    pub(crate) no_bits: bool,
+}
+
+/// The segments of all outputs that take memory, and of the commons if they do, in order of address.
+pub(crate) fn loads(alloc: Global, map: &LinkMap<'_>) -> Result<Vec<Load>, AllocError>
+    requires { EndInTime map.now.commons }
+    ensures { IfOk result (λ all. all.items ≡ loads map.now) }
+{
+    let mut all = Vec::new(alloc);
+    for position in 0..map.outputs().len() + 1 {
+        let load = load_at(map, position);
+        if load.size > 0 {
+            all.push(load)?;
+        }
+    }
+    Ok(all)
+}
+
+fn load_at(map: &LinkMap<'_>, position: usize) -> Load
+    requires { EndInTime map.now.commons }
+    ensures { result ≡ load_at map.now position }
+{
+    match map.outputs().get(position) {
+        Some(output) => output_load(position, output),
+        None => commons_load(position, map.commons()),
+    }
+}
+
+fn output_load(position: usize, output: &Output<'_>) -> Load
+    ensures { result ≡ output_load position (output_value output.now) }
+{
+    Load {
+        position,
+        address: output.address,
+        size: output.length,
+        flags: segment_flags(output.flags),
+        no_bits: output.no_bits,
+    }
+}
+
+fn segment_flags(flags: u64) -> u32
+    ensures { result ≡ segment_flags flags }
+{
+    let write = if flags & SHF_WRITE == 0 { 0 } else { PF_W };
+    let execute = if flags & SHF_EXECINSTR == 0 {
+        0
+    } else {
+        PF_X
+    };
+    PF_R + write + execute
+}
+
+fn commons_load(position: usize, commons: &[Common<'_>]) -> Load
+    requires { EndInTime (map_list common_value commons.now) }
+    ensures { result ≡ commons_load position (map_list common_value commons.now) }
+{
+    let (address, size) = commons_stretch(commons);
+    Load {
+        position,
+        address,
+        size,
+        flags: PF_R + PF_W,
+        no_bits: true,
+    }
+}
+
+/// Where the first common begins, and how many bytes it is from there to the end of the last one.
+fn commons_stretch(commons: &[Common<'_>]) -> (u64, u64)
+    requires { EndInTime (map_list common_value commons.now) }
+    ensures { let load = commons_load 0 (map_list common_value commons.now) in result ≡ (load.address, load.size) }
+{
+    match (commons.first(), commons.last()) {
+        (Some(first), Some(last)) => {
+            (
+                first.address,
+                (last.address + last.size).saturating_sub(first.address),
+            )
+        }
+        _ => (0, 0),
+    }
+}
+
+/// How many bytes of a segment stand in the file (`p_filesz`).
+pub(crate) fn file_size(load: Load) -> u64
+    ensures { result ≡ file_size load }
+{
+    if load.no_bits { 0 } else { load.size }
+}

@@ -1,0 +1,90 @@
+-- Of texts that go out one after the other.
+use Rattle.std.proofs.Common.{◌≡◌, ◌∙◌, ℕ, ◌+◌, ◌<◌, ◌≤◌, List, [], ◌∷◌, ◌++◌, Option, Result, Ok, Err, length, take, drop, get_or, sym, ap, subst, arith, length-append, take_all, refl, zero-add}
+use Rattle.std.specs.List.{flat_map, range_with_len}
+use Rattle.std.specs.Io.KnownBytes.{Appends}
+use Rattle.std.proofs.KnownBytes.{Appends-nil, Appends-trans}
+use Rattle.std.proofs.Math.Seq.{take-append-add}
+use Rattle.std.proofs.lemmas.List.{append-nil, take-append-drop, take-append-le, take_more}
+use Rattle.std.proofs.lemmas.List.FromFn.{get_or-range_with_len, length-range_with_len}
+use Rattle.std.proofs.lemmas.List.Concat.{flat_map-append}
+use Rattle.elf_image_stream.specs.declared.fault.WriteFault.{WriteFault}
+use Rattle.elf_image_sending.specs.Sending.{Sends, StoppedIn, WentOut}
+
+pub nothing_out : (a : Option (List ℕ)) (out : ℕ) → WentOut a a out [] out
+nothing_out a out = (omega arith, Appends-nil a)
+
+-- the count would pass 2^64: nothing goes out
+pub stopped_at_once : (a : Option (List ℕ)) (out : ℕ) (text : List ℕ) → 0 < length text → StoppedIn a a out text out
+stopped_at_once a out text some = (0, omega arith, some, Appends-nil a)
+
+pub both_out : (a b c : Option (List ℕ)) (out mid all : ℕ) (s t : List ℕ) → WentOut a b out s mid → WentOut b c mid t all → WentOut a c out (s ++ t) all
+both_out a b c out mid all s t first second =
+    let whole = length-append s t in
+    let before = first.0 in
+    let after = second.0 in
+    (omega arith, Appends-trans a b c s t first.1 second.1)
+
+pub stopped_later : (a b c : Option (List ℕ)) (out mid written : ℕ) (s t : List ℕ) → WentOut a b out s mid → StoppedIn b c mid t written →
+    StoppedIn a c out (s ++ t) written
+stopped_later a b c out mid written s t first (n, is, below, went) =
+    let whole = length-append s t in
+    let before = first.0 in
+    (length s + n, omega arith, omega arith, subst (Appends a c) (sym (take-append-add s t n)) (Appends-trans a b c s (take n t) first.1 went))
+
+pub stopped_longer : (a c : Option (List ℕ)) (out written : ℕ) (s t : List ℕ) → StoppedIn a c out s written → StoppedIn a c out (s ++ t) written
+stopped_longer a c out written s t (n, is, below, went) =
+    let whole = length-append s t in
+    (n, is, omega arith, subst (Appends a c) (sym (take-append-le n s t (omega arith))) went)
+
+pub sends_behind : (a b c : Option (List ℕ)) (out mid : ℕ) (s t : List ℕ) (result : Result ℕ WriteFault) → WentOut a b out s mid → Sends b c mid t result →
+    Sends a c out (s ++ t) result
+sends_behind a b c out mid s t (Ok all) first second = both_out a b c out mid all s t first second
+sends_behind a b c out mid s t (Err fault) first second = stopped_later a b c out mid fault.written s t first second
+
+-- a text stopped from its first byte on
+pub stopped_whole : (a c : Option (List ℕ)) (text : List ℕ) (written : ℕ) → StoppedIn a c 0 text written → (written < length text) × Appends a c (take written text)
+stopped_whole a c text written (n, is, below, went) =
+    let same : n ≡ written = omega arith in
+    subst (λ (k : ℕ). (k < length text) × Appends a c (take k text)) same (below, went)
+
+-- ---- numbers below an end
+
+pub is_index : (i end n : ℕ) → i < end → end ≡ n → i < length (range_with_len 0 n)
+is_index i end n below same = let long = length-range_with_len 0 n in omega arith
+
+pub no_index : (i end n : ℕ) → end ≤ i → end ≡ n → length (range_with_len 0 n) ≤ i
+no_index i end n past same = let long = length-range_with_len 0 n in omega arith
+
+pub line_at : (f : ℕ → List ℕ) (i end n : ℕ) (line : List ℕ) → i < end → end ≡ n → line ≡ f i → line ≡ f (get_or (range_with_len 0 n) i 0)
+line_at f i end n line below same is = is ∙ ap f (sym (get_or-range_with_len 0 n i 0 (omega arith) ∙ zero-add i))
+
+-- ---- text by text
+
+module _ (f : ℕ → List ℕ) (j end n : ℕ) (a b c : Option (List ℕ)) (out mid : ℕ) (below : j < end) (count : end ≡ n)
+    (before : WentOut a b out (flat_map f (take j (range_with_len 0 n))) mid) where
+  xs : List ℕ
+  xs = range_with_len 0 n
+
+  more : flat_map f (take (j + 1) xs) ≡ flat_map f (take j xs) ++ f j
+  unfolding xs
+  more =
+      ap (flat_map f) (take_more xs j 0 (is_index j end n below count)) ∙ flat_map-append f (take j xs) (get_or xs j 0 ∷ [])
+      ∙ ap (λ (s : List ℕ). flat_map f (take j xs) ++ s) (append-nil (f (get_or xs j 0)) ∙ sym (line_at f j end n (f j) below count refl))
+
+  pub piece_out : (all : ℕ) → WentOut b c mid (f j) all → WentOut a c out (flat_map f (take (j + 1) (range_with_len 0 n))) all
+  unfolding xs
+  piece_out all next = subst (λ (s : List ℕ). WentOut a c out s all) (sym more) (both_out a b c out mid all (flat_map f (take j xs)) (f j) before next)
+
+  pub piece_stopped : (written : ℕ) → StoppedIn b c mid (f j) written → StoppedIn a c out (flat_map f (range_with_len 0 n)) written
+  unfolding xs
+  piece_stopped written stop =
+      let all : flat_map f xs ≡ flat_map f (take (j + 1) xs) ++ flat_map f (drop (j + 1) xs) =
+      ap (flat_map f) (sym (take-append-drop (j + 1) xs)) ∙ flat_map-append f (take (j + 1) xs) (drop (j + 1) xs) in
+      subst (λ (s : List ℕ). StoppedIn a c out s written) (sym all)
+      (stopped_longer a c out written (flat_map f (take (j + 1) xs)) (flat_map f (drop (j + 1) xs))
+      (subst (λ (s : List ℕ). StoppedIn a c out s written) (sym more) (stopped_later a b c out mid written (flat_map f (take j xs)) (f j) before stop)))
+
+pub pieces_out : (f : ℕ → List ℕ) (j end n : ℕ) (a b : Option (List ℕ)) (out all : ℕ) → end ≤ j → end ≡ n →
+    WentOut a b out (flat_map f (take j (range_with_len 0 n))) all → WentOut a b out (flat_map f (range_with_len 0 n)) all
+pieces_out f j end n a b out all past count went =
+    subst (λ (xs : List ℕ). WentOut a b out (flat_map f xs) all) (take_all j (range_with_len 0 n) (no_index j end n past count)) went

@@ -1,0 +1,61 @@
+//! Pieces one after the other.
+ghost use Rattle.std.specs.Prelude.{◌≡◌, ◌<◌};
+ghost use Rattle.std.specs.List.{flat_map, range_with_len};
+ghost use Rattle.elf_image_sending.specs.Sending.{Sends};
+
+use elf_image_stream::{WriteFault, write_whole};
+use std::io::Write;
+
+/// Sends some bytes.
+///
+/// A text of 2^64 bytes and more ends here, before the count of what is out no longer fits.
+pub fn send<W: Write>(writer: &mut W, out: u64, bytes: &[u8]) -> Result<u64, WriteFault>
+    ensures { Sends (W.contents writer.old) (W.contents writer.new) out bytes.now result }
+{
+    let Some(all) = out.checked_add(bytes.len() as u64) else {
+        return Err(WriteFault { written: out });
+    };
+    match write_whole(writer, bytes) {
+        Ok(()) => Ok(all),
+        Err(fault) => Err(WriteFault {
+            written: out + fault.written,
+        }),
+    }
+}
+
+/// Texts by their indexes.
+pub trait Pieces {
+    ghost use Rattle.std.specs.Prelude.{ℕ, List};
+    ghost use Rattle.elf_image_sending.specs.Sending.{Sends};
+
+    // how many there are
+    ghost count: { Self → ℕ };
+
+    // text j
+    ghost piece: { Self → ℕ → List ℕ };
+
+    /// How many there are.
+    fn count(&self) -> usize
+        ensures { result ≡ count self.now };
+
+    /// Sends text `j`, which has to be one of them, behind `out` bytes.
+    fn send<W: Write>(&self, writer: &mut W, out: u64, j: usize) -> Result<u64, WriteFault>
+        requires { j < count self.now }
+        ensures { Sends (W.contents writer.old) (W.contents writer.new) out (piece self.now j) result };
+}
+
+/// Sends them all, one after the other.
+pub fn send_all<P: Pieces, W: Write>(
+    writer: &mut W,
+    out: u64,
+    pieces: &P,
+) -> Result<u64, WriteFault>
+    ensures { Sends (W.contents writer.old) (W.contents writer.new) out
+        (flat_map (P.piece pieces.now) (range_with_len 0 (P.count pieces.now))) result }
+{
+    let mut all = out;
+    for j in 0..pieces.count() {
+        all = pieces.send(writer, all, j)?;
+    }
+    Ok(all)
+}

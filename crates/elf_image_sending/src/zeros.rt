@@ -1,0 +1,24 @@
+//! Zeros, as those between two parts of a file.
+ghost use Rattle.std.specs.Prelude.{replicate};
+ghost use Rattle.elf_image_sending.specs.Sending.{Sends};
+
+use elf_image_stream::WriteFault;
+use elf_image_stream::output::write_zeros;
+use std::io::Write;
+
+/// Sends so many zeros, a block at a time.
+///
+/// Where 2^64 bytes and more would be out, the text ends here.
+pub fn send_zeros<W: Write>(writer: &mut W, out: u64, count: u64) -> Result<u64, WriteFault>
+    ensures { Sends (W.contents writer.old) (W.contents writer.new) out (replicate count 0) result }
+{
+    let Some(all) = out.checked_add(count) else {
+        return Err(WriteFault { written: out });
+    };
+    match write_zeros(writer, count) {
+        Ok(()) => Ok(all),
+        Err(fault) => Err(WriteFault {
+            written: out + fault.written,
+        }),
+    }
+}
