@@ -2,6 +2,7 @@
 mod BytesScanned
 mod Fields
 mod FileParts
+mod LoadedBytes
 mod OneImage
 pub mod Public
 mod RelocatableFile

@@ -2,5 +2,6 @@
 pub mod Strings
 pub mod View
 pub mod Parsing
+pub mod Loads
 pub mod FileParts
 pub mod RelocatableFile

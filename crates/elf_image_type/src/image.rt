@@ -5,8 +5,10 @@ ghost use Rattle.elf_image_rules.specs.Tables.{content_extent, name_table, order
 ghost use Rattle.elf_image_outline.specs.Image.{IsImage, IsSoundImage, program_header_of, section_header_of, value_names};
 ghost use Rattle.elf_image_outline.specs.Outline.{image_of};
 ghost use Rattle.elf_image_outline.specs.Parts.{AreParts};
+ghost use Rattle.elf_image_type.specs.Loads.{LoadsFirst};
 ghost use Rattle.elf_image_type.specs.Strings.{section_name};
 
+use crate::loading::load;
 use crate::strings::string_at;
 use elf_field::abi::{SHDR_SIZE, SHT_NULL};
 use elf_field::{Ehdr, Order, Phdr, Shdr};
@@ -185,6 +187,17 @@ impl<'a> Image<'a> {
         // That content lies in the file.
         let _ = self.content(i);
         self.section(i).sh_offset
+    }
+
+    /// The byte that the loadable segments (`PT_LOAD`) give an address, by the first one that has it; `None` where none has it (gABI
+    /// chapter 5, Program Header).
+    ///
+    /// A segment has `p_memsz` addresses from `p_vaddr` on. The first `p_filesz` of them have the bytes at `p_offset` of the file that
+    /// stands for the image, edited or as read; the others are 0.
+    pub fn load(&self, address: u64) -> Option<u8>
+        ensures { (b : List ℕ) × IsImage self.now b × LoadsFirst b self.now.segments address result }
+    {
+        load(&self.outline, &self.contents, self.file, address)
     }
 
     /// What each byte of the file belongs to: the parts in ascending order, none of them empty, each

@@ -16,6 +16,7 @@
 mod edits;
 mod image;
 pub mod laws;
+mod loading;
 mod parsing;
 pub mod strings;
 mod writing;

@@ -7,3 +7,5 @@ mod blocks;
 mod image_faults;
 #[cfg(test)]
 mod images;
+#[cfg(test)]
+mod loads;
