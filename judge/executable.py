@@ -2,22 +2,13 @@
 where their bytes stand, is this project's profile): one segment of type LOAD for each output section that takes memory, and one for the
 commons if they do."""
 import link, objects
-from image import MAX_LEN
-from records import EXEC, HEADER, LOAD, PN_XNUM, PROGRAM_HEADER, Record
+from objects import record
+from records import HEADER, LOAD, PN_XNUM, PROGRAM_HEADER
 
+EXEC = 2
 PF_X, PF_W, PF_R = 1, 2, 4
 SHF_WRITE, SHF_EXECINSTR = 1, 4
-EHDR_SIZE, PHDR_SIZE = 64, 56
-
-
-def record(order, layout, **fields):
-    """A record with these fields, and zeros elsewhere."""
-    size = max(at + width for at, width in layout.values())
-    content = bytearray(size)
-    for name, number in fields.items():
-        at, width = layout[name]
-        content[at:at + width] = number.to_bytes(width, order)
-    return bytes(content)
+EHDR_SIZE, PHDR_SIZE, MAX_LEN = 64, 56, 2 ** 30
 
 
 def permissions(flags):

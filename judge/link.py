@@ -319,20 +319,24 @@ def first_standing(rules, link):
     return None
 
 
-def map_lines(contents, base, page, rules=None, entry=None):
-    """What `elfmap map` says of these files, with relocation rules or without; no words of it name an entry point."""
+def judged(contents, base, page, rules=None, entry=None):
+    """The line of a refusal, or None; and the link of these files, with relocation rules or without."""
     for f, content in enumerate(contents):
         broken = objects.verdict(content)
         if broken:
-            return "file %d refused %d %d\n" % (f, *broken)
+            return "file %d refused %d %d\n" % (f, *broken), None
     link = Link([objects.object_of(content) for content in contents], base, page, rules, entry)
     refused = first_standing(LINK_RULES, link)
     if refused:
-        return refused
-    all_outputs, link.common_at = placed(link)
-    link.at = addresses(link)
-    refused = first_standing(RELOCATION_RULES, link) if rules is not None else None
-    return refused or "".join(line + "\n" for line in lines(link, all_outputs))
+        return refused, link
+    link.at, link.common_at = addresses(link), placed(link)[1]
+    return first_standing(RELOCATION_RULES, link) if rules is not None else None, link
+
+
+def map_lines(contents, base, page, rules=None):
+    """What `elfmap map` says of these files."""
+    refused, link = judged(contents, base, page, rules)
+    return refused or "".join(line + "\n" for line in lines(link, placed(link)[0]))
 
 
 def lines(link, all_outputs):
