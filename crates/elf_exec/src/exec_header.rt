@@ -1,7 +1,7 @@
 //! The header of an executable (gABI chapter 4, ELF Header).
 ghost use Rattle.std.specs.Prelude.{◌≡◌, ◌<◌};
 ghost use Rattle.elf_field.specs.Abi.{PN_XNUM};
-ghost use Rattle.elf_exec.specs.ExecLaid.{encoding, exec_header, identification};
+ghost use Rattle.elf_exec.specs.ExecLaid.{encoding_of, exec_header, identification_of};
 ghost use Rattle.elf_link_relocate.specs.Linked.{identity_of};
 
 use elf_field::abi::*;
@@ -34,7 +34,7 @@ pub(crate) fn exec_header(linked: &Linked<'_, '_>, count: usize) -> Ehdr
 
 /// `e_ident`.
 fn identification(identity: Identity) -> [u8; EI_NIDENT]
-    ensures { result ≡ identification identity }
+    ensures { result ≡ identification_of identity }
 {
     let [m0, m1, m2, m3] = MAGIC;
     let encoding = encoding(identity.order);
@@ -46,7 +46,7 @@ fn identification(identity: Identity) -> [u8; EI_NIDENT]
 
 /// The identification byte of an order.
 fn encoding(order: Order) -> u8
-    ensures { result ≡ encoding order }
+    ensures { result ≡ encoding_of order }
 {
     match order {
         Order::Little => ELFDATA2LSB,

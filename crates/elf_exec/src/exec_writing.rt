@@ -1,5 +1,5 @@
 //! The executable of relocated bytes onto a writer.
-ghost use Rattle.elf_exec.specs.ExecWriting.{IsExecWritten, IsReady};
+ghost use Rattle.elf_exec.specs.ExecWriting.{IsExecWritten, IsReadyLink};
 
 use crate::fault::ExecFault;
 use crate::placed_exec::PlacedExec;
@@ -24,10 +24,11 @@ pub fn write_exec<W: Write>(
     linked: &Linked<'_, '_>,
     writer: &mut W,
 ) -> Result<(), ExecFault>
-    requires { IsReady linked.now }
+    requires { IsReadyLink linked.now }
     ensures { IsExecWritten linked.now (W.contents writer.old) (W.contents writer.new) result }
 {
     let placed = PlacedExec::new(alloc, linked)?;
+    placed.is_placed();
     match send_exec(writer, &placed) {
         Ok(_) => Ok(()),
         Err(fault) => Err(ExecFault::Io {

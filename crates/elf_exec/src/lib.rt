@@ -25,3 +25,4 @@ mod program_headers;
 pub use exec_writing::write_exec;
 pub use fault::ExecFault;
 pub use laws::{one_exec, ready_of, some_exec};
+pub use load::Load;

@@ -3,7 +3,7 @@ ghost use Rattle.std.specs.Prelude.{◌≡◌, ◌<◌, length};
 ghost use Rattle.elf_image_sending.specs.Sending.{Sends};
 ghost use Rattle.elf_link_map.specs.Standing.{member_address};
 ghost use Rattle.elf_link_outputs.specs.PlacedView.{output_value};
-ghost use Rattle.elf_exec.specs.Pieces.{member_bytes, member_padding, output_bytes};
+ghost use Rattle.elf_exec.specs.Pieces.{member_content, member_padding, output_content};
 
 use elf_image_sending::{Pieces, send, send_all, send_zeros};
 use elf_image_stream::WriteFault;
@@ -18,19 +18,19 @@ pub(crate) fn send_output<W: Write>(
     linked: &Linked<'_, '_>,
     output: &Output<'_>,
 ) -> Result<u64, WriteFault>
-    ensures { Sends (W.contents writer.old) (W.contents writer.new) out (output_bytes linked.now (output_value output.now)) result }
+    ensures { Sends (W.contents writer.old) (W.contents writer.new) out (output_content linked.now (output_value output.now)) result }
 {
     send_all(writer, out, &MemberPieces { linked, output })
 }
 
 /// The members of an output.
 #[derive(Drop)]
-struct MemberPieces<'l, 'm, 'a> {
+struct MemberPieces<'l, 'm, 'a, 'o, 'n> {
     linked: &'l Linked<'m, 'a>,
-    output: &'l Output<'a>,
+    output: &'o Output<'n>,
 }
 
-impl<'l, 'm, 'a> Pieces for MemberPieces<'l, 'm, 'a> {
+impl<'l, 'm, 'a, 'o, 'n> Pieces for MemberPieces<'l, 'm, 'a, 'o, 'n> {
     ghost use Rattle.std.specs.Prelude.{length};
     ghost use Rattle.elf_link_outputs.specs.PlacedView.{output_value};
     ghost use Rattle.elf_exec.specs.Pieces.{member_piece};
@@ -49,7 +49,7 @@ impl<'l, 'm, 'a> Pieces for MemberPieces<'l, 'm, 'a> {
         send(
             writer,
             out,
-            member_bytes(self.linked, self.output.members[j]),
+            member_content(self.linked, self.output.members[j]),
         )
     }
 }
@@ -64,7 +64,7 @@ fn member_padding(linked: &Linked<'_, '_>, output: &Output<'_>, k: usize) -> u64
         return place.saturating_sub(output.address);
     }
     let before = output.members[k - 1];
-    let size = member_bytes(linked, before).len() as u64;
+    let size = member_content(linked, before).len() as u64;
     place
         .saturating_sub(member_address(linked, before))
         .saturating_sub(size)
@@ -80,8 +80,8 @@ fn member_address(linked: &Linked<'_, '_>, member: Member) -> u64
 }
 
 /// The relocated bytes of a member; none where it has no bits.
-fn member_bytes<'l>(linked: &'l Linked<'_, '_>, member: Member) -> &'l [u8]
-    ensures { result.now ≡ member_bytes linked.now member }
+fn member_content<'l>(linked: &'l Linked<'_, '_>, member: Member) -> &'l [u8]
+    ensures { result.now ≡ member_content linked.now member }
 {
     match linked.bytes(member.file, member.section) {
         Some(bytes) => bytes,

@@ -1,7 +1,7 @@
 //! Relocated bytes with all that their executable takes memory for (gABI chapter 5, Program Header).
 ghost use Rattle.std.specs.Prelude.{◌≡◌, ◌<◌, IfErr, IfOk, length, slice_index};
 ghost use Rattle.elf_field.specs.Abi.{PN_XNUM};
-ghost use Rattle.elf_exec.specs.ExecWriting.{IsReady};
+ghost use Rattle.elf_exec.specs.ExecWriting.{IsReadyLink};
 ghost use Rattle.elf_exec.specs.Loads.{load_in, loads};
 ghost use Rattle.elf_exec.specs.PlacedExec.{IsPlacedExec, IsPlacingFault};
 
@@ -9,7 +9,6 @@ use crate::fault::ExecFault;
 use crate::load::{Load, loads};
 use crate::placing::place_loads;
 use elf_field::abi::*;
-use elf_link_map::parts_apart;
 use elf_link_relocate::Linked;
 use std::alloc::Global;
 use std::marker::Model;
@@ -23,13 +22,13 @@ pub(crate) struct PlacedExec<'l, 'm, 'a> {
 }
 
 impl<'l, 'm, 'a> Model for PlacedExec<'l, 'm, 'a> {
-    ghost use Rattle.elf_exec.specs.PlacedExec.{IsPlacedWith, PlacedValue};
+    ghost use Rattle.elf_exec.specs.PlacedExec.{HasLoads, PlacedExecValue};
 
-    ghost Value = { PlacedValue };
+    ghost Value = { PlacedExecValue };
 
     ghost view = { λ a. record { linked = a.linked.now; places = a.places.items } };
 
-    ghost invariant = { λ a. IsPlacedWith a.loads.items (record { linked = a.linked.now; places = a.places.items }) };
+    ghost invariant = { λ a. HasLoads a.loads.items (record { linked = a.linked.now; places = a.places.items }) };
 }
 
 impl<'l, 'm, 'a> PlacedExec<'l, 'm, 'a> {
@@ -38,11 +37,10 @@ impl<'l, 'm, 'a> PlacedExec<'l, 'm, 'a> {
         alloc: Global,
         linked: &'l Linked<'m, 'a>,
     ) -> Result<PlacedExec<'l, 'm, 'a>, ExecFault>
-        requires { IsReady linked.now }
+        requires { IsReadyLink linked.now }
         ensures ok { IfOk result (λ placed. placed.linked ≡ linked.now) }
         ensures err { IfErr result (IsPlacingFault linked.now) }
     {
-        parts_apart();
         let loads = loads(alloc, linked.map())?;
         if loads.len() >= PN_XNUM as usize {
             return Err(ExecFault::TooLong);

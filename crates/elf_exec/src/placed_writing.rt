@@ -1,8 +1,9 @@
 //! The parts of an executable onto a writer: the header, the program header table, and the bytes of the segments.
+ghost use Rattle.std.specs.Prelude.{◌≡◌, ◌++◌};
 ghost use Rattle.elf_image_sending.specs.Sending.{Sends};
 ghost use Rattle.elf_image_stream.specs.Output.{Writes};
 ghost use Rattle.elf_field.specs.Abi.{EHDR_SIZE};
-ghost use Rattle.elf_exec.specs.Pieces.{exec_text, placed_header, placed_table};
+ghost use Rattle.elf_exec.specs.Pieces.{loads_text, placed_header, placed_table};
 
 use crate::exec_header::exec_header;
 use crate::load_pieces::{bytes_from, send_loads};
@@ -19,30 +20,15 @@ pub(crate) fn send_exec<W: Write>(
     writer: &mut W,
     placed: &PlacedExec<'_, '_, '_>,
 ) -> Result<u64, WriteFault>
-    ensures { Sends (W.contents writer.old) (W.contents writer.new) 0 (exec_text placed.now) result }
+    ensures { Sends (W.contents writer.old) (W.contents writer.new) 0
+        (placed_header placed.now ++ (placed_table placed.now ++ loads_text placed.now)) result }
 {
-    let out = send_header(writer, placed)?;
-    send_behind_header(writer, out, placed)
-}
-
-/// Sends what stands behind the header.
-fn send_behind_header<W: Write>(
-    writer: &mut W,
-    out: u64,
-    placed: &PlacedExec<'_, '_, '_>,
-) -> Result<u64, WriteFault>
-    requires { out ≡ EHDR_SIZE }
-    ensures { Sends (W.contents writer.old) (W.contents writer.new) out (placed_table placed.now ++ loads_text placed.now) result }
-{
-    let out = send_table(writer, placed)?;
-    send_loads(writer, out, placed)
+    write_header(writer, placed)?;
+    send_behind_header(writer, placed)
 }
 
 #[tactic(auto, unfolding(crate::specs::ExecLaid::header_bytes))]
-fn write_header<W: Write>(
-    writer: &mut W,
-    placed: &PlacedExec<'_, '_, '_>,
-) -> Result<(), WriteFault>
+fn write_header<W: Write>(writer: &mut W, placed: &PlacedExec<'_, '_, '_>) -> Result<(), WriteFault>
     ensures { Writes (W.contents writer.old) (W.contents writer.new) (placed_header placed.now) result }
 {
     let linked = placed.linked();
@@ -50,37 +36,33 @@ fn write_header<W: Write>(
     write_records(writer, linked.identity().order, &[header])
 }
 
-/// Sends the header, from the first byte on.
-fn send_header<W: Write>(
+/// Sends what stands behind the header.
+fn send_behind_header<W: Write>(
     writer: &mut W,
     placed: &PlacedExec<'_, '_, '_>,
 ) -> Result<u64, WriteFault>
-    ensures { Sends (W.contents writer.old) (W.contents writer.new) 0 (placed_header placed.now) result }
+    ensures { Sends (W.contents writer.old) (W.contents writer.new) EHDR_SIZE (placed_table placed.now ++ loads_text placed.now) result }
 {
-    write_header(writer, placed)?;
-    Ok(EHDR_SIZE)
+    let out = send_table(writer, placed)?;
+    send_loads(writer, out, placed)
 }
 
-#[tactic(auto, unfolding(crate::specs::ExecLaid::table_bytes))]
-fn write_table<W: Write>(
-    writer: &mut W,
-    placed: &PlacedExec<'_, '_, '_>,
-) -> Result<(), WriteFault>
-    ensures { Writes (W.contents writer.old) (W.contents writer.new) (placed_table placed.now) result }
-{
-    let order = placed.linked().identity().order;
-    write_entries(writer, order, &ProgramHeaders { placed })
-}
-
-/// Sends the program header table, behind the header.
-fn send_table<W: Write>(
-    writer: &mut W,
-    placed: &PlacedExec<'_, '_, '_>,
-) -> Result<u64, WriteFault>
+/// Sends the program header table.
+fn send_table<W: Write>(writer: &mut W, placed: &PlacedExec<'_, '_, '_>) -> Result<u64, WriteFault>
     ensures { Sends (W.contents writer.old) (W.contents writer.new) EHDR_SIZE (placed_table placed.now) result }
 {
+    placed.is_placed();
     match write_table(writer, placed) {
         Ok(()) => Ok(bytes_from(placed)),
         Err(fault) => Err(fault.after(EHDR_SIZE)),
     }
+}
+
+#[tactic(auto, unfolding(crate::specs::ExecLaid::table_bytes))]
+fn write_table<W: Write>(writer: &mut W, placed: &PlacedExec<'_, '_, '_>) -> Result<(), WriteFault>
+    ensures { Writes (W.contents writer.old) (W.contents writer.new) (placed_table placed.now) result }
+{
+    placed.is_placed();
+    let order = placed.linked().identity().order;
+    write_entries(writer, order, &ProgramHeaders { placed })
 }

@@ -4,8 +4,8 @@ ghost use Rattle.elf_extent.specs.Place.{EndsFit, Least};
 ghost use Rattle.elf_field.specs.Abi.{PN_XNUM};
 ghost use Rattle.elf_image_rules.specs.HeaderRules.{MAX_LEN};
 ghost use Rattle.elf_exec.specs.ExecLaid.{bytes_from, load_part, load_parts};
-ghost use Rattle.elf_exec.specs.ExecWriting.{IsReady};
-ghost use Rattle.elf_exec.specs.Loads.{loads};
+ghost use Rattle.elf_exec.specs.ExecWriting.{IsReadyLink};
+ghost use Rattle.elf_exec.specs.Loads.{loads as all_loads};
 ghost use Rattle.elf_exec.specs.PlacedExec.{IsPartsFault, IsPlacingFault, exec_end, file_end};
 
 use crate::fault::ExecFault;
@@ -17,13 +17,13 @@ use elf_link_relocate::Linked;
 use std::alloc::{AllocError, Global};
 
 /// The least places of the bytes of these segments, where the file that they make is not too long.
-fn place_loads(
+pub(crate) fn place_loads(
     alloc: Global,
     linked: &Linked<'_, '_>,
     loads: &[Load],
 ) -> Result<Vec<u64>, ExecFault>
-    requires ready { IsReady linked.now }
-    requires are { loads.now ≡ loads linked.now.map }
+    requires ready { IsReadyLink linked.now }
+    requires are { loads.now ≡ all_loads linked.now.map }
     requires few { length loads.now < PN_XNUM }
     ensures least { IfOk result (λ places. Least (load_parts linked.now.map) (bytes_from linked.now.map) places.items) }
     ensures short { IfOk result (λ places. exec_end linked.now.map places.items ≤ MAX_LEN) }
