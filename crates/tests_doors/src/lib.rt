@@ -49,6 +49,11 @@ pub mod link {
     };
 }
 
+/// The executable.
+pub mod exec {
+    pub use elf::exec::{ExecFault, Load, is_ready, write_exec};
+}
+
 /// The program.
 pub mod tool {
     pub use elf::tool::{

@@ -33,7 +33,12 @@ fn assert_stopped(
     let is_out = writer.bytes.get(..out) == file.get(..out);
     assert_eq!(rt;
         (ended, writer.taken, is_out, writer.calls),
-        (Ok(Err(ExecFault::Io { written })), out, true, writer.failing)
+        (
+            Ok(Err(ExecFault::Io { written })),
+            out,
+            true,
+            writer.failing
+        )
     );
 }
 

@@ -1,13 +1,15 @@
-//! The link of files, and their relocated bytes.
+//! The link of files, their relocated bytes, and their executable.
 ghost use Rattle.std.specs.Prelude.{IfOk};
+ghost use Rattle.elf_exec.specs.ExecWriting.{IsReadyLink};
 ghost use Rattle.elf_link_relocate.specs.MapFacts.{IsMapOfSome};
 
 use crate::said::{Said, of_fault, say};
+use elf_exec::{ExecFault, is_ready, write_exec};
 use elf_image_stream::Fault;
 use elf_image_type::parse;
 use elf_link_field::RelocRule;
 use elf_link_map::{LinkFault, LinkMap, Options, map};
-use elf_link_relocate::relocate;
+use elf_link_relocate::{Linked, relocate};
 use elf_object_reader::object_of;
 use elf_object_type::Object;
 use elf_tool_rule_file::{RulesFault, read_rules};
@@ -66,7 +68,10 @@ fn on_objects<W: Write>(alloc: Global, objects: &[Object<'_>], rules: &[RelocRul
     };
     say(out, "map", Said::Done(map.outputs().len() as u64));
     match relocate(alloc, &map, objects, rules) {
-        Ok(linked) => say(out, "relocate", Said::Done(linked.rules().len() as u64)),
+        Ok(linked) => {
+            is_ready(&linked, objects, &map, rules);
+            on_linked(alloc, &linked, out);
+        }
         Err(LinkFault::OutOfMemory) => say(out, "relocate", Said::Memory),
         Err(_) => say(out, "relocate", Said::Refused),
     }
@@ -75,4 +80,15 @@ fn on_objects<W: Write>(alloc: Global, objects: &[Object<'_>], rules: &[RelocRul
         "LinkMap::commons",
         Said::Done(map.commons().len() as u64),
     );
+}
+
+fn on_linked<W: Write>(alloc: Global, linked: &Linked<'_, '_>, out: &mut W)
+    requires { IsReadyLink linked.now }
+{
+    say(out, "relocate", Said::Done(linked.rules().len() as u64));
+    match write_exec(alloc, linked, &mut std::io::sink()) {
+        Ok(()) => say(out, "write_exec", Said::Done(0)),
+        Err(ExecFault::OutOfMemory) => say(out, "write_exec", Said::Memory),
+        Err(_) => say(out, "write_exec", Said::Refused),
+    }
 }
