@@ -8,6 +8,7 @@
 //! | [`table`] | the tables in it: strings, symbols, relocations, groups, notes, dynamic arrays, hash tables |
 //! | [`object`] | a relocatable file as a typed object, and its canonical layout |
 //! | [`link`] | the link of objects: the link map, and relocated bytes |
+//! | [`exec`] | the executable of a link |
 //! | [`tool`] | the program `elfmap`, over any readers and writers |
 //!
 //! ```
@@ -18,6 +19,7 @@
 //! ```
 #![tactic(auto)]
 
+pub use elf_exec as exec;
 pub use elf_extent as extent;
 pub use elf_field as field;
 pub use elf_image as image;

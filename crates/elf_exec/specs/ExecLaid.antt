@@ -63,18 +63,18 @@ program_headers page [] places = []
 program_headers page (load ∷ ls) [] = []
 program_headers page (load ∷ ls) (place ∷ places) = program_header page load place ∷ program_headers page ls places
 
-abbrev pub encoding : Order → ℕ
-encoding Little = ELFDATA2LSB
-encoding Big = ELFDATA2MSB
+abbrev pub encoding_of : Order → ℕ
+encoding_of Little = ELFDATA2LSB
+encoding_of Big = ELFDATA2MSB
 
-abbrev pub identification : Identity → List ℕ
-identification i = MAGIC ++ (ELFCLASS64 ∷ encoding i.order ∷ EV_CURRENT ∷ i.osabi ∷ i.abi ∷ replicate (EI_NIDENT - EI_PAD) 0)
+abbrev pub identification_of : Identity → List ℕ
+identification_of i = MAGIC ++ (ELFCLASS64 ∷ encoding_of i.order ∷ EV_CURRENT ∷ i.osabi ∷ i.abi ∷ replicate (EI_NIDENT - EI_PAD) 0)
 
 -- the header of a file with this entry and so many segments, whose program header table stands behind it; a table without entries
 -- is none; there is no section header table
 abbrev pub exec_header : Identity → ℕ → ℕ → Ehdr
 exec_header i entry count = record {
-  e_ident = identification i;
+  e_ident = identification_of i;
   e_type = ET_EXEC;
   e_machine = i.machine;
   e_version = EV_CURRENT;

@@ -12,7 +12,7 @@ use Rattle.elf_exec.specs.ExecLaid.{ExecLaid}
 use Rattle.elf_exec.specs.Loads.{loads}
 
 -- the map and the relocated bytes are those of these objects, for some options, and no rule of the link stands
-pub record IsReady (l : LinkedValue) : Type 0 where
+pub record IsReadyLink (l : LinkedValue) : Type 0 where
   pub map : IsMapOfSome l.objects l.map
   pub linked : IsLinked l.objects l.map l.rules l
 

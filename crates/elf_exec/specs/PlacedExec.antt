@@ -9,7 +9,7 @@ use Rattle.elf_exec.specs.declared.fault.ExecFault.{ExecFault}
 use Rattle.elf_exec.specs.declared.fault.ExecFault.TheVariants.{TooLong, OutOfMemory, Io}
 use Rattle.elf_exec.specs.declared.load.Load.{Load}
 use Rattle.elf_exec.specs.ExecLaid.{bytes_from, load_parts}
-use Rattle.elf_exec.specs.ExecWriting.{IsReady, IsTooLong}
+use Rattle.elf_exec.specs.ExecWriting.{IsReadyLink, IsTooLong}
 use Rattle.elf_exec.specs.Loads.{loads}
 
 -- where the last of some parts ends; without parts, where the first might begin
@@ -19,18 +19,18 @@ file_end parts from places = if length parts == 0 then from else end_of parts pl
 abbrev pub exec_end : LinkMapValue → List ℕ → ℕ
 exec_end m places = file_end (load_parts m) (bytes_from m) places
 
-pub record PlacedValue : Type 0 where
+pub record PlacedExecValue : Type 0 where
   pub linked : LinkedValue
   pub places : List ℕ
 
 -- the segments are few enough, their bytes are at the least places, and the file is short enough
-pub record IsPlacedExec (p : PlacedValue) : Type 0 where
-  pub ready : IsReady p.linked
+pub record IsPlacedExec (p : PlacedExecValue) : Type 0 where
+  pub ready : IsReadyLink p.linked
   pub few : length (loads p.linked.map) < PN_XNUM
   pub least : Least (load_parts p.linked.map) (bytes_from p.linked.map) p.places
   pub short : exec_end p.linked.map p.places ≤ MAX_LEN
 
-pub record IsPlacedWith (ls : List Load) (p : PlacedValue) : Type 0 where
+pub record HasLoads (ls : List Load) (p : PlacedExecValue) : Type 0 where
   pub placed : IsPlacedExec p
   pub are : ls ≡ loads p.linked.map
 

@@ -64,11 +64,7 @@ fn segment_flags(flags: u64) -> u32
     ensures { result ≡ segment_flags flags }
 {
     let write = if flags & SHF_WRITE == 0 { 0 } else { PF_W };
-    let execute = if flags & SHF_EXECINSTR == 0 {
-        0
-    } else {
-        PF_X
-    };
+    let execute = if flags & SHF_EXECINSTR == 0 { 0 } else { PF_X };
     PF_R + write + execute
 }
 

@@ -1,0 +1,29 @@
+use Rattle.std.proofs.Common.{◌≡◌, ◌+◌, ◌∙◌, ℕ, List, map, length, ap, sym, arith}
+use Rattle.std.specs.List.{filter, range_with_len}
+use Rattle.std.proofs.lemmas.List.{length-map}
+use Rattle.elf_link_outputs.specs.PlacedView.{output_value}
+use Rattle.elf_link_outputs.specs.Placed.{OutputValue}
+use Rattle.elf_exec.specs.Loads.{has_memory, load_at, loads}
+use Rattle.elf_exec.proofs.Segments.{load_kept, load_passed}
+use Rattle.elf_exec.proofs.load.loads.Goals as goal
+use Rattle.elf_exec.proofs.load.loads.Goals.{then-load-gt0+in_ok-push, else-load-gt0}
+
+pub loop-position-preserved : goal.loop-position-preserved
+loop-position-preserved c =
+    let m = c.args.map.now in
+    let n = c.loop-position.position in
+    elim c.if-load-gt0.branch [
+      | then-load-gt0+in_ok-push w ↦ rw w.all-is (load_kept m n _ _ c.load_at-load.result c.loop-position.invariant c.load_at-load.ensures w.if-load-gt0.true w.in_ok-push.ensures.items)
+      | else-load-gt0 w ↦ rw w.all-is (load_passed m n _ c.load_at-load.result c.loop-position.invariant c.load_at-load.ensures w.if-load-gt0.false)
+    ]
+
+pub returns : goal.returns
+unfolding loads
+returns c =
+    let m = c.args.map.now in
+    let outputs = ap (λ (os : List OutputValue). length os) c.outputs.ensures in
+    let many = length-map c.outputs.result.now output_value in
+    let past = c.loop-position-test.false in
+    let within = c.loop-position.auto.position-end in
+    let all : c.loop-position.position ≡ length m.outputs + 1 = omega arith in
+    c.loop-position.invariant ∙ ap (λ (n : ℕ). filter has_memory (map (load_at m) (range_with_len 0 n))) all
