@@ -13,10 +13,11 @@ COMDAT = 1
 
 
 class Link:
-    """Objects and where their first output section begins at the earliest, each at a multiple of the page."""
+    """Objects, where their first output section begins at the earliest, each at a multiple of the page, and where there is one the name of
+    the entry point."""
 
-    def __init__(self, files, base, page, rules=None):
-        self.files, self.base, self.page, self.rules = files, base, page, rules
+    def __init__(self, files, base, page, rules=None, entry=None):
+        self.files, self.base, self.page, self.rules, self.entry = files, base, page, rules, entry
         self.discarded = set(discarded(files))
         self.entries = {}
         for f, k, symbol in self.symbols():
@@ -120,6 +121,15 @@ def two_definitions(link):
 def undefined_name(link):
     return [(f, k, 0) for name, entries in link.entries.items() for f, k, it in entries
             if binding_of(it) == GLOBAL and it.reserved != COMMON and not link.is_definition(f, it) and link.bound(name) is None]
+
+
+def no_entry(link):
+    if link.entry is None:
+        return []
+    if link.entry not in link.entries or link.bound(link.entry) is None:
+        return [(0, 0, 0)]
+    value, kind = value_of(link, addresses(link), placed(link)[1], link.entry)
+    return [(0, 0, 0)] if kind == "zero" or value is None or value >= 2 ** 64 else []
 
 
 def address_overflow(link):
@@ -283,7 +293,7 @@ def relocated(link):
 # ---- what is said
 
 LINK_RULES = [(1, bad_options), (2, mismatch), (3, tls), (4, link_order), (5, empty_signature), (6, bad_symbol), (7, bad_common),
-              (8, two_definitions), (9, undefined_name), (11, address_overflow)]
+              (8, two_definitions), (9, undefined_name), (10, no_entry), (11, address_overflow)]
 RELOCATION_RULES = [(12, no_rule), (13, unplaced), (14, field_out_of_range), (15, fields_overlap), (16, value_out_of_range)]
 
 
@@ -309,20 +319,24 @@ def first_standing(rules, link):
     return None
 
 
-def map_lines(contents, base, page, rules=None):
-    """What `elfmap map` says of these files, with relocation rules or without."""
+def judged(contents, base, page, rules=None, entry=None):
+    """The line of a refusal, or None; and the link of these files, with relocation rules or without."""
     for f, content in enumerate(contents):
         broken = objects.verdict(content)
         if broken:
-            return "file %d refused %d %d\n" % (f, *broken)
-    link = Link([objects.object_of(content) for content in contents], base, page, rules)
+            return "file %d refused %d %d\n" % (f, *broken), None
+    link = Link([objects.object_of(content) for content in contents], base, page, rules, entry)
     refused = first_standing(LINK_RULES, link)
     if refused:
-        return refused
-    all_outputs, link.common_at = placed(link)
-    link.at = addresses(link)
-    refused = first_standing(RELOCATION_RULES, link) if rules is not None else None
-    return refused or "".join(line + "\n" for line in lines(link, all_outputs))
+        return refused, link
+    link.at, link.common_at = addresses(link), placed(link)[1]
+    return first_standing(RELOCATION_RULES, link) if rules is not None else None, link
+
+
+def map_lines(contents, base, page, rules=None):
+    """What `elfmap map` says of these files."""
+    refused, link = judged(contents, base, page, rules)
+    return refused or "".join(line + "\n" for line in lines(link, placed(link)[0]))
 
 
 def lines(link, all_outputs):

@@ -5,8 +5,8 @@ import os, struct, sys
 sys.dont_write_bytecode = True
 sys.path.insert(0, os.path.join(os.path.dirname(os.path.dirname(os.path.abspath(__file__))), "judge"))
 from objects import ABS, COMMON, SHF_INFO_LINK, UNDEF, Value, laid, record
-from records import DYNAMIC, DYNAMIC_SECTION, DYNSYM, GROUP, HASH, LOAD, NOBITS, NOTE, PROGRAM_HEADER, REL, RELA, STRTAB, SYMBOL
-from tables import SHF_GROUP, elf_hash
+from records import *
+from tables import ENTRY_SIZE, SHF_GROUP, elf_hash
 
 SECTION_NAMES = (b".text", b".data", b".bss", b".text.f", b".rodata", b"", b"a b", b"#", b"-")
 SYMBOL_NAMES = (b"main", b"callee", b"x", b"y", b"once", b"a", b"\xff")
@@ -54,12 +54,15 @@ def add_relocations(chance, o):
 
 
 def add_group(chance, o):
-    """A group of the last plain sections, before all others, so that it stands before its members."""
-    members = [p for p, it in enumerate(o.sections) if it.type not in (REL, RELA) and chance.randrange(2)]
+    """A group of plain sections that are in none, before all others, so that it stands before its members."""
+    members = [p for p, it in enumerate(o.sections)
+               if it.type not in (REL, RELA, GROUP) and not it.flags & SHF_GROUP and chance.randrange(2)]
     if not o.symbols:
         return
     for it in o.sections:
         it.info += it.type in (REL, RELA)
+        if it.type == GROUP:
+            it.body = it.body[0], [p + 1 for p in it.body[1]]
     for it in o.symbols:
         it.section = None if it.section is None else it.section + 1
     for p in members:
@@ -82,9 +85,23 @@ def an_object(chance, order=None):
     for _ in range(chance.randrange(3)):
         add_relocations(chance, o)
     # A group moves all positions, which what names them by its info can't follow.
-    if chance.randrange(3) == 0 and not any(it.flags & SHF_INFO_LINK for it in o.sections):
-        add_group(chance, o)
+    if not any(it.flags & SHF_INFO_LINK for it in o.sections):
+        for _ in range(chance.choice((0, 0, 0, 1, 2))):
+            add_group(chance, o)
     return o
+
+
+def an_object_file(chance, order=None):
+    """The file of an object, every fourth time with an index table, which its symbols don't need."""
+    o = an_object(chance, order)
+    if chance.randrange(4):
+        return laid(o)
+    o.sections.append(Value(name=b".symtab_shndx", type=SYMTAB_SHNDX, flags=0, addr=0, align=4, entsize=4, link=None, info=0,
+                            body=bytes(4 + 4 * len(o.symbols))))
+    file, index = bytearray(laid(o)), len(o.sections)
+    at = File(file).section(index).at("sh_link")
+    file[at:at + 4] = (index + 1).to_bytes(4, o.order)
+    return bytes(file)
 
 
 def words(order, *numbers):
@@ -126,14 +143,16 @@ def add_tables(chance, o):
 
     table(b".dynstr", STRTAB, strings)
     table(b".dynsym", DYNSYM, symbols, 24, first, 1)
+    if chance.randrange(2):
+        table(b".dynsym_shndx", SYMTAB_SHNDX, bytes(4 * len(names)), 4, first + 1)
     table(b".hash", HASH, hash_content(o.order, names, chance.choice((1, 2, 3))), 4, first + 1)
     table(b".dynamic", DYNAMIC_SECTION, dynamic, 16, first)
     table(b".note", NOTE, note_content(chance, o.order))
 
 
-def a_file(chance):
+def a_file(chance, order=None):
     """An object, or a file of another type with segments."""
-    o = an_object(chance)
+    o = an_object(chance, order)
     if chance.randrange(2):
         add_tables(chance, o)
     file = bytearray(laid(o))
@@ -202,3 +221,80 @@ def mutant(file, chance, types=()):
             start, to = chance.randrange(len(new)), chance.randrange(len(new))
             new[to : to + size] = new[start : start + size]
     return bytes(new)
+
+
+# ---- one thing wrong
+
+IDENTIFICATION = {"magic 0": (0, 1), "magic 3": (3, 1), "class": (4, 1), "data": (5, 1), "version": (6, 1)}
+ENTRIES = {SYMTAB: SYMBOL, DYNSYM: SYMBOL, RELA: RELOCATION, REL: RELOCATION, DYNAMIC_SECTION: DYNAMIC}
+WORDS = {GROUP: "group word", HASH: "hash word", SYMTAB_SHNDX: "index word", NOTE: "note word"}
+# The fields that a rule speaks of, by its number, and the one value that breaks it, where there is one; those of section header 0 have a 0
+# before their names.
+SPOKEN_OF = {
+    3: "magic 0, magic 3", 4: "class", 5: "data", 6: "version", 7: "e_version", 8: "e_ehsize", 9: "e_shoff", 10: "e_shentsize",
+    11: "e_shnum", 12: "e_shoff", 13: "0 sh_name, 0 sh_type, 0 sh_flags, 0 sh_addr, 0 sh_offset, 0 sh_addralign, 0 sh_entsize",
+    14: "0 sh_size", 15: "e_shoff, e_shnum", 16: "e_shstrndx", 17: "0 sh_link", 18: "e_phoff, e_phnum", 19: "e_phentsize",
+    20: "0 sh_info", 21: "e_phoff, e_phnum", 22: "sh_addralign", 23: "sh_addr, sh_addralign", 24: "sh_offset, sh_size",
+    25: "p_offset, p_filesz", 26: "p_filesz, p_memsz", 27: "p_align", 28: "p_offset, p_vaddr", 29: "p_vaddr", 30: "sh_type, e_shstrndx",
+    31: "string end, sh_size", 32: "sh_name", 33: "sh_offset, sh_size, e_phoff", 41: "string end, sh_size", 42: "sh_entsize",
+    43: "sh_size", 44: "sh_link", 45: "st_value, st_info, sh_size", 46: "sh_info", 47: "st_info, sh_info", 48: "st_name",
+    49: "sh_type=18", 50: "sh_size, sh_entsize", 51: "st_shndx", 52: "index word", 53: "sh_info", 54: "r_info", 55: "sh_size=0",
+    56: "group word", 57: "sh_info", 58: "group word", 59: "sh_size, note word", 60: "note word", 61: "note word", 62: "note byte",
+    63: "d_tag", 64: "d_un", 65: "sh_size", 66: "sh_link", 67: "hash word", 68: "hash word", 69: "hash word", 70: "e_type",
+    71: "e_entry", 72: "sh_type=6", 73: "sh_type=2", 74: "sh_type=18", 75: "st_shndx", 76: "sh_info", 77: "group word", 78: "sh_link",
+    79: "sh_info",
+}
+
+
+def record_fields(it, before=""):
+    return [(before + name, it.offset + at, width) for name, (at, width) in it.layout.items()]
+
+
+def content_fields(f, i):
+    """The fields of the content of a section."""
+    it = f.section(i)
+    begin, end = it.sh_offset, it.sh_offset + it.sh_size
+    if it.sh_type in ENTRIES:
+        all_fields = [field for entry in f.entries(i, ENTRIES[it.sh_type], ENTRY_SIZE[it.sh_type]) for field in record_fields(entry)]
+        return [field for field in all_fields if it.sh_type != REL or field[0] != "r_addend"]
+    found = [(WORDS[it.sh_type], at, 4) for at, _ in f.words(i)] if it.sh_type in WORDS else []
+    if it.sh_type == NOTE:
+        found += [("note byte", at, 1) for at in range(begin, end)]
+    return found + ([("string end", begin, 1), ("string end", end - 1, 1)] if it.sh_type == STRTAB and end > begin else [])
+
+
+def named_fields(file):
+    """The fields of a sound file: the name, the offset and the width of each."""
+    f = File(file)
+    found = [(name, at, width) for name, (at, width) in IDENTIFICATION.items()] + record_fields(f.header)
+    for i, it in f.sections():
+        found += record_fields(it, "0 " if i == 0 else "") + content_fields(f, i)
+    return found + [field for it in f.segments() for field in record_fields(it)]
+
+
+def changed_field(chance, file, of_rule):
+    """A sound file with one field changed of which a rule speaks: to a number that stands at a border, to that of another field of its name,
+    or to a small one; None where the file has no such field."""
+    spoken, _, fixed = SPOKEN_OF[of_rule].partition("=")
+    found = [it for it in named_fields(file) if it[0] in spoken.split(", ")]
+    if not found:
+        return None
+    order = File(file).order
+    name, at, width = chance.choice(found)
+    _, other, _ = chance.choice([it for it in found if it[0] == name])
+    old, another = (int.from_bytes(file[place:place + width], order) for place in (at, other))
+    new = int(fixed) if fixed else chance.choice((value(chance, width, len(file), old), another, chance.randrange(20)))
+    return file[:at] + new.to_bytes(width, order) + file[at + width:]
+
+
+def one_thing_wrong(chance, rules, made, is_broken_by):
+    """For each of these rules it, a sound file and what one change made of it, by which it breaks the rule."""
+    left = list(rules)
+    while left:
+        sound = made(chance)
+        for rule in list(left):
+            changed = (changed_field(chance, sound, rule) for _ in range(12))
+            found = next((it for it in changed if it is not None and is_broken_by(rule, it)), None)
+            if found is not None:
+                left.remove(rule)
+                yield rule, sound, found

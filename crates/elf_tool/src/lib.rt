@@ -13,6 +13,7 @@ pub use elf_link_files::Options;
 pub use elf_tool_base::{OpenFault, Opener, Status};
 pub use elf_tool_check::check;
 pub use elf_tool_check_source::check_source;
+pub use elf_tool_link::link;
 pub use elf_tool_map::map;
 pub use elf_tool_program::run;
 pub use elf_tool_rewrite::rewrite;

@@ -17,7 +17,7 @@ use std::io::Write;
 pub enum Status {
     /// All that was asked is done.
     Done,
-    /// What was read is refused, and standard output says why, for `rewrite` standard error.
+    /// What was read is refused, and standard output says why, for `rewrite` and `link` standard error.
     Refused,
     /// The words are not as the command takes them, or call for help, or a line of a file of rules is bad.
     Usage,

@@ -8,7 +8,7 @@ use Rattle.elf_tool_base.specs.declared.ending.Status.{Status}
 use Rattle.elf_tool_base.specs.declared.ending.Status.TheVariants.{Usage}
 use Rattle.elf_tool_words.specs.Words.{IsAskedBy, IsRefusedBy}
 use Rattle.elf_tool_words.specs.declared.words.Request.{Request}
-use Rattle.elf_tool_words.specs.declared.words.Request.TheVariants.{Check, CheckSource, Show, Rewrite, Map}
+use Rattle.elf_tool_words.specs.declared.words.Request.TheVariants.{Check, CheckSource, Show, Rewrite, Map, Link}
 use Rattle.elf_tool_words.specs.declared.words.WordsFault.{WordsFault}
 
 -- each command, over the files' known bytes by name, and which are known to open: any but `check` is wrong usage, and nothing is out
@@ -18,6 +18,7 @@ EndsAsCheck holds opens old new (CheckSource file) status = (status ≡ Usage) �
 EndsAsCheck holds opens old new (Show file) status = (status ≡ Usage) × Keeps old new
 EndsAsCheck holds opens old new (Rewrite file) status = (status ≡ Usage) × Keeps old new
 EndsAsCheck holds opens old new (Map base page rules files) status = (status ≡ Usage) × Keeps old new
+EndsAsCheck holds opens old new (Link base page entry rules files) status = (status ≡ Usage) × Keeps old new
 
 -- the whole of it
 abbrev pub EndsCheck : List Text → (Text → Option (List ℕ)) → (Text → Bool) → Option (List ℕ) → Option (List ℕ) → Status → Type 0

@@ -1,4 +1,3 @@
--- Lemmas on texts of the items of a list, on bytes as digits, and on objects read one after the other.
+-- Lemmas on texts of the items of a list, and on bytes as digits.
 pub mod BytesText
 pub mod Items
-pub mod ObjectFiles

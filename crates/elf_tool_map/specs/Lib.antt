@@ -1,4 +1,3 @@
 -- The words of this crate's contracts.
 pub mod Map
 pub mod MapLines
-pub mod ObjectFiles

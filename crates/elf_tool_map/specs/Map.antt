@@ -1,6 +1,5 @@
 -- What `map` says of files.
-use Rattle.std.specs.Prelude.{◌≡◌, ◌⊎◌, ℕ, List, ◌++◌, None, Option, Some, Result, Ok, Err}
-use Rattle.std.specs.Io.KnownBytes.{Keeps}
+use Rattle.std.specs.Prelude.{◌≡◌, ◌⊎◌, ℕ, List, ◌++◌, None, Option, Some, Result}
 use Rattle.elf_object_type.specs.Object.{ObjectValue}
 use Rattle.elf_link_files.specs.declared.options.Options.{Options}
 use Rattle.elf_link_files.specs.Rows.{FirstAmong}
@@ -10,9 +9,9 @@ use Rattle.elf_link_relocate.specs.Linked.{IsLinked, LinkedValue}
 use Rattle.elf_link_relocate.specs.RelocationRules.{applied_entry_rules}
 use Rattle.elf_link_field.specs.declared.rule.RelocRule.{RelocRule}
 use Rattle.elf_tool_text.specs.Engine.{IsSaid}
-use Rattle.elf_tool_text.specs.Inputs.{AreRead, IsReadingFault}
+use Rattle.elf_tool_text.specs.Inputs.{AreRead, FailsReading}
 use Rattle.elf_tool_map.specs.MapLines.{bytes_lines, file_refused_line, link_refused_line, map_text}
-use Rattle.elf_tool_map.specs.ObjectFiles.{AreObjectFiles, IsFirstRefused}
+use Rattle.elf_tool_objects.specs.ObjectFiles.{AreObjectFiles, IsFirstRefused}
 use Rattle.elf_tool_text.specs.declared.fault.Refusal.TheVariants.{File, Link, TooLong}
 use Rattle.elf_tool_text.specs.declared.fault.ToolFault.{ToolFault}
 use Rattle.elf_tool_text.specs.declared.fault.Verdict.{Verdict}
@@ -56,11 +55,6 @@ MapSays opt rules files verdict text =
 -- this verdict and this text are said
 abbrev pub IsThis : Verdict → List ℕ → Verdict → List ℕ → Type 0
 IsThis verdict text said lines = (said ≡ verdict) × (lines ≡ text)
-
--- a fault while the files are read: nothing is written
-abbrev pub FailsReading : List (Option (List ℕ)) → List (Option (List ℕ)) → Option (List ℕ) → Option (List ℕ) → Result Verdict ToolFault → Type 0
-FailsReading inputs rests old new (Ok verdict) = ⊥
-FailsReading inputs rests old new (Err fault) = IsReadingFault inputs rests fault × Keeps old new
 
 -- a call of `map`: its readers, which had `inputs` left and have `rests`; and its writer, which held `old` and holds `new`
 abbrev pub IsMapped : Options → Option (List RelocRule) → List (Option (List ℕ)) → List (Option (List ℕ)) → Option (List ℕ) → Option (List ℕ) → Result Verdict ToolFault → Type 0

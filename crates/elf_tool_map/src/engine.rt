@@ -9,12 +9,12 @@ ghost use Rattle.elf_tool_map.specs.MapLines.{file_refused_line, link_refused_li
 use crate::bytes_lines::write_relocated;
 use crate::map_lines::{push_file_refused_line, push_link_refused_line};
 use crate::map_text::map_text;
-use crate::object_files::{FileFault, objects_of};
 use elf_image_stream::write_whole;
 use elf_link_field::RelocRule;
 use elf_link_map::{LinkFault, LinkMap, Options, map_numbered};
 use elf_link_relocate::relocate_numbered;
 use elf_object_type::Object;
+use elf_tool_objects::{FileFault, objects_of};
 use elf_tool_text::{Refusal, ToolFault, Verdict, read_inputs};
 use std::alloc::Global;
 use std::hash::{BuildHasherDefault, FoldHasher};

@@ -13,7 +13,6 @@ mod bytes_lines;
 mod engine;
 mod map_lines;
 mod map_text;
-mod object_files;
 
 pub use elf_link_map::Options;
 pub use elf_tool_text::{Refusal, ToolFault, Verdict};

@@ -5,6 +5,7 @@ use Rattle.clap.specs.Walk.{Text}
 use Rattle.elf_tool_check.specs.Check.{IsChecked}
 use Rattle.elf_tool_check_source.specs.CheckSource.{IsSourceChecked}
 use Rattle.elf_tool_base.specs.Ending.{EndsFile, EndsWords, ending_of}
+use Rattle.elf_tool_link.specs.Link.{IsLinkCall}
 use Rattle.elf_tool_map.specs.Map.{IsMapped}
 use Rattle.elf_tool_rewrite.specs.Rewrite.{IsRewritten}
 use Rattle.elf_tool_show.specs.Show.{IsShown}
@@ -21,15 +22,23 @@ use Rattle.elf_tool_base.specs.declared.ending.Status.TheVariants.{Usage, Failed
 use Rattle.elf_tool_program.specs.declared.rules.NoRules.{NoRules}
 use Rattle.elf_tool_program.specs.declared.rules.NoRules.TheVariants as no_rules
 use Rattle.elf_tool_words.specs.declared.words.Request.{Request}
-use Rattle.elf_tool_words.specs.declared.words.Request.TheVariants.{Check, CheckSource, Show, Rewrite, Map}
+use Rattle.elf_tool_words.specs.declared.words.Request.TheVariants.{Check, CheckSource, Show, Rewrite, Map, Link}
 use Rattle.elf_tool_words.specs.declared.words.WordsFault.{WordsFault}
 
--- files were opened, and `map` was called on their readers; or one of them gave no reader, and nothing is out
-abbrev pub EndsFiles : Options → Option (List RelocRule) → (Text → Option (List ℕ)) → (Text → Bool) → List Text → Option (List ℕ) → Option (List ℕ) → Status → Type 0
-EndsFiles opt rules holds opens names old new status =
+-- a call of an engine that takes several files: what its readers had and have left, what its writer held and holds, and its answer
+abbrev pub CallOnFiles : Type 1
+CallOnFiles = List (Option (List ℕ)) → List (Option (List ℕ)) → Option (List ℕ) → Option (List ℕ) → Result Verdict ToolFault → Type 0
+
+-- files were opened, and an engine was called on their readers; or one of them gave no reader, and nothing is out
+abbrev pub EndsFiles : CallOnFiles → (Text → Option (List ℕ)) → (Text → Bool) → List Text → Option (List ℕ) → Option (List ℕ) → Status → Type 0
+EndsFiles call holds opens names old new status =
     ((inputs rests : List (Option (List ℕ))) × (answer : Result Verdict ToolFault) × AreOpened holds names inputs
-    × IsMapped opt rules inputs rests old new answer × (status ≡ ending_of answer))
+    × call inputs rests old new answer × (status ≡ ending_of answer))
     ⊎ ((unopened : Unopened) × IsUnopened opens names unopened × (status ≡ Failed) × Keeps old new)
+
+-- an engine was called so by these relocation rules
+abbrev pub EndsFilesBy : (List RelocRule → CallOnFiles) → (Text → Option (List ℕ)) → (Text → Bool) → List Text → Option (List ℕ) → Option (List ℕ) → List RelocRule → Status → Type 0
+EndsFilesBy call holds opens names old new rules status = EndsFiles (call rules) holds opens names old new status
 
 -- how the program ends where the rule file gives none
 abbrev pub unruled : NoRules → Status
@@ -38,13 +47,26 @@ unruled (no_rules.Unread at) = Failed
 unruled (no_rules.BadLine line) = Usage
 unruled no_rules.OutOfMemory = Failed
 
--- `map`; with a rule file only where it gives relocation rules, and then by these; else nothing is out
+-- a rule file gives relocation rules, and the program ends by these; or it gives none, and nothing is out
+abbrev pub EndsByRules : (List RelocRule → Status → Type 0) → Option (List ℕ) → Bool → Option (List ℕ) → Option (List ℕ) → Status → Type 0
+EndsByRules ends known opens old new status =
+    ((rules : List RelocRule) × GivesRules known rules × ends rules status)
+    ⊎ ((fault : NoRules) × GivesNoRules known opens fault × (status ≡ unruled fault) × Keeps old new)
+
+-- `map`; with a rule file by its relocation rules
 abbrev pub EndsMap : Options → (Text → Option (List ℕ)) → (Text → Bool) → Option Text → List Text → Option (List ℕ) → Option (List ℕ) → Status → Type 0
-EndsMap opt holds opens None names old new status = EndsFiles opt None holds opens names old new status
+EndsMap opt holds opens None names old new status = EndsFiles (IsMapped opt None) holds opens names old new status
 EndsMap opt holds opens (Some file) names old new status =
-    ((rules : List RelocRule) × GivesRules (holds file) rules
-    × EndsFiles opt (Some rules) holds opens names old new status)
-    ⊎ ((fault : NoRules) × GivesNoRules (holds file) (opens file) fault × (status ≡ unruled fault) × Keeps old new)
+    EndsByRules (EndsFilesBy (λ rules. IsMapped opt (Some rules)) holds opens names old new) (holds file) (opens file) old new status
+
+-- `link`, by the relocation rules of a rule file
+abbrev pub EndsLink : Options → (Text → Option (List ℕ)) → (Text → Bool) → Text → List Text → Option (List ℕ) → Option (List ℕ) → Status → Type 0
+EndsLink opt holds opens file names old new status =
+    EndsByRules (EndsFilesBy (IsLinkCall opt) holds opens names old new) (holds file) (opens file) old new status
+
+-- the options of a link with this entry symbol
+abbrev pub AreOptions : ℕ → ℕ → Text → Options → Type 0
+AreOptions base page entry opt = (opt.base ≡ base) × (opt.page ≡ page) × (option_copied opt.entry ≡ Some entry)
 
 -- each command, over the files' known bytes by name, and which are known to open
 abbrev pub EndsRequest : (Text → Option (List ℕ)) → (Text → Bool) → Option (List ℕ) → Option (List ℕ) → Request → Status → Type 0
@@ -54,6 +76,8 @@ EndsRequest holds opens old new (Show file) status = EndsFile IsShown (holds fil
 EndsRequest holds opens old new (Rewrite file) status = EndsFile IsRewritten (holds file.now) (opens file.now) old new status
 EndsRequest holds opens old new (Map base page rules files) status =
     EndsMap (record { base = base; page = page; entry = None }) holds opens (option_copied rules) (map (λ f. f.now) files.items) old new status
+EndsRequest holds opens old new (Link base page entry rules files) status =
+    (opt : Options) × AreOptions base page entry.now opt × EndsLink opt holds opens rules.now (map (λ f. f.now) files.items) old new status
 
 -- the whole program
 abbrev pub EndsRun : List Text → (Text → Option (List ℕ)) → (Text → Bool) → Option (List ℕ) → Option (List ℕ) → Status → Type 0

@@ -1,4 +1,4 @@
--- The file of relocation rules that `map` is given: what its reader gives, and what that says.
+-- The file of relocation rules that `map` and `link` are given: what its reader gives, and what that says.
 use Rattle.std.specs.Prelude.{◌≡◌, ◌⊎◌, ℕ, ◌+◌, ◌<◌, ◌≤◌, Bool, false, List, length, Option, Some, IfSome}
 use Rattle.elf_link_field.specs.declared.rule.RelocRule.{RelocRule}
 use Rattle.elf_image_rules.specs.HeaderRules.{MAX_LEN}

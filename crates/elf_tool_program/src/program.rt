@@ -5,7 +5,9 @@ ghost use Rattle.elf_tool_base.specs.declared.ending.Status.{Status as Ending};
 ghost use Rattle.elf_tool_check_source.specs.CheckSource.{IsSourceChecked};
 ghost use Rattle.elf_tool_rewrite.specs.Rewrite.{IsRewritten};
 ghost use Rattle.elf_tool_show.specs.Show.{IsShown};
-ghost use Rattle.elf_tool_program.specs.Program.{EndsFiles, EndsMap, EndsRun, unruled};
+ghost use Rattle.elf_tool_link.specs.Link.{IsLinkCall};
+ghost use Rattle.elf_tool_map.specs.Map.{IsMapped};
+ghost use Rattle.elf_tool_program.specs.Program.{EndsFiles, EndsLink, EndsMap, EndsRun, unruled};
 
 use crate::opening::open_all;
 use crate::rules::{NoRules, rules_of};
@@ -13,11 +15,12 @@ use elf_link_field::RelocRule;
 use elf_tool_base::{OpenFault, Opener, Status, fail, misused, no_request, status_of, unopened};
 use elf_tool_check::check_file;
 use elf_tool_check_source::check_source;
+use elf_tool_link::link;
 use elf_tool_map::{Options, map};
 use elf_tool_rewrite::rewrite;
 use elf_tool_rule_file::RulesFault;
 use elf_tool_show::show;
-use elf_tool_text::{ToolFault, Verdict};
+use elf_tool_text::{Refusal, ToolFault, Verdict};
 use elf_tool_words::{Request, read_words};
 use std::alloc::Global;
 use std::convert::AsStr;
@@ -73,6 +76,22 @@ fn ending<S: AsStr, O: Opener, W: Write, E: Write>(
                 None => map_files(alloc, &options, None, &names, files, out, err),
                 Some(file) => map_by_rules(alloc, &options, file, &names, files, out, err),
             }
+        }
+        Ok(
+            Request::Link {
+                base,
+                page,
+                entry,
+                rules,
+                files: names,
+            },
+        ) => {
+            let options = Options {
+                base,
+                page,
+                entry: Some(entry.as_bytes()),
+            };
+            link_by_rules(alloc, &options, rules, &names, files, out, err)
         }
         Err(fault) => no_request(&fault, err),
     }
@@ -136,7 +155,7 @@ fn map_files<O: Opener, W: Write, E: Write>(
     out: &mut W,
     err: &mut E,
 ) -> Status
-    ensures { EndsFiles options.now (option_copied rules.entry) (O.holds files.old) (O.opens files.old) (map_list (λ name. name.now) names.now)
+    ensures { EndsFiles (IsMapped options.now (option_copied rules.entry)) (O.holds files.old) (O.opens files.old) (map_list (λ name. name.now) names.now)
         (W.contents out.old) (W.contents out.new) result }
 {
     match open_all(alloc, names, files) {
@@ -163,6 +182,44 @@ fn map_by_rules<O: Opener, W: Write, E: Write>(
     }
 }
 
+fn link_by_rules<O: Opener, W: Write, E: Write>(
+    alloc: Global,
+    options: &Options<'_>,
+    file: &str,
+    names: &[&str],
+    files: &mut O,
+    out: &mut W,
+    err: &mut E,
+) -> Status
+    ensures { EndsLink options.now (O.holds files.old) (O.opens files.old) file.now (map_list (λ name. name.now) names.now)
+        (W.contents out.old) (W.contents out.new) result }
+{
+    match rules_of(alloc, file, files) {
+        Ok(rules) => link_files(alloc, options, &rules, names, files, out, err),
+        Err(fault) => no_rules(fault, file, err),
+    }
+}
+
+fn link_files<O: Opener, W: Write, E: Write>(
+    alloc: Global,
+    options: &Options<'_>,
+    rules: &[RelocRule],
+    names: &[&str],
+    files: &mut O,
+    out: &mut W,
+    err: &mut E,
+) -> Status
+    ensures { EndsFiles (IsLinkCall options.now rules.now) (O.holds files.old) (O.opens files.old) (map_list (λ name. name.now) names.now)
+        (W.contents out.old) (W.contents out.new) result }
+{
+    match open_all(alloc, names, files) {
+        Ok(mut inputs) => {
+            linked_status(link(alloc, inputs.as_mut_slice(), options, rules, out), err)
+        }
+        Err(failed) => unopened(failed.fault, names[failed.position], err),
+    }
+}
+
 // How the program ends where the file of this name gave no relocation rules.
 fn no_rules<E: Write>(fault: NoRules, file: &str, err: &mut E) -> Status
     ensures { result ≡ unruled fault }
@@ -183,4 +240,14 @@ fn told_status<E: Write>(answer: Result<Verdict, ToolFault>, err: &mut E) -> Sta
         let _ = writeln!(err, "{refusal}");
     }
     status_of(answer, err)
+}
+
+// The same where it read several files: the line on a file that it refuses tells which one.
+fn linked_status<E: Write>(answer: Result<Verdict, ToolFault>, err: &mut E) -> Status
+    ensures { result ≡ ending_of answer }
+{
+    if let Ok(Verdict::Refused(Refusal::File { file, .. })) = &answer {
+        let _ = write!(err, "file {file} ");
+    }
+    told_status(answer, err)
 }

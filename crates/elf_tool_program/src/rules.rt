@@ -1,4 +1,4 @@
-//! The file of relocation rules that `map` is given.
+//! The file of relocation rules that `map` and `link` are given.
 ghost use Rattle.std.specs.Prelude.{◌≡◌, IfErr, IfOk};
 ghost use Rattle.elf_tool_program.specs.Rules.{GivesNoRules, GivesRules, ReadsNoRules, ReadsRules};
 

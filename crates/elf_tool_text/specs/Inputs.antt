@@ -1,10 +1,11 @@
 -- What an engine reads of several files: one after the other, each whole.
-use Rattle.std.specs.Prelude.{◌≡◌, ◌⊎◌, ℕ, ◌+◌, ◌≤◌, List, [], ◌∷◌, length, Option}
-use Rattle.std.specs.Io.KnownBytes.{Consumes}
+use Rattle.std.specs.Prelude.{◌≡◌, ◌⊎◌, ℕ, ◌+◌, ◌≤◌, List, [], ◌∷◌, length, Option, Result, Ok, Err}
+use Rattle.std.specs.Io.KnownBytes.{Consumes, Keeps}
 use Rattle.elf_image_rules.specs.HeaderRules.{MAX_LEN}
 use Rattle.elf_tool_text.specs.Engine.{IsReadWhole}
 use Rattle.elf_tool_text.specs.declared.fault.ToolFault.{ToolFault}
 use Rattle.elf_tool_text.specs.declared.fault.ToolFault.TheVariants.{Read, Write, OutOfMemory}
+use Rattle.elf_tool_text.specs.declared.fault.Verdict.{Verdict}
 
 -- a reader that had `input` left and has `rest` gave these bytes
 pub record GivesBytes (input rest : Option (List ℕ)) (bytes : List ℕ) : Type 0 where
@@ -39,3 +40,8 @@ abbrev pub IsReadingFault : List (Option (List ℕ)) → List (Option (List ℕ)
 IsReadingFault inputs rests (Read at) = (bytes : List ℕ) × StopsAfter inputs rests bytes × (at ≡ length bytes)
 IsReadingFault inputs rests (Write written) = ⊥
 IsReadingFault inputs rests OutOfMemory = (bytes : List ℕ) × StopsAfter inputs rests bytes
+
+-- a fault while the files are read: nothing is written
+abbrev pub FailsReading : List (Option (List ℕ)) → List (Option (List ℕ)) → Option (List ℕ) → Option (List ℕ) → Result Verdict ToolFault → Type 0
+FailsReading inputs rests old new (Ok verdict) = ⊥
+FailsReading inputs rests old new (Err fault) = IsReadingFault inputs rests fault × Keeps old new

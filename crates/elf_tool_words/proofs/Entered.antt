@@ -10,7 +10,7 @@ use Rattle.clap.specs.Walk.{Row, Text, answers_to, finished, nothing_held, settl
 use Rattle.clap.specs.declared.parser.matches.ArgMatches.{ArgMatches}
 use Rattle.clap.specs.declared.parser.matches.ArgMatches.TheViews.{out-ArgMatches, out-SubCommand}
 use Rattle.clap.specs.declared.parser.matches.SubCommand.{SubCommand}
-use Rattle.elf_tool_words.specs.Command.{IsNameIn, check, elfmap, map_command, rewrite, show}
+use Rattle.elf_tool_words.specs.Command.{IsNameIn, check, elfmap, link_command, map_command, rewrite, show}
 
 -- where no kind comes at all, the second steps give none
 or_else_nil : (first next : Kinds) → or_else first next ≡ [] → next ≡ []
@@ -77,7 +77,7 @@ entered_is words m name rows same named rowed = sym same ∙ both_parts (out-Arg
 
 -- and its name is one of the program's commands
 pub is_command : (words : List Text) (p : Text × List Row) → subcommand_of elfmap words ≡ Some p → IsNameIn p.0 elfmap.subs
-unfolding check show rewrite map_command elfmap
+unfolding check show rewrite map_command link_command elfmap
 is_command words p e =
     let b = built elfmap in
     entered_name b (stop_after b.top.rules (names_of b) (argument_words elfmap words)) p e

@@ -37,6 +37,14 @@ page = record (new_rule (codes "P")) { long = Some (codes "page"); required = tr
 abbrev pub rules_file : Rule
 rules_file = record (new_rule (codes "RULES")) { long = Some (codes "rules") }
 
+-- the same, which has to be given
+abbrev pub needed_rules_file : Rule
+needed_rules_file = record rules_file { required = true }
+
+-- `--entry NAME`
+abbrev pub entry : Rule
+entry = record (new_rule (codes "NAME")) { long = Some (codes "entry"); required = true }
+
 -- one file or more
 abbrev pub files : Rule
 files = record (new_rule (codes "FILE")) { required = true; action = Some Append }
@@ -44,6 +52,10 @@ files = record (new_rule (codes "FILE")) { required = true; action = Some Append
 -- `map --base B --page P [--rules RULES] FILE...`
 unfoldable pub map_command : Shape
 map_command = record (new_shape (codes "map")) { rules = base ∷ page ∷ rules_file ∷ files ∷ [] }
+
+-- `link --base B --page P --entry NAME --rules RULES FILE...`
+unfoldable pub link_command : Shape
+link_command = record (new_shape (codes "link")) { rules = base ∷ page ∷ entry ∷ needed_rules_file ∷ files ∷ [] }
 
 -- `elfmap COMMAND ..`; it has no subcommand `help`
 unfoldable pub elfmap : App
@@ -53,7 +65,7 @@ elfmap = record {
     disable_help_subcommand = true;
     is_leaf = false;
   };
-  subs = check ∷ show ∷ rewrite ∷ map_command ∷ [];
+  subs = check ∷ show ∷ rewrite ∷ map_command ∷ link_command ∷ [];
 }
 
 -- the name of one of the commands

@@ -11,7 +11,7 @@ use Rattle.clap.specs.declared.error.kind.ErrorKind.TheVariants as kind
 use Rattle.elf_tool_words.specs.Command.{elfmap}
 use Rattle.elf_tool_words.specs.Number.{number_of}
 use Rattle.elf_tool_words.specs.declared.words.Request.{Request}
-use Rattle.elf_tool_words.specs.declared.words.Request.TheVariants.{Check, CheckSource, Show, Rewrite, Map}
+use Rattle.elf_tool_words.specs.declared.words.Request.TheVariants.{Check, CheckSource, Show, Rewrite, Map, Link}
 use Rattle.elf_tool_words.specs.declared.words.WordsFault.{WordsFault}
 use Rattle.elf_tool_words.specs.declared.words.WordsFault.TheVariants.{Words, TooManyFiles, BadNumber, OutOfMemory}
 
@@ -41,6 +41,19 @@ page_of rows = number_of (text_of (codes "P") rows)
 abbrev pub rule_file_of : List Row → Option Text
 rule_file_of = first_of (codes "RULES")
 
+-- the name that `--entry` gives
+abbrev pub entry_of : List Row → Text
+entry_of = text_of (codes "NAME")
+
+-- the commands that link files
+abbrev pub IsLinking : Text → Type 0
+IsLinking name = (name ≡ codes "map") ⊎ (name ≡ codes "link")
+
+-- the files, at most 64 of them, and the numbers of a link
+abbrev pub AreLinkWords : List Row → ℕ → ℕ → List Text → Type 0
+AreLinkWords rows base page files =
+    (files ≡ files_of rows) × (length (files_of rows) ≤ 64) × (base_of rows ≡ Some base) × (page_of rows ≡ Some page)
+
 -- the command of this name, with these matches, is the request: one equation a request
 abbrev pub Asks : Text → List Row → Request → Type 0
 Asks name rows (Check file) = (name ≡ codes "check") × (file.now ≡ text_of (codes "FILE") rows) × (is_set (codes "seek") rows ≡ false)
@@ -48,15 +61,23 @@ Asks name rows (CheckSource file) = (name ≡ codes "check") × (file.now ≡ te
 Asks name rows (Show file) = (name ≡ codes "show") × (file.now ≡ text_of (codes "FILE") rows)
 Asks name rows (Rewrite file) = (name ≡ codes "rewrite") × (file.now ≡ text_of (codes "FILE") rows)
 Asks name rows (Map base page rules files) =
-    (name ≡ codes "map") × (map (λ f. f.now) files.items ≡ files_of rows) × (length (files_of rows) ≤ 64)
-    × (base_of rows ≡ Some base) × (page_of rows ≡ Some page) × (option_copied rules ≡ rule_file_of rows)
+    (name ≡ codes "map") × AreLinkWords rows base page (map (λ f. f.now) files.items) × (option_copied rules ≡ rule_file_of rows)
+Asks name rows (Link base page entry rules files) =
+    (name ≡ codes "link") × AreLinkWords rows base page (map (λ f. f.now) files.items)
+    × (entry.now ≡ entry_of rows) × (rules.now ≡ text_of (codes "RULES") rows)
 
--- the command of this name, with these matches, is refused so: `map` with more than 64 files, or else with a number that is none
+-- the files and numbers of a link are refused so: more than 64 files, or else a number that is none
+abbrev pub RefusesLinkWords : List Row → WordsFault → Type 0
+RefusesLinkWords rows (Words error) = ⊥
+RefusesLinkWords rows TooManyFiles = 64 < length (files_of rows)
+RefusesLinkWords rows BadNumber = (length (files_of rows) ≤ 64) × ((base_of rows ≡ None) ⊎ (page_of rows ≡ None))
+RefusesLinkWords rows OutOfMemory = Unit {0}
+
+-- the command of this name, with these matches, is refused so: it is one that links
 abbrev pub CommandRefuses : Text → List Row → WordsFault → Type 0
 CommandRefuses name rows (Words error) = ⊥
-CommandRefuses name rows TooManyFiles = (name ≡ codes "map") × (64 < length (files_of rows))
-CommandRefuses name rows BadNumber =
-    (name ≡ codes "map") × (length (files_of rows) ≤ 64) × ((base_of rows ≡ None) ⊎ (page_of rows ≡ None))
+CommandRefuses name rows TooManyFiles = IsLinking name × RefusesLinkWords rows TooManyFiles
+CommandRefuses name rows BadNumber = IsLinking name × RefusesLinkWords rows BadNumber
 CommandRefuses name rows OutOfMemory = Unit {0}
 
 -- clap's definition takes the words, and gives a command and matches of which this holds

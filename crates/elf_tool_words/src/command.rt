@@ -5,7 +5,7 @@ ghost use Rattle.clap.specs.Simple.{with_subcommand};
 ghost use Rattle.clap.specs.Words.{app_of, shape_of};
 ghost use Rattle.clap.specs.declared.builder.command.Command.TheViews.{out-Command as fields_of};
 ghost use Rattle.clap.specs.Walk.{rule_of};
-ghost use Rattle.elf_tool_words.specs.Command.{base as base_rule, check as check_shape, elfmap as elfmap_app, file_command as file_shape, files as files_rule, map_command as map_shape, page as page_rule, rules_file as rules_rule, seek as seek_rule};
+ghost use Rattle.elf_tool_words.specs.Command.{base as base_rule, check as check_shape, elfmap as elfmap_app, entry as entry_rule, file_command as file_shape, files as files_rule, link_command as link_shape, map_command as map_shape, needed_rules_file as needed_rules_rule, page as page_rule, rules_file as rules_rule, seek as seek_rule};
 
 use clap::{Arg, ArgAction, Command};
 use std::alloc::{AllocError, Global};
@@ -33,7 +33,8 @@ pub(crate) fn elfmap<'a>(alloc: Global) -> Result<Command<'a>, AllocError>
         "Writes the object of FILE in canonical layout on standard output",
         "The relocatable file to rewrite",
     )?;
-    command.subcommand(map_command(alloc)?)
+    let command = with_map_command(alloc, command)?;
+    command.subcommand(link_command(alloc)?)
 }
 
 // The command with the subcommand `check`.
@@ -92,6 +93,13 @@ fn file_command<'a>(
     Command::new(alloc, name).about(about).arg(file)
 }
 
+// The command with the subcommand `map`.
+fn with_map_command<'a>(alloc: Global, command: Command<'a>) -> Result<Command<'a>, AllocError>
+    ensures { IfOk result (λ more. app_of more ≡ with_subcommand (app_of command.entry) map_shape) }
+{
+    command.subcommand(map_command(alloc)?)
+}
+
 fn map_command<'a>(alloc: Global) -> Result<Command<'a>, AllocError>
     ensures shape { IfOk result (λ command. shape_of command ≡ map_shape) }
     ensures local { IfOk result (λ command. (fields_of command).has_globals ≡ false) }
@@ -101,6 +109,19 @@ fn map_command<'a>(alloc: Global) -> Result<Command<'a>, AllocError>
         .arg(base(alloc))?
         .arg(page(alloc))?
         .arg(rules(alloc))?
+        .arg(files(alloc))
+}
+
+fn link_command<'a>(alloc: Global) -> Result<Command<'a>, AllocError>
+    ensures shape { IfOk result (λ command. shape_of command ≡ link_shape) }
+    ensures local { IfOk result (λ command. (fields_of command).has_globals ≡ false) }
+{
+    Command::new(alloc, "link")
+        .about("Links the FILEs, and writes the executable on standard output")
+        .arg(base(alloc))?
+        .arg(page(alloc))?
+        .arg(entry(alloc))?
+        .arg(needed_rules(alloc))?
         .arg(files(alloc))
 }
 
@@ -124,6 +145,16 @@ fn page<'a>(alloc: Global) -> Arg<'a>
         .required(true)
 }
 
+fn entry<'a>(alloc: Global) -> Arg<'a>
+    ensures rule { rule_of result ≡ entry_rule }
+    ensures local { result.global ≡ false }
+{
+    Arg::new(alloc, "NAME")
+        .long("entry")
+        .help("The symbol that the program begins at")
+        .required(true)
+}
+
 fn rules<'a>(alloc: Global) -> Arg<'a>
     ensures rule { rule_of result ≡ rules_rule }
     ensures local { result.global ≡ false }
@@ -131,6 +162,13 @@ fn rules<'a>(alloc: Global) -> Arg<'a>
     Arg::new(alloc, "RULES").long("rules").help(
         "The file of relocation rules, a line KIND abs|pc|none 1|2|4|8 signed|unsigned|wrap each",
     )
+}
+
+fn needed_rules<'a>(alloc: Global) -> Arg<'a>
+    ensures rule { rule_of result ≡ needed_rules_rule }
+    ensures local { result.global ≡ false }
+{
+    rules(alloc).required(true)
 }
 
 fn files<'a>(alloc: Global) -> Arg<'a>

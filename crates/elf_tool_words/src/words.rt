@@ -3,7 +3,7 @@ ghost use Rattle.std.specs.Prelude.{◌≡◌, [], IfErr, IfOk, OnOk, codes, map
 ghost use Rattle.clap.specs.Walk.{first_of};
 ghost use Rattle.clap.specs.Words.{fault_of, found_of, rows_of, subcommand_of, subcommand_rows_of};
 ghost use Rattle.elf_tool_words.specs.Command.{IsNameIn, elfmap as elfmap_app};
-ghost use Rattle.elf_tool_words.specs.Words.{Asks, CommandRefuses, IsAskedBy, IsRefusedBy, is_set as is_set_in, text_of, texts_of};
+ghost use Rattle.elf_tool_words.specs.Words.{AreLinkWords, Asks, CommandRefuses, IsAskedBy, IsRefusedBy, RefusesLinkWords, is_set as is_set_in, text_of, texts_of};
 
 use crate::command::elfmap;
 use crate::number::number_of;
@@ -37,6 +37,15 @@ pub enum Request<'a> {
         base: u64,
         page: u64,
         rules: Option<&'a str>,
+        files: Vec<&'a str>,
+    },
+    /// Write the executable that these files link to: placed as for [`Request::Map`], begun at the symbol `entry`, by the relocation
+    /// rules of the file `rules`.
+    Link {
+        base: u64,
+        page: u64,
+        entry: &'a str,
+        rules: &'a str,
         files: Vec<&'a str>,
     },
 }
@@ -86,8 +95,8 @@ const MOST_FILES: usize = 64;
 ///
 /// It is the one that clap's definition of matches gives for the words, with its numbers read.
 /// [`WordsFault::Words`] comes only where that definition does not take them. Where it does, want of
-/// memory aside, [`WordsFault::TooManyFiles`] comes exactly where it gives `map` more than 64 files,
-/// and else [`WordsFault::BadNumber`] exactly where it gives a number that is none.
+/// memory aside, [`WordsFault::TooManyFiles`] comes exactly where it gives `map` or `link` more than 64 files,
+/// and else [`WordsFault::BadNumber`] exactly where it gives one of these a number that is none.
 pub fn read_words<'a, S: AsStr>(alloc: Global, words: &'a [S]) -> Result<Request<'a>, WordsFault>
     ensures ok { IfOk result (IsAskedBy (map S.text words.entry.now)) }
     ensures err { IfErr result (IsRefusedBy (map S.text words.entry.now)) }
@@ -130,6 +139,7 @@ fn request_of<'a>(
             file: file_in(matches),
         }),
         "map" => map_request(alloc, matches),
+        "link" => link_request(alloc, matches),
         _ => unreachable!(),
     }
 }
@@ -146,10 +156,17 @@ fn check_request<'a>(matches: &ArgMatches<'a>) -> Request<'a>
     }
 }
 
-// The request of `map`.
-fn map_request<'a>(alloc: Global, matches: &ArgMatches<'a>) -> Result<Request<'a>, WordsFault>
-    ensures ok { IfOk result (Asks (codes "map") (rows_of (found_of matches.now))) }
-    ensures err { IfErr result (CommandRefuses (codes "map") (rows_of (found_of matches.now))) }
+// The files and numbers that a command that links is given.
+#[derive(Drop)]
+struct LinkWords<'a> {
+    base: u64,
+    page: u64,
+    files: Vec<&'a str>,
+}
+
+fn link_words<'a>(alloc: Global, matches: &ArgMatches<'a>) -> Result<LinkWords<'a>, WordsFault>
+    ensures ok { IfOk result (λ words. AreLinkWords (rows_of (found_of matches.now)) words.base words.page (map (λ f. f.now) words.files.items)) }
+    ensures err { IfErr result (RefusesLinkWords (rows_of (found_of matches.now))) }
 {
     let files = texts_at(alloc, matches, "FILE")?;
     if files.len() > MOST_FILES {
@@ -161,12 +178,40 @@ fn map_request<'a>(alloc: Global, matches: &ArgMatches<'a>) -> Result<Request<'a
     let Some(page) = number_of(text_at(matches, "P")) else {
         return Err(WordsFault::BadNumber);
     };
-    Ok(Request::Map {
-        base,
-        page,
-        rules: given_at(matches, "RULES"),
-        files,
-    })
+    Ok(LinkWords { base, page, files })
+}
+
+// The request of `map`.
+fn map_request<'a>(alloc: Global, matches: &ArgMatches<'a>) -> Result<Request<'a>, WordsFault>
+    ensures ok { IfOk result (Asks (codes "map") (rows_of (found_of matches.now))) }
+    ensures err { IfErr result (CommandRefuses (codes "map") (rows_of (found_of matches.now))) }
+{
+    match link_words(alloc, matches) {
+        Ok(LinkWords { base, page, files }) => Ok(Request::Map {
+            base,
+            page,
+            rules: given_at(matches, "RULES"),
+            files,
+        }),
+        Err(fault) => Err(fault),
+    }
+}
+
+// The request of `link`.
+fn link_request<'a>(alloc: Global, matches: &ArgMatches<'a>) -> Result<Request<'a>, WordsFault>
+    ensures ok { IfOk result (Asks (codes "link") (rows_of (found_of matches.now))) }
+    ensures err { IfErr result (CommandRefuses (codes "link") (rows_of (found_of matches.now))) }
+{
+    match link_words(alloc, matches) {
+        Ok(LinkWords { base, page, files }) => Ok(Request::Link {
+            base,
+            page,
+            entry: text_at(matches, "NAME"),
+            rules: text_at(matches, "RULES"),
+            files,
+        }),
+        Err(fault) => Err(fault),
+    }
 }
 
 // The file that a command with one file names.

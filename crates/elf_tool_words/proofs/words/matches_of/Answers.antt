@@ -6,18 +6,18 @@ use Rattle.clap.specs.Simple.{App, app_of, is_simple, subcommand_of}
 use Rattle.clap.specs.Values.{kind_of}
 use Rattle.clap.specs.Walk.{Text}
 use Rattle.clap.specs.declared.error.Error.{Error}
-use Rattle.elf_tool_words.specs.Command.{check, elfmap, map_command, rewrite, show}
+use Rattle.elf_tool_words.specs.Command.{check, elfmap, link_command, map_command, rewrite, show}
 use Rattle.elf_tool_words.specs.Words.{IsRefusedBy, Tells}
 use Rattle.elf_tool_words.specs.declared.words.WordsFault.{WordsFault}
 use Rattle.elf_tool_words.specs.declared.words.WordsFault.TheVariants.{Words, TooManyFiles, BadNumber, OutOfMemory}
 use Rattle.elf_tool_words.proofs.words.matches_of.Goals as goal
 
 simple_and_free : is_simple_and_free elfmap ≡ true
-unfolding check show rewrite map_command elfmap
+unfolding check show rewrite map_command link_command elfmap
 simple_and_free = refl
 
 simple : is_simple elfmap ≡ true
-unfolding check show rewrite map_command elfmap
+unfolding check show rewrite map_command link_command elfmap
 simple = refl
 
 pub returns-clause-taken : goal.returns-clause-taken

@@ -1,6 +1,6 @@
 use Rattle.std.proofs.Common.{◌≡◌, length, map}
-use Rattle.elf_tool_map.specs.ObjectFiles.{BeginAsObjects}
-use Rattle.elf_tool_map.proofs.object_files.objects_of.Given as goal
+use Rattle.elf_tool_objects.specs.ObjectFiles.{BeginAsObjects}
+use Rattle.elf_tool_objects.proofs.object_files.objects_of.Given as goal
 
 -- the first files are objects
 abbrev pub invariant-loop-file : goal.invariant-loop-file

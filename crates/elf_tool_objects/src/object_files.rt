@@ -1,6 +1,6 @@
 //! The objects that files are.
 ghost use Rattle.std.specs.Prelude.{MatchResult, map};
-ghost use Rattle.elf_tool_map.specs.ObjectFiles.{AreObjectFiles, IsFileFault, IsObjectFile, IsObjectFileFault};
+ghost use Rattle.elf_tool_objects.specs.ObjectFiles.{AreObjectFiles, IsFileFault, IsObjectFile, IsObjectFileFault};
 
 use elf_image_stream::Fault;
 use elf_image_type::parse;
@@ -10,15 +10,18 @@ use std::alloc::Global;
 
 /// Why files are not all objects.
 #[derive(Clone, Copy)]
-pub(crate) enum FileFault {
+pub enum FileFault {
     /// This file breaks the refusal rule of this number, first at this offset in it, and all before it are objects.
     Refused { file: usize, rule: u16, at: u64 },
     /// A growth was refused.
     OutOfMemory,
 }
 
-/// The object of each file.
-pub(crate) fn objects_of<'a>(
+/// The object that each file denotes, in order.
+///
+/// [`FileFault::Refused`] comes with the first file that is no image or whose image denotes no object: the first rule that it breaks, as
+/// an image or, with a number from 40 on, as an object, and its lowest offset. Nothing else is refused, want of memory aside.
+pub fn objects_of<'a>(
     alloc: Global,
     files: &'a [Vec<u8>],
 ) -> Result<Vec<Object<'a>>, FileFault>

@@ -1,7 +1,7 @@
 use Rattle.std.proofs.Common.{◌≤◌, ◌∙◌, List, ℕ, Vec, Global, ap, arith, length, rules}
 use Rattle.std.proofs.lemmas.List.{length-map}
-use Rattle.elf_tool_map.proofs.ObjectFiles.{all_objects, next_object, next_refused}
-use Rattle.elf_tool_map.proofs.object_files.objects_of.Goals as goal
+use Rattle.elf_tool_objects.proofs.ObjectFiles.{all_objects, next_object, next_refused}
+use Rattle.elf_tool_objects.proofs.object_files.objects_of.Goals as goal
 
 abbrev items : Vec ℕ Global → List ℕ
 items f = f.items

@@ -2,7 +2,7 @@
 use Rattle.std.proofs.Common.{◌≡◌, ◌∙◌, ℕ, ◌<◌, ◌≤◌, List, [], ◌∷◌, ◌++◌, ap, arith, get_or, length, map, subst, sym}
 use Rattle.std.proofs.lemmas.List.{get_or-map, length-map}
 use Rattle.elf_object_type.specs.Object.{ObjectValue}
-use Rattle.elf_tool_map.specs.ObjectFiles.{AreObjectFiles, BeginAsObjects, IsFirstRefused, IsObjectFile, IsRefusedFile}
+use Rattle.elf_tool_objects.specs.ObjectFiles.{AreObjectFiles, BeginAsObjects, IsFirstRefused, IsObjectFile, IsRefusedFile}
 
 -- one more file is an object
 pub one_more : (files : List (List ℕ)) (objects : List ObjectValue) (d : List ℕ) (o : ObjectValue) → length objects < length files

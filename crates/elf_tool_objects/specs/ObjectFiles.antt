@@ -9,8 +9,8 @@ use Rattle.elf_image_stream.specs.declared.fault.Fault.TheVariants as fault
 use Rattle.elf_image_rules.specs.ImageRules.{IsFault}
 use Rattle.elf_image_rules.specs.Rows.{FirstIn}
 use Rattle.elf_table_base.specs.Sections.{sections_of}
-use Rattle.elf_tool_map.specs.declared.object_files.FileFault.{FileFault}
-use Rattle.elf_tool_map.specs.declared.object_files.FileFault.TheVariants.{Refused, OutOfMemory}
+use Rattle.elf_tool_objects.specs.declared.object_files.FileFault.{FileFault}
+use Rattle.elf_tool_objects.specs.declared.object_files.FileFault.TheVariants.{Refused, OutOfMemory}
 
 -- a file is an image that denotes this object
 abbrev pub IsObjectFile : List ℕ → ObjectValue → Type 0

@@ -1,0 +1,64 @@
+-- What `link` makes of files: the executable of their link.
+use Rattle.std.specs.Prelude.{◌≡◌, ◌⊎◌, ◌≤◌, ℕ, List, [], length, None, Option, Some, Result}
+use Rattle.elf_image_rules.specs.HeaderRules.{MAX_LEN}
+use Rattle.elf_object_type.specs.Object.{ObjectValue}
+use Rattle.elf_link_files.specs.declared.options.Options.{Options}
+use Rattle.elf_link_files.specs.declared.site.Site.{Site}
+use Rattle.elf_link_files.specs.Rows.{FirstAmong}
+use Rattle.elf_link_map.specs.LinkFaults.{FirstOfLink}
+use Rattle.elf_link_map.specs.LinkMap.{IsLinkMap, LinkMapValue}
+use Rattle.elf_link_relocate.specs.Linked.{IsLinked, LinkedValue}
+use Rattle.elf_link_relocate.specs.RelocationRules.{applied_entry_rules}
+use Rattle.elf_link_field.specs.declared.rule.RelocRule.{RelocRule}
+use Rattle.elf_exec.specs.ExecWriting.{IsExec, IsTooLong}
+use Rattle.elf_tool_objects.specs.ObjectFiles.{AreObjectFiles, IsFirstRefused}
+use Rattle.elf_tool_text.specs.Engine.{IsSaid}
+use Rattle.elf_tool_text.specs.Inputs.{AreRead, FailsReading}
+use Rattle.elf_tool_text.specs.declared.fault.Refusal.TheVariants.{File, Link, TooLong}
+use Rattle.elf_tool_text.specs.declared.fault.ToolFault.{ToolFault}
+use Rattle.elf_tool_text.specs.declared.fault.Verdict.{Verdict}
+use Rattle.elf_tool_text.specs.declared.fault.Verdict.TheVariants.{Done, Refused}
+
+-- of relocated bytes: their executable, or that it has too many segments or is too long for a file
+abbrev pub ExecSays : LinkedValue → Verdict → List ℕ → Type 0
+ExecSays l Done text = IsExec l text × (length text ≤ MAX_LEN)
+ExecSays l (Refused (File file rule at)) text = ⊥
+ExecSays l (Refused (Link rule file index entry)) text = ⊥
+ExecSays l (Refused TooLong) text = IsTooLong l × (text ≡ [])
+
+-- a rule of the link stands first, and at this site; nothing is written
+abbrev pub RuleRefuses : (ℕ → Site → Type 0) → Verdict → List ℕ → Type 0
+RuleRefuses IsFirst Done text = ⊥
+RuleRefuses IsFirst (Refused (File file rule at)) text = ⊥
+RuleRefuses IsFirst (Refused (Link rule file index entry)) text = IsFirst rule (record { file = file; index = index; entry = entry }) × (text ≡ [])
+RuleRefuses IsFirst (Refused TooLong) text = ⊥
+
+-- of objects and their link map: what is said of their relocated bytes; or the first of rules 12 to 16 that stands
+abbrev pub MapLinks : List RelocRule → List ObjectValue → LinkMapValue → Verdict → List ℕ → Type 0
+MapLinks rules fs m verdict text =
+    ((l : LinkedValue) × IsLinked fs m rules l × ExecSays l verdict text)
+    ⊎ RuleRefuses (λ rule site. FirstAmong (applied_entry_rules fs m rules) (Some (rule, site))) verdict text
+
+-- of objects: no rule of the link stands, and what is said of their link map; or the first one that does
+abbrev pub ObjectsLink : Options → List RelocRule → List ObjectValue → Verdict → List ℕ → Type 0
+ObjectsLink opt rules fs verdict text =
+    (FirstOfLink opt fs None × ((m : LinkMapValue) × IsLinkMap opt fs m × MapLinks rules fs m verdict text))
+    ⊎ RuleRefuses (λ rule site. FirstOfLink opt fs (Some (rule, site))) verdict text
+
+-- the first file that is refused, with the first rule that it breaks and its lowest offset; nothing is written
+abbrev pub FileRefuses : List (List ℕ) → Verdict → List ℕ → Type 0
+FileRefuses files Done text = ⊥
+FileRefuses files (Refused (File file rule at)) text = IsFirstRefused files file rule at × (text ≡ [])
+FileRefuses files (Refused (Link rule file index entry)) text = ⊥
+FileRefuses files (Refused TooLong) text = ⊥
+
+-- of files: what is said of the objects that they are; or of the first one that is none
+abbrev pub FilesLink : Options → List RelocRule → List (List ℕ) → Verdict → List ℕ → Type 0
+FilesLink opt rules files verdict text =
+    ((fs : List ObjectValue) × AreObjectFiles files fs × ObjectsLink opt rules fs verdict text) ⊎ FileRefuses files verdict text
+
+-- a call of `link`: its readers, which had `inputs` left and have `rests`; and its writer, which held `old` and holds `new`
+abbrev pub IsLinkCall : Options → List RelocRule → List (Option (List ℕ)) → List (Option (List ℕ)) → Option (List ℕ) → Option (List ℕ) → Result Verdict ToolFault → Type 0
+IsLinkCall opt rules inputs rests old new result =
+    FailsReading inputs rests old new result
+    ⊎ ((files : List (List ℕ)) × AreRead inputs rests files × IsSaid (FilesLink opt rules files) old new result)

@@ -1,0 +1,2 @@
+-- Lemmas on objects read one after the other.
+pub mod ObjectFiles
