@@ -1,5 +1,5 @@
 -- Where parts at their least places end.
-use Rattle.std.proofs.Common.{◌≡◌, ◌<◌, ◌≤◌, ◌+◌, ◌-◌, ℕ, List, length, refl, ap, inl, inr, arith}
+use Rattle.std.proofs.Common.{◌≡◌, ◌<◌, ◌≤◌, ◌-◌, ℕ, List, length, refl, ap, inl, inr, arith}
 use Rattle.std.proofs.lemmas.Bool.{cases_lt, eq-eqb, ne_eqb}
 use Rattle.elf_extent.specs.Place.{Fits, IsOverflowAt, end_of}
 use Rattle.elf_extent.proofs.Public.{above_earlier}

@@ -5,4 +5,5 @@ mod Ends
 mod Segments
 mod OutputBytes
 mod ExecText
+mod Sent
 mod OneExec

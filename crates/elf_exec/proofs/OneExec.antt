@@ -1,18 +1,20 @@
 -- Relocated bytes have one executable: its places are the least ones, and each of its bytes is that of memory.
-use Rattle.std.proofs.Common.{◌≡◌, ◌<◌, ◌+◌, ℕ, List, [], length, get_or, refl, sym, ap, ap₂, subst, ◌∙◌, arith}
-use Rattle.std.specs.Prelude.{slice_index}
+use Rattle.std.proofs.Common.{◌≡◌, ◌+◌, ℕ, List, [], get_or, sym, ap₂, subst, ◌∙◌, arith}
+use Rattle.std.specs.Prelude.{None, slice_index}
 use Rattle.std.proofs.lemmas.List.{ext_get_or}
 use Rattle.elf_extent.proofs.Public.{least_places, same_least}
 use Rattle.elf_object_type.specs.Object.{ObjectValue}
 use Rattle.elf_link_field.specs.declared.rule.RelocRule.{RelocRule}
 use Rattle.elf_link_map.specs.LinkMap.{LinkMapValue}
+use Rattle.elf_link_files.specs.Rows.{FirstAmong}
+use Rattle.elf_link_relocate.specs.RelocationRules.{applied_entry_rules}
 use Rattle.elf_link_relocate.specs.Linked.{IsLinked, LinkedValue}
 use Rattle.elf_link_relocate.specs.MapFacts.{IsMapOfSome}
 use Rattle.elf_link_relocate.proofs.Public.{one_byte}
 use Rattle.elf_exec.specs.declared.load.Load.{Load}
-use Rattle.elf_exec.specs.ExecLaid.{AreLoadBytes, bytes_from, exec_bytes, load_parts}
+use Rattle.elf_exec.specs.ExecLaid.{AreLoadBytes, ExecLaid, bytes_from, exec_bytes, load_parts}
 use Rattle.elf_exec.specs.ExecWriting.{IsExec, IsReadyLink}
-use Rattle.elf_exec.specs.Loads.{load_in, loads}
+use Rattle.elf_exec.specs.Loads.{load_in}
 use Rattle.elf_exec.specs.Pieces.{load_contents}
 use Rattle.elf_exec.proofs.ExecText.{exec_laid}
 
@@ -30,20 +32,26 @@ some_exec l ready =
     let (places, least) = least_places (load_parts l.map) (bytes_from l.map) in
     (exec_bytes l.objects l.map places (load_contents l), exec_laid l places ready least)
 
--- the bytes of a segment are one list
-same_bytes : (l : LinkedValue) (load : Load) (a b : List ℕ) → IsReadyLink l → AreLoadBytes l.objects l.map l.rules load a → AreLoadBytes l.objects l.map l.rules load b → a ≡ b
-same_bytes l load a b ready are also =
-    let first = are.long in
-    let second = also.long in
-    ext_get_or 0 a b (omega arith) (λ k lt.
-    one_byte l.objects l.map l.rules ready.map ready.linked.sound (load.address + k) (slice_index a k) (slice_index b k) (are.memory k lt) (also.memory k (omega arith)))
+-- ---- one and no other
 
-pub one_exec : (l : LinkedValue) (a b : List ℕ) → IsReadyLink l → IsExec l a → IsExec l b → a ≡ b
-one_exec l a b ready is also =
-    let m = l.map in
-    let places = same_least (load_parts m) (bytes_from m) is.places also.places is.least also.least in
-    let first = is.memory.count in
-    let second = also.memory.count in
-    let contents : is.contents ≡ also.contents = ext_get_or [] is.contents also.contents (omega arith) (λ j lt.
-    same_bytes l (load_in m j) (get_or is.contents j []) (get_or also.contents j []) ready (is.memory.each j (omega arith)) (also.memory.each j (omega arith))) in
-    is.bytes ∙ ap₂ (exec_bytes l.objects m) places contents ∙ sym also.bytes
+module _ (fs : List ObjectValue) (m : LinkMapValue) (rules : List RelocRule) (is : IsMapOfSome fs m) (sound : FirstAmong (applied_entry_rules fs m rules) None) where
+  -- the bytes of a segment are one list
+  same_bytes : (load : Load) (s t : List ℕ) → AreLoadBytes fs m rules load s → AreLoadBytes fs m rules load t → s ≡ t
+  same_bytes load s t are also =
+      let first = are.long in
+      let second = also.long in
+      ext_get_or 0 s t (omega arith)
+      (λ k lt. one_byte fs m rules is sound (load.address + k) (slice_index s k) (slice_index t k) (are.memory k lt) (also.memory k (omega arith)))
+
+  same_exec : (a b : List ℕ) → ExecLaid fs m rules a → ExecLaid fs m rules b → a ≡ b
+  same_exec a b this that =
+      let places = same_least (load_parts m) (bytes_from m) this.places that.places this.least that.least in
+      let first = this.memory.count in
+      let second = that.memory.count in
+      let contents : this.contents ≡ that.contents = ext_get_or [] this.contents that.contents (omega arith)
+      (λ j lt. same_bytes (load_in m j) (get_or this.contents j []) (get_or that.contents j []) (this.memory.each j (omega arith)) (that.memory.each j (omega arith))) in
+      this.bytes ∙ ap₂ (exec_bytes fs m) places contents ∙ sym that.bytes
+
+pub one_exec : (fs : List ObjectValue) (m : LinkMapValue) (rules : List RelocRule) (a b : List ℕ) → IsMapOfSome fs m → FirstAmong (applied_entry_rules fs m rules) None →
+    ExecLaid fs m rules a → ExecLaid fs m rules b → a ≡ b
+one_exec fs m rules a b is sound = same_exec fs m rules is sound a b

@@ -1,12 +1,12 @@
 -- The bytes of an output with bits, as they are sent, are those of memory: its members' at their addresses, and zeros between.
-use Rattle.std.proofs.Common.{◌≡◌, ◌<◌, ◌≤◌, ◌+◌, ◌-◌, ℕ, suc, Bool, true, false, List, [], length, map, get_or, refl, sym, ap, ap₂, subst, ◌∙◌, inl, inr, arith}
+use Rattle.std.proofs.Common.{◌≡◌, ◌<◌, ◌+◌, ◌-◌, ℕ, true, false, List, [], length, map, get_or, refl, sym, ap, subst, ◌∙◌, inl, inr, arith}
 use Rattle.std.specs.Prelude.{MatchOption, Option, None, Some, slice_index, unwrap_or}
 use Rattle.std.proofs.lemmas.List.{get_or-map, length-map}
 use Rattle.std.proofs.lemmas.Simd.{map-map}
 use Rattle.elf_extent.specs.Place.{Fits, end_of}
 use Rattle.elf_object_type.specs.Object.{BodyValue, bits, no_bits, relocs, group, ObjectValue}
 use Rattle.elf_object_type.specs.Positions.{is_bits}
-use Rattle.elf_image_type.specs.FileParts.{spread, unaligned}
+use Rattle.elf_image_type.specs.FileParts.{unaligned}
 use Rattle.elf_image_type.proofs.Public.{length-spread}
 use Rattle.elf_link_field.specs.declared.rule.RelocRule.{RelocRule}
 use Rattle.elf_link_files.specs.Files.{section_in}
@@ -16,9 +16,9 @@ use Rattle.elf_link_outputs.specs.Outputs.{is_no_bits, memory_size}
 use Rattle.elf_link_outputs.specs.Placed.{OutputValue}
 use Rattle.elf_link_map.specs.Apart.{size_in}
 use Rattle.elf_link_map.specs.LinkMap.{LinkMapValue}
-use Rattle.elf_link_map.specs.Standing.{MembersStand, address_in, member_address, member_at, member_part, no_member, or_zero, output_at, output_end}
+use Rattle.elf_link_map.specs.Standing.{MembersStand, address_in, member_address, member_at, member_part, no_member, or_zero, output_at}
 use Rattle.elf_link_map.proofs.Public.{outputs_stand}
-use Rattle.elf_link_relocate.specs.Fields.{content_in, content_of}
+use Rattle.elf_link_relocate.specs.Fields.{content_of}
 use Rattle.elf_link_relocate.specs.Linked.{AreBytesOf, HasLiveBits, LinkedValue, bytes_at}
 use Rattle.elf_link_relocate.specs.Memory.{IsInNoMember, IsMemory}
 use Rattle.elf_link_relocate.proofs.Public.{memory_zero}

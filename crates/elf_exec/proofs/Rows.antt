@@ -2,7 +2,7 @@
 use Rattle.std.proofs.Common.{◌≡◌, ◌<◌, ◌≤◌, ◌+◌, ◌-◌, ◌⊎◌, ℕ, zero, suc, List, [], ◌∷◌, ◌++◌, length, map, get_or, slice_index, replicate, refl, sym, ap, ap₂, ◌∙◌, inl, inr, append_assoc, arith, length-append}
 use Rattle.std.specs.List.{flat_map, range_with_len}
 use Rattle.std.proofs.lemmas.Bool.{cases_lt}
-use Rattle.std.proofs.lemmas.List.{get_or-append_right, get_or-map, get_or-replicate, get_or_append_left, length-map, length-replicate}
+use Rattle.std.proofs.lemmas.List.{get_or-append_right, get_or-replicate, get_or_append_left, length-replicate}
 use Rattle.elf_extent.specs.Place.{Fits}
 use Rattle.elf_extent.proofs.Public.{above_from}
 use Rattle.elf_image_type.specs.FileParts.{spread, unaligned}

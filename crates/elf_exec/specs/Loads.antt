@@ -1,6 +1,6 @@
 -- The segments of an executable: one of type PT_LOAD for each output section that takes memory, and one for the commons if they do, in
 -- order of address. (gABI chapter 5, Program Header: Segment Types, Segment Permissions; which there are is this project's profile.)
-use Rattle.std.specs.Prelude.{ℕ, ◌+◌, ◌-◌, ◌^◌, ◌<◌, ◌==◌, nat_lt, if◌then◌else◌, Bool, false, true, List, bit_and, get_or, length, map}
+use Rattle.std.specs.Prelude.{ℕ, ◌+◌, ◌-◌, ◌^◌, ◌<◌, ◌==◌, nat_lt, if◌then◌else◌, Bool, true, List, bit_and, get_or, length, map}
 use Rattle.std.specs.List.{filter, range_with_len}
 use Rattle.elf_field.specs.Abi.{PF_R, PF_W, PF_X, SHF_EXECINSTR, SHF_WRITE}
 use Rattle.elf_link_map.specs.LinkMap.{LinkMapValue}

@@ -1,10 +1,13 @@
 //! What the layers above may know of an executable.
-ghost use Rattle.std.specs.Prelude.{◌≡◌, ℕ, List};
+ghost use Rattle.std.specs.Prelude.{◌≡◌, ℕ, List, None};
+ghost use Rattle.elf_link_files.specs.Rows.{FirstAmong};
 ghost use Rattle.elf_link_map.specs.LinkMap.{LinkMapValue};
 ghost use Rattle.elf_link_field.specs.declared.rule.RelocRule.{RelocRule};
 ghost use Rattle.elf_link_relocate.specs.Linked.{IsLinked, LinkedValue};
 ghost use Rattle.elf_link_relocate.specs.MapFacts.{IsMapOfSome};
+ghost use Rattle.elf_link_relocate.specs.RelocationRules.{applied_entry_rules};
 ghost use Rattle.elf_object_type.specs.Object.{ObjectValue};
+ghost use Rattle.elf_exec.specs.ExecLaid.{ExecLaid};
 ghost use Rattle.elf_exec.specs.ExecWriting.{IsExec, IsReadyLink};
 
 /// The map of some objects and the relocated bytes that `relocate` answered are ready to be written.
@@ -17,7 +20,8 @@ pub fn some_exec()
     ensures { (l : LinkedValue) → IsReadyLink l → (b : List ℕ) × IsExec l b }
 {}
 
-/// They have one executable alone: no second list of bytes meets the definition.
+/// Some objects, their link map and relocation rules have at most one executable: no second list of bytes meets the definition.
 pub fn one_exec()
-    ensures { (l : LinkedValue) (a b : List ℕ) → IsReadyLink l → IsExec l a → IsExec l b → a ≡ b }
+    ensures { (fs : List ObjectValue) (m : LinkMapValue) (rules : List RelocRule) (a b : List ℕ) → IsMapOfSome fs m → FirstAmong (applied_entry_rules fs m rules) None →
+        ExecLaid fs m rules a → ExecLaid fs m rules b → a ≡ b }
 {}

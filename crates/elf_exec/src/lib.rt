@@ -1,10 +1,28 @@
 //! The executable of a link (gABI chapter 4, ELF Header; chapter 5, Program Header): one file whose segments of type `PT_LOAD` are the
 //! memory of the link. Which segments there are, and where their bytes stand, is this project's profile.
+//!
+//! [`write_exec`] writes it for relocated bytes. A link without files is a header alone:
+//!
+//! ```
+//! let mut text = Vec::new(alloc);
+//! write_exec(alloc, &linked, &mut text)?;
+//! assert_eq!(text.len(), 64);
+//! ```
 #![tactic(auto)]
 
+mod exec_header;
+mod exec_writing;
 mod fault;
 mod laws;
 mod load;
+mod load_pieces;
+mod member_pieces;
+mod placed_exec;
+mod placed_writing;
+mod placing;
+mod program_headers;
 
+pub use exec_writing::write_exec;
 pub use fault::ExecFault;
 pub use laws::{one_exec, ready_of, some_exec};
+pub use load::Load;

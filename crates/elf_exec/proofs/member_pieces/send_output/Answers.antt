@@ -1,0 +1,10 @@
+use Rattle.std.proofs.Common.{List, ℕ, subst, sym}
+use Rattle.elf_image_sending.specs.Sending.{Sends}
+use Rattle.elf_link_outputs.specs.PlacedView.{output_value}
+use Rattle.elf_exec.proofs.Sent.{output_text}
+use Rattle.elf_exec.proofs.member_pieces.send_output.Goals as goal
+
+pub returns : goal.returns
+returns g c =
+    subst (λ (t : List ℕ). Sends (g.W.Write.contents c.args.writer.now) (g.W.Write.contents c.send_all.new.writer) c.args.out t c.send_all.result)
+    (sym (output_text c.args.linked.now (output_value c.args.output.now))) c.send_all.ensures

@@ -1,0 +1,38 @@
+//! The executable of relocated bytes onto a writer.
+ghost use Rattle.elf_exec.specs.ExecWriting.{IsExecWritten, IsReadyLink};
+
+use crate::fault::ExecFault;
+use crate::placed_exec::PlacedExec;
+use crate::placed_writing::send_exec;
+use elf_link_relocate::Linked;
+use std::alloc::Global;
+use std::io::Write;
+
+/// Writes the executable of relocated bytes (gABI chapters 4 and 5): the header, the program header table, and the bytes of each segment
+/// with bits at the least place that is a multiple of the page; with zeros between. Each output section that takes memory is a segment of
+/// type `PT_LOAD`, and the commons are one; in memory the segments are the memory of the link, and nothing else is.
+///
+/// [`ExecFault::TooLong`] comes exactly where there are 0xffff segments or more, or the file is longer than the longest one, 2^30 bytes;
+/// [`ExecFault::OutOfMemory`] only where memory is refused; both before the first byte is out. Any error of the writer, an interruption
+/// too, is [`ExecFault::Io`], and so is a write that takes 0 bytes of a rest that is not empty. Nothing is tried again and nothing is
+/// flushed.
+///
+/// Memory is taken for the segments and their places alone. Relocated bytes are offered as they stand, and zeros and program headers are
+/// made as they go out.
+pub fn write_exec<W: Write>(
+    alloc: Global,
+    linked: &Linked<'_, '_>,
+    writer: &mut W,
+) -> Result<(), ExecFault>
+    requires { IsReadyLink linked.now }
+    ensures { IsExecWritten linked.now (W.contents writer.old) (W.contents writer.new) result }
+{
+    let placed = PlacedExec::new(alloc, linked)?;
+    placed.is_placed();
+    match send_exec(writer, &placed) {
+        Ok(_) => Ok(()),
+        Err(fault) => Err(ExecFault::Io {
+            written: fault.written,
+        }),
+    }
+}

@@ -1,0 +1,94 @@
+//! Where the bytes of the segments stand in an executable: each at the least place that its alignment allows.
+ghost use Rattle.std.specs.Prelude.{◌≡◌, ◌<◌, ◌≤◌, IfErr, IfOk, length, map as map_list};
+ghost use Rattle.elf_extent.specs.Place.{EndsFit, Least};
+ghost use Rattle.elf_field.specs.Abi.{PN_XNUM};
+ghost use Rattle.elf_image_rules.specs.HeaderRules.{MAX_LEN};
+ghost use Rattle.elf_exec.specs.ExecLaid.{bytes_from, load_part, load_parts};
+ghost use Rattle.elf_exec.specs.ExecWriting.{IsReadyLink};
+ghost use Rattle.elf_exec.specs.Loads.{loads as all_loads};
+ghost use Rattle.elf_exec.specs.PlacedExec.{IsPartsFault, IsPlacingFault, exec_end, file_end};
+
+use crate::fault::ExecFault;
+use crate::load::{Load, file_size};
+use elf_extent::{PlaceFault, place};
+use elf_field::abi::*;
+use elf_image_rules::MAX_LEN;
+use elf_link_relocate::Linked;
+use std::alloc::{AllocError, Global};
+
+/// The least places of the bytes of these segments, where the file that they make is not too long.
+pub(crate) fn place_loads(
+    alloc: Global,
+    linked: &Linked<'_, '_>,
+    loads: &[Load],
+) -> Result<Vec<u64>, ExecFault>
+    requires ready { IsReadyLink linked.now }
+    requires are { loads.now ≡ all_loads linked.now.map }
+    requires few { length loads.now < PN_XNUM }
+    ensures least { IfOk result (λ places. Least (load_parts linked.now.map) (bytes_from linked.now.map) places.items) }
+    ensures short { IfOk result (λ places. exec_end linked.now.map places.items ≤ MAX_LEN) }
+    ensures err { IfErr result (IsPlacingFault linked.now) }
+{
+    let parts = load_parts(alloc, linked.map().page(), loads)?;
+    let from = EHDR_SIZE + PHDR_SIZE * loads.len() as u64;
+    place_parts(alloc, &parts, from)
+}
+
+/// The bytes of each segment in the file, as parts (size, alignment).
+fn load_parts(alloc: Global, page: u64, loads: &[Load]) -> Result<Vec<(u64, u64)>, AllocError>
+    ensures { IfOk result (λ parts. parts.items ≡ map_list (load_part page) loads.now) }
+{
+    let mut parts = Vec::new(alloc);
+    for load in loads {
+        parts.push(load_part(page, *load))?;
+    }
+    Ok(parts)
+}
+
+fn load_part(page: u64, load: Load) -> (u64, u64)
+    ensures { result ≡ load_part page load }
+{
+    (file_size(load), if load.no_bits { 1 } else { page })
+}
+
+/// The least places of parts behind `from` bytes, where they end in time.
+fn place_parts(alloc: Global, parts: &[(u64, u64)], from: u64) -> Result<Vec<u64>, ExecFault>
+    requires { from ≤ MAX_LEN }
+    ensures least { IfOk result (λ places. Least parts.now from places.items) }
+    ensures short { IfOk result (λ places. file_end parts.now from places.items ≤ MAX_LEN) }
+    ensures err { IfErr result (IsPartsFault parts.now from) }
+{
+    match place(alloc, parts, from) {
+        Ok(places) => if_short(parts, from, places),
+        Err(PlaceFault::Overflow { .. }) => Err(ExecFault::TooLong),
+        Err(PlaceFault::OutOfMemory) => Err(ExecFault::OutOfMemory),
+    }
+}
+
+/// These places, where the parts end in time.
+fn if_short(parts: &[(u64, u64)], from: u64, places: Vec<u64>) -> Result<Vec<u64>, ExecFault>
+    requires from { from ≤ MAX_LEN }
+    requires least { Least parts.now from places.items }
+    requires fit { EndsFit parts.now places.items (length parts.now) }
+    ensures least { IfOk result (λ places. Least parts.now from places.items) }
+    ensures short { IfOk result (λ places. file_end parts.now from places.items ≤ MAX_LEN) }
+    ensures err { IfErr result (IsPartsFault parts.now from) }
+{
+    if file_end(parts, from, &places) > MAX_LEN {
+        return Err(ExecFault::TooLong);
+    }
+    Ok(places)
+}
+
+/// Where the last of the parts ends; without parts, where the first might begin.
+fn file_end(parts: &[(u64, u64)], from: u64, places: &[u64]) -> u64
+    requires many { length places.now ≡ length parts.now }
+    requires fit { EndsFit parts.now places.now (length parts.now) }
+    ensures { result ≡ file_end parts.now from places.now }
+{
+    let count = parts.len();
+    if count == 0 {
+        return from;
+    }
+    places[count - 1] + parts[count - 1].0
+}
