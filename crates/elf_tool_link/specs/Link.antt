@@ -1,5 +1,5 @@
 -- What `link` makes of files: the executable of their link.
-use Rattle.std.specs.Prelude.{◌≡◌, ◌⊎◌, ◌≤◌, ℕ, List, [], length, None, Option, Some, Result}
+use Rattle.std.specs.Prelude.{◌≡◌, ◌⊎◌, ◌<◌, ◌≤◌, ℕ, List, [], length, None, Option, Some, Result}
 use Rattle.elf_image_rules.specs.HeaderRules.{MAX_LEN}
 use Rattle.elf_object_type.specs.Object.{ObjectValue}
 use Rattle.elf_link_files.specs.declared.options.Options.{Options}
@@ -11,6 +11,8 @@ use Rattle.elf_link_relocate.specs.Linked.{IsLinked, LinkedValue}
 use Rattle.elf_link_relocate.specs.RelocationRules.{applied_entry_rules}
 use Rattle.elf_link_field.specs.declared.rule.RelocRule.{RelocRule}
 use Rattle.elf_exec.specs.ExecWriting.{IsExec, IsTooLong}
+use Rattle.elf_exec.specs.Loads.{loads}
+use Rattle.elf_field.specs.Abi.{PN_XNUM}
 use Rattle.elf_tool_objects.specs.ObjectFiles.{AreObjectFiles, IsFirstRefused}
 use Rattle.elf_tool_text.specs.Engine.{IsSaid}
 use Rattle.elf_tool_text.specs.Inputs.{AreRead, FailsReading}
@@ -21,7 +23,7 @@ use Rattle.elf_tool_text.specs.declared.fault.Verdict.TheVariants.{Done, Refused
 
 -- of relocated bytes: their executable, or that it has too many segments or is too long for a file
 abbrev pub ExecSays : LinkedValue → Verdict → List ℕ → Type 0
-ExecSays l Done text = IsExec l text × (length text ≤ MAX_LEN)
+ExecSays l Done text = IsExec l text × (length (loads l.map) < PN_XNUM) × (length text ≤ MAX_LEN)
 ExecSays l (Refused (File file rule at)) text = ⊥
 ExecSays l (Refused (Link rule file index entry)) text = ⊥
 ExecSays l (Refused TooLong) text = IsTooLong l × (text ≡ [])
