@@ -1,10 +1,10 @@
 -- The segments of an executable give each address the byte that memory has there, and no other address any.
 use Rattle.std.proofs.Common.{◌≡◌, ◌<◌, ◌≤◌, ◌+◌, ◌-◌, ℕ, Bool, true, false, List, [], length, get_or, refl, sym, ap, subst, ◌∙◌, inl, inr, arith}
-use Rattle.std.specs.Prelude.{◌⊎◌, if◌then◌else◌, nat_lt, slice_index}
+use Rattle.std.specs.Prelude.{◌⊎◌, if◌then◌else◌, nat_lt, slice_index, ◌↔◌, MatchOption, None, Option, Some}
 use Rattle.std.proofs.lemmas.Bool.{le-ltb, lt-ltb}
 use Rattle.elf_field.specs.declared.phdr.Phdr.{Phdr}
 use Rattle.elf_image_rules.specs.Tables.{program_header_of}
-use Rattle.elf_image_type.specs.Loads.{HasAddress, Loads, loaded}
+use Rattle.elf_image_type.specs.Loads.{HasAddress, Loads, LoadsFirst, loaded}
 use Rattle.elf_object_type.specs.Object.{BodyValue, ObjectValue, bits, group, no_bits, relocs}
 use Rattle.elf_link_field.specs.declared.rule.RelocRule.{RelocRule}
 use Rattle.elf_link_files.specs.Files.{section_in}
@@ -161,3 +161,10 @@ module _ (fs : List ObjectValue) (m : LinkMapValue) (rules : List RelocRule) (li
       let long = segments_long fs m rules link b file in
       let (j, lt, has) = segment_there x (memory_in fs m rules link.map link.relocated x w memory) in
       (j, omega arith, has, one_byte fs m rules link.map link.relocated x w (loaded b (program_header_of segments j) x) memory (segment_memory j x lt has))
+
+-- ---- what is found at an address, where the segments give what memory has there
+
+pub found_memory : (b : List ℕ) (gs : List Phdr) (x : ℕ) (found : Option ℕ) (M : ℕ → Type 0) → ((w : ℕ) → Loads b gs x w ↔ M w) →
+    LoadsFirst b gs x found → MatchOption found ((w : ℕ) → ¬ M w) M
+found_memory b gs x None M both none = λ w memory. (let (j, lt, has, is) = (both w).1 memory in none j lt has)
+found_memory b gs x (Some w) M both (j, (lt, has, before), is) = (both w).0 (j, lt, has, is)

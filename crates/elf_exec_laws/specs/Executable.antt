@@ -1,11 +1,11 @@
 -- What the executable of a link is, as a file: an image whose loadable segments give each address the byte that memory has there.
 -- (gABI chapter 4, ELF Header; chapter 5, Program Header.)
-use Rattle.std.specs.Prelude.{◌≡◌, ◌↔◌, ◌<◌, ◌≤◌, ◌^◌, ℕ, None, List, length}
+use Rattle.std.specs.Prelude.{◌≡◌, ◌↔◌, ◌<◌, ◌≤◌, ◌^◌, ℕ, MatchOption, Option, None, List, length}
 use Rattle.elf_field.specs.Abi.{PN_XNUM}
 use Rattle.elf_image_rules.specs.HeaderRules.{MAX_LEN}
 use Rattle.elf_image_rules.specs.ImageRules.{IsFault}
 use Rattle.elf_image_outline.specs.Image.{ImageValue, IsImage, Stands}
-use Rattle.elf_image_type.specs.Loads.{Loads}
+use Rattle.elf_image_type.specs.Loads.{Loads, LoadsFirst}
 use Rattle.elf_object_type.specs.Object.{ObjectValue}
 use Rattle.elf_object_type.specs.Widths.{ObjectFits}
 use Rattle.elf_link_field.specs.declared.rule.RelocRule.{RelocRule}
@@ -53,11 +53,13 @@ pub record IsExecFile (fs : List ObjectValue) (m : LinkMapValue) (rules : List R
   pub few : length (loads m) < PN_XNUM
   pub short : length b ≤ MAX_LEN
 
--- b is an image: it enters at the map's entry, and its loadable segments give an address a byte exactly where memory has that byte there;
--- and no other list of bytes is the executable of this link
+-- b is an image: it enters at the map's entry, and its loadable segments give an address a byte exactly where memory has that byte there, so
+-- that what is found at an address by the first of them is memory's byte; and no other list of bytes is the executable of this link
 pub record IsExecutable (fs : List ObjectValue) (m : LinkMapValue) (rules : List RelocRule) (b : List ℕ) : Type 0 where
   pub accepted : IsFault b None
   pub image : (v : ImageValue) × IsImage v b
   pub entry : (v : ImageValue) → Stands v b → v.header.e_entry ≡ m.entry
   pub memory : (v : ImageValue) → Stands v b → (x w : ℕ) → Loads b v.segments x w ↔ IsMemory fs m rules x w
+  pub load : (v : ImageValue) → Stands v b → (x : ℕ) (found : Option ℕ) → LoadsFirst b v.segments x found →
+      MatchOption found ((w : ℕ) → ¬ IsMemory fs m rules x w) (IsMemory fs m rules x)
   pub one : (c : List ℕ) → ExecLaid fs m rules c → c ≡ b
