@@ -10,10 +10,28 @@ ghost use Rattle.elf_object_type.specs.Object.{ObjectValue};
 ghost use Rattle.elf_exec.specs.ExecLaid.{ExecLaid};
 ghost use Rattle.elf_exec.specs.ExecWriting.{IsExec, IsReadyLink};
 
-/// The map of some objects and the relocated bytes that `relocate` answered are ready to be written.
-pub fn ready_of()
-    ensures { (fs : List ObjectValue) (m : LinkMapValue) (rules : List RelocRule) (l : LinkedValue) → IsMapOfSome fs m → IsLinked fs m rules l → IsReadyLink l }
-{}
+use elf_link_field::RelocRule;
+use elf_link_map::LinkMap;
+use elf_link_relocate::Linked;
+use elf_object_type::Object;
+
+/// Relocated bytes that `relocate` answered of these, where the map is one that `map` answered, are ready to be written, as
+/// [`write_exec`](crate::write_exec) asks.
+pub fn is_ready(
+    linked: &Linked<'_, '_>,
+    objects: &[Object<'_>],
+    map: &LinkMap<'_>,
+    rules: &[RelocRule],
+)
+    requires map { IsMapOfSome objects.now map.now }
+    requires linked { IsLinked objects.now map.now rules.now linked.now }
+    ensures { IsReadyLink linked.now }
+{
+    let _ = linked;
+    let _ = objects;
+    let _ = map;
+    let _ = rules;
+}
 
 /// Relocated bytes have an executable, however long it is.
 pub fn some_exec()

@@ -1,9 +1,12 @@
 //! The executable of a link (gABI chapter 4, ELF Header; chapter 5, Program Header): one file whose segments of type `PT_LOAD` are the
 //! memory of the link. Which segments there are, and where their bytes stand, is this project's profile.
 //!
-//! [`write_exec`] writes it for relocated bytes. A link without files is a header alone:
+//! [`write_exec`] writes it for relocated bytes. That of no files is a header alone:
 //!
 //! ```
+//! let map = map(alloc, &objects, &options, hasher)?;
+//! let linked = relocate(alloc, &map, &objects, &rules)?;
+//! is_ready(&linked, &objects, &map, &rules);
 //! let mut text = Vec::new(alloc);
 //! write_exec(alloc, &linked, &mut text)?;
 //! assert_eq!(text.len(), 64);
@@ -24,5 +27,5 @@ mod program_headers;
 
 pub use exec_writing::write_exec;
 pub use fault::ExecFault;
-pub use laws::{one_exec, ready_of, some_exec};
+pub use laws::{is_ready, one_exec, some_exec};
 pub use load::Load;

@@ -2,7 +2,7 @@
 ghost use Rattle.std.specs.Prelude.{◌≡◌, map as map_list};
 ghost use Rattle.elf_tool_text.specs.Engine.{IsSaid};
 ghost use Rattle.elf_tool_link.specs.Link.{ExecSays, FilesLink, IsLinkCall, MapLinks, ObjectsLink};
-ghost use Rattle.elf_exec.specs.ExecWriting.{IsReady};
+ghost use Rattle.elf_exec.specs.ExecWriting.{IsReadyLink};
 ghost use Rattle.elf_link_map.specs.BindingNumbers.{AreBindingNumbers};
 ghost use Rattle.elf_link_relocate.specs.MapFacts.{IsMapOfSome};
 
@@ -113,7 +113,7 @@ fn link_relocated<W: Write>(
     linked: &Linked<'_, '_>,
     writer: &mut W,
 ) -> Result<Verdict, ToolFault>
-    requires { IsReady linked.now }
+    requires { IsReadyLink linked.now }
     ensures { IsSaid (ExecSays linked.now) (W.contents writer.old) (W.contents writer.new) result }
 {
     match write_exec(alloc, linked, writer) {

@@ -65,12 +65,18 @@ fn each_call_fails_alone(rt: HostRuntime) -> Result<(), Fail> {
     Ok(())
 }
 
+/// The whole file is out, a byte a call.
+fn assert_whole(rt: &impl Abort, found: (Result<Result<(), ExecFault>, LinkFault>, Shelf)) {
+    let (ended, writer) = found;
+    let file = call_file(Order::Little);
+    assert_eq!(rt;
+        (ended, writer.bytes.as_slice(), writer.calls),
+        (Ok(Ok(())), file.as_slice(), LEN)
+    );
+}
+
 #[test]
 fn a_byte_a_call_is_the_whole_file(rt: HostRuntime) -> Result<(), Fail> {
-    let (ended, writer) = written(rt.alloc(), failing_at(0, 1, None))?;
-    assert_eq!(rt;
-        (ended, writer.bytes, writer.calls),
-        (Ok(Ok(())), call_file(Order::Little), LEN)
-    );
+    assert_whole(&rt, written(rt.alloc(), failing_at(0, 1, None))?);
     Ok(())
 }

@@ -2,7 +2,7 @@
 ghost use Rattle.std.specs.Prelude.{IfOk};
 ghost use Rattle.elf_link_relocate.specs.MapFacts.{IsMapOfSome};
 
-use elf_exec::{ExecFault, ready_of, write_exec};
+use elf_exec::{ExecFault, is_ready, write_exec};
 use elf_field::Order;
 use elf_link_field::{Form, Range, RelocRule, Width};
 use elf_link_map::{LinkFault, LinkMap, Options, map};
@@ -98,21 +98,6 @@ fn mapped<'a>(
     )
 }
 
-/// Writes the executable of these objects, whose link map it is.
-fn write_relocated<W: Write>(
-    alloc: Global,
-    objects: &[Object<'_>],
-    map: &LinkMap<'_>,
-    writer: &mut W,
-) -> Result<Result<(), ExecFault>, LinkFault>
-    requires { IsMapOfSome objects.now map.now }
-{
-    ready_of();
-    let rules = [CALL];
-    let linked = relocate(alloc, map, objects, &rules)?;
-    Ok(write_exec(alloc, &linked, writer))
-}
-
 /// Writes the executable of these objects.
 pub(crate) fn write_linked<W: Write>(
     alloc: Global,
@@ -121,5 +106,8 @@ pub(crate) fn write_linked<W: Write>(
     writer: &mut W,
 ) -> Result<Result<(), ExecFault>, LinkFault> {
     let map = mapped(alloc, objects, options)?;
-    write_relocated(alloc, objects, &map, writer)
+    let rules = [CALL];
+    let linked = relocate(alloc, &map, objects, &rules)?;
+    is_ready(&linked, objects, &map, &rules);
+    Ok(write_exec(alloc, &linked, writer))
 }

@@ -12,6 +12,8 @@ mod known_files;
 #[cfg(test)]
 mod lines;
 #[cfg(test)]
+mod link_calls;
+#[cfg(test)]
 mod many_sections;
 #[cfg(test)]
 mod many_segments;

@@ -1,6 +1,10 @@
 use Rattle.std.proofs.Common.{[], inr, refl}
 use Rattle.std.proofs.KnownBytes.{Appends-nil}
+use Rattle.elf_exec.proofs.Public.{ready_of}
 use Rattle.elf_tool_link.proofs.engine.link_map.Goals as goal
+
+pub link_relocated-requires : goal.link_relocated-requires
+link_relocated-requires g c = ready_of _ _ _ _ c.requires.map c.in-Ok.ensures.linked
 
 pub returns-in-Err-Rule : goal.returns-in-Err-Rule
 returns-in-Err-Rule g c =
