@@ -1,4 +1,4 @@
--- The lemmas of the laws. No other crate cites them.
+-- `Public` is for the proofs of the crates above, the others are for those of this one.
 pub mod LaidObjects
 pub mod WrittenSections
 pub mod KeptFront
@@ -24,3 +24,5 @@ pub mod WrittenSymbolValues
 pub mod WrittenDenotes
 pub mod WrittenReferenceRules
 pub mod WrittenRules
+pub mod SoundObject
+pub mod Public

@@ -6,4 +6,4 @@ mod layout_laws;
 mod written_laws;
 
 pub use layout_laws::{laid_objects, one_layout};
-pub use written_laws::{denoted_object, written_object};
+pub use written_laws::{denoted_object, sound_object, written_object};

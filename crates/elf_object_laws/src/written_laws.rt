@@ -6,6 +6,8 @@ ghost use Rattle.elf_object_reader.specs.Denotes.{Denotes};
 ghost use Rattle.elf_object_reader.specs.FileRules.{file_rules};
 ghost use Rattle.elf_object_writer.specs.Laid.{Laid};
 ghost use Rattle.elf_object_type.specs.Object.{ObjectValue};
+ghost use Rattle.elf_object_type.specs.ObjectRules.{IsObject};
+ghost use Rattle.elf_object_type.specs.Widths.{ObjectFits};
 ghost use Rattle.elf_object_laws.specs.WrittenObject.{IsWrittenAs, written_sections};
 ghost use Rattle.elf_image_rules.specs.HeaderRules.{MAX_LEN};
 ghost use Rattle.elf_image_rules.specs.ImageRules.{IsFault};
@@ -29,4 +31,11 @@ pub fn written_object()
 pub fn denoted_object()
     ensures { (v : ImageValue) (b : List ℕ) (o : ObjectValue) (c : List ℕ) → IsImage v b → FirstIn (file_rules (sections_of v)) None →
         Denotes (sections_of v) o → Laid o c → length c ≤ MAX_LEN → IsWrittenAs o c }
+{}
+
+/// The object that a file denotes is one of the code's, where the file breaks no rule: it breaks none of the object rules, and all that it
+/// has fits a file.
+pub fn sound_object()
+    ensures { (v : ImageValue) (b : List ℕ) (o : ObjectValue) → IsImage v b → FirstIn (file_rules (sections_of v)) None →
+        Denotes (sections_of v) o → IsObject o × ObjectFits o }
 {}

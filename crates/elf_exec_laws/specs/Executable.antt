@@ -1,0 +1,65 @@
+-- What the executable of a link is, as a file: an image whose loadable segments give each address the byte that memory has there.
+-- (gABI chapter 4, ELF Header; chapter 5, Program Header.)
+use Rattle.std.specs.Prelude.{◌≡◌, ◌↔◌, ◌<◌, ◌≤◌, ◌^◌, ℕ, MatchOption, Option, None, List, length}
+use Rattle.elf_field.specs.Abi.{PN_XNUM}
+use Rattle.elf_image_rules.specs.HeaderRules.{MAX_LEN}
+use Rattle.elf_image_rules.specs.ImageRules.{IsFault}
+use Rattle.elf_image_outline.specs.Image.{ImageValue, IsImage, Stands}
+use Rattle.elf_image_type.specs.Loads.{Loads, LoadsFirst}
+use Rattle.elf_object_type.specs.Object.{ObjectValue}
+use Rattle.elf_object_type.specs.Widths.{ObjectFits}
+use Rattle.elf_link_field.specs.declared.rule.RelocRule.{RelocRule}
+use Rattle.elf_link_files.specs.declared.options.Options.{Options}
+use Rattle.elf_link_files.specs.Files.{object_at}
+use Rattle.elf_link_files.specs.Rows.{FirstAmong}
+use Rattle.elf_link_map.specs.LinkFaults.{FirstOfLink}
+use Rattle.elf_link_map.specs.LinkMap.{IsLinkMap, LinkMapValue}
+use Rattle.elf_link_map.specs.Standing.{AreObjects}
+use Rattle.elf_link_relocate.specs.MapFacts.{IsMapOfSome}
+use Rattle.elf_link_relocate.specs.Memory.{IsMemory}
+use Rattle.elf_link_relocate.specs.RelocationRules.{applied_entry_rules}
+use Rattle.elf_exec.specs.ExecLaid.{ExecLaid}
+use Rattle.elf_exec.specs.Loads.{loads}
+use Rattle.elf_tool_objects.specs.ObjectFiles.{AreObjectFiles}
+
+-- ---- the link
+
+-- the numbers of each object fit the fields of a file, and its names and bits are bytes
+abbrev pub ObjectsFit : List ObjectValue → Type 0
+ObjectsFit fs = (f : ℕ) → f < length fs → ObjectFits (object_at fs f)
+
+-- no rule of the link of these objects stands, of which m is the map, and none of their relocation; the objects keep their own rules, and
+-- they and the page are of numbers that the code's types hold
+pub record IsSoundLink (fs : List ObjectValue) (m : LinkMapValue) (rules : List RelocRule) : Type 0 where
+  pub objects : AreObjects fs
+  pub widths : ObjectsFit fs
+  pub map : IsMapOfSome fs m
+  pub page : m.page < 2 ^ 64
+  pub relocated : FirstAmong (applied_entry_rules fs m rules) None
+
+-- the same of files: they are images that denote these objects
+pub record IsSoundFileLink (opt : Options) (rules : List RelocRule) (files : List (List ℕ)) (fs : List ObjectValue) (m : LinkMapValue) : Type 0 where
+  pub objects : AreObjectFiles files fs
+  pub linked : FirstOfLink opt fs None
+  pub map : IsLinkMap opt fs m
+  pub page : opt.page < 2 ^ 64
+  pub relocated : FirstAmong (applied_entry_rules fs m rules) None
+
+-- ---- its executable
+
+-- b is the executable of a link, and neither has it more segments than e_phnum can tell, nor is it longer than the longest file
+pub record IsExecFile (fs : List ObjectValue) (m : LinkMapValue) (rules : List RelocRule) (b : List ℕ) : Type 0 where
+  pub laid : ExecLaid fs m rules b
+  pub few : length (loads m) < PN_XNUM
+  pub short : length b ≤ MAX_LEN
+
+-- b is an image: it enters at the map's entry, and its loadable segments give an address a byte exactly where memory has that byte there, so
+-- that what is found at an address by the first of them is memory's byte; and no other list of bytes is the executable of this link
+pub record IsExecutable (fs : List ObjectValue) (m : LinkMapValue) (rules : List RelocRule) (b : List ℕ) : Type 0 where
+  pub accepted : IsFault b None
+  pub image : (v : ImageValue) × IsImage v b
+  pub entry : (v : ImageValue) → Stands v b → v.header.e_entry ≡ m.entry
+  pub memory : (v : ImageValue) → Stands v b → (x w : ℕ) → Loads b v.segments x w ↔ IsMemory fs m rules x w
+  pub load : (v : ImageValue) → Stands v b → (x : ℕ) (found : Option ℕ) → LoadsFirst b v.segments x found →
+      MatchOption found ((w : ℕ) → ¬ IsMemory fs m rules x w) (IsMemory fs m rules x)
+  pub one : (c : List ℕ) → ExecLaid fs m rules c → c ≡ b
