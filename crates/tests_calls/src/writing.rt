@@ -79,11 +79,7 @@ pub fn object<W: Write>(alloc: Global, bytes: &[u8], out: &mut W) -> Result<(), 
 }
 
 /// Copies the image of a source.
-pub fn copy<S: Source, W: Write>(
-    alloc: Global,
-    source: &mut S,
-    out: &mut W,
-) -> Result<(), Stopped>
+pub fn copy<S: Source, W: Write>(alloc: Global, source: &mut S, out: &mut W) -> Result<(), Stopped>
     requires { (b : List ℕ) → S.content source.old ≡ Some b → IsBytes b }
 {
     let outline = scan(alloc, source)?;

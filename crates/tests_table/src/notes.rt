@@ -39,13 +39,17 @@ fn note() -> [u8; 216] {
 }
 
 /// The first two notes of a file's section 1. They outlive the image.
-fn notes_told(alloc: Global, file: &[u8]) -> Result<[Option<Note<'_>>; 2], Fault> {
+fn notes_told<'a>(
+    alloc: Global,
+    file: &'a [u8],
+) -> Result<(Option<Note<'a>>, Option<Note<'a>>), Fault> {
     let image = parse(alloc, file)?;
     if image.section_count() < 2 {
-        return Ok([None, None]);
+        return Ok((None, None));
     }
     let mut notes = Notes::new(&image, 1)?.iter();
-    Ok([notes.next(), notes.next()])
+    let first = notes.next();
+    Ok((first, notes.next()))
 }
 
 #[test]
@@ -57,7 +61,7 @@ fn tells_each_note_and_notes_outlive_the_image(rt: HostRuntime) {
         name: b"GNU",
         desc: b"\xaa\xbb\xcc",
     };
-    assert_eq!(rt; told, Ok([Some(note), None]));
+    assert_eq!(rt; told, Ok((Some(note), None)));
 }
 
 const ROWS: [Row; 6] = [
