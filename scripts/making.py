@@ -104,6 +104,29 @@ def an_object_file(chance, order=None):
     return bytes(file)
 
 
+def full_object():
+    """The file of an object with a section of each kind: a group and its member, bytes, a section without bits, notes, relocations with
+    addends and without, and an index table; and symbols that are local, global, weak, common and undefined."""
+    def section(name, type, body, flags=0, align=1, entsize=0, info=0):
+        return Value(name=name, type=type, flags=flags, addr=0, align=align, entsize=entsize, link=None, info=info, body=body)
+
+    def symbol(name, info, section, reserved=UNDEF, value=0, size=0):
+        return Value(name=name, info=info, other=0, value=value, size=size, section=section, reserved=reserved)
+
+    symbols = [symbol(b"", 3, 1), symbol(b"local", 1, 3, value=2, size=4), symbol(b"f", 0x22, 1, size=6), symbol(b"main", 0x12, 2),
+               symbol(b"common", 0x11, None, COMMON, 8, 16), symbol(b"zero", 0x20, None), symbol(b"nine", 0x10, None, ABS, 9)]
+    sections = [section(b".group", GROUP, (1, [1, 5]), 0, 4, 4, 3), section(b".text.f", 1, b"\xe8\0\0\0\0\xc3", 0x206, 16),
+                section(b".text", 1, bytes(33), 6, 4), section(b".data", 1, bytes(range(24)), 3, 8), section(b".bss", NOBITS, 100, 3, 32),
+                section(b".rela.text.f", RELA, [(1, 4, 2, 2 ** 64 - 4)], 0x240, 8, 24, 1),
+                section(b".rel.data", REL, [(0, 2, 1, 0), (8, 5, 1, 0)], 0x40, 8, 16, 3),
+                section(b".note", NOTE, words("little", 4, 5, 1) + b"own\0" + bytes(8), 2, 4),
+                section(b".symtab_shndx", SYMTAB_SHNDX, bytes(4 + 4 * len(symbols)), 0, 4, 4)]
+    file = bytearray(laid(Value(order="little", osabi=0, abi=0, machine=62, flags=0, sections=sections, symbols=symbols)))
+    at = File(file).section(len(sections)).at("sh_link")
+    file[at:at + 4] = words("little", len(sections) + 1)
+    return bytes(file)
+
+
 def words(order, *numbers):
     return b"".join(it.to_bytes(4, order) for it in numbers)
 
@@ -273,8 +296,8 @@ def named_fields(file):
 
 
 def changed_field(chance, file, of_rule):
-    """A sound file with one field changed of which a rule speaks: to a number that stands at a border, to that of another field of its name,
-    or to a small one; None where the file has no such field."""
+    """A sound file with one field changed of which a rule speaks: to a number at a border, to that of another field of its name, or to a
+    small one; None where the file has no such field."""
     spoken, _, fixed = SPOKEN_OF[of_rule].partition("=")
     found = [it for it in named_fields(file) if it[0] in spoken.split(", ")]
     if not found:

@@ -9,9 +9,10 @@ use elf_image_type::{Image, parse};
 use elf_object_reader::object_of;
 use elf_object_type::Object;
 use elf_object_writer::{LayoutFault, ObjectWriteFault, lay_out, write_object};
+use elf_table_all::Tables;
 use elf_table_hash::Hash;
 use elf_table_lists::Group;
-use std::alloc::Global;
+use std::alloc::{AllocError, Global};
 use std::io::Write;
 
 /// The calls on a file of these bytes.
@@ -30,6 +31,10 @@ fn on_image<W: Write>(alloc: Global, image: &Image<'_>, out: &mut W) {
     say(out, "parse", Said::Done(image.parts().len() as u64));
     for i in 0..image.section_count() {
         on_section(alloc, image, i, out);
+    }
+    match Tables::new(alloc, image) {
+        Ok(_) => say(out, "Tables::new", Said::Done(0)),
+        Err(AllocError) => say(out, "Tables::new", Said::Memory),
     }
     match object_of(alloc, image) {
         Ok(object) => on_object(alloc, &object, out),

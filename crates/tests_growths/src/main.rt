@@ -6,6 +6,7 @@
 mod extents;
 mod images;
 mod links;
+mod objects;
 mod said;
 mod words;
 
@@ -21,6 +22,7 @@ fn main(rt: HostRuntime) -> io::Result<ExitCode> {
     let mut out = rt.stdout();
     extents::calls(alloc, &mut out);
     words::calls(alloc, &mut out);
+    objects::calls(alloc, &mut out);
     let words: Vec<String> = env::args(&rt)?.collect(alloc)?;
     let [_, rules, names @ ..] = words.as_slice() else {
         return Ok(ExitCode::from(2));

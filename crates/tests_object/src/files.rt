@@ -5,7 +5,7 @@ use elf_field::abi::*;
 use elf_image_stream::Fault;
 use elf_image_type::parse;
 use elf_object_reader::{object_of, rules};
-use elf_object_type::{Body, Place, Relocation, Section, Symbol};
+use elf_object_type::{Body, Object, Place, Relocation, Section, Symbol};
 use std::alloc::Global;
 use tests_files::{Field, set, set_header};
 
@@ -84,9 +84,14 @@ fn object(order: Order) -> [u8; 680] {
     file
 }
 
-fn verdict_of(alloc: Global, file: &[u8]) -> Result<(), Fault> {
+/// The object of a file. It outlives the image that it is read from.
+fn object_read(alloc: Global, file: &[u8]) -> Result<Object<'_>, Fault> {
     let image = parse(alloc, file)?;
-    object_of(alloc, &image)?;
+    object_of(alloc, &image)
+}
+
+fn verdict_of(alloc: Global, file: &[u8]) -> Result<(), Fault> {
+    object_read(alloc, file)?;
     Ok(())
 }
 
@@ -135,8 +140,7 @@ fn are_the_sections(sections: &[Section<'_>]) -> bool {
 
 /// The machine of the object of this file, and whether it has these sections.
 fn group_told(alloc: Global, file: &[u8]) -> Result<(u16, bool), Fault> {
-    let image = parse(alloc, file)?;
-    let object = object_of(alloc, &image)?;
+    let object = object_read(alloc, file)?;
     Ok((object.machine(), are_the_sections(object.sections())))
 }
 
@@ -148,8 +152,7 @@ fn tells_a_group_and_the_relocations_of_its_member(rt: HostRuntime) {
 
 /// Whether it has the one symbol behind symbol 0.
 fn has_the_symbol(alloc: Global, file: &[u8]) -> Result<bool, Fault> {
-    let image = parse(alloc, file)?;
-    let object = object_of(alloc, &image)?;
+    let object = object_read(alloc, file)?;
     let symbol = Symbol {
         name: b"f",
         info: 0x12,

@@ -4,7 +4,7 @@ use elf_field::abi::*;
 use elf_field::{Dyn, Order};
 use elf_image_stream::Fault;
 use elf_image_type::parse;
-use elf_table_all::{Dynamic, rules};
+use elf_table_all::{Dynamic, Strings, rules};
 use std::alloc::Global;
 use tests_files::{Field, set, set_header};
 
@@ -57,6 +57,27 @@ fn file_names_one_library(alloc: Global, file: &[u8]) -> Result<bool, Fault> {
 fn tells_the_entries_before_the_end(rt: HostRuntime) {
     let names = file_names_one_library(rt.alloc(), &dynamic());
     assert_eq!(rt; names, Ok(true));
+}
+
+/// The library that the first entry of a file's section 1 names. It outlives the image.
+fn library_named(alloc: Global, file: &[u8]) -> Result<Option<&[u8]>, Fault> {
+    let image = parse(alloc, file)?;
+    if image.section_count() < 3 {
+        return Ok(None);
+    }
+    let dynamic = Dynamic::new(&image, 1)?;
+    let strings = Strings::new(&image, 2)?;
+    match dynamic.iter().next() {
+        Some(entry) => Ok(strings.get(entry.d_un)),
+        None => Ok(None),
+    }
+}
+
+#[test]
+fn the_name_of_a_library_outlives_the_image(rt: HostRuntime) {
+    let file = dynamic();
+    let name = library_named(rt.alloc(), &file);
+    assert_eq!(rt; name, Ok(Some(b"libc".as_slice())));
 }
 
 const ROWS: [Row; 8] = [

@@ -4,7 +4,7 @@ use elf_field::Order;
 use elf_field::abi::*;
 use elf_image_stream::Fault;
 use elf_image_type::parse;
-use elf_table_all::{Group, Tables, rules};
+use elf_table_all::{Group, Symbols, Tables, rules};
 use std::alloc::Global;
 use tests_files::{Field, set, set_header};
 
@@ -83,6 +83,28 @@ fn file_has_one_member(alloc: Global, file: &[u8]) -> Result<bool, Fault> {
 fn tells_a_group_and_its_members(rt: HostRuntime) {
     let has = file_has_one_member(rt.alloc(), &group());
     assert_eq!(rt; has, Ok(true));
+}
+
+/// The name of the group in a file's section 1, which is that of its signature. It outlives the image.
+fn group_name(alloc: Global, file: &[u8]) -> Result<Option<&[u8]>, Fault> {
+    let image = parse(alloc, file)?;
+    if image.section_count() < 4 {
+        return Ok(None);
+    }
+    let group = Group::new(alloc, &image, 1)?;
+    let symbols = Symbols::new(&image, 3)?;
+    let signature = group.signature() as usize;
+    if signature >= symbols.len() {
+        return Ok(None);
+    }
+    Ok(Some(symbols.entry(signature).name))
+}
+
+#[test]
+fn the_name_of_a_group_outlives_the_image(rt: HostRuntime) {
+    let file = group();
+    let name = group_name(rt.alloc(), &file);
+    assert_eq!(rt; name, Ok(Some(b"f".as_slice())));
 }
 
 /// Whether section 1 of the file is refused when all tables are judged.

@@ -38,31 +38,30 @@ fn note() -> [u8; 216] {
     file
 }
 
-/// Whether they are the one note.
-fn are_one_note(notes: &Notes<'_>) -> bool {
+/// The first two notes of a file's section 1. They outlive the image.
+fn notes_told<'a>(
+    alloc: Global,
+    file: &'a [u8],
+) -> Result<(Option<Note<'a>>, Option<Note<'a>>), Fault> {
+    let image = parse(alloc, file)?;
+    if image.section_count() < 2 {
+        return Ok((None, None));
+    }
+    let mut notes = Notes::new(&image, 1)?.iter();
+    let first = notes.next();
+    Ok((first, notes.next()))
+}
+
+#[test]
+fn tells_each_note_and_notes_outlive_the_image(rt: HostRuntime) {
+    let file = note();
+    let told = notes_told(rt.alloc(), &file);
     let note = Note {
         note_type: 1,
         name: b"GNU",
         desc: b"\xaa\xbb\xcc",
     };
-    let mut iter = notes.iter();
-    [iter.next(), iter.next()] == [Some(note), None]
-}
-
-/// The same of a file's section 1.
-fn file_has_one_note(alloc: Global, file: &[u8]) -> Result<bool, Fault> {
-    let image = parse(alloc, file)?;
-    if image.section_count() < 2 {
-        return Ok(false);
-    }
-    let notes = Notes::new(&image, 1)?;
-    Ok(are_one_note(&notes))
-}
-
-#[test]
-fn tells_each_note(rt: HostRuntime) {
-    let has = file_has_one_note(rt.alloc(), &note());
-    assert_eq!(rt; has, Ok(true));
+    assert_eq!(rt; told, Ok((Some(note), None)));
 }
 
 const ROWS: [Row; 6] = [
