@@ -42,8 +42,8 @@ abbrev pub needed_rules_file : Rule
 needed_rules_file = record rules_file { required = true }
 
 -- `--entry NAME`
-abbrev pub entry : Rule
-entry = record (new_rule (codes "NAME")) { long = Some (codes "entry"); required = true }
+abbrev pub entry_word : Rule
+entry_word = record (new_rule (codes "NAME")) { long = Some (codes "entry"); required = true }
 
 -- one file or more
 abbrev pub files : Rule
@@ -55,7 +55,7 @@ map_command = record (new_shape (codes "map")) { rules = base ∷ page ∷ rules
 
 -- `link --base B --page P --entry NAME --rules RULES FILE...`
 unfoldable pub link_command : Shape
-link_command = record (new_shape (codes "link")) { rules = base ∷ page ∷ entry ∷ needed_rules_file ∷ files ∷ [] }
+link_command = record (new_shape (codes "link")) { rules = base ∷ page ∷ entry_word ∷ needed_rules_file ∷ files ∷ [] }
 
 -- `elfmap COMMAND ..`; it has no subcommand `help`
 unfoldable pub elfmap : App

@@ -42,8 +42,8 @@ abbrev pub rule_file_of : List Row → Option Text
 rule_file_of = first_of (codes "RULES")
 
 -- the name that `--entry` gives
-abbrev pub entry_of : List Row → Text
-entry_of = text_of (codes "NAME")
+abbrev pub entry_name_of : List Row → Text
+entry_name_of = text_of (codes "NAME")
 
 -- the commands that link files
 abbrev pub IsLinking : Text → Type 0
@@ -64,7 +64,7 @@ Asks name rows (Map base page rules files) =
     (name ≡ codes "map") × AreLinkWords rows base page (map (λ f. f.now) files.items) × (option_copied rules ≡ rule_file_of rows)
 Asks name rows (Link base page entry rules files) =
     (name ≡ codes "link") × AreLinkWords rows base page (map (λ f. f.now) files.items)
-    × (entry.now ≡ entry_of rows) × (rules.now ≡ text_of (codes "RULES") rows)
+    × (entry.now ≡ entry_name_of rows) × (rules.now ≡ text_of (codes "RULES") rows)
 
 -- the files and numbers of a link are refused so: more than 64 files, or else a number that is none
 abbrev pub RefusesLinkWords : List Row → WordsFault → Type 0

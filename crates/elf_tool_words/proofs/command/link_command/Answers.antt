@@ -4,7 +4,7 @@ use Rattle.clap.specs.Simple.{App, app_of, app_of_fields, new_app, with_rule}
 use Rattle.clap.specs.declared.builder.command.Command.{Command}
 use Rattle.clap.specs.declared.builder.command.Command.TheOpen.{Command-F}
 use Rattle.clap.specs.declared.builder.command.Command.TheViews.{out-Command as fields_of}
-use Rattle.elf_tool_words.specs.Command.{base, entry, link_command, needed_rules_file, page}
+use Rattle.elf_tool_words.specs.Command.{base, entry_word, link_command, needed_rules_file, page}
 use Rattle.elf_tool_words.proofs.command.link_command.Goals as goal
 
 pub returns-clause-shape : goal.returns-clause-shape
@@ -14,9 +14,9 @@ returns-clause-shape c =
     let based : app_of c.in_ok-arg.field-0 ≡ with_rule (new_app (codes "link")) base = c.in_ok-arg.ensures.shape c.base.ensures.local ∙ ap₂ with_rule named c.base.ensures.rule in
     let paged : app_of c.in_ok-arg-2.field-0 ≡ with_rule (with_rule (new_app (codes "link")) base) page =
     c.in_ok-arg-2.ensures.shape c.page.ensures.local ∙ ap₂ with_rule based c.page.ensures.rule in
-    let entered : app_of c.in_ok-arg-3.field-0 ≡ with_rule (with_rule (with_rule (new_app (codes "link")) base) page) entry =
+    let entered : app_of c.in_ok-arg-3.field-0 ≡ with_rule (with_rule (with_rule (new_app (codes "link")) base) page) entry_word =
     c.in_ok-arg-3.ensures.shape c.entry.ensures.local ∙ ap₂ with_rule paged c.entry.ensures.rule in
-    let ruled : app_of c.in_ok-arg-4.field-0 ≡ with_rule (with_rule (with_rule (with_rule (new_app (codes "link")) base) page) entry) needed_rules_file =
+    let ruled : app_of c.in_ok-arg-4.field-0 ≡ with_rule (with_rule (with_rule (with_rule (new_app (codes "link")) base) page) entry_word) needed_rules_file =
     c.in_ok-arg-4.ensures.shape c.needed_rules.ensures.local ∙ ap₂ with_rule entered c.needed_rules.ensures.rule in
     IfOk-weaker c.arg-5.result _ _
     (λ r added. ap (λ (a : App). a.top) (added.shape c.files.ensures.local ∙ ap₂ with_rule ruled c.files.ensures.rule)) c.arg-5.ensures
