@@ -1,4 +1,4 @@
--- An executable as a file of parts: its header, its program header table and the bytes of its segments, of which the records keep the rules.
+-- An executable as a file of parts, of which the records keep the rules: its header, its program header table and the segments' bytes.
 use Rattle.std.proofs.Common.{◌≡◌, ◌≢◌, ◌<◌, ◌≤◌, ◌+◌, ◌*◌, ◌%◌, ◌^◌, ℕ, zero, suc, Bool, true, false, List, [], ◌∷◌, length, map, take, drop, get_or, refl, sym, ap, subst, ◌∙◌, inl, inr, arith, length-drop}
 use Rattle.std.specs.Prelude.{if◌then◌else◌, Some, None, slice_get, slice_index}
 use Rattle.std.specs.List.{AllByRecursion, flat_map}

@@ -28,8 +28,8 @@ use Rattle.elf_tool_objects.specs.ObjectFiles.{AreObjectFiles}
 abbrev pub ObjectsFit : List ObjectValue → Type 0
 ObjectsFit fs = (f : ℕ) → f < length fs → ObjectFits (object_at fs f)
 
--- no rule of the link of these objects stands, of which m is the map, and none of their relocation; the objects keep their own rules, and
--- they and the page are of numbers that the code's types hold
+-- m is the map of these objects, and none of rules 1 to 16 of the link stands for them and these relocation rules; the objects keep their
+-- own rules, and their numbers and the page fit the types that the code has for them
 pub record IsSoundLink (fs : List ObjectValue) (m : LinkMapValue) (rules : List RelocRule) : Type 0 where
   pub objects : AreObjects fs
   pub widths : ObjectsFit fs
@@ -53,8 +53,8 @@ pub record IsExecFile (fs : List ObjectValue) (m : LinkMapValue) (rules : List R
   pub few : length (loads m) < PN_XNUM
   pub short : length b ≤ MAX_LEN
 
--- b is an image: it enters at the map's entry, and its loadable segments give an address a byte exactly where memory has that byte there, so
--- that what is found at an address by the first of them is memory's byte; and no other list of bytes is the executable of this link
+-- b is an image: it enters at the map's entry, and its loadable segments give an address a byte exactly where memory has that byte there,
+-- so that what the first of them with an address gives it is memory's byte; and no other list of bytes is the executable of this link
 pub record IsExecutable (fs : List ObjectValue) (m : LinkMapValue) (rules : List RelocRule) (b : List ℕ) : Type 0 where
   pub accepted : IsFault b None
   pub image : (v : ImageValue) × IsImage v b
