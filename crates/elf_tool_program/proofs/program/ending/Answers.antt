@@ -1,5 +1,5 @@
-use Rattle.std.proofs.Common.{None, Some, inl}
-use Rattle.elf_tool_words.specs.declared.words.Request.TheVariants.{Map}
+use Rattle.std.proofs.Common.{None, Some, ap, inl, refl}
+use Rattle.elf_tool_words.specs.declared.words.Request.TheVariants.{Link, Map}
 use Rattle.elf_tool_program.proofs.program.ending.Goals as goal
 
 pub returns-in-None : goal.returns-in-None
@@ -15,3 +15,11 @@ returns-in-Ok-Map g c =
     let asked = rw (r.field-0-is, c.in-Some.is) at r.ensures.ok in
     let ends = rw (r.base-is, r.page-is, c.deref-in-Some.ensures.value) at c.map_by_rules.ensures in
     inl (Map r.base r.page (Some c.in-Some.file) r.names, asked, ends)
+
+pub returns-in-Ok-Link : goal.returns-in-Ok-Link
+returns-in-Ok-Link g c =
+    let r = c.in-Ok-Link in
+    let asked = rw r.field-0-is at r.ensures.ok in
+    let ends = rw (r.base-is, r.page-is, c.deref-in-Ok-Link.ensures.value) at c.link_by_rules.ensures in
+    let entry = ap Some c.as_bytes.ensures.value in
+    inl (Link r.base r.page r.entry r.rules r.names, asked, (record { base = r.base; page = r.page; entry = Some c.as_bytes.result }, (refl, refl, entry), ends))

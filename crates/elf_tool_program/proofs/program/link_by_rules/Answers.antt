@@ -1,0 +1,7 @@
+use Rattle.std.proofs.Common.{inl}
+use Rattle.elf_tool_program.proofs.program.link_by_rules.Goals as goal
+
+pub returns-in-Ok : goal.returns-in-Ok
+returns-in-Ok g c =
+    let r = c.in-Ok in
+    inl (r.rules.items, r.ensures.ok, rw (c.deref.ensures.value, r.ensures.kept, r.ensures.still) at c.link_files.ensures)
