@@ -6,8 +6,8 @@ use std::io::{ErrorKind, Write};
 /// How many bytes the executable of a call has.
 pub(crate) const LEN: usize = 127;
 
-/// Keeps what it is given, at most `piece` bytes a call and `LEN` in all. At the call of number `failing`, counted from 1, and at no other,
-/// it fails, or takes none where there is no `failure`.
+/// Keeps what it is given, at most `piece` bytes a call and `LEN` in all. At the call of number `failing`, counted from 1, and at no
+/// other, it fails, or takes none where there is no `failure`.
 #[derive(Drop)]
 pub(crate) struct Shelf {
     pub(crate) bytes: [u8; LEN],
