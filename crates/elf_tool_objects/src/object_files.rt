@@ -21,10 +21,7 @@ pub enum FileFault {
 ///
 /// [`FileFault::Refused`] comes with the first file that is no image or whose image denotes no object: the first rule that it breaks, as
 /// an image or, with a number from 40 on, as an object, and its lowest offset. Nothing else is refused, want of memory aside.
-pub fn objects_of<'a>(
-    alloc: Global,
-    files: &'a [Vec<u8>],
-) -> Result<Vec<Object<'a>>, FileFault>
+pub fn objects_of<'a>(alloc: Global, files: &'a [Vec<u8>]) -> Result<Vec<Object<'a>>, FileFault>
     ensures { MatchResult result (λ objects. AreObjectFiles (map (λ f. f.items) files.entry.now) objects.items)
         (IsFileFault (map (λ f. f.items) files.entry.now)) }
 {
