@@ -20,7 +20,7 @@ use Rattle.elf_tool_text.specs.declared.fault.Verdict.TheVariants.{Done, Refused
 use Rattle.elf_tool_words.specs.Words.{is_set}
 use Rattle.elf_tool_words.specs.Command.{check, elfmap, map_command, rewrite, show}
 use Rattle.elf_tool_program.specs.Program.{EndsRun}
-use Rattle.elf_tool_words.specs.declared.words.Request.TheVariants.{Check, CheckSource, Show, Rewrite, Map}
+use Rattle.elf_tool_words.specs.declared.words.Request.TheVariants.{Check, CheckSource, Show, Rewrite, Map, Link}
 use Rattle.elf_tool_words.specs.declared.words.WordsFault.TheVariants as words_fault
 
 -- some rule is broken
@@ -122,6 +122,9 @@ no_rewrite name one other = let both : codes "check" ≡ codes "rewrite" = sym o
 no_map : (name : Text) → name ≡ codes "check" → name ≡ codes "map" → ⊥
 no_map name one other = let both : codes "check" ≡ codes "map" = sym one ∙ other in cc
 
+no_link : (name : Text) → name ≡ codes "check" → name ≡ codes "link" → ⊥
+no_link name one other = let both : codes "check" ≡ codes "link" = sym one ∙ other in cc
+
 -- the whole program says it
 checked_says : (bytes : List ℕ) (old new : Option (List ℕ)) (status : Status) → length bytes ≤ 2 ^ 30
     → EndsRun check_words (λ name. Some bytes) (λ name. true) old new status → Tells status bytes
@@ -132,6 +135,7 @@ checked_says bytes old new status short (inl (Show file, asked, inl (input, rest
     status_says ShowSays show_says bytes input rest old new answer status short known call is
 checked_says bytes old new status short (inl (Rewrite file, asked, ends)) = absurd (no_rewrite asked.name (asks_check asked.name asked.rows asked.entered) asked.holds.0)
 checked_says bytes old new status short (inl (Map base page rules files, asked, ends)) = absurd (no_map asked.name (asks_check asked.name asked.rows asked.entered) asked.holds.0)
+checked_says bytes old new status short (inl (Link base page entry rules files, asked, ends)) = absurd (no_link asked.name (asks_check asked.name asked.rows asked.entered) asked.holds.0)
 checked_says bytes old new status short (inl (Check file, asked, inr (fault, why, is, kept))) =
     neither status bytes 3 (λ e. omega arith) (λ e. omega arith) (ap code_of is)
 checked_says bytes old new status short (inl (Show file, asked, inr (fault, why, is, kept))) =
@@ -191,6 +195,7 @@ sought_says bytes old new status are (inl (CheckSource file, asked, inr (fault, 
 sought_says bytes old new status are (inl (Show file, asked, ends)) = absurd (no_show asked.name (seeks_by_check asked.name asked.rows asked.entered) asked.holds.0)
 sought_says bytes old new status are (inl (Rewrite file, asked, ends)) = absurd (no_rewrite asked.name (seeks_by_check asked.name asked.rows asked.entered) asked.holds.0)
 sought_says bytes old new status are (inl (Map base page rules files, asked, ends)) = absurd (no_map asked.name (seeks_by_check asked.name asked.rows asked.entered) asked.holds.0)
+sought_says bytes old new status are (inl (Link base page entry rules files, asked, ends)) = absurd (no_link asked.name (seeks_by_check asked.name asked.rows asked.entered) asked.holds.0)
 sought_says bytes old new status are (inr (words_fault.Words error, refused, ends)) =
     neither status bytes 2 (λ e. omega arith) (λ e. omega arith) (ap code_of ends.0)
 sought_says bytes old new status are (inr (words_fault.TooManyFiles, refused, ends)) =
