@@ -2,6 +2,8 @@
 use crate::parts::{GLOBAL, WEAK, list, object, options, section, symbol, write_linked};
 use elf_exec::ExecFault;
 use elf_field::Order;
+use elf_image_stream::Fault;
+use elf_image_type::{Image, parse};
 use elf_link_map::{LinkFault, Options};
 use elf_object_type::{Body, Object, ObjectFault, Place, Symbol};
 use std::alloc::Global;
@@ -174,5 +176,28 @@ fn each_output_of_some_bytes_is_a_segment(rt: HostRuntime) -> Result<(), Fail> {
         let wanted = file(rt.alloc(), order, 0x201, &KINDS)?;
         assert_written(&rt, found, &wanted);
     }
+    Ok(())
+}
+
+/// What an image loads at these addresses.
+fn bytes_at(image: &Image<'_>, addresses: [u64; 4]) -> [Option<u8>; 4] {
+    let mut bytes = [None; 4];
+    for (byte, address) in bytes.iter_mut().zip(addresses) {
+        *byte = image.load(address);
+    }
+    bytes
+}
+
+fn loaded(alloc: Global, file: &[u8], addresses: [u64; 4]) -> Result<[Option<u8>; 4], Fault> {
+    let image = parse(alloc, file)?;
+    Ok(bytes_at(&image, addresses))
+}
+
+#[test]
+fn data_is_loaded_and_commons_are_zero(rt: HostRuntime) -> Result<(), Fail> {
+    let alloc = rt.alloc();
+    let (_, text) = commons_written(alloc, Order::Little)?;
+    let bytes = loaded(alloc, &text, [0x2000, 0x2004, 0x3007, 0x3008])?;
+    assert_eq!(rt; bytes, [Some(1), None, Some(0), None]);
     Ok(())
 }
