@@ -1,4 +1,7 @@
 -- The words of this crate's contracts.
 pub mod Names
+pub mod Owners
+pub mod Shared
+pub mod Sorting
 pub mod StringTable
-pub mod Used
+pub mod Writing

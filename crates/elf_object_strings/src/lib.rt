@@ -1,16 +1,18 @@
-//! String tables as they are written (gABI chapter 4, String Table): each name once, in the order in which the names first
-//! occur, and where each of them begins.
+//! String tables as they are written (gABI chapter 4, String Table): each name once, but for those that another one ends with, in the
+//! order in which the names first occur, and where each of them begins.
 //!
 //! ```
-//! // A zero, and `ab` and `b` with the zeros that end them; the empty name is the first zero.
-//! let table = StringTable::new(alloc, &[b"ab", b"", b"b", b"ab"])?;
-//! assert_eq!(table.bytes.as_slice(), b"\0ab\0b\0");
-//! assert_eq!(table.places.as_slice(), [1, 0, 4, 1]);
+//! // A zero, and `cab` and `x` with the zeros that end them; `ab` and `b` begin within `cab`, the empty name is the first zero.
+//! let shared = shared_table(alloc, &[b"b", b"ab", b"", b"ab", b"cab", b"x"])?;
+//! assert_eq!(shared.bytes.as_slice(), b"\0cab\0x\0");
+//! assert_eq!(shared.offsets.as_slice(), [3, 2, 0, 2, 1, 5]);
 //! ```
 #![tactic(auto)]
 
 mod laws;
+mod owners;
+mod sorting;
 mod table;
 
 pub use laws::holds_names;
-pub use table::StringTable;
+pub use table::{Shared, shared_table};

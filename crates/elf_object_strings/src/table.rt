@@ -1,93 +1,104 @@
-//! The bytes of a string table, made name by name.
-ghost use Rattle.std.specs.Prelude.{◌≡◌, ℕ, List, [], ◌∷◌, ◌++◌, Some, cond, is_some, length, map, IfOk, OnOk};
-ghost use Rattle.std.specs.Str.{bytes_eq};
+//! The bytes of a string table, and where its names begin.
+ghost use Rattle.std.specs.Prelude.{◌≡◌, map, IfOk};
+ghost use Rattle.elf_object_strings.specs.Owners.{AreOwners};
+ghost use Rattle.elf_object_strings.specs.Shared.{AreZeroFree, HoldsEach, IsLeast, Shares, texts};
 ghost use Rattle.elf_object_strings.specs.StringTable.{name_offset, string_table};
-ghost use Rattle.elf_object_strings.specs.Used.{IsStringTable, offset_by};
+ghost use Rattle.elf_object_strings.specs.Writing.{HasEnds};
 
+use crate::owners::owners_of;
+use elf_extent::OutOfMemory;
 use std::alloc::{AllocError, Global};
-use std::collections::BTreeMap;
 
-/// A string table of some names: its bytes, and the offset at which each of the names begins, in their
-/// order.
+/// A string table whose names share their tails: its bytes, and the offset in it at which each name begins.
 #[derive(Debug, Drop)]
-pub struct StringTable {
+pub struct Shared {
     /// The content of the table.
     pub bytes: Vec<u8>,
-    /// For each name the offset in the table at which it begins.
-    pub places: Vec<u64>,
+    /// For each name, in their order, the offset in the table at which it begins, in bytes.
+    pub offsets: Vec<u64>,
 }
 
-impl StringTable {
-    /// The table of the names: a zero, then each name that is not empty, once, with the zero that ends it,
-    /// in the order in which the names first occur. The empty name is at offset 0.
-    ///
-    /// Takes n log n comparisons of names. Answers an error where memory was refused.
-    pub fn new(alloc: Global, names: &[&[u8]]) -> Result<Self, AllocError>
-        ensures bytes { IfOk result (λ t. t.bytes.items ≡ string_table (map (λ name. name.now) names.now)) }
-        ensures places { IfOk result (λ t. t.places.items ≡
-            map (name_offset (map (λ name. name.now) names.now)) (map (λ name. name.now) names.now)) }
-    {
-        let mut bytes = Vec::new(alloc);
-        bytes.push(0)?;
-        let mut used = BTreeMap::new(alloc);
-        let mut places = Vec::new(alloc);
-        for name in names {
-            let place = add_name(&mut bytes, &mut used, name)?;
-            places.push(place)?;
-        }
-        Ok(StringTable { bytes, places })
-    }
-}
-
-// The offset of a name, which is put into the table where it isn't there yet.
-fn add_name<'a>(
-    bytes: &mut Vec<u8>,
-    used: &mut BTreeMap<&'a [u8], u64>,
-    name: &'a [u8],
-) -> Result<u64, AllocError>
-    ensures table { OnOk result ((ns : List (List ℕ)) → IsStringTable ns bytes.old.items (offset_by used.old) →
-        IsStringTable (ns ++ (name.now ∷ [])) bytes.new.items (offset_by used.new)) }
-    ensures place { IfOk result (λ place. (ns : List (List ℕ)) → IsStringTable ns bytes.old.items (offset_by used.old) →
-        place ≡ name_offset (ns ++ (name.now ∷ [])) name.now) }
+/// The string table of these names (gABI chapter 4, String Table): a zero, then each distinct name that is neither empty nor a
+/// proper suffix of another one, with the zero that ends it, in the order in which the names first occur.
+///
+/// The offset of a name is the lowest at which it stands with a zero behind it; that of the empty name is 0. Of names without a zero
+/// byte no table that holds them all is shorter. Takes n log n comparisons of names, from their ends on, and four numbers of memory a name
+/// besides the table. Answers [`OutOfMemory`] only where memory was refused.
+pub fn shared_table(alloc: Global, names: &[&[u8]]) -> Result<Shared, OutOfMemory>
+    ensures bytes { IfOk result (λ shared. shared.bytes.items ≡ string_table (texts names.now)) }
+    ensures offsets { IfOk result (λ shared. shared.offsets.items ≡ map (name_offset (texts names.now)) (texts names.now)) }
+    ensures shares { IfOk result (λ shared. AreZeroFree (texts names.now) → Shares (texts names.now) shared.bytes.items shared.offsets.items) }
+    ensures holds { IfOk result (λ shared. HoldsEach shared.bytes.items (texts names.now)) }
+    ensures least { IfOk result (λ shared. AreZeroFree (texts names.now) → IsLeast (texts names.now) shared.bytes.items) }
 {
-    if name.is_empty() {
-        return Ok(0);
-    }
-    let end = bytes.len() as u64;
-    match place_name(used, name, end)? {
-        Some(place) => Ok(place),
-        None => {
-            push_name(bytes, name)?;
-            Ok(end)
-        }
+    match table_of(alloc, names) {
+        Ok(shared) => Ok(shared),
+        Err(AllocError) => Err(OutOfMemory),
     }
 }
 
-// The offset of a name that the table has, which stays; a further name gets this one.
-fn place_name<'a>(
-    used: &mut BTreeMap<&'a [u8], u64>,
-    name: &'a [u8],
-    end: u64,
-) -> Result<Option<u64>, AllocError>
-    ensures old { IfOk result (λ old. old ≡ offset_by used.old name.now) }
-    ensures used { IfOk result (λ old. (q : List ℕ) → offset_by used.new q ≡
-        cond (is_some old) (offset_by used.old q) (cond (bytes_eq name.now q) (Some end) (offset_by used.old q))) }
+fn table_of(alloc: Global, names: &[&[u8]]) -> Result<Shared, AllocError>
+    ensures bytes { IfOk result (λ shared. shared.bytes.items ≡ string_table (texts names.now)) }
+    ensures offsets { IfOk result (λ shared. shared.offsets.items ≡ map (name_offset (texts names.now)) (texts names.now)) }
 {
-    match used.insert(name, end)? {
-        // One search for a further name; one that stands already gets its offset back.
-        Some(place) => {
-            used.insert(name, place)?;
-            Ok(Some(place))
-        }
-        None => Ok(None),
-    }
+    let owners = owners_of(alloc, names)?;
+    let (bytes, ends) = write_names(alloc, names, &owners)?;
+    let offsets = offsets_of(alloc, names, &owners, &ends)?;
+    Ok(Shared { bytes, offsets })
 }
 
-// A further name, at the table's end.
-fn push_name(bytes: &mut Vec<u8>, name: &[u8]) -> Result<(), AllocError>
-    ensures { OnOk result (bytes.new.items ≡ bytes.old.items ++ (name.now ++ (0 ∷ []))) }
+/// The bytes of the table, and where the zero of each name stands that is its own owner.
+fn write_names(
+    alloc: Global,
+    names: &[&[u8]],
+    owners: &[usize],
+) -> Result<(Vec<u8>, Vec<u64>), AllocError>
+    requires { AreOwners (texts names.now) owners.now }
+    ensures bytes { IfOk result (λ (bytes, ends). bytes.items ≡ string_table (texts names.now)) }
+    ensures ends { IfOk result (λ (bytes, ends). HasEnds (texts names.now) (length names.now) ends.items) }
 {
-    bytes.extend_from_slice(name)?;
+    let mut bytes = Vec::new(alloc);
     bytes.push(0)?;
+    let mut ends = Vec::with_capacity(alloc, names.len())?;
+    for i in 0..names.len() {
+        write_name(&mut bytes, names[i], owners[i] == i)?;
+        ends.push(bytes.len() as u64 - 1)?;
+    }
+    Ok((bytes, ends))
+}
+
+/// A name with its zero, at the table's end, if it is to be written and isn't empty.
+fn write_name(bytes: &mut Vec<u8>, name: &[u8], is_owner: bool) -> Result<(), AllocError> {
+    if is_owner && !name.is_empty() {
+        bytes.extend_from_slice(name)?;
+        bytes.push(0)?;
+    }
     Ok(())
+}
+
+/// Where each name begins: so far before the zero of its owner as it is long.
+fn offsets_of(
+    alloc: Global,
+    names: &[&[u8]],
+    owners: &[usize],
+    ends: &[u64],
+) -> Result<Vec<u64>, AllocError>
+    requires owners { AreOwners (texts names.now) owners.now }
+    requires ends { HasEnds (texts names.now) (length names.now) ends.now }
+    ensures { IfOk result (λ offsets. offsets.items ≡ map (name_offset (texts names.now)) (texts names.now)) }
+{
+    let mut offsets = Vec::with_capacity(alloc, names.len())?;
+    for i in 0..names.len() {
+        offsets.push(offset_of(names[i], ends[owners[i]]))?;
+    }
+    Ok(offsets)
+}
+
+/// Where a name begins that ends at an offset.
+fn offset_of(name: &[u8], end: u64) -> u64 {
+    if name.is_empty() {
+        0
+    } else {
+        end - name.len() as u64
+    }
 }

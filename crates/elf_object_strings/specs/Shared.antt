@@ -1,0 +1,38 @@
+-- What a string table that shares tails promises, whatever its names. (gABI chapter 4, String Table.)
+use Rattle.std.specs.Prelude.{◌≡◌, ◌<◌, ◌≤◌, ◌×◌, ℕ, List, [], ◌∷◌, ◌++◌, drop, get_or, length, map}
+use Rattle.std.specs.Borrow.{Bor}
+use Rattle.std.specs.List.{AllByRecursion}
+use Rattle.elf_object_strings.specs.StringTable.{string_table}
+
+-- the bytes of the names of a slice
+abbrev pub texts : List (Bor (List ℕ)) → List (List ℕ)
+texts names = map (λ name. name.now) names
+
+-- no name has a zero byte
+abbrev pub AreZeroFree : List (List ℕ) → Type 0
+AreZeroFree names = AllByRecursion (AllByRecursion (λ byte. 0 < byte)) names
+
+-- the name stands at the offset, with a zero behind it
+abbrev pub StandsClosedAt : List ℕ → List ℕ → ℕ → Type 0
+StandsClosedAt table name offset = (behind : List ℕ) × (drop offset table ≡ name ++ (0 ∷ behind))
+
+-- the table begins with a zero byte, and every name stands somewhere in it with a zero behind it
+pub record HoldsEach (table : List ℕ) (names : List (List ℕ)) : Type 0 where
+  pub rest : List ℕ
+  pub begins : table ≡ 0 ∷ rest
+  pub each : AllByRecursion (λ name. (offset : ℕ) × StandsClosedAt table name offset) names
+
+-- the lowest offset at which the name stands with a zero behind it
+pub record IsLowestAt (table : List ℕ) (name : List ℕ) (offset : ℕ) : Type 0 where
+  pub here : StandsClosedAt table name offset
+  pub lowest : (other : ℕ) → StandsClosedAt table name other → offset ≤ other
+
+-- the table of the names, and the lowest offset of each, in their order
+pub record Shares (names : List (List ℕ)) (table : List ℕ) (offsets : List ℕ) : Type 0 where
+  pub bytes : table ≡ string_table names
+  pub as_many : length offsets ≡ length names
+  pub each : (i : ℕ) → i < length names → IsLowestAt table (get_or names i []) (get_or offsets i 0)
+
+-- no table that holds these names is shorter
+abbrev pub IsLeast : List (List ℕ) → List ℕ → Type 0
+IsLeast names table = (other : List ℕ) → HoldsEach other names → length table ≤ length other

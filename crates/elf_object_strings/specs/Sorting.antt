@@ -1,0 +1,30 @@
+-- Names sorted by what they end with.
+use Rattle.std.specs.Prelude.{◌≡◌, ◌<◌, ◌≤◌, ◌×◌, ℕ, false, List, [], get_or, length, map, reverse}
+use Rattle.std.specs.Cmp.Lexicographic.{slice_cmp}
+use Rattle.std.specs.Ordering.{Ordering, is_lt, nat_cmp, ordering_then}
+use Rattle.elf_object_strings.specs.declared.sorting.Numbered.{Numbered}
+
+abbrev pub names_in : List Numbered → List (List ℕ)
+names_in sorted = map (λ it. it.name.now) sorted
+
+abbrev pub indexes_in : List Numbered → List ℕ
+indexes_in sorted = map (λ it. it.index) sorted
+
+-- read from their last bytes on, the greatest name comes first; equal ones in the order of their indexes
+abbrev pub ends_order : List ℕ → ℕ → List ℕ → ℕ → Ordering
+ends_order name index other other_index =
+    ordering_then (slice_cmp nat_cmp (reverse other) (reverse name)) (nat_cmp index other_index)
+
+-- each name of a list, with an index at which the list has it, and each index
+pub record AreNumbered (names : List (List ℕ)) (sorted : List (List ℕ)) (indexes : List ℕ) : Type 0 where
+  pub as_many : length sorted ≡ length names
+  pub all : length indexes ≡ length names
+  pub below : (q : ℕ) → q < length sorted → get_or indexes q 0 < length names
+  pub named : (q : ℕ) → q < length sorted → get_or names (get_or indexes q 0) [] ≡ get_or sorted q []
+  pub each : (i : ℕ) → i < length names → (q : ℕ) × (q < length sorted) × (get_or indexes q 0 ≡ i)
+
+-- none stands before one that comes first
+abbrev pub AreInOrder : List (List ℕ) → List ℕ → Type 0
+AreInOrder sorted indexes =
+    (q r : ℕ) → q ≤ r → r < length sorted →
+    is_lt (ends_order (get_or sorted r []) (get_or indexes r 0) (get_or sorted q []) (get_or indexes q 0)) ≡ false

@@ -1,0 +1,21 @@
+-- A string table that is being written, name by name.
+use Rattle.std.specs.Prelude.{◌≡◌, ◌<◌, ℕ, ◌+◌, Bool, true, not, ◌&&◌, List, [], get_or, length, take}
+use Rattle.std.specs.List.{filter, flat_map, list_any}
+use Rattle.std.specs.Str.{bytes_eq}
+use Rattle.elf_object_strings.specs.StringTable.{closed, distinct, is_kept}
+
+-- the held names among the first ones
+abbrev pub held_to : List (List ℕ) → ℕ → List (List ℕ)
+held_to names i = filter (is_kept names) (distinct (take i names))
+
+-- whether a name is held and first occurs here
+abbrev pub is_written : List (List ℕ) → ℕ → Bool
+is_written names i =
+    let name = get_or names i [] in
+    is_kept names name && not (list_any (bytes_eq name) (take i names))
+
+-- where each of the first names that is written has its zero
+pub record HasEnds (names : List (List ℕ)) (i : ℕ) (ends : List ℕ) : Type 0 where
+  pub as_many : length ends ≡ i
+  pub each : (q : ℕ) → q < i → is_written names q ≡ true →
+      get_or ends q 0 ≡ 1 + length (flat_map closed (held_to names q)) + length (get_or names q [])

@@ -1,0 +1,88 @@
+//! Names sorted by what they end with.
+ghost use Rattle.std.specs.Prelude.{◌≡◌, IfOk};
+ghost use Rattle.elf_object_strings.specs.Shared.{texts};
+ghost use Rattle.elf_object_strings.specs.Sorting.{AreInOrder, AreNumbered, indexes_in, names_in};
+
+use std::alloc::{AllocError, Global};
+use std::cmp::Ordering;
+
+/// A name of a list, and its index there.
+#[derive(Clone, Copy, Debug)]
+pub(crate) struct Numbered<'a> {
+    pub(crate) name: &'a [u8],
+    pub(crate) index: usize,
+    // The last eight bytes as a number, the last of them the most significant; zeros stand for those that a shorter name lacks.
+    end: u64,
+}
+
+/// The names of a list, sorted by what they end with: read from their last bytes on, the greatest first; equal names by index.
+///
+/// A name follows, with those between, each one that ends with it. Takes n log n comparisons of ends.
+pub(crate) fn sorted_names<'a>(
+    alloc: Global,
+    names: &[&'a [u8]],
+) -> Result<Vec<Numbered<'a>>, AllocError>
+    ensures numbered { IfOk result (λ sorted. AreNumbered (texts names.now) (names_in sorted.items) (indexes_in sorted.items)) }
+    ensures order { IfOk result (λ sorted. AreInOrder (names_in sorted.items) (indexes_in sorted.items)) }
+{
+    let mut sorted = number_names(alloc, names)?;
+    sorted.sort_unstable_by(|a, b| by_end(a, b));
+    Ok(sorted)
+}
+
+fn number_names<'a>(alloc: Global, names: &[&'a [u8]]) -> Result<Vec<Numbered<'a>>, AllocError> {
+    let mut numbered = Vec::with_capacity(alloc, names.len())?;
+    for index in 0..names.len() {
+        let name = names[index];
+        numbered.push(Numbered {
+            name,
+            index,
+            end: end_of(name),
+        })?;
+    }
+    Ok(numbered)
+}
+
+/// The last eight bytes of a name as a number.
+fn end_of(name: &[u8]) -> u64 {
+    let mut end = [0; 8];
+    let count = name.len().min(8);
+    end[8 - count..].copy_from_slice(&name[name.len() - count..]);
+    u64::from_le_bytes(end)
+}
+
+fn by_end(a: &Numbered<'_>, b: &Numbered<'_>) -> Ordering {
+    match b.end.cmp(&a.end) {
+        Ordering::Equal => by_whole_end(a, b),
+        order => order,
+    }
+}
+
+fn by_whole_end(a: &Numbered<'_>, b: &Numbered<'_>) -> Ordering {
+    match compare_ends(b.name, a.name) {
+        Ordering::Equal => a.index.cmp(&b.index),
+        order => order,
+    }
+}
+
+/// The order of two names that are read from their last bytes on.
+fn compare_ends(a: &[u8], b: &[u8]) -> Ordering {
+    let mut left = a;
+    let mut right = b;
+    while let Some((less_left, less_right)) = without_equal_ends(left, right) {
+        left = less_left;
+        right = less_right;
+    }
+    left.iter().rev().cmp(right.iter().rev())
+}
+
+/// Both without their last bytes, where these are equal.
+fn without_equal_ends<'a, 'b>(a: &'a [u8], b: &'b [u8]) -> Option<(&'a [u8], &'b [u8])> {
+    let (a_rest, a_end) = a.split_last_chunk::<32>()?;
+    let (b_rest, b_end) = b.split_last_chunk::<32>()?;
+    if a_end == b_end {
+        Some((a_rest, b_rest))
+    } else {
+        None
+    }
+}
