@@ -1,5 +1,5 @@
 -- For each name of a list the one whose bytes in the table it shares: its owner. (gABI chapter 4, String Table.)
-use Rattle.std.specs.Prelude.{◌≡◌, ◌<◌, ◌≤◌, ◌×◌, ℕ, List, [], ◌++◌, get_or, length}
+use Rattle.std.specs.Prelude.{◌≡◌, ◌<◌, ◌≤◌, ℕ, List, [], ◌++◌, get_or, length}
 
 -- the other name ends with this one
 abbrev pub IsSuffix : List ℕ → List ℕ → Type 0

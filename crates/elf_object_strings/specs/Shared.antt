@@ -1,5 +1,5 @@
 -- What a string table that shares tails promises, whatever its names. (gABI chapter 4, String Table.)
-use Rattle.std.specs.Prelude.{◌≡◌, ◌<◌, ◌≤◌, ◌×◌, ℕ, List, [], ◌∷◌, ◌++◌, drop, get_or, length, map}
+use Rattle.std.specs.Prelude.{◌≡◌, ◌<◌, ◌≤◌, ℕ, List, [], ◌∷◌, ◌++◌, drop, get_or, length, map}
 use Rattle.std.specs.Borrow.{Bor}
 use Rattle.std.specs.List.{AllByRecursion}
 use Rattle.elf_object_strings.specs.StringTable.{string_table}

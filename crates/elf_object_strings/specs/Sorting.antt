@@ -1,7 +1,8 @@
 -- Names sorted by what they end with.
-use Rattle.std.specs.Prelude.{◌≡◌, ◌<◌, ◌≤◌, ◌×◌, ℕ, false, List, [], get_or, length, map, reverse}
+use Rattle.std.specs.Prelude.{◌≡◌, ◌<◌, ◌≤◌, ℕ, false, List, [], get_or, length, map, reverse}
 use Rattle.std.specs.Cmp.Lexicographic.{slice_cmp}
-use Rattle.std.specs.Ordering.{Ordering, is_lt, nat_cmp, ordering_then}
+use Rattle.std.specs.declared.cmp.Ordering.{Ordering}
+use Rattle.std.specs.Ordering.{is_lt, nat_cmp, ordering_then}
 use Rattle.elf_object_strings.specs.declared.sorting.Numbered.{Numbered}
 
 abbrev pub names_in : List Numbered → List (List ℕ)
