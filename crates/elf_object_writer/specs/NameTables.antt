@@ -8,6 +8,6 @@ use Rattle.elf_object_strings.specs.StringTable.{name_offset, string_table}
 -- their bytes, and where each name begins
 pub record AreNameTables (o : ObjectValue) (tables : NameTables) : Type 0 where
   pub strings : tables.strings.bytes.items ≡ string_table (symbol_names o)
-  pub string_places : tables.strings.places.items ≡ map (name_offset (symbol_names o)) (symbol_names o)
+  pub string_offsets : tables.strings.offsets.items ≡ map (name_offset (symbol_names o)) (symbol_names o)
   pub names : tables.names.bytes.items ≡ string_table (section_names o)
-  pub name_places : tables.names.places.items ≡ map (name_offset (section_names o)) (section_names o)
+  pub name_offsets : tables.names.offsets.items ≡ map (name_offset (section_names o)) (section_names o)

@@ -6,7 +6,7 @@ ghost use Rattle.elf_object_writer.specs.NameTables.{AreNameTables};
 
 use crate::layout_parts::layout_parts;
 use crate::name_tables::NameTables;
-use elf_extent::{PlaceFault, place};
+use elf_extent::{OutOfMemory, PlaceFault, place};
 use elf_field::abi::*;
 use elf_image_rules::MAX_LEN;
 use elf_object_type::Object;
@@ -29,6 +29,17 @@ impl From<AllocError> for LayoutFault {
     ghost from_gives = { λ _ fault. fault ≡ OutOfMemory };
 
     fn from(_refused: AllocError) -> LayoutFault {
+        LayoutFault::OutOfMemory
+    }
+}
+
+impl From<OutOfMemory> for LayoutFault {
+    ghost use Rattle.std.specs.Prelude.{◌≡◌};
+    ghost use Rattle.elf_object_writer.specs.declared.layout.LayoutFault.TheVariants.{OutOfMemory};
+
+    ghost from_gives = { λ _ fault. fault ≡ OutOfMemory };
+
+    fn from(_refused: OutOfMemory) -> LayoutFault {
         LayoutFault::OutOfMemory
     }
 }

@@ -1,28 +1,31 @@
 //! The names of an object's symbols and sections, as string tables (gABI chapter 4, String Table).
-ghost use Rattle.std.specs.Prelude.{◌≡◌, IfOk, map};
+ghost use Rattle.std.specs.Prelude.{◌≡◌, IfErr, IfOk, map};
 ghost use Rattle.std.specs.List.{list_any};
 ghost use Rattle.elf_object_writer.specs.PlainSections.{has_index_table, is_far, section_names};
 ghost use Rattle.elf_object_writer.specs.NameTables.{AreNameTables};
+ghost use Rattle.elf_object_writer.specs.declared.layout.LayoutFault.TheVariants.{OutOfMemory};
 
+use crate::layout::LayoutFault;
 use elf_field::abi::*;
-use elf_object_strings::StringTable;
+use elf_object_strings::{Shared, shared_table};
 use elf_object_type::{Object, Place, Section, Symbol};
 use std::alloc::{AllocError, Global};
 
 /// The string table of the symbols, and the section name string table.
 #[derive(Debug, Drop)]
 pub(crate) struct NameTables {
-    pub(crate) strings: StringTable,
-    pub(crate) names: StringTable,
+    pub(crate) strings: Shared,
+    pub(crate) names: Shared,
 }
 
 impl NameTables {
     /// The tables of an object.
-    pub(crate) fn new(alloc: Global, object: &Object<'_>) -> Result<NameTables, AllocError>
-        ensures { IfOk result (AreNameTables object.now) }
+    pub(crate) fn new(alloc: Global, object: &Object<'_>) -> Result<NameTables, LayoutFault>
+        ensures ok { IfOk result (AreNameTables object.now) }
+        ensures err { IfErr result (λ fault. fault ≡ OutOfMemory) }
     {
-        let strings = StringTable::new(alloc, &symbol_names(alloc, object.symbols())?)?;
-        let names = StringTable::new(alloc, &section_names(alloc, object)?)?;
+        let strings = shared_table(alloc, &symbol_names(alloc, object.symbols())?)?;
+        let names = shared_table(alloc, &section_names(alloc, object)?)?;
         Ok(NameTables { strings, names })
     }
 }

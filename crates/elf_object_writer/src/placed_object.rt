@@ -83,7 +83,7 @@ impl<'o, 'a> PlacedObject<'o, 'a> {
         requires { position < length self.now.object.symbols }
         ensures { let names = symbol_names self.now.object in result ≡ name_offset names (get_or names position []) }
     {
-        self.tables.strings.places[position] as u32
+        self.tables.strings.offsets[position] as u32
     }
 
     /// `sh_name` of the section of this position in the layout.
@@ -91,7 +91,7 @@ impl<'o, 'a> PlacedObject<'o, 'a> {
         requires { position < length (plain_sections self.now.object) }
         ensures { let names = section_names self.now.object in result ≡ name_offset names (get_or names position []) }
     {
-        self.tables.names.places[position] as u32
+        self.tables.names.offsets[position] as u32
     }
 
     /// How many of the sections are the object's own, which come first.

@@ -5,15 +5,15 @@ use Rattle.elf_object_strings.specs.StringTable.{name_offset, string_table}
 use Rattle.elf_object_writer.proofs.NamesOf.{names_of_symbols, now_of}
 use Rattle.elf_object_writer.proofs.name_tables.NameTables.new.Goals as goal
 
-pub returns : goal.returns
-returns c =
+pub returns-clause-ok : goal.returns-clause-ok
+returns-clause-ok c =
     let o = c.args.object.now in
     let symbols : map now_of c.deref.result.now ≡ symbol_names o =
     ap (map now_of) (c.deref.ensures.value ∙ c.in_ok-symbol_names.ensures) ∙ names_of_symbols c.symbols.result.now ∙ ap (map (λ (s : SymbolValue). s.name)) c.symbols.ensures in
     let sections : map now_of c.deref-2.result.now ≡ section_names o = ap (map now_of) c.deref-2.ensures.value ∙ c.in_ok-section_names.ensures in
     record {
       strings = c.in_ok-strings.ensures.bytes ∙ ap string_table symbols;
-      string_places = c.in_ok-strings.ensures.places ∙ ap (λ (names : List (List ℕ)). map (name_offset names) names) symbols;
+      string_offsets = c.in_ok-strings.ensures.offsets ∙ ap (λ (names : List (List ℕ)). map (name_offset names) names) symbols;
       names = c.in_ok-names.ensures.bytes ∙ ap string_table sections;
-      name_places = c.in_ok-names.ensures.places ∙ ap (λ (names : List (List ℕ)). map (name_offset names) names) sections;
+      name_offsets = c.in_ok-names.ensures.offsets ∙ ap (λ (names : List (List ℕ)). map (name_offset names) names) sections;
     }

@@ -8,9 +8,9 @@ use Rattle.elf_object_writer.proofs.placed_object.PlacedObject.section_name.Goal
 pub index-requires : goal.index-requires
 index-requires c =
     let placed = subst (IsPlacedWith c.self.inside.tables) c.self.view_is c.self.invariant in
-    let places = c.self.inside.tables.names.places in
+    let places = c.self.inside.tables.names.offsets in
     let wide : length places.items ≡ vec_len places = search rules in
-    let all = length-places (section_names c.args.self.now.object) places.items placed.tables.name_places in
+    let all = length-places (section_names c.args.self.now.object) places.items placed.tables.name_offsets in
     let many = length-section_names c.args.self.now.object in
     omega arith
 
@@ -19,7 +19,7 @@ overflow_cast-result c =
     let o = c.args.self.now.object in
     let placed = subst (IsPlacedWith c.self.inside.tables) c.self.view_is c.self.invariant in
     let many = length-section_names o in
-    let is = place_read (section_names o) c.self.inside.tables.names.places.items c.args.position c.index.result.now placed.tables.name_places (omega arith) c.index.ensures in
+    let is = place_read (section_names o) c.self.inside.tables.names.offsets.items c.args.position c.index.result.now placed.tables.name_offsets (omega arith) c.index.ensures in
     let below = section_name_below o c.args.self.now.layout c.args.position placed.placed.layout c.requires in
     omega arith
 
@@ -28,4 +28,4 @@ returns c =
     let o = c.args.self.now.object in
     let placed = subst (IsPlacedWith c.self.inside.tables) c.self.view_is c.self.invariant in
     let many = length-section_names o in
-    place_read (section_names o) c.self.inside.tables.names.places.items c.args.position c.index.result.now placed.tables.name_places (omega arith) c.index.ensures
+    place_read (section_names o) c.self.inside.tables.names.offsets.items c.args.position c.index.result.now placed.tables.name_offsets (omega arith) c.index.ensures
