@@ -1,42 +1,62 @@
 //! The tables of elf_object_strings.
-use elf_object_strings::StringTable;
-use std::alloc::{AllocError, Global};
+use elf_object_strings::shared_table;
+use std::alloc::Global;
 use std::process::Abort;
+use std::test::Fail;
 
-/// The table of these names has these bytes and places.
+/// The table of these names has these bytes and offsets.
 fn assert_table(
     rt: &impl Abort,
     alloc: Global,
     names: &[&[u8]],
     bytes: &[u8],
-    places: &[u64],
-) -> Result<(), AllocError> {
-    let table = StringTable::new(alloc, names)?;
+    offsets: &[u64],
+) -> Result<(), Fail> {
+    let shared = shared_table(alloc, names)?;
     assert_eq!(rt;
-        (table.bytes.as_slice(), table.places.as_slice()),
-        (bytes, places)
+        (shared.bytes.as_slice(), shared.offsets.as_slice()),
+        (bytes, offsets)
     );
     Ok(())
 }
 
 // The example of the root of elf_object_strings.
 #[test]
-fn each_name_stands_once(rt: HostRuntime) -> Result<(), AllocError> {
-    let names: [&[u8]; 4] = [b"ab", b"", b"b", b"ab"];
-    assert_table(&rt, rt.alloc(), &names, b"\0ab\0b\0", &[1, 0, 4, 1])
+fn names_share_the_longest(rt: HostRuntime) -> Result<(), Fail> {
+    let names: [&[u8]; 6] = [b"b", b"ab", b"", b"ab", b"cab", b"x"];
+    let offsets = [3, 2, 0, 2, 1, 5];
+    assert_table(&rt, rt.alloc(), &names, b"\0cab\0x\0", &offsets)
+}
+
+// `b` ends two names, and is read in the first of them; `a` begins one, and has bytes of its own.
+#[test]
+fn the_lowest_offset_counts(rt: HostRuntime) -> Result<(), Fail> {
+    let ends: [&[u8]; 3] = [b"ab", b"cb", b"b"];
+    assert_table(&rt, rt.alloc(), &ends, b"\0ab\0cb\0", &[1, 4, 2])?;
+    let begins: [&[u8]; 2] = [b"ab", b"a"];
+    assert_table(&rt, rt.alloc(), &begins, b"\0ab\0a\0", &[1, 4])
 }
 
 // Without a name, and with empty names alone, a table is one zero.
 #[test]
-fn empty_names_take_one_zero(rt: HostRuntime) -> Result<(), AllocError> {
+fn empty_names_take_one_zero(rt: HostRuntime) -> Result<(), Fail> {
     let empty: [&[u8]; 2] = [b"", b""];
     assert_table(&rt, rt.alloc(), &[], &[0], &[])?;
     assert_table(&rt, rt.alloc(), &empty, &[0], &[0, 0])
 }
 
+// Names that differ behind many equal last bytes.
+#[test]
+fn long_names_differ_at_their_beginnings(rt: HostRuntime) -> Result<(), Fail> {
+    let long = b"0123456789012345678901234567890123456789";
+    let names: [&[u8]; 3] = [b"x123456789012345678901234567890123456789", long, &long[1..]];
+    let bytes = b"\0x123456789012345678901234567890123456789\00123456789012345678901234567890123456789\0";
+    assert_table(&rt, rt.alloc(), &names, bytes, &[1, 42, 2])
+}
+
 // The section names of an empty object.
 #[test]
-fn section_names_of_an_empty_object(rt: HostRuntime) -> Result<(), AllocError> {
+fn section_names_of_an_empty_object(rt: HostRuntime) -> Result<(), Fail> {
     let names: [&[u8]; 3] = [b".symtab", b".strtab", b".shstrtab"];
     let bytes = b"\0.symtab\0.strtab\0.shstrtab\0";
     assert_table(&rt, rt.alloc(), &names, bytes, &[1, 9, 17])

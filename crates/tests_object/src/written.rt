@@ -213,17 +213,17 @@ const MANY_SYMBOLS: [Field; 17] = [
     (117, 1, 2),
     (118, 2, 1),
     (128, 8, 1),
-    (136, 4, 1),
+    (136, 4, 2),
     (140, 1, 0x12),
     (142, 2, 0xfff1),
     (144, 8, 5),
     (152, 8, 1),
-    (160, 4, 3),
+    (160, 4, 1),
     (164, 1, 0x12),
     (166, 2, 0xfff2),
     (168, 8, 16),
     (176, 8, 0x87654321),
-    (184, 4, 1),
+    (184, 4, 2),
     (188, 1, 0x12),
     (200, 8, 1),
 ];
@@ -236,16 +236,17 @@ fn many_fields_file(order: Order) -> [u8; 696] {
     set_bytes(&mut file, 64, b"123");
     set(&mut file, order, &[(72, 8, 0x10), (80, 8, 7)]);
     set(&mut file, order, &MANY_SYMBOLS);
-    set_bytes(&mut file, 208, b"\0b\0ab\0");
-    set_bytes(&mut file, 214, b"\0a\0b\0.symtab\0.strtab\0.shstrtab\0");
+    // The symbols `b` end with `ab`, and the section `b` with `.symtab`.
+    set_bytes(&mut file, 208, b"\0ab\0");
+    set_bytes(&mut file, 212, b"\0a\0.symtab\0.strtab\0.shstrtab\0");
     let space = [1, 8, 3, 64, 0x123456789, 2, 0, 0x1000, 0];
     set_section(&mut file, order, 312, space);
     set(&mut file, order, &[(328, 8, 0x1000)]);
-    set_section(&mut file, order, 376, [3, 7, 0x40, 64, 3, 0, 1, 0, 8]);
+    set_section(&mut file, order, 376, [9, 7, 0x40, 64, 3, 0, 1, 0, 8]);
     set_section(&mut file, order, 440, [1, 9, 0, 72, 16, 4, 2, 8, 16]);
-    set_section(&mut file, order, 504, [5, 2, 0, 88, 120, 5, 2, 8, 24]);
-    set_section(&mut file, order, 568, [13, 3, 0, 208, 6, 0, 0, 1, 0]);
-    set_section(&mut file, order, 632, [21, 3, 0, 214, 31, 0, 0, 1, 0]);
+    set_section(&mut file, order, 504, [3, 2, 0, 88, 120, 5, 2, 8, 24]);
+    set_section(&mut file, order, 568, [11, 3, 0, 208, 4, 0, 0, 1, 0]);
+    set_section(&mut file, order, 632, [19, 3, 0, 212, 29, 0, 0, 1, 0]);
     file
 }
 
