@@ -3,6 +3,7 @@ pub use Rattle.elf_object_reader.specs.Denotes
 pub use Rattle.elf_object_reader.specs.FileRules
 pub use Rattle.elf_object_reader.specs.Kept
 pub use Rattle.elf_object_reader.specs.Reading
+pub use Rattle.elf_object_strings.specs.Shared
 pub use Rattle.elf_object_strings.specs.StringTable
 pub use Rattle.elf_object_type.specs.GroupRule
 pub use Rattle.elf_object_type.specs.Object

@@ -22,6 +22,7 @@
 pub mod rules;
 
 pub use elf_object_reader::object_of;
+pub use elf_object_strings::{Shared, shared_table};
 pub use elf_object_type::{
     Body, Info, Object, ObjectFault, ObjectParts, Place, Relocation, Section, Symbol,
 };

@@ -37,7 +37,7 @@ pub mod table {
 pub mod object {
     pub use elf::object::{
         Body, Info, Layout, LayoutFault, Object, ObjectFault, ObjectParts, ObjectWriteFault, Place,
-        Relocation, Section, Symbol, lay_out, object_of, rules, write_object,
+        Relocation, Section, Shared, Symbol, lay_out, object_of, rules, shared_table, write_object,
     };
 }
 

@@ -1,12 +1,18 @@
-//! An object made from its parts: a group of one section, and the symbol that signs it.
+//! A string table, and an object made from its parts: a group of one section, and the symbol that signs it.
 use crate::said::{Said, say};
+use elf_extent::OutOfMemory;
 use elf_field::Order;
+use elf_object_strings::shared_table;
 use elf_object_type::{Body, Info, Object, ObjectFault, ObjectParts, Place, Section, Symbol};
 use std::alloc::{AllocError, Global};
 use std::io::Write;
 
-/// The call on these parts.
+/// The calls on names and on these parts.
 pub fn calls<W: Write>(alloc: Global, out: &mut W) {
+    match shared_table(alloc, &[b"ab", b"b", b"c"]) {
+        Ok(shared) => say(out, "shared_table", Said::Done(shared.bytes.len() as u64)),
+        Err(OutOfMemory) => say(out, "shared_table", Said::Memory),
+    }
     let Ok(parts) = parts(alloc) else {
         return say(out, "ObjectParts", Said::Memory);
     };
