@@ -1,4 +1,6 @@
 -- `Public` is for the proofs of the crates above, the others are for those of this one.
 mod Distinct
+mod EndNumbers
 mod Names
+mod Numbering
 pub mod Public
