@@ -1,5 +1,5 @@
 -- Names as numbers of their last bytes: where the numbers differ, they stand in the order of the names.
-use Rattle.std.proofs.Common.{◌≡◌, ◌≢◌, ℕ, zero, suc, ◌+◌, ◌-◌, ◌*◌, ◌^◌, ◌<◌, ◌≤◌, List, [], ◌∷◌, ◌++◌, length, get_or, take, drop, min, replicate, reverse, Ordering, refl, sym, ap, subst, ◌∙◌, inl, inr, add-one, arith}
+use Rattle.std.proofs.Common.{◌≡◌, ℕ, zero, suc, ◌+◌, ◌-◌, ◌*◌, ◌^◌, ◌<◌, ◌≤◌, List, [], ◌∷◌, ◌++◌, length, get_or, take, drop, min, replicate, reverse, Ordering, refl, sym, ap, subst, ◌∙◌, inl, inr, add-one, arith}
 use Rattle.std.specs.declared.cmp.Ordering.TheVariants.{Less, Equal, Greater}
 use Rattle.std.specs.Cmp.{nat_cmp_is}
 use Rattle.std.specs.Cmp.Lexicographic.{slice_cmp}
@@ -134,9 +134,9 @@ worth zero (byte ∷ bytes) within = omega arith
 worth (suc k) bytes within =
     let before = worth k bytes (omega arith) in
     let more : take (suc (suc k)) bytes ≡ take (suc k) bytes ++ get_or bytes (suc k) 0 ∷ [] =
-        ap (λ (n : ℕ). take n bytes) (sym (add-one (suc k))) ∙ take_more bytes (suc k) 0 within in
+    ap (λ (n : ℕ). take n bytes) (sym (add-one (suc k))) ∙ take_more bytes (suc k) 0 within in
     let turned : reverse (take (suc (suc k)) bytes) ≡ get_or bytes (suc k) 0 ∷ reverse (take (suc k) bytes) =
-        ap reverse more ∙ reverse-append (take (suc k) bytes) (get_or bytes (suc k) 0 ∷ []) in
+    ap reverse more ∙ reverse-append (take (suc k) bytes) (get_or bytes (suc k) 0 ∷ []) in
     rw turned (omega arith)
 
 number-is : (bytes : List ℕ) → length bytes ≡ 8 → from_le_bytes w64 bytes ≡ leading 8 (reverse bytes)
@@ -148,29 +148,34 @@ last_ones : (name : List ℕ) (m : ℕ) → m ≡ length name - 8 → leading 8 
 last_ones name zero is = refl
 last_ones name (suc m) is =
     let parts : reverse name ≡ reverse (drop (suc m) name) ++ reverse (take (suc m) name) =
-        ap reverse (sym (take-append-drop (suc m) name)) ∙ reverse-append (take (suc m) name) (drop (suc m) name) in
+    ap reverse (sym (take-append-drop (suc m) name)) ∙ reverse-append (take (suc m) name) (drop (suc m) name) in
     let long : 8 ≤ length (reverse (drop (suc m) name)) = simp (length-reverse, length-drop) (omega arith) in
     sym (ap (leading 8) parts ∙ leading-append 8 (reverse (drop (suc m) name)) (reverse (take (suc m) name)) long)
 
--- the last bytes of a name, written behind zeros to the length of eight, stand for its number
+-- the last bytes behind zeros, to the length of eight
+closed_end : (name tail : List ℕ) (k : ℕ) → k + length tail ≡ 8 → tail ≡ drop (length name - length tail) name →
+    length tail ≡ min (length name) 8 → from_le_bytes w64 (zeros k ++ tail) ≡ end_number name
+closed_end name tail k long is count =
+    let eight : length (zeros k ++ tail) ≡ 8 = simp (length-append, length-replicate) long in
+    let turned : reverse (zeros k ++ tail) ≡ reverse tail ++ zeros k =
+    reverse-append (zeros k) tail ∙ ap (λ (xs : List ℕ). reverse tail ++ xs) (reverse-zeros k) in
+    number-is (zeros k ++ tail) eight ∙ ap (leading 8) turned ∙ leading-closed 8 (reverse tail) k
+    ∙ ap (λ (xs : List ℕ). leading 8 (reverse xs)) is ∙ last_ones name (length name - length tail) (omega arith)
+
+-- as `copy_from_slice` leaves them there
 pub padded_end : (name written : List ℕ) (count : ℕ) → count ≡ min (length name) 8 →
     written ≡ take (length name - (length name - count)) (drop (length name - count) name) →
     from_le_bytes w64 (put_mid (8 - count) (8 - (8 - count)) (zeros 8) written) ≡ end_number name
 padded_end name written count is made =
-    let m : ℕ = length name - count in
-    let tail : List ℕ = drop m name in
-    let all : written ≡ tail = made ∙ take_rest name m in
-    let tail_len : length tail ≡ count = length-drop m name ∙ omega arith in
+    let all : written ≡ drop (length name - count) name = made ∙ take_rest name (length name - count) in
+    let long : length written ≡ count = ap length all ∙ length-drop (length name - count) name ∙ omega arith in
     let short : length (drop (8 - count) (zeros 8)) ≤ 8 - (8 - count) = simp (length-drop, length-replicate) (omega arith) in
     let none_left : post_of (8 - count) (8 - (8 - count)) (zeros 8) ≡ [] =
-        drop_all (8 - (8 - count)) (drop (8 - count) (zeros 8)) short in
-    let bytes : put_mid (8 - count) (8 - (8 - count)) (zeros 8) written ≡ zeros (8 - count) ++ tail =
-        rw (all, none_left, append-nil) (ap (λ (xs : List ℕ). xs ++ tail) (take-replicate (8 - count) 8 0 (omega arith))) in
-    let long : length (zeros (8 - count) ++ tail) ≡ 8 = simp (length-append, length-replicate) (omega arith) in
-    let turned : reverse (zeros (8 - count) ++ tail) ≡ reverse tail ++ zeros (8 - count) =
-        reverse-append (zeros (8 - count)) tail ∙ ap (λ (xs : List ℕ). reverse tail ++ xs) (reverse-zeros (8 - count)) in
-    ap (from_le_bytes w64) bytes ∙ number-is (zeros (8 - count) ++ tail) long ∙ ap (leading 8) turned
-    ∙ leading-closed 8 (reverse tail) (8 - count) ∙ last_ones name m (omega arith)
+    drop_all (8 - (8 - count)) (drop (8 - count) (zeros 8)) short in
+    let bytes : put_mid (8 - count) (8 - (8 - count)) (zeros 8) written ≡ zeros (8 - count) ++ written =
+    rw (none_left, append-nil) (ap (λ (xs : List ℕ). xs ++ written) (take-replicate (8 - count) 8 0 (omega arith))) in
+    let ends : written ≡ drop (length name - length written) name = rw long all in
+    rw bytes (closed_end name written (8 - count) (omega arith) ends (omega arith))
 
 -- ---- ends in common
 
@@ -183,7 +188,7 @@ pub without_equal_ends : (name other rest other_rest : List ℕ) → AreWithoutE
 without_equal_ends name other rest other_rest are =
     let whole : reverse name ≡ reverse are.ending ++ reverse rest = ap reverse are.name_is ∙ reverse-append rest are.ending in
     let other_whole : reverse other ≡ reverse are.ending ++ reverse other_rest =
-        ap reverse are.other_is ∙ reverse-append other_rest are.ending in
+    ap reverse are.other_is ∙ reverse-append other_rest are.ending in
     rw (whole, other_whole) (sym (same_beginning (reverse are.ending) (reverse rest) (reverse other_rest)))
 
 -- ---- the order by the numbers first

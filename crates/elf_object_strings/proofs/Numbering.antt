@@ -1,19 +1,14 @@
--- Names with their indexes: one name more, in another order, and sorted.
-use Rattle.std.proofs.Common.{◌≡◌, ℕ, ◌+◌, ◌<◌, ◌≤◌, false, List, [], ◌∷◌, ◌++◌, get_or, length, map, reverse, Ordering, refl, sym, ap, subst, ◌∙◌, inl, inr, arith}
-use Rattle.std.specs.declared.cmp.Ordering.TheVariants.{Less, Equal, Greater}
+-- Names with their indexes: in the order of their list, in another order, and sorted.
+use Rattle.std.proofs.Common.{◌≡◌, ℕ, ◌<◌, List, [], get_or, length, reverse, sym, ap, subst, ◌∙◌, arith}
 use Rattle.std.specs.Cmp.{IsTotalOrder}
-use Rattle.std.specs.Cmp.Lexicographic.{slice_cmp}
 use Rattle.std.specs.List.{All, Contains}
 use Rattle.std.specs.List.Sorted.{IsPermutation, IsSortedBy}
-use Rattle.std.specs.Ordering.{is_lt, nat_cmp, ordering_then}
-use Rattle.std.proofs.lemmas.Bool.{cases_lt}
+use Rattle.std.specs.Ordering.{is_lt}
 use Rattle.std.proofs.lemmas.Cmp.{back_total, nat_cmp_total, nat_list_cmp_total, on_total, then_total}
-use Rattle.std.proofs.lemmas.List.{get_or-map, get_or_append_left, get_or_default, get_or_push, length-map, length_push, map_push}
-use Rattle.std.proofs.lemmas.List.Elements.{All-push}
+use Rattle.std.proofs.lemmas.List.{get_or-map, get_or_default, length-map}
 use Rattle.std.proofs.lemmas.List.Sorted.{All-permutation, Contains-permutation, length_permutation, ranks_by, sorted_far}
-use Rattle.elf_field.specs.Bytes.{IsBytes}
 use Rattle.elf_object_strings.specs.declared.sorting.Numbered.{Numbered}
-use Rattle.elf_object_strings.specs.Sorting.{AreInOrder, AreNumbered, HasEnd, end_number, ends_order, indexes_in, leading, names_in, numbered_order}
+use Rattle.elf_object_strings.specs.Sorting.{AreInOrder, AreNumbered, HasEnd, ends_order, indexes_in, names_in, numbered_order}
 use Rattle.elf_object_strings.proofs.EndNumbers.{end_decides}
 
 abbrev name_of : Numbered → List ℕ
@@ -25,7 +20,7 @@ index_of it = it.index
 abbrev nothing : Numbered
 nothing = record { name = record { ref_ptr = (0, 0); now = [] }; index = 0; end = 0 }
 
--- ---- one name more
+-- ---- in the order of the list
 
 -- the names below an index, with their indexes
 pub record AreNumberedTo (names : List (List ℕ)) (i : ℕ) (numbered : List Numbered) : Type 0 where
@@ -33,47 +28,6 @@ pub record AreNumberedTo (names : List (List ℕ)) (i : ℕ) (numbered : List Nu
   pub indexes : (k : ℕ) → k < i → get_or (indexes_in numbered) k 0 ≡ k
   pub named : (k : ℕ) → k < i → get_or (names_in numbered) k [] ≡ get_or names k []
   pub ends : All HasEnd numbered
-
-pub numbered_none : (names : List (List ℕ)) (numbered : List Numbered) → numbered ≡ [] → AreNumberedTo names 0 numbered
-numbered_none names numbered empty =
-    subst (AreNumberedTo names 0) (sym empty) (record {
-      as_many = refl;
-      indexes = λ k lt. absurd (omega arith);
-      named = λ k lt. absurd (omega arith);
-      ends = λ k d lt. absurd (omega arith);
-    })
-
--- one more element, as a list at each place below
-place_more : {A : Type 0} (xs ys : List A) (x d : A) (i : ℕ) → length xs ≡ i → get_or ys i d ≡ x →
-    ((k : ℕ) → k < i → get_or xs k d ≡ get_or ys k d) → (k : ℕ) → k < i + 1 → get_or (xs ++ x ∷ []) k d ≡ get_or ys k d
-place_more xs ys x d i long here below k lt =
-    elim (cases_lt k i) [
-      | inl before ↦ get_or_append_left xs (x ∷ []) d k (omega arith) ∙ below k before
-      | inr last ↦
-          let same : i ≡ k = omega arith in
-          subst (λ (j : ℕ). get_or (xs ++ x ∷ []) j d ≡ get_or ys j d) same (get_or_push xs x d i long ∙ sym here)
-    ]
-
-pub numbered_more : (names : List (List ℕ)) (i : ℕ) (numbered : List Numbered) (it : Numbered) →
-    AreNumberedTo names i numbered → it.index ≡ i → get_or names i [] ≡ it.name.now → HasEnd it →
-    AreNumberedTo names (i + 1) (numbered ++ it ∷ [])
-numbered_more names i numbered it are index named end = record {
-  as_many = length_push numbered it ∙ ap (λ (n : ℕ). n + 1) are.as_many;
-  indexes = λ k lt. elim (cases_lt k i) [
-    | inl before ↦
-        rw (map_push index_of numbered it)
-        (get_or_append_left (indexes_in numbered) (it.index ∷ []) 0 k (omega (arith, length-map numbered index_of, are.as_many)) ∙ are.indexes k before)
-    | inr last ↦
-        let same : i ≡ k = omega arith in
-        rw (map_push index_of numbered it)
-        (subst (λ (j : ℕ). get_or (indexes_in numbered ++ it.index ∷ []) j 0 ≡ j) same
-        (get_or_push (indexes_in numbered) it.index 0 i (length-map numbered index_of ∙ are.as_many) ∙ index))
-  ];
-  named = λ k lt.
-      rw (map_push name_of numbered it)
-      (place_more (names_in numbered) names it.name.now [] i (length-map numbered name_of ∙ are.as_many) named are.named k lt);
-  ends = All-push HasEnd numbered it are.ends end;
-}
 
 pub numbered_all : (names : List (List ℕ)) (numbered : List Numbered) → AreNumberedTo names (length names) numbered →
     AreNumbered names (names_in numbered) (indexes_in numbered)
@@ -99,9 +53,10 @@ each_named : (names : List (List ℕ)) (xs : List Numbered) → AreNumbered name
 each_named names xs are = λ k d lt.
     let within : k < length (names_in xs) = omega (arith, length-map xs name_of) in
     let index = get_or-map index_of xs k d 0 lt in
-    let name = get_or-map name_of xs k d [] lt in
-    (subst (λ (i : ℕ). i < length names) index (are.below k within),
-    ap (λ (i : ℕ). get_or names i []) (sym index) ∙ are.named k within ∙ name)
+    let name = get_or-map name_of xs k d [] lt in (
+      subst (λ (i : ℕ). i < length names) index (are.below k within),
+      ap (λ (i : ℕ). get_or names i []) (sym index) ∙ are.named k within ∙ name,
+    )
 
 pub numbered_permuted : (names : List (List ℕ)) (xs ys : List Numbered) → IsPermutation xs ys →
     AreNumbered names (names_in xs) (indexes_in xs) → AreNumbered names (names_in ys) (indexes_in ys)
@@ -127,9 +82,11 @@ numbered_permuted names xs ys moved are =
           let within_xs : q < length xs = omega arith in
           let it : Numbered = get_or xs q nothing in
           let there : Contains xs it = (q, within_xs, get_or_default xs q it nothing within_xs) in
-          let (r, below, at) = Contains-permutation xs ys it moved there in
-          (r, omega arith,
-          get_or-map index_of ys r it 0 below ∙ ap index_of at ∙ sym (get_or-map index_of xs q nothing 0 within_xs) ∙ is);
+          let (r, below, at) = Contains-permutation xs ys it moved there in (
+            r,
+            omega arith,
+            get_or-map index_of ys r it 0 below ∙ ap index_of at ∙ sym (get_or-map index_of xs q nothing 0 within_xs) ∙ is,
+          );
     }
 
 -- ---- sorted
@@ -152,7 +109,11 @@ numbered_in_order sorted ends up = λ q r le lt.
     let later : Numbered = get_or sorted r nothing in
     let earlier : Numbered = get_or sorted q nothing in
     let by_names : numbered_order later earlier ≡ ends_order later.name.now later.index earlier.name.now earlier.index =
-        end_decides later earlier (ends r nothing within) (ends q nothing q_within) in
-    rw (get_or-map name_of sorted r nothing [] within, get_or-map index_of sorted r nothing 0 within,
-    get_or-map name_of sorted q nothing [] q_within, get_or-map index_of sorted q nothing 0 q_within)
+    end_decides later earlier (ends r nothing within) (ends q nothing q_within) in
+    rw (
+      get_or-map name_of sorted r nothing [] within,
+      get_or-map index_of sorted r nothing 0 within,
+      get_or-map name_of sorted q nothing [] q_within,
+      get_or-map index_of sorted q nothing 0 q_within,
+    )
     (ap is_lt (sym by_names) ∙ far)
