@@ -66,7 +66,8 @@ digits : (x y p r s : ℕ) (o : Ordering) → r < p → s < p → ordering_then 
 digits x y p r s o low other_low rest =
     elim (cases_order x y) [
       | inl same ↦
-          let P : ℕ → Type 0 = λ z. ordering_then (nat_cmp (x * p + r) (z * p + s)) (ordering_then (nat_cmp x z) o) ≡ ordering_then (nat_cmp x z) o in
+          let P : ℕ → Type 0 = λ z.
+          ordering_then (nat_cmp (x * p + r) (z * p + s)) (ordering_then (nat_cmp x z) o) ≡ ordering_then (nat_cmp x z) o in
           subst P same (rw (added (x * p) r s, equal x x refl) rest)
       | inr other ↦ elim other [
         | inl below ↦ rw (less (x * p + r) (y * p + s) (digits-lt x y p r s below low), less x y below) refl
@@ -162,20 +163,23 @@ closed_end name tail k long is count =
     number-is (zeros k ++ tail) eight ∙ ap (leading 8) turned ∙ leading-closed 8 (reverse tail) k
     ∙ ap (λ (xs : List ℕ). leading 8 (reverse xs)) is ∙ last_ones name (length name - length tail) (omega arith)
 
--- as `copy_from_slice` leaves them there
+-- as a write over the last of n zeros leaves them
+behind_zeros : (a n : ℕ) (written : List ℕ) → a ≤ n → put_mid a (n - a) (zeros n) written ≡ zeros a ++ written
+behind_zeros a n written within =
+    let short : length (drop a (zeros n)) ≤ n - a = simp (length-drop, length-replicate) (omega arith) in
+    let none_left : post_of a (n - a) (zeros n) ≡ [] = drop_all (n - a) (drop a (zeros n)) short in
+    let front : take a (zeros n) ≡ zeros a = take-replicate a n 0 within in
+    rw (none_left, append-nil, front) refl
+
 pub padded_end : (name written : List ℕ) (count : ℕ) → count ≡ min (length name) 8 →
     written ≡ take (length name - (length name - count)) (drop (length name - count) name) →
     from_le_bytes w64 (put_mid (8 - count) (8 - (8 - count)) (zeros 8) written) ≡ end_number name
 padded_end name written count is made =
     let all : written ≡ drop (length name - count) name = made ∙ take_rest name (length name - count) in
     let long : length written ≡ count = ap length all ∙ length-drop (length name - count) name ∙ omega arith in
-    let short : length (drop (8 - count) (zeros 8)) ≤ 8 - (8 - count) = simp (length-drop, length-replicate) (omega arith) in
-    let none_left : post_of (8 - count) (8 - (8 - count)) (zeros 8) ≡ [] =
-    drop_all (8 - (8 - count)) (drop (8 - count) (zeros 8)) short in
-    let bytes : put_mid (8 - count) (8 - (8 - count)) (zeros 8) written ≡ zeros (8 - count) ++ written =
-    rw (none_left, append-nil) (ap (λ (xs : List ℕ). xs ++ written) (take-replicate (8 - count) 8 0 (omega arith))) in
     let ends : written ≡ drop (length name - length written) name = rw long all in
-    rw bytes (closed_end name written (8 - count) (omega arith) ends (omega arith))
+    rw (behind_zeros (8 - count) 8 written (omega arith))
+    (closed_end name written (8 - count) (omega arith) ends (omega arith))
 
 -- ---- ends in common
 

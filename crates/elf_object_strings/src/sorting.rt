@@ -64,6 +64,7 @@ fn end_of(name: &[u8]) -> u64
 fn by_end(a: &Numbered<'_>, b: &Numbered<'_>) -> Ordering
     ensures { result ≡ numbered_order a.now b.now }
 {
+    // Where the numbers differ, they stand in the order of the names, which need not be looked at.
     match b.end.cmp(&a.end) {
         Ordering::Equal => by_whole_end(a, b),
         order => order,

@@ -3,7 +3,8 @@ use Rattle.std.specs.Cmp.Lexicographic.{same_text}
 use Rattle.std.proofs.lemmas.List.{take-append-drop}
 use Rattle.elf_object_strings.proofs.sorting.without_equal_ends.Goals as goal
 
-parts : (n : ℕ) (name rest ending : List ℕ) → rest ≡ take (length name - n) name → ending ≡ drop (length name - n) name → name ≡ rest ++ ending
+parts : (n : ℕ) (name rest ending : List ℕ) →
+    rest ≡ take (length name - n) name → ending ≡ drop (length name - n) name → name ≡ rest ++ ending
 parts n name rest ending rest_is ending_is = rw (rest_is, ending_is, take-append-drop) refl
 
 pub returns-then-eq-clause-ends : goal.returns-then-eq-clause-ends
