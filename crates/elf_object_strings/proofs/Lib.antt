@@ -1,9 +1,11 @@
 -- `Public` is for the proofs of the crates above, the others are for those of this one.
 mod Distinct
+mod EndNumbers
 mod Joined
 mod Kept
 mod Lowest
 mod Minimal
 mod Names
+mod Numbering
 pub mod Public
 mod Suffix

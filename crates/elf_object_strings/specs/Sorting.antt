@@ -1,8 +1,9 @@
 -- Names sorted by what they end with.
-use Rattle.std.specs.Prelude.{◌≡◌, ◌<◌, ◌≤◌, ℕ, false, List, [], get_or, length, map, reverse}
+use Rattle.std.specs.Prelude.{◌≡◌, ◌+◌, ◌*◌, ◌^◌, ◌<◌, ◌≤◌, ℕ, zero, suc, false, List, [], ◌∷◌, ◌++◌, get_or, length, map, reverse}
 use Rattle.std.specs.Cmp.Lexicographic.{slice_cmp}
 use Rattle.std.specs.declared.cmp.Ordering.{Ordering}
 use Rattle.std.specs.Ordering.{is_lt, nat_cmp, ordering_then}
+use Rattle.elf_field.specs.Bytes.{IsBytes}
 use Rattle.elf_object_strings.specs.declared.sorting.Numbered.{Numbered}
 
 abbrev pub names_in : List Numbered → List (List ℕ)
@@ -29,3 +30,29 @@ abbrev pub AreInOrder : List (List ℕ) → List ℕ → Type 0
 AreInOrder sorted indexes =
     (q r : ℕ) → q ≤ r → r < length sorted →
     is_lt (ends_order (get_or sorted r []) (get_or indexes r 0) (get_or sorted q []) (get_or indexes q 0)) ≡ false
+
+-- the number that the first n bytes stand for, the first of them the most significant; those past the end count as zeros
+unfoldable pub leading : ℕ → List ℕ → ℕ
+leading zero bytes = 0
+leading (suc n) [] = 0
+leading (suc n) (byte ∷ bytes) = byte * 256 ^ n + leading n bytes
+
+-- the number that the last eight bytes of a name stand for, the last of them the most significant
+abbrev pub end_number : List ℕ → ℕ
+end_number name = leading 8 (reverse name)
+
+-- a name of bytes, beside the number of its last eight
+pub record HasEnd (it : Numbered) : Type 0 where
+  pub bytes : IsBytes it.name.now
+  pub number : it.end ≡ end_number it.name.now
+
+-- the order by the numbers first
+abbrev pub numbered_order : Numbered → Numbered → Ordering
+numbered_order it other =
+    ordering_then (nat_cmp other.end it.end) (ends_order it.name.now it.index other.name.now other.index)
+
+-- two names without the last bytes, which they have in common
+pub record AreWithoutEqualEnds (name : List ℕ) (other : List ℕ) (rest : List ℕ) (other_rest : List ℕ) : Type 0 where
+  pub ending : List ℕ
+  pub name_is : name ≡ rest ++ ending
+  pub other_is : other ≡ other_rest ++ ending

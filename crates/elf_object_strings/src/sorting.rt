@@ -1,7 +1,11 @@
 //! Names sorted by what they end with.
-ghost use Rattle.std.specs.Prelude.{◌≡◌, IfOk};
+ghost use Rattle.std.specs.Cmp.Lexicographic.{slice_cmp};
+ghost use Rattle.std.specs.List.{All};
+ghost use Rattle.std.specs.Ordering.{nat_cmp};
+ghost use Rattle.std.specs.Prelude.{◌≡◌, ◌<◌, length, reverse, IfOk, IfSome};
+ghost use Rattle.elf_field.specs.Bytes.{IsBytes};
 ghost use Rattle.elf_object_strings.specs.Shared.{texts};
-ghost use Rattle.elf_object_strings.specs.Sorting.{AreInOrder, AreNumbered, indexes_in, names_in};
+ghost use Rattle.elf_object_strings.specs.Sorting.{AreInOrder, AreNumbered, AreWithoutEqualEnds, HasEnd, end_number, ends_order, indexes_in, names_in, numbered_order};
 
 use std::alloc::{AllocError, Global};
 use std::cmp::Ordering;
@@ -30,7 +34,10 @@ pub(crate) fn sorted_names<'a>(
     Ok(sorted)
 }
 
-fn number_names<'a>(alloc: Global, names: &[&'a [u8]]) -> Result<Vec<Numbered<'a>>, AllocError> {
+fn number_names<'a>(alloc: Global, names: &[&'a [u8]]) -> Result<Vec<Numbered<'a>>, AllocError>
+    ensures numbered { IfOk result (λ numbered. AreNumbered (texts names.now) (names_in numbered.items) (indexes_in numbered.items)) }
+    ensures ends { IfOk result (λ numbered. All HasEnd numbered.items) }
+{
     let mut numbered = Vec::with_capacity(alloc, names.len())?;
     for index in 0..names.len() {
         let name = names[index];
@@ -44,21 +51,29 @@ fn number_names<'a>(alloc: Global, names: &[&'a [u8]]) -> Result<Vec<Numbered<'a
 }
 
 /// The last eight bytes of a name as a number.
-fn end_of(name: &[u8]) -> u64 {
+fn end_of(name: &[u8]) -> u64
+    ensures value { result ≡ end_number name.now }
+    ensures bytes { IsBytes name.now }
+{
     let mut end = [0; 8];
     let count = name.len().min(8);
     end[8 - count..].copy_from_slice(&name[name.len() - count..]);
     u64::from_le_bytes(end)
 }
 
-fn by_end(a: &Numbered<'_>, b: &Numbered<'_>) -> Ordering {
+fn by_end(a: &Numbered<'_>, b: &Numbered<'_>) -> Ordering
+    ensures { result ≡ numbered_order a.now b.now }
+{
+    // Where the numbers differ, they stand in the order of the names, which need not be looked at.
     match b.end.cmp(&a.end) {
         Ordering::Equal => by_whole_end(a, b),
         order => order,
     }
 }
 
-fn by_whole_end(a: &Numbered<'_>, b: &Numbered<'_>) -> Ordering {
+fn by_whole_end(a: &Numbered<'_>, b: &Numbered<'_>) -> Ordering
+    ensures { result ≡ ends_order a.now.name.now a.now.index b.now.name.now b.now.index }
+{
     match compare_ends(b.name, a.name) {
         Ordering::Equal => a.index.cmp(&b.index),
         order => order,
@@ -66,7 +81,9 @@ fn by_whole_end(a: &Numbered<'_>, b: &Numbered<'_>) -> Ordering {
 }
 
 /// The order of two names that are read from their last bytes on.
-fn compare_ends(a: &[u8], b: &[u8]) -> Ordering {
+fn compare_ends(a: &[u8], b: &[u8]) -> Ordering
+    ensures { result ≡ slice_cmp nat_cmp (reverse a.now) (reverse b.now) }
+{
     let mut left = a;
     let mut right = b;
     while let Some((less_left, less_right)) = without_equal_ends(left, right) {
@@ -77,7 +94,10 @@ fn compare_ends(a: &[u8], b: &[u8]) -> Ordering {
 }
 
 /// Both without their last bytes, where these are equal.
-fn without_equal_ends<'a, 'b>(a: &'a [u8], b: &'b [u8]) -> Option<(&'a [u8], &'b [u8])> {
+fn without_equal_ends<'a, 'b>(a: &'a [u8], b: &'b [u8]) -> Option<(&'a [u8], &'b [u8])>
+    ensures shorter { IfSome result (λ rests. length rests.0.now < length a.now) }
+    ensures ends { IfSome result (λ rests. AreWithoutEqualEnds a.now b.now rests.0.now rests.1.now) }
+{
     let (a_rest, a_end) = a.split_last_chunk::<32>()?;
     let (b_rest, b_end) = b.split_last_chunk::<32>()?;
     if a_end == b_end {

@@ -1,0 +1,18 @@
+use Rattle.std.proofs.Common.{rules}
+use Rattle.std.specs.Ordering.{is_lt}
+use Rattle.std.proofs.lemmas.Fn.{always_returns_same}
+use Rattle.std.proofs.lemmas.List.Sorted.{All-permutation, ranks_by}
+use Rattle.elf_object_strings.specs.Sorting.{HasEnd, numbered_order}
+use Rattle.elf_object_strings.proofs.Numbering.{numbered_in_order, numbered_permuted, numbered_total}
+use Rattle.elf_object_strings.proofs.sorting.sorted_names.Goals as goal
+
+pub returns-clause-numbered : goal.returns-clause-numbered
+returns-clause-numbered c =
+    numbered_permuted _ _ _ c.sort_unstable_by.ensures.permutation c.in_ok-sorted.ensures.numbered
+
+pub returns-clause-order : goal.returns-clause-order
+returns-clause-order c =
+    numbered_in_order _
+    (All-permutation HasEnd _ _ c.sort_unstable_by.ensures.permutation c.in_ok-sorted.ensures.ends)
+    (c.sort_unstable_by.ensures.sorted (λ a b. is_lt (numbered_order a b)) (ranks_by numbered_total (λ it. it))
+    (always_returns_same _ _ _ (λ a r q k. search rules)))
