@@ -204,9 +204,14 @@ offset_is names n ends o is has named =
     let fits = suffix_fits n (get_or names o []) is.ends in
     (omega arith, rw named (ap (λ (e : ℕ). e - length n) end))
 
-pub empty_offset : (names : List (List ℕ)) (n : List ℕ) → is_named n ≡ false → 0 ≡ name_offset names n
+-- and the empty name
+pub offset_from : (names : List (List ℕ)) (n ends : List ℕ) (o offset : ℕ) → IsOwner names n o → HasEnds names (length names) ends →
+    (is_named n ≡ false → offset ≡ 0) → (is_named n ≡ true → offset ≡ get_or ends o 0 - length n) → offset ≡ name_offset names n
 unfolding name_offset
-empty_offset names n empty = rw empty refl
+offset_from names n ends o offset is has empty named = by_named (is_named n) refl where
+  by_named : (b : Bool) → is_named n ≡ b → offset ≡ name_offset names n
+  by_named true some = named some ∙ (offset_is names n ends o is has some).1
+  by_named false none = rw none (empty none)
 
 -- ---- the loop that writes
 
