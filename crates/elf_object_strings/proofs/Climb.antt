@@ -1,6 +1,6 @@
 -- Each name that is not empty has one that is held and ends with it.
-use Rattle.std.proofs.Common.{◌≡◌, ◌<◌, ◌≤◌, ◌+◌, ◌-◌, ℕ, zero, suc, Bool, true, false, not, ◌&&◌, List, [], ◌∷◌, ◌++◌, length, get_or, ◌⊎◌, inl, inr, refl, sym, ap, ◌∙◌, arith, length-append}
-use Rattle.std.specs.List.{filter, flat_map, list_any}
+use Rattle.std.proofs.Common.{◌≡◌, ◌<◌, ◌≤◌, ◌+◌, ℕ, zero, suc, Bool, true, false, not, List, [], ◌∷◌, length, get_or, ◌⊎◌, inl, inr, refl, sym, ap, ◌∙◌, arith, length-append}
+use Rattle.std.specs.List.{flat_map, list_any}
 use Rattle.std.specs.Str.{bytes_eq}
 use Rattle.std.proofs.lemmas.Bool.{and_from, and_parts, not_from_false, not-true, or_cases, or_left, or_right, true≢false}
 use Rattle.std.proofs.lemmas.List.Folds.{Any-from_list_any, list_any_at}
@@ -9,10 +9,11 @@ use Rattle.std.proofs.lemmas.List.{get_or_default}
 use Rattle.elf_object_strings.specs.Owners.{IsSuffix}
 use Rattle.elf_object_strings.specs.StringTable.{closed, distinct, held, is_kept, is_named, is_proper_suffix, is_suffix}
 use Rattle.elf_object_strings.proofs.Distinct.{bytes_eq-self, in_distinct, same_name}
-use Rattle.elf_object_strings.proofs.Ends.{length-closed, suffix_from, suffix_named, suffix_self, suffix_test, suffix_trans}
+use Rattle.elf_object_strings.proofs.Ends.{length-closed, suffix_from, suffix_named, suffix_same, suffix_test, suffix_trans}
 
 -- what passes one test passes the other
-pub any_weaker : (p q : List ℕ → Bool) → ((k : List ℕ) → p k ≡ true → q k ≡ true) → (ks : List (List ℕ)) → list_any p ks ≡ true → list_any q ks ≡ true
+pub any_weaker : (p q : List ℕ → Bool) → ((k : List ℕ) → p k ≡ true → q k ≡ true) →
+    (ks : List (List ℕ)) → list_any p ks ≡ true → list_any q ks ≡ true
 any_weaker p q weaker [] found = found
 any_weaker p q weaker (k ∷ ks) found = by_first (or_cases (p k) (list_any p ks) found) (any_weaker p q weaker ks) where
   by_first : (p k ≡ true) ⊎ (list_any p ks ≡ true) → (list_any p ks ≡ true → list_any q ks ≡ true) → list_any q (k ∷ ks) ≡ true
@@ -30,15 +31,16 @@ shorter name other (b ∷ front, is) differ =
 not_longer : (names : List (List ℕ)) (i : ℕ) → i < length names → length (get_or names i []) ≤ length (flat_map closed names)
 not_longer [] i lt = absurd (omega arith)
 not_longer (n ∷ names) zero lt =
-    let whole : length (flat_map closed (n ∷ names)) ≡ suc (length n) + length (flat_map closed names) = length-closed n (flat_map closed names) in
+    let whole = length-closed n (flat_map closed names) in
     omega arith
 not_longer (n ∷ names) (suc i) lt =
-    let whole : length (flat_map closed (n ∷ names)) ≡ suc (length n) + length (flat_map closed names) = length-closed n (flat_map closed names) in
+    let whole = length-closed n (flat_map closed names) in
     let rest : length (get_or names i []) ≤ length (flat_map closed names) = not_longer names i (omega arith) in
     omega arith
 
 -- a name that is to be held is held
-pub in_held : (names : List (List ℕ)) (n : List ℕ) → is_kept names n ≡ true → list_any (bytes_eq n) names ≡ true → list_any (bytes_eq n) (held names) ≡ true
+pub in_held : (names : List (List ℕ)) (n : List ℕ) → is_kept names n ≡ true → list_any (bytes_eq n) names ≡ true →
+    list_any (bytes_eq n) (held names) ≡ true
 unfolding held
 in_held names n kept found =
     any-filter_same (bytes_eq n) (is_kept names) true (λ k equal. ap (is_kept names) (sym (same_name n k equal)) ∙ kept) (distinct names)
@@ -56,7 +58,8 @@ climb names (suc fuel) i lt named some = by_longer (list_any (is_proper_suffix (
       let n = get_or names i [] in
       let kept : is_kept names n ≡ true = and_from (is_named n) (not (list_any (is_proper_suffix n) names)) named (not_from_false _ none) in
       let there = list_any_at (bytes_eq n) names i [] lt (bytes_eq-self n) in
-      any_weaker (bytes_eq n) (is_suffix n) (λ k equal. suffix_test n k ([], sym (same_name n k equal))) (held names) (in_held names n kept there)
+      any_weaker (bytes_eq n) (is_suffix n) (λ k equal. suffix_test n k (suffix_same n k (sym (same_name n k equal))))
+      (held names) (in_held names n kept there)
   by_longer true found further =
       let n = get_or names i [] in
       let longer = Any-from_list_any (is_proper_suffix n) names found in
@@ -78,5 +81,6 @@ pub ends_held_one : (names : List (List ℕ)) (n : List ℕ) → list_any (bytes
     list_any (is_suffix n) (held names) ≡ true
 ends_held_one names n found named =
     let there = Any-from_list_any (bytes_eq n) names found in
-    let same : get_or names there.0 [] ≡ n = get_or_default names there.0 [] there.1 there.2 ∙ there.3 ∙ sym (same_name n there.1 there.4) in
+    let same : get_or names there.0 [] ≡ n = get_or_default names there.0 [] there.1 there.2 ∙ there.3
+    ∙ sym (same_name n there.1 there.4) in
     ap (λ (m : List ℕ). list_any (is_suffix m) (held names)) (sym same) ∙ ends_held names there.0 there.2 (ap is_named same ∙ named)

@@ -17,9 +17,6 @@ suffix_from name other is = (take (length other - length name) other, (ends_is D
 pub suffix_test : (name other : List ℕ) → IsSuffix name other → is_suffix name other ≡ true
 suffix_test name other (front, is) = (ends_is Decides-eqb other name (is_suffix name other) refl).1 front is
 
-pub suffix_self : (name : List ℕ) → IsSuffix name name
-suffix_self name = ([], refl)
-
 pub suffix_same : (name other : List ℕ) → other ≡ name → IsSuffix name other
 suffix_same name other same = ([], same)
 
@@ -72,7 +69,7 @@ ends_here at k ks n (front, is) =
     let whole : length (closed k ++ rest) ≡ suc (length k) + length rest = length-closed k rest in
     let skip : at + length k - length n - at ≡ length front = omega arith in
     let split : closed k ++ rest ≡ front ++ (n ++ (0 ∷ rest)) =
-        append_assoc k (0 ∷ []) rest ∙ ap (λ (s : List ℕ). s ++ (0 ∷ rest)) is ∙ append_assoc front n (0 ∷ rest) in
+    append_assoc k (0 ∷ []) rest ∙ ap (λ (s : List ℕ). s ++ (0 ∷ rest)) is ∙ append_assoc front n (0 ∷ rest) in
     record {
       from = omega arith;
       within = omega arith;
@@ -82,7 +79,8 @@ ends_here at k ks n (front, is) =
           ∙ drop_at front (n ++ (0 ∷ rest)) (length front) refl;
     }
 
-ends_later : (at : ℕ) (k : List ℕ) (ks : List (List ℕ)) (n : List ℕ) (x : ℕ) → IsEndAt (at + suc (length k)) ks n x → IsEndAt at (k ∷ ks) n x
+ends_later : (at : ℕ) (k : List ℕ) (ks : List (List ℕ)) (n : List ℕ) (x : ℕ) → IsEndAt (at + suc (length k)) ks n x →
+    IsEndAt at (k ∷ ks) n x
 ends_later at k ks n x is =
     let rest = flat_map closed ks in
     let whole : length (closed k ++ rest) ≡ suc (length k) + length rest = length-closed k rest in
@@ -95,7 +93,8 @@ ends_later at k ks n x is =
       within = omega arith;
       behind = is.behind;
       stands =
-          ap (λ (y : ℕ). drop y (closed k ++ rest)) skip ∙ drop-append-add (closed k) rest (x - length n - (at + suc (length k))) ∙ is.stands;
+          ap (λ (y : ℕ). drop y (closed k ++ rest)) skip
+          ∙ drop-append-add (closed k) rest (x - length n - (at + suc (length k))) ∙ is.stands;
     }
 
 pub end_stands : (at : ℕ) (ks : List (List ℕ)) (n : List ℕ) → list_any (is_suffix n) ks ≡ true → IsEndAt at ks n (end_from at ks n)

@@ -1,5 +1,5 @@
 -- A string table holds its names.
-use Rattle.std.proofs.Common.{◌≡◌, ◌≢◌, ◌<◌, ◌+◌, ◌-◌, ℕ, zero, suc, Bool, true, false, List, [], ◌∷◌, ◌++◌, length, take, drop, get_or, refl, sym, ap, ap₂, ◌∙◌, append_assoc, arith, length-append}
+use Rattle.std.proofs.Common.{◌≡◌, ◌≢◌, ◌<◌, ◌+◌, ◌-◌, ℕ, suc, Bool, true, false, List, [], ◌∷◌, ◌++◌, length, take, get_or, refl, sym, ap, ap₂, ◌∙◌, append_assoc, arith}
 use Rattle.std.specs.Prelude.{◌==◌}
 use Rattle.std.specs.List.{AllByRecursion, before_first, filter, flat_map, list_any}
 use Rattle.std.proofs.lemmas.Bool.{ne_eqb, true≢false}
@@ -47,7 +47,8 @@ record IsHeldAt (names : List (List ℕ)) (name : List ℕ) : Type 0 where
   within : name_offset names name < length (string_table names)
   read : HasNoZero name → string (string_table names) (name_offset names name) ≡ name
 
-held_at : (names : List (List ℕ)) (name : List ℕ) → is_named name ≡ true → list_any (is_suffix name) (held names) ≡ true → IsHeldAt names name
+held_at : (names : List (List ℕ)) (name : List ℕ) → is_named name ≡ true → list_any (is_suffix name) (held names) ≡ true →
+    IsHeldAt names name
 unfolding name_offset string_table
 held_at names name named ends =
     let bytes = flat_map closed (held names) in
@@ -73,12 +74,13 @@ each_held names i lt = by_name (get_or names i []) (is_named (get_or names i [])
   by_name [] named same is = empty_held names
   by_name (b ∷ n) false same is = absurd (true≢false is)
   by_name (b ∷ n) true same is =
-      held_at names (b ∷ n) refl (ap (λ (m : List ℕ). list_any (is_suffix m) (held names)) same ∙ ends_held names i lt (ap is_named (sym same)))
+      let ends = ends_held names i lt (ap is_named (sym same)) in
+      held_at names (b ∷ n) refl (ap (λ (m : List ℕ). list_any (is_suffix m) (held names)) same ∙ ends)
 
 -- ---- bytes
 
-All-filter-step : {X : Type 0} (P : X → Type 0) (p : X → Bool) (x : X) (xs : List X) (b : Bool) → p x ≡ b → P x → AllByRecursion P (filter p xs) →
-    AllByRecursion P (filter p (x ∷ xs))
+All-filter-step : {X : Type 0} (P : X → Type 0) (p : X → Bool) (x : X) (xs : List X) (b : Bool) → p x ≡ b → P x →
+    AllByRecursion P (filter p xs) → AllByRecursion P (filter p (x ∷ xs))
 All-filter-step P p x xs true is here rest = rw is (here, rest)
 All-filter-step P p x xs false is here rest = rw is rest
 
@@ -93,12 +95,14 @@ All-distinct (n ∷ ns) all = (all.0, All-filter IsBytes _ (distinct ns) (All-di
 IsBytes-closed : (ds : List (List ℕ)) → AllByRecursion IsBytes ds → IsBytes (flat_map closed ds)
 IsBytes-closed [] all = IsBytes-nil
 IsBytes-closed (d ∷ ds) all =
-    IsBytes-append (closed d) (flat_map closed ds) (IsBytes-append d (0 ∷ []) all.0 (IsBytes-cons 0 [] (omega arith) IsBytes-nil)) (IsBytes-closed ds all.1)
+    let zero_byte = IsBytes-cons 0 [] (omega arith) IsBytes-nil in
+    IsBytes-append (closed d) (flat_map closed ds) (IsBytes-append d (0 ∷ []) all.0 zero_byte) (IsBytes-closed ds all.1)
 
 IsBytes-string_table : (ns : List (List ℕ)) → AllByRecursion IsBytes ns → IsBytes (string_table ns)
 unfolding string_table held
 IsBytes-string_table ns all =
-    IsBytes-cons 0 (flat_map closed (held ns)) (omega arith) (IsBytes-closed (held ns) (All-filter IsBytes (is_kept ns) (distinct ns) (All-distinct ns all)))
+    let each = All-filter IsBytes (is_kept ns) (distinct ns) (All-distinct ns all) in
+    IsBytes-cons 0 (flat_map closed (held ns)) (omega arith) (IsBytes-closed (held ns) each)
 
 -- ---- the law
 

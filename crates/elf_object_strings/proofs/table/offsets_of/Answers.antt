@@ -42,7 +42,8 @@ loop-i-preserved c =
     let lt : i < length all = omega arith in
     let own = has_own names i _ c.loop-i-test.true (c.requires.owners.each i lt) in
     let offset : c.offset_of.result ≡ name_offset all (at_names names i) =
-        offset_from all (at_names names i) c.args.ends.now _ _ own (has_all names _ c.requires.ends) c.offset_of.ensures.empty c.offset_of.ensures.named in
+    offset_from all (at_names names i) c.args.ends.now _ _ own (has_all names _ c.requires.ends) c.offset_of.ensures.empty
+    c.offset_of.ensures.named in
     let here = sym (get_or-map now_of names i (record { ref_ptr = (0, 0); now = [] }) [] c.loop-i-test.true) in
     c.in_ok-push.ensures.items
     ∙ ap (λ (xs : List ℕ). xs ++ (c.offset_of.result ∷ [])) c.loop-i.invariant

@@ -1,7 +1,7 @@
-use Rattle.std.proofs.Common.{◌≡◌, ◌<◌, ◌++◌, ◌&&◌, Bor, List, [], ap, arith, cond, get_or, length, nat_eq, rules, sym, ℕ, ◌-◌}
+use Rattle.std.proofs.Common.{◌≡◌, ◌<◌, Bor, List, [], ap, arith, get_or, length, nat_eq, rules, sym, ℕ, ◌-◌}
 use Rattle.std.proofs.lemmas.List.{get_or-map, length-map}
 use Rattle.elf_object_strings.specs.Shared.{texts}
-use Rattle.elf_object_strings.specs.StringTable.{closed, is_named}
+use Rattle.elf_object_strings.specs.Writing.{with_name}
 use Rattle.elf_object_strings.proofs.Written.{written_all, written_more}
 use Rattle.elf_object_strings.proofs.table.write_names.Goals as goal
 
@@ -17,8 +17,7 @@ loop-i-preserved c =
     let many = length-map c.args.names.now now_of in
     let lt : i < length all = omega arith in
     let here = sym (get_or-map now_of c.args.names.now i (record { ref_ptr = (0, 0); now = [] }) [] c.loop-i-test.true) in
-    let table : new ≡ cond (nat_eq (get_or c.args.owners.now i 0) i && is_named (get_or all i [])) (old ++ closed (get_or all i [])) old =
-        rw here at c.in_ok-write_name.ensures in
+    let table : new ≡ with_name old (get_or all i []) (nat_eq (get_or c.args.owners.now i 0) i) = rw here at c.in_ok-write_name.ensures in
     let long : c.len.result ≡ length new = search rules in
     rw c.in_ok-push-2.ensures.items
     (written_more all i _ _ old new c.loop-i.ends.items lt (c.requires.each i lt) table (ap (λ (k : ℕ). k - 1) long) c.loop-i.invariant)
