@@ -1,15 +1,14 @@
--- The names that a table holds, one name more.
-use Rattle.std.proofs.Common.{◌≡◌, ℕ, Bool, true, false, cond, not, List, [], ◌∷◌, ◌++◌, refl, sym, ap, ◌∙◌, append_assoc}
+-- Each name of a list once, one name more.
+use Rattle.std.proofs.Common.{◌≡◌, ℕ, Bool, true, false, cond, not, List, [], ◌∷◌, ◌++◌, refl, sym, ap, ◌∙◌}
 use Rattle.std.specs.Prelude.{◌||◌}
 use Rattle.std.specs.List.{filter, list_any}
 use Rattle.std.specs.Str.{bytes_eq}
 use Rattle.std.specs.Bool.{one_answer}
-use Rattle.std.proofs.lemmas.Bool.{true≢false}
 use Rattle.std.proofs.lemmas.List.{append-nil}
 use Rattle.std.proofs.lemmas.List.Elements.{filter-append}
 use Rattle.std.proofs.lemmas.Map.Views.{any-filter_same}
 use Rattle.std.proofs.lemmas.Slice.Eq.{bytes_eq-Decides}
-use Rattle.elf_object_strings.specs.StringTable.{distinct, held, is_named}
+use Rattle.elf_object_strings.specs.StringTable.{distinct}
 
 -- ---- equal names
 
@@ -54,44 +53,15 @@ pushed m n ds es false false equal found is =
     (ap (λ (xs : List (List ℕ)). m ∷ filter (differs m) xs) is
     ∙ ap (λ (xs : List (List ℕ)). m ∷ xs) (filter-append (differs m) ds (n ∷ []) ∙ ap (λ (xs : List (List ℕ)). filter (differs m) ds ++ xs) stays))
 
-distinct-push : (ns : List (List ℕ)) (n : List ℕ) → distinct (ns ++ (n ∷ [])) ≡ cond (list_any (bytes_eq n) (distinct ns)) (distinct ns) (distinct ns ++ (n ∷ []))
+pub distinct-push : (ns : List (List ℕ)) (n : List ℕ) → distinct (ns ++ (n ∷ [])) ≡ cond (list_any (bytes_eq n) (distinct ns)) (distinct ns) (distinct ns ++ (n ∷ []))
 distinct-push [] n = refl
 distinct-push (m ∷ ns) n = pushed m n (distinct ns) (distinct (ns ++ (n ∷ []))) (bytes_eq n m) (list_any (bytes_eq n) (distinct ns)) refl refl (distinct-push ns n)
 
--- ---- the names that are held
-
-named_alone : (n : List ℕ) → is_named n ≡ true → filter is_named (n ∷ []) ≡ n ∷ []
-named_alone n named = rw named refl
-
-pub held-push : (ns : List (List ℕ)) (n : List ℕ) → is_named n ≡ true → held (ns ++ (n ∷ [])) ≡ cond (list_any (bytes_eq n) (held ns)) (held ns) (held ns ++ (n ∷ []))
-unfolding held
-held-push ns n named =
-    ap distinct (filter-append is_named ns (n ∷ []) ∙ ap (λ (xs : List (List ℕ)). filter is_named ns ++ xs) (named_alone n named))
-    ∙ distinct-push (filter is_named ns) n
-
--- the empty name is never held
-pub held-empty : (ns : List (List ℕ)) → held (ns ++ ([] ∷ [])) ≡ held ns
-unfolding held
-held-empty ns = ap distinct (filter-append is_named ns ([] ∷ []) ∙ append-nil (filter is_named ns))
-
-pub held-none : held [] ≡ []
-unfolding held
-held-none = refl
-
--- names that follow are held behind those before
-pub held-append : (ns ms : List (List ℕ)) → (es : List (List ℕ)) × (held (ns ++ ms) ≡ held ns ++ es)
-held-append ns [] = ([], ap held (append-nil ns) ∙ sym (append-nil (held ns)))
-held-append ns (m ∷ ms) =
-    let rest = held-append (ns ++ (m ∷ [])) ms in
-    let split : ns ++ (m ∷ ms) ≡ (ns ++ (m ∷ [])) ++ ms = sym (append_assoc ns (m ∷ []) ms) in
-    let one = held_one m (is_named m) refl in
-    (one.0 ++ rest.0, ap held split ∙ rest.1 ∙ ap (λ (xs : List (List ℕ)). xs ++ rest.0) one.1 ∙ append_assoc (held ns) one.0 rest.0)
-  where
-    by_found : (n : List ℕ) (b : Bool) → (es : List (List ℕ)) × (cond b (held ns) (held ns ++ (n ∷ [])) ≡ held ns ++ es)
-    by_found n true = ([], sym (append-nil (held ns)))
-    by_found n false = (n ∷ [], refl)
-
-    held_one : (n : List ℕ) (named : Bool) → is_named n ≡ named → (es : List (List ℕ)) × (held (ns ++ (n ∷ [])) ≡ held ns ++ es)
-    held_one n true is = let found = by_found n (list_any (bytes_eq n) (held ns)) in (found.0, held-push ns n is ∙ found.1)
-    held_one [] false is = ([], held-empty ns ∙ sym (append-nil (held ns)))
-    held_one (b ∷ n) false is = absurd (true≢false is)
+-- a name is among them exactly if the list has it
+pub in_distinct : (n : List ℕ) (ns : List (List ℕ)) → list_any (bytes_eq n) (distinct ns) ≡ list_any (bytes_eq n) ns
+in_distinct n [] = refl
+in_distinct n (m ∷ ns) = by_first (bytes_eq n m) refl (in_distinct n ns) where
+  by_first : (e : Bool) → bytes_eq n m ≡ e → list_any (bytes_eq n) (distinct ns) ≡ list_any (bytes_eq n) ns →
+      list_any (bytes_eq n) (distinct (m ∷ ns)) ≡ list_any (bytes_eq n) (m ∷ ns)
+  by_first true is rest = rw is refl
+  by_first false is rest = rw is (found_still m n (distinct ns) is ∙ rest)

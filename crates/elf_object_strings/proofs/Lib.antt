@@ -1,6 +1,8 @@
 -- `Public` is for the proofs of the crates above, the others are for those of this one.
+mod Climb
 mod Distinct
 mod EndNumbers
+mod Ends
 mod Joined
 mod Kept
 mod Lowest
@@ -9,3 +11,4 @@ mod Names
 mod Numbering
 pub mod Public
 mod Suffix
+mod Written

@@ -1,15 +1,16 @@
 -- A string table holds its names.
-use Rattle.std.proofs.Common.{◌≡◌, ◌≢◌, ◌<◌, ◌+◌, ◌-◌, ℕ, zero, suc, Bool, true, false, List, [], ◌∷◌, ◌++◌, length, take, drop, get_or, refl, sym, ap, ap₂, ◌∙◌, append_assoc, arith, length-append}
-use Rattle.std.specs.Prelude.{◌==◌, Some}
-use Rattle.std.specs.List.{AllByRecursion, before_first, filter, flat_map}
+use Rattle.std.proofs.Common.{◌≡◌, ◌≢◌, ◌<◌, ◌+◌, ◌-◌, ℕ, suc, Bool, true, false, List, [], ◌∷◌, ◌++◌, length, take, get_or, refl, sym, ap, ap₂, ◌∙◌, append_assoc, arith}
+use Rattle.std.specs.Prelude.{◌==◌}
+use Rattle.std.specs.List.{AllByRecursion, before_first, filter, flat_map, list_any}
 use Rattle.std.proofs.lemmas.Bool.{ne_eqb, true≢false}
 use Rattle.std.proofs.lemmas.List.{get_or-append-add}
 use Rattle.elf_field.specs.Bytes.{IsBytes}
 use Rattle.elf_field.specs.BytesLaws.{IsBytes-append, IsBytes-cons, IsBytes-nil}
 use Rattle.elf_image_type.specs.Strings.{string}
 use Rattle.elf_object_strings.specs.Names.{HasNoZero, HoldsNames}
-use Rattle.elf_object_strings.specs.StringTable.{closed, distinct, held, is_named, name_offset, name_offset_from, string_table}
-use Rattle.elf_object_strings.proofs.Places.{IsPlace, last_has_place, place_stands, place_stays}
+use Rattle.elf_object_strings.specs.StringTable.{closed, distinct, end_from, held, is_kept, is_named, is_suffix, name_offset, string_table}
+use Rattle.elf_object_strings.proofs.Climb.{ends_held}
+use Rattle.elf_object_strings.proofs.Ends.{IsEndAt, end_stands, length-closed}
 
 -- ---- the ends of the table
 
@@ -18,8 +19,7 @@ last_zero [] = refl
 last_zero (d ∷ ds) =
     let rest = flat_map closed ds in
     let whole : closed d ++ rest ≡ d ++ (0 ∷ rest) = append_assoc d (0 ∷ []) rest in
-    let long : length (closed d ++ rest) ≡ suc (length d + length rest) =
-    (let both = length-append (closed d) rest in let one = length-append d (0 ∷ []) in omega arith) in
+    let long : length (closed d ++ rest) ≡ suc (length d + length rest) = length-closed d rest ∙ omega arith in
     ap₂ (λ (s : List ℕ) (k : ℕ). get_or (0 ∷ s) k 0) whole long ∙ get_or-append-add d (0 ∷ rest) (length rest) 0 ∙ last_zero ds
 
 pub first_is_zero : (ns : List (List ℕ)) → get_or (string_table ns) 0 0 ≡ 0
@@ -43,38 +43,24 @@ before_zero (b ∷ n) behind all =
     rw (ne_eqb b 0 other)
     (ap (λ (k : ℕ). take k (b ∷ (n ++ (0 ∷ behind)))) (one _) ∙ ap (λ (s : List ℕ). b ∷ s) (before_zero n behind rest))
 
--- name i stands behind those before it
-pub split_at : (ns : List (List ℕ)) (i : ℕ) → i < length ns → ns ≡ (take i ns ++ (get_or ns i [] ∷ [])) ++ drop (suc i) ns
-split_at [] i lt = absurd (omega arith)
-split_at (n ∷ ns) zero lt = refl
-split_at (n ∷ ns) (suc i) lt = ap (λ (ms : List (List ℕ)). n ∷ ms) (split_at ns i (omega arith))
-
-pub place_of_some : (names : List (List ℕ)) (name : List ℕ) (x : ℕ) → is_named name ≡ true → name_offset_from 1 (held names) name ≡ Some x → name_offset names name ≡ x
-unfolding name_offset
-place_of_some names name x named is = rw (named, is) refl
-
--- a name of the list that is not empty has an offset
-has_place : (ns : List (List ℕ)) (i : ℕ) → i < length ns → is_named (get_or ns i []) ≡ true →
-    (x : ℕ) × (name_offset_from 1 (held ns) (get_or ns i []) ≡ Some x)
-has_place ns i lt named =
-    let n = get_or ns i [] in
-    let found = last_has_place (take i ns) n named in
-    (found.0, ap (λ (ms : List (List ℕ)). name_offset_from 1 (held ms) n) (split_at ns i lt) ∙ place_stays (take i ns) (drop (suc i) ns) n named ∙ found.1)
-
 record IsHeldAt (names : List (List ℕ)) (name : List ℕ) : Type 0 where
   within : name_offset names name < length (string_table names)
   read : HasNoZero name → string (string_table names) (name_offset names name) ≡ name
 
-held_at : (names : List (List ℕ)) (name : List ℕ) (x : ℕ) → name_offset names name ≡ x → IsPlace 1 (held names) name x → IsHeldAt names name
-unfolding string_table
-held_at names name x place is =
+held_at : (names : List (List ℕ)) (name : List ℕ) → is_named name ≡ true → list_any (is_suffix name) (held names) ≡ true →
+    IsHeldAt names name
+unfolding name_offset string_table
+held_at names name named ends =
     let bytes = flat_map closed (held names) in
+    let x = end_from 1 (held names) name in
+    let is : IsEndAt 1 (held names) name x = end_stands 1 (held names) name ends in
     let from = is.from in
-    let end = is.within in
+    let within = is.within in
+    let place : name_offset names name ≡ x - length name = rw named refl in
     record {
       within = omega arith;
       read = λ all.
-          (let split : x ≡ suc (x - 1) = omega arith in
+          (let split : x - length name ≡ suc (x - length name - 1) = omega arith in
           ap (string (0 ∷ bytes)) (place ∙ split) ∙ ap (before_first (λ byte. byte == 0)) is.stands ∙ before_zero name is.behind all);
     }
 
@@ -88,14 +74,13 @@ each_held names i lt = by_name (get_or names i []) (is_named (get_or names i [])
   by_name [] named same is = empty_held names
   by_name (b ∷ n) false same is = absurd (true≢false is)
   by_name (b ∷ n) true same is =
-      let found = has_place names i lt (ap is_named (sym same)) in
-      let place : name_offset_from 1 (held names) (b ∷ n) ≡ Some found.0 = ap (name_offset_from 1 (held names)) same ∙ found.1 in
-      held_at names (b ∷ n) found.0 (place_of_some names (b ∷ n) found.0 refl place) (place_stands 1 (held names) (b ∷ n) found.0 place)
+      let ends = ends_held names i lt (ap is_named (sym same)) in
+      held_at names (b ∷ n) refl (ap (λ (m : List ℕ). list_any (is_suffix m) (held names)) same ∙ ends)
 
 -- ---- bytes
 
-All-filter-step : {X : Type 0} (P : X → Type 0) (p : X → Bool) (x : X) (xs : List X) (b : Bool) → p x ≡ b → P x → AllByRecursion P (filter p xs) →
-    AllByRecursion P (filter p (x ∷ xs))
+All-filter-step : {X : Type 0} (P : X → Type 0) (p : X → Bool) (x : X) (xs : List X) (b : Bool) → p x ≡ b → P x →
+    AllByRecursion P (filter p xs) → AllByRecursion P (filter p (x ∷ xs))
 All-filter-step P p x xs true is here rest = rw is (here, rest)
 All-filter-step P p x xs false is here rest = rw is rest
 
@@ -110,12 +95,14 @@ All-distinct (n ∷ ns) all = (all.0, All-filter IsBytes _ (distinct ns) (All-di
 IsBytes-closed : (ds : List (List ℕ)) → AllByRecursion IsBytes ds → IsBytes (flat_map closed ds)
 IsBytes-closed [] all = IsBytes-nil
 IsBytes-closed (d ∷ ds) all =
-    IsBytes-append (closed d) (flat_map closed ds) (IsBytes-append d (0 ∷ []) all.0 (IsBytes-cons 0 [] (omega arith) IsBytes-nil)) (IsBytes-closed ds all.1)
+    let zero_byte = IsBytes-cons 0 [] (omega arith) IsBytes-nil in
+    IsBytes-append (closed d) (flat_map closed ds) (IsBytes-append d (0 ∷ []) all.0 zero_byte) (IsBytes-closed ds all.1)
 
 IsBytes-string_table : (ns : List (List ℕ)) → AllByRecursion IsBytes ns → IsBytes (string_table ns)
 unfolding string_table held
 IsBytes-string_table ns all =
-    IsBytes-cons 0 (flat_map closed (held ns)) (omega arith) (IsBytes-closed (held ns) (All-distinct (filter is_named ns) (All-filter IsBytes is_named ns all)))
+    let each = All-filter IsBytes (is_kept ns) (distinct ns) (All-distinct ns all) in
+    IsBytes-cons 0 (flat_map closed (held ns)) (omega arith) (IsBytes-closed (held ns) each)
 
 -- ---- the law
 

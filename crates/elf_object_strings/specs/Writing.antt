@@ -1,8 +1,8 @@
 -- A string table that is being written, name by name.
-use Rattle.std.specs.Prelude.{◌≡◌, ◌<◌, ℕ, ◌+◌, Bool, true, not, ◌&&◌, List, [], get_or, length, take}
+use Rattle.std.specs.Prelude.{◌≡◌, ◌<◌, ℕ, ◌+◌, Bool, true, not, ◌&&◌, if◌then◌else◌, List, [], ◌++◌, get_or, length, take}
 use Rattle.std.specs.List.{filter, flat_map, list_any}
 use Rattle.std.specs.Str.{bytes_eq}
-use Rattle.elf_object_strings.specs.StringTable.{closed, distinct, is_kept}
+use Rattle.elf_object_strings.specs.StringTable.{closed, distinct, is_kept, is_named}
 
 -- the held names among the first ones
 abbrev pub held_to : List (List ℕ) → ℕ → List (List ℕ)
@@ -13,6 +13,10 @@ abbrev pub is_written : List (List ℕ) → ℕ → Bool
 is_written names i =
     let name = get_or names i [] in
     is_kept names name && not (list_any (bytes_eq name) (take i names))
+
+-- the table with a name behind it that is its own owner, unless this one is empty
+abbrev pub with_name : List ℕ → List ℕ → Bool → List ℕ
+with_name bytes name is_owner = if is_owner && is_named name then bytes ++ closed name else bytes
 
 -- where each of the first names that is written has its zero
 pub record HasEnds (names : List (List ℕ)) (i : ℕ) (ends : List ℕ) : Type 0 where

@@ -1,9 +1,9 @@
 //! The bytes of a string table, and where its names begin.
-ghost use Rattle.std.specs.Prelude.{◌≡◌, map, IfOk};
+ghost use Rattle.std.specs.Prelude.{◌≡◌, ◌≤◌, ◌-◌, true, false, length, map, IfOk};
 ghost use Rattle.elf_object_strings.specs.Owners.{AreOwners};
 ghost use Rattle.elf_object_strings.specs.Shared.{AreZeroFree, HoldsEach, IsLeast, Shares, texts};
-ghost use Rattle.elf_object_strings.specs.StringTable.{name_offset, string_table};
-ghost use Rattle.elf_object_strings.specs.Writing.{HasEnds};
+ghost use Rattle.elf_object_strings.specs.StringTable.{is_named, name_offset, string_table};
+ghost use Rattle.elf_object_strings.specs.Writing.{HasEnds, with_name};
 
 use crate::owners::owners_of;
 use elf_extent::OutOfMemory;
@@ -68,7 +68,9 @@ fn write_names(
 }
 
 /// A name with its zero, at the table's end, if it is to be written and isn't empty.
-fn write_name(bytes: &mut Vec<u8>, name: &[u8], is_owner: bool) -> Result<(), AllocError> {
+fn write_name(bytes: &mut Vec<u8>, name: &[u8], is_owner: bool) -> Result<(), AllocError>
+    ensures { IfOk result (λ done. bytes.new.items ≡ with_name bytes.old.items name.now is_owner) }
+{
     if is_owner && !name.is_empty() {
         bytes.extend_from_slice(name)?;
         bytes.push(0)?;
@@ -95,7 +97,11 @@ fn offsets_of(
 }
 
 /// Where a name begins that ends at an offset.
-fn offset_of(name: &[u8], end: u64) -> u64 {
+fn offset_of(name: &[u8], end: u64) -> u64
+    requires { is_named name.now ≡ true → length name.now ≤ end }
+    ensures empty { is_named name.now ≡ false → result ≡ 0 }
+    ensures named { is_named name.now ≡ true → result ≡ end - length name.now }
+{
     if name.is_empty() {
         0
     } else {

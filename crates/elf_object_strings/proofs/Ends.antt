@@ -1,0 +1,107 @@
+-- Names that end with others, and where the first of a list that ends with a name has its zero.
+use Rattle.std.proofs.Common.{◌≡◌, ◌<◌, ◌≤◌, ◌+◌, ◌-◌, ℕ, suc, Bool, true, false, List, [], ◌∷◌, ◌++◌, length, take, drop, refl, sym, ap, ◌∙◌, append_assoc, arith, length-append, true≢false}
+use Rattle.std.specs.List.{flat_map, list_any}
+use Rattle.std.proofs.Math.Seq.{drop-append-add}
+use Rattle.std.proofs.lemmas.Bool.{or_parts}
+use Rattle.std.proofs.lemmas.Bool.Decides.{Decides-eqb}
+use Rattle.std.proofs.lemmas.List.{drop_at}
+use Rattle.std.proofs.lemmas.Slice.Eq.{ends_is}
+use Rattle.elf_object_strings.specs.Owners.{IsSuffix}
+use Rattle.elf_object_strings.specs.StringTable.{closed, end_from, is_named, is_suffix}
+
+-- ---- names that end with others
+
+pub suffix_from : (name other : List ℕ) → is_suffix name other ≡ true → IsSuffix name other
+suffix_from name other is = (take (length other - length name) other, (ends_is Decides-eqb other name (is_suffix name other) refl).0 is)
+
+pub suffix_test : (name other : List ℕ) → IsSuffix name other → is_suffix name other ≡ true
+suffix_test name other (front, is) = (ends_is Decides-eqb other name (is_suffix name other) refl).1 front is
+
+pub suffix_same : (name other : List ℕ) → other ≡ name → IsSuffix name other
+suffix_same name other same = ([], same)
+
+pub suffix_trans : (a b c : List ℕ) → IsSuffix a b → IsSuffix b c → IsSuffix a c
+suffix_trans a b c (front, is) (more, has) =
+    (more ++ front, has ∙ ap (λ (s : List ℕ). more ++ s) is ∙ sym (append_assoc more front a))
+
+pub suffix_fits : (name other : List ℕ) → IsSuffix name other → length name ≤ length other
+suffix_fits name other (front, is) =
+    let long : length other ≡ length front + length name = ap length is ∙ length-append front name in
+    omega arith
+
+-- what ends with a name that is not empty is not empty
+pub suffix_named : (name other : List ℕ) → IsSuffix name other → is_named name ≡ true → is_named other ≡ true
+suffix_named name other (front, is) named = ap is_named is ∙ by_front front where
+  by_front : (s : List ℕ) → is_named (s ++ name) ≡ true
+  by_front [] = named
+  by_front (b ∷ s) = refl
+
+-- ---- where the first that ends with a name has its zero
+
+pub length-closed : (k rest : List ℕ) → length (closed k ++ rest) ≡ suc (length k) + length rest
+length-closed k rest =
+    let both = length-append (closed k) rest in
+    let one = length-append k (0 ∷ []) in
+    omega arith
+
+-- behind names of which none ends with it
+pub end_behind : (at : ℕ) (ks : List (List ℕ)) (k : List ℕ) (more : List (List ℕ)) (n : List ℕ) →
+    list_any (is_suffix n) ks ≡ false → is_suffix n k ≡ true →
+    end_from at (ks ++ (k ∷ more)) n ≡ at + length (flat_map closed ks) + length k
+end_behind at [] k more n none ends = rw ends (omega arith)
+end_behind at (j ∷ ks) k more n none ends =
+    let parts = or_parts (is_suffix n j) (list_any (is_suffix n) ks) none in
+    let long : length (flat_map closed (j ∷ ks)) ≡ suc (length j) + length (flat_map closed ks) = length-closed j (flat_map closed ks) in
+    let rest = end_behind (at + suc (length j)) ks k more n parts.1 ends in
+    rw parts.0 (omega arith)
+
+-- the name stands before x in the closed names, which begin at an offset, with a zero behind it
+pub record IsEndAt (at : ℕ) (ks : List (List ℕ)) (n : List ℕ) (x : ℕ) : Type 0 where
+  pub from : at + length n ≤ x
+  pub within : x < at + length (flat_map closed ks)
+  pub behind : List ℕ
+  pub stands : drop (x - length n - at) (flat_map closed ks) ≡ n ++ (0 ∷ behind)
+
+ends_here : (at : ℕ) (k : List ℕ) (ks : List (List ℕ)) (n : List ℕ) → IsSuffix n k → IsEndAt at (k ∷ ks) n (at + length k)
+ends_here at k ks n (front, is) =
+    let rest = flat_map closed ks in
+    let long : length k ≡ length front + length n = ap length is ∙ length-append front n in
+    let whole : length (closed k ++ rest) ≡ suc (length k) + length rest = length-closed k rest in
+    let skip : at + length k - length n - at ≡ length front = omega arith in
+    let split : closed k ++ rest ≡ front ++ (n ++ (0 ∷ rest)) =
+    append_assoc k (0 ∷ []) rest ∙ ap (λ (s : List ℕ). s ++ (0 ∷ rest)) is ∙ append_assoc front n (0 ∷ rest) in
+    record {
+      from = omega arith;
+      within = omega arith;
+      behind = rest;
+      stands =
+          ap (drop (at + length k - length n - at)) split ∙ ap (λ (x : ℕ). drop x (front ++ (n ++ (0 ∷ rest)))) skip
+          ∙ drop_at front (n ++ (0 ∷ rest)) (length front) refl;
+    }
+
+ends_later : (at : ℕ) (k : List ℕ) (ks : List (List ℕ)) (n : List ℕ) (x : ℕ) → IsEndAt (at + suc (length k)) ks n x →
+    IsEndAt at (k ∷ ks) n x
+ends_later at k ks n x is =
+    let rest = flat_map closed ks in
+    let whole : length (closed k ++ rest) ≡ suc (length k) + length rest = length-closed k rest in
+    let one : length (closed k) ≡ length k + 1 = length-append k (0 ∷ []) in
+    let from = is.from in
+    let within = is.within in
+    let skip : x - length n - at ≡ length (closed k) + (x - length n - (at + suc (length k))) = omega arith in
+    record {
+      from = omega arith;
+      within = omega arith;
+      behind = is.behind;
+      stands =
+          ap (λ (y : ℕ). drop y (closed k ++ rest)) skip
+          ∙ drop-append-add (closed k) rest (x - length n - (at + suc (length k))) ∙ is.stands;
+    }
+
+pub end_stands : (at : ℕ) (ks : List (List ℕ)) (n : List ℕ) → list_any (is_suffix n) ks ≡ true → IsEndAt at ks n (end_from at ks n)
+end_stands at [] n found = absurd (true≢false (sym found))
+end_stands at (k ∷ ks) n found = by_first (is_suffix n k) refl (end_stands (at + suc (length k)) ks n) where
+  by_first : (b : Bool) → is_suffix n k ≡ b →
+      (list_any (is_suffix n) ks ≡ true → IsEndAt (at + suc (length k)) ks n (end_from (at + suc (length k)) ks n)) →
+      IsEndAt at (k ∷ ks) n (end_from at (k ∷ ks) n)
+  by_first true is rest = rw is (ends_here at k ks n (suffix_from n k is))
+  by_first false is rest = rw is (ends_later at k ks n _ (rest (rw is at found)))
