@@ -9,7 +9,8 @@ use Rattle.std.proofs.lemmas.List.{get_or_default}
 use Rattle.elf_object_strings.specs.Owners.{IsSuffix}
 use Rattle.elf_object_strings.specs.StringTable.{closed, distinct, held, is_kept, is_named, is_proper_suffix, is_suffix}
 use Rattle.elf_object_strings.proofs.Distinct.{bytes_eq-self, in_distinct, same_name}
-use Rattle.elf_object_strings.proofs.Ends.{length-closed, suffix_from, suffix_named, suffix_same, suffix_test, suffix_trans}
+use Rattle.elf_object_strings.proofs.Ends.{length-closed}
+use Rattle.elf_object_strings.proofs.Suffix.{suffix_from, suffix_named, suffix_same, suffix_test, suffix_trans}
 
 -- what passes one test passes the other
 pub any_weaker : (p q : List ℕ → Bool) → ((k : List ℕ) → p k ≡ true → q k ≡ true) →
@@ -76,11 +77,3 @@ climb names (suc fuel) i lt named some = by_longer (list_any (is_proper_suffix (
 pub ends_held : (names : List (List ℕ)) (i : ℕ) → i < length names → is_named (get_or names i []) ≡ true →
     list_any (is_suffix (get_or names i [])) (held names) ≡ true
 ends_held names i lt named = climb names (suc (length (flat_map closed names))) i lt named (omega arith)
-
-pub ends_held_one : (names : List (List ℕ)) (n : List ℕ) → list_any (bytes_eq n) names ≡ true → is_named n ≡ true →
-    list_any (is_suffix n) (held names) ≡ true
-ends_held_one names n found named =
-    let there = Any-from_list_any (bytes_eq n) names found in
-    let same : get_or names there.0 [] ≡ n = get_or_default names there.0 [] there.1 there.2 ∙ there.3
-    ∙ sym (same_name n there.1 there.4) in
-    ap (λ (m : List ℕ). list_any (is_suffix m) (held names)) (sym same) ∙ ends_held names there.0 there.2 (ap is_named same ∙ named)

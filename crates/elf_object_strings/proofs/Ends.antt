@@ -1,42 +1,12 @@
--- Names that end with others, and where the first of a list that ends with a name has its zero.
+-- Where the first of a list of names that ends with a name has its zero.
 use Rattle.std.proofs.Common.{◌≡◌, ◌<◌, ◌≤◌, ◌+◌, ◌-◌, ℕ, suc, Bool, true, false, List, [], ◌∷◌, ◌++◌, length, take, drop, refl, sym, ap, ◌∙◌, append_assoc, arith, length-append, true≢false}
 use Rattle.std.specs.List.{flat_map, list_any}
 use Rattle.std.proofs.Math.Seq.{drop-append-add}
 use Rattle.std.proofs.lemmas.Bool.{or_parts}
-use Rattle.std.proofs.lemmas.Bool.Decides.{Decides-eqb}
 use Rattle.std.proofs.lemmas.List.{drop_at}
-use Rattle.std.proofs.lemmas.Slice.Eq.{ends_is}
 use Rattle.elf_object_strings.specs.Owners.{IsSuffix}
-use Rattle.elf_object_strings.specs.StringTable.{closed, end_from, is_named, is_suffix}
-
--- ---- names that end with others
-
-pub suffix_from : (name other : List ℕ) → is_suffix name other ≡ true → IsSuffix name other
-suffix_from name other is = (take (length other - length name) other, (ends_is Decides-eqb other name (is_suffix name other) refl).0 is)
-
-pub suffix_test : (name other : List ℕ) → IsSuffix name other → is_suffix name other ≡ true
-suffix_test name other (front, is) = (ends_is Decides-eqb other name (is_suffix name other) refl).1 front is
-
-pub suffix_same : (name other : List ℕ) → other ≡ name → IsSuffix name other
-suffix_same name other same = ([], same)
-
-pub suffix_trans : (a b c : List ℕ) → IsSuffix a b → IsSuffix b c → IsSuffix a c
-suffix_trans a b c (front, is) (more, has) =
-    (more ++ front, has ∙ ap (λ (s : List ℕ). more ++ s) is ∙ sym (append_assoc more front a))
-
-pub suffix_fits : (name other : List ℕ) → IsSuffix name other → length name ≤ length other
-suffix_fits name other (front, is) =
-    let long : length other ≡ length front + length name = ap length is ∙ length-append front name in
-    omega arith
-
--- what ends with a name that is not empty is not empty
-pub suffix_named : (name other : List ℕ) → IsSuffix name other → is_named name ≡ true → is_named other ≡ true
-suffix_named name other (front, is) named = ap is_named is ∙ by_front front where
-  by_front : (s : List ℕ) → is_named (s ++ name) ≡ true
-  by_front [] = named
-  by_front (b ∷ s) = refl
-
--- ---- where the first that ends with a name has its zero
+use Rattle.elf_object_strings.specs.StringTable.{closed, end_from, is_suffix}
+use Rattle.elf_object_strings.proofs.Suffix.{suffix_from}
 
 pub length-closed : (k rest : List ℕ) → length (closed k ++ rest) ≡ suc (length k) + length rest
 length-closed k rest =

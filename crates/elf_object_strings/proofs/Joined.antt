@@ -3,18 +3,16 @@ use Rattle.std.proofs.Common.{◌≡◌, ◌≢◌, ◌<◌, ◌≤◌, ℕ, zer
 use Rattle.std.specs.Prelude.{◌&&◌, not, ⊤}
 use Rattle.std.specs.List.{AllByRecursion, filter, flat_map, list_any}
 use Rattle.std.specs.Str.{bytes_eq}
-use Rattle.std.proofs.lemmas.Bool.{true≢false}
+use Rattle.std.proofs.lemmas.Bool.{and_parts, true≢false}
 use Rattle.std.proofs.lemmas.List.{get_or-map, length-map, take-append-drop}
 use Rattle.elf_object_strings.specs.Owners.{IsSuffix}
 use Rattle.elf_object_strings.specs.Shared.{AreZeroFree, HoldsEach, IsLeast, IsLowestAt, Shares, StandsClosedAt}
 use Rattle.elf_object_strings.specs.StringTable.{closed, distinct, end_from, held, is_kept, is_named, is_proper_suffix, is_suffix, name_offset, string_table}
-use Rattle.elf_object_strings.proofs.Kept.{all_both, all_held, all_weaker, and_first, apart_held}
+use Rattle.elf_object_strings.proofs.Kept.{all_both, all_held, all_weaker, apart_held}
+use Rattle.elf_object_strings.proofs.Climb.{ends_held}
+use Rattle.elf_object_strings.proofs.Names.{empty_at_zero}
 use Rattle.elf_object_strings.proofs.Lowest.{IsZeroFree, end_is, lowest_behind, lowest_empty, lowest_in, not_first, place_in, stands_in}
 use Rattle.elf_object_strings.proofs.Minimal.{AreApart, Stands, no_shorter_rest}
-
--- each name of the list that is not empty is the suffix of a held one
-abbrev pub AllEnd : List (List ℕ) → Type 0
-AllEnd names = (i : ℕ) → i < length names → is_named (get_or names i []) ≡ true → list_any (is_suffix (get_or names i [])) (held names) ≡ true
 
 -- ---- each at its lowest offset
 
@@ -24,10 +22,6 @@ unfolding name_offset
 place_is names n named any =
     let from : end_from 1 (held names) n - length n ≡ suc (place_in (held names) n) = (let end = end_is 1 (held names) n any in omega arith) in
     rw named from
-
-empty_place : (names : List (List ℕ)) → name_offset names [] ≡ 0
-unfolding name_offset
-empty_place names = refl
 
 some_of : (n : List ℕ) → is_named n ≡ true → n ≢ []
 some_of [] named = absurd (true≢false (sym named))
@@ -44,20 +38,20 @@ zero_free_held names free = all_weaker _ IsZeroFree (λ n both. both.0) (held na
 lowest_of : (names : List (List ℕ)) (n : List ℕ) (b : Bool) → is_named n ≡ b → AreZeroFree names → IsZeroFree n →
     (is_named n ≡ true → list_any (is_suffix n) (held names) ≡ true) → IsLowestAt (string_table names) n (name_offset names n)
 unfolding string_table
-lowest_of names [] b is free one any = rw (empty_place names) (lowest_empty (flat_map closed (held names)))
+lowest_of names [] b is free one any = rw (empty_at_zero names) (lowest_empty (flat_map closed (held names)))
 lowest_of names (c ∷ n) true is free one any =
     rw (place_is names (c ∷ n) is (any is))
     (lowest_behind (flat_map closed (held names)) (c ∷ n) (place_in (held names) (c ∷ n)) one (some_of (c ∷ n) is)
       (lowest_in (held names) (c ∷ n) (zero_free_held names free) one (any is)))
 lowest_of names (c ∷ n) false is free one any = absurd (true≢false is)
 
-pub shares_tails : (names : List (List ℕ)) → AllEnd names → AreZeroFree names → Shares names (string_table names) (map (name_offset names) names)
-shares_tails names found free = record {
+pub shares_tails : (names : List (List ℕ)) → AreZeroFree names → Shares names (string_table names) (map (name_offset names) names)
+shares_tails names free = record {
   bytes = refl;
   as_many = length-map names (name_offset names);
   each = λ i lt.
       rw (get_or-map (name_offset names) names i [] 0 lt)
-      (lowest_of names (get_or names i []) (is_named (get_or names i [])) refl free (zero_free_at names i free lt) (found i lt));
+      (lowest_of names (get_or names i []) (is_named (get_or names i [])) refl free (zero_free_at names i free lt) (ends_held names i lt));
 }
 
 -- ---- each is held
@@ -80,8 +74,8 @@ begins_with_zero : (names : List (List ℕ)) → string_table names ≡ 0 ∷ fl
 unfolding string_table
 begins_with_zero names = refl
 
-pub holds_each : (names : List (List ℕ)) → AllEnd names → HoldsEach (string_table names) names
-holds_each names found = record { rest = flat_map closed (held names); begins = begins_with_zero names; each = all_stand names names found }
+pub holds_each : (names : List (List ℕ)) → HoldsEach (string_table names) names
+holds_each names = record { rest = flat_map closed (held names); begins = begins_with_zero names; each = all_stand names names (ends_held names) }
 
 -- ---- none that holds them is shorter
 
@@ -93,7 +87,7 @@ stands_behind t n (suc x) free some is =
 each_stands : (names : List (List ℕ)) (t : List ℕ) → AreZeroFree names → AllByRecursion (λ n. (x : ℕ) × StandsClosedAt (0 ∷ t) n x) names →
     AllByRecursion (Stands t) (held names)
 each_stands names t free all =
-    all_weaker _ (Stands t) (λ n both. stands_behind t n both.0.1.0 both.0.0 (some_of n (and_first (is_named n) _ both.1)) both.0.1.1) (held names)
+    all_weaker _ (Stands t) (λ n both. stands_behind t n both.0.1.0 both.0.0 (some_of n (and_parts (is_named n) (not (list_any (is_proper_suffix n) names)) both.1).0) both.0.1.1) (held names)
     (all_held (λ n. IsZeroFree n × ((x : ℕ) × StandsClosedAt (0 ∷ t) n x)) names (all_both IsZeroFree _ names free all))
 
 pub least_table : (names : List (List ℕ)) → AreZeroFree names → IsLeast names (string_table names)
@@ -104,3 +98,15 @@ least_table names free other holds =
     let long = ap (λ (s : List ℕ). length s) begins in
     let mine = ap (λ (s : List ℕ). length s) (begins_with_zero names) in
     omega arith
+
+-- ---- whatever has these bytes and offsets
+
+pub shares_of : (names : List (List ℕ)) (table offsets : List ℕ) → table ≡ string_table names → offsets ≡ map (name_offset names) names →
+    AreZeroFree names → Shares names table offsets
+shares_of names table offsets bytes places free = rw (bytes, places) (shares_tails names free)
+
+pub holds_of : (names : List (List ℕ)) (table : List ℕ) → table ≡ string_table names → HoldsEach table names
+holds_of names table bytes = rw bytes (holds_each names)
+
+pub least_of : (names : List (List ℕ)) (table : List ℕ) → table ≡ string_table names → AreZeroFree names → IsLeast names table
+least_of names table bytes free other holds = rw bytes (least_table names free other holds)

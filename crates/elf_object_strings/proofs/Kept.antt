@@ -3,12 +3,12 @@ use Rattle.std.proofs.Common.{◌≡◌, ◌≢◌, ℕ, Bool, true, false, List
 use Rattle.std.specs.Prelude.{◌&&◌, ◌||◌, not, ⊤}
 use Rattle.std.specs.List.{AllByRecursion, filter, list_any}
 use Rattle.std.specs.Str.{bytes_eq}
-use Rattle.std.proofs.lemmas.Bool.{true≢false}
+use Rattle.std.proofs.lemmas.Bool.{and_parts, not-true, or_left, or_right, true≢false}
 use Rattle.std.proofs.lemmas.Slice.Eq.{bytes_eq-Decides}
 use Rattle.elf_object_strings.specs.Owners.{IsSuffix}
 use Rattle.elf_object_strings.specs.StringTable.{distinct, held, is_kept, is_named, is_proper_suffix, is_suffix}
 use Rattle.elf_object_strings.proofs.Minimal.{AreApart}
-use Rattle.elf_object_strings.proofs.Suffix.{is_suffix_of}
+use Rattle.elf_object_strings.proofs.Suffix.{suffix_test}
 
 -- ---- what holds of each
 
@@ -45,18 +45,10 @@ all_held P names all = all_filter P (is_kept names) (distinct names) (all_distin
 abbrev pub IsAmong : List (List ℕ) → List ℕ → Type 0
 IsAmong names n = (p : List ℕ → Bool) → p n ≡ true → list_any p names ≡ true
 
-or_first : (a b : Bool) → a ≡ true → (a || b) ≡ true
-or_first true b is = refl
-or_first false b is = absurd (true≢false (sym is))
-
-or_second : (a b : Bool) → b ≡ true → (a || b) ≡ true
-or_second true b is = refl
-or_second false b is = is
-
 among_rest : (names ms : List (List ℕ)) → ((p : List ℕ → Bool) → list_any p ms ≡ true → list_any p names ≡ true) → AllByRecursion (IsAmong names) ms
 among_rest names [] includes = tt
 among_rest names (m ∷ ms) includes =
-    ((λ p is. includes p (or_first (p m) (list_any p ms) is)), among_rest names ms (λ p is. includes p (or_second (p m) (list_any p ms) is)))
+    ((λ p is. includes p (or_left (p m) (list_any p ms) is)), among_rest names ms (λ p is. includes p (or_right (p m) (list_any p ms) is)))
 
 pub all_among : (names : List (List ℕ)) → AllByRecursion (IsAmong names) names
 all_among names = among_rest names names (λ p is. is)
@@ -67,12 +59,8 @@ abbrev AreDifferent : List (List ℕ) → Type 0
 AreDifferent [] = ⊤
 AreDifferent (d ∷ ds) = AllByRecursion (λ e. d ≢ e) ds × AreDifferent ds
 
-not_true : (b : Bool) → not b ≡ true → b ≡ false
-not_true true is = sym is
-not_true false is = refl
-
 differs : (n e : List ℕ) → not (bytes_eq n e) ≡ true → n ≢ e
-differs n e is = λ same. true≢false (sym ((bytes_eq-Decides n e).1 same) ∙ not_true (bytes_eq n e) is)
+differs n e is = λ same. true≢false (sym ((bytes_eq-Decides n e).1 same) ∙ not-true (bytes_eq n e) is)
 
 different_step : (p : List ℕ → Bool) (d : List ℕ) (ds : List (List ℕ)) (b : Bool) → p d ≡ b → AllByRecursion (λ e. d ≢ e) ds →
     AreDifferent (filter p ds) → AreDifferent (filter p (d ∷ ds))
@@ -95,16 +83,8 @@ different_distinct (n ∷ ns) =
 
 -- ---- none ends with another
 
-and_second : (a b : Bool) → (a && b) ≡ true → b ≡ true
-and_second true b is = is
-and_second false b is = absurd (true≢false (sym is))
-
-pub and_first : (a b : Bool) → (a && b) ≡ true → a ≡ true
-and_first true b is = refl
-and_first false b is = absurd (true≢false (sym is))
-
 proper : (n k : List ℕ) → IsSuffix n k → n ≢ k → is_proper_suffix n k ≡ true
-proper n k suffix other = both (is_suffix n k) (bytes_eq n k) (is_suffix_of n k suffix.0 suffix.1) (unequal (bytes_eq n k) refl) where
+proper n k suffix other = both (is_suffix n k) (bytes_eq n k) (suffix_test n k suffix) (unequal (bytes_eq n k) refl) where
   both : (a b : Bool) → a ≡ true → b ≡ false → (a && not b) ≡ true
   both a b is unlike = rw (is, unlike) refl
   unequal : (b : Bool) → bytes_eq n k ≡ b → b ≡ false
@@ -113,7 +93,7 @@ proper n k suffix other = both (is_suffix n k) (bytes_eq n k) (is_suffix_of n k 
 
 pub ends_none : (names : List (List ℕ)) (n k : List ℕ) → is_kept names n ≡ true → IsAmong names k → n ≢ k → IsSuffix n k → ⊥
 ends_none names n k kept among other suffix =
-    let none = not_true (list_any (is_proper_suffix n) names) (and_second (is_named n) _ kept) in
+    let none = not-true (list_any (is_proper_suffix n) names) (and_parts (is_named n) (not (list_any (is_proper_suffix n) names)) kept).1 in
     true≢false (sym (among (is_proper_suffix n) (proper n k suffix other)) ∙ none)
 
 apart_step : (names : List (List ℕ)) (d : List ℕ) (ds : List (List ℕ)) (b : Bool) → is_kept names d ≡ b → IsAmong names d →

@@ -7,7 +7,7 @@ use Rattle.std.proofs.lemmas.List.{drop-append-le, drop-drop, drop_at, length-dr
 use Rattle.elf_object_strings.specs.Owners.{IsSuffix}
 use Rattle.elf_object_strings.specs.Shared.{AreZeroFree, IsLowestAt, StandsClosedAt}
 use Rattle.elf_object_strings.specs.StringTable.{closed, end_from, is_suffix}
-use Rattle.elf_object_strings.proofs.Suffix.{is_suffix_of, suffix_length, suffix_of}
+use Rattle.elf_object_strings.proofs.Suffix.{suffix_from, suffix_length, suffix_test}
 
 abbrev pub IsZeroFree : List ℕ → Type 0
 IsZeroFree name = AllByRecursion (λ byte. 0 < byte) name
@@ -64,7 +64,7 @@ found k t n y free other le stands =
 -- it stands there
 stands_end : (k t n : List ℕ) → is_suffix n k ≡ true → StandsClosedAt (k ++ (0 ∷ t)) n (length k - length n)
 stands_end k t n is =
-    let suffix = suffix_of n k is in
+    let suffix = suffix_from n k is in
     let long = suffix_length n k suffix in
     let start : length k - length n ≡ length suffix.0 = omega arith in
     let le : length k - length n ≤ length k = omega arith in
@@ -110,7 +110,7 @@ least_rest k t n x y free other unlike rest stands (inl past) =
 least_rest k t n x y free other unlike rest stands (inr le) =
     let same = found k t n y free other le stands in
     let whole : k ≡ take y k ++ n = sym (take-append-drop y k) ∙ ap (λ (s : List ℕ). take y k ++ s) same in
-    absurd (true≢false (sym (is_suffix_of n k (take y k) whole) ∙ unlike))
+    absurd (true≢false (sym (suffix_test n k (take y k, whole)) ∙ unlike))
 
 at_rest : (k t n : List ℕ) (x : ℕ) → IsZeroFree k → IsZeroFree n → is_suffix n k ≡ false → IsLowestAt t n x →
     IsLowestAt (k ++ (0 ∷ t)) n (suc (length k) + x)
@@ -157,7 +157,7 @@ end_step : (at : ℕ) (k : List ℕ) (ks : List (List ℕ)) (n : List ℕ) (b : 
     (list_any (is_suffix n) ks ≡ true → end_from (at + suc (length k)) ks n ≡ (at + suc (length k)) + place_in ks n + length n) →
     list_any (is_suffix n) (k ∷ ks) ≡ true →
     cond b (at + length k) (end_from (at + suc (length k)) ks n) ≡ at + cond b (length k - length n) (suc (length k) + place_in ks n) + length n
-end_step at k ks n true is rest any = let long = suffix_length n k (suffix_of n k is) in omega arith
+end_step at k ks n true is rest any = let long = suffix_length n k (suffix_from n k is) in omega arith
 end_step at k ks n false is rest any = let there = rest (rw is at any) in omega arith
 
 pub end_is : (at : ℕ) (ks : List (List ℕ)) (n : List ℕ) → list_any (is_suffix n) ks ≡ true → end_from at ks n ≡ at + place_in ks n + length n

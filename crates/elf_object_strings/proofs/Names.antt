@@ -1,15 +1,16 @@
 -- A string table holds its names.
 use Rattle.std.proofs.Common.{◌≡◌, ◌≢◌, ◌<◌, ◌+◌, ◌-◌, ℕ, suc, Bool, true, false, List, [], ◌∷◌, ◌++◌, length, take, get_or, refl, sym, ap, ap₂, ◌∙◌, append_assoc, arith}
 use Rattle.std.specs.Prelude.{◌==◌}
-use Rattle.std.specs.List.{AllByRecursion, before_first, filter, flat_map, list_any}
+use Rattle.std.specs.List.{AllByRecursion, before_first, flat_map, list_any}
 use Rattle.std.proofs.lemmas.Bool.{ne_eqb, true≢false}
 use Rattle.std.proofs.lemmas.List.{get_or-append-add}
 use Rattle.elf_field.specs.Bytes.{IsBytes}
 use Rattle.elf_field.specs.BytesLaws.{IsBytes-append, IsBytes-cons, IsBytes-nil}
 use Rattle.elf_image_type.specs.Strings.{string}
 use Rattle.elf_object_strings.specs.Names.{HasNoZero, HoldsNames}
-use Rattle.elf_object_strings.specs.StringTable.{closed, distinct, end_from, held, is_kept, is_named, is_suffix, name_offset, string_table}
+use Rattle.elf_object_strings.specs.StringTable.{closed, end_from, held, is_named, is_suffix, name_offset, string_table}
 use Rattle.elf_object_strings.proofs.Climb.{ends_held}
+use Rattle.elf_object_strings.proofs.Kept.{all_held, all_weaker}
 use Rattle.elf_object_strings.proofs.Ends.{IsEndAt, end_stands, length-closed}
 
 -- ---- the ends of the table
@@ -79,19 +80,6 @@ each_held names i lt = by_name (get_or names i []) (is_named (get_or names i [])
 
 -- ---- bytes
 
-All-filter-step : {X : Type 0} (P : X → Type 0) (p : X → Bool) (x : X) (xs : List X) (b : Bool) → p x ≡ b → P x →
-    AllByRecursion P (filter p xs) → AllByRecursion P (filter p (x ∷ xs))
-All-filter-step P p x xs true is here rest = rw is (here, rest)
-All-filter-step P p x xs false is here rest = rw is rest
-
-All-filter : {X : Type 0} (P : X → Type 0) (p : X → Bool) (xs : List X) → AllByRecursion P xs → AllByRecursion P (filter p xs)
-All-filter P p [] all = tt
-All-filter P p (x ∷ xs) all = All-filter-step P p x xs (p x) refl all.0 (All-filter P p xs all.1)
-
-All-distinct : (ns : List (List ℕ)) → AllByRecursion IsBytes ns → AllByRecursion IsBytes (distinct ns)
-All-distinct [] all = tt
-All-distinct (n ∷ ns) all = (all.0, All-filter IsBytes _ (distinct ns) (All-distinct ns all.1))
-
 IsBytes-closed : (ds : List (List ℕ)) → AllByRecursion IsBytes ds → IsBytes (flat_map closed ds)
 IsBytes-closed [] all = IsBytes-nil
 IsBytes-closed (d ∷ ds) all =
@@ -99,9 +87,9 @@ IsBytes-closed (d ∷ ds) all =
     IsBytes-append (closed d) (flat_map closed ds) (IsBytes-append d (0 ∷ []) all.0 zero_byte) (IsBytes-closed ds all.1)
 
 IsBytes-string_table : (ns : List (List ℕ)) → AllByRecursion IsBytes ns → IsBytes (string_table ns)
-unfolding string_table held
+unfolding string_table
 IsBytes-string_table ns all =
-    let each = All-filter IsBytes (is_kept ns) (distinct ns) (All-distinct ns all) in
+    let each = all_weaker _ IsBytes (λ n both. both.0) (held ns) (all_held IsBytes ns all) in
     IsBytes-cons 0 (flat_map closed (held ns)) (omega arith) (IsBytes-closed (held ns) each)
 
 -- ---- the law
@@ -110,7 +98,7 @@ some_byte : (names : List (List ℕ)) → 0 < length (string_table names)
 unfolding string_table
 some_byte names = omega arith
 
-empty_at_zero : (names : List (List ℕ)) → name_offset names [] ≡ 0
+pub empty_at_zero : (names : List (List ℕ)) → name_offset names [] ≡ 0
 unfolding name_offset
 empty_at_zero names = refl
 

@@ -11,7 +11,8 @@ use Rattle.elf_object_strings.specs.Owners.{IsFirstOfHeld, IsOwner, IsSuffix}
 use Rattle.elf_object_strings.specs.StringTable.{closed, distinct, end_from, held, is_kept, is_named, is_proper_suffix, is_suffix, name_offset, string_table}
 use Rattle.elf_object_strings.specs.Writing.{HasEnds, held_to, is_written, with_name}
 use Rattle.elf_object_strings.proofs.Distinct.{bytes_eq-self, distinct-push, in_distinct, same_name}
-use Rattle.elf_object_strings.proofs.Ends.{end_behind, suffix_fits, suffix_from, suffix_named, suffix_same, suffix_test}
+use Rattle.elf_object_strings.proofs.Ends.{end_behind}
+use Rattle.elf_object_strings.proofs.Suffix.{suffix_fits, suffix_from, suffix_named, suffix_same, suffix_test}
 
 -- ---- one name more
 

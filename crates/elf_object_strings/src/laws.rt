@@ -7,12 +7,3 @@ ghost use Rattle.elf_object_strings.specs.StringTable.{name_offset, string_table
 pub fn holds_names()
     ensures { (names : List (List ℕ)) → HoldsNames names (string_table names) (name_offset names) }
 {}
-
-ghost use Rattle.elf_object_strings.specs.Shared.{AreZeroFree, HoldsEach, IsLeast, Shares};
-ghost use Rattle.std.specs.Prelude.{map};
-
-pub fn trial_laws()
-    ensures shares { (names : List (List ℕ)) → AreZeroFree names → Shares names (string_table names) (map (name_offset names) names) }
-    ensures holds { (names : List (List ℕ)) → HoldsEach (string_table names) names }
-    ensures least { (names : List (List ℕ)) → AreZeroFree names → IsLeast names (string_table names) }
-{}
