@@ -1,9 +1,10 @@
 -- Runs of names that end with one name, followed from the last of them on.
-use Rattle.std.proofs.Common.{◌≡◌, ◌<◌, ◌≤◌, ◌⊎◌, ℕ, ◌-◌, min, List, [], get_or, length, refl, sym, ap, subst, ◌∙◌, inl, inr, arith}
+use Rattle.std.proofs.Common.{◌+◌, ◌∷◌, ◌++◌, set, below_more, get_or-set_other, get_or-set_same, ◌≡◌, ◌<◌, ◌≤◌, ◌⊎◌, ℕ, ◌-◌, min, List, [], get_or, length, refl, sym, ap, subst, ◌∙◌, inl, inr, arith}
 use Rattle.std.specs.Prelude.{◌==◌, if◌then◌else◌}
-use Rattle.std.proofs.lemmas.Bool.{cases_lt}
+use Rattle.std.proofs.lemmas.Bool.{cases_eq, cases_lt}
 use Rattle.std.proofs.lemmas.Bool.Decides.{nat_tests}
-use Rattle.elf_object_strings.specs.Owners.{IsFirstOfHeld, IsOwner, IsSuffix}
+use Rattle.std.proofs.lemmas.List.{get_or_append_left, get_or_push, length_push, length-set}
+use Rattle.elf_object_strings.specs.Owners.{AreOwners, IsFirstOfHeld, IsOwner, IsSuffix}
 use Rattle.elf_object_strings.specs.Runs.{AreRuns, HaveOwners, IsLeastOwner, IsRun}
 use Rattle.elf_object_strings.specs.Sorting.{AreInOrder, AreNumbered}
 use Rattle.elf_object_strings.proofs.EndsOrder.{ends_alike, ends_between, later_index, suffix_chain, suffix_itself}
@@ -137,3 +138,47 @@ owner_found names sorted indexes numbered ordered position start owner within ru
       subst (λ i. IsOwner names (get_or sorted position []) i) (sym (own here))
       (owner_of_itself names sorted indexes numbered ordered position within (subst (λ i. IsRun sorted position i) here run)))
     ]
+
+-- ---- one name after the other
+
+pub runs_more : (sorted : List (List ℕ)) (starts : List ℕ) (position start : ℕ) → AreRuns sorted starts position → IsRun sorted position start →
+    AreRuns sorted (starts ++ (start ∷ [])) (position + 1)
+runs_more sorted starts position start runs run = record {
+  as_many = length_push starts start ∙ ap (λ n. n + 1) runs.as_many;
+  each = below_more (λ q. IsRun sorted q (get_or (starts ++ (start ∷ [])) q 0)) position
+      (λ q lt. (let many : length starts ≡ position = runs.as_many in
+      subst (λ s. IsRun sorted q s) (sym (get_or_append_left starts (start ∷ []) 0 q (omega arith))) (runs.each q lt)))
+      (subst (λ s. IsRun sorted position s) (sym (get_or_push starts start 0 position runs.as_many)) run);
+}
+
+pub owners_more : (names sorted : List (List ℕ)) (indexes owners : List ℕ) (position owner : ℕ) → AreNumbered names sorted indexes → position < length sorted →
+    HaveOwners names sorted indexes owners position → IsOwner names (get_or sorted position []) owner →
+    HaveOwners names sorted indexes (set owners (get_or indexes position 0) owner) (position + 1)
+owners_more names sorted indexes owners position owner numbered within owned new = record {
+  all = length-set owners (get_or indexes position 0) owner ∙ owned.all;
+  each = below_more (λ q. IsOwner names (get_or sorted q []) (get_or (set owners (get_or indexes position 0) owner) (get_or indexes q 0) 0)) position earlier
+      (subst (λ o. IsOwner names (get_or sorted position []) o) (sym (written (get_or indexes position 0) refl)) new);
+} where
+  written : (i : ℕ) → i ≡ get_or indexes position 0 → get_or (set owners (get_or indexes position 0) owner) i 0 ≡ owner
+  written i is =
+      let below : get_or indexes position 0 < length names = numbered.below position within in
+      let all : length owners ≡ length names = owned.all in
+      ap (λ j. get_or (set owners (get_or indexes position 0) owner) j 0) is ∙ get_or-set_same owners (get_or indexes position 0) owner 0 (omega arith)
+
+  -- an index that occurs twice has the same name
+  earlier : (q : ℕ) → q < position → IsOwner names (get_or sorted q []) (get_or (set owners (get_or indexes position 0) owner) (get_or indexes q 0) 0)
+  earlier q lt = elim (cases_eq (get_or indexes q 0) (get_or indexes position 0)) [
+      inl same ↦ (let name : get_or sorted q [] ≡ get_or sorted position [] =
+      sym (numbered.named q (omega arith)) ∙ ap (λ i. get_or names i []) same ∙ numbered.named position within in
+      subst (λ o. IsOwner names (get_or sorted q []) o) (sym (written (get_or indexes q 0) same)) (subst (λ n. IsOwner names n owner) (sym name) new))
+    | inr other ↦ subst (λ o. IsOwner names (get_or sorted q []) o) (sym (get_or-set_other owners (get_or indexes position 0) (get_or indexes q 0) owner 0 other)) (owned.each q lt)
+    ]
+
+pub owners_all : (names sorted : List (List ℕ)) (indexes owners : List ℕ) (position : ℕ) → AreNumbered names sorted indexes → length sorted ≤ position →
+    HaveOwners names sorted indexes owners position → AreOwners names owners
+owners_all names sorted indexes owners position numbered all owned = record {
+  all = owned.all;
+  each = λ i lt.
+      (let (q, q_lt, q_is, q_name) = place_of names sorted indexes numbered i lt in
+      subst (λ n. IsOwner names n (get_or owners i 0)) q_name (subst (λ j. IsOwner names (get_or sorted q []) (get_or owners j 0)) q_is (owned.each q (omega arith))));
+}
