@@ -3,6 +3,9 @@ mod Climb
 mod Distinct
 mod EndNumbers
 mod Ends
+mod EndsCode
+mod EndsOrder
+mod EndsRuns
 mod Joined
 mod Kept
 mod Lowest

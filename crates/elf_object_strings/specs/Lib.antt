@@ -1,6 +1,7 @@
 -- The words of this crate's contracts.
 pub mod Names
 pub mod Owners
+pub mod Runs
 pub mod Shared
 pub mod Sorting
 pub mod StringTable

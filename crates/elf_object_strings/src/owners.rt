@@ -1,8 +1,10 @@
 //! For each name of a list the one whose bytes in the table it shares.
-ghost use Rattle.std.specs.Prelude.{IfOk};
-ghost use Rattle.elf_object_strings.specs.Owners.{AreOwners};
+ghost use Rattle.std.specs.Prelude.{◌≡◌, ◌<◌, ℕ, min, if◌then◌else◌, List, [], get_or, length, IfOk};
+ghost use Rattle.elf_object_strings.specs.Owners.{AreOwners, IsOwner};
+ghost use Rattle.elf_object_strings.specs.Runs.{AreRuns, HaveOwners, IsRun};
 ghost use Rattle.elf_object_strings.specs.Shared.{texts};
 ghost use Rattle.elf_object_strings.specs.Sorting.{AreInOrder, AreNumbered, indexes_in, names_in};
+ghost use Rattle.elf_object_strings.specs.StringTable.{is_suffix};
 
 use crate::sorting::{Numbered, sorted_names};
 use std::alloc::{AllocError, Global};
@@ -42,7 +44,14 @@ fn run_of(
     starts: &[usize],
     owners: &[usize],
     position: usize,
-) -> (usize, usize) {
+) -> (usize, usize)
+    requires within { position < length sorted.now }
+    requires order { AreInOrder (names_in sorted.now) (indexes_in sorted.now) }
+    requires runs { AreRuns (names_in sorted.now) starts.now position }
+    requires indexes { (q : ℕ) → q < length sorted.now → get_or (indexes_in sorted.now) q 0 < length owners.now }
+    ensures run { IsRun (names_in sorted.now) position result.0 }
+    ensures owner { (names : List (List ℕ)) → AreNumbered names (names_in sorted.now) (indexes_in sorted.now) → HaveOwners names (names_in sorted.now) (indexes_in sorted.now) owners.now position → IsOwner names (get_or (names_in sorted.now) position []) result.1 }
+{
     let mut start = position;
     let mut owner = sorted[position].index;
     while start > 0 && is_suffix(sorted[position].name, sorted[start - 1].name) {
@@ -52,10 +61,14 @@ fn run_of(
     (start, owner)
 }
 
-fn is_suffix(name: &[u8], other: &[u8]) -> bool {
+fn is_suffix(name: &[u8], other: &[u8]) -> bool
+    ensures { result ≡ is_suffix name.now other.now }
+{
     other.ends_with(name)
 }
 
-fn least_owner(first: bool, owner: usize, met: usize) -> usize {
+fn least_owner(first: bool, owner: usize, met: usize) -> usize
+    ensures { result ≡ (if first then met else min owner met) }
+{
     if first || met < owner { met } else { owner }
 }
