@@ -72,14 +72,15 @@ climb names (suc fuel) i lt named some = by_longer (list_any (is_proper_suffix (
       any_weaker (is_suffix m) (is_suffix n) (λ k is. suffix_test n k (suffix_trans n m k ends (suffix_from m k is))) (held names)
       (further j longer.2 (suffix_named n m ends named) (omega arith))
 
--- each name of the list that is not empty
+-- a held name ends with each name of the list that is not empty, by its index
 pub ends_held : (names : List (List ℕ)) (i : ℕ) → i < length names → is_named (get_or names i []) ≡ true →
     list_any (is_suffix (get_or names i [])) (held names) ≡ true
 ends_held names i lt named = climb names (suc (length (flat_map closed names))) i lt named (omega arith)
 
-pub ends_held_one : (names : List (List ℕ)) (n : List ℕ) → list_any (bytes_eq n) names ≡ true → is_named n ≡ true →
+-- and by its bytes
+pub ends_held_of : (names : List (List ℕ)) (n : List ℕ) → list_any (bytes_eq n) names ≡ true → is_named n ≡ true →
     list_any (is_suffix n) (held names) ≡ true
-ends_held_one names n found named =
+ends_held_of names n found named =
     let there = Any-from_list_any (bytes_eq n) names found in
     let same : get_or names there.0 [] ≡ n = get_or_default names there.0 [] there.1 there.2 ∙ there.3
     ∙ sym (same_name n there.1 there.4) in
