@@ -42,7 +42,7 @@ lowest_of names [] b is free one any = rw (empty_at_zero names) (lowest_empty (f
 lowest_of names (c ∷ n) true is free one any =
     rw (place_is names (c ∷ n) is (any is))
     (lowest_behind (flat_map closed (held names)) (c ∷ n) (place_in (held names) (c ∷ n)) one (some_of (c ∷ n) is)
-      (lowest_in (held names) (c ∷ n) (zero_free_held names free) one (any is)))
+    (lowest_in (held names) (c ∷ n) (zero_free_held names free) one (any is)))
 lowest_of names (c ∷ n) false is free one any = absurd (true≢false is)
 
 pub shares_tails : (names : List (List ℕ)) → AreZeroFree names → Shares names (string_table names) (map (name_offset names) names)

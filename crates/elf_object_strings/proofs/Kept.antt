@@ -77,9 +77,10 @@ all_true (d ∷ ds) = (tt, all_true ds)
 
 different_distinct : (ns : List (List ℕ)) → AreDifferent (distinct ns)
 different_distinct [] = tt
-different_distinct (n ∷ ns) =
-    (all_weaker _ (λ e. n ≢ e) (λ e both. differs n e both.1) _ (all_filter (λ d. ⊤) (λ other. not (bytes_eq n other)) (distinct ns) (all_true (distinct ns))),
-    different_filter (λ other. not (bytes_eq n other)) (distinct ns) (different_distinct ns))
+different_distinct (n ∷ ns) = (
+  all_weaker _ (λ e. n ≢ e) (λ e both. differs n e both.1) _ (all_filter (λ d. ⊤) (λ other. not (bytes_eq n other)) (distinct ns) (all_true (distinct ns))),
+  different_filter (λ other. not (bytes_eq n other)) (distinct ns) (different_distinct ns),
+)
 
 -- ---- none ends with another
 
@@ -87,6 +88,7 @@ proper : (n k : List ℕ) → IsSuffix n k → n ≢ k → is_proper_suffix n k 
 proper n k suffix other = both (is_suffix n k) (bytes_eq n k) (suffix_test n k suffix) (unequal (bytes_eq n k) refl) where
   both : (a b : Bool) → a ≡ true → b ≡ false → (a && not b) ≡ true
   both a b is unlike = rw (is, unlike) refl
+
   unequal : (b : Bool) → bytes_eq n k ≡ b → b ≡ false
   unequal true is = absurd (other ((bytes_eq-Decides n k).0 is))
   unequal false is = refl
@@ -99,11 +101,12 @@ ends_none names n k kept among other suffix =
 apart_step : (names : List (List ℕ)) (d : List ℕ) (ds : List (List ℕ)) (b : Bool) → is_kept names d ≡ b → IsAmong names d →
     AllByRecursion (IsAmong names) ds → AllByRecursion (λ e. d ≢ e) ds → AreApart (filter (is_kept names) ds) → AreApart (filter (is_kept names) (d ∷ ds))
 apart_step names d ds true is here all others rest =
-    rw is
-    (all_weaker _ (λ n. (IsSuffix n d → ⊥) × (IsSuffix d n → ⊥))
-      (λ e both. ((λ suffix. ends_none names e d both.1 here (λ same. both.0.1 (sym same)) suffix), (λ suffix. ends_none names d e is both.0.0 both.0.1 suffix)))
-      _ (all_filter (λ e. IsAmong names e × (d ≢ e)) (is_kept names) ds (all_both (IsAmong names) (λ e. d ≢ e) ds all others)),
-    rest)
+    rw is (
+      all_weaker _ (λ n. (IsSuffix n d → ⊥) × (IsSuffix d n → ⊥))
+          (λ e both. ((λ suffix. ends_none names e d both.1 here (λ same. both.0.1 (sym same)) suffix), (λ suffix. ends_none names d e is both.0.0 both.0.1 suffix)))
+          _ (all_filter (λ e. IsAmong names e × (d ≢ e)) (is_kept names) ds (all_both (IsAmong names) (λ e. d ≢ e) ds all others)),
+      rest,
+    )
 apart_step names d ds false is here all others rest = rw is rest
 
 apart_filter : (names ds : List (List ℕ)) → AllByRecursion (IsAmong names) ds → AreDifferent ds → AreApart (filter (is_kept names) ds)

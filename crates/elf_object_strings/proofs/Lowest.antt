@@ -69,7 +69,7 @@ stands_end k t n is =
     let start : length k - length n ≡ length suffix.0 = omega arith in
     let le : length k - length n ≤ length k = omega arith in
     let here : drop (length k - length n) k ≡ n =
-      ap₂ (λ (i : ℕ) (s : List ℕ). drop i s) start suffix.1 ∙ drop_at suffix.0 n (length suffix.0) refl in
+    ap₂ (λ (i : ℕ) (s : List ℕ). drop i s) start suffix.1 ∙ drop_at suffix.0 n (length suffix.0) refl in
     (t, within k t (length k - length n) le ∙ ap (λ (s : List ℕ). s ++ (0 ∷ t)) here)
 
 stands_step : (k : List ℕ) (ks : List (List ℕ)) (n : List ℕ) (b : Bool) → is_suffix n k ≡ b →
@@ -104,7 +104,7 @@ least_rest : (k t n : List ℕ) (x y : ℕ) → IsZeroFree k → IsZeroFree n �
 least_rest k t n x y free other unlike rest stands (inl past) =
     let split : y ≡ suc (length k) + (y - suc (length k)) = omega arith in
     let there : drop (y - suc (length k)) t ≡ n ++ (0 ∷ stands.0) =
-      sym (ap (λ (i : ℕ). drop i (k ++ (0 ∷ t))) split ∙ behind k t (y - suc (length k))) ∙ stands.1 in
+    sym (ap (λ (i : ℕ). drop i (k ++ (0 ∷ t))) split ∙ behind k t (y - suc (length k))) ∙ stands.1 in
     let le = rest.lowest (y - suc (length k)) (stands.0, there) in
     omega arith
 least_rest k t n x y free other unlike rest stands (inr le) =

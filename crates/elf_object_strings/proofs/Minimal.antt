@@ -43,10 +43,10 @@ before [] k bs n cs free other is = inl ([], sym (one_name k n bs cs free other 
 before (b ∷ front) k bs [] cs free other is = inr (front ++ bs, ap (λ (x : ℕ). x ∷ (front ++ bs)) (heads b 0 _ _ is))
 before (b ∷ front) k bs (c ∷ n) cs free other is =
     by_rest (heads b c _ _ is) (before front k bs n cs free other.1 (rests b c _ _ is)) where
-  by_rest : b ≡ c → IsSuffix k n ⊎ ((rest : List ℕ) × (front ++ bs ≡ n ++ (0 ∷ rest))) →
-      IsSuffix k (c ∷ n) ⊎ ((rest : List ℕ) × (b ∷ (front ++ bs) ≡ c ∷ (n ++ (0 ∷ rest))))
-  by_rest same (inl s) = inl (longer_suffix c k n s)
-  by_rest same (inr s) = inr (s.0, ap₂ (λ (x : ℕ) (xs : List ℕ). x ∷ xs) same s.1)
+      by_rest : b ≡ c → IsSuffix k n ⊎ ((rest : List ℕ) × (front ++ bs ≡ n ++ (0 ∷ rest))) →
+          IsSuffix k (c ∷ n) ⊎ ((rest : List ℕ) × (b ∷ (front ++ bs) ≡ c ∷ (n ++ (0 ∷ rest))))
+      by_rest same (inl s) = inl (longer_suffix c k n s)
+      by_rest same (inr s) = inr (s.0, ap₂ (λ (x : ℕ) (xs : List ℕ). x ∷ xs) same s.1)
 
 left_over : (front k bs before_other n cs : List ℕ) → IsZeroFree k → IsZeroFree n → front ++ (k ++ (0 ∷ bs)) ≡ before_other ++ (n ++ (0 ∷ cs)) →
     IsSuffix n k ⊎ (IsSuffix k n ⊎ Stands (front ++ bs) n)

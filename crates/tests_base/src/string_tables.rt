@@ -49,8 +49,13 @@ fn empty_names_take_one_zero(rt: HostRuntime) -> Result<(), Fail> {
 #[test]
 fn long_names_differ_at_their_beginnings(rt: HostRuntime) -> Result<(), Fail> {
     let long = b"0123456789012345678901234567890123456789";
-    let names: [&[u8]; 3] = [b"x123456789012345678901234567890123456789", long, &long[1..]];
-    let bytes = b"\0x123456789012345678901234567890123456789\00123456789012345678901234567890123456789\0";
+    let names: [&[u8]; 3] = [
+        b"x123456789012345678901234567890123456789",
+        long,
+        &long[1..],
+    ];
+    let bytes =
+        b"\0x123456789012345678901234567890123456789\00123456789012345678901234567890123456789\0";
     assert_table(&rt, rt.alloc(), &names, bytes, &[1, 42, 2])
 }
 

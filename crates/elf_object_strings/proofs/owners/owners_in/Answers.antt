@@ -17,7 +17,7 @@ loop-position-preserved c =
     let within : position < length (names_in sorted) = subst (λ n. position < n) (sym (length-map sorted (λ (it : Numbered). it.name.now))) c.loop-position-test.true in
     let owned : HaveOwners names (names_in sorted) (indexes_in sorted) c.loop-position.owners.items position = c.loop-position.invariant.owned in
     let owner = c.run_of-start.ensures.owner names c.requires.numbered
-        (subst (λ owners. HaveOwners names (names_in sorted) (indexes_in sorted) owners position) (sym c.deref-in-loop-position.ensures.value) owned) in
+    (subst (λ owners. HaveOwners names (names_in sorted) (indexes_in sorted) owners position) (sym c.deref-in-loop-position.ensures.value) owned) in
     record {
       runs = subst (λ starts. AreRuns (names_in sorted) starts (position + 1)) (sym c.in_ok-push.ensures.items)
           (runs_more (names_in sorted) c.loop-position.starts.items position c.run_of-start.result.0 c.loop-position.invariant.runs c.run_of-start.ensures.run);
