@@ -1,5 +1,5 @@
 -- One name more has its run and its owner, and at last all have.
-use Rattle.std.proofs.Common.{set, ◌≡◌, ◌<◌, ◌≤◌, ◌+◌, ℕ, get_or, length, sym, subst, ap, ◌∙◌, arith}
+use Rattle.std.proofs.Common.{set, ◌<◌, ◌≤◌, ◌+◌, length, sym, subst, arith}
 use Rattle.std.proofs.lemmas.List.{length-map}
 use Rattle.elf_object_strings.specs.declared.sorting.Numbered.{Numbered}
 use Rattle.elf_object_strings.specs.Runs.{AreRuns, HaveOwners}
