@@ -7,7 +7,7 @@ use Rattle.std.proofs.lemmas.List.Folds.{Any-from_list_any, list_any_at}
 use Rattle.std.proofs.lemmas.Map.Views.{any-filter_same}
 use Rattle.std.proofs.lemmas.List.{get_or_default}
 use Rattle.elf_object_strings.specs.Owners.{IsSuffix}
-use Rattle.elf_object_strings.specs.StringTable.{closed, distinct, held, is_kept, is_named, is_proper_suffix, is_suffix}
+use Rattle.elf_object_strings.specs.StringTable.{closed, distinct, held, is_held, is_named, is_proper_suffix, is_suffix}
 use Rattle.elf_object_strings.proofs.Distinct.{bytes_eq-self, in_distinct, same_name}
 use Rattle.elf_object_strings.proofs.Ends.{length-closed}
 use Rattle.elf_object_strings.proofs.Suffix.{suffix_from, suffix_named, suffix_same, suffix_test, suffix_trans}
@@ -40,11 +40,11 @@ not_longer (n ∷ names) (suc i) lt =
     omega arith
 
 -- a name that is to be held is held
-pub in_held : (names : List (List ℕ)) (n : List ℕ) → is_kept names n ≡ true → list_any (bytes_eq n) names ≡ true →
+pub in_held : (names : List (List ℕ)) (n : List ℕ) → is_held names n ≡ true → list_any (bytes_eq n) names ≡ true →
     list_any (bytes_eq n) (held names) ≡ true
 unfolding held
 in_held names n kept found =
-    any-filter_same (bytes_eq n) (is_kept names) true (λ k equal. ap (is_kept names) (sym (same_name n k equal)) ∙ kept) (distinct names)
+    any-filter_same (bytes_eq n) (is_held names) true (λ k equal. ap (is_held names) (sym (same_name n k equal)) ∙ kept) (distinct names)
     ∙ in_distinct n names ∙ found
 
 climb : (names : List (List ℕ)) (fuel i : ℕ) → i < length names → is_named (get_or names i []) ≡ true →
@@ -57,7 +57,7 @@ climb names (suc fuel) i lt named some = by_longer (list_any (is_proper_suffix (
       list_any (is_suffix (get_or names i [])) (held names) ≡ true
   by_longer false none further =
       let n = get_or names i [] in
-      let kept : is_kept names n ≡ true = and_from (is_named n) (not (list_any (is_proper_suffix n) names)) named (not_from_false _ none) in
+      let kept : is_held names n ≡ true = and_from (is_named n) (not (list_any (is_proper_suffix n) names)) named (not_from_false _ none) in
       let there = list_any_at (bytes_eq n) names i [] lt (bytes_eq-self n) in
       any_weaker (bytes_eq n) (is_suffix n) (λ k equal. suffix_test n k (suffix_same n k (sym (same_name n k equal))))
       (held names) (in_held names n kept there)

@@ -6,14 +6,14 @@ use Rattle.std.proofs.lemmas.List.{get_or-map}
 use Rattle.std.proofs.lemmas.Slice.Eq.{ends_is}
 use Rattle.elf_object_strings.specs.declared.sorting.Numbered.{Numbered}
 use Rattle.elf_object_strings.specs.Owners.{IsSuffix}
-use Rattle.elf_object_strings.specs.Sorting.{indexes_in, names_in}
+use Rattle.elf_object_strings.specs.Sorting.{indexes_in, names_by_ends}
 use Rattle.elf_object_strings.specs.StringTable.{is_suffix}
 
 -- what is read past the end
 abbrev pub no_name : Numbered
 no_name = record { name = record { ref_ptr = (0, 0); now = [] }; index = 0; end = 0 }
 
-pub name_at : (sorted : List Numbered) (q : ℕ) → q < length sorted → get_or (names_in sorted) q [] ≡ (get_or sorted q no_name).name.now
+pub name_at : (sorted : List Numbered) (q : ℕ) → q < length sorted → get_or (names_by_ends sorted) q [] ≡ (get_or sorted q no_name).name.now
 name_at sorted q lt = get_or-map (λ (it : Numbered). it.name.now) sorted q no_name [] lt
 
 pub index_at : (sorted : List Numbered) (q : ℕ) → q < length sorted → get_or (indexes_in sorted) q 0 ≡ (get_or sorted q no_name).index
@@ -27,13 +27,13 @@ no_suffix_from_test name other is_not (front, is) =
     both_ways (is_suffix name other) is_not ((ends_is Decides-eqb other name (is_suffix name other) refl).1 front is)
 
 pub suffix_at : (sorted : List Numbered) (p q : ℕ) → p < length sorted → q < length sorted →
-    is_suffix (get_or sorted p no_name).name.now (get_or sorted q no_name).name.now ≡ true → IsSuffix (get_or (names_in sorted) p []) (get_or (names_in sorted) q [])
+    is_suffix (get_or sorted p no_name).name.now (get_or sorted q no_name).name.now ≡ true → IsSuffix (get_or (names_by_ends sorted) p []) (get_or (names_by_ends sorted) q [])
 suffix_at sorted p q p_lt q_lt is =
     let found = suffix_from_test (get_or sorted p no_name).name.now (get_or sorted q no_name).name.now is in
     (found.0, name_at sorted q q_lt ∙ found.1 ∙ ap (λ (n : List ℕ). found.0 ++ n) (sym (name_at sorted p p_lt)))
 
 pub no_suffix_at : (sorted : List Numbered) (p q : ℕ) → p < length sorted → q < length sorted →
-    is_suffix (get_or sorted p no_name).name.now (get_or sorted q no_name).name.now ≡ false → ¬ IsSuffix (get_or (names_in sorted) p []) (get_or (names_in sorted) q [])
+    is_suffix (get_or sorted p no_name).name.now (get_or sorted q no_name).name.now ≡ false → ¬ IsSuffix (get_or (names_by_ends sorted) p []) (get_or (names_by_ends sorted) q [])
 no_suffix_at sorted p q p_lt q_lt is_not (front, is) =
     no_suffix_from_test (get_or sorted p no_name).name.now (get_or sorted q no_name).name.now is_not
     (front, sym (name_at sorted q q_lt) ∙ is ∙ ap (λ (n : List ℕ). front ++ n) (name_at sorted p p_lt))

@@ -8,7 +8,7 @@ use Rattle.std.proofs.lemmas.Cmp.{nat_list_cmp_total, ranked, tied_itself}
 use Rattle.std.proofs.lemmas.List.{append_assoc, reverse-append, reverse-reverse}
 use Rattle.std.proofs.lemmas.Map.Keys.{ge_from_not_lt}
 use Rattle.elf_object_strings.specs.Owners.{IsSuffix}
-use Rattle.elf_object_strings.specs.Sorting.{AreInOrder}
+use Rattle.elf_object_strings.specs.Sorting.{AreInEndsOrder}
 
 -- ---- names that are read from their ends on
 
@@ -84,13 +84,13 @@ second_part Less p equal is = absurd (true≢false (ap is_lt equal))
 second_part Equal p equal is = is
 second_part Greater p equal is = cc
 
-at_ends : (sorted : List (List ℕ)) (indexes : List ℕ) → AreInOrder sorted indexes → (q r : ℕ) → q ≤ r → r < length sorted →
+at_ends : (sorted : List (List ℕ)) (indexes : List ℕ) → AreInEndsOrder sorted indexes → (q r : ℕ) → q ≤ r → r < length sorted →
     IsNotLess (reverse (get_or sorted q [])) (reverse (get_or sorted r []))
 at_ends sorted indexes ordered q r le lt =
     first_part (slice_cmp nat_cmp (reverse (get_or sorted q [])) (reverse (get_or sorted r []))) (nat_cmp (get_or indexes r 0) (get_or indexes q 0)) (ordered q r le lt)
 
 -- where a name ends with one behind it, so do those between
-pub ends_between : (sorted : List (List ℕ)) (indexes : List ℕ) → AreInOrder sorted indexes → (p q r : ℕ) → p ≤ q → q ≤ r → r < length sorted →
+pub ends_between : (sorted : List (List ℕ)) (indexes : List ℕ) → AreInEndsOrder sorted indexes → (p q r : ℕ) → p ≤ q → q ≤ r → r < length sorted →
     IsSuffix (get_or sorted r []) (get_or sorted p []) → IsSuffix (get_or sorted r []) (get_or sorted q [])
 ends_between sorted indexes ordered p q r low high lt ends =
     let upper = at_ends sorted indexes ordered p q low (omega arith) in
@@ -100,7 +100,7 @@ ends_between sorted indexes ordered p q r low high lt ends =
     (begins_reversed (get_or sorted r []) (get_or sorted p []) ends))
 
 -- a name behind one that it ends with equals it
-pub ends_alike : (sorted : List (List ℕ)) (indexes : List ℕ) → AreInOrder sorted indexes → (p q : ℕ) → p ≤ q → q < length sorted →
+pub ends_alike : (sorted : List (List ℕ)) (indexes : List ℕ) → AreInEndsOrder sorted indexes → (p q : ℕ) → p ≤ q → q < length sorted →
     IsSuffix (get_or sorted p []) (get_or sorted q []) → get_or sorted q [] ≡ get_or sorted p []
 ends_alike sorted indexes ordered p q le lt ends =
     let a = get_or sorted p [] in
@@ -109,7 +109,7 @@ ends_alike sorted indexes ordered p q le lt ends =
     sym (reverse-reverse c) ∙ ap (λ (s : List ℕ). reverse s) turned ∙ reverse-reverse a
 
 -- equal names stand in the order of their indexes
-pub later_index : (sorted : List (List ℕ)) (indexes : List ℕ) → AreInOrder sorted indexes → (p q : ℕ) → p ≤ q → q < length sorted →
+pub later_index : (sorted : List (List ℕ)) (indexes : List ℕ) → AreInEndsOrder sorted indexes → (p q : ℕ) → p ≤ q → q < length sorted →
     get_or sorted q [] ≡ get_or sorted p [] → get_or indexes p 0 ≤ get_or indexes q 0
 later_index sorted indexes ordered p q le lt same =
     let a = reverse (get_or sorted p []) in

@@ -6,7 +6,7 @@ use Rattle.std.proofs.lemmas.Bool.Decides.{nat_tests}
 use Rattle.std.proofs.lemmas.List.{get_or_append_left, get_or_push, length_push, length-set}
 use Rattle.elf_object_strings.specs.Owners.{AreOwners, IsFirstOfHeld, IsOwner, IsSuffix}
 use Rattle.elf_object_strings.specs.Runs.{AreRuns, HaveOwners, IsLeastOwner, IsRun}
-use Rattle.elf_object_strings.specs.Sorting.{AreInOrder, AreNumbered}
+use Rattle.elf_object_strings.specs.Sorting.{AreInEndsOrder, AreNumbered}
 use Rattle.elf_object_strings.proofs.EndsOrder.{ends_alike, ends_between, later_index, suffix_chain, suffix_itself}
 
 -- ---- the runs
@@ -23,7 +23,7 @@ run_more sorted position start next some low run here ends r from to =
     ]
 
 -- where the name before a start does not end with a name, none before it does
-pub none_before : (sorted : List (List ℕ)) (indexes : List ℕ) → AreInOrder sorted indexes → (position start : ℕ) → start ≤ position → position < length sorted →
+pub none_before : (sorted : List (List ℕ)) (indexes : List ℕ) → AreInEndsOrder sorted indexes → (position start : ℕ) → start ≤ position → position < length sorted →
     (0 < start → ¬ IsSuffix (get_or sorted position []) (get_or sorted (start - 1) [])) →
     (r : ℕ) → r < start → ¬ IsSuffix (get_or sorted position []) (get_or sorted r [])
 none_before sorted indexes ordered position start low within none r before ends =
@@ -78,7 +78,7 @@ place_of names sorted indexes numbered f lt =
     (found.0, found.1, found.2, sym (numbered.named found.0 found.1) ∙ ap (λ i. get_or names i []) found.2)
 
 -- nothing is met: the name is kept, and first occurs at its index
-pub owner_of_itself : (names sorted : List (List ℕ)) (indexes : List ℕ) → AreNumbered names sorted indexes → AreInOrder sorted indexes → (position : ℕ) →
+pub owner_of_itself : (names sorted : List (List ℕ)) (indexes : List ℕ) → AreNumbered names sorted indexes → AreInEndsOrder sorted indexes → (position : ℕ) →
     position < length sorted → IsRun sorted position position → IsOwner names (get_or sorted position []) (get_or indexes position 0)
 owner_of_itself names sorted indexes numbered ordered position within run = record {
   first = record { below = numbered.below position within; kept = λ j lt ends. behind j lt (subst (λ n. IsSuffix n (get_or names j [])) here ends) };
@@ -100,7 +100,7 @@ owner_of_itself names sorted indexes numbered ordered position within run = reco
       ]
 
 -- some are met: the least of their owners
-pub owner_of_run : (names sorted : List (List ℕ)) (indexes : List ℕ) → AreNumbered names sorted indexes → AreInOrder sorted indexes → (position start owner : ℕ) →
+pub owner_of_run : (names sorted : List (List ℕ)) (indexes : List ℕ) → AreNumbered names sorted indexes → AreInEndsOrder sorted indexes → (position start owner : ℕ) →
     position < length sorted → IsRun sorted position start → start < position → IsLeastOwner names sorted position start owner →
     IsOwner names (get_or sorted position []) owner
 owner_of_run names sorted indexes numbered ordered position start owner within run some met = record { first = met.first; ends = met.ends; least = least } where
@@ -127,7 +127,7 @@ owner_of_run names sorted indexes numbered ordered position start owner within r
       ]
 
 -- what is met of a run is all that its last name needs
-pub owner_found : (names sorted : List (List ℕ)) (indexes : List ℕ) → AreNumbered names sorted indexes → AreInOrder sorted indexes → (position start owner : ℕ) →
+pub owner_found : (names sorted : List (List ℕ)) (indexes : List ℕ) → AreNumbered names sorted indexes → AreInEndsOrder sorted indexes → (position start owner : ℕ) →
     position < length sorted → IsRun sorted position start → (start ≡ position → owner ≡ get_or indexes position 0) →
     (start < position → IsLeastOwner names sorted position start owner) → IsOwner names (get_or sorted position []) owner
 owner_found names sorted indexes numbered ordered position start owner within run own met =

@@ -6,8 +6,8 @@ use Rattle.std.specs.Str.{bytes_eq}
 use Rattle.std.proofs.lemmas.Bool.{and_parts, true≢false}
 use Rattle.std.proofs.lemmas.List.{get_or-map, length-map, take-append-drop}
 use Rattle.elf_object_strings.specs.Owners.{IsSuffix}
-use Rattle.elf_object_strings.specs.Shared.{AreZeroFree, HoldsEach, IsLeast, IsLowestAt, Shares, StandsClosedAt}
-use Rattle.elf_object_strings.specs.StringTable.{closed, distinct, end_from, held, is_kept, is_named, is_proper_suffix, is_suffix, name_offset, string_table}
+use Rattle.elf_object_strings.specs.Shared.{AreZeroFree, HoldsEach, IsShortest, IsLowestAt, Shares, StandsClosedAt}
+use Rattle.elf_object_strings.specs.StringTable.{closed, distinct, end_from, held, is_held, is_named, is_proper_suffix, is_suffix, name_offset, string_table}
 use Rattle.elf_object_strings.proofs.Kept.{all_both, all_held, all_weaker, apart_held}
 use Rattle.elf_object_strings.proofs.Climb.{ends_held}
 use Rattle.elf_object_strings.proofs.Names.{empty_at_zero}
@@ -90,7 +90,7 @@ each_stands names t free all =
     all_weaker _ (Stands t) (λ n both. stands_behind t n both.0.1.0 both.0.0 (some_of n (and_parts (is_named n) (not (list_any (is_proper_suffix n) names)) both.1).0) both.0.1.1) (held names)
     (all_held (λ n. IsZeroFree n × ((x : ℕ) × StandsClosedAt (0 ∷ t) n x)) names (all_both IsZeroFree _ names free all))
 
-pub least_table : (names : List (List ℕ)) → AreZeroFree names → IsLeast names (string_table names)
+pub least_table : (names : List (List ℕ)) → AreZeroFree names → IsShortest names (string_table names)
 least_table names free other holds =
     let begins = holds.begins in
     let each = each_stands names holds.rest free (rw begins at holds.each) in
@@ -108,5 +108,5 @@ shares_of names table offsets bytes places free = rw (bytes, places) (shares_tai
 pub holds_of : (names : List (List ℕ)) (table : List ℕ) → table ≡ string_table names → HoldsEach table names
 holds_of names table bytes = rw bytes (holds_each names)
 
-pub least_of : (names : List (List ℕ)) (table : List ℕ) → table ≡ string_table names → AreZeroFree names → IsLeast names table
+pub least_of : (names : List (List ℕ)) (table : List ℕ) → table ≡ string_table names → AreZeroFree names → IsShortest names table
 least_of names table bytes free other holds = rw bytes (least_table names free other holds)

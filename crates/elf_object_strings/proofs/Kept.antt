@@ -6,7 +6,7 @@ use Rattle.std.specs.Str.{bytes_eq}
 use Rattle.std.proofs.lemmas.Bool.{and_parts, not-true, or_left, or_right, true≢false}
 use Rattle.std.proofs.lemmas.Slice.Eq.{bytes_eq-Decides}
 use Rattle.elf_object_strings.specs.Owners.{IsSuffix}
-use Rattle.elf_object_strings.specs.StringTable.{distinct, held, is_kept, is_named, is_proper_suffix, is_suffix}
+use Rattle.elf_object_strings.specs.StringTable.{distinct, held, is_held, is_named, is_proper_suffix, is_suffix}
 use Rattle.elf_object_strings.proofs.Minimal.{AreApart}
 use Rattle.elf_object_strings.proofs.Suffix.{suffix_test}
 
@@ -36,9 +36,9 @@ all_distinct P (n ∷ ns) all =
     (all.0, all_weaker _ P (λ x both. both.0) _ (all_filter P (λ other. not (bytes_eq n other)) (distinct ns) (all_distinct P ns all.1)))
 
 -- what holds of each name holds of each that the table holds, and those are kept
-pub all_held : (P : List ℕ → Type 0) (names : List (List ℕ)) → AllByRecursion P names → AllByRecursion (λ n. P n × (is_kept names n ≡ true)) (held names)
+pub all_held : (P : List ℕ → Type 0) (names : List (List ℕ)) → AllByRecursion P names → AllByRecursion (λ n. P n × (is_held names n ≡ true)) (held names)
 unfolding held
-all_held P names all = all_filter P (is_kept names) (distinct names) (all_distinct P names all)
+all_held P names all = all_filter P (is_held names) (distinct names) (all_distinct P names all)
 
 -- ---- each name is among the names
 
@@ -93,26 +93,26 @@ proper n k suffix other = both (is_suffix n k) (bytes_eq n k) (suffix_test n k s
   unequal true is = absurd (other ((bytes_eq-Decides n k).0 is))
   unequal false is = refl
 
-pub ends_none : (names : List (List ℕ)) (n k : List ℕ) → is_kept names n ≡ true → IsAmong names k → n ≢ k → IsSuffix n k → ⊥
+pub ends_none : (names : List (List ℕ)) (n k : List ℕ) → is_held names n ≡ true → IsAmong names k → n ≢ k → IsSuffix n k → ⊥
 ends_none names n k kept among other suffix =
     let none = not-true (list_any (is_proper_suffix n) names) (and_parts (is_named n) (not (list_any (is_proper_suffix n) names)) kept).1 in
     true≢false (sym (among (is_proper_suffix n) (proper n k suffix other)) ∙ none)
 
-apart_step : (names : List (List ℕ)) (d : List ℕ) (ds : List (List ℕ)) (b : Bool) → is_kept names d ≡ b → IsAmong names d →
-    AllByRecursion (IsAmong names) ds → AllByRecursion (λ e. d ≢ e) ds → AreApart (filter (is_kept names) ds) → AreApart (filter (is_kept names) (d ∷ ds))
+apart_step : (names : List (List ℕ)) (d : List ℕ) (ds : List (List ℕ)) (b : Bool) → is_held names d ≡ b → IsAmong names d →
+    AllByRecursion (IsAmong names) ds → AllByRecursion (λ e. d ≢ e) ds → AreApart (filter (is_held names) ds) → AreApart (filter (is_held names) (d ∷ ds))
 apart_step names d ds true is here all others rest =
     rw is (
       all_weaker _ (λ n. (IsSuffix n d → ⊥) × (IsSuffix d n → ⊥))
           (λ e both. ((λ suffix. ends_none names e d both.1 here (λ same. both.0.1 (sym same)) suffix), (λ suffix. ends_none names d e is both.0.0 both.0.1 suffix)))
-          _ (all_filter (λ e. IsAmong names e × (d ≢ e)) (is_kept names) ds (all_both (IsAmong names) (λ e. d ≢ e) ds all others)),
+          _ (all_filter (λ e. IsAmong names e × (d ≢ e)) (is_held names) ds (all_both (IsAmong names) (λ e. d ≢ e) ds all others)),
       rest,
     )
 apart_step names d ds false is here all others rest = rw is rest
 
-apart_filter : (names ds : List (List ℕ)) → AllByRecursion (IsAmong names) ds → AreDifferent ds → AreApart (filter (is_kept names) ds)
+apart_filter : (names ds : List (List ℕ)) → AllByRecursion (IsAmong names) ds → AreDifferent ds → AreApart (filter (is_held names) ds)
 apart_filter names [] all different = tt
 apart_filter names (d ∷ ds) all different =
-    apart_step names d ds (is_kept names d) refl all.0 all.1 different.0 (apart_filter names ds all.1 different.1)
+    apart_step names d ds (is_held names d) refl all.0 all.1 different.0 (apart_filter names ds all.1 different.1)
 
 pub apart_held : (names : List (List ℕ)) → AreApart (held names)
 unfolding held

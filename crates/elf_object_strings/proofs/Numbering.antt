@@ -8,7 +8,7 @@ use Rattle.std.proofs.lemmas.Cmp.{back_total, nat_cmp_total, nat_list_cmp_total,
 use Rattle.std.proofs.lemmas.List.{get_or-map, get_or_default, length-map}
 use Rattle.std.proofs.lemmas.List.Sorted.{All-permutation, Contains-permutation, length_permutation, ranks_by, sorted_far}
 use Rattle.elf_object_strings.specs.declared.sorting.Numbered.{Numbered}
-use Rattle.elf_object_strings.specs.Sorting.{AreInOrder, AreNumbered, HasEnd, ends_order, indexes_in, names_in, numbered_order}
+use Rattle.elf_object_strings.specs.Sorting.{AreInEndsOrder, AreNumbered, HasEnd, ends_order, indexes_in, names_by_ends, numbered_order}
 use Rattle.elf_object_strings.proofs.EndNumbers.{end_decides}
 
 abbrev name_of : Numbered → List ℕ
@@ -26,13 +26,13 @@ nothing = record { name = record { ref_ptr = (0, 0); now = [] }; index = 0; end 
 pub record AreNumberedTo (names : List (List ℕ)) (i : ℕ) (numbered : List Numbered) : Type 0 where
   pub as_many : length numbered ≡ i
   pub indexes : (k : ℕ) → k < i → get_or (indexes_in numbered) k 0 ≡ k
-  pub named : (k : ℕ) → k < i → get_or (names_in numbered) k [] ≡ get_or names k []
+  pub named : (k : ℕ) → k < i → get_or (names_by_ends numbered) k [] ≡ get_or names k []
   pub ends : All HasEnd numbered
 
 pub numbered_all : (names : List (List ℕ)) (numbered : List Numbered) → AreNumberedTo names (length names) numbered →
-    AreNumbered names (names_in numbered) (indexes_in numbered)
+    AreNumbered names (names_by_ends numbered) (indexes_in numbered)
 numbered_all names numbered are =
-    let name_count : length (names_in numbered) ≡ length names = length-map numbered name_of ∙ are.as_many in
+    let name_count : length (names_by_ends numbered) ≡ length names = length-map numbered name_of ∙ are.as_many in
     record {
       as_many = name_count;
       all = length-map numbered index_of ∙ are.as_many;
@@ -49,9 +49,9 @@ numbered_all names numbered are =
 abbrev IsNamedIn : List (List ℕ) → Numbered → Type 0
 IsNamedIn names it = (it.index < length names) × (get_or names it.index [] ≡ it.name.now)
 
-each_named : (names : List (List ℕ)) (xs : List Numbered) → AreNumbered names (names_in xs) (indexes_in xs) → All (IsNamedIn names) xs
+each_named : (names : List (List ℕ)) (xs : List Numbered) → AreNumbered names (names_by_ends xs) (indexes_in xs) → All (IsNamedIn names) xs
 each_named names xs are = λ k d lt.
-    let within : k < length (names_in xs) = omega (arith, length-map xs name_of) in
+    let within : k < length (names_by_ends xs) = omega (arith, length-map xs name_of) in
     let index = get_or-map index_of xs k d 0 lt in
     let name = get_or-map name_of xs k d [] lt in (
       subst (λ (i : ℕ). i < length names) index (are.below k within),
@@ -59,7 +59,7 @@ each_named names xs are = λ k d lt.
     )
 
 pub numbered_permuted : (names : List (List ℕ)) (xs ys : List Numbered) → IsPermutation xs ys →
-    AreNumbered names (names_in xs) (indexes_in xs) → AreNumbered names (names_in ys) (indexes_in ys)
+    AreNumbered names (names_by_ends xs) (indexes_in xs) → AreNumbered names (names_by_ends ys) (indexes_in ys)
 numbered_permuted names xs ys moved are =
     let each = All-permutation (IsNamedIn names) xs ys moved (each_named names xs are) in
     let same : length ys ≡ length xs = length_permutation xs ys moved in
@@ -101,7 +101,7 @@ numbered_total =
     (then_total (on_total turned (back_total nat_list_cmp_total)) (on_total index_of nat_cmp_total))
 
 pub numbered_in_order : (sorted : List Numbered) → All HasEnd sorted →
-    IsSortedBy (λ a b. is_lt (numbered_order a b)) sorted → AreInOrder (names_in sorted) (indexes_in sorted)
+    IsSortedBy (λ a b. is_lt (numbered_order a b)) sorted → AreInEndsOrder (names_by_ends sorted) (indexes_in sorted)
 numbered_in_order sorted ends up = λ q r le lt.
     let within : r < length sorted = omega (arith, length-map sorted name_of) in
     let q_within : q < length sorted = omega arith in

@@ -8,7 +8,7 @@ use Rattle.std.proofs.lemmas.List.{append-nil, flat_map_more, get_or-take, get_o
 use Rattle.std.proofs.lemmas.List.Elements.{filter-append}
 use Rattle.std.proofs.lemmas.List.Folds.{list_any-append, list_any_at, list_any_none}
 use Rattle.elf_object_strings.specs.Owners.{IsFirstOfHeld, IsOwner, IsSuffix}
-use Rattle.elf_object_strings.specs.StringTable.{closed, distinct, end_from, held, is_kept, is_named, is_proper_suffix, is_suffix, name_offset, string_table}
+use Rattle.elf_object_strings.specs.StringTable.{closed, distinct, end_from, held, is_held, is_named, is_proper_suffix, is_suffix, name_offset, string_table}
 use Rattle.elf_object_strings.specs.Writing.{HasEnds, held_to, is_written, with_name}
 use Rattle.elf_object_strings.proofs.Distinct.{bytes_eq-self, distinct-push, in_distinct, same_name}
 use Rattle.elf_object_strings.proofs.Ends.{end_behind}
@@ -56,16 +56,16 @@ so_far-append p ns (m ∷ ms) =
 pub held_to_more : (names : List (List ℕ)) (i : ℕ) → i < length names →
     held_to names (i + 1) ≡ cond (is_written names i) (held_to names i ++ (get_or names i [] ∷ [])) (held_to names i)
 held_to_more names i lt =
-    ap (so_far (is_kept names)) (take_more names i [] lt) ∙ so_far-push (is_kept names) (take i names) (get_or names i [])
+    ap (so_far (is_held names)) (take_more names i [] lt) ∙ so_far-push (is_held names) (take i names) (get_or names i [])
 
 pub held_to_all : (names : List (List ℕ)) (i : ℕ) → length names ≤ i → held_to names i ≡ held names
 unfolding held
-held_to_all names i all = ap (so_far (is_kept names)) (take_all i names all)
+held_to_all names i all = ap (so_far (is_held names)) (take_all i names all)
 
 -- ---- which names are written
 
 -- a name that ends with a held one is the same
-kept_same : (names : List (List ℕ)) (n : List ℕ) (j : ℕ) → is_kept names n ≡ true → j < length names → IsSuffix n (get_or names j []) →
+kept_same : (names : List (List ℕ)) (n : List ℕ) (j : ℕ) → is_held names n ≡ true → j < length names → IsSuffix n (get_or names j []) →
     get_or names j [] ≡ n
 kept_same names n j kept lt ends = by_equal (bytes_eq n (get_or names j [])) refl where
   by_equal : (b : Bool) → bytes_eq n (get_or names j []) ≡ b → get_or names j [] ≡ n
@@ -92,8 +92,8 @@ not_before names n i j lt none same = by_order (cases_lt j i) where
 written_first : (names : List (List ℕ)) (i : ℕ) → i < length names → is_written names i ≡ true → IsFirstOfHeld names i
 written_first names i lt written =
     let n = get_or names i [] in
-    let parts = and_parts (is_kept names n) (not (list_any (bytes_eq n) (take i names))) written in
-    let kept : is_kept names n ≡ true = parts.0 in
+    let parts = and_parts (is_held names n) (not (list_any (bytes_eq n) (take i names))) written in
+    let kept : is_held names n ≡ true = parts.0 in
     let fresh : list_any (bytes_eq n) (take i names) ≡ false = not-true _ parts.1 in
     record {
       below = lt;
@@ -132,8 +132,8 @@ first_written names i first named =
     let n = get_or names i [] in
     let none = list_any_none (is_proper_suffix n) names (no_longer names i first) in
     let fresh = list_any_none (bytes_eq n) (take i names) (no_earlier names i first) in
-    let kept : is_kept names n ≡ true = and_from (is_named n) (not (list_any (is_proper_suffix n) names)) named (not_from_false _ none) in
-    and_from (is_kept names n) (not (list_any (bytes_eq n) (take i names))) kept (not_from_false _ fresh)
+    let kept : is_held names n ≡ true = and_from (is_named n) (not (list_any (is_proper_suffix n) names)) named (not_from_false _ none) in
+    and_from (is_held names n) (not (list_any (bytes_eq n) (take i names))) kept (not_from_false _ fresh)
 
 -- the names that are their own owners, but for the empty one
 pub written_is : (names : List (List ℕ)) (i o : ℕ) → i < length names → IsOwner names (get_or names i []) o →
@@ -150,7 +150,7 @@ written_is names i o lt is = by_same (cases_eq o i) where
   by_same (inr other) =
       let n = get_or names i [] in
       let differs : is_written names i ≡ true → ⊥ = λ written.
-      (let parts = and_parts (is_kept names n) (not (list_any (bytes_eq n) (take i names))) written in
+      (let parts = and_parts (is_held names n) (not (list_any (bytes_eq n) (take i names))) written in
       let same : get_or names o [] ≡ n = kept_same names n o parts.0 is.first.below is.ends in
       let later : i ≤ o = not_before names n i o lt (not-true _ parts.1) same in
       let earlier : o ≤ i = (is.first.kept i lt (suffix_same (get_or names o []) n (sym same))).1 in
@@ -184,10 +184,10 @@ held_split : (names : List (List ℕ)) (o : ℕ) → o < length names → is_wri
 unfolding held
 held_split names o lt written =
     let n = get_or names o [] in
-    let added = so_far-append (is_kept names) (take (o + 1) names) (drop (o + 1) names) in
+    let added = so_far-append (is_held names) (take (o + 1) names) (drop (o + 1) names) in
     let here = held_to_more names o lt ∙ ap (λ (b : Bool). cond b (held_to names o ++ (n ∷ [])) (held_to names o)) written in (
       added.0,
-      ap (so_far (is_kept names)) (sym (take-append-drop (o + 1) names)) ∙ added.1 ∙ ap (λ (xs : List (List ℕ)). xs ++ added.0) here
+      ap (so_far (is_held names)) (sym (take-append-drop (o + 1) names)) ∙ added.1 ∙ ap (λ (xs : List (List ℕ)). xs ++ added.0) here
           ∙ append_assoc (held_to names o) (n ∷ []) added.0,
     )
 

@@ -34,5 +34,5 @@ pub record Shares (names : List (List ℕ)) (table : List ℕ) (offsets : List �
   pub each : (i : ℕ) → i < length names → IsLowestAt table (get_or names i []) (get_or offsets i 0)
 
 -- no table that holds these names is shorter
-abbrev pub IsLeast : List (List ℕ) → List ℕ → Type 0
-IsLeast names table = (other : List ℕ) → HoldsEach other names → length table ≤ length other
+abbrev pub IsShortest : List (List ℕ) → List ℕ → Type 0
+IsShortest names table = (other : List ℕ) → HoldsEach other names → length table ≤ length other

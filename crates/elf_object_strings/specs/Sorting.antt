@@ -6,8 +6,8 @@ use Rattle.std.specs.Ordering.{is_lt, nat_cmp, ordering_then}
 use Rattle.elf_field.specs.Bytes.{IsBytes}
 use Rattle.elf_object_strings.specs.declared.sorting.Numbered.{Numbered}
 
-abbrev pub names_in : List Numbered → List (List ℕ)
-names_in sorted = map (λ it. it.name.now) sorted
+abbrev pub names_by_ends : List Numbered → List (List ℕ)
+names_by_ends sorted = map (λ it. it.name.now) sorted
 
 abbrev pub indexes_in : List Numbered → List ℕ
 indexes_in sorted = map (λ it. it.index) sorted
@@ -26,8 +26,8 @@ pub record AreNumbered (names : List (List ℕ)) (sorted : List (List ℕ)) (ind
   pub each : (i : ℕ) → i < length names → (q : ℕ) × (q < length sorted) × (get_or indexes q 0 ≡ i)
 
 -- none stands before one that comes first
-abbrev pub AreInOrder : List (List ℕ) → List ℕ → Type 0
-AreInOrder sorted indexes =
+abbrev pub AreInEndsOrder : List (List ℕ) → List ℕ → Type 0
+AreInEndsOrder sorted indexes =
     (q r : ℕ) → q ≤ r → r < length sorted →
     is_lt (ends_order (get_or sorted r []) (get_or indexes r 0) (get_or sorted q []) (get_or indexes q 0)) ≡ false
 

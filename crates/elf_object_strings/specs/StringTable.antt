@@ -18,8 +18,8 @@ abbrev pub is_proper_suffix : List ℕ → List ℕ → Bool
 is_proper_suffix name other = is_suffix name other && not (bytes_eq name other)
 
 -- not empty, and no proper suffix of another name
-abbrev pub is_kept : List (List ℕ) → List ℕ → Bool
-is_kept names name = is_named name && not (list_any (is_proper_suffix name) names)
+abbrev pub is_held : List (List ℕ) → List ℕ → Bool
+is_held names name = is_named name && not (list_any (is_proper_suffix name) names)
 
 -- each name once, where it first occurs
 abbrev pub distinct : List (List ℕ) → List (List ℕ)
@@ -28,7 +28,7 @@ distinct (name ∷ names) = name ∷ filter (λ other. not (bytes_eq name other)
 
 -- the names that the table holds
 unfoldable pub held : List (List ℕ) → List (List ℕ)
-held names = filter (is_kept names) (distinct names)
+held names = filter (is_held names) (distinct names)
 
 -- a name with the zero that ends it
 abbrev pub closed : List ℕ → List ℕ

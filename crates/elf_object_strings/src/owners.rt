@@ -3,7 +3,7 @@ ghost use Rattle.std.specs.Prelude.{◌≡◌, ◌<◌, ℕ, min, if◌then◌el
 ghost use Rattle.elf_object_strings.specs.Owners.{AreOwners, IsOwner};
 ghost use Rattle.elf_object_strings.specs.Runs.{AreRuns, HaveOwners, IsRun};
 ghost use Rattle.elf_object_strings.specs.Shared.{texts};
-ghost use Rattle.elf_object_strings.specs.Sorting.{AreInOrder, AreNumbered, indexes_in, names_in};
+ghost use Rattle.elf_object_strings.specs.Sorting.{AreInEndsOrder, AreNumbered, indexes_in, names_by_ends};
 ghost use Rattle.elf_object_strings.specs.StringTable.{is_suffix};
 
 use crate::sorting::{Numbered, sorted_names};
@@ -23,8 +23,8 @@ fn owners_in(
     names: &[&[u8]],
     sorted: &[Numbered<'_>],
 ) -> Result<Vec<usize>, AllocError>
-    requires numbered { AreNumbered (texts names.now) (names_in sorted.now) (indexes_in sorted.now) }
-    requires order { AreInOrder (names_in sorted.now) (indexes_in sorted.now) }
+    requires numbered { AreNumbered (texts names.now) (names_by_ends sorted.now) (indexes_in sorted.now) }
+    requires order { AreInEndsOrder (names_by_ends sorted.now) (indexes_in sorted.now) }
     ensures { IfOk result (λ owners. AreOwners (texts names.now) owners.items) }
 {
     let mut owners = Vec::new(alloc);
@@ -46,11 +46,11 @@ fn run_of(
     position: usize,
 ) -> (usize, usize)
     requires within { position < length sorted.now }
-    requires order { AreInOrder (names_in sorted.now) (indexes_in sorted.now) }
-    requires runs { AreRuns (names_in sorted.now) starts.now position }
+    requires order { AreInEndsOrder (names_by_ends sorted.now) (indexes_in sorted.now) }
+    requires runs { AreRuns (names_by_ends sorted.now) starts.now position }
     requires indexes { (q : ℕ) → q < length sorted.now → get_or (indexes_in sorted.now) q 0 < length owners.now }
-    ensures run { IsRun (names_in sorted.now) position result.0 }
-    ensures owner { (names : List (List ℕ)) → AreNumbered names (names_in sorted.now) (indexes_in sorted.now) → HaveOwners names (names_in sorted.now) (indexes_in sorted.now) owners.now position → IsOwner names (get_or (names_in sorted.now) position []) result.1 }
+    ensures run { IsRun (names_by_ends sorted.now) position result.0 }
+    ensures owner { (names : List (List ℕ)) → AreNumbered names (names_by_ends sorted.now) (indexes_in sorted.now) → HaveOwners names (names_by_ends sorted.now) (indexes_in sorted.now) owners.now position → IsOwner names (get_or (names_by_ends sorted.now) position []) result.1 }
 {
     let mut start = position;
     let mut owner = sorted[position].index;

@@ -5,7 +5,7 @@ ghost use Rattle.std.specs.Ordering.{nat_cmp};
 ghost use Rattle.std.specs.Prelude.{◌≡◌, ◌<◌, length, reverse, IfOk, IfSome};
 ghost use Rattle.elf_field.specs.Bytes.{IsBytes};
 ghost use Rattle.elf_object_strings.specs.Shared.{texts};
-ghost use Rattle.elf_object_strings.specs.Sorting.{AreInOrder, AreNumbered, AreWithoutEqualEnds, HasEnd, end_number, ends_order, indexes_in, names_in, numbered_order};
+ghost use Rattle.elf_object_strings.specs.Sorting.{AreInEndsOrder, AreNumbered, AreWithoutEqualEnds, HasEnd, end_number, ends_order, indexes_in, names_by_ends, numbered_order};
 
 use std::alloc::{AllocError, Global};
 use std::cmp::Ordering;
@@ -26,8 +26,8 @@ pub(crate) fn sorted_names<'a>(
     alloc: Global,
     names: &[&'a [u8]],
 ) -> Result<Vec<Numbered<'a>>, AllocError>
-    ensures numbered { IfOk result (λ sorted. AreNumbered (texts names.now) (names_in sorted.items) (indexes_in sorted.items)) }
-    ensures order { IfOk result (λ sorted. AreInOrder (names_in sorted.items) (indexes_in sorted.items)) }
+    ensures numbered { IfOk result (λ sorted. AreNumbered (texts names.now) (names_by_ends sorted.items) (indexes_in sorted.items)) }
+    ensures order { IfOk result (λ sorted. AreInEndsOrder (names_by_ends sorted.items) (indexes_in sorted.items)) }
 {
     let mut sorted = number_names(alloc, names)?;
     sorted.sort_unstable_by(|a, b| by_end(a, b));
@@ -35,7 +35,7 @@ pub(crate) fn sorted_names<'a>(
 }
 
 fn number_names<'a>(alloc: Global, names: &[&'a [u8]]) -> Result<Vec<Numbered<'a>>, AllocError>
-    ensures numbered { IfOk result (λ numbered. AreNumbered (texts names.now) (names_in numbered.items) (indexes_in numbered.items)) }
+    ensures numbered { IfOk result (λ numbered. AreNumbered (texts names.now) (names_by_ends numbered.items) (indexes_in numbered.items)) }
     ensures ends { IfOk result (λ numbered. All HasEnd numbered.items) }
 {
     let mut numbered = Vec::with_capacity(alloc, names.len())?;

@@ -1,7 +1,7 @@
 //! The bytes of a string table, and where its names begin.
 ghost use Rattle.std.specs.Prelude.{◌≡◌, ◌≤◌, ◌-◌, true, false, length, map, IfOk};
 ghost use Rattle.elf_object_strings.specs.Owners.{AreOwners};
-ghost use Rattle.elf_object_strings.specs.Shared.{AreZeroFree, HoldsEach, IsLeast, Shares, texts};
+ghost use Rattle.elf_object_strings.specs.Shared.{AreZeroFree, HoldsEach, IsShortest, Shares, texts};
 ghost use Rattle.elf_object_strings.specs.StringTable.{is_named, name_offset, string_table};
 ghost use Rattle.elf_object_strings.specs.Writing.{HasEnds, with_name};
 
@@ -29,7 +29,7 @@ pub fn shared_table(alloc: Global, names: &[&[u8]]) -> Result<Shared, OutOfMemor
     ensures offsets { IfOk result (λ shared. shared.offsets.items ≡ map (name_offset (texts names.now)) (texts names.now)) }
     ensures shares { IfOk result (λ shared. AreZeroFree (texts names.now) → Shares (texts names.now) shared.bytes.items shared.offsets.items) }
     ensures holds { IfOk result (λ shared. HoldsEach shared.bytes.items (texts names.now)) }
-    ensures least { IfOk result (λ shared. AreZeroFree (texts names.now) → IsLeast (texts names.now) shared.bytes.items) }
+    ensures least { IfOk result (λ shared. AreZeroFree (texts names.now) → IsShortest (texts names.now) shared.bytes.items) }
 {
     match table_of(alloc, names) {
         Ok(shared) => Ok(shared),
