@@ -1,16 +1,11 @@
 -- One name more has its run and its owner, and at last all have.
-use Rattle.std.proofs.Common.{List, set, ◌≡◌, ◌<◌, ◌≤◌, ◌+◌, length, sym, subst, arith}
-use Rattle.std.proofs.lemmas.List.{length-map}
-use Rattle.elf_object_strings.specs.declared.sorting.Numbered.{Numbered}
+use Rattle.std.proofs.Common.{set, ◌<◌, ◌≤◌, ◌+◌, length, sym, subst, arith}
 use Rattle.elf_object_strings.specs.Runs.{AreRuns, HaveOwners}
 use Rattle.elf_object_strings.specs.Shared.{texts}
 use Rattle.elf_object_strings.specs.Sorting.{indexes_in, names_in}
-use Rattle.elf_object_strings.proofs.EndsCode.{index_at}
+use Rattle.elf_object_strings.proofs.EndsCode.{index_at, length-names_in}
 use Rattle.elf_object_strings.proofs.EndsRuns.{owners_all, owners_more, runs_more}
 use Rattle.elf_object_strings.proofs.owners.owners_in.Goals as goal
-
-as_many : (sorted : List Numbered) → length sorted ≡ length (names_in sorted)
-as_many sorted = sym (length-map sorted (λ (it : Numbered). it.name.now))
 
 pub loop-position-preserved : goal.loop-position-preserved
 loop-position-preserved c =
@@ -19,11 +14,12 @@ loop-position-preserved c =
     let names = texts c.args.names.now in
     let owners = c.loop-position.owners.items in
     let (start, owner) = c.run_of-start.result in
-    let within : position < length (names_in sorted) = subst (λ n. position < n) (as_many sorted) c.loop-position-test.true in
+    let within : position < length (names_in sorted) = subst (λ n. position < n) (sym (length-names_in sorted)) c.loop-position-test.true in
     let runs = c.loop-position.invariant.runs in
     let owned = c.loop-position.invariant.owned in
     let owns = c.run_of-start.ensures.owner names c.requires.numbered
-        (subst (λ os. HaveOwners names (names_in sorted) (indexes_in sorted) os position) (sym c.deref-in-loop-position.ensures.value) owned) in
+        (subst (λ os. HaveOwners names (names_in sorted) (indexes_in sorted) os position)
+        (sym c.deref-in-loop-position.ensures.value) owned) in
     record {
       runs = subst (λ starts. AreRuns (names_in sorted) starts (position + 1)) (sym c.in_ok-push.ensures.items)
           (runs_more (names_in sorted) c.loop-position.starts.items position start runs c.run_of-start.ensures.run);
@@ -36,6 +32,6 @@ pub returns : goal.returns
 returns c =
     let sorted = c.args.sorted.now in
     let position = c.loop-position.position in
-    let all : length (names_in sorted) ≤ position = subst (λ n. n ≤ position) (as_many sorted) (omega arith) in
+    let all : length (names_in sorted) ≤ position = subst (λ n. n ≤ position) (sym (length-names_in sorted)) (omega arith) in
     owners_all (texts c.args.names.now) (names_in sorted) (indexes_in sorted) c.loop-position.owners.items position c.requires.numbered all
     c.loop-position.invariant.owned

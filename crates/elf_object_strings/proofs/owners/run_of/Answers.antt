@@ -1,22 +1,18 @@
 -- A run, and the least owner in it: the next run is followed, or none is left.
 use Rattle.std.proofs.Common.{◌≡◌, ◌<◌, ◌≤◌, ◌-◌, ℕ, min, List, [], get_or, length, sym, subst, ap, ◌∙◌, arith}
 use Rattle.std.specs.Prelude.{◌==◌, if◌then◌else◌}
-use Rattle.std.proofs.lemmas.List.{length-map}
 use Rattle.elf_object_strings.specs.declared.sorting.Numbered.{Numbered}
 use Rattle.elf_object_strings.specs.Owners.{IsSuffix}
 use Rattle.elf_object_strings.specs.Runs.{AreBelow, IsLeastOwner, IsRun}
 use Rattle.elf_object_strings.specs.Sorting.{indexes_in, names_in}
-use Rattle.elf_object_strings.proofs.EndsCode.{index_at, no_name, no_suffix_at, suffix_at}
+use Rattle.elf_object_strings.proofs.EndsCode.{index_at, length-indexes_in, length-names_in, no_name, no_suffix_at, suffix_at}
 use Rattle.elf_object_strings.proofs.EndsRuns.{follow_one, none_before, owner_found, run_more}
 use Rattle.elf_object_strings.proofs.owners.run_of.Goals as goal
-
-as_many : (sorted : List Numbered) (q : ℕ) → q < length sorted → q < length (names_in sorted)
-as_many sorted q lt = subst (λ n. q < n) (sym (length-map sorted (λ (it : Numbered). it.name.now))) lt
 
 index_below : (sorted : List Numbered) (count : ℕ) → AreBelow (indexes_in sorted) count → (q : ℕ) → q < length sorted →
     (get_or sorted q no_name).index < count
 index_below sorted count all q lt =
-    let within : q < length (indexes_in sorted) = subst (λ n. q < n) (sym (length-map sorted (λ (it : Numbered). it.index))) lt in
+    let within : q < length (indexes_in sorted) = subst (λ n. q < n) (sym (length-indexes_in sorted)) lt in
     subst (λ i. i < count) (index_at sorted q lt) (all q within)
 
 pub offset_bounds-owners-sorted : goal.offset_bounds-owners-sorted
@@ -59,7 +55,7 @@ returns-else-is_suffix-clause-run c =
     let sorted = c.args.sorted.now in
     let start = c.loop-start.start in
     let position = c.args.position in
-    let within = as_many sorted position c.requires.within in
+    let within = subst (λ n. position < n) (sym (length-names_in sorted)) c.requires.within in
     let differs : ¬ IsSuffix (get_or (names_in sorted) position []) (get_or (names_in sorted) (start - 1) []) =
     no_suffix_at sorted position (start - 1) c.requires.within (omega arith) (sym c.is_suffix.ensures ∙ c.if-is_suffix.false) in
     let low = c.loop-start.invariant.low in
@@ -73,7 +69,7 @@ pub returns-else-is_suffix-clause-owner : goal.returns-else-is_suffix-clause-own
 returns-else-is_suffix-clause-owner c names numbered owned =
     let sorted = c.args.sorted.now in
     let position = c.args.position in
-    let within = as_many sorted position c.requires.within in
+    let within = subst (λ n. position < n) (sym (length-names_in sorted)) c.requires.within in
     owner_found names (names_in sorted) (indexes_in sorted) numbered c.requires.order position c.loop-start.start c.loop-start.owner
     within (returns-else-is_suffix-clause-run c) c.loop-start.invariant.own (c.loop-start.invariant.met names numbered owned)
 
@@ -81,7 +77,7 @@ pub returns-after-loop-start-clause-owner : goal.returns-after-loop-start-clause
 returns-after-loop-start-clause-owner c names numbered owned =
     let sorted = c.args.sorted.now in
     let position = c.args.position in
-    let within = as_many sorted position c.requires.within in
+    let within = subst (λ n. position < n) (sym (length-names_in sorted)) c.requires.within in
     let run : IsRun (names_in sorted) position c.loop-start.start =
     record { low = c.loop-start.invariant.low; ends = c.loop-start.invariant.ends; none = λ r lt. absurd (omega arith) } in
     owner_found names (names_in sorted) (indexes_in sorted) numbered c.requires.order position c.loop-start.start c.loop-start.owner
