@@ -12,15 +12,15 @@ use Rattle.elf_object_strings.proofs.EndsOrder.{Ends, ends_alike, ends_between, 
 -- ---- the runs
 
 -- where the names from a place on end with a name, so do those of the run that ends before them
-pub run_more : (sorted : List (List ℕ)) (position start : ℕ) (next : ℕ) → 0 < start → start ≤ position → IsRun sorted (start - 1) next →
+pub run_more : (sorted : List (List ℕ)) (position start next : ℕ) → 0 < start → start ≤ position → IsRun sorted (start - 1) next →
     Ends sorted position (start - 1) →
     ((r : ℕ) → start ≤ r → r ≤ position → Ends sorted position r) →
     (r : ℕ) → next ≤ r → r ≤ position → Ends sorted position r
 run_more sorted position start next some low run here ends r from to =
     let last = start - 1 in
     elim (cases_lt r start) [
-      inl below ↦ suffix_chain (get_or sorted position []) (get_or sorted last []) (get_or sorted r []) here (run.ends r from (omega arith))
-    | inr within ↦ ends r within to
+      | inl below ↦ suffix_chain (get_or sorted position []) (get_or sorted last []) (get_or sorted r []) here (run.ends r from (omega arith))
+      | inr within ↦ ends r within to
     ]
 
 -- where the name before a start does not end with a name, none before it does
@@ -42,21 +42,21 @@ follow_by : (names sorted : List (List ℕ)) (position start owner next met new 
     IsLeastOwner names sorted position next new
 follow_by names sorted position start owner next met new some low run here owned before one below_met below_owner = record {
   first = elim one [
-      inl is ↦ subst (λ i. IsFirstOfHeld names i) (sym is) owned.first
+    | inl is ↦ subst (λ i. IsFirstOfHeld names i) (sym is) owned.first
     | inr (is, lt) ↦ subst (λ i. IsFirstOfHeld names i) (sym is) (before lt).first
-    ];
+  ];
   ends = elim one [
-      inl is ↦ subst (λ i. IsSuffix (get_or sorted position []) (get_or names i [])) (sym is)
-      (suffix_chain (get_or sorted position []) (get_or sorted (start - 1) []) (get_or names met []) here owned.ends)
+    | inl is ↦ subst (λ i. IsSuffix (get_or sorted position []) (get_or names i [])) (sym is)
+        (suffix_chain (get_or sorted position []) (get_or sorted (start - 1) []) (get_or names met []) here owned.ends)
     | inr (is, lt) ↦ subst (λ i. IsSuffix (get_or sorted position []) (get_or names i [])) (sym is) (before lt).ends
-    ];
+  ];
   least = λ r f from to first ends. elim (cases_lt r start) [
-      inl below ↦ (let inside : Ends sorted (start - 1) r = run.ends r from (omega arith) in
-      let at : met ≤ f = owned.least f first (suffix_chain (get_or sorted (start - 1) []) (get_or sorted r []) (get_or names f []) inside ends) in
-      omega arith)
+    | inl below ↦ (let inside : Ends sorted (start - 1) r = run.ends r from (omega arith) in
+        let at : met ≤ f = owned.least f first (suffix_chain (get_or sorted (start - 1) []) (get_or sorted r []) (get_or names f []) inside ends) in
+        omega arith)
     | inr within ↦ (let at : owner ≤ f = (before (omega arith)).least r f within to first ends in
-      let under : new ≤ owner = below_owner (omega arith) in omega arith)
-    ];
+        let under : new ≤ owner = below_owner (omega arith) in omega arith)
+  ];
 }
 
 pub follow_one : (names sorted : List (List ℕ)) (position start owner next met : ℕ) → 0 < start → start ≤ position →
@@ -71,14 +71,14 @@ follow_one names sorted position start owner next met some low run here owned be
     by_place : (start < position) ⊎ (position ≤ start) → ((if start == position then met else min owner met) ≡ met) ⊎
         (((if start == position then met else min owner met) ≡ owner) × (start < position))
     by_place (inl lt) = elim (cases_lt owner met) [
-        inl less ↦ inr (grind (arith, nat_tests), lt)
+      | inl less ↦ inr (grind (arith, nat_tests), lt)
       | inr more ↦ inl (grind (arith, nat_tests))
-      ]
+    ]
     by_place (inr ge) = inl (grind (arith, nat_tests))
 
--- ---- the owner of a name, where all names that stand behind it and end with it equal it
+-- ---- the owner of a name: those that end with it stand in its run, or behind it and equal it
 
--- a kept name that ends with the one at a position stands in its run, or is equal
+-- where a name of the list stands among the sorted ones
 place_of : (names sorted : List (List ℕ)) (indexes : List ℕ) → AreNumbered names sorted indexes → (f : ℕ) → f < length names →
     (q : ℕ) × (q < length sorted) × (get_or indexes q 0 ≡ f) × (get_or sorted q [] ≡ get_or names f [])
 place_of names sorted indexes numbered f lt =
@@ -106,10 +106,10 @@ owner_of_itself names sorted indexes numbered ordered position within run = reco
       let (q, q_lt, q_is, q_name) = place_of names sorted indexes numbered j lt in
       let at : Ends sorted position q = subst (λ n. IsSuffix (get_or sorted position []) n) (sym q_name) ends in
       elim (cases_lt q position) [
-        inl before ↦ absurd (run.none q before at)
-      | inr after ↦ (let same = ends_alike sorted indexes ordered position q after q_lt at in
-        let later = later_index sorted indexes ordered position q after q_lt same in
-        (sym q_name ∙ same ∙ sym here, subst (λ i. get_or indexes position 0 ≤ i) q_is later))
+        | inl before ↦ absurd (run.none q before at)
+        | inr after ↦ (let same = ends_alike sorted indexes ordered position q after q_lt at in
+            let later = later_index sorted indexes ordered position q after q_lt same in
+            (sym q_name ∙ same ∙ sym here, subst (λ i. get_or indexes position 0 ≤ i) q_is later))
       ]
 
 -- some are met: the least of their owners
@@ -130,19 +130,19 @@ owner_of_run names sorted indexes numbered ordered position start owner within r
       let (q, q_lt, q_is, q_name) = place_of names sorted indexes numbered f first.below in
       let at : Ends sorted position q = subst (λ n. IsSuffix (get_or sorted position []) n) (sym q_name) ends in
       elim (cases_lt q position) [
-        inl lt ↦ elim (cases_lt q start) [
-            inl out ↦ absurd (run.none q out at)
+        | inl lt ↦ elim (cases_lt q start) [
+          | inl out ↦ absurd (run.none q out at)
           | inr in_run ↦ met.least q f in_run lt first (suffix_itself (get_or sorted q []) (get_or names f []) (sym q_name))
-          ]
-      | inr after ↦ (let same : get_or names f [] ≡ get_or sorted position [] =
-        sym q_name ∙ ends_alike sorted indexes ordered position q after q_lt at in
-        let last = position - 1 in
-        let j = get_or indexes last 0 in
-        let named : get_or names j [] ≡ get_or sorted last [] = numbered.named last (omega arith) in
-        let over : IsSuffix (get_or names f []) (get_or names j []) =
-        subst (λ n. IsSuffix n (get_or names j [])) (sym same) (subst (λ n. IsSuffix (get_or sorted position []) n) (sym named) before) in
-        let equal : get_or names j [] ≡ get_or names f [] = (first.kept j (numbered.below last (omega arith)) over).0 in
-        met.least last f (omega arith) (omega arith) first (suffix_itself (get_or sorted last []) (get_or names f []) (sym equal ∙ named)))
+        ]
+        | inr after ↦ (let same : get_or names f [] ≡ get_or sorted position [] =
+            sym q_name ∙ ends_alike sorted indexes ordered position q after q_lt at in
+            let last = position - 1 in
+            let j = get_or indexes last 0 in
+            let named : get_or names j [] ≡ get_or sorted last [] = numbered.named last (omega arith) in
+            let over : IsSuffix (get_or names f []) (get_or names j []) =
+            subst (λ n. IsSuffix n (get_or names j [])) (sym same) (subst (λ n. IsSuffix (get_or sorted position []) n) (sym named) before) in
+            let equal : get_or names j [] ≡ get_or names f [] = (first.kept j (numbered.below last (omega arith)) over).0 in
+            met.least last f (omega arith) (omega arith) first (suffix_itself (get_or sorted last []) (get_or names f []) (sym equal ∙ named)))
       ]
 
 -- what is met of a run is all that its last name needs
@@ -153,10 +153,10 @@ pub owner_found : (names sorted : List (List ℕ)) (indexes : List ℕ) → AreN
 owner_found names sorted indexes numbered ordered position start owner within run own met =
     let low : start ≤ position = run.low in
     elim (cases_lt start position) [
-      inl some ↦ owner_of_run names sorted indexes numbered ordered position start owner within run some (met some)
-    | inr none ↦ (let here : start ≡ position = omega arith in
-      subst (λ i. IsOwner names (get_or sorted position []) i) (sym (own here))
-      (owner_of_itself names sorted indexes numbered ordered position within (subst (λ i. IsRun sorted position i) here run)))
+      | inl some ↦ owner_of_run names sorted indexes numbered ordered position start owner within run some (met some)
+      | inr none ↦ (let here : start ≡ position = omega arith in
+          subst (λ i. IsOwner names (get_or sorted position []) i) (sym (own here))
+          (owner_of_itself names sorted indexes numbered ordered position within (subst (λ i. IsRun sorted position i) here run)))
     ]
 
 -- ---- one name after the other
@@ -193,13 +193,13 @@ owners_more names sorted indexes owners position owner numbered within owned new
   earlier : (q : ℕ) → q < position →
       IsOwner names (get_or sorted q []) (get_or (set owners (get_or indexes position 0) owner) (get_or indexes q 0) 0)
   earlier q lt = elim (cases_eq (get_or indexes q 0) (get_or indexes position 0)) [
-      inl same ↦ (let name : get_or sorted q [] ≡ get_or sorted position [] =
-      sym (numbered.named q (omega arith)) ∙ ap (λ i. get_or names i []) same ∙ numbered.named position within in
-      subst (λ o. IsOwner names (get_or sorted q []) o) (sym (written (get_or indexes q 0) same))
-      (subst (λ n. IsOwner names n owner) (sym name) new))
+    | inl same ↦ (let name : get_or sorted q [] ≡ get_or sorted position [] =
+        sym (numbered.named q (omega arith)) ∙ ap (λ i. get_or names i []) same ∙ numbered.named position within in
+        subst (λ o. IsOwner names (get_or sorted q []) o) (sym (written (get_or indexes q 0) same))
+        (subst (λ n. IsOwner names n owner) (sym name) new))
     | inr other ↦ subst (λ o. IsOwner names (get_or sorted q []) o)
-      (sym (get_or-set_other owners (get_or indexes position 0) (get_or indexes q 0) owner 0 other)) (owned.each q lt)
-    ]
+        (sym (get_or-set_other owners (get_or indexes position 0) (get_or indexes q 0) owner 0 other)) (owned.each q lt)
+  ]
 
 pub owners_all : (names sorted : List (List ℕ)) (indexes owners : List ℕ) (position : ℕ) → AreNumbered names sorted indexes →
     length sorted ≤ position →

@@ -25,6 +25,7 @@ GivesOwner sorted indexes owners position owner =
     (names : List (List ℕ)) → AreNumbered names sorted indexes → HaveOwners names sorted indexes owners position →
     IsOwner names (get_or sorted position []) owner
 
+-- each index is below the count
 abbrev pub AreBelow : List ℕ → ℕ → Type 0
 AreBelow indexes count = (q : ℕ) → q < length indexes → get_or indexes q 0 < count
 

@@ -18,8 +18,8 @@ loop-position-preserved c =
     let runs = c.loop-position.invariant.runs in
     let owned = c.loop-position.invariant.owned in
     let owns = c.run_of-start.ensures.owner names c.requires.numbered
-        (subst (λ os. HaveOwners names (names_in sorted) (indexes_in sorted) os position)
-        (sym c.deref-in-loop-position.ensures.value) owned) in
+    (subst (λ os. HaveOwners names (names_in sorted) (indexes_in sorted) os position)
+    (sym c.deref-in-loop-position.ensures.value) owned) in
     record {
       runs = subst (λ starts. AreRuns (names_in sorted) starts (position + 1)) (sym c.in_ok-push.ensures.items)
           (runs_more (names_in sorted) c.loop-position.starts.items position start runs c.run_of-start.ensures.run);
