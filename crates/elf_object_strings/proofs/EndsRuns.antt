@@ -19,7 +19,8 @@ pub run_more : (sorted : List (List ℕ)) (position start next : ℕ) → 0 < st
 run_more sorted position start next some low run here ends r from to =
     let last = start - 1 in
     elim (cases_lt r start) [
-      | inl below ↦ suffix_chain (get_or sorted position []) (get_or sorted last []) (get_or sorted r []) here (run.ends r from (omega arith))
+      | inl below ↦ (let inside : Ends sorted last r = run.ends r from (omega arith) in
+          suffix_chain (get_or sorted position []) (get_or sorted last []) (get_or sorted r []) here inside)
       | inr within ↦ ends r within to
     ]
 
@@ -52,7 +53,8 @@ follow_by names sorted position start owner next met new some low run here owned
   ];
   least = λ r f from to first ends. elim (cases_lt r start) [
     | inl below ↦ (let inside : Ends sorted (start - 1) r = run.ends r from (omega arith) in
-        let at : met ≤ f = owned.least f first (suffix_chain (get_or sorted (start - 1) []) (get_or sorted r []) (get_or names f []) inside ends) in
+        let chain = suffix_chain (get_or sorted (start - 1) []) (get_or sorted r []) (get_or names f []) inside ends in
+        let at : met ≤ f = owned.least f first chain in
         omega arith)
     | inr within ↦ (let at : owner ≤ f = (before (omega arith)).least r f within to first ends in
         let under : new ≤ owner = below_owner (omega arith) in omega arith)
@@ -139,10 +141,14 @@ owner_of_run names sorted indexes numbered ordered position start owner within r
             let last = position - 1 in
             let j = get_or indexes last 0 in
             let named : get_or names j [] ≡ get_or sorted last [] = numbered.named last (omega arith) in
-            let over : IsSuffix (get_or names f []) (get_or names j []) =
-            subst (λ n. IsSuffix n (get_or names j [])) (sym same) (subst (λ n. IsSuffix (get_or sorted position []) n) (sym named) before) in
-            let equal : get_or names j [] ≡ get_or names f [] = (first.kept j (numbered.below last (omega arith)) over).0 in
-            met.least last f (omega arith) (omega arith) first (suffix_itself (get_or sorted last []) (get_or names f []) (sym equal ∙ named)))
+            let over : IsSuffix (get_or sorted position []) (get_or names j []) =
+            subst (λ n. IsSuffix (get_or sorted position []) n) (sym named) before in
+            let beyond : IsSuffix (get_or names f []) (get_or names j []) =
+            subst (λ n. IsSuffix n (get_or names j [])) (sym same) over in
+            let kept = first.kept j (numbered.below last (omega arith)) beyond in
+            let equal : get_or names j [] ≡ get_or names f [] = kept.0 in
+            met.least last f (omega arith) (omega arith) first
+            (suffix_itself (get_or sorted last []) (get_or names f []) (sym equal ∙ named)))
       ]
 
 -- what is met of a run is all that its last name needs
