@@ -74,6 +74,10 @@ suffix_chain a b c (front, is) (more, also) =
 
 -- ---- names in order
 
+-- the name at one place ends with that at another
+abbrev pub Ends : List (List ℕ) → ℕ → ℕ → Type 0
+Ends sorted p q = IsSuffix (get_or sorted p []) (get_or sorted q [])
+
 first_part : (o p : Ordering) → is_lt (ordering_then o p) ≡ false → is_lt o ≡ false
 first_part Less p is = is
 first_part Equal p is = refl
@@ -87,11 +91,13 @@ second_part Greater p equal is = cc
 at_ends : (sorted : List (List ℕ)) (indexes : List ℕ) → AreInEndsOrder sorted indexes → (q r : ℕ) → q ≤ r → r < length sorted →
     IsNotLess (reverse (get_or sorted q [])) (reverse (get_or sorted r []))
 at_ends sorted indexes ordered q r le lt =
-    first_part (slice_cmp nat_cmp (reverse (get_or sorted q [])) (reverse (get_or sorted r []))) (nat_cmp (get_or indexes r 0) (get_or indexes q 0)) (ordered q r le lt)
+    let by_names = slice_cmp nat_cmp (reverse (get_or sorted q [])) (reverse (get_or sorted r [])) in
+    first_part by_names (nat_cmp (get_or indexes r 0) (get_or indexes q 0)) (ordered q r le lt)
 
 -- where a name ends with one behind it, so do those between
-pub ends_between : (sorted : List (List ℕ)) (indexes : List ℕ) → AreInEndsOrder sorted indexes → (p q r : ℕ) → p ≤ q → q ≤ r → r < length sorted →
-    IsSuffix (get_or sorted r []) (get_or sorted p []) → IsSuffix (get_or sorted r []) (get_or sorted q [])
+pub ends_between : (sorted : List (List ℕ)) (indexes : List ℕ) → AreInEndsOrder sorted indexes → (p q r : ℕ) → p ≤ q → q ≤ r →
+    r < length sorted →
+    Ends sorted r p → Ends sorted r q
 ends_between sorted indexes ordered p q r low high lt ends =
     let upper = at_ends sorted indexes ordered p q low (omega arith) in
     let lower = at_ends sorted indexes ordered q r high lt in
@@ -101,11 +107,12 @@ ends_between sorted indexes ordered p q r low high lt ends =
 
 -- a name behind one that it ends with equals it
 pub ends_alike : (sorted : List (List ℕ)) (indexes : List ℕ) → AreInEndsOrder sorted indexes → (p q : ℕ) → p ≤ q → q < length sorted →
-    IsSuffix (get_or sorted p []) (get_or sorted q []) → get_or sorted q [] ≡ get_or sorted p []
+    Ends sorted p q → get_or sorted q [] ≡ get_or sorted p []
 ends_alike sorted indexes ordered p q le lt ends =
     let a = get_or sorted p [] in
     let c = get_or sorted q [] in
-    let turned : reverse c ≡ reverse a = alike (reverse a) (reverse c) (at_ends sorted indexes ordered p q le lt) (begins_reversed a c ends) in
+    let least = at_ends sorted indexes ordered p q le lt in
+    let turned : reverse c ≡ reverse a = alike (reverse a) (reverse c) least (begins_reversed a c ends) in
     sym (reverse-reverse c) ∙ ap (λ (s : List ℕ). reverse s) turned ∙ reverse-reverse a
 
 -- equal names stand in the order of their indexes
@@ -114,6 +121,7 @@ pub later_index : (sorted : List (List ℕ)) (indexes : List ℕ) → AreInEndsO
 later_index sorted indexes ordered p q le lt same =
     let a = reverse (get_or sorted p []) in
     let c = reverse (get_or sorted q []) in
-    let equal : slice_cmp nat_cmp a c ≡ Equal = ap (λ (s : List ℕ). slice_cmp nat_cmp a (reverse s)) same ∙ tied_itself nat_list_cmp_total a in
+    let equal : slice_cmp nat_cmp a c ≡ Equal =
+    ap (λ (s : List ℕ). slice_cmp nat_cmp a (reverse s)) same ∙ tied_itself nat_list_cmp_total a in
     ge_from_not_lt (get_or indexes q 0) (get_or indexes p 0)
     (second_part (slice_cmp nat_cmp a c) (nat_cmp (get_or indexes q 0) (get_or indexes p 0)) equal (ordered p q le lt))

@@ -1,6 +1,7 @@
 -- Names sorted by what they end with: those that end with one name stand one behind the other, and it last.
 use Rattle.std.specs.Prelude.{◌≡◌, ◌<◌, ◌≤◌, ℕ, List, [], get_or, length}
 use Rattle.elf_object_strings.specs.Owners.{IsFirstOfHeld, IsOwner, IsSuffix}
+use Rattle.elf_object_strings.specs.Sorting.{AreNumbered}
 
 -- from its start on all names up to a position end with the one there, and none before
 pub record IsRun (sorted : List (List ℕ)) (position start : ℕ) : Type 0 where
@@ -18,8 +19,19 @@ pub record HaveOwners (names sorted : List (List ℕ)) (indexes owners : List �
   pub all : length owners ≡ length names
   pub each : (q : ℕ) → q < position → IsOwner names (get_or sorted q []) (get_or owners (get_or indexes q 0) 0)
 
+-- the owner of the name at a position, whichever names these are, where those before it have theirs
+abbrev pub GivesOwner : List (List ℕ) → List ℕ → List ℕ → ℕ → ℕ → Type 0
+GivesOwner sorted indexes owners position owner =
+    (names : List (List ℕ)) → AreNumbered names sorted indexes → HaveOwners names sorted indexes owners position →
+    IsOwner names (get_or sorted position []) owner
+
+-- each index is below the count
+abbrev pub AreBelow : List ℕ → ℕ → Type 0
+AreBelow indexes count = (q : ℕ) → q < length indexes → get_or indexes q 0 < count
+
 -- the least owner of the names from a start up to a position, but for the one there
 pub record IsLeastOwner (names sorted : List (List ℕ)) (position start owner : ℕ) : Type 0 where
   pub first : IsFirstOfHeld names owner
   pub ends : IsSuffix (get_or sorted position []) (get_or names owner [])
-  pub least : (r f : ℕ) → start ≤ r → r < position → IsFirstOfHeld names f → IsSuffix (get_or sorted r []) (get_or names f []) → owner ≤ f
+  pub least : (r f : ℕ) → start ≤ r → r < position → IsFirstOfHeld names f →
+      IsSuffix (get_or sorted r []) (get_or names f []) → owner ≤ f

@@ -1,7 +1,7 @@
 //! For each name of a list the one whose bytes in the table it shares.
-ghost use Rattle.std.specs.Prelude.{◌≡◌, ◌<◌, ℕ, min, if◌then◌else◌, List, [], get_or, length, IfOk};
-ghost use Rattle.elf_object_strings.specs.Owners.{AreOwners, IsOwner};
-ghost use Rattle.elf_object_strings.specs.Runs.{AreRuns, HaveOwners, IsRun};
+ghost use Rattle.std.specs.Prelude.{◌≡◌, ◌<◌, min, if◌then◌else◌, length, IfOk};
+ghost use Rattle.elf_object_strings.specs.Owners.{AreOwners};
+ghost use Rattle.elf_object_strings.specs.Runs.{AreBelow, AreRuns, GivesOwner, IsRun};
 ghost use Rattle.elf_object_strings.specs.Shared.{texts};
 ghost use Rattle.elf_object_strings.specs.Sorting.{AreInEndsOrder, AreNumbered, indexes_in, names_by_ends};
 ghost use Rattle.elf_object_strings.specs.StringTable.{is_suffix};
@@ -48,9 +48,9 @@ fn run_of(
     requires within { position < length sorted.now }
     requires order { AreInEndsOrder (names_by_ends sorted.now) (indexes_in sorted.now) }
     requires runs { AreRuns (names_by_ends sorted.now) starts.now position }
-    requires indexes { (q : ℕ) → q < length sorted.now → get_or (indexes_in sorted.now) q 0 < length owners.now }
+    requires indexes { AreBelow (indexes_in sorted.now) (length owners.now) }
     ensures run { IsRun (names_by_ends sorted.now) position result.0 }
-    ensures owner { (names : List (List ℕ)) → AreNumbered names (names_by_ends sorted.now) (indexes_in sorted.now) → HaveOwners names (names_by_ends sorted.now) (indexes_in sorted.now) owners.now position → IsOwner names (get_or (names_by_ends sorted.now) position []) result.1 }
+    ensures owner { GivesOwner (names_by_ends sorted.now) (indexes_in sorted.now) owners.now position result.1 }
 {
     let mut start = position;
     let mut owner = sorted[position].index;

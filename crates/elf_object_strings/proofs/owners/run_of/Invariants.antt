@@ -7,7 +7,8 @@ use Rattle.elf_object_strings.proofs.owners.run_of.Given as goal
 abbrev pub invariant-loop-start : goal.invariant-loop-start
 invariant-loop-start l = record {
   low : l.start ≤ l.position;
-  ends : (r : ℕ) → l.start ≤ r → r ≤ l.position → IsSuffix (get_or (names_by_ends l.sorted) l.position []) (get_or (names_by_ends l.sorted) r []);
+  ends : (r : ℕ) → l.start ≤ r → r ≤ l.position →
+      IsSuffix (get_or (names_by_ends l.sorted) l.position []) (get_or (names_by_ends l.sorted) r []);
   -- none is met yet, or the least owner of those that are
   own : l.start ≡ l.position → l.owner ≡ get_or (indexes_in l.sorted) l.position 0;
   met : (names : List (List ℕ)) → AreNumbered names (names_by_ends l.sorted) (indexes_in l.sorted) →
