@@ -1,14 +1,11 @@
 -- What the code reads of sorted names, by places.
-use Rattle.std.proofs.Common.{◌≡◌, ◌<◌, ℕ, true, false, List, [], get_or, length, ◌++◌, refl, sym, ap, ◌∙◌}
-use Rattle.std.proofs.lemmas.Bool.{both_ways}
-use Rattle.std.proofs.lemmas.Bool.Decides.{Decides-eqb}
+use Rattle.std.proofs.Common.{◌≡◌, ◌<◌, ℕ, true, false, List, [], get_or, length, ◌++◌, sym, ap, ◌∙◌}
 use Rattle.std.proofs.lemmas.List.{get_or-map, length-map}
-use Rattle.std.proofs.lemmas.Slice.Eq.{ends_is}
 use Rattle.elf_object_strings.specs.declared.sorting.Numbered.{Numbered}
-use Rattle.elf_object_strings.specs.Owners.{IsSuffix}
 use Rattle.elf_object_strings.specs.Sorting.{indexes_in, names_by_ends}
 use Rattle.elf_object_strings.specs.StringTable.{is_suffix}
 use Rattle.elf_object_strings.proofs.EndsOrder.{Ends}
+use Rattle.elf_object_strings.proofs.Suffix.{suffix_from, suffix_none}
 
 -- what is read past the end
 abbrev pub no_name : Numbered
@@ -26,21 +23,14 @@ name_at sorted q lt = get_or-map (λ (it : Numbered). it.name.now) sorted q no_n
 pub index_at : (sorted : List Numbered) (q : ℕ) → q < length sorted → get_or (indexes_in sorted) q 0 ≡ (get_or sorted q no_name).index
 index_at sorted q lt = get_or-map (λ (it : Numbered). it.index) sorted q no_name 0 lt
 
-suffix_from_test : (name other : List ℕ) → is_suffix name other ≡ true → IsSuffix name other
-suffix_from_test name other is = (_, (ends_is Decides-eqb other name (is_suffix name other) refl).0 is)
-
-no_suffix_from_test : (name other : List ℕ) → is_suffix name other ≡ false → ¬ IsSuffix name other
-no_suffix_from_test name other is_not (front, is) =
-    both_ways (is_suffix name other) is_not ((ends_is Decides-eqb other name (is_suffix name other) refl).1 front is)
-
 pub suffix_at : (sorted : List Numbered) (p q : ℕ) → p < length sorted → q < length sorted →
     is_suffix (get_or sorted p no_name).name.now (get_or sorted q no_name).name.now ≡ true → Ends (names_by_ends sorted) p q
 suffix_at sorted p q p_lt q_lt is =
-    let found = suffix_from_test (get_or sorted p no_name).name.now (get_or sorted q no_name).name.now is in
+    let found = suffix_from (get_or sorted p no_name).name.now (get_or sorted q no_name).name.now is in
     (found.0, name_at sorted q q_lt ∙ found.1 ∙ ap (λ (n : List ℕ). found.0 ++ n) (sym (name_at sorted p p_lt)))
 
 pub no_suffix_at : (sorted : List Numbered) (p q : ℕ) → p < length sorted → q < length sorted →
     is_suffix (get_or sorted p no_name).name.now (get_or sorted q no_name).name.now ≡ false → ¬ Ends (names_by_ends sorted) p q
 no_suffix_at sorted p q p_lt q_lt is_not (front, is) =
-    no_suffix_from_test (get_or sorted p no_name).name.now (get_or sorted q no_name).name.now is_not
+    suffix_none (get_or sorted p no_name).name.now (get_or sorted q no_name).name.now is_not
     (front, sym (name_at sorted q q_lt) ∙ is ∙ ap (λ (n : List ℕ). front ++ n) (name_at sorted p p_lt))

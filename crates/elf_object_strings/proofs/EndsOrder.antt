@@ -5,7 +5,7 @@ use Rattle.std.specs.Cmp.Lexicographic.{slice_cmp}
 use Rattle.std.specs.Ordering.{is_lt, nat_cmp, ordering_then, MatchOrdering}
 use Rattle.std.proofs.lemmas.Bool.{true≢false}
 use Rattle.std.proofs.lemmas.Cmp.{nat_list_cmp_total, ranked, tied_itself}
-use Rattle.std.proofs.lemmas.List.{append_assoc, reverse-append, reverse-reverse}
+use Rattle.std.proofs.lemmas.List.{reverse-append, reverse-reverse}
 use Rattle.std.proofs.lemmas.Map.Keys.{ge_from_not_lt}
 use Rattle.elf_object_strings.specs.Owners.{IsSuffix}
 use Rattle.elf_object_strings.specs.Sorting.{AreInEndsOrder}
@@ -64,13 +64,6 @@ suffix_reversed a b (rest, is) =
     let turned : reverse (reverse b) ≡ reverse (reverse a ++ rest) = ap reverse is in
     let parts : reverse (reverse a ++ rest) ≡ reverse rest ++ reverse (reverse a) = reverse-append (reverse a) rest in
     (reverse rest, sym (reverse-reverse b) ∙ turned ∙ parts ∙ ap (λ (s : List ℕ). reverse rest ++ s) (reverse-reverse a))
-
-pub suffix_itself : (a b : List ℕ) → b ≡ a → IsSuffix a b
-suffix_itself a b same = ([], same)
-
-pub suffix_chain : (a b c : List ℕ) → IsSuffix a b → IsSuffix b c → IsSuffix a c
-suffix_chain a b c (front, is) (more, also) =
-    (more ++ front, also ∙ ap (λ (s : List ℕ). more ++ s) is ∙ sym (append_assoc more front a))
 
 -- ---- names in order
 

@@ -7,7 +7,8 @@ use Rattle.std.proofs.lemmas.List.{get_or_append_left, get_or_push, length_push,
 use Rattle.elf_object_strings.specs.Owners.{AreOwners, IsFirstOfHeld, IsOwner, IsSuffix}
 use Rattle.elf_object_strings.specs.Runs.{AreRuns, HaveOwners, IsLeastOwner, IsRun}
 use Rattle.elf_object_strings.specs.Sorting.{AreInEndsOrder, AreNumbered}
-use Rattle.elf_object_strings.proofs.EndsOrder.{Ends, ends_alike, ends_between, later_index, suffix_chain, suffix_itself}
+use Rattle.elf_object_strings.proofs.EndsOrder.{Ends, ends_alike, ends_between, later_index}
+use Rattle.elf_object_strings.proofs.Suffix.{suffix_same, suffix_trans}
 
 -- ---- the runs
 
@@ -20,7 +21,7 @@ run_more sorted position start next some low run here ends r from to =
     let last = start - 1 in
     elim (cases_lt r start) [
       | inl below ↦ (let inside : Ends sorted last r = run.ends r from (omega arith) in
-          suffix_chain (get_or sorted position []) (get_or sorted last []) (get_or sorted r []) here inside)
+          suffix_trans (get_or sorted position []) (get_or sorted last []) (get_or sorted r []) here inside)
       | inr within ↦ ends r within to
     ]
 
@@ -48,12 +49,12 @@ follow_by names sorted position start owner next met new some low run here owned
   ];
   ends = elim one [
     | inl is ↦ subst (λ i. IsSuffix (get_or sorted position []) (get_or names i [])) (sym is)
-        (suffix_chain (get_or sorted position []) (get_or sorted (start - 1) []) (get_or names met []) here owned.ends)
+        (suffix_trans (get_or sorted position []) (get_or sorted (start - 1) []) (get_or names met []) here owned.ends)
     | inr (is, lt) ↦ subst (λ i. IsSuffix (get_or sorted position []) (get_or names i [])) (sym is) (before lt).ends
   ];
   least = λ r f from to first ends. elim (cases_lt r start) [
     | inl below ↦ (let inside : Ends sorted (start - 1) r = run.ends r from (omega arith) in
-        let chain = suffix_chain (get_or sorted (start - 1) []) (get_or sorted r []) (get_or names f []) inside ends in
+        let chain = suffix_trans (get_or sorted (start - 1) []) (get_or sorted r []) (get_or names f []) inside ends in
         let at : met ≤ f = owned.least f first chain in
         omega arith)
     | inr within ↦ (let at : owner ≤ f = (before (omega arith)).least r f within to first ends in
@@ -96,7 +97,7 @@ owner_of_itself names sorted indexes numbered ordered position within run = reco
     below = numbered.below position within;
     kept = λ j lt ends. behind j lt (subst (λ n. IsSuffix n (get_or names j [])) here ends);
   };
-  ends = suffix_itself (get_or sorted position []) (get_or names (get_or indexes position 0) []) here;
+  ends = suffix_same (get_or sorted position []) (get_or names (get_or indexes position 0) []) here;
   least = λ j first ends. (behind j first.below ends).1;
 } where
   here : get_or names (get_or indexes position 0) [] ≡ get_or sorted position []
@@ -134,7 +135,7 @@ owner_of_run names sorted indexes numbered ordered position start owner within r
       elim (cases_lt q position) [
         | inl lt ↦ elim (cases_lt q start) [
           | inl out ↦ absurd (run.none q out at)
-          | inr in_run ↦ met.least q f in_run lt first (suffix_itself (get_or sorted q []) (get_or names f []) (sym q_name))
+          | inr in_run ↦ met.least q f in_run lt first (suffix_same (get_or sorted q []) (get_or names f []) (sym q_name))
         ]
         | inr after ↦ (let same : get_or names f [] ≡ get_or sorted position [] =
             sym q_name ∙ ends_alike sorted indexes ordered position q after q_lt at in
@@ -148,7 +149,7 @@ owner_of_run names sorted indexes numbered ordered position start owner within r
             let kept = first.kept j (numbered.below last (omega arith)) beyond in
             let equal : get_or names j [] ≡ get_or names f [] = kept.0 in
             met.least last f (omega arith) (omega arith) first
-            (suffix_itself (get_or sorted last []) (get_or names f []) (sym equal ∙ named)))
+            (suffix_same (get_or sorted last []) (get_or names f []) (sym equal ∙ named)))
       ]
 
 -- what is met of a run is all that its last name needs

@@ -1,18 +1,16 @@
 -- A string table shares tails: the lowest offsets, each name, and no byte more than it needs.
-use Rattle.std.proofs.Common.{◌≡◌, ◌≢◌, ◌<◌, ◌≤◌, ℕ, zero, suc, ◌+◌, ◌-◌, Bool, true, false, List, [], ◌∷◌, ◌++◌, length, take, drop, get_or, map, refl, sym, ap, ap₂, ◌∙◌, arith}
-use Rattle.std.specs.Prelude.{◌&&◌, not, ⊤}
-use Rattle.std.specs.List.{AllByRecursion, filter, flat_map, list_any}
-use Rattle.std.specs.Str.{bytes_eq}
+use Rattle.std.proofs.Common.{◌≡◌, ◌≢◌, ◌<◌, ℕ, zero, suc, ◌-◌, Bool, true, false, List, [], ◌∷◌, ◌++◌, length, take, get_or, map, refl, sym, ap, ◌∙◌, arith}
+use Rattle.std.specs.Prelude.{not}
+use Rattle.std.specs.List.{AllByRecursion, flat_map, list_any}
 use Rattle.std.proofs.lemmas.Bool.{and_parts, true≢false}
 use Rattle.std.proofs.lemmas.List.{get_or-map, length-map, take-append-drop}
-use Rattle.elf_object_strings.specs.Owners.{IsSuffix}
 use Rattle.elf_object_strings.specs.Shared.{AreZeroFree, HoldsEach, IsShortest, IsLowestAt, Shares, StandsClosedAt}
-use Rattle.elf_object_strings.specs.StringTable.{closed, distinct, end_from, held, is_held, is_named, is_proper_suffix, is_suffix, name_offset, string_table}
+use Rattle.elf_object_strings.specs.StringTable.{closed, end_from, held, is_named, is_proper_suffix, is_suffix, name_offset, string_table}
 use Rattle.elf_object_strings.proofs.Kept.{all_both, all_held, all_weaker, apart_held}
 use Rattle.elf_object_strings.proofs.Climb.{ends_held}
 use Rattle.elf_object_strings.proofs.Names.{empty_at_zero}
 use Rattle.elf_object_strings.proofs.Lowest.{IsZeroFree, end_is, lowest_behind, lowest_empty, lowest_in, not_first, place_in, stands_in}
-use Rattle.elf_object_strings.proofs.Minimal.{AreApart, Stands, no_shorter_rest}
+use Rattle.elf_object_strings.proofs.Minimal.{Stands, no_shorter_rest}
 
 -- ---- each at its lowest offset
 

@@ -4,7 +4,6 @@ use Rattle.std.specs.Prelude.{◌⊎◌}
 use Rattle.std.specs.List.{AllByRecursion, flat_map, list_any}
 use Rattle.std.proofs.lemmas.Bool.{cases_lt, true≢false}
 use Rattle.std.proofs.lemmas.List.{drop-append-le, drop-drop, drop_at, length-drop, take-append-drop}
-use Rattle.elf_object_strings.specs.Owners.{IsSuffix}
 use Rattle.elf_object_strings.specs.Shared.{AreZeroFree, IsLowestAt, StandsClosedAt}
 use Rattle.elf_object_strings.specs.StringTable.{closed, end_from, is_suffix}
 use Rattle.elf_object_strings.proofs.Suffix.{suffix_from, suffix_length, suffix_test}

@@ -1,5 +1,6 @@
 -- Names that end with others.
-use Rattle.std.proofs.Common.{◌≡◌, ◌≤◌, ◌+◌, ◌-◌, ℕ, true, List, [], ◌∷◌, ◌++◌, length, take, refl, sym, ap, ◌∙◌, append_assoc, arith, length-append}
+use Rattle.std.proofs.Common.{◌≡◌, ◌≤◌, ◌+◌, ◌-◌, ℕ, true, false, List, [], ◌∷◌, ◌++◌, length, take, refl, sym, ap, ◌∙◌, append_assoc, arith, length-append}
+use Rattle.std.proofs.lemmas.Bool.{true≢false}
 use Rattle.std.proofs.lemmas.Bool.Decides.{Decides-eqb}
 use Rattle.std.proofs.lemmas.Slice.Eq.{ends_is}
 use Rattle.elf_object_strings.specs.Owners.{IsSuffix}
@@ -10,6 +11,9 @@ suffix_from name other is = (take (length other - length name) other, (ends_is D
 
 pub suffix_test : (name other : List ℕ) → IsSuffix name other → is_suffix name other ≡ true
 suffix_test name other (front, is) = (ends_is Decides-eqb other name (is_suffix name other) refl).1 front is
+
+pub suffix_none : (name other : List ℕ) → is_suffix name other ≡ false → ¬ IsSuffix name other
+suffix_none name other unlike suffix = true≢false (sym (suffix_test name other suffix) ∙ unlike)
 
 pub suffix_same : (name other : List ℕ) → other ≡ name → IsSuffix name other
 suffix_same name other same = ([], same)
