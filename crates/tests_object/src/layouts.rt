@@ -97,3 +97,50 @@ fn too_long(rt: HostRuntime) -> Result<(), Fail> {
     assert_eq!(rt; faults, [Some(LayoutFault::TooLong); 2]);
     Ok(())
 }
+
+/// The length of the layout of sections of one byte with the alignments 2^29, 2^28 and so on, so that each ends a half of what is left of
+/// 2^30 bytes; the last of them is aligned to 4,096 and has so many bytes. One of them is `.text`, and one is `.rela.text`.
+fn length(alloc: Global, last: &[u8]) -> Result<Result<u64, LayoutFault>, Fail> {
+    let mut sections = Vec::new(alloc);
+    for k in 0..18 {
+        sections.push(Section {
+            name: match k {
+                0 => b".text",
+                1 => b".rela.text",
+                _ => b"",
+            },
+            flags: 6,
+            addr: 0,
+            align: 1 << (29 - k),
+            entsize: 0,
+            link: None,
+            info: Info::Number(0),
+            body: Body::Bits(1, if k == 17 { last } else { b"\xc3" }),
+        })?;
+    }
+    let parts = ObjectParts {
+        order: Order::Little,
+        osabi: 0,
+        abi: 0,
+        machine: 62,
+        flags: 0,
+        sections,
+        symbols: Vec::new(alloc),
+    };
+    let object = Object::new(alloc, parts)?;
+    Ok(lay_out(alloc, &object).map(|layout| layout.length()))
+}
+
+// At 2^30 - 4,096 the last content begins, and behind it stand 24 + 1 + 38 bytes and 22 section headers: 38, and not 44, since `.text` stands
+// within `.rela.text`.
+#[test]
+fn shared_names_count_once(rt: HostRuntime) -> Result<(), Fail> {
+    let content = [0; 2625];
+    let longest = length(rt.alloc(), &content[..2624])?;
+    let too_long = length(rt.alloc(), &content)?;
+    assert_eq!(rt;
+        (longest, too_long),
+        (Ok(1 << 30), Err(LayoutFault::TooLong))
+    );
+    Ok(())
+}
