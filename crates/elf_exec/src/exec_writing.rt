@@ -18,7 +18,7 @@ use std::io::Write;
 /// flushed.
 ///
 /// Memory is taken for the segments and their places alone. Relocated bytes are offered as they stand, and zeros and program headers are
-/// made as they go out.
+/// made as they go out. Linear in the bytes that go out, the members and the outputs.
 pub fn write_exec<W: Write>(
     alloc: Global,
     linked: &Linked<'_, '_>,

@@ -16,7 +16,7 @@ use elf_link_relocate::Linked;
 use elf_object_type::Object;
 
 /// Relocated bytes that `relocate` answered of these, where the map is one that `map` answered, are ready to be written, as
-/// [`write_exec`](crate::write_exec) asks.
+/// [`write_exec`](crate::write_exec) asks. It does nothing.
 pub fn is_ready(
     linked: &Linked<'_, '_>,
     objects: &[Object<'_>],

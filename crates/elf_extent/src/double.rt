@@ -9,8 +9,10 @@ use crate::sweeping::sweep;
 use std::alloc::Global;
 
 /// The lowest offset, in bytes, that two members of the list hold, be they equal or not; None if
-/// there is none. An extent of length 0 holds no byte. Answers `OutOfMemory` only where memory was
-/// refused.
+/// there is none. An extent of length 0 holds no byte.
+///
+/// Takes n log n comparisons of starts, and memory for the extents that hold a byte. Answers
+/// [`OutOfMemory`] only where that was refused.
 pub fn first_double(alloc: Global, extents: &[Extent]) -> Result<Option<u64>, OutOfMemory>
     ensures { IfOk result (IsLowest (Doubly extents.now)) }
 {

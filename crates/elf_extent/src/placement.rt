@@ -31,8 +31,9 @@ pub fn next_place(cursor: u64, align: u64) -> Option<u64>
 /// The least places of the parts (size, alignment), in bytes: the first part is placed from `from`,
 /// each other one from the end of the one before it. The alignment 0 counts as 1.
 ///
-/// Answers `Overflow` with the first part whose start or end does not fit a u64, and `OutOfMemory`
-/// only where there is none and memory was refused.
+/// Answers [`PlaceFault::Overflow`] with the first part whose start or end does not fit a u64, and
+/// [`PlaceFault::OutOfMemory`] only where there is none and memory was refused. Linear in the parts;
+/// only the places take memory.
 pub fn place(alloc: Global, parts: &[(u64, u64)], from: u64) -> Result<Vec<u64>, PlaceFault>
     ensures least { IfOk result (λ places. Least parts.now from places.items) }
     ensures fits { IfOk result (λ places. EndsFit parts.now places.items (length parts.now)) }

@@ -32,7 +32,8 @@ impl<'a> Model for SortedExtents<'a> {
 }
 
 impl<'a> SortedExtents<'a> {
-    /// These extents, sorted. Answers `OutOfMemory` only where memory was refused.
+    /// These extents, sorted: takes n log n comparisons of starts, and memory for the extents that hold a byte. Answers
+    /// [`OutOfMemory`] only where that was refused.
     pub fn new(alloc: Global, extents: &'a [Extent]) -> Result<SortedExtents<'a>, OutOfMemory>
         ensures { IfOk result (λ sorted. sorted ≡ extents.entry.now) }
     {
@@ -40,7 +41,8 @@ impl<'a> SortedExtents<'a> {
         Ok(SortedExtents { extents, members })
     }
 
-    /// The lowest offset, in bytes, that two of them hold, as [`first_double`](crate::first_double) finds it. Takes no memory.
+    /// The lowest offset, in bytes, that two of them hold, as [`first_double`](crate::first_double) finds it. Linear in
+    /// the extents; takes no memory.
     pub fn first_double(&self) -> Option<u64>
         ensures { IsLowest (Doubly self.now) result }
     {

@@ -181,7 +181,7 @@ impl Outline {
         self.header.e_entry = entry;
     }
 
-    /// Sets `sh_flags` of section `i`. Answers `NoSection`, and changes nothing, where `i` is 0 or not
+    /// Sets `sh_flags` of section `i`. Answers [`NoSection`], and changes nothing, where `i` is 0 or not
     /// below [`section_count`](Outline::section_count).
     pub fn set_flags(&mut self, i: usize, flags: u64) -> Result<(), NoSection>
         ensures ok { OnOk result ((0 < i) × (i < length self.old.sections) ×

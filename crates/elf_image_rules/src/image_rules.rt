@@ -25,7 +25,8 @@ use elf_field::abi::SHDR_SIZE;
 use std::alloc::Global;
 
 /// The first rule of 1 to 33 that the file breaks, and its lowest offset in bytes; None where it
-/// breaks none. It takes no memory.
+/// breaks none. It takes no memory. Linear in the records, where the contents stand in the order of
+/// their section headers; else it takes the square of their number.
 pub fn verdict(bytes: &[u8]) -> Option<(u16, u64)>
     ensures { IsFault bytes.now result }
 {

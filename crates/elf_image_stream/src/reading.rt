@@ -30,7 +30,8 @@ const AHEAD: usize = 64;
 ///
 /// After a fault too `buf` holds exactly the bytes that the reader gave, in order. Any error of the
 /// reader, an interruption too, is [`Fault::Io`] at the count of these bytes; a refused growth is
-/// [`Fault::OutOfMemory`], and loses no byte.
+/// [`Fault::OutOfMemory`], and loses no byte; [`Fault::Rule`] never comes. Linear in the bytes read;
+/// `buf` alone takes memory, also ahead of what is read.
 pub fn read_to_end<R: Read>(reader: &mut R, buf: &mut Vec<u8>) -> Result<(), Fault>
     requires { buf.old.items ≡ [] }
     ensures taken { Consumes (R.remaining reader.old) (R.remaining reader.new) buf.new.items }
@@ -50,7 +51,8 @@ pub fn read_to_end<R: Read>(reader: &mut R, buf: &mut Vec<u8>) -> Result<(), Fau
 ///
 /// After a fault too `buf` holds what it held, and behind it exactly the bytes that the reader gave, in order. Any error of the
 /// reader, an interruption too, is [`Fault::Io`] at the count of all these bytes; a refused growth is [`Fault::OutOfMemory`], and
-/// loses no byte, since the room for a read is made before it.
+/// loses no byte, since the room for a read is made before it; [`Fault::Rule`] never comes. Linear in the bytes read and those held;
+/// `buf` alone takes memory, also ahead of what is read.
 pub fn resume<R: Read>(reader: &mut R, buf: &mut Vec<u8>) -> Result<(), Fault>
     requires room { vec_len buf.old ≤ MAX_LEN + 1 }
     ensures taken { IsReadBehind (R.remaining reader.old) (R.remaining reader.new) buf.old.items buf.new.items }

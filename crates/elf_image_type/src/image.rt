@@ -139,7 +139,7 @@ impl<'a> Image<'a> {
     }
 
     /// The name of section `i`, without its closing zero. It is empty for a section header of type
-    /// `SHT_NULL`, and where there is no section name string table or an empty one.
+    /// `SHT_NULL`, and where there is no section name string table or an empty one. Linear in the name.
     pub fn name(&self, i: usize) -> &'a [u8]
         requires { i < length self.now.sections }
         ensures { result.now ≡ section_name self.now i }
@@ -193,7 +193,7 @@ impl<'a> Image<'a> {
     /// chapter 5, Program Header).
     ///
     /// A segment has `p_memsz` addresses from `p_vaddr` on. The first `p_filesz` of them have the bytes at `p_offset` of the file that
-    /// stands for the image, edited or as read; the others are 0.
+    /// stands for the image, edited or as read; the others are 0. Linear in the segments and the parts.
     pub fn load(&self, address: u64) -> Option<u8>
         ensures { (b : List ℕ) × IsImage self.now b × LoadsFirst b self.now.segments address result }
     {

@@ -15,7 +15,7 @@ use std::io::Write;
 ///
 /// Any error of the writer, an interruption too, is the fault, and so is a write that takes 0 bytes of
 /// a rest that is not empty. Contents and gaps are offered whole. Nothing is flushed, and no memory is
-/// taken.
+/// taken. Linear in the length of the file.
 pub fn write<W: Write>(image: &Image<'_>, writer: &mut W) -> Result<(), WriteFault>
     ensures { (b : List ℕ) × IsImage image.now b ×
         Writes (W.contents writer.old) (W.contents writer.new) b result }

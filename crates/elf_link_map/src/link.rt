@@ -119,8 +119,10 @@ pub fn map_numbered<'a, S: BuildHasher + Drop>(
 ///
 /// The hasher spreads the keys of the outputs; whichever it is, the map is the same.
 ///
-/// Answers the first of the link's rules ([`rules`](crate::rules)) that stands, and [`LinkFault::OutOfMemory`] only where memory
-/// is refused, which is asked for only where rules 1 and 2 don't stand.
+/// [`LinkFault::Rule`] is the first of the link's rules ([`rules`](crate::rules)) that stands, at its first site;
+/// [`LinkFault::OutOfMemory`] comes only where memory is refused, which is asked for only where rules 1 and 2 don't stand: for each
+/// section, symbol and name. Takes log n comparisons of names at most for each symbol and each group, and one search by key for each live
+/// section.
 pub fn map<'a, S: BuildHasher + Drop>(
     alloc: Global,
     objects: &[Object<'a>],

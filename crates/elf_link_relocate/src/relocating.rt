@@ -51,9 +51,13 @@ pub fn relocate_numbered<'m, 'a>(
 /// The relocated bytes of these objects, whose link map it is: the number of each applied relocation in its field, by the first
 /// relocation rule of its kind.
 ///
-/// Answers the first of rules 12 to 16 ([`rules`](crate::rules)) that stands, at its first entry by file, section and position; and
-/// [`LinkFault::OutOfMemory`] only where memory is refused: a number for each symbol, a value for each name, a mark for each byte, a
-/// copy of each live section with bits.
+/// Its condition is kept by a map that [`map`](elf_link_map::map) answered of these objects: `match map(..) { Ok(link) => .. }`.
+///
+/// [`LinkFault::Rule`] is the first of rules 12 to 16 ([`rules`](crate::rules)) that stands, at its first entry by file, section and
+/// position. [`LinkFault::OutOfMemory`] comes only where memory is refused: a number for each symbol, a value for each name, a field for
+/// each applied entry, a copy of each live section with bits; where the fields don't ascend, an extent for each; and where two of these
+/// share an address, a mark for each byte. Takes log n comparisons at most for each symbol and each field, and a look through the rules
+/// for each entry; all else is linear in the bytes, entries and symbols.
 pub fn relocate<'m, 'a>(
     alloc: Global,
     map: &'m LinkMap<'a>,

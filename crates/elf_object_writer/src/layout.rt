@@ -101,7 +101,8 @@ impl Layout {
 /// The canonical layout of an object.
 ///
 /// [`LayoutFault::TooLong`] comes exactly where it is longer than the longest file, 2^30 bytes, and
-/// [`LayoutFault::OutOfMemory`] only where memory is refused.
+/// [`LayoutFault::OutOfMemory`] only where memory is refused. It takes the time and the memory of the two string tables, as
+/// `shared_table` of `elf_object_strings` makes them; all else is linear in the sections and the symbols.
 pub fn lay_out(alloc: Global, object: &Object<'_>) -> Result<Layout, LayoutFault>
     ensures ok { IfOk result (IsLayoutOf object.now) }
     ensures err { IfErr result (IsLayoutFault object.now) }

@@ -30,7 +30,8 @@ pub enum ObjectWriteFault {
 /// tried again and nothing is flushed.
 ///
 /// Memory is taken for the string tables and the places of the parts alone. Contents are offered as they stand in the object,
-/// and the entries of tables are made as they go out.
+/// and the entries of tables are made as they go out. It takes the time of [`lay_out`](crate::lay_out), and is linear in the bytes
+/// that go out.
 pub fn write_object<W: Write>(
     alloc: Global,
     object: &Object<'_>,

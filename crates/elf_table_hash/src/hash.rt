@@ -44,7 +44,8 @@ impl<'a> Hash<'a> {
     ///
     /// [`Fault::Rule`] is the first rule that is broken, at its lowest offset: 40, 42, 43, 44, then all rules of the symbol table
     /// that the section links to, then 65 to 69. [`Fault::OutOfMemory`] comes only where memory is refused, and no rule from
-    /// 40 to 67 is broken. No other fault comes.
+    /// 40 to 67 is broken. No other fault comes. It takes a pass over the section headers, the symbols and the words, log n steps
+    /// at most to find a symbol on a chain, and the hash of each name.
     pub fn new(alloc: Global, image: &Image<'a>, i: usize) -> Result<Hash<'a>, Fault>
         requires { i < length image.now.sections }
         ensures { let f = sections_of image.now in
@@ -107,7 +108,7 @@ impl<'a> Hash<'a> {
     }
 
     /// The first symbol of this name on the chain of the name's bucket: some symbol exactly where a symbol from 1 on has the
-    /// name. It takes no memory.
+    /// name. It takes no memory, and as many comparisons of names as [`probe`](Hash::probe) counts symbols.
     pub fn find(&self, name: &[u8]) -> Option<u32>
         ensures found { (steps : ℕ) × IsProbed self.now name.now result steps }
         ensures some { IsSome result ↔ HasSymbolNamed self.now name.now }

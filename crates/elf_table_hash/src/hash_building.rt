@@ -36,7 +36,7 @@ impl From<AllocError> for HashFault {
 /// each chain has the symbols of its own bucket alone, and they ascend along it.
 ///
 /// [`HashFault::NoBuckets`] where there is to be no bucket; else [`HashFault::TooMany`] for more than 2^24 names or buckets; else
-/// [`HashFault::OutOfMemory`] where the words don't fit into memory.
+/// [`HashFault::OutOfMemory`] where the words don't fit into memory. Linear in the buckets and in the bytes of the names.
 pub fn build_hash(alloc: Global, names: &[&[u8]], nbucket: u32) -> Result<Vec<u32>, HashFault>
     requires { 0 < length names.now }
     ensures built { IfOk result (λ words. IsBuilt words.items (map (λ name. name.now) names.now) nbucket) }

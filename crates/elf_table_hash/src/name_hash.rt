@@ -2,7 +2,7 @@
 ghost use Rattle.std.specs.Prelude.{◌≡◌};
 ghost use Rattle.elf_table_hash.specs.ElfHash.{hash_of, hash_step};
 
-/// The hash by which a hash table finds the bucket of a symbol with this name. It takes no memory.
+/// The hash by which a hash table finds the bucket of a symbol with this name. Linear in the name; it takes no memory.
 pub fn elf_hash(name: &[u8]) -> u32
     ensures { result ≡ hash_of name.now }
 {

@@ -35,6 +35,7 @@ impl<'a> Strings<'a> {
     /// The string table that section `i` holds, where `i` is below the image's count of section headers. It takes no memory.
     ///
     /// [`Fault::Rule`] is the first of rules 40 and 41 that the section breaks, at its lowest offset; no other fault comes.
+    /// It looks at the first and the last byte of the table alone.
     pub fn new(image: &Image<'a>, i: usize) -> Result<Strings<'a>, Fault>
         requires { i < length image.now.sections }
         ensures { IsJudged (string_table_rules (sections_of image.now) i) (λ strings. strings ≡ content (sections_of image.now) i) result }
@@ -46,7 +47,7 @@ impl<'a> Strings<'a> {
     }
 
     /// The bytes from `offset` to the first zero. None where `offset` is not below the table's size in bytes, but an empty
-    /// table has the empty string at offset 0.
+    /// table has the empty string at offset 0. Linear in the string; it takes no memory.
     pub fn get(&self, offset: u64) -> Option<&'a [u8]>
         ensures { MatchOption result
             ((length self.now ≤ offset) × ((offset ≢ 0) ⊎ (0 < length self.now)))

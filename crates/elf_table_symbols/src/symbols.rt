@@ -47,7 +47,7 @@ impl<'a> Symbols<'a> {
     /// The symbol table that section `i` holds, where `i` is below the image's count of section headers. It takes no memory.
     ///
     /// [`Fault::Rule`] is the first of its rules that is broken, at its lowest offset: 40, 42, 43, 44, then 41 of the string
-    /// table that it links to, then 45 to 52. No other fault comes.
+    /// table that it links to, then 45 to 52. No other fault comes. Linear in the section headers and the symbols.
     pub fn new(image: &Image<'a>, i: usize) -> Result<Symbols<'a>, Fault>
         requires { i < length image.now.sections }
         ensures { IsJudged (symbol_table_rules (sections_of image.now) i) (λ symbols. symbols ≡ symbols_of (sections_of image.now) i) result }
@@ -80,7 +80,7 @@ impl<'a> Symbols<'a> {
         self.table.len() / SYM_SIZE as usize
     }
 
-    /// Symbol `j`, which is below [`len`](Symbols::len).
+    /// Symbol `j`, which is below [`len`](Symbols::len). Linear in its name, whose end is looked for.
     pub fn entry(&self, j: usize) -> Symbol<'a>
         requires { j < length self.now }
         ensures { symbol_entry_value result ≡ get_or self.now j no_symbol_entry }

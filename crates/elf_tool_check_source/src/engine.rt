@@ -19,7 +19,7 @@ use std::io::Write;
 ///
 /// The verdict is what the line says. Nothing is out after [`ToolFault::Read`], which has the offset that the call was asked for which
 /// failed, or which gave no byte where the length says that there is one, and after [`ToolFault::OutOfMemory`]; after [`ToolFault::Write`]
-/// exactly the first `written` bytes of the line are.
+/// exactly the first `written` bytes of the line are. Time and memory are those of [`scan`](elf_image_outline::scan), and a line.
 pub fn check_source<S: Source, W: Write>(
     alloc: Global,
     source: &mut S,

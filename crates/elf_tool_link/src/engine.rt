@@ -25,7 +25,8 @@ use std::io::{Read, Write};
 /// with its file, index and entry; or that the executable would have 0xffff segments or more, or be longer than 2^30 bytes.
 ///
 /// Nothing is out after [`ToolFault::Read`], which carries how many bytes the reader that failed had given, and
-/// [`ToolFault::OutOfMemory`]; after [`ToolFault::Write`] exactly the first `written` bytes of the executable are.
+/// [`ToolFault::OutOfMemory`]; after [`ToolFault::Write`] exactly the first `written` bytes of the executable are. All files are held in
+/// memory, their objects, the link map, and a copy of each live section with bits.
 pub fn link<R: Read, W: Write>(
     alloc: Global,
     readers: &mut [R],

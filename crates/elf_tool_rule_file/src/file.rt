@@ -12,7 +12,8 @@ use std::alloc::Global;
 const MOST_RULES: usize = 256;
 
 /// The relocation rules of a file, in order. [`RulesFault::BadLine`] comes exactly where a line is none of a rule or there are more
-/// than 256, want of memory aside; the last line has a line feed too, and behind it there is nothing.
+/// than 256, want of memory aside; the last line has a line feed too, and behind it there is nothing. [`RulesFault::OutOfMemory`] comes
+/// only where memory is refused, which the rules alone take. Linear in the bytes.
 pub fn read_rules(alloc: Global, bytes: &[u8]) -> Result<Vec<RelocRule>, RulesFault>
     ensures ok { IfOk result (λ rules. AreRules bytes.now rules.items) }
     ensures err { IfErr result (IsRulesFault bytes.now) }
