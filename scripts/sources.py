@@ -1,0 +1,317 @@
+"""The public items of the crates, and the definitions that their contracts name, read from the sources as `rt fmt` lays them out."""
+import functools, os, re
+
+TOP = os.path.dirname(os.path.dirname(os.path.abspath(__file__)))
+DOORS = "field extent image table object link exec tool".split()
+HEAD = re.compile(r"pub (fn|struct|enum|trait|const|mod|use|type) (\w+)")
+CLAUSE = re.compile(r"(requires|ensures)\b")
+# What holds no bracket that counts: strings, characters, comments.
+LITERAL = re.compile(r"""b?"(?:\\.|[^"\\])*"|b?'(?:\\.[^']*|[^'\\])'|//.*""")
+IMPORT = re.compile(r"use Rattle\.([\w.]+)\.\{([^}]*)\}")
+DEFINITION = re.compile(r"(?:pub )?(?:abbrev|unfoldable|record|data) (?:pub )?([^\s(:]+)|(?:pub )?([^\s(:=]+) :")
+
+
+class Item:
+    """An item of a source: its doc comment, its text up to its contract, its clauses, and what is in it."""
+
+    def __init__(self, kind, name, source, docs, text):
+        self.kind, self.name, self.source, self.docs, self.text = kind, name, source, docs, text
+        self.clauses, self.members, self.fields, self.ghosts, self.traits, self.uses = [], [], [], [], [], {}
+
+
+@functools.cache
+def read(path):
+    with open(f"{TOP}/{path}", encoding="utf-8") as it:
+        return it.read()
+
+
+def indent_of(line):
+    return len(line) - len(line.lstrip(" "))
+
+
+def balance(line):
+    bare = LITERAL.sub("", line)
+    return sum(bare.count(it) for it in "([{") - sum(bare.count(it) for it in ")]}")
+
+
+def end_of(lines, start, ends):
+    """Behind the last line of what begins at `start`: all brackets are closed, and it ends as such a text ends."""
+    level, indent = 0, indent_of(lines[start])
+    for at in range(start, len(lines)):
+        level += balance(lines[at])
+        bare = LITERAL.sub("", lines[at]).rstrip()
+        if level <= 0 and (bare.endswith(ends) or (bare.endswith("}") and indent_of(lines[at]) == indent)):
+            return at + 1
+    return len(lines)
+
+
+def blocks(lines, ends=";"):
+    """The texts of one level, each with the comment lines and attributes above it."""
+    at, docs, marks = 0, [], []
+    while at < len(lines):
+        word = lines[at].strip()
+        if word.startswith("///"):
+            docs.append(word[3:].removeprefix(" "))
+        elif word.startswith("//"):
+            marks.append(word)
+        elif word.startswith("#["):
+            end = next(k for k in range(at, len(lines)) if balance("".join(lines[at : k + 1])) == 0)
+            marks.append(" ".join(it.strip() for it in lines[at : end + 1]))
+            at = end
+        elif word:
+            end = end_of(lines, at, ends)
+            yield docs, marks, lines[at:end]
+            at, docs, marks = end - 1, [], []
+        else:
+            docs, marks = [], []
+        at += 1
+
+
+def inside(text):
+    """The lines between the braces of a text."""
+    first = next((at for at, line in enumerate(text) if line.rstrip().endswith("{")), len(text))
+    return text[first + 1 : -1]
+
+
+def unindented(lines):
+    least = min((indent_of(it) for it in lines if it.strip()), default=0)
+    return [it[least:].rstrip() for it in lines]
+
+
+def signature_and_clauses(text):
+    """A function's signature, and the clauses behind it."""
+    head, clauses = [], []
+    for line in text:
+        word = line.strip()
+        if word in ("{", "{}", ";") or (not clauses and word == "where"):
+            break
+        if CLAUSE.match(word):
+            clauses.append([line])
+        elif clauses:
+            clauses[-1].append(line)
+        else:
+            head.append(line.removesuffix(" {"))
+            if line.endswith(" {"):
+                break
+    return unindented(head), ["\n".join(unindented(it)).removesuffix(";") for it in clauses]
+
+
+def imports(text):
+    """What the words of the logic in a text stand for, by its `use` lines: a path and a name there."""
+    found = {}
+    for path, names in IMPORT.findall(text):
+        for word in names.split(","):
+            name, _, alias = word.strip().partition(" as ")
+            found[alias or name] = (path, name)
+    return found
+
+
+def members_of(text, source, is_trait, uses):
+    """The public functions of an impl, or all of a trait."""
+    lines = inside(text)
+    uses = {**uses, **imports("\n".join(lines))}
+    for docs, _, part in blocks(lines):
+        match = re.match(r"(pub )?(fn|const) (\w+)", part[0].strip())
+        if not match or not (match[1] or is_trait):
+            continue
+        item = Item(match[2], match[3], source, docs, [])
+        item.text, item.clauses = signature_and_clauses(part)
+        item.uses = uses
+        yield item
+
+
+def ghosts_of(text):
+    """The lines of a text that are of the logic alone, with their comments."""
+    found = []
+    for _, marks, part in blocks(inside(text)):
+        if part[0].strip().startswith("ghost ") and not part[0].strip().startswith("ghost use"):
+            comments = [it.replace("// ", "-- ", 1) for it in marks if it.startswith("//")]
+            found.append("\n".join([*comments, *unindented(part)]).removesuffix(";"))
+    return found
+
+
+def fields_of(text):
+    """The public fields of a struct or the variants of an enum, each with its doc."""
+    is_enum = "enum " in text[0]
+    for docs, _, part in blocks(inside(text), ","):
+        if is_enum or part[0].strip().startswith("pub "):
+            yield docs, "\n".join(unindented(part)).rstrip(",").removeprefix("pub ")
+
+
+def item_of(docs, marks, text, source, uses):
+    match = HEAD.match(text[0])
+    item = Item(match[1], match[2], source, docs, unindented(text))
+    item.uses = uses
+    if item.kind == "fn":
+        item.text, item.clauses = signature_and_clauses(text)
+    if item.kind in ("struct", "enum", "trait"):
+        derived = [it for it in marks if it.startswith("#[derive")]
+        item.text = derived + [text[0].rstrip().removesuffix(" {")]
+    if item.kind in ("struct", "enum"):
+        item.fields = list(fields_of(text))
+    if item.kind == "trait":
+        item.members, item.ghosts = list(members_of(text, source, True, uses)), ghosts_of(text)
+        item.uses = {**uses, **imports("\n".join(text))}
+    return item
+
+
+@functools.cache
+def source(path):
+    """The front doc of a source file, its public items by their names, and its impls."""
+    lines = read(path).splitlines()
+    front = [it[3:].removeprefix(" ") for it in lines if it.startswith("//!")]
+    items, impls, outer = {}, [], []
+    for docs, marks, text in blocks([it for it in lines if not it.startswith(("//!", "#!["))]):
+        if text[0].startswith("impl"):
+            impls.append((docs, text))
+        elif "use " in text[0][:10]:
+            outer += text
+        elif HEAD.match(text[0]):
+            items[HEAD.match(text[0])[2]] = (docs, marks, text)
+    uses = imports("\n".join(outer))
+    return front, {name: item_of(*it, path, uses) for name, it in items.items()}, impls, uses
+
+
+@functools.cache
+def sources_of(crate):
+    rooms = os.walk(f"{TOP}/crates/{crate}/src")
+    return sorted(f"{folder}/{name}"[len(TOP) + 1 :] for folder, _, names in rooms for name in names if name.endswith(".rt"))
+
+
+def with_impls(item, crate):
+    """An item with the public functions of all its impls, the traits that it has, and its ghost view."""
+    for path in sorted(sources_of(crate), key=lambda it: it != item.source):
+        _, _, impls, uses = source(path)
+        for docs, text in impls:
+            head = re.match(r"impl(?:<.*?>)? (?:([\w:]+)(?:<.*>)? for )?(\w+)(?:<.*>)? \{", text[0])
+            if not head or head[2] != item.name:
+                continue
+            if not head[1]:
+                item.members += members_of(text, path, False, uses)
+            elif head[1] == "Model":
+                item.ghosts += ghosts_of(text)
+                item.uses = {**item.uses, **uses, **imports("\n".join(text))}
+            else:
+                item.traits.append(re.sub(r"^impl(<.*?>)? | for .*", "", text[0]))
+    return item
+
+
+# ---- what a crate shows
+
+def shown_by(path):
+    """What a file shows of others by `pub use`: each name with the path that it is under, and the name there."""
+    for where, names, alone in re.findall(r"^pub use (?:([\w:]+)::\{([^}]*)\}|([\w:]+(?: as \w+)?));", read(path), re.M):
+        for word in names.split(",") if names else [alone]:
+            whole = f"{where}::{word.strip()}" if where else word
+            if word.strip():
+                place, _, alias = whole.partition(" as ")
+                yield alias or place.rsplit("::", 1)[-1], place
+
+
+def module_file(crate, words):
+    """The file of a module of a crate."""
+    stem = f"crates/{crate}/src/{'/'.join(words)}"
+    return f"crates/{crate}/src/lib.rt" if not words else f"{stem}.rt"
+
+
+def found(crate, words, name):
+    """The crate and the file in which a name of a module is defined."""
+    path = module_file(crate, words)
+    if name in source(path)[1]:
+        return crate, path
+    for shown, place in shown_by(path):
+        if shown == name:
+            return followed(crate, words, place)
+    raise LookupError(f"{path}: there is no {name}")
+
+
+def followed(crate, words, place):
+    first, *rest = place.split("::")
+    if os.path.isdir(f"{TOP}/crates/{first}"):
+        return found(first, tuple(rest[:-1]), rest[-1])
+    return found(crate, (*words, first, *rest[:-1]), rest[-1])
+
+
+@functools.cache
+def item_at(crate, path, name):
+    item = source(path)[1][name]
+    if item.kind == "mod":
+        return module(crate, (name,))
+    return with_impls(item, crate) if item.kind in ("struct", "enum") else item
+
+
+@functools.cache
+def module(crate, words):
+    """A public module: its front doc, its constants, and the modules that it shows."""
+    path = module_file(crate, words)
+    front, items, _, _ = source(path)
+    item = Item("mod", words[-1], path, front, [f"pub mod {words[-1]}"])
+    item.members = [it for it in items.values() if it.kind in ("const", "fn")]
+    item.members += [renamed(item_of_place(crate, words, place), shown) for shown, place in shown_by(path)]
+    return item
+
+
+def renamed(item, name):
+    copy = Item(item.kind, name, item.source, item.docs, [f"pub mod {name}"])
+    copy.members = item.members
+    return copy
+
+
+def item_of_place(crate, words, place):
+    where, path = followed(crate, words, place)
+    return item_at(where, path, place.rsplit("::", 1)[-1])
+
+
+def items_of(crate):
+    """The items that a crate shows, in the order of its lib.rt."""
+    path = module_file(crate, ())
+    places = [(at.start(), at[1], None) for at in re.finditer(r"^pub mod (\w+);", read(path), re.M)]
+    names = [(read(path).index(place.rsplit("::", 1)[0]), shown, place) for shown, place in shown_by(path)]
+    for _, shown, place in sorted(places + names, key=lambda it: it[0]):
+        yield item_of_place(crate, (), place) if place else item_at(crate, path, shown)
+
+
+# ---- the definitions
+
+class Definition:
+    """A definition of a file of specs/, with the comment above it and its own text."""
+
+    def __init__(self, name, path, comment, text):
+        self.name, self.path, self.comment, self.text = name, path, comment, text
+
+
+@functools.cache
+def definitions(path):
+    """The definitions of a file of specs/ by their names, constructors among them, and what it takes from other files."""
+    if not os.path.isfile(f"{TOP}/{path}"):
+        return {}, {}
+    found, comment, text = {}, [], []
+    for line in [*read(path).splitlines(), ""]:
+        if text and (not line or line.startswith("--")):
+            add_definition(found, path, comment, text)
+            comment, text = [], []
+        if not line:
+            comment = []
+        elif line.startswith("--"):
+            comment.append(line[2:].strip())
+        elif text or DEFINITION.match(line):
+            text.append(line)
+    return found, imports(read(path))
+
+
+def add_definition(found, path, comment, text):
+    match = DEFINITION.match(text[0])
+    said = " ".join(it for it in comment if not it.startswith("--"))
+    it = Definition(match[1] or match[2], path, said, "\n".join(text))
+    found[it.name] = it
+    if " data " in f" {text[0]}":
+        found.update({name: it for name in re.findall(r"^  (?:pub )?([^\s(:]+) :", it.text, re.M)})
+
+
+def definition(place, name):
+    """The definition that a name of a path of the logic stands for; None where it is none of the repository's specs/."""
+    crate, _, rest = place.partition(".specs.")
+    found, uses = definitions(f"crates/{crate}/specs/{rest.replace('.', '/')}.antt")
+    if name in found:
+        return found[name]
+    return definition(*uses[name]) if name in uses else None
