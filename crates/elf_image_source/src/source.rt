@@ -19,15 +19,15 @@ pub trait Source {
     // Whether a call has failed.
     ghost failed: { Self → Bool };
 
-    /// How many bytes there are. [`Failed`] sets the flag, and so tells that this call failed.
+    /// How many bytes there are. [`Failed`] where the call fails, which sets the flag.
     fn length(&mut self) -> Result<u64, Failed>
         ensures kept { content self.new ≡ content self.old }
         ensures flag { Flags (failed self.old) (failed self.new) result }
         ensures length { SaysLength (content self.old) result };
 
     /// Reads bytes from offset `at` on to the front of `buf`, and answers how many. They may be fewer than `buf` has room for, but 0
-    /// only where no byte stands at the offset, or `buf` is empty. [`Failed`] as of [`length`](Source::length); what `buf` then has is
-    /// not said.
+    /// only where no byte stands at the offset, or `buf` is empty. [`Failed`] where the call fails, which sets the flag; `buf` may
+    /// have changed then.
     fn read_at(&mut self, at: u64, buf: &mut [u8]) -> Result<usize, Failed>
         ensures kept { content self.new ≡ content self.old }
         ensures flag { Flags (failed self.old) (failed self.new) result }

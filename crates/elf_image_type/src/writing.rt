@@ -11,7 +11,7 @@ use elf_image_stream::output::{write_records, write_whole, write_zeros};
 use std::io::Write;
 
 /// Writes the bytes that stand for the image: exactly these, or exactly their first `written` and a
-/// fault.
+/// [`WriteFault`].
 ///
 /// Any error of the writer, an interruption too, is the fault, and so is a write that takes 0 bytes of
 /// a rest that is not empty. Contents and gaps are offered whole. Nothing is flushed, and no memory is
