@@ -111,7 +111,7 @@ def members_of(text, source, is_trait, uses):
     lines = inside(text)
     uses = {**uses, **imports("\n".join(lines))}
     for docs, _, part in blocks(lines):
-        match = re.match(r"(pub )?(fn|const) (\w+)", part[0].strip())
+        match = re.match(r"(pub )?(fn|const|type) (\w+)", part[0].strip())
         if not match or not (match[1] or is_trait):
             continue
         item = Item(match[2], match[3], source, docs, [])
@@ -199,13 +199,12 @@ def with_impls(item, crate):
 # ---- what a crate shows
 
 def shown_by(path):
-    """What a file shows of others by `pub use`: each name with the path that it is under, and the name there."""
-    for where, names, alone in re.findall(r"^pub use (?:([\w:]+)::\{([^}]*)\}|([\w:]+(?: as \w+)?));", read(path), re.M):
-        for word in names.split(",") if names else [alone]:
-            whole = f"{where}::{word.strip()}" if where else word
-            if word.strip():
-                place, _, alias = whole.partition(" as ")
-                yield alias or place.rsplit("::", 1)[-1], place
+    """What a file shows of others by `pub use`: each name with its path, and in front the offset of the line."""
+    for line in re.finditer(r"^pub use (?:([\w:]+)::\{([^}]*)\}|([\w:]+(?: as \w+)?));", read(path), re.M):
+        for word in (line[2] or line[3]).split(","):
+            place, _, alias = word.strip().partition(" as ")
+            if place:
+                yield line.start(), alias or place.rsplit("::", 1)[-1], f"{line[1]}::{place}" if line[1] else place
 
 
 def module_file(crate, words):
@@ -219,7 +218,7 @@ def found(crate, words, name):
     path = module_file(crate, words)
     if name in source(path)[1]:
         return crate, path
-    for shown, place in shown_by(path):
+    for _, shown, place in shown_by(path):
         if shown == name:
             return followed(crate, words, place)
     raise LookupError(f"{path}: there is no {name}")
@@ -247,7 +246,7 @@ def module(crate, words):
     front, items, _, _ = source(path)
     item = Item("mod", words[-1], path, front, [f"pub mod {words[-1]}"])
     item.members = [it for it in items.values() if it.kind in ("const", "fn")]
-    item.members += [renamed(item_of_place(crate, words, place), shown) for shown, place in shown_by(path)]
+    item.members += [renamed(item_of_place(crate, words, place), shown) for _, shown, place in shown_by(path)]
     return item
 
 
@@ -265,9 +264,8 @@ def item_of_place(crate, words, place):
 def items_of(crate):
     """The items that a crate shows, in the order of its lib.rt."""
     path = module_file(crate, ())
-    places = [(at.start(), at[1], None) for at in re.finditer(r"^pub mod (\w+);", read(path), re.M)]
-    names = [(read(path).index(place.rsplit("::", 1)[0]), shown, place) for shown, place in shown_by(path)]
-    for _, shown, place in sorted(places + names, key=lambda it: it[0]):
+    modules = [(line.start(), line[1], None) for line in re.finditer(r"^pub mod (\w+);", read(path), re.M)]
+    for _, shown, place in sorted([*modules, *shown_by(path)], key=lambda it: it[0]):
         yield item_of_place(crate, (), place) if place else item_at(crate, path, shown)
 
 

@@ -49,7 +49,7 @@ impl<'a> Dynamic<'a> {
         Ok(Dynamic::of_sound(image, i))
     }
 
-    /// The dynamic array in section `i`, which breaks no rule.
+    /// The dynamic array in section `i`, which breaks no rule. Linear in the entries; it takes no memory.
     pub fn of_sound(image: &Image<'a>, i: usize) -> Dynamic<'a>
         requires there { i < length image.now.sections }
         requires sound { FirstIn (dynamic_section_rules (sections_of image.now) i) None }

@@ -26,7 +26,8 @@ use std::io::{Read, Write};
 ///
 /// Nothing is out after [`ToolFault::Read`], which carries how many bytes the reader that failed had given, and
 /// [`ToolFault::OutOfMemory`]; after [`ToolFault::Write`] exactly the first `written` bytes of the executable are. All files are held in
-/// memory, their objects, the link map, and a copy of each live section with bits.
+/// memory, their objects, the link map, and a copy of each live section with bits; the time is at most that of `object_of` for each file,
+/// and of `map`, `relocate` and `write_exec` of the library.
 pub fn link<R: Read, W: Write>(
     alloc: Global,
     readers: &mut [R],

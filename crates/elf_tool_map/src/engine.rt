@@ -30,7 +30,8 @@ use std::io::{Read, Write};
 /// The verdict is what the text says. Nothing is out after [`ToolFault::Read`], which carries how many bytes the reader that
 /// failed had given, and [`ToolFault::OutOfMemory`]; after [`ToolFault::Write`] exactly the first `written` bytes of the text are.
 /// All files are held in memory, their objects, the link map and its lines, and with relocation rules a copy of each live section
-/// with bits; the lines of the relocated bytes are made as they go out.
+/// with bits; the lines of the relocated bytes are made as they go out. The time is at most that of `object_of` for each file, of `map` and
+/// `relocate` of the library, and of the text.
 pub fn map<R: Read, W: Write>(
     alloc: Global,
     readers: &mut [R],

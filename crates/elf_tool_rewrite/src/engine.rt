@@ -18,7 +18,7 @@ use std::io::{Read, Write};
 /// Where the file is refused nothing is written: the verdict carries the first rule that it breaks, as an image or, with a number
 /// from 40 on, as an object, and its lowest offset; or that the canonical layout is longer than 2^30 bytes. Nothing is out after
 /// [`ToolFault::Read`], where a read failed, and [`ToolFault::OutOfMemory`]; after [`ToolFault::Write`] exactly the first `written` bytes
-/// are. The file is held in memory, its object, and the string tables of the layout.
+/// are. The file is held in memory, its object, and the string tables of the layout; the time is that of `object_of` and `write_object`.
 pub fn rewrite<R: Read, W: Write>(
     alloc: Global,
     reader: &mut R,
