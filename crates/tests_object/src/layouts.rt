@@ -102,6 +102,7 @@ fn too_long(rt: HostRuntime) -> Result<(), Fail> {
 /// 2^30 bytes; the last of them is aligned to 4,096 and has so many bytes. One of them is `.text`, and one is `.rela.text`.
 fn length(alloc: Global, last: &[u8]) -> Result<Result<u64, LayoutFault>, Fail> {
     let mut sections = Vec::new(alloc);
+    let mut align = 1 << 29;
     for k in 0..18 {
         sections.push(Section {
             name: match k {
@@ -111,12 +112,13 @@ fn length(alloc: Global, last: &[u8]) -> Result<Result<u64, LayoutFault>, Fail> 
             },
             flags: 6,
             addr: 0,
-            align: 1 << (29 - k),
+            align,
             entsize: 0,
             link: None,
             info: Info::Number(0),
             body: Body::Bits(1, if k == 17 { last } else { b"\xc3" }),
         })?;
+        align /= 2;
     }
     let parts = ObjectParts {
         order: Order::Little,
