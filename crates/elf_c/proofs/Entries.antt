@@ -1,10 +1,10 @@
 -- The entries of a file's tables, by its numbers.
-use Rattle.std.proofs.Common.{◌≡◌, ◌<◌, ◌+◌, ◌*◌, ℕ, List, length, ap, refl, arith, subst, sym, ◌∙◌}
+use Rattle.std.proofs.Common.{◌≡◌, ◌<◌, ◌+◌, ◌*◌, ℕ, List, length, ap, refl, arith, subst, sym}
 use Rattle.elf_field.specs.Abi.{PHDR_SIZE, SHDR_SIZE}
 use Rattle.elf_field.specs.Phdr.{phdr_at}
 use Rattle.elf_field.specs.Shdr.{shdr_at}
 use Rattle.elf_field.specs.declared.shdr.Shdr.{Shdr}
-use Rattle.elf_image_rules.specs.Tables.{file_counts, header, order_of, phdr_offset, sections, segments, shdr_offset}
+use Rattle.elf_image_rules.specs.Tables.{file_counts, header, order_of, sections, segments}
 use Rattle.elf_image_rules.specs.ImageRules.{KeepsRecordRules}
 use Rattle.elf_image_rules.proofs.Public.{sections_read_at, sections_there, sound_file, table_some}
 use Rattle.elf_c.specs.declared.shapes.File.{File}

@@ -1,3 +1,4 @@
 mod Entries
+mod RuleNumbers
 mod SectionNames
 mod StringPlaces

@@ -1,13 +1,12 @@
 -- The names of a file's sections, by its numbers.
-use Rattle.std.proofs.Common.{◌≡◌, ◌≢◌, ◌<◌, ◌==◌, ℕ, List, [], ap, inl, inr, refl, subst, sym, ◌∙◌}
-use Rattle.std.specs.Prelude.{if◌then◌else◌}
+use Rattle.std.proofs.Common.{◌≡◌, ◌≢◌, ◌<◌, ℕ, List, [], ap, inl, inr, refl, subst, sym, ◌∙◌}
 use Rattle.std.proofs.lemmas.Bool.{cases_eq, ne_eqb}
 use Rattle.elf_field.specs.declared.shdr.Shdr.{Shdr}
 use Rattle.elf_image_rules.specs.Tables.{bytes_in, content_extent, file_counts, header, name_table, names, names_at, sections}
 use Rattle.elf_image_rules.proofs.Public.{name_table_below, sound_file}
 use Rattle.elf_image_type.specs.Strings.{string}
 use Rattle.elf_c.specs.declared.shapes.File.{File}
-use Rattle.elf_c.specs.Files.{IsFileOf, file_in, name_of_section}
+use Rattle.elf_c.specs.Files.{IsFileOf, name_of_section}
 use Rattle.elf_c.proofs.StringPlaces.{empty_string}
 
 -- a section header of type NULL has no name

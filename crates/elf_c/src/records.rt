@@ -10,7 +10,12 @@ use crate::shapes::{File, Section, Segment};
 
 /// Section header `index` of the file; false where there is none of this index.
 #[unsafe(no_mangle)]
-pub extern "C" fn elfmap_section(file: &File, bytes: &[u8], index: u64, section: &mut Section) -> bool
+pub extern "C" fn elfmap_section(
+    file: &File,
+    bytes: &[u8],
+    index: u64,
+    section: &mut Section,
+) -> bool
     ensures there { IsFileOf file.now bytes.now → IsTrue result ↔ (index < (file_counts bytes.now).sections) }
     ensures value { IsFileOf file.now bytes.now →
         OnTrue result (section.new ≡ section_shape (sections bytes.now (header bytes.now) index)) }
@@ -27,7 +32,12 @@ pub extern "C" fn elfmap_section(file: &File, bytes: &[u8], index: u64, section:
 
 /// Program header `index` of the file; false where there is none of this index.
 #[unsafe(no_mangle)]
-pub extern "C" fn elfmap_segment(file: &File, bytes: &[u8], index: u64, segment: &mut Segment) -> bool
+pub extern "C" fn elfmap_segment(
+    file: &File,
+    bytes: &[u8],
+    index: u64,
+    segment: &mut Segment,
+) -> bool
     ensures there { IsFileOf file.now bytes.now → IsTrue result ↔ (index < (file_counts bytes.now).segments) }
     ensures value { IsFileOf file.now bytes.now →
         OnTrue result (segment.new ≡ segment_shape (segments bytes.now (header bytes.now) index)) }

@@ -1,6 +1,5 @@
-use Rattle.std.proofs.Common.{◌≡◌, ◌≢◌, ◌<◌, ◌↔◌, ℕ, List, None, Option, ap, arith, false, refl, subst, sym, ◌∙◌}
-use Rattle.std.specs.Prelude.{IsSome, IsTrue}
-use Rattle.elf_image_rules.specs.Tables.{file_counts}
+use Rattle.std.proofs.Common.{◌≡◌, ◌↔◌, None, Option, subst, sym, ◌∙◌}
+use Rattle.std.specs.Prelude.{IsSome}
 use Rattle.elf_c_room.specs.declared.room.Slot.{Slot}
 use Rattle.elf_c.proofs.Entries.{section_at, section_below}
 use Rattle.elf_c.proofs.SectionNames.{name_in_table, name_of_null, name_without_table, table_below}
@@ -44,4 +43,4 @@ returns-clause-value c is =
     let table = section_at f b f.name_table is (table_below f b is c.if-file-eq0.false) in
     c.place_of_string.ensures.value
     ∙ name_in_table f b i c.in_ok-section.section c.in_ok-table.table is (c.in_ok-section.ensures.1 ∙ (section_at f b i is below).read)
-      (c.in_ok-table.ensures.1 ∙ table.read) c.if-section-eq-SHT_NULL.false c.if-file-eq0.false
+    (c.in_ok-table.ensures.1 ∙ table.read) c.if-section-eq-SHT_NULL.false c.if-file-eq0.false

@@ -1,7 +1,3 @@
-use Rattle.std.proofs.Common.{ℕ, ◌≡◌, ◌<◌, List, subst, sym}
-use Rattle.elf_extent.specs.declared.extent.Extent.{Extent}
-use Rattle.elf_extent.specs.Extent.{Doubly}
-use Rattle.elf_extent.specs.Least.{IsLowest}
 use Rattle.elf_image_rules.specs.ImageRules.{extents_of_file}
 use Rattle.elf_image_rules.specs.JudgedRecords.{file_of}
 use Rattle.elf_c_room.proofs.Holders.{held_nonempty, lowest_held}

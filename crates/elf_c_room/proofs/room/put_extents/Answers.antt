@@ -1,10 +1,9 @@
-use Rattle.std.proofs.Common.{ℕ, ◌≡◌, ◌≤◌, ◌<◌, ◌+◌, List, ap, arith, filter, length, map, refl, subst, sym, take, ◌∙◌}
+use Rattle.std.proofs.Common.{◌≤◌, ◌<◌, ap, arith, filter, length, refl, sym, ◌∙◌}
 use Rattle.std.proofs.lemmas.List.{take_all}
 use Rattle.elf_extent.specs.Extent.{holds_any}
 use Rattle.elf_image_rules.specs.ImageRules.{extents_of_file}
 use Rattle.elf_image_rules.specs.JudgedRecords.{file_of}
 use Rattle.elf_c_room.specs.declared.room.Slot.{Slot}
-use Rattle.elf_c_room.specs.Room.{extent_in}
 use Rattle.elf_c_room.proofs.Slots.{gathered_none, gathered_one}
 use Rattle.elf_c_room.proofs.room.put_extents.Goals as goal
 use Rattle.elf_c_room.proofs.room.put_extents.Goals.{then-extent-gt0, else-extent-gt0}

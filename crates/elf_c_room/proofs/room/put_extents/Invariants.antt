@@ -1,4 +1,4 @@
-use Rattle.std.proofs.Common.{◌≡◌, ◌≤◌, filter, length, map, take}
+use Rattle.std.proofs.Common.{◌≡◌, ◌≤◌, filter, map, take}
 use Rattle.elf_extent.specs.Extent.{holds_any}
 use Rattle.elf_image_rules.specs.ImageRules.{extents_of_file}
 use Rattle.elf_image_rules.specs.JudgedRecords.{file_of}
