@@ -12,7 +12,7 @@ use elf_extent::{Extent, Row, sweep};
 use elf_image_rules::rules::SHARED_BYTE;
 use elf_image_rules::{JudgedRecords, judge_records};
 
-/// A slot of a room: an extent of a file, as C knows it.
+/// `struct elfmap_extent`: a slot of a room, which holds an extent of a file.
 #[repr(C)]
 #[derive(Clone, Copy, PartialEq, Eq, Debug)]
 pub struct Slot {
