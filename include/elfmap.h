@@ -1,5 +1,5 @@
 /*
- * elfmap for C: whether an ELF-64 file is sound, and if it isn't, the first rule that it breaks and where; and the records of a file that is.
+ * elfmap for C: whether an ELF-64 file is sound, and if it isn't, the first rule that it breaks and where; and the records of one that is.
  *
  * The library is the archive libelf_c.a: cc -std=c99 program.c -I include crates/elf_c/out/libelf_c.a. It needs nothing, not even the C
  * library. It takes no memory, keeps no state between two calls and has no variable of its own, so that each call may be made from any
@@ -106,9 +106,9 @@ struct elfmap_segment {
 /* ---- The verdict. It never changes the bytes. */
 
 /*
- * True exactly where the file keeps all 33 rules; `fault` is unchanged then. Else false, and `fault` is the first rule broken and the lowest
- * offset at which it is. Where the contents of sections don't stand in the order of their headers it compares every two of them, which takes
- * the square of their number: elfmap_verdict_in does not.
+ * True exactly where the file keeps all 33 rules; `fault` is unchanged then. Else false, and `fault` is the first rule broken and the
+ * lowest offset at which it is. Where the contents of sections don't stand in the order of their headers it compares every two of them,
+ * which takes the square of their number: elfmap_verdict_in does not.
  */
 bool elfmap_verdict(const uint8_t *bytes, size_t len, struct elfmap_fault *fault);
 
@@ -121,8 +121,8 @@ bool elfmap_verdict(const uint8_t *bytes, size_t len, struct elfmap_fault *fault
 bool elfmap_verdict_in(const uint8_t *bytes, size_t len, struct elfmap_extent *room, size_t count, struct elfmap_fault *fault);
 
 /*
- * ---- The records. Each call answers true and fills in its last argument, or false, and leaves it as it was; none of them changes the bytes
- * or the file, and each takes a time that does not grow with the file, but for the length of a name.
+ * ---- The records. Each call answers true and fills in its last argument, or false, and leaves it as it was; none of them changes the
+ * bytes or the file, and each takes a time that does not grow with the file, but for the length of a name.
  *
  * They don't judge: of bytes that break a rule they tell what stands where the header says, if it lies in the file. `file` is to be what
  * elfmap_file made of the same bytes. With any other numbers in it, or of other bytes, the answer says nothing, and yet no call reads
@@ -145,8 +145,8 @@ bool elfmap_section(const struct elfmap_file *file, const uint8_t *bytes, size_t
 bool elfmap_segment(const struct elfmap_file *file, const uint8_t *bytes, size_t len, uint64_t index, struct elfmap_segment *segment);
 
 /*
- * Where the name of section `index` stands, without its closing zero: it always lies in the bytes. It is empty, and both numbers are 0, for a
- * section header of type SHT_NULL (0), for a name without a letter, and where there is no section name string table or an empty one. Of a
+ * Where the name of section `index` stands, without its closing zero: it always lies in the bytes. Both numbers are 0 where the name has no
+ * bytes, as that of a section header of type SHT_NULL (0), or of any one where there is no section name string table or an empty one. Of a
  * file that keeps rules 1 to 32 it is true exactly where `index` is below `file->sections`.
  */
 bool elfmap_name(const struct elfmap_file *file, const uint8_t *bytes, size_t len, uint64_t index, struct elfmap_extent *name);
