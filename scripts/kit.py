@@ -25,6 +25,14 @@ def libraries():
     return {name.strip().split()[0]: rest.split() for name, _, rest in lines if name.strip()}
 
 
+@functools.cache
+def static_libraries():
+    """The crates that crates.txt makes archives for C."""
+    with open(f"{TOP}/crates.txt", encoding="utf-8") as it:
+        heads = [line.split("#")[0].partition(":")[0].split() for line in it]
+    return {head[0] for head in heads if "staticlib" in head[1:]}
+
+
 def deps(name):
     """The crates of the repository that this one names."""
     return [it for it in libraries()[name] if it in libraries()]
@@ -102,4 +110,6 @@ def words(crate, root, folder_of):
     for folder in dict.fromkeys([f"{kit()}/rlibs", *rlibs.values()]):
         found += ["-L", f"dependency={folder}"]
     found += ["--antt-project", f"{kit()}/rattle/logic/antt-project.json"]
+    if crate in static_libraries():
+        found += ["--crate-type", "staticlib"]
     return [*found, "--logic-built", f"{kit()}/logic_built", "--links", f"{crate}="]

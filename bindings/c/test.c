@@ -1,0 +1,371 @@
+/*
+ * Tests of the library for C.
+ *
+ *   test            checks every export on bytes that stand here; the last line is 'N passed, M failed'
+ *   test FILE..     prints what the library tells of each file, for scripts/c-library to compare with the second judge
+ *
+ * The bytes of a file stand between two pages that can't be read, so that a read before or behind them ends the program.
+ */
+#define _DEFAULT_SOURCE
+#include "elfmap.h"
+#include <inttypes.h>
+#include <stdio.h>
+#include <stdlib.h>
+#include <string.h>
+#include <sys/mman.h>
+#include <time.h>
+#include <unistd.h>
+
+enum { HEADER_SIZE = 64, SECTION_SIZE = 64, SEGMENT_SIZE = 56 };
+
+static int passed, failed;
+
+static void check(bool holds, const char *what) {
+    if (holds) {
+        passed++;
+    } else {
+        failed++;
+        printf("test: %s\n", what);
+    }
+}
+
+static void stop(const char *why) {
+    perror(why);
+    exit(2);
+}
+
+/* ---- Bytes between two pages that can't be read. */
+
+struct guarded {
+    uint8_t *pages; /* the first page, which can't be read */
+    size_t size;    /* of all pages */
+    uint8_t *bytes;
+    size_t len;
+};
+
+/* Bytes that end where a page ends that can't be read begins, or that begin where one ends. */
+static struct guarded guarded_bytes(const uint8_t *from, size_t len, bool at_end) {
+    size_t page = (size_t) sysconf(_SC_PAGESIZE);
+    size_t room = (len + page - 1) / page * page + page;
+    struct guarded it = {NULL, room + 2 * page, NULL, len};
+    it.pages = mmap(NULL, it.size, PROT_NONE, MAP_PRIVATE | MAP_ANONYMOUS, -1, 0);
+    if (it.pages == MAP_FAILED || mprotect(it.pages + page, room, PROT_READ | PROT_WRITE) != 0)
+        stop("mmap");
+    it.bytes = it.pages + page + (at_end ? room - len : 0);
+    memcpy(it.bytes, from, len);
+    if (mprotect(it.pages + page, room, PROT_READ) != 0)
+        stop("mprotect");
+    return it;
+}
+
+static void give_back(struct guarded it) {
+    munmap(it.pages, it.size);
+}
+
+/* ---- Made files. */
+
+static void put(uint8_t *at, int width, uint64_t value, bool is_big) {
+    for (int i = 0; i < width; i++)
+        at[is_big ? width - 1 - i : i] = (uint8_t) (value >> (8 * i));
+}
+
+/* The header of a file with so many section headers at this offset. */
+static void put_header(uint8_t *bytes, uint64_t e_shoff, uint64_t sections, uint64_t name_table, bool is_big) {
+    const uint8_t ident[] = {0x7f, 'E', 'L', 'F', 2, is_big ? 2 : 1, 1};
+    memcpy(bytes, ident, sizeof ident);
+    put(bytes + 16, 2, 1, is_big);
+    put(bytes + 18, 2, 62, is_big);
+    put(bytes + 20, 4, 1, is_big);
+    put(bytes + 40, 8, e_shoff, is_big);
+    put(bytes + 52, 2, HEADER_SIZE, is_big);
+    put(bytes + 58, 2, e_shoff ? SECTION_SIZE : 0, is_big);
+    put(bytes + 60, 2, sections, is_big);
+    put(bytes + 62, 2, name_table, is_big);
+}
+
+static void put_section(uint8_t *at, uint32_t name, uint32_t type, uint64_t offset, uint64_t size, bool is_big) {
+    put(at, 4, name, is_big);
+    put(at + 4, 4, type, is_big);
+    put(at + 24, 8, offset, is_big);
+    put(at + 32, 8, size, is_big);
+}
+
+/* Four bytes at 64, the names at 68, and from 88 on three section headers: NULL, `.data` and `.shstrtab`. */
+enum { SMALL_SIZE = 88 + 3 * SECTION_SIZE, SMALL_SECTIONS = 3, SMALL_WANTED = 3 + SMALL_SECTIONS };
+static const char small_names[] = "\0.data\0.shstrtab";
+
+static void make_small(uint8_t *bytes, bool is_big) {
+    memset(bytes, 0, SMALL_SIZE);
+    put_header(bytes, 88, SMALL_SECTIONS, 2, is_big);
+    memcpy(bytes + 68, small_names, sizeof small_names);
+    put_section(bytes + 88 + SECTION_SIZE, 1, 1, 64, 4, is_big);
+    put_section(bytes + 88 + 2 * SECTION_SIZE, 7, 3, 68, sizeof small_names, is_big);
+}
+
+/* ---- Checks. */
+
+static bool is_fault(struct elfmap_fault fault, unsigned rule, uint64_t at) {
+    return fault.rule == rule && fault.at == at;
+}
+
+/* Both verdicts refuse the bytes by this rule at this offset, and accept them where the rule is 0. */
+static void check_verdicts(const uint8_t *from, size_t len, unsigned rule, uint64_t at, const char *what) {
+    struct guarded it = guarded_bytes(from, len, true);
+    struct elfmap_extent room[SMALL_WANTED];
+    struct elfmap_fault fault = {77, 88}, fault_in = {77, 88};
+    bool kept = elfmap_verdict(it.bytes, it.len, &fault);
+    bool kept_in = elfmap_verdict_in(it.bytes, it.len, room, SMALL_WANTED, &fault_in);
+    check(kept == (rule == 0) && (kept ? is_fault(fault, 88, 77) : is_fault(fault, rule, at)), what);
+    check(kept_in == kept && is_fault(fault_in, fault.rule, fault.at), what);
+    give_back(it);
+}
+
+static void check_refusals(void) {
+    uint8_t bytes[SMALL_SIZE];
+    make_small(bytes, false);
+    check_verdicts(bytes, SMALL_SIZE, 0, 0, "a small file is accepted");
+    check_verdicts(bytes, 0, 2, 0, "no bytes are too short");
+    check_verdicts(bytes, 63, 2, 63, "63 bytes are too short");
+    check_verdicts(bytes, SMALL_SIZE - 1, 15, 40, "a section table passes the end");
+    bytes[3] = 'G';
+    check_verdicts(bytes, SMALL_SIZE, 3, 3, "the magic number is wrong");
+    make_small(bytes, true);
+    check_verdicts(bytes, SMALL_SIZE, 0, 0, "a small file in the other order is accepted");
+    put(bytes + 88 + SECTION_SIZE + 32, 8, 5, true);
+    check_verdicts(bytes, SMALL_SIZE, 33, 68, "a byte lies in two contents");
+    put(bytes + 88 + SECTION_SIZE + 24, 8, 63, true);
+    put(bytes + 88 + SECTION_SIZE + 32, 8, 1, true);
+    check_verdicts(bytes, SMALL_SIZE, 33, 63, "a byte lies in the header and a content");
+    put(bytes + 88 + SECTION_SIZE, 4, sizeof small_names, true);
+    check_verdicts(bytes, SMALL_SIZE, 32, 152, "a name passes the end of the table");
+}
+
+/* A room of which each extent but the first `count` must stay as it is. */
+static void check_rooms(void) {
+    uint8_t bytes[SMALL_SIZE];
+    struct elfmap_extent room[SMALL_WANTED + 1];
+    struct elfmap_fault fault;
+    make_small(bytes, false);
+    for (size_t count = 0; count < SMALL_WANTED; count++) {
+        check(!elfmap_verdict_in(bytes, SMALL_SIZE, room, count, &fault) && is_fault(fault, ELFMAP_SHORT_ROOM, SMALL_WANTED),
+              "a room that is too small says how many extents are wanted");
+    }
+    room[SMALL_WANTED].start = 5;
+    room[SMALL_WANTED].len = 6;
+    check(elfmap_verdict_in(bytes, SMALL_SIZE, room, SMALL_WANTED, &fault), "a room that is large enough suffices");
+    check(room[SMALL_WANTED].start == 5 && room[SMALL_WANTED].len == 6, "nothing is written behind the room");
+    check(elfmap_verdict_in(bytes, SMALL_SIZE, room, SMALL_WANTED + 1, &fault), "a larger room does too");
+    put(bytes + 88 + SECTION_SIZE + 32, 8, 5, false);
+    check(!elfmap_verdict_in(bytes, SMALL_SIZE, room, SMALL_WANTED - 1, &fault) && is_fault(fault, ELFMAP_SHORT_ROOM, SMALL_WANTED),
+          "a room that is too small finds no shared byte");
+    put(bytes + 20, 4, 2, false);
+    check(!elfmap_verdict_in(bytes, SMALL_SIZE, room, 0, &fault) && is_fault(fault, 7, 20), "other rules want no room");
+}
+
+static void check_records(bool is_big) {
+    uint8_t made[SMALL_SIZE];
+    struct elfmap_file file;
+    struct elfmap_header header;
+    struct elfmap_section section;
+    struct elfmap_extent name;
+    make_small(made, is_big);
+    struct guarded it = guarded_bytes(made, SMALL_SIZE, true);
+    check(elfmap_file(it.bytes, it.len, &file), "the numbers of a small file are told");
+    check(file.e_phoff == 0 && file.e_shoff == 88 && file.sections == 3 && file.segments == 0 && file.name_table == 2
+              && file.ei_data == (is_big ? 2 : 1), "they are right");
+    check(elfmap_header(it.bytes, it.len, &header) && memcmp(header.e_ident, it.bytes, 16) == 0 && header.e_machine == 62
+              && header.e_version == 1 && header.e_shnum == 3, "the header is right");
+    check(elfmap_section(&file, it.bytes, it.len, 1, &section) && section.sh_name == 1 && section.sh_type == 1
+              && section.sh_offset == 64 && section.sh_size == 4, "section header 1 is right");
+    check(elfmap_name(&file, it.bytes, it.len, 0, &name) && name.start == 0 && name.len == 0, "section 0 has no name");
+    check(elfmap_name(&file, it.bytes, it.len, 1, &name) && name.start == 69 && name.len == 5, "section 1 has its name");
+    check(elfmap_name(&file, it.bytes, it.len, 2, &name) && name.start == 75 && name.len == 9, "section 2 has its name");
+    give_back(it);
+}
+
+/* What is out of range is refused, and what was to be filled in stays as it was. */
+static void check_unchanged(void) {
+    uint8_t bytes[SMALL_SIZE];
+    struct elfmap_file file, other;
+    struct elfmap_header header, header_before;
+    struct elfmap_section section, section_before;
+    struct elfmap_segment segment, segment_before;
+    struct elfmap_extent name = {7, 8};
+    make_small(bytes, false);
+    memset(&header, 0x5a, sizeof header);
+    memset(&section, 0x5a, sizeof section);
+    memset(&segment, 0x5a, sizeof segment);
+    header_before = header;
+    section_before = section;
+    segment_before = segment;
+    check(elfmap_file(bytes, SMALL_SIZE, &file), "the numbers of a small file are told");
+    memset(&other, 0x5a, sizeof other);
+    check(!elfmap_file(bytes, 63, &other) && other.sections == UINT64_C(0x5a5a5a5a5a5a5a5a), "63 bytes have no numbers");
+    check(!elfmap_file(bytes, 88 + 63, &other) && other.ei_data == 0x5a, "without section header 0 there are none");
+    check(!elfmap_header(bytes, 63, &header) && memcmp(&header, &header_before, sizeof header) == 0, "63 bytes have no header");
+    for (int k = 0; k < 2; k++) {
+        uint64_t index = k == 0 ? 3 : UINT64_MAX;
+        check(!elfmap_section(&file, bytes, SMALL_SIZE, index, &section)
+                  && memcmp(&section, &section_before, sizeof section) == 0, "there is no such section");
+        check(!elfmap_name(&file, bytes, SMALL_SIZE, index, &name) && name.start == 7 && name.len == 8, "nor a name of it");
+        check(!elfmap_segment(&file, bytes, SMALL_SIZE, index - 3, &segment)
+                  && memcmp(&segment, &segment_before, sizeof segment) == 0, "there is no such segment");
+    }
+}
+
+/* With any numbers in place of a file's no call reads outside of the bytes, and a name lies in them. */
+static void check_any_numbers(void) {
+    const uint64_t numbers[] = {0, 1, 2, 3, 24, 63, 64, 65, 88, 216, 279, 280, 281, UINT64_C(1) << 32, UINT64_C(1) << 58,
+                                UINT64_MAX / 64, UINT64_MAX - 63, UINT64_MAX - 1, UINT64_MAX};
+    const size_t count = sizeof numbers / sizeof *numbers;
+    uint8_t made[SMALL_SIZE];
+    bool is_inside = true;
+    make_small(made, false);
+    for (int at_end = 0; at_end < 2; at_end++) {
+        struct guarded it = guarded_bytes(made, SMALL_SIZE, at_end);
+        for (size_t k = 0; k < count * count * count; k++) {
+            uint64_t table = numbers[k % count], index = numbers[k / count % count], name_table = numbers[k / count / count];
+            struct elfmap_file file = {table, table, UINT64_MAX, UINT64_MAX, name_table, (uint8_t) k};
+            struct elfmap_section section;
+            struct elfmap_segment segment;
+            struct elfmap_extent name;
+            elfmap_section(&file, it.bytes, it.len, index, &section);
+            elfmap_segment(&file, it.bytes, it.len, index, &segment);
+            if (elfmap_name(&file, it.bytes, it.len, index, &name))
+                is_inside = is_inside && name.start <= it.len && name.len <= it.len - name.start;
+        }
+        give_back(it);
+    }
+    check(is_inside, "each name lies in the bytes");
+}
+
+/* A file whose contents, of a byte each, stand in the opposite order of their headers is judged by a room in less than a second. */
+static void check_descending(void) {
+    const uint64_t sections = 200000;
+    const size_t len = HEADER_SIZE + sections + SECTION_SIZE * sections;
+    uint8_t *bytes = calloc(len, 1);
+    struct elfmap_extent *room = calloc(sections + 3, sizeof *room);
+    struct elfmap_fault fault;
+    if (!bytes || !room)
+        stop("calloc");
+    put_header(bytes, HEADER_SIZE + sections, 0, 0, false);
+    uint8_t *table = bytes + HEADER_SIZE + sections;
+    put(table + 32, 8, sections, false);
+    for (uint64_t i = 1; i < sections; i++)
+        put_section(table + SECTION_SIZE * i, 0, 1, HEADER_SIZE + sections - i, 1, false);
+    clock_t begun = clock();
+    check(elfmap_verdict_in(bytes, len, room, sections + 3, &fault), "contents in descending order are accepted");
+    put(table + SECTION_SIZE * 1000 + 24, 8, HEADER_SIZE + sections - 7, false);
+    check(!elfmap_verdict_in(bytes, len, room, sections + 3, &fault) && is_fault(fault, 33, HEADER_SIZE + sections - 7),
+          "and two of them at one byte are not");
+    check(clock() - begun < CLOCKS_PER_SEC, "that takes less than a second");
+    free(room);
+    free(bytes);
+}
+
+/* ---- What the library tells of a file. */
+
+static uint8_t *read_whole(const char *path, size_t *len) {
+    FILE *file = fopen(path, "rb");
+    if (!file || fseek(file, 0, SEEK_END) != 0)
+        stop(path);
+    long size = ftell(file);
+    uint8_t *bytes = malloc(size > 0 ? (size_t) size : 1);
+    rewind(file);
+    if (size < 0 || !bytes || fread(bytes, 1, (size_t) size, file) != (size_t) size)
+        stop(path);
+    fclose(file);
+    *len = (size_t) size;
+    return bytes;
+}
+
+static void tell_verdict(const char *how, bool is_kept, struct elfmap_fault fault) {
+    if (is_kept)
+        printf("%s kept\n", how);
+    else
+        printf("%s refused %u %" PRIu64 "\n", how, (unsigned) fault.rule, fault.at);
+}
+
+/* The verdict, and that by rooms: an empty one, one that is short by an extent, and one that is as large as is wanted. */
+static bool tell_verdicts(const uint8_t *bytes, size_t len) {
+    struct elfmap_fault fault = {0, 0}, short_fault = {0, 0}, fault_in = {0, 0};
+    struct elfmap_extent none;
+    bool is_kept = elfmap_verdict(bytes, len, &fault);
+    tell_verdict("verdict", is_kept, fault);
+    tell_verdict("in none", elfmap_verdict_in(bytes, len, &none, 0, &short_fault), short_fault);
+    if (short_fault.rule == ELFMAP_SHORT_ROOM) {
+        size_t wanted = (size_t) short_fault.at;
+        struct elfmap_extent *room = malloc(wanted * sizeof *room);
+        if (!room)
+            stop("malloc");
+        tell_verdict("in less", elfmap_verdict_in(bytes, len, room, wanted - 1, &short_fault), short_fault);
+        tell_verdict("in enough", elfmap_verdict_in(bytes, len, room, wanted, &fault_in), fault_in);
+        free(room);
+    }
+    return is_kept;
+}
+
+static void tell_header(const struct elfmap_file *file, const uint8_t *bytes, size_t len) {
+    struct elfmap_header h;
+    printf("file %" PRIu64 " %" PRIu64 " %" PRIu64 " %" PRIu64 " %" PRIu64 " %u\n", file->e_phoff, file->e_shoff, file->sections,
+           file->segments, file->name_table, (unsigned) file->ei_data);
+    if (!elfmap_header(bytes, len, &h))
+        return;
+    printf("header ");
+    for (int i = 0; i < 16; i++)
+        printf("%02x", (unsigned) h.e_ident[i]);
+    printf(" %u %u %" PRIu32 " %" PRIu64 " %" PRIu64 " %" PRIu64 " %" PRIu32 " %u %u %u %u %u %u\n", (unsigned) h.e_type,
+           (unsigned) h.e_machine, h.e_version, h.e_entry, h.e_phoff, h.e_shoff, h.e_flags, (unsigned) h.e_ehsize,
+           (unsigned) h.e_phentsize, (unsigned) h.e_phnum, (unsigned) h.e_shentsize, (unsigned) h.e_shnum, (unsigned) h.e_shstrndx);
+}
+
+static void tell_records(const struct elfmap_file *file, const uint8_t *bytes, size_t len) {
+    struct elfmap_section s;
+    struct elfmap_segment p;
+    struct elfmap_extent name;
+    for (uint64_t i = 0; elfmap_section(file, bytes, len, i, &s); i++) {
+        printf("section %" PRIu32 " %" PRIu32 " %" PRIu64 " %" PRIu64 " %" PRIu64 " %" PRIu64 " %" PRIu32 " %" PRIu32 " %" PRIu64
+               " %" PRIu64 " ", s.sh_name, s.sh_type, s.sh_flags, s.sh_addr, s.sh_offset, s.sh_size, s.sh_link, s.sh_info,
+               s.sh_addralign, s.sh_entsize);
+        if (elfmap_name(file, bytes, len, i, &name))
+            for (uint64_t k = 0; k < name.len; k++)
+                printf("%02x", (unsigned) bytes[name.start + k]);
+        printf("\n");
+    }
+    for (uint64_t j = 0; elfmap_segment(file, bytes, len, j, &p); j++)
+        printf("segment %" PRIu32 " %" PRIu32 " %" PRIu64 " %" PRIu64 " %" PRIu64 " %" PRIu64 " %" PRIu64 " %" PRIu64 "\n", p.p_type,
+               p.p_flags, p.p_offset, p.p_vaddr, p.p_paddr, p.p_filesz, p.p_memsz, p.p_align);
+}
+
+static void tell_file(const char *path) {
+    size_t len;
+    uint8_t *read = read_whole(path, &len);
+    struct elfmap_file file;
+    for (int at_end = 0; at_end < 2; at_end++) {
+        struct guarded it = guarded_bytes(read, len, at_end);
+        printf("-- %s\n", path);
+        bool is_kept = tell_verdicts(it.bytes, it.len);
+        if (elfmap_file(it.bytes, it.len, &file) && is_kept) {
+            tell_header(&file, it.bytes, it.len);
+            tell_records(&file, it.bytes, it.len);
+        }
+        give_back(it);
+    }
+    free(read);
+}
+
+int main(int count, char **words) {
+    for (int k = 1; k < count; k++)
+        tell_file(words[k]);
+    if (count > 1)
+        return 0;
+    check_refusals();
+    check_rooms();
+    check_records(false);
+    check_records(true);
+    check_unchanged();
+    check_any_numbers();
+    check_descending();
+    printf("%d passed, %d failed\n", passed, failed);
+    return failed == 0 ? 0 : 1;
+}

@@ -1,0 +1,4 @@
+mod Entries
+mod RuleNumbers
+mod SectionNames
+mod StringPlaces

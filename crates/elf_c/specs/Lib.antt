@@ -1,0 +1,3 @@
+pub mod Shapes
+pub mod Verdicts
+pub mod Files

@@ -1,0 +1,13 @@
+//! elfmap for C: the verdict on a file and accessors of its records, over bytes in memory. `include/elfmap.h` declares each export and
+//! says what a caller keeps.
+//!
+//! Nothing here takes memory or keeps a state between two calls. What an accessor needs of a file is a struct of numbers ([`File`]), which
+//! the caller holds: it may have any numbers, so each accessor tests what it reads against the length of the bytes.
+#![tactic(auto)]
+
+mod file;
+mod names;
+mod places;
+mod records;
+mod shapes;
+mod verdicts;

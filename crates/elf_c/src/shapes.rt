@@ -1,0 +1,146 @@
+//! The structs that C shares, by the names that the gABI gives their fields.
+ghost use Rattle.std.specs.Prelude.{◌≡◌};
+ghost use Rattle.elf_c.specs.Shapes.{header_shape, section_shape, segment_shape};
+
+use elf_field::abi::EI_NIDENT;
+use elf_field::{Ehdr, Phdr, Shdr};
+
+/// `struct elfmap_fault`: the first rule that a file breaks, and where.
+#[repr(C)]
+#[derive(Clone, Copy, Debug, PartialEq, Eq)]
+pub struct Fault {
+    /// The lowest offset at which the rule is broken, in bytes.
+    pub at: u64,
+    /// The number of the rule.
+    pub rule: u16,
+}
+
+/// `struct elfmap_file`: what the accessors need of a file.
+#[repr(C)]
+#[derive(Clone, Copy, Debug, PartialEq, Eq)]
+pub struct File {
+    /// The offset of the program header table in the file, in bytes; 0 for none.
+    pub e_phoff: u64,
+    /// The offset of the section header table in the file, in bytes; 0 for none.
+    pub e_shoff: u64,
+    /// How many section headers there are.
+    pub sections: u64,
+    /// How many program headers there are.
+    pub segments: u64,
+    /// The index of the section name string table, 0 for none.
+    pub name_table: u64,
+    /// The data encoding: identification byte `EI_DATA`, which is `ELFDATA2LSB` or `ELFDATA2MSB`.
+    pub ei_data: u8,
+}
+
+/// `struct elfmap_header`: the ELF header.
+#[repr(C)]
+#[derive(Clone, Copy, Debug, PartialEq, Eq)]
+pub struct Header {
+    pub e_ident: [u8; EI_NIDENT],
+    pub e_type: u16,
+    pub e_machine: u16,
+    pub e_version: u32,
+    pub e_entry: u64,
+    pub e_phoff: u64,
+    pub e_shoff: u64,
+    pub e_flags: u32,
+    pub e_ehsize: u16,
+    pub e_phentsize: u16,
+    pub e_phnum: u16,
+    pub e_shentsize: u16,
+    pub e_shnum: u16,
+    pub e_shstrndx: u16,
+}
+
+impl Header {
+    /// The header in the shape that C has.
+    pub(crate) fn new(header: &Ehdr) -> Header
+        ensures { result ≡ header_shape header.now }
+    {
+        Header {
+            e_ident: header.e_ident,
+            e_type: header.e_type,
+            e_machine: header.e_machine,
+            e_version: header.e_version,
+            e_entry: header.e_entry,
+            e_phoff: header.e_phoff,
+            e_shoff: header.e_shoff,
+            e_flags: header.e_flags,
+            e_ehsize: header.e_ehsize,
+            e_phentsize: header.e_phentsize,
+            e_phnum: header.e_phnum,
+            e_shentsize: header.e_shentsize,
+            e_shnum: header.e_shnum,
+            e_shstrndx: header.e_shstrndx,
+        }
+    }
+}
+
+/// `struct elfmap_section`: a section header.
+#[repr(C)]
+#[derive(Clone, Copy, Debug, PartialEq, Eq)]
+pub struct Section {
+    pub sh_name: u32,
+    pub sh_type: u32,
+    pub sh_flags: u64,
+    pub sh_addr: u64,
+    pub sh_offset: u64,
+    pub sh_size: u64,
+    pub sh_link: u32,
+    pub sh_info: u32,
+    pub sh_addralign: u64,
+    pub sh_entsize: u64,
+}
+
+impl Section {
+    /// The section header in the shape that C has.
+    pub(crate) fn new(entry: &Shdr) -> Section
+        ensures { result ≡ section_shape entry.now }
+    {
+        Section {
+            sh_name: entry.sh_name,
+            sh_type: entry.sh_type,
+            sh_flags: entry.sh_flags,
+            sh_addr: entry.sh_addr,
+            sh_offset: entry.sh_offset,
+            sh_size: entry.sh_size,
+            sh_link: entry.sh_link,
+            sh_info: entry.sh_info,
+            sh_addralign: entry.sh_addralign,
+            sh_entsize: entry.sh_entsize,
+        }
+    }
+}
+
+/// `struct elfmap_segment`: a program header.
+#[repr(C)]
+#[derive(Clone, Copy, Debug, PartialEq, Eq)]
+pub struct Segment {
+    pub p_type: u32,
+    pub p_flags: u32,
+    pub p_offset: u64,
+    pub p_vaddr: u64,
+    pub p_paddr: u64,
+    pub p_filesz: u64,
+    pub p_memsz: u64,
+    pub p_align: u64,
+}
+
+impl Segment {
+    /// The program header in the shape that C has.
+    pub(crate) fn new(entry: &Phdr) -> Segment
+        ensures { result ≡ segment_shape entry.now }
+    {
+        Segment {
+            p_type: entry.p_type,
+            p_flags: entry.p_flags,
+            p_offset: entry.p_offset,
+            p_vaddr: entry.p_vaddr,
+            p_paddr: entry.p_paddr,
+            p_filesz: entry.p_filesz,
+            p_memsz: entry.p_memsz,
+            p_align: entry.p_align,
+        }
+    }
+}

@@ -1,0 +1,2 @@
+mod Holders
+mod Slots

@@ -1,0 +1,55 @@
+use Rattle.std.proofs.Common.{◌≡◌, ℕ, ◌-◌, ◌*◌, Some, refl, sym, ap, ap₂, subst, ◌∙◌, arith}
+use Rattle.std.specs.List.{slice_get}
+use Rattle.elf_field.specs.Abi.{EHDR_SIZE, PHDR_SIZE, SHDR_SIZE}
+use Rattle.elf_extent.specs.declared.extent.Extent.{Extent}
+use Rattle.elf_field.specs.declared.ehdr.Ehdr.{Ehdr}
+use Rattle.elf_field.specs.declared.shdr.Shdr.{Shdr}
+use Rattle.elf_image_rules.specs.ImageRules.{extents_of_file}
+use Rattle.elf_image_rules.specs.OverlapRule.{extents}
+use Rattle.elf_image_rules.specs.JudgedRecords.{file_of}
+use Rattle.elf_image_rules.specs.Tables.{content_extent, file_counts, header, sections}
+use Rattle.elf_image_rules.proofs.Public.{length-extents, content_extent_at}
+use Rattle.elf_c_room.proofs.extents.extent_at.Goals as goal
+
+pub returns-in-0 : goal.returns-in-0
+unfolding extents
+returns-in-0 c =
+    let e : Extent = record { start = 0; len = EHDR_SIZE } in
+    subst (λ (i : ℕ). slice_get (extents_of_file (file_of c.args.records.now)) i ≡ Some e) (sym c.in-0.is) refl
+
+pub returns-in-1 : goal.returns-in-1
+unfolding extents
+returns-in-1 c =
+    let b = file_of c.args.records.now in
+    let e : Extent = record { start = c.header.result.e_shoff; len = SHDR_SIZE * c.section_count.result } in
+    let same : e ≡ record { start = (header b).e_shoff; len = SHDR_SIZE * (file_counts b).sections } =
+    ap₂ (λ (h : Ehdr) (n : ℕ). record { start = h.e_shoff; len = SHDR_SIZE * n }) c.header.ensures c.section_count.ensures.count in
+    subst (λ (i : ℕ). slice_get (extents_of_file (file_of c.args.records.now)) i ≡ Some e) (sym c.in-1.is) (ap Some (sym same))
+
+pub returns-in-2 : goal.returns-in-2
+unfolding extents
+returns-in-2 c =
+    let b = file_of c.args.records.now in
+    let e : Extent = record { start = c.header-in-2.result.e_phoff; len = PHDR_SIZE * c.segment_count.result } in
+    let same : e ≡ record { start = (header b).e_phoff; len = PHDR_SIZE * (file_counts b).segments } =
+    ap₂ (λ (h : Ehdr) (m : ℕ). record { start = h.e_phoff; len = PHDR_SIZE * m }) c.header-in-2.ensures c.segment_count.ensures.count in
+    subst (λ (i : ℕ). slice_get (extents_of_file (file_of c.args.records.now)) i ≡ Some e) (sym c.in-2.is) (ap Some (sym same))
+
+pub section-requires : goal.section-requires
+section-requires c =
+    let b = file_of c.args.records.now in
+    let n = file_counts b in
+    let long = length-extents (header b) n.sections n.segments (sections b (header b)) in
+    let within = c.requires in
+    omega arith
+
+pub returns-in_default : goal.returns-in_default
+returns-in_default c =
+    let b = file_of c.args.records.now in
+    let s = sections b (header b) in
+    let n = file_counts b in
+    let long = length-extents (header b) n.sections n.segments s in
+    let content = content_extent_at (header b) n.sections n.segments s c.args.index (omega arith) (omega arith) in
+    let read : content_extent (s (c.args.index - 3)) ≡ c.extent_of_content.result =
+    ap (λ (entry : Shdr). content_extent entry) (sym c.section.ensures) ∙ sym c.extent_of_content.ensures in
+    content ∙ ap Some read

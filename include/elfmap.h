@@ -1,0 +1,158 @@
+/*
+ * elfmap for C: whether an ELF-64 file is sound, and if it isn't, the first rule that it breaks and where; and the records of one that is.
+ *
+ * The library is the archive libelf_c.a: cc -std=c99 program.c -I include crates/elf_c/out/libelf_c.a. It needs nothing, not even the C
+ * library. It takes no memory, keeps no state between two calls and has no variable of its own, so that each call may be made from any
+ * thread, and from a signal handler, also while another one runs.
+ *
+ *     struct elfmap_fault fault;
+ *     struct elfmap_file file;
+ *     struct elfmap_section section;
+ *     if (!elfmap_verdict(bytes, len, &fault))
+ *         printf("refused %u %llu\n", (unsigned) fault.rule, (unsigned long long) fault.at);
+ *     else if (elfmap_file(bytes, len, &file))
+ *         for (uint64_t i = 0; elfmap_section(&file, bytes, len, i, &section); i++)
+ *             printf("section %llu has %llu bytes\n", (unsigned long long) i, (unsigned long long) section.sh_size);
+ *
+ * What a call answers is proved, for all bytes. What a caller keeps nothing can prove:
+ * - No pointer is null, also where its length is 0, and each is aligned as its type asks for.
+ * - `bytes` points to `len` bytes, and `room` to `count` extents; len is at most PTRDIFF_MAX bytes, and so is the size of a room. While a
+ *   call runs nobody writes these bytes; nor reads or writes the room or the struct that the call fills in.
+ * - The struct that a call fills in, and the room, overlap neither one another nor the bytes or another argument.
+ *
+ * Offsets and lengths are counted in bytes from the beginning of the file. Fields have the names of the gABI (System V ABI, generic part,
+ * chapters 4 and 5). Numbers in records are those of the file, in the order of the machine. The rules stand in docs/RULES.md.
+ */
+#ifndef ELFMAP_H
+#define ELFMAP_H
+
+#include <stdbool.h>
+#include <stddef.h>
+#include <stdint.h>
+
+#ifdef __cplusplus
+extern "C" {
+#endif
+
+/* In place of a rule's number: the room has too few extents. No rule has this number. */
+enum { ELFMAP_SHORT_ROOM = 0 };
+
+/* The first of the rules 1 to 33 that a file breaks. */
+struct elfmap_fault {
+    uint64_t at;   /* the lowest offset at which it is broken */
+    uint16_t rule; /* its number */
+};
+
+/* The bytes at the offsets from `start` to below `start + len`; none where `len` is 0. */
+struct elfmap_extent {
+    uint64_t start;
+    uint64_t len;
+};
+
+/* What the accessors need of a file. */
+struct elfmap_file {
+    uint64_t e_phoff;    /* the offset of the program header table, 0 for none */
+    uint64_t e_shoff;    /* the offset of the section header table, 0 for none */
+    uint64_t sections;   /* how many section headers there are, also where e_shnum can't hold it */
+    uint64_t segments;   /* how many program headers there are, also where e_phnum can't hold it */
+    uint64_t name_table; /* the index of the section name string table, 0 for none, also where e_shstrndx can't hold it */
+    uint8_t ei_data;     /* the data encoding: 1 is ELFDATA2LSB, 2 is ELFDATA2MSB */
+};
+
+/* The ELF header. */
+struct elfmap_header {
+    uint8_t e_ident[16];
+    uint16_t e_type;
+    uint16_t e_machine;
+    uint32_t e_version;
+    uint64_t e_entry;
+    uint64_t e_phoff;
+    uint64_t e_shoff;
+    uint32_t e_flags;
+    uint16_t e_ehsize;
+    uint16_t e_phentsize;
+    uint16_t e_phnum;
+    uint16_t e_shentsize;
+    uint16_t e_shnum;
+    uint16_t e_shstrndx;
+};
+
+/* A section header. */
+struct elfmap_section {
+    uint32_t sh_name;
+    uint32_t sh_type;
+    uint64_t sh_flags;
+    uint64_t sh_addr;
+    uint64_t sh_offset;
+    uint64_t sh_size;
+    uint32_t sh_link;
+    uint32_t sh_info;
+    uint64_t sh_addralign;
+    uint64_t sh_entsize;
+};
+
+/* A program header. */
+struct elfmap_segment {
+    uint32_t p_type;
+    uint32_t p_flags;
+    uint64_t p_offset;
+    uint64_t p_vaddr;
+    uint64_t p_paddr;
+    uint64_t p_filesz;
+    uint64_t p_memsz;
+    uint64_t p_align;
+};
+
+/* ---- The verdict. It never changes the bytes. */
+
+/*
+ * True exactly where the file keeps all 33 rules; `fault` is unchanged then. Else false, and `fault` is the first rule broken and the
+ * lowest offset at which it is. Where the contents of sections don't stand in the order of their headers it compares every two of them,
+ * which takes the square of their number: elfmap_verdict_in does not.
+ */
+bool elfmap_verdict(const uint8_t *bytes, size_t len, struct elfmap_fault *fault);
+
+/*
+ * The same in n log n for any file, by a room of `count` extents that the caller lends; what the room held is lost. A file that keeps rules
+ * 1 to 32 wants as many extents as its parts are: three, and one for each section header. Where there are fewer the answer is false,
+ * `fault->rule` is ELFMAP_SHORT_ROOM, `fault->at` is how many are wanted, and rule 33 is not judged. A file that breaks one of the rules 1
+ * to 32 wants no room.
+ */
+bool elfmap_verdict_in(const uint8_t *bytes, size_t len, struct elfmap_extent *room, size_t count, struct elfmap_fault *fault);
+
+/*
+ * ---- The records. Each call answers true and fills in its last argument, or false, and leaves it as it was; none of them changes the
+ * bytes or the file, and each takes a time that does not grow with the file, but for the length of a name.
+ *
+ * They don't judge: of bytes that break a rule they tell what stands where the header says, if it lies in the file. `file` is to be what
+ * elfmap_file made of the same bytes. With any other numbers in it, or of other bytes, the answer says nothing, and yet no call reads
+ * outside of the bytes.
+ */
+
+/*
+ * What the other calls need of the file. False exactly where the file is shorter than a header, or has a section header table whose first
+ * entry does not lie in it; of a file that keeps rules 1 to 32 it is true.
+ */
+bool elfmap_file(const uint8_t *bytes, size_t len, struct elfmap_file *file);
+
+/* The ELF header. False exactly where the file is shorter than one, 64 bytes. */
+bool elfmap_header(const uint8_t *bytes, size_t len, struct elfmap_header *header);
+
+/* Section header `index`. Of a file that keeps rules 1 to 32 it is true exactly where `index` is below `file->sections`. */
+bool elfmap_section(const struct elfmap_file *file, const uint8_t *bytes, size_t len, uint64_t index, struct elfmap_section *section);
+
+/* Program header `index`. Of a file that keeps rules 1 to 32 it is true exactly where `index` is below `file->segments`. */
+bool elfmap_segment(const struct elfmap_file *file, const uint8_t *bytes, size_t len, uint64_t index, struct elfmap_segment *segment);
+
+/*
+ * Where the name of section `index` stands, without its closing zero: it always lies in the bytes. Both numbers are 0 where the name has no
+ * bytes, as that of a section header of type SHT_NULL (0), or of any one where there is no section name string table or an empty one. Of a
+ * file that keeps rules 1 to 32 it is true exactly where `index` is below `file->sections`.
+ */
+bool elfmap_name(const struct elfmap_file *file, const uint8_t *bytes, size_t len, uint64_t index, struct elfmap_extent *name);
+
+#ifdef __cplusplus
+}
+#endif
+
+#endif
