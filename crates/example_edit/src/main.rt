@@ -4,11 +4,10 @@
 
 ghost use Rattle.std.specs.Prelude.{ℕ, List, OnOk};
 ghost use Rattle.std.specs.Io.KnownBytes.{Appends};
-ghost use Rattle.elf_image_outline.specs.Edits.{with_flags, with_zero_gaps};
-ghost use Rattle.elf_image_outline.specs.Image.{ImageValue, IsImage};
+ghost use Rattle.elf_image.specs.Edits.{with_flags, with_zero_gaps};
+ghost use Rattle.elf_image.specs.Image.{ImageValue, IsImage};
 
-use elf_image_stream::Fault;
-use elf_image_type::{parse, write};
+use elf_image::{Fault, parse, write};
 use std::alloc::Global;
 use std::io::Write;
 use std::process::ExitCode;

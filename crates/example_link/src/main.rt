@@ -4,16 +4,13 @@
 ghost use Rattle.std.specs.Prelude.{ℕ, List, OnOk};
 ghost use Rattle.std.specs.Io.KnownBytes.{Appends};
 ghost use Rattle.elf_exec.specs.ExecLaid.{ExecLaid};
-ghost use Rattle.elf_link_map.specs.LinkMap.{LinkMapValue};
-ghost use Rattle.elf_link_relocate.specs.MapFacts.{IsMapOfSome};
+ghost use Rattle.elf_link.specs.LinkMap.{LinkMapValue};
+ghost use Rattle.elf_link.specs.MapFacts.{IsMapOfSome};
 
 use elf_exec::{is_ready, write_exec};
-use elf_image_type::parse;
-use elf_link_field::{Form, Range, RelocRule, Width};
-use elf_link_map::{Options, map};
-use elf_link_relocate::relocate;
-use elf_object_reader::object_of;
-use elf_object_type::Object;
+use elf_image::parse;
+use elf_link::{Form, Options, Range, RelocRule, Width, map, relocate};
+use elf_object::{Object, object_of};
 use std::alloc::Global;
 use std::hash::{BuildHasherDefault, FoldHasher};
 use std::io::Write;
@@ -53,11 +50,9 @@ fn link_files(rt: &HostRuntime, first: &str, second: &str) -> Result<(), (u8, &'
 }
 
 fn link_bytes(rt: &HostRuntime, first: &[u8], second: &[u8]) -> Result<(), (u8, &'static str)> {
-    let objects = [
-        object_in(rt.alloc(), first)?,
-        object_in(rt.alloc(), second)?,
-    ];
-    link(rt.alloc(), &objects, &mut rt.stdout())
+    let alloc = rt.alloc();
+    let objects = [object_in(alloc, first)?, object_in(alloc, second)?];
+    link(alloc, &objects, &mut rt.stdout())
 }
 
 fn object_in(alloc: Global, bytes: &[u8]) -> Result<Object<'_>, (u8, &'static str)> {

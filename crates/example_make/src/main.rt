@@ -3,9 +3,7 @@
 
 use elf_field::Order;
 use elf_field::abi::*;
-use elf_object::{
-    Body, Info, Object, ObjectFault, ObjectParts, Place, Section, Symbol, write_object,
-};
+use elf_object::{Body, Info, Object, ObjectParts, Place, Section, Symbol, write_object};
 use std::alloc::Global;
 use std::io;
 use std::process::ExitCode;
@@ -18,7 +16,7 @@ const EM_X86_64: u16 = 62;
 
 fn main(rt: HostRuntime) -> io::Result<ExitCode> {
     let alloc = rt.alloc();
-    let Ok(object) = answer(alloc) else {
+    let Some(object) = answer(alloc) else {
         eprintln!(rt; "example_make: there is too little memory")?;
         return Ok(ExitCode::from(3));
     };
@@ -29,7 +27,8 @@ fn main(rt: HostRuntime) -> io::Result<ExitCode> {
     Ok(ExitCode::from(0))
 }
 
-fn answer(alloc: Global) -> Result<Object<'static>, ObjectFault> {
+/// The object, or None where there is too little memory.
+fn answer(alloc: Global) -> Option<Object<'static>> {
     let text = Section {
         name: b".text",
         flags: SHF_ALLOC | SHF_EXECINSTR,
@@ -54,8 +53,8 @@ fn answer(alloc: Global) -> Result<Object<'static>, ObjectFault> {
         abi: 0,
         machine: EM_X86_64,
         flags: 0,
-        sections: vec![in alloc; text]?,
-        symbols: vec![in alloc; answer]?,
+        sections: vec![in alloc; text].ok()?,
+        symbols: vec![in alloc; answer].ok()?,
     };
-    Object::new(alloc, parts)
+    Object::new(alloc, parts).ok()
 }

@@ -2,9 +2,8 @@
 #![tactic(auto)]
 
 use elf_field::abi::{SHT_DYNSYM, SHT_SYMTAB};
-use elf_image_stream::Fault;
-use elf_image_type::{Image, parse};
-use elf_table_symbols::{Place, Symbol, Symbols};
+use elf_image::{Fault, Image, parse};
+use elf_table::{Place, Symbol, Symbols};
 use std::process::ExitCode;
 use std::{env, fs, io};
 
@@ -20,28 +19,25 @@ fn main(rt: HostRuntime) -> io::Result<ExitCode> {
         eprintln!(rt; "usage: example_symbols FILE")?;
         return Ok(ExitCode::from(2));
     };
-    let Ok(bytes) = fs::read(&rt, name.as_str()) else {
-        eprintln!(rt; "example_symbols: the file can't be read")?;
-        return Ok(ExitCode::from(3));
-    };
-    if let Err((status, why)) = list_symbols(&rt, &bytes) {
+    if let Err((status, why)) = list_symbols(&rt, name.as_str()) {
         eprintln!(rt; "example_symbols: {why}")?;
         return Ok(ExitCode::from(status));
     }
     Ok(ExitCode::from(0))
 }
 
-/// Lists the symbols of each table; or answers the exit status, and why.
-fn list_symbols(rt: &(impl AllocGlobal + Print), bytes: &[u8]) -> Result<(), (u8, &'static str)> {
-    let image = match parse(rt.alloc(), bytes) {
+/// Lists each symbol table of a file but for symbol 0, which stands for none; or answers the exit status, and why.
+fn list_symbols(rt: &HostRuntime, name: &str) -> Result<(), (u8, &'static str)> {
+    let bytes = fs::read(rt, name).map_err(|_| (3, "the file can't be read"))?;
+    let image = match parse(rt.alloc(), &bytes) {
         Ok(image) => image,
-        Err(Fault::Rule { .. }) => return Err((1, "this is no ELF-64 file")),
-        Err(_) => return Err((3, "there is too little memory")),
+        Err(Fault::OutOfMemory) => return Err((3, "there is too little memory")),
+        Err(_) => return Err((1, "this is no ELF-64 file")),
     };
     for i in 0..image.section_count() {
         if matches!(image.section(i).sh_type, SHT_SYMTAB | SHT_DYNSYM) {
             let symbols = Symbols::new(&image, i).map_err(|_| (1, "a symbol table is broken"))?;
-            for symbol in symbols.iter() {
+            for symbol in symbols.iter().skip(1) {
                 list_symbol(rt, &image, &symbol).map_err(|_| (3, "the list can't be written"))?;
             }
         }
@@ -55,9 +51,11 @@ fn list_symbol(rt: &impl Print, image: &Image<'_>, symbol: &Symbol<'_>) -> io::R
     let section = match symbol.place {
         Place::Undefined => b"undefined".as_slice(),
         Place::Section(i) if (i as usize) < image.section_count() => image.name(i as usize),
-        _ => b"no section",
+        Place::Absolute => b"absolute",
+        Place::Common => b"common",
+        _ => b"reserved",
     };
     let (section, name) = (section.escape_ascii(), symbol.name.escape_ascii());
-    let (value, size) = (symbol.value, symbol.size);
+    let Symbol { value, size, .. } = *symbol;
     println!(rt; "{value:016x} {size:>8} {kind:<7} {binding:<6} {section} {name}")
 }
