@@ -16,8 +16,7 @@ use std::process::ExitCode;
 use std::{env, fs, io};
 
 fn main(rt: HostRuntime) -> io::Result<ExitCode> {
-    let alloc = rt.alloc();
-    let words: Vec<String> = env::args(&rt)?.collect(alloc)?;
+    let words: Vec<String> = env::args(&rt)?.collect(rt.alloc())?;
     let [_, name, section, flags] = words.as_slice() else {
         eprintln!(rt; "usage: example_copy FILE SECTION FLAGS")?;
         return Ok(ExitCode::from(2));
@@ -27,7 +26,7 @@ fn main(rt: HostRuntime) -> io::Result<ExitCode> {
         return Ok(ExitCode::from(2));
     };
     let mut source = Seeking::new(fs::open(&rt, name.as_str())?);
-    let status = copy_with_flags(alloc, &mut source, section, flags, &mut rt.stdout());
+    let status = copy_with_flags(rt.alloc(), &mut source, section, flags, &mut rt.stdout());
     Ok(ExitCode::from(status))
 }
 
