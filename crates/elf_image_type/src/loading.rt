@@ -97,12 +97,12 @@ fn table_byte<T: Record>(order: Order, records: &[T], k: usize) -> u8
 }
 
 // Byte `k` of a record.
-fn record_byte<T: Record>(order: Order, record: &T, k: usize) -> u8
+fn record_byte<T: Record>(order: Order, entry: &T, k: usize) -> u8
     requires short { T.SIZE ≤ LONGEST_RECORD }
     requires within { k < T.SIZE }
-    ensures { result ≡ slice_index (T.bytes order record.now) k }
+    ensures { result ≡ slice_index (T.bytes order entry.now) k }
 {
     let mut bytes = [0; LONGEST_RECORD];
-    record.put(order, &mut bytes[..T::SIZE]);
+    entry.put(order, &mut bytes[..T::SIZE]);
     bytes[k]
 }
