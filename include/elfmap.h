@@ -1,9 +1,13 @@
 /*
  * elfmap for C: whether an ELF-64 file is sound, and if it isn't, the first rule that it breaks and where; and the records of one that is.
  *
- * The library is the archive libelf_c.a: cc -std=c99 program.c -I include crates/elf_c/out/libelf_c.a. It needs nothing, not even the C
- * library. It takes no memory, keeps no state between two calls and has no variable of its own, so that each call may be made from any
- * thread, and from a signal handler, also while another one runs.
+ * A program is compiled so over a release, whose folder lib/pkgconfig is in PKG_CONFIG_PATH, and in the top folder of the sources:
+ *
+ *     cc -std=c99 program.c $(pkg-config --cflags --libs elfmap)
+ *     cc -std=c99 program.c -I include crates/elf_c/out/libelf_c.a
+ *
+ * The library needs nothing, not even the C library. It takes no memory, keeps no state between two calls and has no variable of its own,
+ * so that each call may be made from any thread, and from a signal handler, also while another one runs.
  *
  *     struct elfmap_fault fault;
  *     struct elfmap_file file;
