@@ -1,4 +1,4 @@
-//! `example_symbols FILE`: lists the symbols of an ELF-64 file, a line each: value, size, kind, binding, section, name.
+//! `example_symbols FILE`: lists the symbols of an ELF-64 file but symbol 0, a line each: value, size, kind, binding, section, name.
 #![tactic(auto)]
 
 use elf_field::abi::{SHT_DYNSYM, SHT_SYMTAB};
@@ -26,7 +26,6 @@ fn main(rt: HostRuntime) -> io::Result<ExitCode> {
     Ok(ExitCode::from(0))
 }
 
-/// Lists each symbol table of a file but for symbol 0, which stands for none; or answers the exit status, and why.
 fn list_symbols(rt: &HostRuntime, name: &str) -> Result<(), (u8, &'static str)> {
     let bytes = fs::read(rt, name).map_err(|_| (3, "the file can't be read"))?;
     let image = match parse(rt.alloc(), &bytes) {
