@@ -1,0 +1,265 @@
+use alloc::vec::Vec;
+use core::fmt;
+use core::iter::FusedIterator;
+
+use crate::raw::{self, Extent, Fault, Header, Numbers, ProgramHeader, SHORT_ROOM, SectionHeader};
+use crate::refusal::Refusal;
+
+const SHT_NULL: u32 = 0;
+const SHT_NOBITS: u32 = 8;
+const PT_NULL: u32 = 0;
+
+/// How many extents the first room has, on the stack: enough for a file of 61 sections.
+const SMALL_ROOM: usize = 64;
+
+/// An ELF-64 file that keeps all rules. It borrows its bytes, and so does what it gives.
+///
+/// A section can't outlive the bytes:
+///
+/// ```compile_fail,E0597
+/// let name = {
+///     let bytes = std::fs::read("/proc/self/exe").unwrap();
+///     let file = elfmap::File::parse(&bytes).unwrap();
+///     file.section(1).unwrap().name()
+/// };
+/// assert!(!name.is_empty());
+/// ```
+///
+/// But it can outlive the `File`:
+///
+/// ```no_run
+/// let bytes = std::fs::read("/proc/self/exe").unwrap();
+/// let name = {
+///     let file = elfmap::File::parse(&bytes).unwrap();
+///     file.section(1).unwrap().name()
+/// };
+/// assert!(!name.is_empty());
+/// ```
+#[derive(Clone, Copy)]
+pub struct File<'a> {
+    bytes: &'a [u8],
+    numbers: Numbers,
+    header: Header,
+}
+
+/// What `elfmap check` says of a file that keeps all rules.
+#[derive(Clone, Copy, Debug, PartialEq, Eq, Hash)]
+#[non_exhaustive]
+pub struct Summary {
+    /// How many bytes the file has.
+    pub len: usize,
+    /// How many section headers, also where `e_shnum` can't hold it.
+    pub sections: usize,
+    /// How many program headers, also where `e_phnum` can't hold it.
+    pub segments: usize,
+}
+
+/// Says whether the bytes are an ELF-64 file that keeps all rules, and what it counts.
+///
+/// # Errors
+///
+/// The first rule that they break, and the lowest offset at which they do.
+///
+/// # Examples
+///
+/// ```
+/// match elfmap::check(&std::fs::read("/proc/self/exe")?) {
+///     Ok(summary) => println!("ok: {} sections", summary.sections),
+///     Err(refusal) => println!("refused: {refusal}"),
+/// }
+/// # Ok::<(), std::io::Error>(())
+/// ```
+pub fn check(bytes: &[u8]) -> Result<Summary, Refusal> {
+    File::parse(bytes).map(|file| file.summary())
+}
+
+impl<'a> File<'a> {
+    /// Judges the bytes by all rules, in n log n steps. Where a file has more than 61 sections it
+    /// takes memory for the time of the call, 16 bytes for each.
+    ///
+    /// # Errors
+    ///
+    /// The first rule that they break, and the lowest offset at which they do.
+    pub fn parse(bytes: &'a [u8]) -> Result<Self, Refusal> {
+        judge(bytes).map_err(|Fault { rule, at }| Refusal { rule, offset: at })?;
+        let numbers = raw::numbers(bytes).expect("the rules were kept");
+        let header = raw::header(bytes).expect("the rules were kept");
+        Ok(File {
+            bytes,
+            numbers,
+            header,
+        })
+    }
+
+    /// The bytes of the whole file.
+    pub fn bytes(&self) -> &'a [u8] {
+        self.bytes
+    }
+
+    /// How many bytes, sections and segments it has.
+    pub fn summary(&self) -> Summary {
+        Summary {
+            len: self.bytes.len(),
+            // The tables lie in the bytes, so that the counts fit.
+            sections: self.numbers.sections as usize,
+            segments: self.numbers.segments as usize,
+        }
+    }
+
+    /// The ELF header.
+    pub fn header(&self) -> &Header {
+        &self.header
+    }
+
+    /// The section of this index, `None` where there is none.
+    pub fn section(&self, index: usize) -> Option<Section<'a>> {
+        let header = raw::section(&self.numbers, self.bytes, index as u64)?;
+        let name = raw::name(&self.numbers, self.bytes, index as u64)?;
+        let has_content = !matches!(header.sh_type, SHT_NULL | SHT_NOBITS);
+        let content = Extent {
+            start: header.sh_offset,
+            len: header.sh_size,
+        };
+        Some(Section {
+            header,
+            name: self.at(name),
+            content: has_content.then(|| self.at(content)),
+        })
+    }
+
+    /// The segment of this index, `None` where there is none.
+    pub fn segment(&self, index: usize) -> Option<Segment<'a>> {
+        let header = raw::segment(&self.numbers, self.bytes, index as u64)?;
+        let content = Extent {
+            start: header.p_offset,
+            len: header.p_filesz,
+        };
+        Some(Segment {
+            header,
+            content: (header.p_type != PT_NULL).then(|| self.at(content)),
+        })
+    }
+
+    /// All sections, in the order of their headers; the first one is of type `SHT_NULL`.
+    pub fn sections(
+        &self,
+    ) -> impl DoubleEndedIterator<Item = Section<'a>> + ExactSizeIterator + FusedIterator + use<'a>
+    {
+        let file = *self;
+        let section = move |index| file.section(index).expect("the rules were kept");
+        (0..self.summary().sections).map(section)
+    }
+
+    /// All segments, in the order of their headers.
+    pub fn segments(
+        &self,
+    ) -> impl DoubleEndedIterator<Item = Segment<'a>> + ExactSizeIterator + FusedIterator + use<'a>
+    {
+        let file = *self;
+        let segment = move |index| file.segment(index).expect("the rules were kept");
+        (0..self.summary().segments).map(segment)
+    }
+
+    /// These bytes of the file. What has no bytes may begin behind its end.
+    fn at(&self, Extent { start, len }: Extent) -> &'a [u8] {
+        if len == 0 {
+            &[]
+        } else {
+            &self.bytes[start as usize..][..len as usize]
+        }
+    }
+}
+
+impl fmt::Debug for File<'_> {
+    fn fmt(&self, f: &mut fmt::Formatter<'_>) -> fmt::Result {
+        let Summary {
+            len,
+            sections,
+            segments,
+        } = self.summary();
+        f.debug_struct("File")
+            .field("len", &len)
+            .field("sections", &sections)
+            .field("segments", &segments)
+            .finish_non_exhaustive()
+    }
+}
+
+/// The verdict, by as large a room as the file wants.
+fn judge(bytes: &[u8]) -> Result<(), Fault> {
+    let wanted = match raw::verdict_in(bytes, &mut [Extent::default(); SMALL_ROOM]) {
+        Err(Fault {
+            rule: SHORT_ROOM,
+            at,
+        }) => at as usize,
+        verdict => return verdict,
+    };
+    let mut room = Vec::new();
+    if room.try_reserve_exact(wanted).is_err() {
+        // The same answer, if later.
+        return raw::verdict(bytes);
+    }
+    room.resize(wanted, Extent::default());
+    raw::verdict_in(bytes, &mut room)
+}
+
+/// A section of a file.
+#[derive(Clone, Copy, PartialEq, Eq)]
+pub struct Section<'a> {
+    header: SectionHeader,
+    name: &'a [u8],
+    content: Option<&'a [u8]>,
+}
+
+impl<'a> Section<'a> {
+    /// Its section header.
+    pub fn header(&self) -> &SectionHeader {
+        &self.header
+    }
+
+    /// Its name, without the closing zero; empty where it has none.
+    pub fn name(&self) -> &'a [u8] {
+        self.name
+    }
+
+    /// Its bytes in the file; `None` for `SHT_NOBITS` and `SHT_NULL`, which have none.
+    pub fn content(&self) -> Option<&'a [u8]> {
+        self.content
+    }
+}
+
+impl fmt::Debug for Section<'_> {
+    fn fmt(&self, f: &mut fmt::Formatter<'_>) -> fmt::Result {
+        f.debug_struct("Section")
+            .field("name", &format_args!("\"{}\"", self.name.escape_ascii()))
+            .field("header", &self.header)
+            .finish_non_exhaustive()
+    }
+}
+
+/// A segment of a file.
+#[derive(Clone, Copy, PartialEq, Eq)]
+pub struct Segment<'a> {
+    header: ProgramHeader,
+    content: Option<&'a [u8]>,
+}
+
+impl<'a> Segment<'a> {
+    /// Its program header.
+    pub fn header(&self) -> &ProgramHeader {
+        &self.header
+    }
+
+    /// Its bytes in the file; `None` for `PT_NULL`, which has none.
+    pub fn content(&self) -> Option<&'a [u8]> {
+        self.content
+    }
+}
+
+impl fmt::Debug for Segment<'_> {
+    fn fmt(&self, f: &mut fmt::Formatter<'_>) -> fmt::Result {
+        f.debug_struct("Segment")
+            .field("header", &self.header)
+            .finish_non_exhaustive()
+    }
+}

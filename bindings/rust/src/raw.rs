@@ -1,0 +1,207 @@
+//! The calls of `include/elfmap.h`, with nothing unsafe left.
+//!
+//! What each `unsafe` block relies on: a slice is a pointer that isn't null and is aligned, to as
+//! many items as its length says, of `isize::MAX` bytes at most; a `&mut` overlaps nothing else; and
+//! nobody writes what is borrowed as `&`. That is all that the header asks of a caller, and any
+//! bytes and any `File` will do.
+
+/// Which bytes of a file: `len` of them from `start` on.
+#[derive(Clone, Copy, Default)]
+#[repr(C)]
+pub(crate) struct Extent {
+    pub start: u64,
+    pub len: u64,
+}
+
+#[derive(Clone, Copy, Default)]
+#[repr(C)]
+pub(crate) struct Fault {
+    pub at: u64,
+    pub rule: u16,
+}
+
+/// In place of a rule's number: the room has too few extents.
+pub(crate) const SHORT_ROOM: u16 = 0;
+
+/// What the calls on records need of a file.
+#[derive(Clone, Copy, Debug, Default)]
+#[repr(C)]
+pub(crate) struct Numbers {
+    pub e_phoff: u64,
+    pub e_shoff: u64,
+    pub sections: u64,
+    pub segments: u64,
+    pub name_table: u64,
+    pub ei_data: u8,
+}
+
+/// The ELF header, with its fields as the file has them.
+#[derive(Clone, Copy, Debug, Default, PartialEq, Eq, Hash)]
+#[repr(C)]
+pub struct Header {
+    /// The identification: magic number, class, data encoding, versions, and the ABI.
+    pub e_ident: [u8; 16],
+    /// The kind of file: 1 is relocatable, 2 executable, 3 shared, 4 a core.
+    pub e_type: u16,
+    /// The machine, as 62 for x86-64.
+    pub e_machine: u16,
+    /// The version of the format, 1.
+    pub e_version: u32,
+    /// The address at which the program begins, 0 for none.
+    pub e_entry: u64,
+    /// The offset of the program header table, 0 for none.
+    pub e_phoff: u64,
+    /// The offset of the section header table, 0 for none.
+    pub e_shoff: u64,
+    /// Flags of the machine.
+    pub e_flags: u32,
+    /// The size of this header, 64.
+    pub e_ehsize: u16,
+    /// The size of a program header.
+    pub e_phentsize: u16,
+    /// How many program headers there are; `0xffff` where section header 0 says it.
+    pub e_phnum: u16,
+    /// The size of a section header.
+    pub e_shentsize: u16,
+    /// How many section headers there are; 0 also where section header 0 says it.
+    pub e_shnum: u16,
+    /// The section that has the names; `0xffff` where section header 0 says it.
+    pub e_shstrndx: u16,
+}
+
+/// A section header, with its fields as the file has them.
+#[derive(Clone, Copy, Debug, Default, PartialEq, Eq, Hash)]
+#[repr(C)]
+pub struct SectionHeader {
+    /// Where the name begins in the section name string table.
+    pub sh_name: u32,
+    /// The kind of section.
+    pub sh_type: u32,
+    /// Its flags: 1 is writable, 2 takes memory, 4 is executable.
+    pub sh_flags: u64,
+    /// Its address in memory, 0 for none.
+    pub sh_addr: u64,
+    /// The offset of its content.
+    pub sh_offset: u64,
+    /// The size of its content; of a section without bytes in the file, that in memory.
+    pub sh_size: u64,
+    /// The index of another section, which the type says.
+    pub sh_link: u32,
+    /// A number that the type says.
+    pub sh_info: u32,
+    /// What its address is a multiple of; 0 and 1 say nothing.
+    pub sh_addralign: u64,
+    /// The size of an entry, where the content is a table.
+    pub sh_entsize: u64,
+}
+
+/// A program header, with its fields as the file has them.
+#[derive(Clone, Copy, Debug, Default, PartialEq, Eq, Hash)]
+#[repr(C)]
+pub struct ProgramHeader {
+    /// The kind of segment; 1 is loaded.
+    pub p_type: u32,
+    /// Its permissions: 1 is executable, 2 writable, 4 readable.
+    pub p_flags: u32,
+    /// The offset of its bytes in the file.
+    pub p_offset: u64,
+    /// Its address in memory.
+    pub p_vaddr: u64,
+    /// Its physical address, where that counts.
+    pub p_paddr: u64,
+    /// How many bytes it has in the file.
+    pub p_filesz: u64,
+    /// How many bytes it has in memory.
+    pub p_memsz: u64,
+    /// Modulo which its address and its offset agree; 0 and 1 say nothing.
+    pub p_align: u64,
+}
+
+unsafe extern "C" {
+    fn elfmap_verdict(bytes: *const u8, len: usize, fault: &mut Fault) -> bool;
+    fn elfmap_verdict_in(
+        bytes: *const u8,
+        len: usize,
+        room: *mut Extent,
+        count: usize,
+        fault: &mut Fault,
+    ) -> bool;
+    fn elfmap_file(bytes: *const u8, len: usize, numbers: &mut Numbers) -> bool;
+    fn elfmap_header(bytes: *const u8, len: usize, header: &mut Header) -> bool;
+    fn elfmap_section(
+        numbers: &Numbers,
+        bytes: *const u8,
+        len: usize,
+        index: u64,
+        section: &mut SectionHeader,
+    ) -> bool;
+    fn elfmap_segment(
+        numbers: &Numbers,
+        bytes: *const u8,
+        len: usize,
+        index: u64,
+        segment: &mut ProgramHeader,
+    ) -> bool;
+    fn elfmap_name(
+        numbers: &Numbers,
+        bytes: *const u8,
+        len: usize,
+        index: u64,
+        name: &mut Extent,
+    ) -> bool;
+}
+
+/// The verdict without a room, which may take the square of the number of sections.
+pub(crate) fn verdict(bytes: &[u8]) -> Result<(), Fault> {
+    let mut fault = Fault::default();
+    // SAFETY: a slice, and what only this call sees.
+    let kept = unsafe { elfmap_verdict(bytes.as_ptr(), bytes.len(), &mut fault) };
+    if kept { Ok(()) } else { Err(fault) }
+}
+
+/// The verdict by a room; one that is too small is told by [`SHORT_ROOM`] and what is wanted.
+pub(crate) fn verdict_in(bytes: &[u8], room: &mut [Extent]) -> Result<(), Fault> {
+    let (at, count) = (room.as_mut_ptr(), room.len());
+    let mut fault = Fault::default();
+    // SAFETY: two slices, of which the room is borrowed as `&mut`, and what only this call sees.
+    let kept = unsafe { elfmap_verdict_in(bytes.as_ptr(), bytes.len(), at, count, &mut fault) };
+    if kept { Ok(()) } else { Err(fault) }
+}
+
+pub(crate) fn numbers(bytes: &[u8]) -> Option<Numbers> {
+    let mut numbers = Numbers::default();
+    // SAFETY: a slice, and what only this call sees.
+    let is_there = unsafe { elfmap_file(bytes.as_ptr(), bytes.len(), &mut numbers) };
+    is_there.then_some(numbers)
+}
+
+pub(crate) fn header(bytes: &[u8]) -> Option<Header> {
+    let mut header = Header::default();
+    // SAFETY: a slice, and what only this call sees.
+    let is_there = unsafe { elfmap_header(bytes.as_ptr(), bytes.len(), &mut header) };
+    is_there.then_some(header)
+}
+
+pub(crate) fn section(numbers: &Numbers, bytes: &[u8], index: u64) -> Option<SectionHeader> {
+    let (at, len) = (bytes.as_ptr(), bytes.len());
+    let mut section = SectionHeader::default();
+    // SAFETY: a slice, what is borrowed as `&`, and what only this call sees.
+    let is_there = unsafe { elfmap_section(numbers, at, len, index, &mut section) };
+    is_there.then_some(section)
+}
+
+pub(crate) fn segment(numbers: &Numbers, bytes: &[u8], index: u64) -> Option<ProgramHeader> {
+    let (at, len) = (bytes.as_ptr(), bytes.len());
+    let mut segment = ProgramHeader::default();
+    // SAFETY: a slice, what is borrowed as `&`, and what only this call sees.
+    let is_there = unsafe { elfmap_segment(numbers, at, len, index, &mut segment) };
+    is_there.then_some(segment)
+}
+
+pub(crate) fn name(numbers: &Numbers, bytes: &[u8], index: u64) -> Option<Extent> {
+    let (at, len) = (bytes.as_ptr(), bytes.len());
+    let mut name = Extent::default();
+    // SAFETY: a slice, what is borrowed as `&`, and what only this call sees.
+    let is_there = unsafe { elfmap_name(numbers, at, len, index, &mut name) };
+    is_there.then_some(name)
+}

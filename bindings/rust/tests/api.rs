@@ -1,0 +1,106 @@
+//! What a caller sees beside the records.
+
+use std::error::Error;
+
+use elfmap::{File, Refusal, Section, check, rules};
+
+/// A header, the names from 64 on, and from 88 on the section headers: NULL, `.bss`, `.shstrtab`.
+fn small_file() -> Vec<u8> {
+    let names = b"\0.bss\0.shstrtab\0";
+    let mut bytes = vec![0; 88 + 3 * 64];
+    let mut put = |at: usize, part: &[u8]| bytes[at..at + part.len()].copy_from_slice(part);
+    put(0, b"\x7fELF\x02\x01\x01");
+    put(16, &[1, 0, 62, 0, 1]);
+    put(40, &[88]);
+    put(52, &[64]);
+    put(58, &[64, 0, 3, 0, 2]);
+    put(64, names);
+    for (index, name, kind, offset, size) in [(1, 1, 8, 64, 200), (2, 6, 3, 64, names.len() as u8)]
+    {
+        put(88 + 64 * index, &[name, 0, 0, 0, kind]);
+        put(88 + 64 * index + 24, &[offset, 0, 0, 0, 0, 0, 0, 0, size]);
+    }
+    bytes
+}
+
+#[test]
+fn a_longer_file_than_any_is_refused() {
+    let bytes = vec![0; (1 << 30) + 1];
+    let refusal = check(&bytes).unwrap_err();
+    assert_eq!((refusal.rule, refusal.offset), (rules::TOO_LONG, 1 << 30));
+    assert_eq!(refusal.name(), "TOO_LONG");
+}
+
+#[test]
+fn a_refusal_is_an_error_in_words() {
+    let mut bytes = small_file();
+    bytes[88 + 64 + 4] = 1;
+    let error: Box<dyn Error> = Box::new(File::parse(&bytes).unwrap_err());
+    assert_eq!(
+        error.to_string(),
+        "rule 33 (SHARED_BYTE) at offset 64: the file is refused because a byte lies in two of \
+         these: the ELF header, the two tables, and the contents of sections (neither NULL nor \
+         NOBITS)",
+    );
+}
+
+#[test]
+fn each_rule_has_a_name_and_a_sentence() {
+    let mut refusal = check(b"").unwrap_err();
+    for rule in 1..=33 {
+        refusal.rule = rule;
+        assert_ne!(refusal.name(), "UNKNOWN_RULE");
+        assert!(
+            refusal
+                .sentence()
+                .starts_with("the file is refused because ")
+        );
+    }
+    for rule in [0, 34, u16::MAX] {
+        refusal.rule = rule;
+        assert_eq!(refusal.name(), "UNKNOWN_RULE");
+    }
+}
+
+#[test]
+fn what_a_file_gives_borrows_from_the_bytes() {
+    let bytes = small_file();
+    let sections = {
+        let file = File::parse(&bytes).unwrap();
+        file.sections()
+    };
+    assert_eq!(sections.len(), 3);
+    let names: Vec<&[u8]> = sections.rev().map(|it| it.name()).collect();
+    assert_eq!(names, [&b".shstrtab"[..], b".bss", b""]);
+    assert_eq!(names[0].as_ptr(), bytes[70..].as_ptr());
+}
+
+#[test]
+fn a_section_without_bytes_in_the_file_has_no_content() {
+    let bytes = small_file();
+    let file = File::parse(&bytes).unwrap();
+    let content = |index| file.section(index).and_then(|it: Section| it.content());
+    assert_eq!(content(0), None);
+    assert_eq!(content(1), None);
+    assert_eq!(content(2), Some(&bytes[64..80]));
+    assert!(file.section(3).is_none() && file.section(usize::MAX).is_none());
+    assert!(file.segment(0).is_none());
+}
+
+#[test]
+fn a_file_can_go_to_another_thread() {
+    fn is_sent<T: Send + Sync>() {}
+    is_sent::<File<'static>>();
+    is_sent::<Section<'static>>();
+    is_sent::<Refusal>();
+}
+
+#[test]
+fn debugging_prints_no_contents() {
+    let bytes = small_file();
+    let file = File::parse(&bytes).unwrap();
+    let shown = format!("{file:?}");
+    assert_eq!(shown, "File { len: 280, sections: 3, segments: 0, .. }");
+    let section = format!("{:?}", file.section(1).unwrap());
+    assert!(section.starts_with("Section { name: \".bss\", header: SectionHeader {"));
+}
