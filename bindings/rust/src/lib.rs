@@ -29,3 +29,7 @@ pub mod rules;
 pub use file::{File, Section, Segment, Summary, check};
 pub use raw::{Header, ProgramHeader, SectionHeader};
 pub use refusal::Refusal;
+
+#[cfg(doctest)]
+#[doc = include_str!("../README.md")]
+struct Readme;

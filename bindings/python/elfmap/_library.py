@@ -1,0 +1,162 @@
+"""The calls of include/elfmap.h, by ctypes."""
+
+import ctypes
+import functools
+import tempfile
+from ctypes import POINTER, Structure, c_bool, c_size_t, c_void_p
+from ctypes import c_uint8, c_uint16, c_uint32, c_uint64
+from pathlib import Path
+
+SHORT_ROOM = 0
+
+
+class Fault(Structure):
+    _fields_ = [("at", c_uint64), ("rule", c_uint16)]
+
+
+class Extent(Structure):
+    _fields_ = [("start", c_uint64), ("len", c_uint64)]
+
+
+class Numbers(Structure):
+    """The struct elfmap_file: what the calls on records need of a file."""
+
+    _fields_ = [
+        ("e_phoff", c_uint64),
+        ("e_shoff", c_uint64),
+        ("sections", c_uint64),
+        ("segments", c_uint64),
+        ("name_table", c_uint64),
+        ("ei_data", c_uint8),
+    ]
+
+
+class Header(Structure):
+    _fields_ = [
+        ("e_ident", c_uint8 * 16),
+        ("e_type", c_uint16),
+        ("e_machine", c_uint16),
+        ("e_version", c_uint32),
+        ("e_entry", c_uint64),
+        ("e_phoff", c_uint64),
+        ("e_shoff", c_uint64),
+        ("e_flags", c_uint32),
+        ("e_ehsize", c_uint16),
+        ("e_phentsize", c_uint16),
+        ("e_phnum", c_uint16),
+        ("e_shentsize", c_uint16),
+        ("e_shnum", c_uint16),
+        ("e_shstrndx", c_uint16),
+    ]
+
+
+class Section(Structure):
+    _fields_ = [
+        ("sh_name", c_uint32),
+        ("sh_type", c_uint32),
+        ("sh_flags", c_uint64),
+        ("sh_addr", c_uint64),
+        ("sh_offset", c_uint64),
+        ("sh_size", c_uint64),
+        ("sh_link", c_uint32),
+        ("sh_info", c_uint32),
+        ("sh_addralign", c_uint64),
+        ("sh_entsize", c_uint64),
+    ]
+
+
+class Segment(Structure):
+    _fields_ = [
+        ("p_type", c_uint32),
+        ("p_flags", c_uint32),
+        ("p_offset", c_uint64),
+        ("p_vaddr", c_uint64),
+        ("p_paddr", c_uint64),
+        ("p_filesz", c_uint64),
+        ("p_memsz", c_uint64),
+        ("p_align", c_uint64),
+    ]
+
+
+BYTES = [c_void_p, c_size_t]
+RECORD = [POINTER(Numbers), *BYTES, c_uint64]
+CALLS = {
+    "elfmap_verdict_in": [*BYTES, POINTER(Extent), c_size_t, POINTER(Fault)],
+    "elfmap_file": [*BYTES, POINTER(Numbers)],
+    "elfmap_header": [*BYTES, POINTER(Header)],
+    "elfmap_section": [*RECORD, POINTER(Section)],
+    "elfmap_segment": [*RECORD, POINTER(Segment)],
+    "elfmap_name": [*RECORD, POINTER(Extent)],
+}
+
+
+def shared_library(path: Path) -> ctypes.PyDLL:
+    """The library, with the types of its calls.
+
+    A PyDLL keeps the interpreter's lock, so that no thread writes the bytes meanwhile.
+    """
+    library = ctypes.PyDLL(str(path))
+    for name, types in CALLS.items():
+        call = getattr(library, name)
+        call.argtypes, call.restype = types, c_bool
+    return library
+
+
+@functools.cache
+def library() -> ctypes.PyDLL:
+    """Finds the shared library, or builds it, in the cache if that can be written."""
+    # Not imported with the package, so that it can be run by its name.
+    from elfmap import build
+
+    for folder in (build.library_folder(), Path(__file__).parent):
+        if (folder / build.NAME).is_file():
+            return shared_library(folder / build.NAME)
+    path = build.cached()
+    if path and path.is_file():
+        return shared_library(path)
+    if path and build.is_writable(path.parent):
+        return shared_library(build.build(path))
+    # A library that is loaded needs its file no more.
+    with tempfile.TemporaryDirectory(prefix="elfmap-") as room:
+        return shared_library(build.build(Path(room) / build.NAME))
+
+
+class Buffer(Structure):
+    """The Py_buffer of Python's C API."""
+
+    _fields_ = [
+        ("buf", c_void_p),
+        ("obj", ctypes.py_object),
+        ("len", ctypes.c_ssize_t),
+        ("itemsize", ctypes.c_ssize_t),
+        ("readonly", ctypes.c_int),
+        ("ndim", ctypes.c_int),
+        ("format", ctypes.c_char_p),
+        ("shape", c_void_p),
+        ("strides", c_void_p),
+        ("suboffsets", c_void_p),
+        ("internal", c_void_p),
+    ]
+
+
+get_buffer = ctypes.pythonapi.PyObject_GetBuffer
+get_buffer.argtypes = [ctypes.py_object, POINTER(Buffer), ctypes.c_int]
+get_buffer.restype = ctypes.c_int
+release_buffer = ctypes.pythonapi.PyBuffer_Release
+release_buffer.argtypes = [POINTER(Buffer)]
+release_buffer.restype = None
+# For what has no bytes, and no place.
+nowhere = ctypes.create_string_buffer(1)
+
+
+def address_of(view: memoryview) -> int:
+    """Where the bytes of a view stand, as long as it isn't released.
+
+    ctypes itself tells that of bytes that can be written alone.
+    """
+    buffer = Buffer()
+    get_buffer(view, buffer, 0)
+    try:
+        return buffer.buf or ctypes.addressof(nowhere)
+    finally:
+        release_buffer(buffer)

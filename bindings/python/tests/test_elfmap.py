@@ -1,0 +1,227 @@
+"""What the package tells of many files is what the second judge of the repository tells
+of them; and what a caller sees beside that."""
+
+import array
+import doctest
+import mmap
+import os
+import pickle
+import subprocess
+import sys
+import tempfile
+import unittest
+from pathlib import Path
+
+import elfmap
+from elfmap import build
+
+PACKAGE = Path(__file__).resolve().parents[1]
+sys.path.insert(0, str(build.REPOSITORY / "scripts"))
+import judged  # noqa: E402
+
+
+def small_file():
+    """A header, the names from 64 on, and from 88 on three section headers.
+
+    They are of no section, of `.bss` without bytes in the file, and of `.shstrtab`.
+    """
+    names = b"\0.bss\0.shstrtab\0"
+    data = bytearray(88 + 3 * 64)
+
+    def put(at, part):
+        data[at : at + len(part)] = part
+
+    put(0, b"\x7fELF\2\1\1")
+    put(16, [1, 0, 62, 0, 1])
+    put(40, [88])
+    put(52, [64])
+    put(58, [64, 0, 3, 0, 2])
+    put(64, names)
+    for index, name, kind, size in (1, 1, 8, 200), (2, 6, 3, len(names)):
+        put(88 + 64 * index, [name, 0, 0, 0, kind])
+        put(88 + 64 * index + 24, [64, 0, 0, 0, 0, 0, 0, 0, size])
+    return data
+
+
+def shown(part):
+    if part is None:
+        return "-"
+    return str(part) if isinstance(part, int) else f"={part.hex()}"
+
+
+def line(word, *parts):
+    return " ".join([word, *map(shown, parts)])
+
+
+def told(content):
+    try:
+        file = elfmap.parse(content)
+    except elfmap.Refused as refused:
+        return [f"refused {refused.rule} {refused.offset} {refused.name}"]
+    e_ident, *fields = file.header
+    return [
+        line("ok", *file.summary),
+        line("header", *fields, e_ident),
+        *(line("section", *it) for it in file.sections),
+        *(line("segment", *it) for it in file.segments),
+    ]
+
+
+class JudgedTest(unittest.TestCase):
+    def test_tells_what_the_second_judge_tells(self):
+        broken = set()
+        for number, content in enumerate(judged.files()):
+            with self.subTest(file=number, size=len(content)):
+                lines, expected = told(content), judged.told(content)
+                if lines != expected:
+                    other = [it for it in zip(lines, expected) if it[0] != it[1]][:1]
+                    self.fail(f"the package and the judge: {str(other):.800}")
+                if lines[0].startswith("refused"):
+                    broken.add(int(lines[0].split()[1]))
+        self.assertEqual(broken, set(range(2, 34)), "rule 1 wants a longer file")
+
+
+class RefusedTest(unittest.TestCase):
+    def test_a_longer_file_than_any(self):
+        with mmap.mmap(-1, 2**30 + 1) as data:
+            with self.assertRaises(elfmap.Refused) as raised:
+                elfmap.check(data)
+        refused = raised.exception
+        self.assertEqual((refused.rule, refused.offset), (1, 2**30))
+        self.assertEqual(refused.name, "TOO_LONG")
+
+    def test_its_words(self):
+        data = small_file()
+        data[88 + 64 + 4] = 1
+        with self.assertRaises(elfmap.Refused) as raised:
+            elfmap.parse(data)
+        refused = raised.exception
+        sentence = (
+            "the file is refused because a byte lies in two of these: the ELF header, "
+            "the two tables, and the contents of sections (neither NULL nor NOBITS)"
+        )
+        self.assertEqual(refused.sentence, sentence)
+        words = f"rule 33 (SHARED_BYTE) at offset 64: {sentence}"
+        self.assertEqual(str(refused), words)
+        self.assertEqual(str(pickle.loads(pickle.dumps(refused))), words)
+
+    def test_each_rule_has_a_sentence(self):
+        for rule in range(1, 34):
+            sentence = elfmap.Refused(rule, 0).sentence
+            self.assertTrue(sentence.startswith("the file is refused because "))
+        for rule in 0, 34:
+            self.assertEqual(elfmap.Refused(rule, 0).name, "UNKNOWN_RULE")
+
+
+class BytesTest(unittest.TestCase):
+    def test_any_bytes_in_one_piece(self):
+        data = bytes(small_file())
+        copy = bytearray(data)
+        views = memoryview(data), memoryview(copy), memoryview(b"." + data)[1:]
+        for it in data, copy, array.array("H", data), *views:
+            self.assertEqual(elfmap.check(it), (len(data), 3, 0))
+
+    def test_no_bytes(self):
+        for it in b"", bytearray(), memoryview(b""), array.array("Q"):
+            with self.assertRaises(elfmap.Refused) as raised:
+                elfmap.check(it)
+            self.assertEqual((raised.exception.rule, raised.exception.offset), (2, 0))
+
+    def test_what_is_no_bytes(self):
+        for it in "text", 5, None, memoryview(small_file())[::2]:
+            with self.assertRaises(TypeError):
+                elfmap.parse(it)
+
+    def test_mapped_files(self):
+        with tempfile.TemporaryFile() as it:
+            it.write(small_file())
+            it.flush()
+            for access in mmap.ACCESS_READ, mmap.ACCESS_WRITE, mmap.ACCESS_COPY:
+                with mmap.mmap(it.fileno(), 0, access=access) as data:
+                    self.assertEqual(elfmap.parse(data).sections[2].name, b".shstrtab")
+
+    def test_bytes_are_not_copied(self):
+        data = small_file()
+        file = elfmap.parse(data)
+        content = file.sections[2].content
+        data[64] = ord("x")
+        self.assertEqual(content[0], ord("x"))
+        with self.assertRaises(BufferError):
+            data.append(0)
+        del file, content
+        data.append(0)
+
+    def test_a_content_outlives_its_file(self):
+        content = elfmap.parse(bytes(small_file())).sections[2].content
+        self.assertEqual(content, b"\0.bss\0.shstrtab\0")
+        self.assertTrue(content.readonly)
+
+
+class RecordsTest(unittest.TestCase):
+    def test_sections_are_a_sequence(self):
+        sections = elfmap.parse(small_file()).sections
+        self.assertEqual(len(sections), 3)
+        self.assertEqual([it.name for it in sections], [b"", b".bss", b".shstrtab"])
+        self.assertEqual([it.name for it in sections[1:]], [b".bss", b".shstrtab"])
+        self.assertEqual(sections[-1], sections[2])
+        for index in 3, -4, 2**70:
+            with self.assertRaises(IndexError):
+                sections[index]
+
+    def test_sections_without_bytes_in_the_file(self):
+        sections = elfmap.parse(small_file()).sections
+        self.assertEqual([it.content for it in sections[:2]], [None, None])
+        self.assertEqual(sections[1].sh_size, 200)
+
+    def test_bytes_that_were_written_meanwhile(self):
+        data = small_file()
+        file = elfmap.parse(data)
+        data[:] = b"\xff" * len(data)
+        for section in file.sections:
+            self.assertLessEqual(len(section.content), len(data))
+
+
+class BuildTest(unittest.TestCase):
+    """In other processes, each of which finds the library anew and prints its path."""
+
+    PROGRAM = "from elfmap import _library; print(_library.library()._name)"
+
+    def setUp(self):
+        folder = tempfile.TemporaryDirectory(prefix="elfmap-test-")
+        self.addCleanup(folder.cleanup)
+        self.room = folder.name
+
+    def said(self, *words, **environment):
+        environment = {**os.environ, "PYTHONDONTWRITEBYTECODE": "1", **environment}
+        command = [sys.executable, *words]
+        said = subprocess.check_output(command, cwd=PACKAGE, env=environment, text=True)
+        return said.rstrip("\n")
+
+    def test_without_a_cache(self):
+        places = {"XDG_CACHE_HOME": "/dev/null", "TMPDIR": self.room}
+        path = self.said("-c", self.PROGRAM, **places)
+        self.assertTrue(path.startswith(self.room))
+        self.assertEqual(os.listdir(self.room), [])
+
+    def test_once_into_the_cache(self):
+        path = self.said("-c", self.PROGRAM, XDG_CACHE_HOME=self.room)
+        self.assertTrue(path.startswith(f"{self.room}/elfmap/"))
+        made = os.stat(path).st_mtime_ns
+        self.assertEqual(self.said("-c", self.PROGRAM, XDG_CACHE_HOME=self.room), path)
+        self.assertEqual(os.stat(path).st_mtime_ns, made)
+
+    def test_into_a_folder(self):
+        path = f"{self.room}/libelfmap.so"
+        self.assertEqual(self.said("-m", "elfmap.build", self.room), path)
+        self.assertEqual(self.said("-c", self.PROGRAM, ELFMAP_LIB_DIR=self.room), path)
+
+
+def load_tests(loader, tests, pattern):
+    tests.addTests(doctest.DocTestSuite(elfmap))
+    readme = str(PACKAGE / "README.md")
+    tests.addTests(doctest.DocFileSuite(readme, module_relative=False))
+    return tests
+
+
+if __name__ == "__main__":
+    unittest.main()
