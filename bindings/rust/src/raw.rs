@@ -205,3 +205,22 @@ pub(crate) fn name(numbers: &Numbers, bytes: &[u8], index: u64) -> Option<Extent
     let is_there = unsafe { elfmap_name(numbers, at, len, index, &mut name) };
     is_there.then_some(name)
 }
+
+#[cfg(test)]
+mod tests {
+    use super::*;
+
+    /// Memory that is refused leaves the verdict without a room, which has to be the same.
+    #[test]
+    fn both_verdicts_are_the_same() {
+        let header = include_bytes!("../../../crates/elfmap/data/header.elf");
+        assert!(verdict(header).is_ok());
+        for (index, value) in (0..header.len()).flat_map(|it| [(it, 0), (it, 1), (it, 0xff)]) {
+            let mut bytes = *header;
+            bytes[index] = value;
+            let told = |verdict: Result<(), Fault>| verdict.map_err(|it| (it.rule, it.at));
+            let mut room = [Extent::default(); 3];
+            assert_eq!(told(verdict(&bytes)), told(verdict_in(&bytes, &mut room)));
+        }
+    }
+}
