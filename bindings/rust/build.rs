@@ -17,6 +17,7 @@ fn main() {
             folder.display()
         );
     };
+    let folder = folder.canonicalize().expect("it has the library");
     println!("cargo:rerun-if-changed={}", path.display());
     println!("cargo:rustc-link-search=native={}", folder.display());
     println!("cargo:rustc-link-lib=static={name}");

@@ -108,9 +108,8 @@ def library() -> ctypes.PyDLL:
     # Not imported with the package, so that it can be run by its name.
     from elfmap import build
 
-    for folder in (build.library_folder(), Path(__file__).parent):
-        if (folder / build.NAME).is_file():
-            return shared_library(folder / build.NAME)
+    if build.ready().is_file():
+        return shared_library(build.ready())
     path = build.cached()
     if path and path.is_file():
         return shared_library(path)

@@ -15,22 +15,28 @@ from typing import Optional
 
 NAME = "libelfmap.so"
 ARCHIVES = ("libelfmap.a", "libelf_c.a")
-REPOSITORY = Path(__file__).resolve().parents[3]
+PACKAGE = Path(__file__).resolve().parent
+REPOSITORY = PACKAGE.parents[2]
 
 
-def library_folder() -> Path:
-    """The folder that should have the library."""
+def named_folder() -> Optional[Path]:
+    """The folder of the library that ELFMAP_LIB_DIR names."""
     named = os.environ.get("ELFMAP_LIB_DIR")
-    return Path(named) if named else REPOSITORY / "crates/elf_c/out"
+    return Path(named).absolute() if named else None
 
 
 def archive() -> Path:
     """The static library."""
-    folder = library_folder()
+    folder = named_folder() or REPOSITORY / "crates/elf_c/out"
     for path in (folder / name for name in ARCHIVES):
         if path.is_file():
             return path
     raise FileNotFoundError(f"neither {' nor '.join(ARCHIVES)} is in {folder}")
+
+
+def ready() -> Path:
+    """The path of what was built into the named folder, or else into the package."""
+    return (named_folder() or PACKAGE) / NAME
 
 
 def cached() -> Optional[Path]:

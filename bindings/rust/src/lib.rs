@@ -22,6 +22,7 @@
 extern crate alloc;
 
 mod file;
+#[allow(unsafe_code)]
 mod raw;
 mod refusal;
 pub mod rules;
