@@ -1,8 +1,8 @@
 //! The calls of `include/elfmap.h`, with nothing unsafe left.
 //!
 //! What each `unsafe` block relies on: a slice is a pointer that isn't null and is aligned, to as
-//! many items as its length says, of `isize::MAX` bytes at most; a `&mut` overlaps nothing else; and
-//! nobody writes what is borrowed as `&`. That is all that the header asks of a caller, and any
+//! many items as its length says, of `isize::MAX` bytes at most; a `&mut` overlaps nothing else;
+//! and nobody writes what is borrowed as `&`. That is all that the header asks of a caller, and any
 //! bytes and any `Numbers` will do.
 
 /// Which bytes of a file: `len` of them from `start` on.
