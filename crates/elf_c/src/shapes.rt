@@ -2,6 +2,7 @@
 ghost use Rattle.std.specs.Prelude.{◌≡◌};
 ghost use Rattle.elf_c.specs.Shapes.{header_shape, section_shape, segment_shape};
 
+use elf_c_room::Slot;
 use elf_field::abi::EI_NIDENT;
 use elf_field::{Ehdr, Phdr, Shdr};
 
@@ -143,4 +144,23 @@ impl Segment {
             p_align: entry.p_align,
         }
     }
+}
+
+/// `struct elfmap_table`: what the accessors of a table's entries need.
+#[repr(C)]
+#[derive(Clone, Copy, Debug, PartialEq, Eq)]
+pub struct Table {
+    /// The content of the section.
+    pub content: Slot,
+    /// Of a symbol table the content of its index table (`SHT_SYMTAB_SHNDX`), of a hash table that of its symbol table; else of no bytes.
+    pub linked: Slot,
+    /// The content of the string table: for a symbol table and a hash table that of the names of symbols, for a dynamic array that of the
+    /// strings of its entries; else of no bytes.
+    pub strings: Slot,
+    /// How many entries there are: of a dynamic array those before the first of tag `DT_NULL`, of a hash table its words.
+    pub entries: u64,
+    /// The type of the section.
+    pub sh_type: u32,
+    /// The data encoding: identification byte `EI_DATA`.
+    pub ei_data: u8,
 }

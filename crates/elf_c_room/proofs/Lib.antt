@@ -1,2 +1,1 @@
-mod Holders
 mod Slots

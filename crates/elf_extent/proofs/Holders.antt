@@ -123,19 +123,33 @@ doubly_by_count es fs x same (i, j, less, at_i, at_j) =
     let two = counted_twice es x i j less at_i at_j in
     held_twice fs x (omega arith)
 
--- the lowest byte that is held doubly among those that hold a byte, in any order, is that of all the extents
+-- the lowest byte that is held doubly is the same in any order
+pub lowest_moved : (es moved : List Extent) (found : Option ℕ) → IsPermutation es moved →
+    IsLowest (Doubly moved) found → IsLowest (Doubly es) found
+lowest_moved es moved found permuted =
+    IsLowest-same (Doubly moved) (Doubly es) found
+    (λ x. doubly_by_count moved es x (same x)) (λ x. doubly_by_count es moved x (sym (same x)))
+  where
+    same : (x : ℕ) → holders moved x ≡ holders es x
+    same x = sum_by-IsPermutation (once_if_held x) es moved permuted
+
+-- and the same among those that hold a byte
+pub lowest_held : (es : List Extent) (found : Option ℕ) → IsLowest (Doubly (filter holds_any es)) found → IsLowest (Doubly es) found
+lowest_held es found =
+    IsLowest-same (Doubly (filter holds_any es)) (Doubly es) found
+    (λ x. doubly_by_count (filter holds_any es) es x (holders-filter es x))
+    (λ x. doubly_by_count es (filter holds_any es) x (sym (holders-filter es x)))
+
+-- and so in any order among those that hold one
 pub lowest_sorted : (es sorted : List Extent) (found : Option ℕ) → IsPermutation (filter holds_any es) sorted →
     IsLowest (Doubly sorted) found → IsLowest (Doubly es) found
-lowest_sorted es sorted found moved =
-    IsLowest-same (Doubly sorted) (Doubly es) found
-    (λ x. doubly_by_count sorted es x (same x)) (λ x. doubly_by_count es sorted x (sym (same x)))
-  where
-    same : (x : ℕ) → holders sorted x ≡ holders es x
-    same x = sum_by-IsPermutation (once_if_held x) (filter holds_any es) sorted moved ∙ holders-filter es x
+lowest_sorted es sorted found moved lowest = lowest_held es found (lowest_moved (filter holds_any es) sorted found moved lowest)
 
 -- each of these holds a byte
+pub held_nonempty : (es : List Extent) → All (λ e. 0 < e.len) (filter holds_any es)
+held_nonempty es =
+    All-weaker (λ e. holds_any e ≡ true) (λ e. 0 < e.len) (λ e test. grind (arith, nat_tests)) (filter holds_any es)
+    (filter_passes holds_any es)
+
 pub nonempty_sorted : (es sorted : List Extent) → IsPermutation (filter holds_any es) sorted → All (λ e. 0 < e.len) sorted
-nonempty_sorted es sorted moved =
-    All-permutation (λ e. 0 < e.len) (filter holds_any es) sorted moved
-    (All-weaker (λ e. holds_any e ≡ true) (λ e. 0 < e.len) (λ e test. grind (arith, nat_tests)) (filter holds_any es)
-    (filter_passes holds_any es))
+nonempty_sorted es sorted moved = All-permutation (λ e. 0 < e.len) (filter holds_any es) sorted moved (held_nonempty es)

@@ -22,8 +22,8 @@ pub struct Shared {
 /// proper suffix of another one, with the zero that ends it, in the order in which the names first occur.
 ///
 /// The offset of a name is the lowest at which it stands with a zero behind it; that of the empty name is 0. Of names without a zero
-/// byte no table that holds them all is shorter. Takes n log n comparisons of names, from their ends on, and four numbers of memory a name
-/// besides the table. Answers [`OutOfMemory`] only where memory was refused.
+/// byte no table that holds them all is shorter. Takes n log n comparisons of names, from their ends on, and at most six numbers of memory
+/// a name besides the table. Answers [`OutOfMemory`] only where memory was refused.
 pub fn shared_table(alloc: Global, names: &[&[u8]]) -> Result<Shared, OutOfMemory>
     ensures bytes { IfOk result (λ shared. shared.bytes.items ≡ string_table (texts names.now)) }
     ensures offsets { IfOk result (λ shared. shared.offsets.items ≡ map (name_offset (texts names.now)) (texts names.now)) }

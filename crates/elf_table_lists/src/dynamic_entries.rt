@@ -6,7 +6,7 @@ use elf_field::abi::*;
 use elf_field::{Dyn, Order, get_at};
 
 /// How many entries a content has.
-pub(crate) fn dynamic_entry_count(table: &[u8]) -> usize
+pub fn dynamic_entry_count(table: &[u8]) -> usize
     ensures { result ≡ dynamic_entry_count_of table.now }
 {
     table.len() / DYN_SIZE as usize
@@ -14,7 +14,7 @@ pub(crate) fn dynamic_entry_count(table: &[u8]) -> usize
 
 /// Entry `j` of a content.
 #[tactic(auto, unfolding(crate::specs::DynamicArray::dynamic_entry))]
-pub(crate) fn dynamic_entry(order: Order, table: &[u8], j: usize) -> Dyn
+pub fn dynamic_entry(order: Order, table: &[u8], j: usize) -> Dyn
     requires { j < dynamic_entry_count_of table.now }
     ensures { result ≡ dynamic_entry_of order table.now j }
 {
@@ -22,7 +22,7 @@ pub(crate) fn dynamic_entry(order: Order, table: &[u8], j: usize) -> Dyn
 }
 
 /// The index of the first entry of tag DT_NULL; the number of entries where there is none.
-pub(crate) fn first_null_entry(order: Order, table: &[u8]) -> usize
+pub fn first_null_entry(order: Order, table: &[u8]) -> usize
     ensures within { result ≤ dynamic_entry_count_of table.now }
     ensures before { (k : ℕ) → k < result → IsNullEntry (dynamic_entry_of order table.now k) → ⊥ }
     ensures found { result < dynamic_entry_count_of table.now → IsNullEntry (dynamic_entry_of order table.now result) }

@@ -23,13 +23,13 @@ mod relocation_rules;
 mod relocs;
 
 pub use dynamic::{Dynamic, DynamicIter};
-pub use dynamic_entries::is_string_tag;
+pub use dynamic_entries::{dynamic_entry, dynamic_entry_count, first_null_entry, is_string_tag};
 pub use dynamic_rules::judge_dynamic_section;
 pub use group::{Group, GroupIter};
 pub use group_rules::{judge_group_section, member, member_count};
-pub use note::Note;
+pub use note::{Note, desc_start, descsz, namesz, note_at, note_end};
 pub use note_rules::judge_note_section;
 pub use notes::{NoteIter, Notes};
-pub use relocation::Relocation;
+pub use relocation::{Relocation, relocation_at, relocation_count};
 pub use relocation_rules::judge_relocation_section;
 pub use relocs::{RelocIter, Relocs};

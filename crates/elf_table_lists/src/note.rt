@@ -20,7 +20,7 @@ pub struct Note<'a> {
 
 /// The size in bytes of the name of the note at this offset of a content, its closing zero counted.
 #[tactic(auto, unfolding(crate::specs::Notes::namesz))]
-pub(crate) fn namesz(order: Order, table: &[u8], at: usize) -> usize
+pub fn namesz(order: Order, table: &[u8], at: usize) -> usize
     requires { at + NHDR_SIZE ≤ length table.now }
     ensures value { result ≡ namesz_of order table.now at }
     ensures short { result < 2 ^ 32 }
@@ -31,7 +31,7 @@ pub(crate) fn namesz(order: Order, table: &[u8], at: usize) -> usize
 
 /// The size in bytes of the descriptor of the note at this offset of a content.
 #[tactic(auto, unfolding(crate::specs::Notes::descsz))]
-pub(crate) fn descsz(order: Order, table: &[u8], at: usize) -> usize
+pub fn descsz(order: Order, table: &[u8], at: usize) -> usize
     requires { at + NHDR_SIZE ≤ length table.now }
     ensures value { result ≡ descsz_of order table.now at }
     ensures short { result < 2 ^ 32 }
@@ -52,7 +52,7 @@ fn padded(size: usize) -> usize
 
 /// Where the descriptor of the note at this offset begins, in the content or past its end.
 #[tactic(auto, unfolding(crate::specs::Notes::desc_start))]
-pub(crate) fn desc_start(order: Order, table: &[u8], at: usize) -> usize
+pub fn desc_start(order: Order, table: &[u8], at: usize) -> usize
     requires { at + NHDR_SIZE ≤ length table.now }
     ensures value { result ≡ desc_start_of order table.now at }
     ensures short { result ≤ length table.now + 2 ^ 32 }
@@ -62,7 +62,7 @@ pub(crate) fn desc_start(order: Order, table: &[u8], at: usize) -> usize
 
 /// Where the note at this offset ends, its padding too, in the content or past its end.
 #[tactic(auto, unfolding(crate::specs::Notes::note_end))]
-pub(crate) fn note_end(order: Order, table: &[u8], at: usize) -> usize
+pub fn note_end(order: Order, table: &[u8], at: usize) -> usize
     requires { at + NHDR_SIZE ≤ length table.now }
     ensures { result ≡ note_end_of order table.now at }
 {
@@ -71,7 +71,7 @@ pub(crate) fn note_end(order: Order, table: &[u8], at: usize) -> usize
 
 /// The note at this offset of a content, which is whole.
 #[tactic(auto, unfolding(crate::specs::Notes::note_at, crate::specs::Notes::note_end, crate::specs::Notes::desc_start))]
-pub(crate) fn note_at<'a>(order: Order, table: &'a [u8], at: usize) -> Note<'a>
+pub fn note_at<'a>(order: Order, table: &'a [u8], at: usize) -> Note<'a>
     requires { note_end_of order table.now at ≤ length table.now }
     ensures { note_value result ≡ note_of order table.now at }
 {

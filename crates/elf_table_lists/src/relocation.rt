@@ -21,7 +21,7 @@ pub struct Relocation {
 }
 
 /// How many relocations a content has.
-pub(crate) fn relocation_count(addends: bool, table: &[u8]) -> usize
+pub fn relocation_count(addends: bool, table: &[u8]) -> usize
     ensures { result ≡ relocation_count_of addends table.now }
 {
     if addends {
@@ -33,7 +33,7 @@ pub(crate) fn relocation_count(addends: bool, table: &[u8]) -> usize
 
 /// Relocation `j` of a content.
 #[tactic(auto, unfolding(crate::specs::Relocations::relocation_in))]
-pub(crate) fn relocation_at(order: Order, addends: bool, table: &[u8], j: usize) -> Relocation
+pub fn relocation_at(order: Order, addends: bool, table: &[u8], j: usize) -> Relocation
     requires { j < relocation_count_of addends table.now }
     ensures { result ≡ relocation_in addends order table.now j }
 {

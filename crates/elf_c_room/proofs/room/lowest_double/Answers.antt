@@ -3,7 +3,7 @@ use Rattle.std.proofs.lemmas.List.Sorted.{All-permutation, IsNonDecreasingBy-fro
 use Rattle.elf_extent.specs.declared.extent.Extent.{Extent}
 use Rattle.elf_c_room.specs.declared.room.Slot.{Slot}
 use Rattle.elf_c_room.specs.Room.{extent_in}
-use Rattle.elf_c_room.proofs.Holders.{lowest_moved}
+use Rattle.elf_extent.proofs.Public.{lowest_moved}
 use Rattle.elf_c_room.proofs.Slots.{ascending_slots}
 use Rattle.elf_c_room.proofs.room.lowest_double.Goals as goal
 
