@@ -37,13 +37,7 @@ class Reader {
 
     hold(end) {
         const lacking = end - this.module.memory.buffer.byteLength;
-        const pages = Math.ceil(lacking / PAGE);
-        // With a memory of 64-bit addresses the count is a big number.
-        if (lacking > 0) typeof this.module.memory.grow(this.wide(0)) && this.module.memory.grow(this.wide(pages));
-    }
-
-    wide(number) {
-        return this.isWide ? BigInt(number) : number;
+        if (lacking > 0) this.module.memory.grow(Math.ceil(lacking / PAGE));
     }
 
     view() {

@@ -31,7 +31,8 @@ impl Read for KnownBytes<'_> {
 /// Holds one file, under every name.
 #[derive(Drop)]
 pub struct KnownFile<'a> {
-    bytes: &'a [u8],
+    /// Its bytes.
+    pub bytes: &'a [u8],
 }
 
 impl<'a> Opener for KnownFile<'a> {

@@ -1,0 +1,449 @@
+"use strict";
+// The page: it asks the worker, and draws what it answers.
+
+const ROWS_A_TIME = 100;
+const LINES_A_TIME = 32;
+// A part too short to be seen is drawn this wide, in points; shorter ones side by side are drawn as one.
+const LEAST_WIDTH = 4;
+const COLOURS = {
+    "header and tables": "#6b7689", "code": "#c0504d", "data": "#e0a030", "constants": "#7f9f3f", "symbols and strings": "#4f81bd",
+    "relocations": "#8064a2", "other": "#8aa0a8", "several parts": "#b9c4c9",
+    "gap": "repeating-linear-gradient(45deg, transparent 0 4px, #8888 4px 6px)",
+};
+const OWNERS = ["the ELF header", "the section header table", "the program header table"];
+const FIRST_SECTION = 3;
+const KIND_TITLES = { sections: "Sections", segments: "Segments", symbols: "Symbols", relocations: "Relocations", dynamic: "Dynamic", notes: "Notes" };
+
+const $ = (id) => document.getElementById(id);
+const state = { open: null, parts: [], range: [0, 0], part: null, kind: "sections", table: 0, row: 0, found: null, shown: -1, at: 0, marked: [0, 0], turn: 0 };
+
+// ---- The worker
+
+const worker = new Worker(URL.createObjectURL(new Blob([$("worker").textContent], { type: "text/javascript" })));
+const waiting = new Map();
+let asked = 0;
+
+worker.onmessage = ({ data }) => {
+    if ("progress" in data) return void ($("progress").value = data.progress);
+    const { go_on, give_up } = waiting.get(data.id);
+    waiting.delete(data.id);
+    "fault" in data ? give_up(new Error(data.fault)) : go_on(data.value);
+};
+worker.postMessage({ module: Uint8Array.from(atob(MODULE), (it) => it.charCodeAt(0)) });
+
+function ask(question, ...words) {
+    return new Promise((go_on, give_up) => {
+        waiting.set(++asked, { go_on, give_up });
+        worker.postMessage({ id: asked, ask: question, words });
+    });
+}
+
+// ---- Elements
+
+function element(name, words, attributes = {}, ...children) {
+    const made = document.createElement(name);
+    if (words !== null) made.textContent = words;
+    for (const [key, value] of Object.entries(attributes)) key.startsWith("on") ? (made[key] = value) : made.setAttribute(key, value);
+    made.append(...children);
+    return made;
+}
+
+function say(words) {
+    $("said").textContent = words;
+}
+
+// ---- Opening
+
+async function open_file(file) {
+    const turn = ++state.turn;
+    $("main").hidden = true;
+    $("progress").hidden = false;
+    $("progress").value = 0;
+    say(`Reading ${file.name} …`);
+    try {
+        const open = await ask("open", file);
+        if (turn !== state.turn) return;
+        state.open = open;
+        await show_file();
+        say(`${file.name}: ${counted(file.size, "byte")}`);
+        document.title = `${file.name} - elfmap`;
+        document.body.dataset.ready = String(turn);
+    } catch (fault) {
+        if (turn === state.turn) say(`${file.name || "This"} can't be read: it may be a folder, or have changed, or be gone. (${fault.message})`);
+    } finally {
+        if (turn === state.turn) $("progress").hidden = true;
+    }
+}
+
+async function show_file() {
+    const { fault, parts } = state.open;
+    $("main").hidden = false;
+    show_verdict();
+    for (const id of ["map-section", "tables-section"]) $(id).hidden = fault !== null;
+    const { start, length } = fault ? field_at(fault.at) : { start: 0, length: 0 };
+    if (!fault) {
+        state.parts = parts ? await ask("parts", 0, parts) : [];
+        state.part = null;
+        await zoom(0, state.open.length);
+        await show_memory();
+        show_tabs();
+        await open_table("sections", 0, 0);
+    }
+    await show_bytes(start - start % 16, [start, start + length]);
+    document.body.dataset.took = state.open.took.toFixed(1);
+}
+
+// ---- The verdict
+
+function show_verdict() {
+    const { fault, header, file } = state.open;
+    const verdict = $("verdict");
+    verdict.className = fault ? "broken" : "sound";
+    if (fault) {
+        const [name, sentence, advice] = RULES[fault.rule];
+        verdict.textContent = `Refused by rule ${fault.rule}, ${name}, at ${hex(fault.at)}: ${sentence}.`;
+        $("advice").textContent = `${field_at(fault.at).words} What to do: ${advice}.`;
+    } else {
+        verdict.textContent = "Sound: this file keeps all 33 rules of an ELF-64 file.";
+        $("advice").textContent = "";
+    }
+    $("facts").textContent = header && file ? facts(header, file) : "";
+}
+
+function facts(header, file) {
+    const order = header.e_ident[5] === 2 ? "big-endian" : "little-endian";
+    return `${named("e_type", header.e_type)}, machine ${header.e_machine}, ${order}, entry ${hex(header.e_entry)}, ` +
+        `${counted(file.sections, "section")}, ${counted(file.segments, "segment")}`;
+}
+
+// The field of a record that stands at an offset.
+function field_at(offset) {
+    const { header, file, length } = state.open;
+    const tables = header ? [["the ELF header", 0, 1, "elfmap_header"]] : [];
+    if (file?.e_shoff) tables.push(["section header", file.e_shoff, file.sections, "elfmap_section"]);
+    if (file?.e_phoff) tables.push(["program header", file.e_phoff, file.segments, "elfmap_segment"]);
+    for (const [words, start, count, struct] of tables) {
+        const { size, fields } = LAYOUT[struct];
+        if (offset < start || offset >= Number(start) + count * size) continue;
+        const index = Math.floor((offset - start) / size);
+        const field = fields.findLast((it) => start + index * size + it.at <= offset);
+        const whose = struct === "elfmap_header" ? words : `${words} ${index}`;
+        return { start: start + index * size + field.at, length: field.width * (field.count ?? 1), words: `That is the field ${field.name} of ${whose}.` };
+    }
+    return { start: offset, length: offset < length ? 1 : 0, words: offset < length ? "That is the byte marked below." : "That is the end of the file." };
+}
+
+// ---- The map
+
+async function zoom(from, to) {
+    state.range = [from, Math.max(to, from + 1)];
+    const runs = runs_of_parts();
+    const owners = [...new Set(runs.filter((it) => it.count === 1).map((it) => it.part.owner).filter((it) => it >= FIRST_SECTION))];
+    const sections = new Map();
+    for (const owner of owners) sections.set(owner, (await ask("sections", owner - FIRST_SECTION, 1))[0]);
+    draw_bar("map", runs.map((run) => map_button(run, sections)));
+    $("map-scale").replaceChildren(element("span", hex(state.range[0])), element("span", hex(state.range[1])));
+    $("legend").replaceChildren(...Object.entries(COLOURS).map(([words, colour]) => element("li", null, {}, coloured(colour), words)));
+    show_part_words();
+    for (const [id, is_whole] of [["zoom-out", true], ["zoom-whole", true], ["zoom-in", false]]) {
+        $(id).disabled = is_whole ? from === 0 && to >= state.open.length : !state.part;
+    }
+}
+
+function coloured(colour) {
+    const made = element("span", "");
+    made.style.background = colour;
+    return made;
+}
+
+// The parts of the range, those too short to be seen in runs, each with its place in points.
+function runs_of_parts() {
+    const [from, to] = state.range;
+    const scale = ($("map").clientWidth || 300) / (to - from);
+    const runs = [];
+    for (const [index, part] of state.parts.entries()) {
+        if (part.start + part.len <= from || part.start >= to) continue;
+        const [left, right] = [(Math.max(part.start, from) - from) * scale, (Math.min(part.start + part.len, to) - from) * scale];
+        const last = runs.at(-1);
+        if (last && right - left < LEAST_WIDTH && last.right - last.left < LEAST_WIDTH) {
+            Object.assign(last, { right, end: part.start + part.len, count: last.count + 1 });
+        } else {
+            runs.push({ left, right, start: part.start, end: part.start + part.len, count: 1, part, index });
+        }
+    }
+    return runs;
+}
+
+function kind_of_part(owner, section) {
+    if (owner === null) return "gap";
+    if (owner < FIRST_SECTION) return "header and tables";
+    if ([2, 3, 5, 11, 18].includes(section.sh_type)) return "symbols and strings";
+    if ([4, 9].includes(section.sh_type)) return "relocations";
+    if ([6, 7, 14, 15, 16, 17].includes(section.sh_type)) return "other";
+    const flags = BigInt(section.sh_flags);
+    return flags & 4n ? "code" : flags & 1n ? "data" : flags & 2n ? "constants" : "other";
+}
+
+function owner_words(owner, section) {
+    if (owner === null) return "a gap: no record says whose these bytes are";
+    return OWNERS[owner] ?? `section ${owner - FIRST_SECTION} ${section.name || "(no name)"}`;
+}
+
+function map_button(run, sections) {
+    const section = sections.get(run.part.owner);
+    const words = run.count > 1 ? `${run.count.toLocaleString("en")} parts` : owner_words(run.part.owner, section);
+    const colour = COLOURS[run.count > 1 ? "several parts" : kind_of_part(run.part.owner, section)];
+    const told = `${words}: ${counted(run.end - run.start, "byte")} from ${hex(run.start)}`;
+    const go = run.count > 1 ? () => zoom(run.start, run.end) : () => choose_part(run.part, told);
+    return bar_button(run, colour, told, go, "map-words", run.count === 1 && state.part?.start === run.part.start);
+}
+
+function bar_button({ left, right }, colour, told, go, words, is_current = false) {
+    const made = element("button", "", { type: "button", "aria-label": told, "aria-current": String(is_current) });
+    Object.assign(made.style, { left: `${left}px`, width: `${Math.max(right - left, 2)}px`, background: colour });
+    made.onclick = go;
+    made.onmouseenter = made.onfocus = () => { $(words).textContent = told; };
+    return made;
+}
+
+// One of the buttons can be reached by the tabulator; the arrows lead to the others.
+function draw_bar(id, buttons) {
+    const current = Math.max(0, buttons.findIndex((it) => it.getAttribute("aria-current") === "true"));
+    buttons.forEach((it, k) => { it.tabIndex = k === current ? 0 : -1; });
+    $(id).replaceChildren(...buttons);
+    $(id).onkeydown = (event) => {
+        const at = buttons.indexOf(document.activeElement);
+        const to = { ArrowRight: at + 1, ArrowLeft: at - 1, Home: 0, End: buttons.length - 1 }[event.key];
+        if (event.key === "Escape" && id === "map") return void zoom_out();
+        if (at < 0 || !buttons[to]) return;
+        event.preventDefault();
+        buttons[at].tabIndex = -1;
+        buttons[to].tabIndex = 0;
+        buttons[to].focus();
+    };
+}
+
+async function choose_part(part, told) {
+    state.part = { ...part, told };
+    for (const it of $("map").children) it.setAttribute("aria-current", String(it.getAttribute("aria-label") === told));
+    $("zoom-in").disabled = false;
+    show_part_words();
+    await show_bytes(part.start, [part.start, part.start + part.len]);
+}
+
+function show_part_words() {
+    $("map-words").textContent = state.part?.told ?? `${counted(state.parts.length, "part")}. Choose one to see its bytes.`;
+}
+
+function zoom_out() {
+    const [from, to] = state.range;
+    const [middle, width] = [(from + to) / 2, (to - from) * 4];
+    const start = Math.max(0, Math.floor(middle - width / 2));
+    return zoom(start, Math.min(state.open.length, Math.ceil(start + width)));
+}
+
+// ---- The bar by address
+
+async function show_memory() {
+    const { header, file } = state.open;
+    const segments = header.e_type > 1 ? await ask("segments", 0, Math.min(file.segments, 1000)) : [];
+    const loads = segments.filter((it) => it.p_type === 1 && it.p_memsz > 0);
+    $("memory-section").hidden = !loads.length;
+    if (!loads.length) return;
+    const [low, high] = [Math.min(...loads.map((it) => Number(it.p_vaddr))), Math.max(...loads.map((it) => Number(it.p_vaddr) + Number(it.p_memsz)))];
+    const scale = $("memory").clientWidth / (high - low);
+    draw_bar("memory", loads.map((it) => {
+        const left = (Number(it.p_vaddr) - low) * scale;
+        const told = `segment ${it.index}, ${segment_flags(it.p_flags)}: ${counted(it.p_memsz, "byte")} from address ${hex(it.p_vaddr)}, ` +
+            `${counted(it.p_filesz, "byte")} of them from offset ${hex(it.p_offset)} of the file`;
+        const colour = COLOURS[it.p_flags & 1 ? "code" : it.p_flags & 2 ? "data" : "constants"];
+        const go = () => show_bytes(it.p_offset, [it.p_offset, it.p_offset + it.p_filesz]);
+        return bar_button({ left, right: left + Number(it.p_memsz) * scale }, colour, told, go, "memory-words");
+    }));
+    $("memory-scale").replaceChildren(element("span", hex(low)), element("span", hex(high)));
+}
+
+// ---- The tables
+
+function tables_of(kind) {
+    const { file, tables } = state.open;
+    if (kind === "sections" || kind === "segments") return [{ section: 0, entries: file[kind], name: "" }];
+    return tables.filter((it) => it.kind === kind);
+}
+
+function show_tabs() {
+    const kinds = Object.keys(KIND_TITLES).filter((it) => tables_of(it).some((table) => table.entries));
+    const tabs = kinds.map((kind) => {
+        const count = tables_of(kind).reduce((sum, it) => sum + it.entries, 0);
+        return element("button", `${KIND_TITLES[kind]} (${count.toLocaleString("en")})`,
+            { type: "button", role: "tab", id: `tab-${kind}`, "aria-controls": "panel", onclick: () => open_table(kind, tables_of(kind)[0].section, 0) });
+    });
+    $("tabs").replaceChildren(...tabs);
+    $("tabs").onkeydown = (event) => {
+        const to = tabs.indexOf(document.activeElement) + { ArrowRight: 1, ArrowLeft: -1 }[event.key];
+        if (tabs[to]) tabs[to].focus();
+    };
+}
+
+// Shows the rows of a table from one on, which may be marked.
+async function open_table(kind, section, row, shown = -1) {
+    const table = tables_of(kind).find((it) => it.section === section);
+    if (!table) return;
+    if (kind !== state.kind || section !== state.table || shown >= 0) {
+        state.found = null;
+        $("filter").value = "";
+    }
+    Object.assign(state, { kind, table: section, row, shown });
+    for (const it of $("tabs").children) {
+        const is_own = it.id === `tab-${kind}`;
+        it.setAttribute("aria-selected", String(is_own));
+        it.tabIndex = is_own ? 0 : -1;
+    }
+    $("panel").setAttribute("aria-labelledby", `tab-${kind}`);
+    show_choice(kind, section);
+    await show_rows(table);
+}
+
+function show_choice(kind, section) {
+    const tables = tables_of(kind);
+    $("which-label").hidden = tables.length < 2;
+    $("which").replaceChildren(...tables.map((it) => element("option", `${it.section} ${it.name}`, { value: it.section })));
+    $("which").value = section;
+}
+
+async function show_rows(table) {
+    const { kind, found } = state;
+    const count = found ? found.length : table.entries;
+    const end = Math.min(state.row + ROWS_A_TIME, count);
+    const rows = found
+        ? (await Promise.all(found.slice(state.row, end).map((it) => ask(kind, it, 1, state.table)))).flat()
+        : await ask(kind, state.row, end - state.row, state.table);
+    $("table").tHead.replaceChildren(element("tr", null, {}, ...["index", ...COLUMNS[kind].map(([title]) => title)].map((it) => element("th", it, { scope: "col" }))));
+    $("table").tBodies[0].replaceChildren(...rows.map((row) => table_row(kind, row)));
+    const all = table.entries.toLocaleString("en");
+    $("table-words").textContent = count
+        ? `${KIND_TITLES[kind]} ${(state.row + 1).toLocaleString("en")} to ${end.toLocaleString("en")} of ${found ? `${count.toLocaleString("en")} found among ` : ""}${all}`
+        : found ? `None of ${all} holds this.` : "This table is empty.";
+    $("rows-back").disabled = state.row === 0;
+    $("rows-on").disabled = end >= count;
+    $("table").querySelector(".shown")?.scrollIntoView({ block: "nearest" });
+}
+
+function table_row(kind, row) {
+    const cells = COLUMNS[kind].map(([, words, link]) => {
+        const to = link?.(row);
+        return element("td", to ? null : words(row), {}, ...(to ? [link_to(to, words(row))] : []));
+    });
+    const own = kind === "sections" && has_content(row) && row.sh_size
+        ? link_to({ bytes: row.sh_offset, length: row.sh_size }, String(row.index)) : String(row.index);
+    return element("tr", null, row.index === state.shown ? { class: "shown" } : {}, element("td", null, {}, own), ...cells);
+}
+
+function link_to(to, words) {
+    const go = (event) => {
+        event.preventDefault();
+        if ("bytes" in to) return void show_bytes(to.bytes, [to.bytes, to.bytes + to.length]).then(() => $("bytes-title").scrollIntoView());
+        const first = to.row - to.row % ROWS_A_TIME;
+        open_table(to.kind, to.table ?? 0, first, to.row).then(() => $(`tab-${to.kind}`)?.focus());
+    };
+    return element("a", words, { href: "#", onclick: go });
+}
+
+async function filter_rows() {
+    const text = $("filter").value;
+    const table = tables_of(state.kind).find((it) => it.section === state.table);
+    if (text) {
+        $("progress").hidden = false;
+        const found = await ask("search", state.kind, state.table, table.entries, text);
+        if (found === null) return;
+        $("progress").hidden = true;
+        state.found = found;
+    } else {
+        state.found = null;
+    }
+    state.row = 0;
+    await show_rows(table);
+}
+
+// ---- The bytes
+
+function line_length() {
+    return window.innerWidth < 640 ? 8 : 16;
+}
+
+async function show_bytes(at, marked) {
+    const { length } = state.open;
+    const line = line_length();
+    state.at = Math.max(0, Math.min(at, Math.max(0, length - 1)));
+    state.marked = marked;
+    const bytes = await ask("bytes", state.at, line * LINES_A_TIME);
+    const lines = [];
+    for (let k = 0; k < bytes.length; k += line) lines.push(bytes_line(state.at + k, bytes.subarray(k, k + line)));
+    $("bytes").tBodies[0].replaceChildren(...lines);
+    $("bytes-words").textContent = bytes.length ? `Bytes ${hex(state.at)} to ${hex(state.at + bytes.length - 1)} of ${counted(length, "byte")}` : "This file is empty.";
+    $("bytes-back").disabled = state.at === 0;
+    $("bytes-on").disabled = state.at + bytes.length >= length;
+}
+
+function bytes_line(at, bytes) {
+    const is_marked = (k) => at + k >= state.marked[0] && at + k < state.marked[1];
+    const digits = Array.from(bytes, (it) => it.toString(16).padStart(2, "0"));
+    const letters = Array.from(bytes, (it) => (it > 32 && it < 127 ? String.fromCharCode(it) : "."));
+    const cell = (words, between) => element("td", null, {}, ...runs_of_words(words, is_marked, between));
+    return element("tr", null, {}, element("th", hex(at), { scope: "row" }), cell(digits, " "), cell(letters, ""));
+}
+
+// Words side by side, those that are marked in `mark` elements.
+function runs_of_words(words, is_marked, between) {
+    const found = [];
+    for (let k = 0; k < words.length;) {
+        let end = k + 1;
+        while (end < words.length && is_marked(end) === is_marked(k)) end++;
+        const run = words.slice(k, end).join(between) + (end < words.length ? between : "");
+        found.push(is_marked(k) ? element("mark", run) : run);
+        k = end;
+    }
+    return found;
+}
+
+function go_to_offset() {
+    const offset = Number($("offset").value.trim());
+    if (Number.isSafeInteger(offset) && offset >= 0) show_bytes(offset, [offset, offset + 1]);
+    else $("bytes-words").textContent = "An offset is a number, as 64 or 0x40.";
+}
+
+// ---- What people do
+
+$("chosen").onchange = () => $("chosen").files[0] && open_file($("chosen").files[0]);
+$("zoom-in").onclick = () => state.part && zoom(state.part.start, state.part.start + state.part.len);
+$("zoom-out").onclick = zoom_out;
+$("zoom-whole").onclick = () => zoom(0, state.open.length);
+$("which").onchange = () => open_table(state.kind, Number($("which").value), 0);
+$("rows-back").onclick = () => open_table(state.kind, state.table, Math.max(0, state.row - ROWS_A_TIME));
+$("rows-on").onclick = () => open_table(state.kind, state.table, state.row + ROWS_A_TIME);
+$("filter").oninput = filter_rows;
+$("go").onclick = go_to_offset;
+$("offset").onkeydown = (event) => event.key === "Enter" && go_to_offset();
+$("bytes-back").onclick = () => show_bytes(state.at - line_length() * LINES_A_TIME, state.marked);
+$("bytes-on").onclick = () => show_bytes(state.at + line_length() * LINES_A_TIME, state.marked);
+
+let resizing;
+window.onresize = () => {
+    clearTimeout(resizing);
+    resizing = setTimeout(() => state.open && !state.open.fault && zoom(...state.range).then(show_memory), 200);
+};
+
+document.ondragover = (event) => {
+    event.preventDefault();
+    document.body.classList.add("over");
+};
+document.ondragleave = () => document.body.classList.remove("over");
+document.ondrop = (event) => {
+    event.preventDefault();
+    document.body.classList.remove("over");
+    const [item] = event.dataTransfer.items;
+    if (item?.webkitGetAsEntry?.()?.isDirectory) return say("This is a folder: drop one file of it.");
+    const [file, ...more] = event.dataTransfer.files;
+    if (!file) return say("This is no file: drop one from a folder.");
+    open_file(file).then(() => more.length && say(`${$("said").textContent}. Of several files the first one is shown.`));
+};
