@@ -23,6 +23,7 @@ class Reader {
         this.start = this.place(length);
         this.parts = { count: 0, at: this.next };
         this.opened = -1;
+        this.last_note = { of: -1, behind: 0, next: 0 };
     }
 
     // ---- Memory
@@ -167,8 +168,13 @@ class Reader {
         return this.entry("elfmap_dynamic", "elfmap_dynamic", section, index);
     }
 
+    // The note behind the last one that was asked for is found at once; any other one by going over those before it.
     note(section, index) {
-        return this.entry("elfmap_note", "elfmap_note", section, index);
+        const { of, behind, next } = this.last_note;
+        const [call, place] = of === section && behind === index ? ["elfmap_note_at", next] : ["elfmap_note", index];
+        const note = this.entry("elfmap_note", call, section, place);
+        if (note) this.last_note = { of: section, behind: index + 1, next: note.next };
+        return note;
     }
 
     // A string of the table's string table, as an extent of the file.

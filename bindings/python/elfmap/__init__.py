@@ -14,22 +14,35 @@ bytes. Fields have the names of the gABI (System V ABI, generic part, chapters 4
 from __future__ import annotations
 
 import ctypes
+import builtins
 import mmap
 from collections.abc import Callable, Iterator, Sequence
 from typing import Any, NamedTuple, Optional, TypeVar, Union
 
 from elfmap import _library
-from elfmap._rules import RULES
+from elfmap._rules import LINK_RULES, RULES
 
 __all__ = [
+    "BadRules",
+    "Dynamic",
     "File",
     "Header",
+    "Note",
+    "NotLinked",
+    "Part",
     "Refused",
+    "Relocation",
     "Section",
     "Segment",
     "Summary",
+    "Symbol",
+    "TooLong",
     "check",
+    "link",
+    "map",
     "parse",
+    "rewrite",
+    "show",
 ]
 
 Bytes = Union[bytes, bytearray, memoryview, mmap.mmap]
@@ -38,19 +51,24 @@ Record = TypeVar("Record")
 _SHT_NULL, _SHT_NOBITS, _PT_NULL = 0, 8, 0
 # How many extents the first room has: enough for a file of 61 sections.
 _SMALL_ROOM = 64
-_UNKNOWN = ("UNKNOWN_RULE", "the file is refused by a rule without a sentence")
+_SYMBOLS, _RELOCATIONS, _NOTES, _DYNAMIC, _HASH = (2, 11), (4, 9), (7,), (6,), (5,)
+_OWNERS = ("header", "section headers", "program headers")
+_GAP = 2**64 - 1
+_UNKNOWN = ("UNKNOWN_RULE", "it is refused by a rule without a sentence")
 
 
 class Refused(ValueError):
     """Why a file is refused: the first rule that it breaks, and where.
 
     `rule` is the number of the rule, and `offset` the lowest one at which it is broken.
+    `file` is the position of the file among those that were given, from 0.
     """
 
-    def __init__(self, rule: int, offset: int) -> None:
-        super().__init__(rule, offset)
+    def __init__(self, rule: int, offset: int, file: int = 0) -> None:
+        super().__init__(rule, offset, file)
         self.rule = rule
         self.offset = offset
+        self.file = file
 
     @property
     def name(self) -> str:
@@ -65,6 +83,52 @@ class Refused(ValueError):
     def __str__(self) -> str:
         place = f"rule {self.rule} ({self.name}) at offset {self.offset}"
         return f"{place}: {self.sentence}"
+
+
+class NotLinked(ValueError):
+    """Why objects don't link: the first of the link's rules that stands, and where.
+
+    `file`, `index` and `entry` count from 0; docs/RULES.md says what for each `rule`.
+    """
+
+    def __init__(self, rule: int, file: int, index: int, entry: int) -> None:
+        super().__init__(rule, file, index, entry)
+        self.rule = rule
+        self.file = file
+        self.index = index
+        self.entry = entry
+
+    @property
+    def name(self) -> str:
+        """The name of the rule, as `BAD_OPTIONS`."""
+        return LINK_RULES.get(self.rule, _UNKNOWN)[0]
+
+    @property
+    def sentence(self) -> str:
+        """What the rule refuses, in the words of docs/RULES.md."""
+        return LINK_RULES.get(self.rule, _UNKNOWN)[1]
+
+    def __str__(self) -> str:
+        place = f"entry {self.entry} of {self.index} in file {self.file}"
+        return f"rule {self.rule} ({self.name}) at {place}: {self.sentence}"
+
+
+class TooLong(ValueError):
+    """What would be written is longer than 2^30 bytes, or has too many segments."""
+
+    def __init__(self) -> None:
+        super().__init__("what would be written is too long")
+
+
+class BadRules(ValueError):
+    """This `line` of the relocation rules, from 1, is bad, and none before it."""
+
+    def __init__(self, line: int) -> None:
+        super().__init__(line)
+        self.line = line
+
+    def __str__(self) -> str:
+        return f"line {self.line} of the rules is bad"
 
 
 class Summary(NamedTuple):
@@ -134,6 +198,72 @@ class Segment(NamedTuple):
     content: Optional[memoryview]
 
 
+class Symbol(NamedTuple):
+    """A symbol, with its name.
+
+    `section` is the index of its section, also where `st_shndx` can't hold it.
+    """
+
+    name: bytes
+    st_value: int
+    st_size: int
+    st_name: int
+    section: int
+    st_shndx: int
+    st_info: int
+    st_other: int
+
+    @property
+    def binding(self) -> int:
+        """0 is local, 1 global, 2 weak."""
+        return self.st_info >> 4
+
+    @property
+    def symbol_type(self) -> int:
+        """0 has no type, 1 is data, 2 a function, 3 a section, 4 a file."""
+        return self.st_info & 15
+
+
+class Relocation(NamedTuple):
+    """A relocation; of a section of type SHT_REL `r_addend` is 0."""
+
+    r_offset: int
+    r_addend: int
+    symbol: int
+    relocation_type: int
+
+
+class Dynamic(NamedTuple):
+    """An entry of a dynamic array, and the string at the offset that it holds.
+
+    The string says something for some tags alone, as 1 (DT_NEEDED).
+    """
+
+    d_tag: int
+    d_un: int
+    string: bytes
+
+
+class Note(NamedTuple):
+    """A note: whose it is, its type and its descriptor."""
+
+    name: bytes
+    n_type: int
+    desc: memoryview
+
+
+class Part(NamedTuple):
+    """Bytes of a file that belong together.
+
+    `owner` is "header", "section headers", "program headers", "gap", or the index of
+    the section whose content they are.
+    """
+
+    start: int
+    len: int
+    owner: Union[str, int]
+
+
 class _Records(Sequence[Record]):
     """Records that are read when they are asked for."""
 
@@ -150,7 +280,7 @@ class _Records(Sequence[Record]):
         return self._read(self._indices[index])
 
     def __iter__(self) -> Iterator[Record]:
-        return map(self._read, self._indices)
+        return builtins.map(self._read, self._indices)
 
     def __repr__(self) -> str:
         return f"<{len(self)} records>"
@@ -194,6 +324,58 @@ class File:
     def summary(self) -> Summary:
         """How many bytes, sections and segments it has."""
         return Summary(len(self._view), self._numbers.sections, self._numbers.segments)
+
+    @property
+    def parts(self) -> list[Part]:
+        """What each byte belongs to: ascending parts, none of them empty."""
+        count, fault = ctypes.c_uint64(), _library.Fault()
+        wanted = 0
+        for _ in range(2):
+            room = (_library.Part * wanted)()
+            if self._call("elfmap_parts", room, wanted, count, fault):
+                return [_part(it) for it in room[: count.value]]
+            wanted = fault.at  # This suffices.
+        raise RuntimeError("the bytes were written after they were parsed")
+
+    def load(self, address: int) -> Optional[int]:
+        """The byte that the loadable segments give an address; None where none does."""
+        byte, of = ctypes.c_uint8(), (self._numbers,)
+        is_there = self._call("elfmap_load", address, byte, of=of)
+        return byte.value if is_there else None
+
+    def symbols(self, section: int) -> Sequence[Symbol]:
+        """The symbols of the symbol table in a section; none where it holds none.
+
+        As all tables of a file that keeps the rules of images, it may break rules of
+        its own: then its entries are told as far as they lie in the file.
+        """
+        return self._entries(section, _SYMBOLS, "elfmap_symbol", _library.Symbol, self._symbol)
+
+    def relocations(self, section: int) -> Sequence[Relocation]:
+        """The relocations of a relocation section; none where it is none."""
+        kind, call = _library.Relocation, "elfmap_relocation"
+        return self._entries(section, _RELOCATIONS, call, kind, lambda _, it: Relocation(*_fields(it)))
+
+    def dynamic(self, section: int) -> Sequence[Dynamic]:
+        """The entries of the dynamic array in a section, before the first DT_NULL."""
+        return self._entries(section, _DYNAMIC, "elfmap_dynamic", _library.Dynamic, self._dynamic)
+
+    def notes(self, section: int) -> list[Note]:
+        """The notes of a note section; none where it is none."""
+        table, found, offset = self._table(section, _NOTES), [], 0
+        note = _library.Note()
+        while table and self._call("elfmap_note_at", offset, note, of=(table,)):
+            name, desc = self._at(note.name.start, note.name.len), self._at(note.desc.start, note.desc.len)
+            found.append(Note(bytes(name), note.n_type, desc))
+            offset = note.next
+        return found
+
+    def find(self, section: int, name: bytes) -> Optional[int]:
+        """The index of the symbol of this name, by the hash table in a section."""
+        table, symbol = self._table(section, _HASH), ctypes.c_uint32()
+        if table and self._call("elfmap_find", name, len(name), symbol, of=(table,)):
+            return symbol.value
+        return None
 
     def __repr__(self) -> str:
         return "<elfmap.File: {} bytes, {} sections, {} segments>".format(*self.summary)
@@ -239,12 +421,49 @@ class File:
             return segment
         return segment._replace(content=self._at(segment.p_offset, segment.p_filesz))
 
+    def _table(self, section: int, types: tuple[int, ...]) -> Optional[_library.Table]:
+        """The table in a section of one of these types."""
+        table = _library.Table()
+        is_there = 0 <= section and self._call("elfmap_table", section, table, of=(self._numbers,))
+        return table if is_there and table.sh_type in types else None
+
+    def _entries(
+        self,
+        section: int,
+        types: tuple[int, ...],
+        call: str,
+        kind: type,
+        made: Callable[[Any, Any], Record],
+    ) -> Sequence[Record]:
+        table = self._table(section, types)
+
+        def read(index: int) -> Record:
+            it = kind()
+            if not self._call(call, index, it, of=(table,)):
+                raise IndexError("the table has no entry of this index")
+            return made(table, it)
+
+        return _Records(table.entries if table else 0, read)
+
+    def _symbol(self, _: _library.Table, it: _library.Symbol) -> Symbol:
+        return Symbol(bytes(self._at(it.name.start, it.name.len)), *_fields(it)[1:])
+
+    def _dynamic(self, table: _library.Table, it: _library.Dynamic) -> Dynamic:
+        place = _library.Extent()
+        self._call("elfmap_string", it.d_un, place, of=(table,))
+        return Dynamic(it.d_tag, it.d_un, bytes(self._at(place.start, place.len)))
+
     def _at(self, start: int, size: int) -> memoryview:
         return self._view[start : start + size]
 
 
 def _fields(struct: ctypes.Structure) -> list[Any]:
     return [getattr(struct, name) for name, _ in struct._fields_]
+
+
+def _part(it: _library.Part) -> Part:
+    owner = _OWNERS[it.owner] if it.owner < len(_OWNERS) else it.owner - len(_OWNERS)
+    return Part(it.start, it.len, "gap" if it.owner == _GAP else owner)
 
 
 def parse(data: Bytes) -> File:
@@ -259,3 +478,109 @@ def parse(data: Bytes) -> File:
 def check(data: Bytes) -> Summary:
     """Counts bytes, sections and segments of a file; raises Refused as `parse` does."""
     return parse(data).summary
+
+
+# ---- The engines
+
+
+def show(data: Bytes) -> str:
+    """The lines of `elfmap show` on a file, also on one that is refused."""
+    status, outcome, text = _said("elfmap_show", *_bytes_of(data))
+    if status not in (_library.DONE, _library.REFUSED):
+        raise _failure(status, outcome)
+    return text.decode("ascii")
+
+
+def rewrite(data: Bytes) -> bytes:
+    """The object that a relocatable file denotes, as a file in canonical layout.
+
+    Raises Refused, or TooLong where it is longer than 2^30 bytes.
+    """
+    return _done(*_said("elfmap_rewrite", *_bytes_of(data)))
+
+
+def link(
+    files: Sequence[Bytes],
+    rules: str,
+    *,
+    base: int = 0x400000,
+    page: int = 0x1000,
+    entry: bytes = b"_start",
+) -> bytes:
+    """The executable of these objects, by the relocation rules of a text.
+
+    docs/RULE_FILES.md has the lines of rules. Raises BadRules, Refused, NotLinked or
+    TooLong. The bytes of the files are copied, for the time of the call.
+    """
+    words = (*_linked(files, base, page), entry, len(entry), *_text(rules))
+    return _done(*_said("elfmap_link", *words))
+
+
+def map(
+    files: Sequence[Bytes], rules: str, *, base: int = 0x400000, page: int = 0x1000
+) -> str:
+    """The lines of `elfmap map` on these objects, and their relocated bytes by the rules.
+
+    Raises what `link` does.
+    """
+    words = (*_linked(files, base, page), *_text(rules))
+    return _done(*_said("elfmap_map", *words)).decode("ascii")
+
+
+def _bytes_of(data: Bytes) -> tuple[Any, int]:
+    view = memoryview(data).cast("B").toreadonly()
+    # The array holds the view as long as it is there itself.
+    return _Borrowed(_library.address_of(view), view), len(view)
+
+
+class _Borrowed(ctypes.c_void_p):
+    """An address that holds the view whose bytes stand there."""
+
+    def __init__(self, address: int, view: memoryview) -> None:
+        super().__init__(address)
+        self.view = view
+
+
+def _text(words: str) -> tuple[bytes, int]:
+    text = words.encode("utf-8")
+    return text, len(text)
+
+
+def _linked(files: Sequence[Bytes], base: int, page: int) -> tuple[Any, ...]:
+    contents = [bytes(it) for it in files]
+    places, start = (_library.Extent * len(contents))(), 0
+    for place, content in zip(places, contents):
+        place.start, place.len = start, len(content)
+        start += len(content)
+    joined = b"".join(contents)
+    return joined, len(joined), places, len(contents), _library.LinkOptions(base, page, 1)
+
+
+def _said(name: str, *words: Any) -> tuple[int, _library.Outcome, bytes]:
+    """All that an engine says, asked for twice: how long it is, and then for itself."""
+    call, outcome = getattr(_library.library(), name), _library.Outcome()
+    room = ctypes.create_string_buffer(1)
+    status = call(*words, room, 0, outcome)
+    if status == _library.SMALL_ROOM:
+        room = ctypes.create_string_buffer(outcome.length)
+        status = call(*words, room, outcome.length, outcome)
+    return status, outcome, room.raw[: outcome.length]
+
+
+def _done(status: int, outcome: _library.Outcome, said: bytes) -> bytes:
+    if status != _library.DONE:
+        raise _failure(status, outcome)
+    return said
+
+
+def _failure(status: int, outcome: _library.Outcome) -> Exception:
+    """What a status says, with the numbers of its outcome."""
+    if status == _library.REFUSED:
+        return Refused(outcome.rule, outcome.at, outcome.file)
+    if status == _library.NOT_LINKED:
+        return NotLinked(outcome.rule, outcome.file, outcome.index, outcome.at)
+    if status == _library.TOO_LONG:
+        return TooLong()
+    if status == _library.BAD_RULES:
+        return BadRules(outcome.at)
+    return MemoryError()

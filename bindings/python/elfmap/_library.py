@@ -4,10 +4,12 @@ import ctypes
 import functools
 import tempfile
 from ctypes import POINTER, Structure, c_bool, c_size_t, c_void_p
-from ctypes import c_uint8, c_uint16, c_uint32, c_uint64
+from ctypes import c_int64, c_uint8, c_uint16, c_uint32, c_uint64
 from pathlib import Path
 
 SHORT_ROOM = 0
+# What the status of an engine says.
+DONE, REFUSED, NOT_LINKED, TOO_LONG, SMALL_ROOM, NO_MEMORY, BAD_RULES = range(7)
 
 
 class Fault(Structure):
@@ -78,8 +80,78 @@ class Segment(Structure):
     ]
 
 
+class Table(Structure):
+    """What the calls on the entries of a table need."""
+
+    _fields_ = [
+        ("content", Extent),
+        ("linked", Extent),
+        ("strings", Extent),
+        ("entries", c_uint64),
+        ("sh_type", c_uint32),
+        ("ei_data", c_uint8),
+    ]
+
+
+class Symbol(Structure):
+    _fields_ = [
+        ("name", Extent),
+        ("st_value", c_uint64),
+        ("st_size", c_uint64),
+        ("st_name", c_uint32),
+        ("section", c_uint32),
+        ("st_shndx", c_uint16),
+        ("st_info", c_uint8),
+        ("st_other", c_uint8),
+    ]
+
+
+class Relocation(Structure):
+    _fields_ = [
+        ("r_offset", c_uint64),
+        ("r_addend", c_int64),
+        ("symbol", c_uint32),
+        ("relocation_type", c_uint32),
+    ]
+
+
+class Dynamic(Structure):
+    _fields_ = [("d_tag", c_int64), ("d_un", c_uint64)]
+
+
+class Note(Structure):
+    _fields_ = [
+        ("name", Extent),
+        ("desc", Extent),
+        ("next", c_uint64),
+        ("n_type", c_uint32),
+    ]
+
+
+class Part(Structure):
+    _fields_ = [("start", c_uint64), ("len", c_uint64), ("owner", c_uint64)]
+
+
+class Outcome(Structure):
+    """What an engine tells beside its status."""
+
+    _fields_ = [
+        ("length", c_uint64),
+        ("at", c_uint64),
+        ("file", c_uint64),
+        ("index", c_uint64),
+        ("rule", c_uint16),
+    ]
+
+
+class LinkOptions(Structure):
+    _fields_ = [("base", c_uint64), ("page", c_uint64), ("uses_rules", c_uint32)]
+
+
 BYTES = [c_void_p, c_size_t]
 RECORD = [POINTER(Numbers), *BYTES, c_uint64]
+ENTRY = [POINTER(Table), *BYTES, c_uint64]
+LINKED = [*BYTES, POINTER(Extent), c_size_t, POINTER(LinkOptions)]
 CALLS = {
     "elfmap_verdict_in": [*BYTES, POINTER(Extent), c_size_t, POINTER(Fault)],
     "elfmap_file": [*BYTES, POINTER(Numbers)],
@@ -87,7 +159,28 @@ CALLS = {
     "elfmap_section": [*RECORD, POINTER(Section)],
     "elfmap_segment": [*RECORD, POINTER(Segment)],
     "elfmap_name": [*RECORD, POINTER(Extent)],
+    "elfmap_load": [*RECORD, POINTER(c_uint8)],
+    "elfmap_parts": [
+        *BYTES,
+        POINTER(Part),
+        c_size_t,
+        POINTER(c_uint64),
+        POINTER(Fault),
+    ],
+    "elfmap_table": [*RECORD, POINTER(Table)],
+    "elfmap_symbol": [*ENTRY, POINTER(Symbol)],
+    "elfmap_relocation": [*ENTRY, POINTER(Relocation)],
+    "elfmap_dynamic": [*ENTRY, POINTER(Dynamic)],
+    "elfmap_string": [*ENTRY, POINTER(Extent)],
+    "elfmap_note_at": [*ENTRY, POINTER(Note)],
+    "elfmap_find": [POINTER(Table), *BYTES, *BYTES, POINTER(c_uint32)],
+    "elfmap_show": [*BYTES, *BYTES, POINTER(Outcome)],
+    "elfmap_rewrite": [*BYTES, *BYTES, POINTER(Outcome)],
+    "elfmap_map": [*LINKED, *BYTES, *BYTES, POINTER(Outcome)],
+    "elfmap_link": [*LINKED, *BYTES, *BYTES, *BYTES, POINTER(Outcome)],
 }
+# These answer a status, and all others whether they fill in their last argument.
+ENGINES = ("elfmap_show", "elfmap_rewrite", "elfmap_map", "elfmap_link")
 
 
 def shared_library(path: Path) -> ctypes.PyDLL:
@@ -98,7 +191,8 @@ def shared_library(path: Path) -> ctypes.PyDLL:
     library = ctypes.PyDLL(str(path))
     for name, types in CALLS.items():
         call = getattr(library, name)
-        call.argtypes, call.restype = types, c_bool
+        call.argtypes = types
+        call.restype = c_uint32 if name in ENGINES else c_bool
     return library
 
 

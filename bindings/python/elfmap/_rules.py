@@ -1,6 +1,6 @@
 """The rules by their numbers. Made by `scripts/rules-table` from docs/RULES.md."""
 
-# The name and the sentence of each.
+# The name and the sentence of each rule of files.
 RULES = {
     1: (
         "TOO_LONG",
@@ -154,5 +154,284 @@ RULES = {
         "SHARED_BYTE",
         "the file is refused because a byte lies in two of these: the ELF header, the "
         "two tables, and the contents of sections (neither NULL nor NOBITS)",
+    ),
+    40: (
+        "WRONG_TABLE_TYPE",
+        "the table is refused because the section is not of a type that holds such a "
+        "table (symbols: SYMTAB or DYNSYM; strings: STRTAB; relocations: REL or RELA; "
+        "groups: GROUP; notes: NOTE; dynamic arrays: DYNAMIC; hash tables: HASH)",
+    ),
+    41: (
+        "UNCLOSED_STRING_TABLE",
+        "the table is refused because the string table has bytes, and the first or "
+        "the last one isn't 0",
+    ),
+    42: (
+        "WRONG_ENTRY_SIZE",
+        "the table is refused because `sh_entsize` isn't the size of an entry "
+        "(symbols and RELA: 24; REL and dynamic arrays: 16; groups and hash tables: "
+        "4)",
+    ),
+    43: (
+        "PARTIAL_ENTRY",
+        "the table is refused because `sh_size` is no multiple of the entry's size",
+    ),
+    44: (
+        "WRONG_LINK",
+        "the table is refused because `sh_link` is no section's index, or that of a "
+        "section of another type than the table links to (symbols and dynamic arrays: "
+        "STRTAB; relocations and hash tables: SYMTAB or DYNSYM; groups: SYMTAB)",
+    ),
+    45: (
+        "SYMBOL_0_NOT_NULL",
+        "the table is refused because there is no symbol 0, or a byte of it isn't 0",
+    ),
+    46: (
+        "WRONG_LOCAL_COUNT",
+        "the table is refused because `sh_info`, the index of the first symbol that "
+        "is not local, is 0 or above the number of symbols",
+    ),
+    47: (
+        "MISPLACED_BINDING",
+        "the table is refused because a symbol below that index is not local, or one "
+        "from it on is",
+    ),
+    48: (
+        "SYMBOL_NAME_PAST_END",
+        "the table is refused because `st_name` isn't 0 and not below the size of the "
+        "string table",
+    ),
+    49: (
+        "SECOND_INDEX_TABLE",
+        "the table is refused because a section of type SYMTAB_SHNDX links to the "
+        "symbol table, and a lower one does too",
+    ),
+    50: (
+        "WRONG_INDEX_TABLE_SIZE",
+        "the table is refused because the index table has not one word of four bytes "
+        "for each symbol, or its `sh_entsize` isn't 4",
+    ),
+    51: (
+        "WRONG_SYMBOL_SECTION",
+        "the table is refused because `st_shndx` is 0xffff and there is no index "
+        "table, or it is below 0xff00 and no section's index",
+    ),
+    52: (
+        "WRONG_INDEX_WORD",
+        "the table is refused because a word of the index table isn't 0 though the "
+        "symbol's `st_shndx` isn't 0xffff, or it is, and the word is below 0xff00 or "
+        "no section's index",
+    ),
+    53: (
+        "WRONG_TARGET",
+        "the table is refused because `sh_info` of a relocation section is no "
+        "section's index",
+    ),
+    54: (
+        "WRONG_RELOCATION_SYMBOL",
+        "the table is refused because a relocation's symbol is not below the number "
+        "of symbols",
+    ),
+    55: (
+        "EMPTY_GROUP",
+        "the table is refused because `sh_size` of a section group is 0",
+    ),
+    56: (
+        "WRONG_GROUP_FLAGS",
+        "the table is refused because a group's flags are neither 0 nor 1",
+    ),
+    57: (
+        "WRONG_SIGNATURE",
+        "the table is refused because `sh_info` of a group is 0 or not below the "
+        "number of symbols",
+    ),
+    58: (
+        "WRONG_MEMBER",
+        "the table is refused because a member of a group is not above i, no "
+        "section's index, named before in the group, or a section without the flag "
+        "GROUP",
+    ),
+    59: (
+        "PARTIAL_NOTE",
+        "the table is refused because fewer than 12 bytes are left where a note "
+        "begins",
+    ),
+    60: (
+        "NOTE_NAME_PAST_END",
+        "the table is refused because the padded name of a note passes the end",
+    ),
+    61: (
+        "NOTE_DESC_PAST_END",
+        "the table is refused because the padded descriptor of a note passes the end",
+    ),
+    62: (
+        "UNCLOSED_NOTE_NAME",
+        "the table is refused because a note's `namesz` isn't 0, and the name's last "
+        "byte isn't 0",
+    ),
+    63: (
+        "NO_NULL_ENTRY",
+        "the table is refused because no entry of a dynamic section has the tag NULL",
+    ),
+    64: (
+        "DYNAMIC_STRING_PAST_END",
+        "the table is refused because the value of an entry NEEDED, SONAME, RPATH or "
+        "RUNPATH before that one is not below the size of the string table",
+    ),
+    65: (
+        "WRONG_HASH_SIZE",
+        "the table is refused because `sh_size` of a hash table is below 8, or not "
+        "that of two words, its buckets and its chain words",
+    ),
+    66: (
+        "WRONG_HASH_COUNT",
+        "the table is refused because there is no bucket; or there is not one chain "
+        "word for each symbol",
+    ),
+    67: (
+        "HASH_WORD_PAST_END",
+        "the table is refused because the word of a bucket, or a chain word, is not "
+        "below the number of chain words",
+    ),
+    68: (
+        "ENDLESS_CHAIN",
+        "the table is refused because the chain of a bucket comes back to one of its "
+        "symbols",
+    ),
+    69: (
+        "SYMBOL_OFF_CHAIN",
+        "the table is refused because a symbol from 1 on is not on the chain of its "
+        "name's bucket",
+    ),
+    70: (
+        "NOT_RELOCATABLE",
+        "the file is refused because `e_type` isn't REL",
+    ),
+    71: (
+        "LOADABLE",
+        "the file is refused because `e_entry` isn't 0; or `e_phnum` isn't",
+    ),
+    72: (
+        "FOREIGN_SECTION",
+        "the file is refused because a section is of type HASH, DYNAMIC, SHLIB or "
+        "DYNSYM",
+    ),
+    73: (
+        "SECOND_SYMBOL_TABLE",
+        "the file is refused because a section is of type SYMTAB, and a lower one is "
+        "too",
+    ),
+    74: (
+        "STRAY_INDEX_TABLE",
+        "the file is refused because a section of type SYMTAB_SHNDX isn't linked to "
+        "the symbol table",
+    ),
+    75: (
+        "SYMBOL_OUTSIDE",
+        "the file is refused because a symbol is defined in a section that is left "
+        "out, or at a reserved index but the absolute and the common one",
+    ),
+    76: (
+        "WRONG_RELOCATION_TARGET",
+        "the file is refused because `sh_info` of a relocation section is that of one "
+        "that is left out, or has no bits (NOBITS, relocations, groups)",
+    ),
+    77: (
+        "WRONG_GROUP_MEMBER",
+        "the file is refused because a member of a group is left out, or a group "
+        "itself, or a member of a group of a lower index",
+    ),
+    78: (
+        "WRONG_KEPT_LINK",
+        "the file is refused because `sh_link` of a plain section isn't 0, and that "
+        "section is left out or isn't there",
+    ),
+    79: (
+        "WRONG_KEPT_INFO",
+        "the file is refused because a plain section has the flag INFO_LINK, and the "
+        "section of `sh_info` is left out or isn't there",
+    ),
+}
+
+# Those of each rule of links.
+LINK_RULES = {
+    1: (
+        "BAD_OPTIONS",
+        "the link is refused because the page is no power of two, or the base no "
+        "multiple of it",
+    ),
+    2: (
+        "MISMATCH",
+        "the link is refused because a file's byte order, machine or flags are not "
+        "those of file 0",
+    ),
+    3: (
+        "TLS",
+        "the link is refused because a live section has the flag TLS",
+    ),
+    4: (
+        "LINK_ORDER",
+        "the link is refused because a live section has the flag LINK_ORDER",
+    ),
+    5: (
+        "EMPTY_SIGNATURE",
+        "the link is refused because the signature symbol of a COMDAT group has no "
+        "name",
+    ),
+    6: (
+        "BAD_SYMBOL",
+        "the link is refused because a symbol's binding is above WEAK, its type is "
+        "TLS, or it is not local and has no name",
+    ),
+    7: (
+        "BAD_COMMON",
+        "the link is refused because a common is not GLOBAL, or its value, the "
+        "alignment, is no power of two",
+    ),
+    8: (
+        "TWO_DEFINITIONS",
+        "the link is refused because a GLOBAL definition stands behind another one of "
+        "its name",
+    ),
+    9: (
+        "UNDEFINED_NAME",
+        "the link is refused because a GLOBAL entry is undefined, or in a discarded "
+        "section, and its name has no definition and no common",
+    ),
+    10: (
+        "NO_ENTRY",
+        "the link is refused because the name of the entry point is bound to nothing "
+        "or to zero, in a section that is not live, or has a value of 2^64 or more",
+    ),
+    11: (
+        "ADDRESS_OVERFLOW",
+        "the link is refused because a section or common ends at 2^64 or later, "
+        "counted behind its last byte, so that the last address is never used",
+    ),
+    12: (
+        "NO_RULE",
+        "the link is refused because an applied entry is of a kind that the list has "
+        "no rule for",
+    ),
+    13: (
+        "UNPLACED",
+        "the link is refused because the symbol of a field has no value: it is local, "
+        "and undefined or in a section that is not live; or it is not local, and the "
+        "definition that its name is bound to is in such a section",
+    ),
+    14: (
+        "FIELD_OUT_OF_RANGE",
+        "the link is refused because a field passes the end of its target",
+    ),
+    15: (
+        "FIELDS_OVERLAP",
+        "the link is refused because a field shares a byte with that of an entry "
+        "before it, by file, section and entry",
+    ),
+    16: (
+        "VALUE_OUT_OF_RANGE",
+        "the link is refused because the range of the rule does not admit the number: "
+        "in a field of n bits, `signed` admits -2^(n-1) to 2^(n-1) - 1, `unsigned` 0 "
+        "to 2^n - 1, `wrap` every number",
     ),
 }

@@ -2,7 +2,8 @@ use alloc::vec::Vec;
 use core::fmt;
 use core::iter::FusedIterator;
 
-use crate::raw::{self, Extent, Fault, Header, Numbers, ProgramHeader, SHORT_ROOM, SectionHeader};
+use crate::raw::SectionHeader;
+use crate::raw::{self, Extent, Fault, Header, Numbers, Piece, ProgramHeader, SHORT_ROOM};
 use crate::refusal::Refusal;
 
 const SHT_NULL: u32 = 0;
@@ -160,8 +161,29 @@ impl<'a> File<'a> {
         (0..self.summary().segments).map(segment)
     }
 
+    /// What each byte of the file belongs to: the parts in ascending order, none of them empty, each
+    /// byte in just one. It takes memory for three parts for each section; `None` where there is too
+    /// little.
+    pub fn parts(&self) -> Option<Vec<Part>> {
+        let mut room: Vec<Piece> = Vec::new();
+        let wanted = raw::parts(self.bytes, &mut room).err()?.at as usize;
+        room.try_reserve_exact(wanted).ok()?;
+        room.resize(wanted, Piece::default());
+        let count = raw::parts(self.bytes, &mut room).ok()?;
+        Some(room[..count as usize].iter().map(Part::of).collect())
+    }
+
+    /// The byte that the first loadable segment with this address gives it; `None` where none has it.
+    pub fn load(&self, address: u64) -> Option<u8> {
+        raw::load(&self.numbers, self.bytes, address)
+    }
+
+    pub(crate) fn numbers(&self) -> &Numbers {
+        &self.numbers
+    }
+
     /// These bytes of the file. What has no bytes may begin behind its end.
-    fn at(&self, Extent { start, len }: Extent) -> &'a [u8] {
+    pub(crate) fn at(&self, Extent { start, len }: Extent) -> &'a [u8] {
         if len == 0 {
             &[]
         } else {
@@ -201,6 +223,50 @@ fn judge(bytes: &[u8]) -> Result<(), Fault> {
     }
     room.resize(wanted, Extent::default());
     raw::verdict_in(bytes, &mut room)
+}
+
+/// Whose bytes a part has.
+#[derive(Clone, Copy, Debug, PartialEq, Eq, Hash)]
+#[non_exhaustive]
+pub enum Owner {
+    /// The ELF header.
+    Header,
+    /// The section header table.
+    SectionHeaders,
+    /// The program header table.
+    ProgramHeaders,
+    /// The content of the section of this index.
+    Content(usize),
+    /// Nobody's: it is between two others, or at the end.
+    Gap,
+}
+
+/// Bytes of a file that belong together.
+#[derive(Clone, Copy, Debug, PartialEq, Eq, Hash)]
+#[non_exhaustive]
+pub struct Part {
+    /// Where they begin.
+    pub start: usize,
+    /// How many there are.
+    pub len: usize,
+    /// Whose they are.
+    pub owner: Owner,
+}
+
+impl Part {
+    fn of(piece: &Piece) -> Part {
+        Part {
+            start: piece.start as usize,
+            len: piece.len as usize,
+            owner: match piece.owner {
+                0 => Owner::Header,
+                1 => Owner::SectionHeaders,
+                2 => Owner::ProgramHeaders,
+                u64::MAX => Owner::Gap,
+                owner => Owner::Content(owner as usize - 3),
+            },
+        }
+    }
 }
 
 /// A section of a file.

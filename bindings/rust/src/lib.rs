@@ -14,22 +14,27 @@
 //! # Ok::<(), Box<dyn std::error::Error>>(())
 //! ```
 //!
-//! Fields have the names of the gABI (System V ABI, generic part, chapters 4 and 5). The crate
-//! needs `alloc`, and not `std`.
+//! [`rewrite`] and [`link`] write new files. Fields have the names of the gABI (System V ABI,
+//! generic part, chapters 4 and 5). The crate needs `alloc`, and not `std`; what is behind the
+//! engines takes memory by `malloc`.
 
 #![no_std]
 
 extern crate alloc;
 
+mod engine;
 mod file;
 #[allow(unsafe_code)]
 mod raw;
 mod refusal;
 pub mod rules;
+mod table;
 
-pub use file::{File, Section, Segment, Summary, check};
-pub use raw::{Header, ProgramHeader, SectionHeader};
-pub use refusal::Refusal;
+pub use engine::{Failure, Options, link, map, rewrite, show};
+pub use file::{File, Owner, Part, Section, Segment, Summary, check};
+pub use raw::{Dynamic, Header, ProgramHeader, Relocation, SectionHeader};
+pub use refusal::{LinkRefusal, Refusal};
+pub use table::{Note, Symbol};
 
 #[cfg(doctest)]
 #[doc = include_str!("../README.md")]

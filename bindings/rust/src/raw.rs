@@ -117,6 +117,99 @@ pub struct ProgramHeader {
     pub p_align: u64,
 }
 
+/// What the calls on the entries of a table need.
+#[derive(Clone, Copy, Default)]
+#[repr(C)]
+pub(crate) struct Table {
+    pub content: Extent,
+    pub linked: Extent,
+    pub strings: Extent,
+    pub entries: u64,
+    pub sh_type: u32,
+    pub ei_data: u8,
+}
+
+#[derive(Clone, Copy, Default)]
+#[repr(C)]
+pub(crate) struct SymbolEntry {
+    pub name: Extent,
+    pub st_value: u64,
+    pub st_size: u64,
+    pub st_name: u32,
+    pub section: u32,
+    pub st_shndx: u16,
+    pub st_info: u8,
+    pub st_other: u8,
+}
+
+/// An entry of a relocation section.
+#[derive(Clone, Copy, Debug, Default, PartialEq, Eq, Hash)]
+#[repr(C)]
+pub struct Relocation {
+    /// Where it applies: in a relocatable file the offset in the section that `sh_info` names.
+    pub r_offset: u64,
+    /// The constant that is added; 0 in a section of type `SHT_REL`, where the bytes have it.
+    pub r_addend: i64,
+    /// The index of the symbol in the symbol table that `sh_link` names.
+    pub symbol: u32,
+    /// The type, which is the machine's.
+    pub relocation_type: u32,
+}
+
+/// An entry of a dynamic array.
+#[derive(Clone, Copy, Debug, Default, PartialEq, Eq, Hash)]
+#[repr(C)]
+pub struct Dynamic {
+    /// What the entry is: 1 names a library that is needed.
+    pub d_tag: i64,
+    /// Its number or its address, as the tag says.
+    pub d_un: u64,
+}
+
+#[derive(Clone, Copy, Default)]
+#[repr(C)]
+pub(crate) struct NoteEntry {
+    pub name: Extent,
+    pub desc: Extent,
+    pub next: u64,
+    pub n_type: u32,
+}
+
+#[derive(Clone, Copy, Default)]
+#[repr(C)]
+pub(crate) struct Piece {
+    pub start: u64,
+    pub len: u64,
+    pub owner: u64,
+}
+
+/// What an engine tells beside its status.
+#[derive(Clone, Copy, Default)]
+#[repr(C)]
+pub(crate) struct Outcome {
+    pub length: u64,
+    pub at: u64,
+    pub file: u64,
+    pub index: u64,
+    pub rule: u16,
+}
+
+#[derive(Clone, Copy, Default)]
+#[repr(C)]
+pub(crate) struct LinkOptions {
+    pub base: u64,
+    pub page: u64,
+    pub uses_rules: u32,
+}
+
+/// What an engine's status says.
+pub(crate) const DONE: u32 = 0;
+pub(crate) const REFUSED: u32 = 1;
+pub(crate) const NOT_LINKED: u32 = 2;
+pub(crate) const TOO_LONG: u32 = 3;
+pub(crate) const SMALL_ROOM: u32 = 4;
+pub(crate) const BAD_RULES: u32 = 6;
+
 unsafe extern "C" {
     fn elfmap_verdict(bytes: *const u8, len: usize, fault: &mut Fault) -> bool;
     fn elfmap_verdict_in(
@@ -149,6 +242,111 @@ unsafe extern "C" {
         index: u64,
         name: &mut Extent,
     ) -> bool;
+    fn elfmap_load(
+        numbers: &Numbers,
+        bytes: *const u8,
+        len: usize,
+        address: u64,
+        byte: &mut u8,
+    ) -> bool;
+    fn elfmap_parts(
+        bytes: *const u8,
+        len: usize,
+        room: *mut Piece,
+        count: usize,
+        parts: &mut u64,
+        fault: &mut Fault,
+    ) -> bool;
+    fn elfmap_table(
+        numbers: &Numbers,
+        bytes: *const u8,
+        len: usize,
+        index: u64,
+        table: &mut Table,
+    ) -> bool;
+    fn elfmap_symbol(
+        table: &Table,
+        bytes: *const u8,
+        len: usize,
+        index: u64,
+        symbol: &mut SymbolEntry,
+    ) -> bool;
+    fn elfmap_relocation(
+        table: &Table,
+        bytes: *const u8,
+        len: usize,
+        index: u64,
+        relocation: &mut Relocation,
+    ) -> bool;
+    fn elfmap_dynamic(
+        table: &Table,
+        bytes: *const u8,
+        len: usize,
+        index: u64,
+        entry: &mut Dynamic,
+    ) -> bool;
+    fn elfmap_string(
+        table: &Table,
+        bytes: *const u8,
+        len: usize,
+        offset: u64,
+        place: &mut Extent,
+    ) -> bool;
+    fn elfmap_note_at(
+        table: &Table,
+        bytes: *const u8,
+        len: usize,
+        offset: u64,
+        note: &mut NoteEntry,
+    ) -> bool;
+    fn elfmap_find(
+        table: &Table,
+        bytes: *const u8,
+        len: usize,
+        name: *const u8,
+        name_len: usize,
+        symbol: &mut u32,
+    ) -> bool;
+    fn elfmap_show(
+        bytes: *const u8,
+        len: usize,
+        room: *mut u8,
+        size: usize,
+        outcome: &mut Outcome,
+    ) -> u32;
+    fn elfmap_rewrite(
+        bytes: *const u8,
+        len: usize,
+        room: *mut u8,
+        size: usize,
+        outcome: &mut Outcome,
+    ) -> u32;
+    fn elfmap_map(
+        bytes: *const u8,
+        len: usize,
+        files: *const Extent,
+        count: usize,
+        options: &LinkOptions,
+        rules: *const u8,
+        rules_len: usize,
+        room: *mut u8,
+        size: usize,
+        outcome: &mut Outcome,
+    ) -> u32;
+    fn elfmap_link(
+        bytes: *const u8,
+        len: usize,
+        files: *const Extent,
+        count: usize,
+        options: &LinkOptions,
+        entry: *const u8,
+        entry_len: usize,
+        rules: *const u8,
+        rules_len: usize,
+        room: *mut u8,
+        size: usize,
+        outcome: &mut Outcome,
+    ) -> u32;
 }
 
 /// The verdict without a room, which may take the square of the number of sections.
@@ -204,6 +402,169 @@ pub(crate) fn name(numbers: &Numbers, bytes: &[u8], index: u64) -> Option<Extent
     // SAFETY: a slice, what is borrowed as `&`, and what only this call sees.
     let is_there = unsafe { elfmap_name(numbers, at, len, index, &mut name) };
     is_there.then_some(name)
+}
+
+pub(crate) fn load(numbers: &Numbers, bytes: &[u8], address: u64) -> Option<u8> {
+    let mut byte = 0;
+    // SAFETY: a slice, what is borrowed as `&`, and what only this call sees.
+    let is_there = unsafe { elfmap_load(numbers, bytes.as_ptr(), bytes.len(), address, &mut byte) };
+    is_there.then_some(byte)
+}
+
+/// How many parts the room then has; one that is too small is told by [`SHORT_ROOM`] and what is
+/// wanted.
+pub(crate) fn parts(bytes: &[u8], room: &mut [Piece]) -> Result<u64, Fault> {
+    let (at, count) = (room.as_mut_ptr(), room.len());
+    let (mut parts, mut fault) = (0, Fault::default());
+    // SAFETY: two slices, of which the room is borrowed as `&mut`, and what only this call sees.
+    let kept = unsafe {
+        elfmap_parts(
+            bytes.as_ptr(),
+            bytes.len(),
+            at,
+            count,
+            &mut parts,
+            &mut fault,
+        )
+    };
+    if kept { Ok(parts) } else { Err(fault) }
+}
+
+pub(crate) fn table(numbers: &Numbers, bytes: &[u8], index: u64) -> Option<Table> {
+    let (at, len) = (bytes.as_ptr(), bytes.len());
+    let mut table = Table::default();
+    // SAFETY: a slice, what is borrowed as `&`, and what only this call sees.
+    let is_there = unsafe { elfmap_table(numbers, at, len, index, &mut table) };
+    is_there.then_some(table)
+}
+
+pub(crate) fn symbol(table: &Table, bytes: &[u8], index: u64) -> Option<SymbolEntry> {
+    let (at, len) = (bytes.as_ptr(), bytes.len());
+    let mut symbol = SymbolEntry::default();
+    // SAFETY: a slice, what is borrowed as `&`, and what only this call sees.
+    let is_there = unsafe { elfmap_symbol(table, at, len, index, &mut symbol) };
+    is_there.then_some(symbol)
+}
+
+pub(crate) fn relocation(table: &Table, bytes: &[u8], index: u64) -> Option<Relocation> {
+    let (at, len) = (bytes.as_ptr(), bytes.len());
+    let mut relocation = Relocation::default();
+    // SAFETY: a slice, what is borrowed as `&`, and what only this call sees.
+    let is_there = unsafe { elfmap_relocation(table, at, len, index, &mut relocation) };
+    is_there.then_some(relocation)
+}
+
+pub(crate) fn dynamic(table: &Table, bytes: &[u8], index: u64) -> Option<Dynamic> {
+    let (at, len) = (bytes.as_ptr(), bytes.len());
+    let mut entry = Dynamic::default();
+    // SAFETY: a slice, what is borrowed as `&`, and what only this call sees.
+    let is_there = unsafe { elfmap_dynamic(table, at, len, index, &mut entry) };
+    is_there.then_some(entry)
+}
+
+pub(crate) fn string(table: &Table, bytes: &[u8], offset: u64) -> Option<Extent> {
+    let (at, len) = (bytes.as_ptr(), bytes.len());
+    let mut place = Extent::default();
+    // SAFETY: a slice, what is borrowed as `&`, and what only this call sees.
+    let is_there = unsafe { elfmap_string(table, at, len, offset, &mut place) };
+    is_there.then_some(place)
+}
+
+pub(crate) fn note_at(table: &Table, bytes: &[u8], offset: u64) -> Option<NoteEntry> {
+    let (at, len) = (bytes.as_ptr(), bytes.len());
+    let mut note = NoteEntry::default();
+    // SAFETY: a slice, what is borrowed as `&`, and what only this call sees.
+    let is_there = unsafe { elfmap_note_at(table, at, len, offset, &mut note) };
+    is_there.then_some(note)
+}
+
+pub(crate) fn find(table: &Table, bytes: &[u8], name: &[u8]) -> Option<u32> {
+    let (at, len) = (bytes.as_ptr(), bytes.len());
+    let mut symbol = 0;
+    // SAFETY: two slices, what is borrowed as `&`, and what only this call sees.
+    let is_there = unsafe { elfmap_find(table, at, len, name.as_ptr(), name.len(), &mut symbol) };
+    is_there.then_some(symbol)
+}
+
+pub(crate) fn show(bytes: &[u8], room: &mut [u8]) -> (u32, Outcome) {
+    let (at, size) = (room.as_mut_ptr(), room.len());
+    let mut outcome = Outcome::default();
+    // SAFETY: two slices, of which the room is borrowed as `&mut`, and what only this call sees.
+    let status = unsafe { elfmap_show(bytes.as_ptr(), bytes.len(), at, size, &mut outcome) };
+    (status, outcome)
+}
+
+pub(crate) fn rewrite(bytes: &[u8], room: &mut [u8]) -> (u32, Outcome) {
+    let (at, size) = (room.as_mut_ptr(), room.len());
+    let mut outcome = Outcome::default();
+    // SAFETY: two slices, of which the room is borrowed as `&mut`, and what only this call sees.
+    let status = unsafe { elfmap_rewrite(bytes.as_ptr(), bytes.len(), at, size, &mut outcome) };
+    (status, outcome)
+}
+
+/// What a link takes: files as extents of bytes, options, and the text of the relocation rules.
+#[derive(Clone, Copy)]
+pub(crate) struct Inputs<'a> {
+    pub bytes: &'a [u8],
+    pub files: &'a [Extent],
+    pub options: LinkOptions,
+    pub rules: &'a [u8],
+}
+
+pub(crate) fn map(inputs: &Inputs<'_>, room: &mut [u8]) -> (u32, Outcome) {
+    let Inputs {
+        bytes,
+        files,
+        options,
+        rules,
+    } = inputs;
+    let mut outcome = Outcome::default();
+    // SAFETY: four slices, of which the room is borrowed as `&mut`, what is borrowed as `&`, and
+    // what only this call sees.
+    let status = unsafe {
+        elfmap_map(
+            bytes.as_ptr(),
+            bytes.len(),
+            files.as_ptr(),
+            files.len(),
+            options,
+            rules.as_ptr(),
+            rules.len(),
+            room.as_mut_ptr(),
+            room.len(),
+            &mut outcome,
+        )
+    };
+    (status, outcome)
+}
+
+pub(crate) fn link(inputs: &Inputs<'_>, entry: &[u8], room: &mut [u8]) -> (u32, Outcome) {
+    let Inputs {
+        bytes,
+        files,
+        options,
+        rules,
+    } = inputs;
+    let mut outcome = Outcome::default();
+    // SAFETY: five slices, of which the room is borrowed as `&mut`, what is borrowed as `&`, and
+    // what only this call sees.
+    let status = unsafe {
+        elfmap_link(
+            bytes.as_ptr(),
+            bytes.len(),
+            files.as_ptr(),
+            files.len(),
+            options,
+            entry.as_ptr(),
+            entry.len(),
+            rules.as_ptr(),
+            rules.len(),
+            room.as_mut_ptr(),
+            room.len(),
+            &mut outcome,
+        )
+    };
+    (status, outcome)
 }
 
 #[cfg(test)]

@@ -1,7 +1,15 @@
 use core::error::Error;
 use core::fmt;
 
-use crate::rules::TABLE;
+use crate::rules::{LINK_TABLE, TABLE};
+
+/// The name and the sentence of a rule; a library that is newer than the table may have more.
+fn row(table: &[(u16, &'static str, &'static str)], rule: u16) -> (&'static str, &'static str) {
+    match table.binary_search_by_key(&rule, |&(number, ..)| number) {
+        Ok(index) => (table[index].1, table[index].2),
+        Err(_) => ("UNKNOWN_RULE", "it is refused by a rule without a sentence"),
+    }
+}
 
 /// Why a file is refused: the first rule that it breaks, and the lowest offset at which it does.
 ///
@@ -26,22 +34,12 @@ pub struct Refusal {
 impl Refusal {
     /// The name of the rule, as `SHARED_BYTE`.
     pub fn name(&self) -> &'static str {
-        self.row().0
+        row(&TABLE, self.rule).0
     }
 
     /// What the rule refuses, in the words of `docs/RULES.md`.
     pub fn sentence(&self) -> &'static str {
-        self.row().1
-    }
-
-    /// Its row of the table; a library that is newer than the table may have more rules.
-    fn row(&self) -> (&'static str, &'static str) {
-        let index = usize::from(self.rule).checked_sub(1);
-        let row = index.and_then(|index| TABLE.get(index));
-        row.copied().unwrap_or((
-            "UNKNOWN_RULE",
-            "the file is refused by a rule without a sentence",
-        ))
+        row(&TABLE, self.rule).1
     }
 }
 
@@ -58,3 +56,48 @@ impl fmt::Display for Refusal {
 }
 
 impl Error for Refusal {}
+
+/// Why objects don't link: the first of the link's rules that stands, and where.
+#[derive(Clone, Copy, Debug, PartialEq, Eq, Hash)]
+#[non_exhaustive]
+pub struct LinkRefusal {
+    /// The number of the rule; [`rules::link`](crate::rules::link) has their names.
+    pub rule: u16,
+    /// Which file, from 0.
+    pub file: usize,
+    /// Which section or symbol of it; `docs/RULES.md` says for each rule what is counted.
+    pub index: u64,
+    /// Which entry of that.
+    pub entry: u64,
+}
+
+impl LinkRefusal {
+    /// The name of the rule, as `BAD_OPTIONS`.
+    pub fn name(&self) -> &'static str {
+        row(&LINK_TABLE, self.rule).0
+    }
+
+    /// What the rule refuses, in the words of `docs/RULES.md`.
+    pub fn sentence(&self) -> &'static str {
+        row(&LINK_TABLE, self.rule).1
+    }
+}
+
+impl fmt::Display for LinkRefusal {
+    fn fmt(&self, f: &mut fmt::Formatter<'_>) -> fmt::Result {
+        let LinkRefusal {
+            rule,
+            file,
+            index,
+            entry,
+        } = self;
+        write!(
+            f,
+            "rule {rule} ({}) at entry {entry} of {index} in file {file}: {}",
+            self.name(),
+            self.sentence()
+        )
+    }
+}
+
+impl Error for LinkRefusal {}

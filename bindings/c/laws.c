@@ -1,0 +1,195 @@
+/*
+ * laws COUNT SEED FILE..: changes bytes of each file, COUNT times in all, and looks whether what the library tells of each copy agrees with
+ * itself, by laws that need no other judge:
+ *
+ * - the verdict by a room is that without one;
+ * - of a file that is refused `show` says just that line, and `rewrite` gives the same refusal;
+ * - the parts of one that is accepted hold each byte once, in order, and the parts that are sections' are as long as these say;
+ * - what `rewrite` writes is accepted, and rewritten gives itself; a name that a hash table finds is that of the symbol found;
+ * - a link of the copy and itself by a room is the same by a longer room, and what is linked is accepted.
+ *
+ * The last line is 'N passed, M failed'. The copies that a law fails for are written to failed-K.
+ */
+#include "elfmap.h"
+#include <inttypes.h>
+#include <stdio.h>
+#include <stdlib.h>
+#include <string.h>
+
+enum { LONGEST = 1 << 16, ROOM = 1 << 22, MANY = 1 << 16 };
+
+static uint8_t text[ROOM], again[ROOM], longer[ROOM];
+static struct elfmap_extent extents[MANY];
+static struct elfmap_part parts[3 * MANY];
+static uint64_t state;
+static const char *broken;
+
+static uint64_t chosen(uint64_t below) {
+    state ^= state << 13;
+    state ^= state >> 7;
+    state ^= state << 17;
+    return below == 0 ? 0 : state % below;
+}
+
+static bool holds(bool law, const char *words) {
+    if (!law && broken == NULL)
+        broken = words;
+    return law;
+}
+
+/* A few bytes of the header and the tables, or of anything; or the end is cut off. */
+static size_t change(uint8_t *bytes, size_t len) {
+    static const uint8_t values[] = {0, 1, 2, 3, 4, 7, 8, 9, 11, 16, 24, 64, 127, 128, 255};
+    uint64_t table = 0;
+    for (int i = 0; i < 8 && len >= 64; i++)
+        table |= (uint64_t) bytes[40 + (bytes[5] == 2 ? 7 - i : i)] << (8 * i);
+    for (uint64_t k = 0, count = 1 + chosen(3); k < count && len > 0; k++) {
+        uint64_t kind = chosen(10);
+        size_t at = kind < 2 ? chosen(len < 64 ? len : 64) : kind < 7 && table < len ? table + chosen(len - table) : chosen(len);
+        bytes[at] = chosen(2) ? values[chosen(sizeof values)] : (uint8_t) (bytes[at] + (chosen(2) ? 1 : 255));
+    }
+    return chosen(50) == 0 ? chosen(len) : len;
+}
+
+static void verdicts(const uint8_t *bytes, size_t len, bool kept, struct elfmap_fault fault) {
+    struct elfmap_fault other = {0, 0};
+    bool same = elfmap_verdict_in(bytes, len, extents, MANY, &other) == kept;
+    holds(same && (kept || (other.rule == fault.rule && other.at == fault.at)), "the verdicts differ");
+}
+
+static void refused(const uint8_t *bytes, size_t len, struct elfmap_fault fault) {
+    struct elfmap_outcome outcome;
+    char line[64];
+    int size = snprintf(line, sizeof line, "refused %u %" PRIu64 "\n", (unsigned) fault.rule, fault.at);
+    uint32_t status = elfmap_show(bytes, len, text, ROOM, &outcome);
+    holds(status == ELFMAP_REFUSED && outcome.rule == fault.rule && outcome.at == fault.at, "show refuses otherwise");
+    holds(outcome.length == (uint64_t) size && memcmp(text, line, (size_t) size) == 0, "show says another line");
+    status = elfmap_rewrite(bytes, len, text, ROOM, &outcome);
+    holds(status == ELFMAP_REFUSED && outcome.rule == fault.rule && outcome.at == fault.at, "rewrite refuses otherwise");
+}
+
+static void account(const struct elfmap_file *file, const uint8_t *bytes, size_t len) {
+    struct elfmap_fault fault;
+    struct elfmap_section section;
+    uint64_t count = 0, at = 0;
+    if (!holds(elfmap_parts(bytes, len, parts, 3 * MANY, &count, &fault), "there are no parts"))
+        return;
+    for (uint64_t k = 0; k < count; at += parts[k++].len) {
+        holds(parts[k].start == at && parts[k].len > 0, "a part does not begin where the one before it ends");
+        if (parts[k].owner != ELFMAP_GAP && parts[k].owner >= ELFMAP_CONTENTS)
+            holds(elfmap_section(file, bytes, len, parts[k].owner - ELFMAP_CONTENTS, &section) && section.sh_size == parts[k].len,
+                  "a part is not as long as its section");
+    }
+    holds(at == len, "the parts do not end where the file does");
+}
+
+static void tables(const struct elfmap_file *file, const uint8_t *bytes, size_t len) {
+    struct elfmap_table table, symbols;
+    struct elfmap_section section;
+    struct elfmap_symbol symbol, other;
+    uint32_t found;
+    for (uint64_t i = 0; i < file->sections; i++) {
+        if (!elfmap_table(file, bytes, len, i, &table) || !elfmap_section(file, bytes, len, i, &section))
+            continue;
+        for (uint64_t j = 0; j < table.entries && table.sh_type == 2; j++)
+            if (elfmap_symbol(&table, bytes, len, j, &symbol))
+                holds(symbol.name.start + symbol.name.len <= len, "a name lies outside");
+        if (table.sh_type != 5 || !elfmap_table(file, bytes, len, section.sh_link, &symbols))
+            continue;
+        for (uint64_t j = 1; j < symbols.entries && j < 20; j++)
+            if (elfmap_symbol(&symbols, bytes, len, j, &symbol) &&
+                elfmap_find(&table, bytes, len, bytes + symbol.name.start, symbol.name.len, &found) &&
+                elfmap_symbol(&symbols, bytes, len, found, &other))
+                holds(other.name.len == symbol.name.len && memcmp(bytes + other.name.start, bytes + symbol.name.start, symbol.name.len) == 0,
+                      "a symbol of another name is found");
+    }
+}
+
+static void rewritten(const uint8_t *bytes, size_t len) {
+    struct elfmap_outcome outcome, second;
+    struct elfmap_fault fault;
+    uint32_t status = elfmap_rewrite(bytes, len, text, ROOM, &outcome);
+    if (status != ELFMAP_DONE) {
+        holds(status == ELFMAP_REFUSED && outcome.rule >= 40, "an accepted file is refused by a rule of images");
+        return;
+    }
+    holds(elfmap_verdict(text, outcome.length, &fault), "what is written is refused");
+    status = elfmap_rewrite(text, outcome.length, again, ROOM, &second);
+    holds(status == ELFMAP_DONE && second.length == outcome.length && memcmp(text, again, outcome.length) == 0, "what is written is written otherwise");
+}
+
+static void linked(const uint8_t *bytes, size_t len) {
+    struct elfmap_extent files[] = {{0, len}};
+    struct elfmap_options options = {0x400000, 0x1000, 1};
+    static const uint8_t rules[] = "1 abs 8 wrap\n2 pc 4 signed\n4 pc 4 signed\n10 abs 4 unsigned\n11 abs 4 signed\n";
+    struct elfmap_outcome outcome, second;
+    struct elfmap_fault fault;
+    const uint8_t *entry = (const uint8_t *) "answer";
+    uint32_t status = elfmap_link(bytes, len, files, 1, &options, entry, 6, rules, sizeof rules - 1, text, ROOM, &outcome);
+    uint32_t wanted = elfmap_link(bytes, len, files, 1, &options, entry, 6, rules, sizeof rules - 1, longer, 0, &second);
+    holds(wanted == (outcome.length > 0 ? ELFMAP_SMALL_ROOM : status) && second.length == outcome.length, "another length is wanted");
+    if (status == ELFMAP_DONE)
+        holds(elfmap_verdict(text, outcome.length, &fault), "what is linked is refused");
+}
+
+static bool judge(const uint8_t *bytes, size_t len) {
+    struct elfmap_fault fault = {0, 0};
+    struct elfmap_file file;
+    bool kept = elfmap_verdict(bytes, len, &fault);
+    broken = NULL;
+    verdicts(bytes, len, kept, fault);
+    if (!kept) {
+        refused(bytes, len, fault);
+    } else if (holds(elfmap_file(bytes, len, &file), "there are no numbers")) {
+        account(&file, bytes, len);
+        tables(&file, bytes, len);
+        rewritten(bytes, len);
+        linked(bytes, len);
+    }
+    return broken == NULL;
+}
+
+static void keep(const uint8_t *bytes, size_t len, uint64_t k) {
+    char name[64];
+    snprintf(name, sizeof name, "failed-%" PRIu64, k);
+    FILE *file = fopen(name, "wb");
+    if (file != NULL) {
+        fwrite(bytes, 1, len, file);
+        fclose(file);
+    }
+    printf("laws: %s: %s\n", name, broken);
+}
+
+static size_t read_file(const char *path, uint8_t *bytes) {
+    FILE *file = fopen(path, "rb");
+    size_t len = file != NULL ? fread(bytes, 1, LONGEST, file) : 0;
+    if (file != NULL)
+        fclose(file);
+    return len;
+}
+
+int main(int argc, char **argv) {
+    static uint8_t whole[256][LONGEST], bytes[LONGEST];
+    size_t lens[256];
+    int files = argc - 3 < 256 ? argc - 3 : 256;
+    uint64_t passed = 0, failed = 0, accepted = 0;
+    struct elfmap_fault fault;
+    if (files < 1)
+        return 2;
+    state = strtoull(argv[2], NULL, 10) * 2 + 1;
+    for (int i = 0; i < files; i++)
+        lens[i] = read_file(argv[3 + i], whole[i]);
+    for (uint64_t k = 0, count = strtoull(argv[1], NULL, 10); k < count; k++) {
+        int i = (int) chosen((uint64_t) files);
+        memcpy(bytes, whole[i], lens[i]);
+        size_t len = change(bytes, lens[i]);
+        accepted += elfmap_verdict(bytes, len, &fault);
+        if (judge(bytes, len)) {
+            passed++;
+        } else if (failed++ < 10) {
+            keep(bytes, len, failed);
+        }
+    }
+    printf("%" PRIu64 " of them are accepted\n%" PRIu64 " passed, %" PRIu64 " failed\n", accepted, passed, failed);
+    return failed != 0;
+}

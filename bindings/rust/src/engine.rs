@@ -1,0 +1,214 @@
+use alloc::vec::Vec;
+use core::error::Error;
+use core::fmt;
+
+use crate::raw::{
+    self, BAD_RULES, DONE, Extent, Inputs, LinkOptions, NOT_LINKED, Outcome, REFUSED,
+};
+use crate::raw::{SMALL_ROOM, TOO_LONG};
+use crate::refusal::{LinkRefusal, Refusal};
+
+/// Why an engine writes nothing.
+#[derive(Clone, Copy, Debug, PartialEq, Eq, Hash)]
+#[non_exhaustive]
+pub enum Failure {
+    /// This file, the first such one, breaks a rule of images, or one of objects, from 40 on.
+    Refused {
+        /// Which file, from 0.
+        file: usize,
+        /// The first rule that it breaks, and the lowest offset.
+        refusal: Refusal,
+    },
+    /// The objects don't link.
+    NotLinked(LinkRefusal),
+    /// What would be written is longer than 2^30 bytes, or has too many segments.
+    TooLong,
+    /// This line of the relocation rules, from 1, is bad, and none before it.
+    BadRules {
+        /// The line.
+        line: usize,
+    },
+    /// There is too little memory.
+    OutOfMemory,
+}
+
+impl fmt::Display for Failure {
+    fn fmt(&self, f: &mut fmt::Formatter<'_>) -> fmt::Result {
+        match self {
+            Failure::Refused { file, refusal } => write!(f, "file {file}: {refusal}"),
+            Failure::NotLinked(refusal) => refusal.fmt(f),
+            Failure::TooLong => f.write_str("what would be written is too long"),
+            Failure::BadRules { line } => write!(f, "line {line} of the rules is bad"),
+            Failure::OutOfMemory => f.write_str("there is too little memory"),
+        }
+    }
+}
+
+impl Error for Failure {}
+
+/// Where a link places sections, and where the program begins.
+///
+/// ```
+/// let options = elfmap::Options::default();
+/// assert_eq!((options.base, options.page, options.entry), (0x400000, 0x1000, &b"_start"[..]));
+/// ```
+#[derive(Clone, Copy, Debug, PartialEq, Eq, Hash)]
+pub struct Options<'a> {
+    /// The address that placement begins at: a multiple of `page`.
+    pub base: u64,
+    /// What each output section begins at a multiple of: a power of two.
+    pub page: u64,
+    /// The name of the symbol that the program begins at.
+    pub entry: &'a [u8],
+}
+
+impl Default for Options<'_> {
+    fn default() -> Self {
+        Options {
+            base: 0x40_0000,
+            page: 0x1000,
+            entry: b"_start",
+        }
+    }
+}
+
+/// The lines of `elfmap show` on a file, also on one that is refused. It takes memory for the
+/// records, the tables and the lines.
+///
+/// # Errors
+///
+/// [`Failure::OutOfMemory`] alone.
+pub fn show(bytes: &[u8]) -> Result<Vec<u8>, Failure> {
+    match said(|room| raw::show(bytes, room)) {
+        Ok(text) | Err((REFUSED, _, text)) => Ok(text),
+        Err((status, outcome, _)) => Err(failure(status, outcome)),
+    }
+}
+
+/// The object that a relocatable file denotes, as a file in canonical layout.
+///
+/// # Errors
+///
+/// [`Failure::Refused`], with file 0, [`Failure::TooLong`] or [`Failure::OutOfMemory`].
+///
+/// # Examples
+///
+/// ```
+/// let failure = elfmap::rewrite(b"no ELF file").unwrap_err();
+/// assert_eq!(
+///     failure.to_string(),
+///     "file 0: rule 2 (TOO_SHORT) at offset 11: \
+///      the file is refused because it is shorter than an ELF header, 64 bytes",
+/// );
+/// ```
+pub fn rewrite(bytes: &[u8]) -> Result<Vec<u8>, Failure> {
+    said(|room| raw::rewrite(bytes, room)).map_err(|(status, outcome, _)| failure(status, outcome))
+}
+
+/// The executable of these objects, by the relocation rules of a text as `docs/RULE_FILES.md` has it.
+/// The bytes of the files are copied, for the time of the call.
+///
+/// # Errors
+///
+/// The first [`Failure`] of bad rules, refused files, and the link's rules; or want of memory.
+pub fn link(files: &[&[u8]], options: &Options<'_>, rules: &str) -> Result<Vec<u8>, Failure> {
+    let (bytes, places) = joined(files)?;
+    let inputs = inputs(&bytes, &places, options, rules);
+    said(|room| raw::link(&inputs, options.entry, room))
+        .map_err(|(status, outcome, _)| failure(status, outcome))
+}
+
+/// The lines of `elfmap map` on these objects: where their sections and names stand in the link, and
+/// the relocated bytes by these rules. `options.entry` is not looked at.
+///
+/// # Errors
+///
+/// Those of [`link`].
+pub fn map(files: &[&[u8]], options: &Options<'_>, rules: &str) -> Result<Vec<u8>, Failure> {
+    let (bytes, places) = joined(files)?;
+    let inputs = inputs(&bytes, &places, options, rules);
+    said(|room| raw::map(&inputs, room)).map_err(|(status, outcome, _)| failure(status, outcome))
+}
+
+/// All that an engine says, asked for twice: how long it is, and then for itself. Another status than
+/// [`DONE`] comes with what is said then.
+fn said(engine: impl Fn(&mut [u8]) -> (u32, Outcome)) -> Result<Vec<u8>, (u32, Outcome, Vec<u8>)> {
+    let mut room = Vec::new();
+    let (mut status, mut outcome) = engine(&mut room);
+    if status == SMALL_ROOM {
+        let wanted = outcome.length as usize;
+        if room.try_reserve_exact(wanted).is_err() {
+            return Err((u32::MAX, outcome, room));
+        }
+        room.resize(wanted, 0);
+        (status, outcome) = engine(&mut room);
+    }
+    if status == DONE {
+        Ok(room)
+    } else {
+        Err((status, outcome, room))
+    }
+}
+
+/// What a status says, with the numbers of its outcome.
+fn failure(status: u32, outcome: Outcome) -> Failure {
+    let Outcome {
+        at,
+        file,
+        index,
+        rule,
+        ..
+    } = outcome;
+    let file = file as usize;
+    match status {
+        REFUSED => Failure::Refused {
+            file,
+            refusal: Refusal { rule, offset: at },
+        },
+        NOT_LINKED => Failure::NotLinked(LinkRefusal {
+            rule,
+            file,
+            index,
+            entry: at,
+        }),
+        TOO_LONG => Failure::TooLong,
+        BAD_RULES => Failure::BadRules { line: at as usize },
+        _ => Failure::OutOfMemory,
+    }
+}
+
+/// The bytes of all files, one behind the other, and where each one stands there.
+fn joined(files: &[&[u8]]) -> Result<(Vec<u8>, Vec<Extent>), Failure> {
+    let (mut bytes, mut places) = (Vec::new(), Vec::new());
+    let len = files.iter().map(|it| it.len()).sum();
+    let is_there = bytes
+        .try_reserve_exact(len)
+        .and(places.try_reserve_exact(files.len()));
+    is_there.map_err(|_| Failure::OutOfMemory)?;
+    for file in files {
+        places.push(Extent {
+            start: bytes.len() as u64,
+            len: file.len() as u64,
+        });
+        bytes.extend_from_slice(file);
+    }
+    Ok((bytes, places))
+}
+
+fn inputs<'a>(
+    bytes: &'a [u8],
+    files: &'a [Extent],
+    options: &Options<'_>,
+    rules: &'a str,
+) -> Inputs<'a> {
+    Inputs {
+        bytes,
+        files,
+        options: LinkOptions {
+            base: options.base,
+            page: options.page,
+            uses_rules: 1,
+        },
+        rules: rules.as_bytes(),
+    }
+}
