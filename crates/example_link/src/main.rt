@@ -13,7 +13,6 @@ use elf_link::{Form, Options, Range, RelocRule, Width, map, relocate};
 use elf_object::{Object, object_of};
 use std::alloc::Global;
 use std::hash::{BuildHasherDefault, FoldHasher};
-use std::io::Write;
 use std::process::ExitCode;
 use std::{env, fs, io};
 
@@ -36,42 +35,35 @@ fn main(rt: HostRuntime) -> io::Result<ExitCode> {
         eprintln!(rt; "usage: example_link A B")?;
         return Ok(ExitCode::from(2));
     };
-    if let Err((status, why)) = link_files(&rt, first.as_str(), second.as_str()) {
+    let alloc = rt.alloc();
+    let first = fs::read(&rt, first.as_str())?;
+    let second = fs::read(&rt, second.as_str())?;
+    let linked = match (object_in(alloc, &first), object_in(alloc, &second)) {
+        (Ok(first), Ok(second)) => link(alloc, &[first, second], &mut rt.stdout()),
+        (Err(why), _) | (_, Err(why)) => Err(why),
+    };
+    if let Err(why) = linked {
         eprintln!(rt; "example_link: {why}")?;
-        return Ok(ExitCode::from(status));
+        return Ok(ExitCode::from(1));
     }
     Ok(ExitCode::from(0))
 }
 
-fn link_files(rt: &HostRuntime, first: &str, second: &str) -> Result<(), (u8, &'static str)> {
-    let first = fs::read(rt, first).map_err(|_| (3, "the first file can't be read"))?;
-    let second = fs::read(rt, second).map_err(|_| (3, "the second file can't be read"))?;
-    link_bytes(rt, &first, &second)
+fn object_in(alloc: Global, bytes: &[u8]) -> Result<Object<'_>, &'static str> {
+    let image = parse(alloc, bytes).map_err(|_| "a file is no ELF-64 file")?;
+    object_of(alloc, &image).map_err(|_| "a file is no object")
 }
 
-fn link_bytes(rt: &HostRuntime, first: &[u8], second: &[u8]) -> Result<(), (u8, &'static str)> {
-    let alloc = rt.alloc();
-    let objects = [object_in(alloc, first)?, object_in(alloc, second)?];
-    link(alloc, &objects, &mut rt.stdout())
-}
-
-fn object_in(alloc: Global, bytes: &[u8]) -> Result<Object<'_>, (u8, &'static str)> {
-    let image = parse(alloc, bytes).map_err(|_| (1, "a file is no ELF-64 file"))?;
-    object_of(alloc, &image).map_err(|_| (1, "a file is no object"))
-}
-
-fn link<W: Write>(alloc: Global, files: &[Object<'_>], to: &mut W) -> Result<(), (u8, &'static str)>
+fn link<W: io::Write>(alloc: Global, files: &[Object<'_>], to: &mut W) -> Result<(), &'static str>
     // What is out is the executable of a link of these objects.
     ensures { OnOk result ((map : LinkMapValue) × IsMapOfSome files.now map × ((executable : List ℕ) ×
         ExecLaid files.now map RULES executable × Appends (W.contents to.old) (W.contents to.new) executable)) }
 {
     let hasher: BuildHasherDefault<FoldHasher> = BuildHasherDefault::new();
     let Ok(map) = map(alloc, files, &OPTIONS, hasher) else {
-        return Err((1, "the objects can't be linked"));
+        return Err("the objects can't be linked");
     };
-    let Ok(linked) = relocate(alloc, &map, files, &RULES) else {
-        return Err((1, "a relocation can't be applied"));
-    };
+    let linked = relocate(alloc, &map, files, &RULES).map_err(|_| "a relocation can't be applied")?;
     is_ready(&linked, files, &map, &RULES);
-    write_exec(alloc, &linked, to).map_err(|_| (3, "the executable can't be written"))
+    write_exec(alloc, &linked, to).map_err(|_| "the executable can't be written")
 }

@@ -1,0 +1,215 @@
+"use strict";
+// What the module tells of a file in its memory. The module is the library for C: each of its answers is proved; nothing here reads a byte of
+// the file itself, but for what is to be seen of it. LAYOUT is made from include/elfmap.h: the size of each struct, and of each field its
+// name, offset, width, whether it has a sign, and how many of them there are.
+
+const PAGE = 65536;
+// No file of more bytes is accepted: of a longer one so many are read, and one more.
+const MOST_BYTES = 2 ** 30;
+const SHORT_ROOM = 0;
+const NO_OWNER = 0xffffffffffffffffn;
+
+class Reader {
+    // A reader of a file of so many bytes, which are to be put at `bytes()`.
+    constructor(module, layout, length) {
+        this.module = module.exports;
+        this.layout = layout;
+        this.length = length;
+        this.base = (Number(this.module.__heap_base.value) + 15) & ~15;
+        this.next = this.base;
+        for (const name of ["elfmap_fault", "elfmap_file", "elfmap_table", "elfmap_extent"]) this[name] = this.place(layout[name].size);
+        this.record = this.place(256);
+        this.text = this.place(PAGE);
+        this.start = this.place(length);
+        this.parts = { count: 0, at: this.next };
+        this.opened = -1;
+    }
+
+    // ---- Memory
+
+    // So many bytes of the module's memory, which is as long as it has to be; the place is a multiple of 16.
+    place(size) {
+        const at = this.next;
+        this.next = at + ((size + 15) & ~15);
+        this.hold(this.next);
+        return at;
+    }
+
+    hold(end) {
+        const lacking = end - this.module.memory.buffer.byteLength;
+        const pages = Math.ceil(lacking / PAGE);
+        // With a memory of 64-bit addresses the count is a big number.
+        if (lacking > 0) typeof this.module.memory.grow(this.wide(0)) && this.module.memory.grow(this.wide(pages));
+    }
+
+    wide(number) {
+        return this.isWide ? BigInt(number) : number;
+    }
+
+    view() {
+        if (this.seen?.buffer !== this.module.memory.buffer) this.seen = new DataView(this.module.memory.buffer);
+        return this.seen;
+    }
+
+    // Bytes of the file, without a copy: until memory grows.
+    bytes(from = 0, length = this.length - from) {
+        return new Uint8Array(this.module.memory.buffer, this.start + from, length);
+    }
+
+    call(name, ...words) {
+        return this.module[name](...words.map(BigInt)) & 1;
+    }
+
+    // A struct at a place, as an object of numbers.
+    struct(name, at) {
+        const view = this.view();
+        const found = {};
+        for (const field of this.layout[name].fields) found[field.name] = this.field(view, field, at + field.at);
+        return found;
+    }
+
+    field(view, field, at) {
+        if (field.struct) return this.struct(field.struct, at);
+        if (field.count) return Array.from({ length: field.count }, (_, k) => view.getUint8(at + k));
+        const get = `get${field.width === 8 ? "Big" : ""}${field.signed ? "Int" : "Uint"}${8 * field.width}`;
+        const number = view[get](at, true);
+        return typeof number === "bigint" && Number.isSafeInteger(Number(number)) ? Number(number) : number;
+    }
+
+    // ---- The verdict
+
+    // The first rule that the file breaks and where; null where it breaks none.
+    verdict() {
+        if (this.judged(this.next, 0)) return null;
+        let fault = this.struct("elfmap_fault", this.elfmap_fault);
+        if (fault.rule !== SHORT_ROOM) return fault;
+        const room = this.place(fault.at * this.layout.elfmap_extent.size);
+        const kept = this.judged(room, fault.at);
+        fault = this.struct("elfmap_fault", this.elfmap_fault);
+        this.next = room;
+        return kept ? null : fault;
+    }
+
+    judged(room, count) {
+        return this.call("elfmap_verdict_in", this.start, this.length, room, count, this.elfmap_fault);
+    }
+
+    // ---- The records; null where there is none
+
+    // What a call puts into a struct.
+    answer(struct, name, ...words) {
+        return this.call(name, ...words, this.record) ? this.struct(struct, this.record) : null;
+    }
+
+    file() {
+        return this.call("elfmap_file", this.start, this.length, this.elfmap_file) ? this.struct("elfmap_file", this.elfmap_file) : null;
+    }
+
+    header() {
+        return this.answer("elfmap_header", "elfmap_header", this.start, this.length);
+    }
+
+    section(index) {
+        return this.answer("elfmap_section", "elfmap_section", this.elfmap_file, this.start, this.length, index);
+    }
+
+    segment(index) {
+        return this.answer("elfmap_segment", "elfmap_segment", this.elfmap_file, this.start, this.length, index);
+    }
+
+    // The name of a section, as an extent of the file.
+    name(index) {
+        return this.answer("elfmap_extent", "elfmap_name", this.elfmap_file, this.start, this.length, index);
+    }
+
+    // The byte that the loadable segments give an address.
+    load(address) {
+        const is_there = this.call("elfmap_load", this.elfmap_file, this.start, this.length, address, this.record);
+        return is_there ? this.view().getUint8(this.record) : null;
+    }
+
+    // ---- The parts: what each byte of a sound file belongs to
+
+    // How many there are.
+    account() {
+        this.next = this.parts.at;
+        const asked = this.call("elfmap_parts", this.start, this.length, this.next, 0, this.record, this.elfmap_fault);
+        const fault = this.struct("elfmap_fault", this.elfmap_fault);
+        if (!asked && fault.rule !== SHORT_ROOM) return 0;
+        this.parts.at = this.place(fault.at * this.layout.elfmap_part.size);
+        const done = this.call("elfmap_parts", this.start, this.length, this.parts.at, fault.at, this.record, this.elfmap_fault);
+        this.parts.count = done ? Number(this.view().getBigUint64(this.record, true)) : 0;
+        return this.parts.count;
+    }
+
+    part(index) {
+        const part = this.struct("elfmap_part", this.parts.at + index * this.layout.elfmap_part.size);
+        return { ...part, owner: part.owner === NO_OWNER ? null : part.owner };
+    }
+
+    // ---- Tables
+
+    // The table in a section; null where it holds none.
+    table(section) {
+        if (this.opened !== section) {
+            this.opened = this.call("elfmap_table", this.elfmap_file, this.start, this.length, section, this.elfmap_table) ? section : -1;
+        }
+        return this.opened === section ? this.struct("elfmap_table", this.elfmap_table) : null;
+    }
+
+    entry(struct, name, section, index) {
+        return this.table(section) && this.answer(struct, name, this.elfmap_table, this.start, this.length, index);
+    }
+
+    symbol(section, index) {
+        return this.entry("elfmap_symbol", "elfmap_symbol", section, index);
+    }
+
+    relocation(section, index) {
+        return this.entry("elfmap_relocation", "elfmap_relocation", section, index);
+    }
+
+    dynamic(section, index) {
+        return this.entry("elfmap_dynamic", "elfmap_dynamic", section, index);
+    }
+
+    note(section, index) {
+        return this.entry("elfmap_note", "elfmap_note", section, index);
+    }
+
+    // A string of the table's string table, as an extent of the file.
+    string(section, offset) {
+        return this.table(section) && this.answer("elfmap_extent", "elfmap_string", this.elfmap_table, this.start, this.length, offset);
+    }
+
+    // The symbol of a name, by a hash table.
+    find(section, name) {
+        if (!this.table(section) || name.length > PAGE) return null;
+        new Uint8Array(this.module.memory.buffer, this.text, name.length).set(name);
+        const found = this.call("elfmap_find", this.elfmap_table, this.start, this.length, this.text, name.length, this.record);
+        return found ? this.view().getUint32(this.record, true) : null;
+    }
+
+    // The bytes of an extent of the file as text: other characters than those that are printed as escapes.
+    words(extent) {
+        return words_of(this.bytes(extent.start, extent.len));
+    }
+}
+
+const UTF8 = new TextDecoder("utf-8", { fatal: true });
+
+// Bytes as text: UTF-8 where they are that, and each byte that can't be seen as \xHH.
+function words_of(bytes) {
+    let text;
+    try {
+        text = UTF8.decode(bytes);
+    } catch {
+        text = Array.from(bytes, (it) => String.fromCharCode(it)).join("").replace(/[\x80-\xff]/g, escaped);
+    }
+    return text.replace(/[\x00-\x1f\x7f\u2028\u2029\u202a-\u202e\u2066-\u2069]/g, escaped);
+}
+
+function escaped(character) {
+    const code = character.charCodeAt(0);
+    return code < 256 ? `\\x${code.toString(16).padStart(2, "0")}` : `\\u${code.toString(16)}`;
+}
