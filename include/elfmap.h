@@ -20,7 +20,7 @@
  *
  * What a call answers is proved, for all bytes. What a caller keeps nothing can prove:
  * - No pointer is null, also where its length is 0, and each is aligned as its type asks for.
- * - `bytes` points to `len` bytes, and `room` to `count` extents; len is at most PTRDIFF_MAX bytes, and so is the size of a room. While a
+ * - `bytes` points to `len` bytes, and `room` to `count` extents or parts; len is at most PTRDIFF_MAX bytes, and so is the size of a room. While a
  *   call runs nobody writes these bytes; nor reads or writes the room or the struct that the call fills in.
  * - The struct that a call fills in, and the room, overlap neither one another nor the bytes or another argument.
  *
@@ -51,6 +51,19 @@ struct elfmap_fault {
 struct elfmap_extent {
     uint64_t start;
     uint64_t len;
+};
+
+/* What a part of a file belongs to: the content of section i is ELFMAP_CONTENTS + i. */
+enum { ELFMAP_HEADER = 0, ELFMAP_SECTION_HEADERS = 1, ELFMAP_PROGRAM_HEADERS = 2, ELFMAP_CONTENTS = 3 };
+
+/* In place of an owner: the part is a gap, which belongs to nothing. */
+#define ELFMAP_GAP UINT64_MAX
+
+/* The bytes at the offsets from `start` to below `start + len`, and what they belong to. */
+struct elfmap_part {
+    uint64_t start;
+    uint64_t len;
+    uint64_t owner;
 };
 
 /* What the accessors need of a file. */
@@ -125,8 +138,22 @@ bool elfmap_verdict(const uint8_t *bytes, size_t len, struct elfmap_fault *fault
 bool elfmap_verdict_in(const uint8_t *bytes, size_t len, struct elfmap_extent *room, size_t count, struct elfmap_fault *fault);
 
 /*
+ * What each byte of the file belongs to, by a room of `count` parts that the caller lends; what the room held is lost. True exactly where
+ * the file keeps all 33 rules and the room has as many parts as are wanted. `parts` is then how many there are, and the first so many of the
+ * room are the parts of the file: in ascending order from offset 0 to the end, each byte in just one of them, none of them empty. They are
+ * the header, the section header table, the program header table and the content of each section, as far as these have a byte, and the
+ * gaps between them, each as long as it can be.
+ *
+ * Else it is false, `parts` is unchanged, and `fault` is as elfmap_verdict has it; where the file keeps rules 1 to 32 and the room has too
+ * few parts, `fault->rule` is ELFMAP_SHORT_ROOM and `fault->at` is how many are wanted: ten, and three for each section header. `fault` is
+ * unchanged where the answer is true. It takes n log n for any file.
+ */
+bool elfmap_parts(const uint8_t *bytes, size_t len, struct elfmap_part *room, size_t count, uint64_t *parts, struct elfmap_fault *fault);
+
+/*
  * ---- The records. Each call answers true and fills in its last argument, or false, and leaves it as it was; none of them changes the
- * bytes or the file, and each takes a time that does not grow with the file, but for the length of a name.
+ * bytes or the file, and each takes a time that does not grow with the file, but for the length of a name, and in elfmap_load for the count
+ * of program headers.
  *
  * They don't judge: of bytes that break a rule they tell what stands where the header says, if it lies in the file. `file` is to be what
  * elfmap_file made of the same bytes. With any other numbers in it, or of other bytes, the answer says nothing, and yet no call reads
@@ -147,6 +174,13 @@ bool elfmap_section(const struct elfmap_file *file, const uint8_t *bytes, size_t
 
 /* Program header `index`. Of a file that keeps rules 1 to 32 it is true exactly where `index` is below `file->segments`. */
 bool elfmap_segment(const struct elfmap_file *file, const uint8_t *bytes, size_t len, uint64_t index, struct elfmap_segment *segment);
+
+/*
+ * The byte that the loadable segments (PT_LOAD, 1) give an address: the first one, in the order of the program headers, that has it among
+ * its `p_memsz` addresses from `p_vaddr` on gives it that byte of the file, and 0 behind its `p_filesz` bytes there. Of a file that keeps
+ * rules 1 to 32 it is true exactly where some loadable segment has the address.
+ */
+bool elfmap_load(const struct elfmap_file *file, const uint8_t *bytes, size_t len, uint64_t address, uint8_t *byte);
 
 /*
  * Where the name of section `index` stands, without its closing zero: it always lies in the bytes. Both numbers are 0 where the name has no

@@ -90,8 +90,16 @@ static void put_section(uint8_t *at, uint32_t name, uint32_t type, uint64_t offs
     put(at + 32, 8, size, is_big);
 }
 
+static void put_segment(uint8_t *at, uint32_t type, uint64_t offset, uint64_t address, uint64_t file_size, uint64_t memory_size, bool is_big) {
+    put(at, 4, type, is_big);
+    put(at + 8, 8, offset, is_big);
+    put(at + 16, 8, address, is_big);
+    put(at + 32, 8, file_size, is_big);
+    put(at + 40, 8, memory_size, is_big);
+}
+
 /* Four bytes at 64, the names at 68, and from 88 on three section headers: NULL, `.data` and `.shstrtab`. */
-enum { SMALL_SIZE = 88 + 3 * SECTION_SIZE, SMALL_SECTIONS = 3, SMALL_WANTED = 3 + SMALL_SECTIONS };
+enum { SMALL_SIZE = 88 + 3 * SECTION_SIZE, SMALL_SECTIONS = 3, SMALL_WANTED = 3 + SMALL_SECTIONS, SMALL_PARTS = 3 * SMALL_WANTED + 1 };
 static const char small_names[] = "\0.data\0.shstrtab";
 
 static void make_small(uint8_t *bytes, bool is_big) {
@@ -100,6 +108,21 @@ static void make_small(uint8_t *bytes, bool is_big) {
     memcpy(bytes + 68, small_names, sizeof small_names);
     put_section(bytes + 88 + SECTION_SIZE, 1, 1, 64, 4, is_big);
     put_section(bytes + 88 + 2 * SECTION_SIZE, 7, 3, 68, sizeof small_names, is_big);
+}
+
+/* Three program headers at 64, and eight bytes at 232. The second of two loadable segments begins within the first one. */
+enum { LOADED_SIZE = HEADER_SIZE + 3 * SEGMENT_SIZE + 8, LOADED_AT = HEADER_SIZE + 3 * SEGMENT_SIZE };
+
+static void make_loaded(uint8_t *bytes, bool is_big) {
+    memset(bytes, 0, LOADED_SIZE);
+    put_header(bytes, 0, 0, 0, is_big);
+    put(bytes + 32, 8, HEADER_SIZE, is_big);
+    put(bytes + 54, 2, SEGMENT_SIZE, is_big);
+    put(bytes + 56, 2, 3, is_big);
+    put_segment(bytes + HEADER_SIZE, 4, LOADED_AT, 0x1000, 8, 8, is_big);
+    put_segment(bytes + HEADER_SIZE + SEGMENT_SIZE, 1, LOADED_AT + 2, 0x1000, 4, 8, is_big);
+    put_segment(bytes + HEADER_SIZE + 2 * SEGMENT_SIZE, 1, LOADED_AT, 0x1004, 8, 8, is_big);
+    memcpy(bytes + LOADED_AT, "abcdefgh", 8);
 }
 
 /* ---- Checks. */
@@ -160,6 +183,65 @@ static void check_rooms(void) {
           "a room that is too small finds no shared byte");
     put(bytes + 20, 4, 2, false);
     check(!elfmap_verdict_in(bytes, SMALL_SIZE, room, 0, &fault) && is_fault(fault, 7, 20), "other rules want no room");
+}
+
+static bool is_part(struct elfmap_part part, uint64_t start, uint64_t len, uint64_t owner) {
+    return part.start == start && part.len == len && part.owner == owner;
+}
+
+static void check_parts(bool is_big) {
+    uint8_t made[SMALL_SIZE];
+    struct elfmap_part room[SMALL_PARTS + 1];
+    struct elfmap_fault fault = {77, 88};
+    uint64_t parts = 99;
+    make_small(made, is_big);
+    memset(room, 0x5a, sizeof room);
+    struct guarded it = guarded_bytes(made, SMALL_SIZE, true);
+    for (size_t count = 0; count < SMALL_PARTS; count++) {
+        check(!elfmap_parts(it.bytes, it.len, room, count, &parts, &fault) && is_fault(fault, ELFMAP_SHORT_ROOM, SMALL_PARTS) && parts == 99,
+              "a room that is too small says how many parts are wanted");
+    }
+    check(elfmap_parts(it.bytes, it.len, room, SMALL_PARTS, &parts, &fault) && parts == 5, "a small file has five parts");
+    check(is_part(room[0], 0, 64, ELFMAP_HEADER) && is_part(room[1], 64, 4, ELFMAP_CONTENTS + 1)
+              && is_part(room[2], 68, sizeof small_names, ELFMAP_CONTENTS + 2)
+              && is_part(room[3], 68 + sizeof small_names, 20 - sizeof small_names, ELFMAP_GAP)
+              && is_part(room[4], 88, 3 * SECTION_SIZE, ELFMAP_SECTION_HEADERS), "they are right");
+    check(is_fault(fault, ELFMAP_SHORT_ROOM, SMALL_PARTS), "a fault stays as it was where there is none");
+    check(room[SMALL_PARTS].start == UINT64_C(0x5a5a5a5a5a5a5a5a), "nothing is written behind the room");
+    give_back(it);
+    put(made + 88 + SECTION_SIZE + 32, 8, 5, is_big);
+    parts = 99;
+    check(!elfmap_parts(made, SMALL_SIZE, room, SMALL_PARTS + 1, &parts, &fault) && is_fault(fault, 33, 68) && parts == 99,
+          "a byte in two contents leaves no account");
+    check(!elfmap_parts(made, SMALL_SIZE, room, SMALL_PARTS - 1, &parts, &fault) && is_fault(fault, ELFMAP_SHORT_ROOM, SMALL_PARTS),
+          "a room that is too small finds no shared byte");
+    made[3] = 'G';
+    check(!elfmap_parts(made, SMALL_SIZE, room, 0, &parts, &fault) && is_fault(fault, 3, 3) && parts == 99, "other rules want no room");
+    check(!elfmap_parts(made, 0, room, 0, &parts, &fault) && is_fault(fault, 2, 0), "no bytes have no parts");
+}
+
+static void check_load(bool is_big) {
+    uint8_t made[LOADED_SIZE], byte = 77;
+    struct elfmap_part room[10];
+    struct elfmap_fault fault;
+    struct elfmap_file file;
+    uint64_t parts;
+    const char expected[] = "cdef\0\0\0\0efgh";
+    bool is_right = true;
+    make_loaded(made, is_big);
+    struct guarded it = guarded_bytes(made, LOADED_SIZE, true);
+    check(elfmap_verdict(it.bytes, it.len, &fault) && elfmap_file(it.bytes, it.len, &file), "a small loadable file is accepted");
+    check(elfmap_parts(it.bytes, it.len, room, 10, &parts, &fault) && parts == 3 && is_part(room[0], 0, HEADER_SIZE, ELFMAP_HEADER)
+              && is_part(room[1], HEADER_SIZE, 3 * SEGMENT_SIZE, ELFMAP_PROGRAM_HEADERS) && is_part(room[2], LOADED_AT, 8, ELFMAP_GAP),
+          "it has three parts");
+    for (uint64_t k = 0; k < 12; k++)
+        is_right = is_right && elfmap_load(&file, it.bytes, it.len, 0x1000 + k, &byte) && byte == (uint8_t) expected[k];
+    check(is_right, "the first loadable segment gives the byte, or 0 behind its bytes in the file");
+    byte = 77;
+    check(!elfmap_load(&file, it.bytes, it.len, 0xfff, &byte) && !elfmap_load(&file, it.bytes, it.len, 0x100c, &byte)
+              && !elfmap_load(&file, it.bytes, it.len, 0, &byte) && !elfmap_load(&file, it.bytes, it.len, UINT64_MAX, &byte) && byte == 77,
+          "no other address has a byte");
+    give_back(it);
 }
 
 static void check_records(bool is_big) {
@@ -229,7 +311,9 @@ static void check_any_numbers(void) {
             struct elfmap_section section;
             struct elfmap_segment segment;
             struct elfmap_extent name;
+            uint8_t byte;
             elfmap_section(&file, it.bytes, it.len, index, &section);
+            elfmap_load(&file, it.bytes, it.len, index, &byte);
             elfmap_segment(&file, it.bytes, it.len, index, &segment);
             if (elfmap_name(&file, it.bytes, it.len, index, &name))
                 is_inside = is_inside && name.start <= it.len && name.len <= it.len - name.start;
@@ -237,6 +321,22 @@ static void check_any_numbers(void) {
         give_back(it);
     }
     check(is_inside, "each name lies in the bytes");
+}
+
+/* The parts of a file whose contents, of a byte each, stand in the opposite order of their headers, in less than a second. */
+static void check_descending_parts(const uint8_t *bytes, size_t len, uint64_t sections) {
+    size_t wanted = 3 * (sections + 3) + 1;
+    struct elfmap_part *room = calloc(wanted, sizeof *room);
+    struct elfmap_fault fault;
+    uint64_t parts = 0;
+    if (!room)
+        stop("calloc");
+    clock_t begun = clock();
+    check(elfmap_parts(bytes, len, room, wanted, &parts, &fault) && parts == sections + 2, "the parts of so many contents are told");
+    check(is_part(room[1], HEADER_SIZE, 1, ELFMAP_GAP) && is_part(room[2], HEADER_SIZE + 1, 1, ELFMAP_CONTENTS + sections - 1)
+              && is_part(room[parts - 1], HEADER_SIZE + sections, SECTION_SIZE * sections, ELFMAP_SECTION_HEADERS), "they are right");
+    check(clock() - begun < CLOCKS_PER_SEC, "that takes less than a second too");
+    free(room);
 }
 
 /* A file whose contents, of a byte each, stand in the opposite order of their headers is judged by a room in less than a second. */
@@ -260,6 +360,8 @@ static void check_descending(void) {
           "and two of them at one byte are not");
     check(clock() - begun < CLOCKS_PER_SEC, "that takes less than a second");
     free(room);
+    put(table + SECTION_SIZE * 1000 + 24, 8, HEADER_SIZE + sections - 1000, false);
+    check_descending_parts(bytes, len, sections);
     free(bytes);
 }
 
@@ -305,6 +407,25 @@ static bool tell_verdicts(const uint8_t *bytes, size_t len) {
     return is_kept;
 }
 
+/* The parts, and the verdict by rooms for them: an empty one, one that is short by a part, and one that is as large as is wanted. */
+static void tell_parts(const uint8_t *bytes, size_t len) {
+    struct elfmap_fault fault = {0, 0};
+    struct elfmap_part none;
+    uint64_t parts = 0;
+    tell_verdict("parts in none", elfmap_parts(bytes, len, &none, 0, &parts, &fault), fault);
+    if (fault.rule != ELFMAP_SHORT_ROOM)
+        return;
+    size_t wanted = (size_t) fault.at;
+    struct elfmap_part *room = malloc(wanted * sizeof *room);
+    if (!room)
+        stop("malloc");
+    tell_verdict("parts in less", elfmap_parts(bytes, len, room, wanted - 1, &parts, &fault), fault);
+    tell_verdict("parts in enough", elfmap_parts(bytes, len, room, wanted, &parts, &fault), fault);
+    for (uint64_t k = 0; k < parts; k++)
+        printf("part %" PRIu64 " %" PRIu64 " %" PRIu64 "\n", room[k].start, room[k].len, room[k].owner);
+    free(room);
+}
+
 static void tell_header(const struct elfmap_file *file, const uint8_t *bytes, size_t len) {
     struct elfmap_header h;
     printf("file %" PRIu64 " %" PRIu64 " %" PRIu64 " %" PRIu64 " %" PRIu64 " %u\n", file->e_phoff, file->e_shoff, file->sections,
@@ -337,6 +458,22 @@ static void tell_records(const struct elfmap_file *file, const uint8_t *bytes, s
                p.p_flags, p.p_offset, p.p_vaddr, p.p_paddr, p.p_filesz, p.p_memsz, p.p_align);
 }
 
+/* What each loadable segment's first and last addresses are given, those of its bytes in the file, and the address behind it. */
+static void tell_loaded(const struct elfmap_file *file, const uint8_t *bytes, size_t len) {
+    struct elfmap_segment p;
+    for (uint64_t j = 0; elfmap_segment(file, bytes, len, j, &p); j++) {
+        uint64_t addresses[] = {p.p_vaddr, p.p_vaddr + p.p_filesz - 1, p.p_vaddr + p.p_filesz, p.p_vaddr + p.p_memsz - 1,
+                                p.p_vaddr + p.p_memsz};
+        for (size_t k = 0; p.p_type == 1 && k < sizeof addresses / sizeof *addresses; k++) {
+            uint8_t byte;
+            if (elfmap_load(file, bytes, len, addresses[k], &byte))
+                printf("load %" PRIu64 " %u\n", addresses[k], (unsigned) byte);
+            else
+                printf("load %" PRIu64 " none\n", addresses[k]);
+        }
+    }
+}
+
 static void tell_file(const char *path) {
     size_t len;
     uint8_t *read = read_whole(path, &len);
@@ -345,9 +482,11 @@ static void tell_file(const char *path) {
         struct guarded it = guarded_bytes(read, len, at_end);
         printf("-- %s\n", path);
         bool is_kept = tell_verdicts(it.bytes, it.len);
+        tell_parts(it.bytes, it.len);
         if (elfmap_file(it.bytes, it.len, &file) && is_kept) {
             tell_header(&file, it.bytes, it.len);
             tell_records(&file, it.bytes, it.len);
+            tell_loaded(&file, it.bytes, it.len);
         }
         give_back(it);
     }
@@ -361,6 +500,10 @@ int main(int count, char **words) {
         return 0;
     check_refusals();
     check_rooms();
+    check_parts(false);
+    check_parts(true);
+    check_load(false);
+    check_load(true);
     check_records(false);
     check_records(true);
     check_unchanged();

@@ -1,4 +1,5 @@
 mod Entries
+mod LoadedBytes
 mod RuleNumbers
 mod SectionNames
 mod StringPlaces

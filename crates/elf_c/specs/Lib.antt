@@ -1,3 +1,4 @@
 pub mod Shapes
 pub mod Verdicts
 pub mod Files
+pub mod Segments

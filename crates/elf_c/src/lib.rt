@@ -6,7 +6,9 @@
 #![tactic(auto)]
 
 mod file;
+mod load;
 mod names;
+mod parts;
 mod places;
 mod records;
 mod shapes;

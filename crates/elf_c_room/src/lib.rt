@@ -14,4 +14,5 @@
 mod extents;
 mod room;
 
+pub use extents::{BEFORE_CONTENTS, extent_at, extent_count};
 pub use room::{ShortRoom, Slot, verdict_in};

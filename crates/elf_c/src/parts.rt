@@ -1,0 +1,41 @@
+//! What each byte of a file belongs to.
+ghost use Rattle.std.specs.Prelude.{◌≡◌, ◌≢◌, ◌≤◌, None, Some, length};
+ghost use Rattle.std.specs.Bool.{OnFalse, OnTrue};
+ghost use Rattle.elf_image_rules.specs.ImageRules.{IsFault};
+ghost use Rattle.elf_c_parts.specs.Parts.{AccountsFor, IsShortOfParts};
+ghost use Rattle.elf_c.specs.Verdicts.{SHORT_ROOM as short_room};
+
+use crate::shapes::Fault;
+use crate::verdicts::SHORT_ROOM;
+use elf_c_parts::{Part, PartsFault, parts_in};
+
+/// Where the file keeps all 33 rules, its parts, in the first slots of the room, and how many these are: else the first rule that it
+/// breaks, and the lowest offset. Where the room has too few parts, `at` is how many are wanted.
+#[unsafe(no_mangle)]
+pub extern "C" fn elfmap_parts(
+    bytes: &[u8],
+    room: &mut [Part],
+    parts: &mut u64,
+    fault: &mut Fault,
+) -> bool
+    ensures kept { OnTrue result (IsFault bytes.now None) }
+    ensures within { OnTrue result (parts.new ≤ length room.new) }
+    ensures account { OnTrue result (AccountsFor bytes.now parts.new room.new) }
+    ensures broken { OnFalse result (fault.new.rule ≢ short_room → IsFault bytes.now (Some (fault.new.rule, fault.new.at))) }
+    ensures short { OnFalse result (fault.new.rule ≡ short_room → IsShortOfParts bytes.now (length room.old) fault.new.at) }
+    ensures fault_unchanged { OnTrue result (fault.new ≡ fault.old) }
+    ensures parts_unchanged { OnFalse result (parts.new ≡ parts.old) }
+{
+    *fault = match parts_in(bytes, room) {
+        Ok(count) => {
+            *parts = count as u64;
+            return true;
+        }
+        Err(PartsFault::Rule { rule, at }) => Fault { at, rule },
+        Err(PartsFault::ShortRoom { wanted }) => Fault {
+            at: wanted,
+            rule: SHORT_ROOM,
+        },
+    };
+    false
+}

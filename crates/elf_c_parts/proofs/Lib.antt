@@ -1,0 +1,2 @@
+mod FileExtents
+mod PartSlots

@@ -1,0 +1,2 @@
+pub mod PartRow
+pub mod Parts

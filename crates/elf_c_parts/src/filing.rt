@@ -1,0 +1,71 @@
+//! What each byte of a file belongs to, by a room for its parts.
+ghost use Rattle.std.specs.Prelude.{◌≡◌, ◌≤◌, ◌*◌, ◌+◌, IfErr, IfOk, None, length};
+ghost use Rattle.elf_image_rules.specs.ImageRules.{IsFault, KeepsRecordRules, extents_of_file};
+ghost use Rattle.elf_image_rules.specs.JudgedRecords.{file_of};
+ghost use Rattle.elf_c_parts.specs.Parts.{AccountsFor, IsPartsRefusal};
+
+use crate::accounting::put_account;
+use crate::members::{lowest_double, put_members};
+use crate::shapes::{Part, PartsFault};
+use elf_c_room::{BEFORE_CONTENTS, extent_count};
+use elf_image_rules::rules::SHARED_BYTE;
+use elf_image_rules::{JudgedRecords, judge_records};
+
+/// The parts of a file: how many there are. They stand in the first slots of the room, in ascending order, none of them empty, and hold
+/// each byte of the file exactly once: each extent that holds a byte, and each gap between them, as long as it can be.
+///
+/// Answers [`PartsFault::Rule`] where the file breaks one of the rules 1 to 33, and [`PartsFault::ShortRoom`] where it keeps rules 1 to 32
+/// and the room has fewer slots than three for each extent and one: rule 33 is not judged then. It takes n log n for any file, and no
+/// memory but the room: what it held is lost.
+pub fn parts_in(bytes: &[u8], room: &mut [Part]) -> Result<usize, PartsFault>
+    ensures kept { IfOk result (λ count. IsFault bytes.now None) }
+    ensures within { IfOk result (λ count. count ≤ length room.new) }
+    ensures account { IfOk result (λ count. AccountsFor bytes.now count room.new) }
+    ensures fault { IfErr result (IsPartsRefusal bytes.now (length room.old)) }
+{
+    let records = match judge_records(bytes) {
+        Ok(records) => records,
+        Err(broken) => {
+            return Err(PartsFault::Rule {
+                rule: broken.rule,
+                at: broken.at,
+            });
+        }
+    };
+    let wanted = slots_wanted(&records);
+    if (room.len() as u64) < wanted {
+        return Err(PartsFault::ShortRoom { wanted });
+    }
+    put_parts(&records, room)
+}
+
+/// How many slots a file wants: three for each extent, and one.
+fn slots_wanted(records: &JudgedRecords) -> u64
+    ensures { result ≡ 3 * length (extents_of_file (file_of records.now)) + 1 }
+{
+    3 * (BEFORE_CONTENTS + records.section_count()) + 1
+}
+
+/// Puts the parts of the file into the first slots of the room. The account is written into the front of the room, from the extents that
+/// hold a byte, which are sorted in the back.
+fn put_parts(records: &JudgedRecords, room: &mut [Part]) -> Result<usize, PartsFault>
+    requires kept { KeepsRecordRules (file_of records.now) }
+    requires room { 3 * length (extents_of_file (file_of records.now)) + 1 ≤ length room.old }
+    ensures kept { IfOk result (λ count. IsFault (file_of records.now) None) }
+    ensures within { IfOk result (λ count. count ≤ length room.new) }
+    ensures account { IfOk result (λ count. AccountsFor (file_of records.now) count room.new) }
+    ensures fault { IfErr result (IsPartsRefusal (file_of records.now) (length room.old)) }
+{
+    let mid = 2 * extent_count(records) as usize + 1;
+    let (parts, back) = room.split_at_mut(mid);
+    let count = put_members(records, back);
+    let (members, _) = back.split_at_mut(count);
+    members.sort_unstable_by_key(|member| member.start);
+    match lowest_double(members) {
+        Some(at) => Err(PartsFault::Rule {
+            rule: SHARED_BYTE,
+            at,
+        }),
+        None => Ok(put_account(records, members, parts)),
+    }
+}
