@@ -1,8 +1,9 @@
 """Builds the shared library: python3 -m elfmap.build [FOLDER]
 
 Writes libelfmap.so into FOLDER, or without one into the cache, and prints its path.
-It is made by cc of the static library, libelfmap.a or libelf_c.a, of the folder that
-ELFMAP_LIB_DIR names, else of the one where the repository builds it.
+It is made by cc of the static library, libelfmap.a, of the folder that ELFMAP_LIB_DIR
+names, else of a release that has this package, else of the one where the repository
+makes it.
 """
 
 import hashlib
@@ -14,7 +15,7 @@ from pathlib import Path
 from typing import Optional
 
 NAME = "libelfmap.so"
-ARCHIVES = ("libelfmap.a", "libelf_c.a")
+ARCHIVE = "libelfmap.a"
 PACKAGE = Path(__file__).resolve().parent
 REPOSITORY = PACKAGE.parents[2]
 
@@ -27,11 +28,12 @@ def named_folder() -> Optional[Path]:
 
 def archive() -> Path:
     """The static library."""
-    folder = named_folder() or REPOSITORY / "crates/elf_c/out"
-    for path in (folder / name for name in ARCHIVES):
+    folders = [REPOSITORY / "lib", REPOSITORY / "crates/elf_c/out"]
+    folders = [named_folder() or folder for folder in folders]
+    for path in (folder / ARCHIVE for folder in folders):
         if path.is_file():
             return path
-    raise FileNotFoundError(f"neither {' nor '.join(ARCHIVES)} is in {folder}")
+    raise FileNotFoundError(f"{ARCHIVE} is not in {' or '.join(map(str, folders))}")
 
 
 def ready() -> Path:

@@ -1,0 +1,59 @@
+/*
+ * symbols FILE: prints the value and the name of each symbol of an ELF-64 file; of any other file, as `elfmap check` does, the first rule
+ * that it breaks and where, with status 1. In a release: cc -std=c99 symbols.c $(pkg-config --cflags --libs elfmap) -o symbols
+ */
+#include <elfmap.h>
+#include <inttypes.h>
+#include <stdio.h>
+#include <stdlib.h>
+
+/* The bytes of a file, NULL where it can't be read; how many there are is in `len`. */
+static uint8_t *bytes_of(const char *path, size_t *len) {
+    FILE *file = fopen(path, "rb");
+    long size = file != NULL && fseek(file, 0, SEEK_END) == 0 ? ftell(file) : -1;
+    uint8_t *bytes = size < 0 ? NULL : malloc((size_t) size + 1);
+    if (bytes != NULL && (fseek(file, 0, SEEK_SET) != 0 || fread(bytes, 1, (size_t) size, file) != (size_t) size)) {
+        free(bytes);
+        bytes = NULL;
+    }
+    if (file != NULL)
+        fclose(file);
+    *len = (size_t) size;
+    return bytes;
+}
+
+/* Prints the symbols of a table; of any other section nothing. */
+static void tell_table(const struct elfmap_table *table, const uint8_t *bytes, size_t len) {
+    struct elfmap_symbol symbol;
+    if (table->sh_type == 2 || table->sh_type == 11)
+        for (uint64_t j = 0; elfmap_symbol(table, bytes, len, j, &symbol); j++)
+            printf("0x%" PRIx64 " %.*s\n", symbol.st_value, (int) symbol.name.len, (const char *) bytes + symbol.name.start);
+}
+
+/* Prints all symbols, or the fault: true where there is none. */
+static bool tell(const uint8_t *bytes, size_t len) {
+    struct elfmap_fault fault;
+    struct elfmap_file file;
+    struct elfmap_table table;
+    if (!elfmap_verdict(bytes, len, &fault)) {
+        printf("refused %u %" PRIu64 "\n", (unsigned) fault.rule, fault.at);
+        return false;
+    }
+    if (elfmap_file(bytes, len, &file))
+        for (uint64_t i = 0; i < file.sections; i++)
+            if (elfmap_table(&file, bytes, len, i, &table))
+                tell_table(&table, bytes, len);
+    return true;
+}
+
+int main(int argc, char **argv) {
+    size_t len = 0;
+    uint8_t *bytes = argc == 2 ? bytes_of(argv[1], &len) : NULL;
+    if (bytes == NULL) {
+        fprintf(stderr, argc == 2 ? "symbols: the file can't be read\n" : "usage: symbols FILE\n");
+        return argc == 2 ? 3 : 2;
+    }
+    bool sound = tell(bytes, len);
+    free(bytes);
+    return sound ? 0 : 1;
+}

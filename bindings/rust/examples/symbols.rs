@@ -1,0 +1,29 @@
+//! `symbols FILE`: prints the value and the name of each symbol of an ELF-64 file; of any other file
+//! the first rule that it breaks and where, with status 1.
+
+use std::io::{self, Write};
+use std::process::ExitCode;
+
+fn main() -> io::Result<ExitCode> {
+    let Some(path) = std::env::args_os().nth(1) else {
+        eprintln!("usage: symbols FILE");
+        return Ok(ExitCode::from(2));
+    };
+    let bytes = std::fs::read(path)?;
+    let file = match elfmap::File::parse(&bytes) {
+        Ok(file) => file,
+        Err(refusal) => {
+            println!("refused {} {}", refusal.rule, refusal.offset);
+            return Ok(ExitCode::from(1));
+        }
+    };
+    let mut out = io::stdout().lock();
+    for index in 0..file.sections().len() {
+        for symbol in file.symbols(index).into_iter().flatten() {
+            write!(out, "{:#x} ", symbol.st_value)?;
+            out.write_all(symbol.name)?;
+            writeln!(out)?;
+        }
+    }
+    Ok(ExitCode::SUCCESS)
+}
