@@ -1,4 +1,14 @@
-mod Entries
+mod Absent
+mod DynamicEntries
+mod EntryReads
+mod FileEntries
+mod IndexTables
+mod NoteLengths
+mod NoteReads
 mod RuleNumbers
+mod SectionList
 mod SectionNames
 mod StringPlaces
+mod SymbolReads
+mod TableNumbers
+mod TableReads

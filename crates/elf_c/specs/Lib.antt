@@ -1,3 +1,6 @@
 pub mod Shapes
 pub mod Verdicts
 pub mod Files
+pub mod Tables
+pub mod Lengths
+pub mod Entries

@@ -5,9 +5,13 @@
 //! the caller holds: it may have any numbers, so each accessor tests what it reads against the length of the bytes.
 #![tactic(auto)]
 
+mod entries;
 mod file;
+mod lengths;
 mod names;
+mod notes;
 mod places;
 mod records;
 mod shapes;
+mod tables;
 mod verdicts;
