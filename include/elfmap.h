@@ -20,8 +20,8 @@
  *
  * What a call answers is proved, for all bytes. What a caller keeps nothing can prove:
  * - No pointer is null, also where its length is 0, and each is aligned as its type asks for.
- * - `bytes` points to `len` bytes, and `room` to `count` extents or parts; len is at most PTRDIFF_MAX bytes, and so is the size of a room. While a
- *   call runs nobody writes these bytes; nor reads or writes the room or the struct that the call fills in.
+ * - `bytes` points to `len` bytes, and `room` to `count` extents or parts; len is at most PTRDIFF_MAX bytes, and so is the size of a room.
+ *   While a call runs nobody writes these bytes; nor reads or writes the room or the struct that the call fills in.
  * - The struct that a call fills in, and the room, overlap neither one another nor the bytes or another argument.
  *
  * Offsets and lengths are counted in bytes from the beginning of the file. Fields have the names of the gABI (System V ABI, generic part,
@@ -120,6 +120,51 @@ struct elfmap_segment {
     uint64_t p_align;
 };
 
+/* What the accessors of a table's entries need. Where a part has no bytes its `len` is 0. */
+struct elfmap_table {
+    struct elfmap_extent content; /* the content of the section */
+    struct elfmap_extent linked;  /* of a symbol table its index table (SHT_SYMTAB_SHNDX), of a hash table its symbol table */
+    struct elfmap_extent strings; /* of a symbol table and a hash table the symbols' names, of a dynamic array the strings of its entries */
+    uint64_t entries;             /* how many there are: of a dynamic array those before the first of tag DT_NULL (0), of a hash table its
+                                     words */
+    uint32_t sh_type;             /* the type of the section */
+    uint8_t ei_data;              /* the data encoding: 1 is ELFDATA2LSB, 2 is ELFDATA2MSB */
+};
+
+/* An entry of a symbol table, with its name and its section. */
+struct elfmap_symbol {
+    struct elfmap_extent name; /* where its name stands in the file, without its closing zero */
+    uint64_t st_value;
+    uint64_t st_size;
+    uint32_t st_name;
+    uint32_t section; /* the index of its section: st_shndx, or the word of the index table where that is SHN_XINDEX (0xffff) */
+    uint16_t st_shndx;
+    uint8_t st_info;
+    uint8_t st_other;
+};
+
+/* An entry of a relocation section. */
+struct elfmap_relocation {
+    uint64_t r_offset;
+    int64_t r_addend;         /* 0 in a section of type SHT_REL (9), where the addend stands in the bytes that are relocated */
+    uint32_t symbol;          /* the index of the symbol, the upper half of r_info */
+    uint32_t relocation_type; /* the type of the relocation, the lower half of r_info */
+};
+
+/* An entry of a dynamic array. */
+struct elfmap_dynamic {
+    int64_t d_tag;
+    uint64_t d_un; /* d_val or d_ptr, as the tag says */
+};
+
+/* A note of a note section. */
+struct elfmap_note {
+    struct elfmap_extent name; /* where its name stands in the file, without its closing zero and its padding */
+    struct elfmap_extent desc; /* where its descriptor stands in the file, without its padding */
+    uint64_t next;             /* where the next note begins, in bytes from the beginning of the section */
+    uint32_t n_type;
+};
+
 /* ---- The verdict. It never changes the bytes. */
 
 /*
@@ -139,9 +184,9 @@ bool elfmap_verdict_in(const uint8_t *bytes, size_t len, struct elfmap_extent *r
 
 /*
  * What each byte of the file belongs to, by a room of `count` parts that the caller lends; what the room held is lost. True exactly where
- * the file keeps all 33 rules and the room has as many parts as are wanted. `parts` is then how many there are, and the first so many of the
- * room are the parts of the file: in ascending order from offset 0 to the end, each byte in just one of them, none of them empty. They are
- * the header, the section header table, the program header table and the content of each section, as far as these have a byte, and the
+ * the file keeps all 33 rules and the room has as many parts as are wanted. `parts` is then how many there are, and the first so many of
+ * the room are the parts of the file: in ascending order from offset 0 to the end, each byte in just one of them, none of them empty. They
+ * are the header, the section header table, the program header table and the content of each section, as far as these have a byte, and the
  * gaps between them, each as long as it can be.
  *
  * Else it is false, `parts` is unchanged, and `fault` is as elfmap_verdict has it; where the file keeps rules 1 to 32 and the room has too
@@ -188,6 +233,61 @@ bool elfmap_load(const struct elfmap_file *file, const uint8_t *bytes, size_t le
  * file that keeps rules 1 to 32 it is true exactly where `index` is below `file->sections`.
  */
 bool elfmap_name(const struct elfmap_file *file, const uint8_t *bytes, size_t len, uint64_t index, struct elfmap_extent *name);
+
+/*
+ * ---- The tables. As above each call answers true and fills in its last argument, or false, and leaves it as it was, and reads nothing
+ * outside of the bytes. A table is sound where it breaks none of the rules 40 to 69: elfmap for C has no verdict on them yet. The entries
+ * of a table that breaks one are told as far as they lie in the file, and the claims below are of a sound table alone, in a file that keeps
+ * rules 1 to 32. `table` is to be what elfmap_table made of the same bytes. With any other numbers in it the answer says nothing.
+ *
+ *     struct elfmap_table table;
+ *     struct elfmap_symbol symbol;
+ *     if (elfmap_table(&file, bytes, len, i, &table) && (table.sh_type == 2 || table.sh_type == 11))
+ *         for (uint64_t j = 0; elfmap_symbol(&table, bytes, len, j, &symbol); j++)
+ *             printf("%.*s\n", (int) symbol.name.len, (const char *) bytes + symbol.name.start);
+ */
+
+/*
+ * What the other calls need of the table in section `index`: a symbol table (SHT_SYMTAB 2, SHT_DYNSYM 11), a relocation section
+ * (SHT_RELA 4, SHT_REL 9), a note section (SHT_NOTE 7), a dynamic array (SHT_DYNAMIC 6) or a hash table (SHT_HASH 5). Of a file that keeps
+ * rules 1 to 32 it is false exactly where there is no section of this index, or it is of another type, or the section that it links to is
+ * not there, or, of a hash table, the one that its symbol table links to. It goes once over the section headers for the index table of a
+ * symbol table, over the entries of a dynamic array up to the first of tag DT_NULL, and over the notes of a note section; else it takes a
+ * time that does not grow with the file.
+ */
+bool elfmap_table(const struct elfmap_file *file, const uint8_t *bytes, size_t len, uint64_t index, struct elfmap_table *table);
+
+/*
+ * Symbol `index` of a symbol table, with the place of its name, which always lies in the bytes; both of its numbers are 0 where the name
+ * has no bytes. True exactly where `index` is below `table->entries`. Its time grows with the length of the name alone.
+ */
+bool elfmap_symbol(const struct elfmap_table *table, const uint8_t *bytes, size_t len, uint64_t index, struct elfmap_symbol *symbol);
+
+/* Relocation `index` of a relocation section. True exactly where `index` is below `table->entries`. */
+bool elfmap_relocation(const struct elfmap_table *table, const uint8_t *bytes, size_t len, uint64_t index,
+                       struct elfmap_relocation *relocation);
+
+/* Entry `index` of a dynamic array. True exactly where `index` is below `table->entries`: those before the first of tag DT_NULL. */
+bool elfmap_dynamic(const struct elfmap_table *table, const uint8_t *bytes, size_t len, uint64_t index, struct elfmap_dynamic *entry);
+
+/*
+ * Where the string at an offset of `table->strings` stands, without its closing zero: for an entry of a dynamic array whose value is the
+ * offset of a string, as that of tag DT_NEEDED (1). It always lies in the bytes, and both numbers are 0 where it has no bytes. True exactly
+ * where the offset is below the length of the strings.
+ */
+bool elfmap_string(const struct elfmap_table *table, const uint8_t *bytes, size_t len, uint64_t offset, struct elfmap_extent *place);
+
+/*
+ * Note `index` of a note section, whose name and descriptor lie in the bytes. True exactly where `index` is below `table->entries`. Its
+ * time grows with the index: it goes over the notes before it. elfmap_note_at goes on from one to the next.
+ */
+bool elfmap_note(const struct elfmap_table *table, const uint8_t *bytes, size_t len, uint64_t index, struct elfmap_note *note);
+
+/*
+ * The note that begins at an offset of the section: the first one at 0, each next one at `note->next` of the one before it. True exactly
+ * where the note with its padding ends in the section, so behind the last one it is false.
+ */
+bool elfmap_note_at(const struct elfmap_table *table, const uint8_t *bytes, size_t len, uint64_t offset, struct elfmap_note *note);
 
 #ifdef __cplusplus
 }

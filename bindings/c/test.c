@@ -18,6 +18,9 @@
 
 enum { HEADER_SIZE = 64, SECTION_SIZE = 64, SEGMENT_SIZE = 56 };
 
+/* Types of sections. */
+enum { SYMTAB = 2, STRTAB = 3, RELA = 4, HASH = 5, DYNAMIC = 6, NOTE = 7, REL = 9, DYNSYM = 11, SYMTAB_SHNDX = 18 };
+
 static int passed, failed;
 
 static void check(bool holds, const char *what) {
@@ -90,7 +93,8 @@ static void put_section(uint8_t *at, uint32_t name, uint32_t type, uint64_t offs
     put(at + 32, 8, size, is_big);
 }
 
-static void put_segment(uint8_t *at, uint32_t type, uint64_t offset, uint64_t address, uint64_t file_size, uint64_t memory_size, bool is_big) {
+static void put_segment(uint8_t *at, uint32_t type, uint64_t offset, uint64_t address, uint64_t file_size, uint64_t memory_size,
+                        bool is_big) {
     put(at, 4, type, is_big);
     put(at + 8, 8, offset, is_big);
     put(at + 16, 8, address, is_big);
@@ -198,7 +202,8 @@ static void check_parts(bool is_big) {
     memset(room, 0x5a, sizeof room);
     struct guarded it = guarded_bytes(made, SMALL_SIZE, true);
     for (size_t count = 0; count < SMALL_PARTS; count++) {
-        check(!elfmap_parts(it.bytes, it.len, room, count, &parts, &fault) && is_fault(fault, ELFMAP_SHORT_ROOM, SMALL_PARTS) && parts == 99,
+        check(!elfmap_parts(it.bytes, it.len, room, count, &parts, &fault) && is_fault(fault, ELFMAP_SHORT_ROOM, SMALL_PARTS)
+                  && parts == 99,
               "a room that is too small says how many parts are wanted");
     }
     check(elfmap_parts(it.bytes, it.len, room, SMALL_PARTS, &parts, &fault) && parts == 5, "a small file has five parts");
@@ -321,6 +326,200 @@ static void check_any_numbers(void) {
         give_back(it);
     }
     check(is_inside, "each name lies in the bytes");
+}
+
+/* ---- The tables. */
+
+/* A file with a table of each kind, from 64 on, each at a multiple of 4, and then its section headers. */
+enum { SYMBOLS_AT = 64, NAMES_AT = SYMBOLS_AT + 3 * 24, WORDS_AT = NAMES_AT + 12, RELA_AT = WORDS_AT + 12, REL_AT = RELA_AT + 24,
+       DYNAMIC_AT = REL_AT + 16, NOTES_AT = DYNAMIC_AT + 3 * 16, HASH_AT = NOTES_AT + 40, TABLES_AT = HASH_AT + 24, TABLES = 10,
+       TABLES_SIZE = TABLES_AT + TABLES * SECTION_SIZE };
+static const char symbol_names[12] = "\0one\0second";
+
+static void put_linked(uint8_t *bytes, int i, uint32_t type, uint64_t offset, uint64_t size, uint32_t link, bool is_big) {
+    put_section(bytes + TABLES_AT + SECTION_SIZE * i, 0, type, offset, size, is_big);
+    put(bytes + TABLES_AT + SECTION_SIZE * i + 40, 4, link, is_big);
+}
+
+static void put_symbol(uint8_t *at, uint32_t name, uint8_t info, uint16_t section, uint64_t value, uint64_t size, bool is_big) {
+    put(at, 4, name, is_big);
+    at[4] = info;
+    at[5] = 2;
+    put(at + 6, 2, section, is_big);
+    put(at + 8, 8, value, is_big);
+    put(at + 16, 8, size, is_big);
+}
+
+static void put_note(uint8_t *at, const char *name, uint32_t desc_size, uint32_t type, bool is_big) {
+    put(at, 4, strlen(name) + 1, is_big);
+    put(at + 4, 4, desc_size, is_big);
+    put(at + 8, 4, type, is_big);
+    memcpy(at + 12, name, strlen(name) + 1);
+}
+
+static void make_tables(uint8_t *bytes, bool is_big) {
+    memset(bytes, 0, TABLES_SIZE);
+    put_header(bytes, TABLES_AT, TABLES, 0, is_big);
+    put_symbol(bytes + SYMBOLS_AT + 24, 1, 0x12, 1, 5, 6, is_big);
+    put_symbol(bytes + SYMBOLS_AT + 48, 5, 0x21, 0xffff, UINT64_MAX, 7, is_big);
+    memcpy(bytes + NAMES_AT, symbol_names, sizeof symbol_names);
+    put(bytes + WORDS_AT + 8, 4, 70000, is_big);
+    put(bytes + RELA_AT, 8, 16, is_big);
+    put(bytes + RELA_AT + 8, 8, (UINT64_C(2) << 32) + 11, is_big);
+    put(bytes + RELA_AT + 16, 8, UINT64_MAX - 3, is_big);
+    put(bytes + REL_AT, 8, 24, is_big);
+    put(bytes + REL_AT + 8, 8, (UINT64_C(1) << 32) + 9, is_big);
+    put(bytes + DYNAMIC_AT, 8, 1, is_big);
+    put(bytes + DYNAMIC_AT + 8, 8, 5, is_big);
+    put(bytes + DYNAMIC_AT + 32, 8, 7, is_big);
+    put_note(bytes + NOTES_AT, "GNU", 5, 3, is_big);
+    put_note(bytes + NOTES_AT + 24, "", 0, 4, is_big);
+    put_linked(bytes, 1, SYMTAB, SYMBOLS_AT, 3 * 24, 2, is_big);
+    put_linked(bytes, 2, STRTAB, NAMES_AT, sizeof symbol_names, 0, is_big);
+    put_linked(bytes, 3, SYMTAB_SHNDX, WORDS_AT, 12, 1, is_big);
+    put_linked(bytes, 4, RELA, RELA_AT, 24, 1, is_big);
+    put_linked(bytes, 5, REL, REL_AT, 16, 1, is_big);
+    put_linked(bytes, 6, DYNAMIC, DYNAMIC_AT, 3 * 16, 2, is_big);
+    put_linked(bytes, 7, NOTE, NOTES_AT, 40, 0, is_big);
+    put_linked(bytes, 8, HASH, HASH_AT, 24, 1, is_big);
+    put_linked(bytes, 9, SYMTAB, SYMBOLS_AT, 0, TABLES, is_big);
+}
+
+static bool is_place(struct elfmap_extent place, uint64_t start, uint64_t len) {
+    return place.start == start && place.len == len;
+}
+
+static void check_symbols(const struct elfmap_table *table, struct guarded it) {
+    struct elfmap_symbol s;
+    check(is_place(table->content, SYMBOLS_AT, 72) && is_place(table->linked, WORDS_AT, 12) && is_place(table->strings, NAMES_AT, 12)
+              && table->entries == 3 && table->sh_type == SYMTAB, "a symbol table has its index table and its names");
+    check(elfmap_symbol(table, it.bytes, it.len, 0, &s) && is_place(s.name, 0, 0) && s.st_info == 0 && s.section == 0, "symbol 0 is null");
+    check(elfmap_symbol(table, it.bytes, it.len, 1, &s) && is_place(s.name, NAMES_AT + 1, 3) && s.st_value == 5 && s.st_size == 6
+              && s.st_name == 1 && s.section == 1 && s.st_shndx == 1 && s.st_info == 0x12 && s.st_other == 2, "symbol 1 is right");
+    check(elfmap_symbol(table, it.bytes, it.len, 2, &s) && is_place(s.name, NAMES_AT + 5, 6) && s.st_value == UINT64_MAX && s.st_size == 7
+              && s.st_name == 5 && s.section == 70000 && s.st_shndx == 0xffff && s.st_info == 0x21,
+          "symbol 2 has its section from the index table");
+}
+
+static void check_relocations(const struct elfmap_table *table, struct guarded it) {
+    struct elfmap_relocation r;
+    bool has_addends = table->sh_type == RELA;
+    check(table->entries == 1 && elfmap_relocation(table, it.bytes, it.len, 0, &r), "a relocation section has a relocation");
+    if (has_addends)
+        check(r.r_offset == 16 && r.r_addend == -4 && r.symbol == 2 && r.relocation_type == 11, "it is right");
+    else
+        check(r.r_offset == 24 && r.r_addend == 0 && r.symbol == 1 && r.relocation_type == 9, "it is right without an addend");
+}
+
+static void check_dynamic(const struct elfmap_table *table, struct guarded it) {
+    struct elfmap_dynamic e;
+    struct elfmap_extent text;
+    check(table->entries == 1 && is_place(table->strings, NAMES_AT, 12), "a dynamic array ends before its first null entry");
+    check(elfmap_dynamic(table, it.bytes, it.len, 0, &e) && e.d_tag == 1 && e.d_un == 5, "its entry is right");
+    check(elfmap_string(table, it.bytes, it.len, e.d_un, &text) && is_place(text, NAMES_AT + 5, 6), "and so is its string");
+    check(elfmap_string(table, it.bytes, it.len, 11, &text) && is_place(text, 0, 0), "the last string is empty");
+    text.start = 7;
+    text.len = 8;
+    check(!elfmap_string(table, it.bytes, it.len, 12, &text) && is_place(text, 7, 8), "there is none behind it");
+}
+
+static void check_notes(const struct elfmap_table *table, struct guarded it) {
+    struct elfmap_note n;
+    check(table->entries == 2, "a note section has its notes");
+    check(elfmap_note(table, it.bytes, it.len, 0, &n) && is_place(n.name, NOTES_AT + 12, 3) && is_place(n.desc, NOTES_AT + 16, 5)
+              && n.next == 24 && n.n_type == 3, "note 0 is right");
+    check(elfmap_note_at(table, it.bytes, it.len, n.next, &n) && n.name.len == 0 && n.desc.len == 0 && n.next == 40 && n.n_type == 4,
+          "note 1 begins behind it");
+    check(!elfmap_note_at(table, it.bytes, it.len, n.next, &n) && n.n_type == 4, "no note begins behind the last one");
+}
+
+static void check_tables(bool is_big) {
+    uint8_t made[TABLES_SIZE];
+    struct elfmap_file file;
+    struct elfmap_table table;
+    make_tables(made, is_big);
+    struct guarded it = guarded_bytes(made, TABLES_SIZE, true);
+    check(elfmap_file(it.bytes, it.len, &file) && file.sections == TABLES, "there is a table of each kind");
+    check(elfmap_table(&file, it.bytes, it.len, 1, &table), "there is a symbol table");
+    check_symbols(&table, it);
+    for (int i = 4; i <= 5; i++) {
+        check(elfmap_table(&file, it.bytes, it.len, i, &table), "there is a relocation section");
+        check_relocations(&table, it);
+    }
+    check(elfmap_table(&file, it.bytes, it.len, 6, &table), "there is a dynamic array");
+    check_dynamic(&table, it);
+    check(elfmap_table(&file, it.bytes, it.len, 7, &table), "there is a note section");
+    check_notes(&table, it);
+    check(elfmap_table(&file, it.bytes, it.len, 8, &table) && is_place(table.content, HASH_AT, 24) && is_place(table.linked, SYMBOLS_AT, 72)
+              && is_place(table.strings, NAMES_AT, 12) && table.entries == 6, "a hash table has its symbols and their names");
+    give_back(it);
+}
+
+/* What there isn't is refused, and what was to be filled in stays as it was. */
+static void check_tables_unchanged(void) {
+    uint8_t bytes[TABLES_SIZE];
+    struct elfmap_file file;
+    struct elfmap_table table, before;
+    struct elfmap_symbol symbol = {{1, 2}, 3, 4, 5, 6, 7, 8, 9};
+    struct elfmap_relocation relocation = {1, 2, 3, 4};
+    struct elfmap_dynamic entry = {1, 2};
+    struct elfmap_note note = {{1, 2}, {3, 4}, 5, 6};
+    const uint64_t none[] = {0, 2, 3, 9, TABLES, UINT64_MAX};
+    make_tables(bytes, false);
+    check(elfmap_file(bytes, TABLES_SIZE, &file), "the numbers of the file are told");
+    memset(&table, 0x5a, sizeof table);
+    before = table;
+    for (size_t k = 0; k < sizeof none / sizeof *none; k++)
+        check(!elfmap_table(&file, bytes, TABLES_SIZE, none[k], &table) && memcmp(&table, &before, sizeof table) == 0,
+              "there is no table, or what it links to isn't there");
+    for (int k = 0; k < 2; k++) {
+        uint64_t more = k == 0 ? 0 : UINT64_MAX - 3;
+        elfmap_table(&file, bytes, TABLES_SIZE, 1, &table);
+        check(!elfmap_symbol(&table, bytes, TABLES_SIZE, 3 + more, &symbol) && symbol.st_size == 4 && symbol.st_other == 9,
+              "there is no such symbol");
+        elfmap_table(&file, bytes, TABLES_SIZE, 4, &table);
+        check(!elfmap_relocation(&table, bytes, TABLES_SIZE, 1 + more, &relocation) && relocation.r_addend == 2, "nor such a relocation");
+        elfmap_table(&file, bytes, TABLES_SIZE, 6, &table);
+        check(!elfmap_dynamic(&table, bytes, TABLES_SIZE, 1 + more, &entry) && entry.d_un == 2, "nor such an entry");
+        elfmap_table(&file, bytes, TABLES_SIZE, 7, &table);
+        check(!elfmap_note(&table, bytes, TABLES_SIZE, 2 + more, &note) && note.desc.len == 4 && note.n_type == 6, "nor such a note");
+    }
+}
+
+static bool lies_in(struct elfmap_extent place, size_t len) {
+    return place.start <= len && place.len <= len - place.start;
+}
+
+/* With any numbers in place of a table's no call reads outside of the bytes, and each place that is told lies in them. */
+static void check_any_tables(void) {
+    const uint64_t numbers[] = {0, 1, 3, 64, 135, 136, TABLES_SIZE - 24, TABLES_SIZE - 12, TABLES_SIZE - 1, TABLES_SIZE, UINT64_C(1) << 60,
+                                UINT64_MAX / 24, UINT64_MAX - 23, UINT64_MAX};
+    const size_t count = sizeof numbers / sizeof *numbers;
+    uint8_t made[TABLES_SIZE];
+    bool is_inside = true;
+    make_tables(made, false);
+    for (int at_end = 0; at_end < 2; at_end++) {
+        struct guarded it = guarded_bytes(made, TABLES_SIZE, at_end);
+        for (size_t k = 0; k < count * count * count; k++) {
+            uint64_t start = numbers[k % count], size = numbers[k / count % count], index = numbers[k / count / count];
+            struct elfmap_extent part = {start, size}, place;
+            struct elfmap_table table = {part, part, part, UINT64_MAX, k % 2 == 0 ? REL : RELA, (uint8_t) (k % 3)}, other;
+            struct elfmap_file file = {start, size, UINT64_MAX, UINT64_MAX, 0, (uint8_t) (k % 3)};
+            struct elfmap_symbol symbol;
+            struct elfmap_relocation relocation;
+            struct elfmap_dynamic entry;
+            struct elfmap_note note;
+            elfmap_table(&file, it.bytes, it.len, index, &other);
+            elfmap_relocation(&table, it.bytes, it.len, index, &relocation);
+            elfmap_dynamic(&table, it.bytes, it.len, index, &entry);
+            is_inside = is_inside && (!elfmap_symbol(&table, it.bytes, it.len, index, &symbol) || lies_in(symbol.name, it.len))
+                && (!elfmap_string(&table, it.bytes, it.len, index, &place) || lies_in(place, it.len))
+                && (!elfmap_note(&table, it.bytes, it.len, index, &note) || (lies_in(note.name, it.len) && lies_in(note.desc, it.len)))
+                && (!elfmap_note_at(&table, it.bytes, it.len, index, &note) || (lies_in(note.name, it.len) && lies_in(note.desc, it.len)));
+        }
+        give_back(it);
+    }
+    check(is_inside, "each place that is told of a table lies in the bytes");
 }
 
 /* The parts of a file whose contents, of a byte each, stand in the opposite order of their headers, in less than a second. */
@@ -474,6 +673,78 @@ static void tell_loaded(const struct elfmap_file *file, const uint8_t *bytes, si
     }
 }
 
+static void tell_bytes(const uint8_t *bytes, struct elfmap_extent place) {
+    for (uint64_t k = 0; k < place.len; k++)
+        printf("%02x", (unsigned) bytes[place.start + k]);
+}
+
+static void tell_symbols(const struct elfmap_table *table, const uint8_t *bytes, size_t len) {
+    struct elfmap_symbol s;
+    for (uint64_t j = 0; elfmap_symbol(table, bytes, len, j, &s); j++) {
+        printf("symbol %" PRIu32 " %u %u %u %" PRIu64 " %" PRIu64 " %" PRIu32 " ", s.st_name, (unsigned) s.st_info, (unsigned) s.st_other,
+               (unsigned) s.st_shndx, s.st_value, s.st_size, s.section);
+        tell_bytes(bytes, s.name);
+        printf("\n");
+    }
+}
+
+static void tell_relocations(const struct elfmap_table *table, const uint8_t *bytes, size_t len) {
+    struct elfmap_relocation r;
+    for (uint64_t j = 0; elfmap_relocation(table, bytes, len, j, &r); j++)
+        printf("relocation %" PRIu64 " %" PRId64 " %" PRIu32 " %" PRIu32 "\n", r.r_offset, r.r_addend, r.symbol, r.relocation_type);
+}
+
+/* The entries of a dynamic array, and what each would name if its value were the offset of a string. */
+static void tell_dynamic(const struct elfmap_table *table, const uint8_t *bytes, size_t len) {
+    struct elfmap_dynamic e;
+    struct elfmap_extent text;
+    for (uint64_t j = 0; elfmap_dynamic(table, bytes, len, j, &e); j++) {
+        printf("dynamic %" PRId64 " %" PRIu64 " ", e.d_tag, e.d_un);
+        if (elfmap_string(table, bytes, len, e.d_un, &text))
+            tell_bytes(bytes, text);
+        else
+            printf("none");
+        printf("\n");
+    }
+}
+
+/* The notes one after the other, and each by its index too. */
+static void tell_notes(const struct elfmap_table *table, const uint8_t *bytes, size_t len) {
+    struct elfmap_note n, by_index;
+    uint64_t j = 0;
+    for (uint64_t at = 0; elfmap_note_at(table, bytes, len, at, &n); at = n.next, j++) {
+        printf("note %" PRIu32 " %" PRIu64 " ", n.n_type, n.next);
+        tell_bytes(bytes, n.name);
+        printf(" ");
+        tell_bytes(bytes, n.desc);
+        bool is_same = elfmap_note(table, bytes, len, j, &by_index) && by_index.name.start == n.name.start
+            && by_index.name.len == n.name.len && by_index.desc.start == n.desc.start && by_index.desc.len == n.desc.len
+            && by_index.next == n.next && by_index.n_type == n.n_type;
+        printf(is_same ? "\n" : " by its index it is another one\n");
+    }
+    if (elfmap_note(table, bytes, len, j, &by_index))
+        printf("there is a note behind the last one\n");
+}
+
+static void tell_tables(const struct elfmap_file *file, const uint8_t *bytes, size_t len) {
+    struct elfmap_table t;
+    for (uint64_t i = 0; i < file->sections; i++) {
+        if (!elfmap_table(file, bytes, len, i, &t))
+            continue;
+        printf("table %" PRIu64 " %" PRIu64 " %" PRIu64 " %" PRIu64 " %" PRIu64 " %" PRIu64 " %" PRIu64 " %" PRIu64 " %" PRIu32 " %u\n", i,
+               t.content.start, t.content.len, t.linked.start, t.linked.len, t.strings.start, t.strings.len, t.entries, t.sh_type,
+               (unsigned) t.ei_data);
+        if (t.sh_type == SYMTAB || t.sh_type == DYNSYM)
+            tell_symbols(&t, bytes, len);
+        else if (t.sh_type == RELA || t.sh_type == REL)
+            tell_relocations(&t, bytes, len);
+        else if (t.sh_type == DYNAMIC)
+            tell_dynamic(&t, bytes, len);
+        else if (t.sh_type == NOTE)
+            tell_notes(&t, bytes, len);
+    }
+}
+
 static void tell_file(const char *path) {
     size_t len;
     uint8_t *read = read_whole(path, &len);
@@ -487,6 +758,7 @@ static void tell_file(const char *path) {
             tell_header(&file, it.bytes, it.len);
             tell_records(&file, it.bytes, it.len);
             tell_loaded(&file, it.bytes, it.len);
+            tell_tables(&file, it.bytes, it.len);
         }
         give_back(it);
     }
@@ -508,6 +780,10 @@ int main(int count, char **words) {
     check_records(true);
     check_unchanged();
     check_any_numbers();
+    check_tables(false);
+    check_tables(true);
+    check_tables_unchanged();
+    check_any_tables();
     check_descending();
     printf("%d passed, %d failed\n", passed, failed);
     return failed == 0 ? 0 : 1;

@@ -1,5 +1,15 @@
-mod Entries
+mod Absent
+mod DynamicEntries
+mod EntryReads
+mod FileEntries
+mod IndexTables
 mod LoadedBytes
+mod NoteLengths
+mod NoteReads
 mod RuleNumbers
+mod SectionList
 mod SectionNames
 mod StringPlaces
+mod SymbolReads
+mod TableNumbers
+mod TableReads

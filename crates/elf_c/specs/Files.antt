@@ -33,9 +33,12 @@ pub record IsFileOf (file : File) (b : List ℕ) : Type 0 where
   pub kept : KeepsRecordRules b
   pub numbers : file ≡ file_in b
 
--- the order that the data encoding names
+-- the order that a data encoding names
+abbrev pub order_named : ℕ → Order
+order_named ei_data = if ei_data == ELFDATA2MSB then Big else Little
+
 abbrev pub file_order : File → Order
-file_order file = if file.ei_data == ELFDATA2MSB then Big else Little
+file_order file = order_named file.ei_data
 
 -- a table of so many entries has one of this index, which lies in a file of len bytes
 abbrev pub HasEntry : ℕ → ℕ → ℕ → ℕ → ℕ → Type 0

@@ -5,11 +5,15 @@
 //! the caller holds: it may have any numbers, so each accessor tests what it reads against the length of the bytes.
 #![tactic(auto)]
 
+mod entries;
 mod file;
+mod lengths;
 mod load;
 mod names;
+mod notes;
 mod parts;
 mod places;
 mod records;
 mod shapes;
+mod tables;
 mod verdicts;

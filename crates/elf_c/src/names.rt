@@ -1,21 +1,17 @@
 //! The names of sections.
 ghost use Rattle.std.specs.Prelude.{◌≡◌, ◌<◌, ◌≤◌, ◌+◌, ◌↔◌, IfSome, IsSome, IsTrue, length};
 ghost use Rattle.std.specs.Bool.{OnFalse, OnTrue};
-ghost use Rattle.elf_image_rules.specs.Tables.{bytes_in, content_extent, file_counts};
+ghost use Rattle.elf_image_rules.specs.Tables.{bytes_in, file_counts};
 ghost use Rattle.elf_image_type.specs.Strings.{string};
 ghost use Rattle.elf_c_room.specs.Room.{extent_in};
 ghost use Rattle.elf_c.specs.Files.{IsFileOf, name_of_section};
+ghost use Rattle.elf_c.specs.Tables.{slot_bytes};
 
-use crate::places::section_of;
+use crate::places::{NOWHERE, bytes_of, place_of_content, section_of};
 use crate::shapes::File;
 use elf_c_room::Slot;
-use elf_field::Shdr;
 use elf_field::abi::SHT_NULL;
-use elf_image_rules::content::content_of;
 use elf_image_type::strings::string_at;
-
-/// Where a string of no bytes is said to stand.
-const NOWHERE: Slot = Slot { start: 0, len: 0 };
 
 /// Where the name of section `index` stands in the file, without its closing zero; false where there is no section of this index.
 #[unsafe(no_mangle)]
@@ -48,21 +44,21 @@ fn name_of(file: &File, bytes: &[u8], index: u64) -> Option<Slot>
         return Some(NOWHERE);
     }
     let table = section_of(file, bytes, file.name_table)?;
-    Some(place_of_string(bytes, &table, section.sh_name))
+    Some(place_of_string(bytes, place_of_content(&table), section.sh_name as u64))
 }
 
-/// Where the string at an offset of a string table stands in the file.
-fn place_of_string(bytes: &[u8], table: &Shdr, offset: u32) -> Slot
-    ensures value { bytes_in bytes.now (extent_in result) ≡ string (bytes_in bytes.now (content_extent table.now)) offset }
+/// Where the string at an offset of a string table stands in the file; one of no bytes nowhere.
+pub fn place_of_string(bytes: &[u8], table: Slot, offset: u64) -> Slot
+    ensures value { slot_bytes bytes.now result ≡ string (slot_bytes bytes.now table) offset }
     ensures inside { result.start + result.len ≤ length bytes.now }
 {
-    let strings = content_of(bytes, table);
+    let strings = bytes_of(bytes, table);
     let len = string_at(strings, offset as usize).len() as u64;
     if len == 0 {
         return NOWHERE;
     }
     Slot {
-        start: table.sh_offset + offset as u64,
+        start: table.start + offset,
         len,
     }
 }

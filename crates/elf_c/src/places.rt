@@ -1,19 +1,28 @@
-//! Where the records of a file stand, by numbers that may be any.
-ghost use Rattle.std.specs.Prelude.{◌≡◌, ◌≤◌, ◌+◌, ◌*◌, SomeIff, length};
+//! Where the records and the contents of a file stand, by numbers that may be any.
+ghost use Rattle.std.specs.Prelude.{◌≡◌, ◌<◌, ◌≤◌, ◌+◌, ◌*◌, SomeIff, length};
 ghost use Rattle.elf_field.specs.Abi.{PHDR_SIZE as phdr_size, SHDR_SIZE as shdr_size};
 ghost use Rattle.elf_field.specs.Phdr.{phdr_at};
 ghost use Rattle.elf_field.specs.Shdr.{shdr_at};
-ghost use Rattle.elf_c.specs.Files.{HasEntry, file_order};
+ghost use Rattle.elf_image_rules.specs.Tables.{content_extent};
+ghost use Rattle.elf_table_base.specs.Sections.{count, section, sections_in};
+ghost use Rattle.elf_c_room.specs.Room.{extent_in};
+ghost use Rattle.elf_c.specs.Files.{HasEntry, IsFileOf, file_order, order_named};
+ghost use Rattle.elf_c.specs.Tables.{slot_bytes};
 
 use crate::shapes::File;
+use elf_c_room::Slot;
 use elf_field::abi::{ELFDATA2MSB, PHDR_SIZE, SHDR_SIZE};
 use elf_field::{Order, Phdr, Shdr, get_at};
+use elf_image_rules::content::extent_of_content;
 
-/// The byte order of the file's records: any data encoding but `ELFDATA2MSB` is taken for the least significant byte first.
-fn order_of(file: &File) -> Order
-    ensures { result ≡ file_order file.now }
+/// A place of no bytes.
+pub const NOWHERE: Slot = Slot { start: 0, len: 0 };
+
+/// The order that a data encoding names: any but `ELFDATA2MSB` is taken for the least significant byte first.
+pub fn order_of(ei_data: u8) -> Order
+    ensures { result ≡ order_named ei_data }
 {
-    if file.ei_data == ELFDATA2MSB {
+    if ei_data == ELFDATA2MSB {
         Order::Big
     } else {
         Order::Little
@@ -34,15 +43,16 @@ pub fn place_of(table: u64, size: u64, index: u64, len: usize) -> Option<usize>
 
 /// Section header `index` of the file; None where there is none of this index, or it doesn't lie in the file.
 pub fn section_of(file: &File, bytes: &[u8], index: u64) -> Option<Shdr>
-    ensures { let f = file.now in
+    ensures read { let f = file.now in
         SomeIff result (HasEntry f.sections f.e_shoff shdr_size index (length bytes.now))
         (shdr_at (file_order f) bytes.now (f.e_shoff + shdr_size * index)) }
+    ensures listed { IsFileOf file.now bytes.now → let f = sections_in bytes.now in SomeIff result (index < count f) (section f index) }
 {
     if index >= file.sections {
         return None;
     }
     let offset = place_of(file.e_shoff, SHDR_SIZE, index, bytes.len())?;
-    Some(get_at(order_of(file), bytes, offset))
+    Some(get_at(order_of(file.ei_data), bytes, offset))
 }
 
 /// Program header `index` of the file; None where there is none of this index, or it doesn't lie in the file.
@@ -55,5 +65,31 @@ pub fn segment_of(file: &File, bytes: &[u8], index: u64) -> Option<Phdr>
         return None;
     }
     let offset = place_of(file.e_phoff, PHDR_SIZE, index, bytes.len())?;
-    Some(get_at(order_of(file), bytes, offset))
+    Some(get_at(order_of(file.ei_data), bytes, offset))
+}
+
+/// Where the content of a section stands.
+pub fn place_of_content(section: &Shdr) -> Slot
+    ensures { extent_in result ≡ content_extent section.now }
+{
+    let extent = extent_of_content(section);
+    Slot {
+        start: extent.start,
+        len: extent.len,
+    }
+}
+
+/// The bytes that stand in a place, as far as they lie in the file.
+pub fn bytes_of(bytes: &[u8], place: Slot) -> &[u8]
+    ensures content { result.now ≡ slot_bytes bytes.now place }
+    ensures inside { 0 < length result.now → place.start + length result.now ≤ length bytes.now }
+{
+    if place.start >= bytes.len() as u64 {
+        return &[];
+    }
+    let rest = &bytes[place.start as usize..];
+    if place.len >= rest.len() as u64 {
+        return rest;
+    }
+    &rest[..place.len as usize]
 }

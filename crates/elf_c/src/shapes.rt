@@ -1,10 +1,12 @@
 //! The structs that C shares, by the names that the gABI gives their fields.
 ghost use Rattle.std.specs.Prelude.{◌≡◌};
+ghost use Rattle.elf_c.specs.Entries.{dynamic_shape, relocation_shape};
 ghost use Rattle.elf_c.specs.Shapes.{header_shape, section_shape, segment_shape};
 
 use elf_c_room::Slot;
 use elf_field::abi::EI_NIDENT;
-use elf_field::{Ehdr, Phdr, Shdr};
+use elf_field::{Dyn, Ehdr, Phdr, Shdr};
+use elf_table_lists as lists;
 
 /// `struct elfmap_fault`: the first rule that a file breaks, and where.
 #[repr(C)]
@@ -163,4 +165,81 @@ pub struct Table {
     pub sh_type: u32,
     /// The data encoding: identification byte `EI_DATA`.
     pub ei_data: u8,
+}
+
+/// `struct elfmap_symbol`: an entry of a symbol table, with its name and its section.
+#[repr(C)]
+#[derive(Clone, Copy, Debug, PartialEq, Eq)]
+pub struct Symbol {
+    /// Where its name stands in the file, without its closing zero.
+    pub name: Slot,
+    pub st_value: u64,
+    pub st_size: u64,
+    pub st_name: u32,
+    /// The index of the section where it is defined: `st_shndx`, or the word of the index table where that is `SHN_XINDEX`.
+    pub section: u32,
+    pub st_shndx: u16,
+    pub st_info: u8,
+    pub st_other: u8,
+}
+
+/// `struct elfmap_relocation`: an entry of a relocation section.
+#[repr(C)]
+#[derive(Clone, Copy, Debug, PartialEq, Eq)]
+pub struct Relocation {
+    pub r_offset: u64,
+    /// 0 in a section of type `SHT_REL`, where the addend stands in the bytes that are relocated.
+    pub r_addend: i64,
+    /// The index of the symbol, from the upper half of `r_info`.
+    pub symbol: u32,
+    /// The type of the relocation, from the lower half of `r_info`.
+    pub relocation_type: u32,
+}
+
+impl Relocation {
+    /// The relocation in the shape that C has.
+    pub(crate) fn new(entry: &lists::Relocation) -> Relocation
+        ensures { result ≡ relocation_shape entry.now }
+    {
+        Relocation {
+            r_offset: entry.offset,
+            r_addend: entry.addend.unwrap_or(0),
+            symbol: entry.symbol,
+            relocation_type: entry.relocation_type,
+        }
+    }
+}
+
+/// `struct elfmap_dynamic`: an entry of a dynamic array.
+#[repr(C)]
+#[derive(Clone, Copy, Debug, PartialEq, Eq)]
+pub struct DynamicEntry {
+    pub d_tag: i64,
+    /// `d_val` or `d_ptr`, as the tag says.
+    pub d_un: u64,
+}
+
+impl DynamicEntry {
+    /// The entry in the shape that C has.
+    pub(crate) fn new(entry: &Dyn) -> DynamicEntry
+        ensures { result ≡ dynamic_shape entry.now }
+    {
+        DynamicEntry {
+            d_tag: entry.d_tag,
+            d_un: entry.d_un,
+        }
+    }
+}
+
+/// `struct elfmap_note`: a note of a note section.
+#[repr(C)]
+#[derive(Clone, Copy, Debug, PartialEq, Eq)]
+pub struct Note {
+    /// Where its name stands in the file, without its closing zero and its padding.
+    pub name: Slot,
+    /// Where its descriptor stands in the file, without its padding.
+    pub desc: Slot,
+    /// Where the next note begins, in bytes from the beginning of the section.
+    pub next: u64,
+    pub n_type: u32,
 }

@@ -4,7 +4,7 @@ use Rattle.elf_image_rules.specs.Tables.{program_header_of}
 use Rattle.elf_image_type.specs.Loads.{HasAddress}
 use Rattle.elf_c.specs.declared.shapes.File.{File}
 use Rattle.elf_c.specs.Segments.{segments_listed}
-use Rattle.elf_c.proofs.Entries.{segment_at, segment_below}
+use Rattle.elf_c.proofs.FileEntries.{segment_at, segment_below}
 use Rattle.elf_c.proofs.LoadedBytes.{length-listed, listed_at}
 use Rattle.elf_c.proofs.load.first_with_address.Goals as goal
 

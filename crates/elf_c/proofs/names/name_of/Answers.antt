@@ -1,30 +1,29 @@
-use Rattle.std.proofs.Common.{◌≡◌, ◌↔◌, None, Option, subst, sym, ◌∙◌}
+use Rattle.std.proofs.Common.{◌≡◌, ◌↔◌, None, Option, ap, subst, sym, ◌∙◌}
 use Rattle.std.specs.Prelude.{IsSome}
+use Rattle.elf_extent.specs.declared.extent.Extent.{Extent}
+use Rattle.elf_image_rules.specs.Tables.{bytes_in}
+use Rattle.elf_image_type.specs.Strings.{string}
 use Rattle.elf_c_room.specs.declared.room.Slot.{Slot}
-use Rattle.elf_c.proofs.Entries.{section_at, section_below}
+use Rattle.elf_c.proofs.Absent.{none_there}
+use Rattle.elf_c.proofs.FileEntries.{section_at, section_below}
 use Rattle.elf_c.proofs.SectionNames.{name_in_table, name_of_null, name_without_table, table_below}
 use Rattle.elf_c.proofs.names.name_of.Goals as goal
 use Rattle.elf_c.proofs.names.name_of.Goals.{then-section-eq-SHT_NULL-via-then-section-eq-SHT_NULL, then-section-eq-SHT_NULL-via-else-section-eq-SHT_NULL+then-file-eq0}
 
--- no answer is right where there is no section
-none_there : (P : Type 0) (r : Option Slot) → r ≡ None → (P → ⊥) → IsSome r ↔ P
-none_there P r none not_there =
-    subst (λ (s : Option Slot). IsSome s ↔ P) (sym none) (λ wrong. cc, λ there. absurd (not_there there))
-
 pub returns-in_err-section-clause-there : goal.returns-in_err-section-clause-there
 returns-in_err-section-clause-there c is =
     none_there _ _ c.from_residual.ensures (λ below.
-    c.in_err-section.ensures (section_at c.args.file.now c.args.bytes.now c.args.index is below).there)
+    c.in_err-section.ensures.read (section_at c.args.file.now c.args.bytes.now c.args.index is below).there)
 
 pub returns-then-section-eq-SHT_NULL-clause-value : goal.returns-then-section-eq-SHT_NULL-clause-value
 returns-then-section-eq-SHT_NULL-clause-value c is =
     let f = c.args.file.now in
     let b = c.args.bytes.now in
     let i = c.args.index in
-    let below = section_below f b i _ is c.in_ok-section.ensures.0 in
+    let below = section_below f b i _ is c.in_ok-section.ensures.read.0 in
     elim c.then-section-eq-SHT_NULL.branch [
       | then-section-eq-SHT_NULL-via-then-section-eq-SHT_NULL w ↦
-          name_of_null b i c.in_ok-section.section (c.in_ok-section.ensures.1 ∙ (section_at f b i is below).read) w.if-section-eq-SHT_NULL.true
+          name_of_null b i c.in_ok-section.section (c.in_ok-section.ensures.read.1 ∙ (section_at f b i is below).read) w.if-section-eq-SHT_NULL.true
       | then-section-eq-SHT_NULL-via-else-section-eq-SHT_NULL+then-file-eq0 w ↦ name_without_table f b i is w.if-file-eq0.true
     ]
 
@@ -32,15 +31,16 @@ pub returns-in_err-table-clause-there : goal.returns-in_err-table-clause-there
 returns-in_err-table-clause-there c is =
     let f = c.args.file.now in
     let b = c.args.bytes.now in
-    absurd (c.in_err-table.ensures (section_at f b f.name_table is (table_below f b is c.if-file-eq0.false)).there)
+    absurd (c.in_err-table.ensures.read (section_at f b f.name_table is (table_below f b is c.if-file-eq0.false)).there)
 
 pub returns-clause-value : goal.returns-clause-value
 returns-clause-value c is =
     let f = c.args.file.now in
     let b = c.args.bytes.now in
     let i = c.args.index in
-    let below = section_below f b i _ is c.in_ok-section.ensures.0 in
+    let below = section_below f b i _ is c.in_ok-section.ensures.read.0 in
     let table = section_at f b f.name_table is (table_below f b is c.if-file-eq0.false) in
     c.place_of_string.ensures.value
-    ∙ name_in_table f b i c.in_ok-section.section c.in_ok-table.table is (c.in_ok-section.ensures.1 ∙ (section_at f b i is below).read)
-    (c.in_ok-table.ensures.1 ∙ table.read) c.if-section-eq-SHT_NULL.false c.if-file-eq0.false
+    ∙ ap (λ (e : Extent). string (bytes_in b e) c.in_ok-section.section.sh_name) c.place_of_content.ensures
+    ∙ name_in_table f b i c.in_ok-section.section c.in_ok-table.table is (c.in_ok-section.ensures.read.1 ∙ (section_at f b i is below).read)
+    (c.in_ok-table.ensures.read.1 ∙ table.read) c.if-section-eq-SHT_NULL.false c.if-file-eq0.false

@@ -1,7 +1,7 @@
 use Rattle.std.proofs.Common.{ap, false, ◌∙◌}
 use Rattle.std.specs.Prelude.{IsTrue}
 use Rattle.elf_c.specs.Shapes.{segment_shape}
-use Rattle.elf_c.proofs.Entries.{segment_at, segment_below}
+use Rattle.elf_c.proofs.FileEntries.{segment_at, segment_below}
 use Rattle.elf_c.proofs.records.elfmap_segment.Goals as goal
 
 pub returns-in-Some-clause-value : goal.returns-in-Some-clause-value

@@ -1,0 +1,39 @@
+use Rattle.std.proofs.Common.{◌≡◌, ◌<◌, ◌≤◌, ℕ, List, false, true, ap, arith, get_or, length, refl, ◌∙◌}
+use Rattle.std.specs.Prelude.{IsTrue}
+use Rattle.elf_field.specs.declared.order.Order.{Order}
+use Rattle.elf_table_base.specs.Sections.{sections_in}
+use Rattle.elf_table_lists.specs.Relocations.{has_addends, no_relocation_entry, relocation_count, relocation_in, relocations_of}
+use Rattle.elf_c.specs.Entries.{relocation_shape}
+use Rattle.elf_c.specs.Files.{order_named}
+use Rattle.elf_c.specs.Tables.{slot_bytes}
+use Rattle.elf_c.proofs.EntryReads.{relocation_by_numbers, relocations_counted}
+use Rattle.elf_c.proofs.entries.elfmap_relocation.Goals as goal
+
+pub returns-then-index-relocation_count-clause-there : goal.returns-then-index-relocation_count-clause-there
+returns-then-index-relocation_count-clause-there c i is =
+    let t = c.args.table.now in
+    let counted = c.relocation_count.ensures ∙ ap (λ (s : List ℕ). relocation_count (has_addends t.sh_type) s) c.bytes_of-content.ensures.content
+    ∙ relocations_counted t c.args.bytes.now i is in
+    let past = c.if-index-relocation_count.true in
+    (λ (wrong : IsTrue false). cc, λ below. absurd (omega arith))
+
+pub returns-clause-there : goal.returns-clause-there
+returns-clause-there c i is =
+    let t = c.args.table.now in
+    let counted = c.relocation_count.ensures ∙ ap (λ (s : List ℕ). relocation_count (has_addends t.sh_type) s) c.bytes_of-content.ensures.content
+    ∙ relocations_counted t c.args.bytes.now i is in
+    let below = c.if-index-relocation_count.false in
+    (λ yes. omega arith, λ _. refl)
+
+pub returns-clause-value : goal.returns-clause-value
+returns-clause-value c i is =
+    let t = c.args.table.now in
+    let b = c.args.bytes.now in
+    let counted = c.relocation_count.ensures ∙ ap (λ (s : List ℕ). relocation_count (has_addends t.sh_type) s) c.bytes_of-content.ensures.content in
+    let within = c.if-index-relocation_count.false in
+    let below : c.args.index < relocation_count (has_addends t.sh_type) (slot_bytes b t.content) = omega arith in
+    let read : c.relocation_at.result ≡ get_or (relocations_of (sections_in b) i) c.args.index no_relocation_entry =
+    c.relocation_at.ensures ∙ ap (λ (o : Order). relocation_in (has_addends t.sh_type) o c.bytes_of-content.result.now c.args.index) c.order_of-order.ensures
+    ∙ ap (λ (s : List ℕ). relocation_in (has_addends t.sh_type) (order_named t.ei_data) s c.args.index) c.bytes_of-content.ensures.content
+    ∙ relocation_by_numbers t b i c.args.index is below in
+    c.new.ensures ∙ ap relocation_shape read

@@ -1,0 +1,51 @@
+use Rattle.std.proofs.Common.{◌≡◌, ◌<◌, ◌≤◌, ◌↔◌, ℕ, List, ap, get_or, length, subst, sym, ◌∙◌}
+use Rattle.elf_field.specs.declared.order.Order.{Order}
+use Rattle.elf_table_base.specs.Sections.{sections_in}
+use Rattle.elf_table_lists.specs.Notes.{note_at, note_end, note_offset, notes_of}
+use Rattle.elf_c.specs.Entries.{no_note_value, note_told}
+use Rattle.elf_c.specs.Files.{order_named}
+use Rattle.elf_c.specs.Tables.{slot_bytes}
+use Rattle.elf_c.proofs.Absent.{none_there, some_same}
+use Rattle.elf_c.proofs.NoteReads.{none_behind, note_by_numbers, note_there}
+use Rattle.elf_c.proofs.notes.note_of_index.Goals as goal
+
+-- an offset by the bytes that were read is the one by the numbers of the table
+same_offset : (o p : Order) (s t : List ℕ) (x k : ℕ) → x ≡ note_offset o s 0 k → o ≡ p → s ≡ t → x ≡ note_offset p t 0 k
+same_offset o p s t x k is ordered read = is ∙ ap (λ (q : Order). note_offset q s 0 k) ordered ∙ ap (λ (u : List ℕ). note_offset p u 0 k) read
+
+-- some note before note j is cut
+abbrev IsCutBefore : ℕ → Order → List ℕ → Type 0
+IsCutBefore j o t = (k : ℕ) × (k < j) × (length t < note_end o t (note_offset o t 0 k))
+
+pub returns-in_err-offset-clause-there : goal.returns-in_err-offset-clause-there
+returns-in_err-offset-clause-there c i is =
+    let t = c.args.table.now in
+    let b = c.args.bytes.now in
+    let cut : IsCutBefore c.args.index (order_named t.ei_data) (slot_bytes b t.content) =
+    subst (λ (o : Order). IsCutBefore c.args.index o (slot_bytes b t.content)) c.order_of.ensures
+    (subst (λ (s : List ℕ). IsCutBefore c.args.index c.order_of.result s) c.bytes_of-content.ensures.content c.in_err-offset.ensures.cut) in
+    none_there _ _ c.from_residual.ensures (none_behind t b i cut.0 c.args.index is cut.1 cut.2)
+
+pub returns-clause-there : goal.returns-clause-there
+returns-clause-there c i is =
+    let t = c.args.table.now in
+    let b = c.args.bytes.now in
+    let o = order_named t.ei_data in
+    let s = slot_bytes b t.content in
+    let place = same_offset c.order_of.result o c.bytes_of-content.result.now s c.in_ok-offset.offset c.args.index c.in_ok-offset.ensures.found
+    c.order_of.ensures c.bytes_of-content.ensures.content in
+    let there = subst (λ (x : ℕ). note_end o s x ≤ length s ↔ (c.args.index < length (notes_of (sections_in b) i))) (sym place)
+    (note_there t b i c.args.index is) in
+    (λ some. there.0 (c.note_of.ensures.there.0 some), λ below. c.note_of.ensures.there.1 (there.1 below))
+
+pub returns-clause-value : goal.returns-clause-value
+returns-clause-value c i is =
+    let t = c.args.table.now in
+    let b = c.args.bytes.now in
+    let o = order_named t.ei_data in
+    let s = slot_bytes b t.content in
+    let place = same_offset c.order_of.result o c.bytes_of-content.result.now s c.in_ok-offset.offset c.args.index c.in_ok-offset.ensures.found
+    c.order_of.ensures c.bytes_of-content.ensures.content in
+    some_same (note_told b) _ _ c.note_of.result c.note_of.ensures.value
+    (λ some. ap (note_at o s) place
+    ∙ note_by_numbers t b i c.args.index is (subst (λ (x : ℕ). note_end o s x ≤ length s) place (c.note_of.ensures.there.0 some)))

@@ -1,0 +1,167 @@
+//! The entries of symbol tables, relocation sections and dynamic arrays, and their strings (gABI chapter 4, Symbol Table, Relocation, String
+//! Table; chapter 5, Dynamic Section).
+ghost use Rattle.std.specs.Prelude.{◌≡◌, ◌≢◌, ℕ, ◌*◌, ◌+◌, ◌^◌, ◌<◌, ◌≤◌, ◌↔◌, IfSome, IsSome, IsTrue, Some, SomeIff, get_or, length};
+ghost use Rattle.std.specs.Bool.{OnFalse, OnTrue};
+ghost use Rattle.elf_field.specs.Abi.{SHN_XINDEX as shn_xindex, WORD_SIZE as word_size};
+ghost use Rattle.elf_image_type.specs.Strings.{string};
+ghost use Rattle.elf_table_all.specs.DynamicStrings.{dynamic_strings};
+ghost use Rattle.elf_table_base.specs.Sections.{content, order, sections_in};
+ghost use Rattle.elf_table_base.specs.TableKind.{kind_of};
+ghost use Rattle.elf_table_base.specs.declared.table_kind.TableKind.TheVariants.{DynamicArray, RelocationTable, SymbolTable};
+ghost use Rattle.elf_table_lists.specs.DynamicArray.{dynamic_array_of, no_dynamic_entry};
+ghost use Rattle.elf_table_lists.specs.Relocations.{no_relocation_entry, relocations_of};
+ghost use Rattle.elf_table_symbols.specs.SymbolRules.{entry as entry_of, entry_count, word as word_of};
+ghost use Rattle.elf_table_symbols.specs.Symbols.{symbol_entry_in, symbols_of};
+ghost use Rattle.elf_table_symbols.specs.SymbolView.{no_symbol_entry};
+ghost use Rattle.elf_c.specs.Entries.{HasSymbol, dynamic_shape, relocation_shape, section_index, symbol_record, symbol_told};
+ghost use Rattle.elf_c.specs.Files.{order_named};
+ghost use Rattle.elf_c.specs.Tables.{IsTableOf, slot_bytes};
+
+use crate::names::place_of_string;
+use crate::places::{bytes_of, order_of};
+use crate::shapes::{DynamicEntry, Relocation, Symbol, Table};
+use elf_c_room::Slot;
+use elf_field::Order;
+use elf_field::abi::{SHN_XINDEX, SHT_RELA, SYM_SIZE, WORD_SIZE};
+use elf_table_base::TableKind;
+use elf_table_lists::{dynamic_entry, dynamic_entry_count, relocation_at, relocation_count};
+use elf_table_symbols::{entry, word};
+
+/// Symbol `index` of a symbol table; false where there is none of this index.
+#[unsafe(no_mangle)]
+pub extern "C" fn elfmap_symbol(
+    table: &Table,
+    bytes: &[u8],
+    index: u64,
+    symbol: &mut Symbol,
+) -> bool
+    ensures there { (i : ℕ) → IsTableOf SymbolTable table.now bytes.now i →
+        IsTrue result ↔ (index < length (symbols_of (sections_in bytes.now) i)) }
+    ensures value { (i : ℕ) → IsTableOf SymbolTable table.now bytes.now i →
+        OnTrue result (symbol_told bytes.now symbol.new ≡ get_or (symbols_of (sections_in bytes.now) i) index no_symbol_entry) }
+    ensures record { (i : ℕ) → IsTableOf SymbolTable table.now bytes.now i → let f = sections_in bytes.now in
+        OnTrue result (symbol_record symbol.new ≡ entry_of (order f) (content f i) index) }
+    ensures section { OnTrue result (symbol.new.st_shndx ≢ shn_xindex → symbol.new.section ≡ symbol.new.st_shndx) }
+    ensures inside { OnTrue result (symbol.new.name.start + symbol.new.name.len ≤ length bytes.now) }
+    ensures unchanged { OnFalse result (symbol.new ≡ symbol.old) }
+{
+    match symbol_of(table, bytes, index) {
+        Some(found) => {
+            *symbol = found;
+            true
+        }
+        None => false,
+    }
+}
+
+/// Symbol `index` of a symbol table; None where the table has no such entry, or the index table no word for an entry that needs one.
+#[tactic(auto, unfolding(elf_table_symbols::specs::Symbols::symbol_entry_in))]
+fn symbol_of(table: &Table, bytes: &[u8], index: u64) -> Option<Symbol>
+    ensures there { IsSome result ↔ HasSymbol table.now bytes.now index }
+    ensures value { let t = table.now in let b = bytes.now in IfSome result (λ s. symbol_told b s ≡
+        symbol_entry_in (order_named t.ei_data) (slot_bytes b t.content) (slot_bytes b t.strings) (slot_bytes b t.linked) index) }
+    ensures record { let t = table.now in
+        IfSome result (λ s. symbol_record s ≡ entry_of (order_named t.ei_data) (slot_bytes bytes.now t.content) index) }
+    ensures section { IfSome result (λ s. s.st_shndx ≢ shn_xindex → s.section ≡ s.st_shndx) }
+    ensures inside { IfSome result (λ s. s.name.start + s.name.len ≤ length bytes.now) }
+{
+    let order = order_of(table.ei_data);
+    let content = bytes_of(bytes, table.content);
+    if index >= (content.len() / SYM_SIZE as usize) as u64 {
+        return None;
+    }
+    let symbol = entry(order, content, index as usize);
+    let words = bytes_of(bytes, table.linked);
+    let section = section_index_of(order, words, symbol.st_shndx, index)?;
+    Some(Symbol {
+        name: place_of_string(bytes, table.strings, symbol.st_name as u64),
+        st_value: symbol.st_value,
+        st_size: symbol.st_size,
+        st_name: symbol.st_name,
+        section,
+        st_shndx: symbol.st_shndx,
+        st_info: symbol.st_info,
+        st_other: symbol.st_other,
+    })
+}
+
+/// The index of the section of symbol `j`, of this `st_shndx`, in a table with these words of its index table; None where it stands in a
+/// word that is not there.
+fn section_index_of(order: Order, words: &[u8], st_shndx: u16, j: u64) -> Option<u32>
+    requires { j < 2 ^ 60 }
+    ensures { SomeIff result (st_shndx ≡ shn_xindex → word_size * j + word_size ≤ length words.now) (section_index order words.now st_shndx j) }
+{
+    if st_shndx != SHN_XINDEX {
+        return Some(st_shndx as u32);
+    }
+    if WORD_SIZE * j + WORD_SIZE <= words.len() as u64 {
+        Some(word(order, words, j as usize))
+    } else {
+        None
+    }
+}
+
+/// Relocation `index` of a relocation section; false where there is none of this index.
+#[unsafe(no_mangle)]
+pub extern "C" fn elfmap_relocation(
+    table: &Table,
+    bytes: &[u8],
+    index: u64,
+    relocation: &mut Relocation,
+) -> bool
+    ensures there { (i : ℕ) → IsTableOf RelocationTable table.now bytes.now i →
+        IsTrue result ↔ (index < length (relocations_of (sections_in bytes.now) i)) }
+    ensures value { (i : ℕ) → IsTableOf RelocationTable table.now bytes.now i →
+        OnTrue result (relocation.new ≡ relocation_shape (get_or (relocations_of (sections_in bytes.now) i) index no_relocation_entry)) }
+    ensures unchanged { OnFalse result (relocation.new ≡ relocation.old) }
+{
+    let addends = table.sh_type == SHT_RELA;
+    let content = bytes_of(bytes, table.content);
+    if index >= relocation_count(addends, content) as u64 {
+        return false;
+    }
+    let order = order_of(table.ei_data);
+    *relocation = Relocation::new(&relocation_at(order, addends, content, index as usize));
+    true
+}
+
+/// Entry `index` of a dynamic array; false where there is none of this index before the first entry of tag `DT_NULL`.
+#[unsafe(no_mangle)]
+pub extern "C" fn elfmap_dynamic(
+    table: &Table,
+    bytes: &[u8],
+    index: u64,
+    entry: &mut DynamicEntry,
+) -> bool
+    ensures there { (i : ℕ) → IsTableOf DynamicArray table.now bytes.now i →
+        IsTrue result ↔ (index < length (dynamic_array_of (sections_in bytes.now) i)) }
+    ensures value { (i : ℕ) → IsTableOf DynamicArray table.now bytes.now i →
+        OnTrue result (entry.new ≡ dynamic_shape (get_or (dynamic_array_of (sections_in bytes.now) i) index no_dynamic_entry)) }
+    ensures unchanged { OnFalse result (entry.new ≡ entry.old) }
+{
+    let content = bytes_of(bytes, table.content);
+    if index >= table.entries || index >= dynamic_entry_count(content) as u64 {
+        return false;
+    }
+    let order = order_of(table.ei_data);
+    *entry = DynamicEntry::new(&dynamic_entry(order, content, index as usize));
+    true
+}
+
+/// Where the string at an offset of the table's strings stands in the file, without its closing zero; false where the offset is not below
+/// their length. A string of no bytes is said to stand at offset 0.
+#[unsafe(no_mangle)]
+pub extern "C" fn elfmap_string(table: &Table, bytes: &[u8], offset: u64, place: &mut Slot) -> bool
+    ensures there { IsTrue result ↔ (offset < length (slot_bytes bytes.now table.now.strings)) }
+    ensures value { OnTrue result (slot_bytes bytes.now place.new ≡ string (slot_bytes bytes.now table.now.strings) offset) }
+    ensures dynamic { (i : ℕ) → IsTableOf DynamicArray table.now bytes.now i →
+        slot_bytes bytes.now table.now.strings ≡ dynamic_strings (sections_in bytes.now) i }
+    ensures inside { OnTrue result (place.new.start + place.new.len ≤ length bytes.now) }
+    ensures unchanged { OnFalse result (place.new ≡ place.old) }
+{
+    if offset >= bytes_of(bytes, table.strings).len() as u64 {
+        return false;
+    }
+    *place = place_of_string(bytes, table.strings, offset);
+    true
+}

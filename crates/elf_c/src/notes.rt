@@ -1,0 +1,137 @@
+//! The notes of note sections (gABI chapter 5, Note Section).
+ghost use Rattle.std.specs.Prelude.{◌≡◌, ℕ, ◌+◌, ◌<◌, ◌≤◌, ◌↔◌, IfNone, IfSome, IsSome, IsTrue, SomeIff, get_or, length};
+ghost use Rattle.std.specs.Bool.{OnFalse, OnTrue};
+ghost use Rattle.elf_table_base.specs.Sections.{sections_in};
+ghost use Rattle.elf_table_base.specs.declared.table_kind.TableKind.TheVariants.{NoteSection};
+ghost use Rattle.elf_table_lists.specs.Notes.{note_at as note_of_content, note_end as note_end_of, note_offset, notes_of};
+ghost use Rattle.elf_c.specs.Entries.{LiesInFile, no_note_value, note_told};
+ghost use Rattle.elf_c.specs.Files.{order_named};
+ghost use Rattle.elf_c.specs.Tables.{IsTableOf, slot_bytes};
+
+use crate::places::{bytes_of, order_of};
+use crate::shapes::{Note, Table};
+use elf_c_room::Slot;
+use elf_field::abi::{N_TYPE_AT, NHDR_SIZE};
+use elf_field::{Order, get_at};
+use elf_table_lists::{desc_start, descsz, namesz, note_end};
+
+/// Note `index` of a note section; false where there is none of this index. It goes over the notes before it.
+#[unsafe(no_mangle)]
+pub extern "C" fn elfmap_note(table: &Table, bytes: &[u8], index: u64, note: &mut Note) -> bool
+    ensures there { (i : ℕ) → IsTableOf NoteSection table.now bytes.now i →
+        IsTrue result ↔ (index < length (notes_of (sections_in bytes.now) i)) }
+    ensures value { (i : ℕ) → IsTableOf NoteSection table.now bytes.now i →
+        OnTrue result (note_told bytes.now note.new ≡ get_or (notes_of (sections_in bytes.now) i) index no_note_value) }
+    ensures inside { OnTrue result (LiesInFile note.new (length bytes.now)) }
+    ensures unchanged { OnFalse result (note.new ≡ note.old) }
+{
+    match note_of_index(table, bytes, index) {
+        Some(found) => {
+            *note = found;
+            true
+        }
+        None => false,
+    }
+}
+
+/// The note at an offset of a note section; false where none begins there that is whole.
+#[unsafe(no_mangle)]
+pub extern "C" fn elfmap_note_at(table: &Table, bytes: &[u8], offset: u64, note: &mut Note) -> bool
+    ensures there { let t = table.now in let content = slot_bytes bytes.now t.content in
+        IsTrue result ↔ (note_end_of (order_named t.ei_data) content offset ≤ length content) }
+    ensures value { let t = table.now in let content = slot_bytes bytes.now t.content in
+        OnTrue result (note_told bytes.now note.new ≡ note_of_content (order_named t.ei_data) content offset) }
+    ensures next { let t = table.now in let content = slot_bytes bytes.now t.content in
+        OnTrue result (note.new.next ≡ note_end_of (order_named t.ei_data) content offset) }
+    ensures inside { OnTrue result (LiesInFile note.new (length bytes.now)) }
+    ensures unchanged { OnFalse result (note.new ≡ note.old) }
+{
+    match note_of(table, bytes, offset) {
+        Some(found) => {
+            *note = found;
+            true
+        }
+        None => false,
+    }
+}
+
+/// Note `index` of a note section.
+fn note_of_index(table: &Table, bytes: &[u8], index: u64) -> Option<Note>
+    ensures there { (i : ℕ) → IsTableOf NoteSection table.now bytes.now i →
+        IsSome result ↔ (index < length (notes_of (sections_in bytes.now) i)) }
+    ensures value { (i : ℕ) → IsTableOf NoteSection table.now bytes.now i →
+        IfSome result (λ n. note_told bytes.now n ≡ get_or (notes_of (sections_in bytes.now) i) index no_note_value) }
+    ensures inside { IfSome result (λ n. LiesInFile n (length bytes.now)) }
+{
+    let content = bytes_of(bytes, table.content);
+    let offset = offset_of_note(order_of(table.ei_data), content, index)?;
+    note_of(table, bytes, offset as u64)
+}
+
+/// The note at an offset of a note section; None where it is cut.
+fn note_of(table: &Table, bytes: &[u8], offset: u64) -> Option<Note>
+    ensures there { let t = table.now in let content = slot_bytes bytes.now t.content in
+        IsSome result ↔ (note_end_of (order_named t.ei_data) content offset ≤ length content) }
+    ensures value { let t = table.now in let content = slot_bytes bytes.now t.content in
+        IfSome result (λ n. note_told bytes.now n ≡ note_of_content (order_named t.ei_data) content offset) }
+    ensures next { let t = table.now in let content = slot_bytes bytes.now t.content in
+        IfSome result (λ n. n.next ≡ note_end_of (order_named t.ei_data) content offset) }
+    ensures inside { IfSome result (λ n. LiesInFile n (length bytes.now)) }
+{
+    let order = order_of(table.ei_data);
+    let content = bytes_of(bytes, table.content);
+    let next = end_of_note(order, content, offset)?;
+    let at = table.content.start + offset;
+    Some(note_in(order, bytes, at as usize, next))
+}
+
+/// Where the note at an offset of a content ends; None where it is cut.
+fn end_of_note(order: Order, content: &[u8], offset: u64) -> Option<usize>
+    ensures { SomeIff result (note_end_of order content.now offset ≤ length content.now) (note_end_of order content.now offset) }
+{
+    let len = content.len() as u64;
+    if offset >= len || len - offset < NHDR_SIZE {
+        return None;
+    }
+    let end = note_end(order, content, offset as usize);
+    if end <= content.len() {
+        Some(end)
+    } else {
+        None
+    }
+}
+
+#[tactic(auto, unfolding(elf_table_lists::specs::Notes::note_at, elf_table_lists::specs::Notes::note_end, elf_table_lists::specs::Notes::desc_start))]
+/// The note that begins at an offset of the file, where it is whole, behind which the next one begins at `next` of the section.
+fn note_in(order: Order, bytes: &[u8], at: usize, next: usize) -> Note
+    requires { note_end_of order bytes.now at ≤ length bytes.now }
+    ensures value { note_told bytes.now result ≡ note_of_content order bytes.now at }
+    ensures next { result.next ≡ next }
+    ensures inside { LiesInFile result (length bytes.now) }
+{
+    Note {
+        name: Slot {
+            start: at as u64 + NHDR_SIZE,
+            len: namesz(order, bytes, at).saturating_sub(1) as u64,
+        },
+        desc: Slot {
+            start: desc_start(order, bytes, at) as u64,
+            len: descsz(order, bytes, at) as u64,
+        },
+        next: next as u64,
+        n_type: get_at(order, bytes, at + N_TYPE_AT as usize),
+    }
+}
+
+/// Where note `index` of a content begins; None where a note before it is cut.
+fn offset_of_note(order: Order, content: &[u8], index: u64) -> Option<usize>
+    ensures found { IfSome result (λ at. at ≡ note_offset order content.now 0 index) }
+    ensures cut { IfNone result ((k : ℕ) × (k < index) ×
+        (length content.now < note_end_of order content.now (note_offset order content.now 0 k))) }
+{
+    let mut at = 0;
+    for _k in 0..index {
+        at = end_of_note(order, content, at as u64)?;
+    }
+    Some(at)
+}
