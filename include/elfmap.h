@@ -20,8 +20,8 @@
  *
  * What a call answers is proved, for all bytes. What a caller keeps nothing can prove:
  * - No pointer is null, also where its length is 0, and each is aligned as its type asks for.
- * - `bytes` points to `len` bytes, and `room` to `count` extents or parts; len is at most PTRDIFF_MAX bytes, and so is the size of a room. While a
- *   call runs nobody writes these bytes; nor reads or writes the room or the struct that the call fills in.
+ * - `bytes` points to `len` bytes, and `room` to `count` extents or parts; len is at most PTRDIFF_MAX bytes, and so is the size of a room.
+ *   While a call runs nobody writes these bytes; nor reads or writes the room or the struct that the call fills in.
  * - The struct that a call fills in, and the room, overlap neither one another nor the bytes or another argument.
  *
  * Offsets and lengths are counted in bytes from the beginning of the file. Fields have the names of the gABI (System V ABI, generic part,
@@ -184,9 +184,9 @@ bool elfmap_verdict_in(const uint8_t *bytes, size_t len, struct elfmap_extent *r
 
 /*
  * What each byte of the file belongs to, by a room of `count` parts that the caller lends; what the room held is lost. True exactly where
- * the file keeps all 33 rules and the room has as many parts as are wanted. `parts` is then how many there are, and the first so many of the
- * room are the parts of the file: in ascending order from offset 0 to the end, each byte in just one of them, none of them empty. They are
- * the header, the section header table, the program header table and the content of each section, as far as these have a byte, and the
+ * the file keeps all 33 rules and the room has as many parts as are wanted. `parts` is then how many there are, and the first so many of
+ * the room are the parts of the file: in ascending order from offset 0 to the end, each byte in just one of them, none of them empty. They
+ * are the header, the section header table, the program header table and the content of each section, as far as these have a byte, and the
  * gaps between them, each as long as it can be.
  *
  * Else it is false, `parts` is unchanged, and `fault` is as elfmap_verdict has it; where the file keeps rules 1 to 32 and the room has too

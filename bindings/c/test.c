@@ -93,7 +93,8 @@ static void put_section(uint8_t *at, uint32_t name, uint32_t type, uint64_t offs
     put(at + 32, 8, size, is_big);
 }
 
-static void put_segment(uint8_t *at, uint32_t type, uint64_t offset, uint64_t address, uint64_t file_size, uint64_t memory_size, bool is_big) {
+static void put_segment(uint8_t *at, uint32_t type, uint64_t offset, uint64_t address, uint64_t file_size, uint64_t memory_size,
+                        bool is_big) {
     put(at, 4, type, is_big);
     put(at + 8, 8, offset, is_big);
     put(at + 16, 8, address, is_big);
@@ -201,7 +202,8 @@ static void check_parts(bool is_big) {
     memset(room, 0x5a, sizeof room);
     struct guarded it = guarded_bytes(made, SMALL_SIZE, true);
     for (size_t count = 0; count < SMALL_PARTS; count++) {
-        check(!elfmap_parts(it.bytes, it.len, room, count, &parts, &fault) && is_fault(fault, ELFMAP_SHORT_ROOM, SMALL_PARTS) && parts == 99,
+        check(!elfmap_parts(it.bytes, it.len, room, count, &parts, &fault) && is_fault(fault, ELFMAP_SHORT_ROOM, SMALL_PARTS)
+                  && parts == 99,
               "a room that is too small says how many parts are wanted");
     }
     check(elfmap_parts(it.bytes, it.len, room, SMALL_PARTS, &parts, &fault) && parts == 5, "a small file has five parts");
@@ -324,22 +326,6 @@ static void check_any_numbers(void) {
         give_back(it);
     }
     check(is_inside, "each name lies in the bytes");
-}
-
-/* The parts of a file whose contents, of a byte each, stand in the opposite order of their headers, in less than a second. */
-static void check_descending_parts(const uint8_t *bytes, size_t len, uint64_t sections) {
-    size_t wanted = 3 * (sections + 3) + 1;
-    struct elfmap_part *room = calloc(wanted, sizeof *room);
-    struct elfmap_fault fault;
-    uint64_t parts = 0;
-    if (!room)
-        stop("calloc");
-    clock_t begun = clock();
-    check(elfmap_parts(bytes, len, room, wanted, &parts, &fault) && parts == sections + 2, "the parts of so many contents are told");
-    check(is_part(room[1], HEADER_SIZE, 1, ELFMAP_GAP) && is_part(room[2], HEADER_SIZE + 1, 1, ELFMAP_CONTENTS + sections - 1)
-              && is_part(room[parts - 1], HEADER_SIZE + sections, SECTION_SIZE * sections, ELFMAP_SECTION_HEADERS), "they are right");
-    check(clock() - begun < CLOCKS_PER_SEC, "that takes less than a second too");
-    free(room);
 }
 
 /* ---- The tables. */
@@ -534,6 +520,22 @@ static void check_any_tables(void) {
         give_back(it);
     }
     check(is_inside, "each place that is told of a table lies in the bytes");
+}
+
+/* The parts of a file whose contents, of a byte each, stand in the opposite order of their headers, in less than a second. */
+static void check_descending_parts(const uint8_t *bytes, size_t len, uint64_t sections) {
+    size_t wanted = 3 * (sections + 3) + 1;
+    struct elfmap_part *room = calloc(wanted, sizeof *room);
+    struct elfmap_fault fault;
+    uint64_t parts = 0;
+    if (!room)
+        stop("calloc");
+    clock_t begun = clock();
+    check(elfmap_parts(bytes, len, room, wanted, &parts, &fault) && parts == sections + 2, "the parts of so many contents are told");
+    check(is_part(room[1], HEADER_SIZE, 1, ELFMAP_GAP) && is_part(room[2], HEADER_SIZE + 1, 1, ELFMAP_CONTENTS + sections - 1)
+              && is_part(room[parts - 1], HEADER_SIZE + sections, SECTION_SIZE * sections, ELFMAP_SECTION_HEADERS), "they are right");
+    check(clock() - begun < CLOCKS_PER_SEC, "that takes less than a second too");
+    free(room);
 }
 
 /* A file whose contents, of a byte each, stand in the opposite order of their headers is judged by a room in less than a second. */

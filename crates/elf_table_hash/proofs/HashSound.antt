@@ -1,27 +1,30 @@
 -- What the rules of a hash table say of one that breaks none of them.
-use Rattle.std.proofs.Common.{◌≡◌, ◌≢◌, ℕ, ◌+◌, ◌*◌, ◌%◌, ◌<◌, None, length, get_or, inl, inr, refl, sym, subst, arith}
+use Rattle.std.proofs.Common.{◌≡◌, ◌≢◌, ℕ, ◌+◌, ◌*◌, ◌%◌, ◌/◌, ◌<◌, None, length, get_or, inl, inr, refl, ap, sym, subst, ◌∙◌, arith}
 use Rattle.std.proofs.Math.Nat.{mod-lt}
 use Rattle.std.proofs.lemmas.Bool.{cases_eq, cases_lt}
 use Rattle.elf_extent.specs.Least.{Never}
 use Rattle.elf_field.specs.Abi.{SHT_HASH, WORD_SIZE}
 use Rattle.elf_field.specs.declared.shdr.Shdr.{Shdr}
 use Rattle.elf_image_rules.specs.Rows.{FirstIn}
+use Rattle.elf_image_rules.proofs.Public.{FirstIn-behind, FirstIn-front}
 use Rattle.elf_image_rules.specs.Tables.{content_extent}
 use Rattle.elf_table_base.specs.declared.table_kind.TableKind.TheVariants.{HashTable}
 use Rattle.elf_table_base.specs.OwnRules.{own_rules}
 use Rattle.elf_table_base.specs.Sections.{Sections, content, order, section}
 use Rattle.elf_table_symbols.specs.Symbols.{symbols_of}
+use Rattle.elf_table_symbols.specs.SymbolRules.{symbol_table_rules}
 use Rattle.elf_table_symbols.specs.SymbolParts.{symbol_parts}
 use Rattle.elf_table_symbols.proofs.Public.{type_of_hash}
 use Rattle.elf_table_hash.specs.declared.hash_parts.HashParts.{HashParts}
-use Rattle.elf_table_hash.specs.HashParts.{IsInside}
-use Rattle.elf_table_hash.specs.HashRules.{chain_rules, hash_word_past_end, word_rules}
+use Rattle.elf_table_hash.specs.HashParts.{hash_parts}
+use Rattle.elf_table_hash.specs.HashRules.{chain_rules, hash_rules, hash_table_rules, hash_word_past_end, word_rules}
+use Rattle.elf_table_hash.specs.HashView.{hash_of_section}
 use Rattle.elf_table_hash.specs.HashTable.{AreHashWords, Valid, bucket, bucket_of, chain, name_of, nbucket, nchain}
 use Rattle.elf_table_hash.specs.Chains.{Ends, IsOn}
 use Rattle.elf_table_hash.specs.ElfHash.{hash_of}
 use Rattle.elf_table_hash.specs.WordLists.{names_in, symbol_names_of}
 use Rattle.elf_table_hash.proofs.ChainsDecided.{ends_or_not, on_or_not}
-use Rattle.elf_table_hash.proofs.WordListLemmas.{names_are}
+use Rattle.elf_table_hash.proofs.WordListLemmas.{length_words, names_are}
 
 -- it has as many bytes in the file as its section header says
 pub hash_type : (f : Sections) (i : ℕ) → FirstIn (own_rules HashTable f i) None → (section f i).sh_type ≡ SHT_HASH
@@ -41,11 +44,11 @@ unfolding symbol_names_of symbols_of
 names_of_section f i = sym (names_are _ _ _ (symbol_parts f i).words)
 
 -- a table as long as its buckets and chains, each word of which is that of a symbol
-pub linked_words : (p : HashParts) → IsInside p → p.size ≡ WORD_SIZE * (2 + nbucket p.words + nchain p.words) → Never (hash_word_past_end p) →
+pub linked_words : (p : HashParts) → length p.words ≡ p.size / WORD_SIZE → p.size ≡ WORD_SIZE * (2 + nbucket p.words + nchain p.words) → Never (hash_word_past_end p) →
     AreHashWords p.words
 unfolding bucket chain
-linked_words p inside whole never = record {
-  long = (let sized = inside.sized in omega arith);
+linked_words p sized whole never = record {
+  long = omega arith;
   buckets = λ b lt. below b (omega arith);
   chains = λ s lt.
       subst (λ k. get_or p.words k 0 < nchain p.words) (let e : 2 + (nbucket p.words + s) ≡ 2 + nbucket p.words + s = omega arith in e) (below (nbucket p.words + s) (omega arith));
@@ -61,9 +64,9 @@ above_zero : (n : ℕ) → n ≢ 0 → 0 < n
 above_zero n some = omega arith
 
 -- a table of which rules 65 to 69 hold is one for its names
-pub valid_when : (p : HashParts) → IsInside p → FirstIn (word_rules p) None → FirstIn (chain_rules p) None → Valid p.words p.names
+pub valid_when : (p : HashParts) → length p.words ≡ p.size / WORD_SIZE → FirstIn (word_rules p) None → FirstIn (chain_rules p) None → Valid p.words p.names
 unfolding word_rules chain_rules
-valid_when p inside words chains = record {
+valid_when p sized words chains = record {
   some_bucket = some;
   one_each = counted;
   linked = linked;
@@ -88,7 +91,7 @@ valid_when p inside words chains = record {
       ]
 
   linked : AreHashWords p.words
-  linked = linked_words p inside whole words.1.1.0
+  linked = linked_words p sized whole words.1.1.0
 
   ends : (b : ℕ) → b < nbucket p.words → Ends (chain p.words) (bucket p.words b)
   ends b lt =
@@ -105,3 +108,18 @@ valid_when p inside words chains = record {
         | inl here ↦ here
         | inr off ↦ absurd (chains.1.0 _ (s, lt, (above, off), refl))
       ]
+
+-- so the hash table in a section that breaks no rule is one for its symbols, where its content has all its bytes
+pub valid_in_section : (f : Sections) (i : ℕ) → FirstIn (hash_table_rules f i) None → length (content f i) ≡ (section f i).sh_size →
+    Valid (hash_of_section f i).words (hash_of_section f i).names
+unfolding hash_table_rules hash_rules
+valid_in_section f i sound whole =
+    let linked = FirstIn-behind (own_rules HashTable f i) _ sound in
+    let rest = FirstIn-behind (symbol_table_rules f (section f i).sh_link) _ linked in
+    valid_when (hash_parts f i) (length_words (order f) (content f i) ∙ ap (λ n. n / WORD_SIZE) whole)
+    (FirstIn-front (word_rules (hash_parts f i)) _ rest) (FirstIn-behind (word_rules (hash_parts f i)) _ rest)
+
+-- and its section is of type HASH
+pub sound_hash_type : (f : Sections) (i : ℕ) → FirstIn (hash_table_rules f i) None → (section f i).sh_type ≡ SHT_HASH
+unfolding hash_table_rules
+sound_hash_type f i sound = hash_type f i (FirstIn-front (own_rules HashTable f i) _ sound)

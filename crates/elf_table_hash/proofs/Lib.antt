@@ -1,3 +1,4 @@
+-- `Public` is for the proofs of the crates above, the others are for those of this one.
 mod WordListLemmas
 mod ChainLemmas
 mod HashSound
@@ -6,3 +7,4 @@ mod ChainsDecided
 mod ProbeLemmas
 mod ThreadLemmas
 mod BuiltLemmas
+pub mod Public

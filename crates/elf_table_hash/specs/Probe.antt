@@ -1,13 +1,19 @@
 -- Looking up a name in a hash table. (gABI chapter 5, Hash Table.)
 use Rattle.std.specs.Prelude.{◌≡◌, ◌≢◌, ℕ, ◌+◌, ◌<◌, List, ◌∷◌, ◌++◌, Option, None, Some, length}
 use Rattle.std.specs.List.{AllByRecursion}
-use Rattle.elf_table_hash.specs.Chains.{IsChain}
-use Rattle.elf_table_hash.specs.HashTable.{bucket_of, chain, name_of}
+use Rattle.elf_field.specs.declared.order.Order.{Order}
+use Rattle.elf_table_hash.specs.Chains.{Ends, IsChain}
+use Rattle.elf_table_hash.specs.HashTable.{Valid, bucket_of, chain, name_of, nchain}
+use Rattle.elf_table_hash.specs.WordLists.{names_in, words_in}
 
 -- a hash table, and the names of the symbols that it is for
 pub record HashValue : Type 0 where
   pub words : List ℕ
   pub names : List (List ℕ)
+
+-- that of these contents of a hash table, its symbol table and its string table
+abbrev pub hash_in : Order → List ℕ → List ℕ → List ℕ → HashValue
+hash_in o table symbols strings = record { words = words_in o table; names = names_in o symbols strings }
 
 -- none of these symbols has the name
 abbrev pub NoneNamed : List (List ℕ) → List ℕ → List ℕ → Type 0
@@ -28,3 +34,9 @@ IsProbed hash name found steps = IsFirstNamed (chain hash.words) hash.names name
 -- a symbol from 1 on has the name
 abbrev pub HasSymbolNamed : HashValue → List ℕ → Type 0
 HasSymbolNamed hash name = (s : ℕ) × (0 < s) × (s < length hash.names) × (name_of hash.names s ≡ name)
+
+-- the chain from `start` on of a table for these names: it begins at one of its symbols, 0 among them, and ends
+pub record IsEndingChain (words : List ℕ) (names : List (List ℕ)) (start : ℕ) : Type 0 where
+  pub valid : Valid words names
+  pub inside : start < nchain words
+  pub ends : Ends (chain words) start

@@ -3,14 +3,14 @@ ghost use Rattle.std.specs.Prelude.{◌≡◌, ◌↔◌, ◌<◌, ◌≤◌, �
 ghost use Rattle.elf_image_rules.specs.Rows.{FirstIn};
 ghost use Rattle.elf_table_base.specs.Judged.{IsJudgedBehind};
 ghost use Rattle.elf_table_base.specs.Sections.{sections_of};
-ghost use Rattle.elf_table_hash.specs.Chains.{Ends};
 ghost use Rattle.elf_table_hash.specs.HashLeft.{words_left};
 ghost use Rattle.elf_table_hash.specs.HashRules.{hash_table_front, hash_table_rules};
-ghost use Rattle.elf_table_hash.specs.HashTable.{Valid, chain, nbucket as nbucket_of, nchain as nchain_of};
+ghost use Rattle.elf_table_hash.specs.HashTable.{nbucket as nbucket_of, nchain as nchain_of};
 ghost use Rattle.elf_table_hash.specs.HashView.{hash_of_section};
-ghost use Rattle.elf_table_hash.specs.Probe.{HasSymbolNamed, IsFirstNamed, IsProbed};
+ghost use Rattle.elf_table_hash.specs.Probe.{HasSymbolNamed, IsProbed};
 
 use crate::hash_parts::HashParts;
+use crate::hash_probe::probe_in;
 use crate::hash_rules::judge_hash_table;
 use crate::hash_words::{HashWords, SymbolNames};
 use elf_image_stream::Fault;
@@ -123,35 +123,8 @@ impl<'a> Hash<'a> {
         ensures some { IsSome result.0 ↔ HasSymbolNamed self.now name.now }
         ensures few { result.1 < nchain_of self.now.words }
     {
-        first_named(&self.words, &self.names, name, self.words.bucket_of(name))
+        probe_in(&self.words, &self.names, name)
     }
-}
-
-// The first symbol of this name on the chain of `start`, with its position, or the length of the chain.
-fn first_named(
-    words: &HashWords<'_>,
-    names: &SymbolNames<'_>,
-    name: &[u8],
-    start: u32,
-) -> (Option<u32>, u32)
-    requires valid { Valid words.now names.now }
-    requires start { start < nchain_of words.now }
-    requires ends { Ends (chain words.now) start }
-    ensures found { IsFirstNamed (chain words.now) names.now name.now start result.0 result.1 }
-    ensures few { result.1 < nchain_of words.now }
-{
-    // A chain has fewer symbols than there are, and their number is one of 32 bits.
-    let _ = words.nchain();
-    let mut s = start;
-    let mut steps = 0;
-    'steps: while s != 0 {
-        steps += 1;
-        if names.get(s) == name {
-            return (Some(s), steps);
-        }
-        s = words.chain(s);
-    }
-    (None, steps)
 }
 
 /// The words of a hash table, in order.

@@ -1,5 +1,5 @@
 //! The words of a hash table, and the names that it is for (gABI chapter 5, Hash Table).
-ghost use Rattle.std.specs.Prelude.{◌≡◌, ◌≢◌, ◌<◌, ◌≤◌, ◌+◌, [], length, get_or};
+ghost use Rattle.std.specs.Prelude.{◌≡◌, ◌≢◌, ◌↔◌, ◌<◌, ◌≤◌, ◌+◌, [], IsTrue, length, get_or};
 ghost use Rattle.elf_table_hash.specs.HashTable.{bucket as bucket_word, bucket_of as bucket_of_name, chain as chain_word, nbucket as nbucket_of, nchain as nchain_of};
 ghost use Rattle.elf_table_hash.specs.WordLists.{names_in, words_in};
 
@@ -49,6 +49,13 @@ impl<'a> HashWords<'a> {
         word(self.order, self.table, j)
     }
 
+    /// Word `j`; 0 where there is none of this index.
+    pub(crate) fn word_or_zero(&self, j: usize) -> u32
+        ensures { result ≡ get_or self.now j 0 }
+    {
+        if j < self.len() { self.get(j) } else { 0 }
+    }
+
     /// How many buckets the table says it has.
     pub(crate) fn nbucket(&self) -> u32
         requires { 2 ≤ length self.now }
@@ -90,6 +97,14 @@ impl<'a> HashWords<'a> {
         ensures { result ≡ chain_word self.now s }
     {
         self.get(2 + self.nbucket() as usize + s as usize)
+    }
+
+    /// The same, and 0 where there is no such word.
+    #[tactic(auto, unfolding(crate::specs::HashTable::chain))]
+    pub(crate) fn chain_or_zero(&self, s: u32) -> u32
+        ensures { result ≡ chain_word self.now s }
+    {
+        self.word_or_zero(2 + self.word_or_zero(0) as usize + s as usize)
     }
 }
 
@@ -136,5 +151,12 @@ impl<'a> SymbolNames<'a> {
     {
         let symbol = entry(self.order, self.table, s as usize);
         string_at(self.names, symbol.st_name as usize)
+    }
+
+    /// Whether symbol `s` is there, and has this name.
+    pub(crate) fn has(&self, s: u32, name: &[u8]) -> bool
+        ensures { IsTrue result ↔ (s < length self.now) × (get_or self.now s [] ≡ name.now) }
+    {
+        (s as usize) < self.len() && self.get(s) == name
     }
 }

@@ -29,6 +29,6 @@ invariant_of-result c =
     let words = FirstIn-front (word_rules (hash_parts f c.args.i)) _ rest in
     let chains = FirstIn-behind (word_rules (hash_parts f c.args.i)) _ rest in
     let same = sym c.new-parts.ensures.value in
-    valid_when c.new-parts.result c.new-parts.ensures.inside
+    valid_when c.new-parts.result c.new-parts.ensures.inside.sized
     (subst (λ (p : HashParts). FirstIn (word_rules p) None) same words)
     (subst (λ (p : HashParts). FirstIn (chain_rules p) None) same chains)
