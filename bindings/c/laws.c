@@ -8,7 +8,7 @@
  * - what `rewrite` writes is accepted, and rewritten gives itself; a name that a hash table finds is that of the symbol found;
  * - a link of the copy and itself by a room is the same by a longer room, and what is linked is accepted.
  *
- * The last line is 'N passed, M failed'. The copies that a law fails for are written to failed-K.
+ * The last line is 'N passed, M failed'. The copies that a law fails for are written to failed-SEED-K.
  */
 #include "elfmap.h"
 #include <inttypes.h>
@@ -149,9 +149,9 @@ static bool judge(const uint8_t *bytes, size_t len) {
     return broken == NULL;
 }
 
-static void keep(const uint8_t *bytes, size_t len, uint64_t k) {
-    char name[64];
-    snprintf(name, sizeof name, "failed-%" PRIu64, k);
+static void keep(const uint8_t *bytes, size_t len, const char *seed, uint64_t k) {
+    char name[96];
+    snprintf(name, sizeof name, "failed-%.32s-%" PRIu64, seed, k);
     FILE *file = fopen(name, "wb");
     if (file != NULL) {
         fwrite(bytes, 1, len, file);
@@ -187,7 +187,7 @@ int main(int argc, char **argv) {
         if (judge(bytes, len)) {
             passed++;
         } else if (failed++ < 10) {
-            keep(bytes, len, failed);
+            keep(bytes, len, argv[2], failed);
         }
     }
     printf("%" PRIu64 " of them are accepted\n%" PRIu64 " passed, %" PRIu64 " failed\n", accepted, passed, failed);
