@@ -11,7 +11,7 @@ use elf_link_field::RelocRule;
 use elf_link_map::{LinkFault, LinkMap, Options, map_numbered};
 use elf_link_relocate::{Linked, relocate_numbered};
 use elf_object_type::Object;
-use elf_tool_objects::{FileFault, objects_of};
+use elf_tool_objects::{FileFault, objects_of, slices_of};
 use elf_tool_text::{Refusal, ToolFault, Verdict, read_inputs};
 use std::alloc::Global;
 use std::hash::{BuildHasherDefault, FoldHasher};
@@ -39,17 +39,22 @@ pub fn link<R: Read, W: Write>(
         (W.contents writer.old) (W.contents writer.new) result }
 {
     let files = read_inputs(alloc, readers)?;
-    link_files(alloc, &files, options, rules, writer)
+    let contents = slices_of(alloc, &files)?;
+    link_files(alloc, &contents, options, rules, writer)
 }
 
-fn link_files<W: Write>(
+/// Writes the same of files of these bytes, in order.
+///
+/// Nothing is out after [`ToolFault::OutOfMemory`]; after [`ToolFault::Write`] exactly the first `written` bytes of the executable are;
+/// there is no other fault.
+pub fn link_files<W: Write>(
     alloc: Global,
-    files: &[Vec<u8>],
+    files: &[&[u8]],
     options: &Options<'_>,
     rules: &[RelocRule],
     writer: &mut W,
 ) -> Result<Verdict, ToolFault>
-    ensures { IsSaid (FilesLink options.now rules.now (map_list (λ f. f.items) files.now)) (W.contents writer.old) (W.contents writer.new) result }
+    ensures { IsSaid (FilesLink options.now rules.now (map_list (λ f. f.now) files.now)) (W.contents writer.old) (W.contents writer.new) result }
 {
     match objects_of(alloc, files) {
         Ok(objects) => link_objects(alloc, &objects, options, rules, writer),

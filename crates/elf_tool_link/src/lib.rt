@@ -12,4 +12,4 @@ mod engine;
 
 pub use elf_link_map::Options;
 pub use elf_tool_text::{Refusal, ToolFault, Verdict};
-pub use engine::link;
+pub use engine::{link, link_files};

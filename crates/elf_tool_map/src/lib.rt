@@ -1,5 +1,6 @@
 //! The engine of `elfmap map`, over any readers and any writer: [`map`] reads each file whole, links them without writing a
-//! linked file, and writes where each part would stand, and with relocation rules the bytes of each.
+//! linked file, and writes where each part would stand, and with relocation rules the bytes of each; and [`map_files`], which has the
+//! files' bytes.
 //!
 //! ```
 //! // `object` is an object file's bytes. A base that is no multiple of the page is the first of the link's rules.
@@ -16,4 +17,4 @@ mod map_text;
 
 pub use elf_link_map::Options;
 pub use elf_tool_text::{Refusal, ToolFault, Verdict};
-pub use engine::map;
+pub use engine::{map, map_files};

@@ -3,4 +3,4 @@
 
 mod object_files;
 
-pub use object_files::{FileFault, objects_of};
+pub use object_files::{FileFault, objects_of, slices_of};

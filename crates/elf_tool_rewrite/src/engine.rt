@@ -1,7 +1,7 @@
 //! `rewrite`: the object of a file, in canonical layout.
 ghost use Rattle.std.specs.Prelude.{◌≡◌};
 ghost use Rattle.elf_tool_text.specs.Engine.{IsSaid};
-ghost use Rattle.elf_tool_rewrite.specs.Rewrite.{IsRewritten, ObjectSays, SectionsSay};
+ghost use Rattle.elf_tool_rewrite.specs.Rewrite.{IsRewritten, ObjectSays, RewriteSays, SectionsSay};
 ghost use Rattle.elf_table_base.specs.Sections.{sections_of};
 
 use elf_image_stream::Fault;
@@ -29,7 +29,22 @@ pub fn rewrite<R: Read, W: Write>(
 {
     let mut buf = Vec::new(alloc);
     read_input(reader, &mut buf)?;
-    match parse(alloc, buf.as_slice()) {
+    rewrite_bytes(alloc, buf.as_slice(), writer)
+}
+
+/// Writes the same of a file whose bytes these are.
+///
+/// Nothing is out after [`ToolFault::OutOfMemory`]; after [`ToolFault::Write`] exactly the first `written` bytes are; there is no other
+/// fault. The object of the file and the string tables of the layout are held beside the bytes; the time is that of `object_of` and
+/// `write_object`.
+pub fn rewrite_bytes<W: Write>(
+    alloc: Global,
+    bytes: &[u8],
+    writer: &mut W,
+) -> Result<Verdict, ToolFault>
+    ensures { IsSaid (RewriteSays bytes.now) (W.contents writer.old) (W.contents writer.new) result }
+{
+    match parse(alloc, bytes) {
         Ok(image) => rewrite_image(alloc, &image, writer),
         Err(Fault::Rule { rule, at }) => Ok(refused(rule, at)),
         Err(Fault::OutOfMemory) => Err(ToolFault::OutOfMemory),

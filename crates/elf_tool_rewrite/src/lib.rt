@@ -1,5 +1,5 @@
 //! The engine [`rewrite`] of `elfmap`, over any reader and any writer: it reads a whole file, and writes the object that the file
-//! denotes in its canonical layout, or says why it can't.
+//! denotes in its canonical layout, or says why it can't; and [`rewrite_bytes`], which has the file's bytes.
 //!
 //! ```
 //! // A file that is not relocatable denotes no object: rule 70, at `e_type`.
@@ -12,4 +12,4 @@
 mod engine;
 
 pub use elf_tool_text::{Refusal, ToolFault, Verdict};
-pub use engine::rewrite;
+pub use engine::{rewrite, rewrite_bytes};

@@ -1,17 +1,19 @@
 -- What `show` says of a file.
-use Rattle.std.specs.Prelude.{◌≡◌, ℕ, List, ◌++◌, length, Option, Some, Result}
+use Rattle.std.specs.Prelude.{◌≡◌, ◌⊎◌, ℕ, List, ◌++◌, length, Option, Some, Result, Err}
+use Rattle.std.specs.Io.KnownBytes.{Keeps}
 use Rattle.std.specs.List.{flat_map, range_with_len}
 use Rattle.elf_image_rules.specs.ImageRules.{IsFault}
 use Rattle.elf_image_outline.specs.Image.{ImageValue, IsImage, program_header_of, section_header_of}
 use Rattle.elf_image_type.specs.Strings.{section_name}
 use Rattle.elf_table_base.specs.Sections.{sections_of}
 use Rattle.elf_table_all.specs.TableVerdicts.{AreVerdicts, TablesValue}
-use Rattle.elf_tool_text.specs.Engine.{IsAnswered}
+use Rattle.elf_tool_text.specs.Engine.{IsAnswered, IsReported}
 use Rattle.elf_tool_text.specs.Line.{refused_line}
 use Rattle.elf_tool_show.specs.ShowLines.{file_line, part_line, section_line, segment_line}
 use Rattle.elf_tool_show.specs.TableLines.{all_table_lines}
 use Rattle.elf_tool_text.specs.declared.fault.Refusal.TheVariants.{File, Link, TooLong}
 use Rattle.elf_tool_text.specs.declared.fault.ToolFault.{ToolFault}
+use Rattle.elf_tool_text.specs.declared.fault.ToolFault.TheVariants.{OutOfMemory}
 use Rattle.elf_tool_text.specs.declared.fault.Verdict.{Verdict}
 use Rattle.elf_tool_text.specs.declared.fault.Verdict.TheVariants.{Done, Refused}
 
@@ -54,3 +56,7 @@ ShowSays b (Refused TooLong) text = ⊥
 -- a call of `show`
 abbrev pub IsShown : Option (List ℕ) → Option (List ℕ) → Option (List ℕ) → Option (List ℕ) → Result Verdict ToolFault → Type 0
 IsShown = IsAnswered ShowSays
+
+-- a call of `show_bytes`: for want of memory nothing is written, or the report of the bytes is
+abbrev pub IsShownOf : List ℕ → Option (List ℕ) → Option (List ℕ) → Result Verdict ToolFault → Type 0
+IsShownOf b old new result = ((result ≡ Err OutOfMemory) × Keeps old new) ⊎ IsReported (ShowSays b) old new result

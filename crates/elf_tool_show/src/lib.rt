@@ -1,5 +1,5 @@
 //! The engine [`show`] of `elfmap`, over any reader and any writer: it reads a whole file, judges it, and writes what it holds, in
-//! lines.
+//! lines; and [`show_bytes`], which has the file's bytes.
 //!
 //! ```
 //! // A header alone is a file of 64 bytes without sections and segments.
@@ -14,4 +14,4 @@ mod show_lines;
 mod table_lines;
 
 pub use elf_tool_text::{Refusal, ToolFault, Verdict};
-pub use engine::show::show;
+pub use engine::show::{show, show_bytes};

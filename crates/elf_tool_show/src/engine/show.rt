@@ -4,7 +4,7 @@ ghost use Rattle.std.specs.List.{flat_map};
 ghost use Rattle.elf_tool_text.specs.Engine.{IsWritten};
 ghost use Rattle.elf_tool_text.specs.Line.{refused_line as refused_line_of};
 ghost use Rattle.elf_tool_text.specs.Output.{IsBuffered};
-ghost use Rattle.elf_tool_show.specs.Show.{IsShown, section_lines, segment_lines, show_text};
+ghost use Rattle.elf_tool_show.specs.Show.{IsShown, IsShownOf, section_lines, segment_lines, show_text};
 ghost use Rattle.elf_tool_show.specs.ShowLines.{part_line};
 
 use super::show_tables::show_tables;
@@ -39,7 +39,22 @@ pub fn show<R: Read, W: Write>(
 {
     let mut buf = Vec::new(alloc);
     read_input(reader, &mut buf)?;
-    let bytes = buf.as_slice();
+    show_bytes(alloc, buf.as_slice(), writer)
+}
+
+/// Writes the same of a file whose bytes these are.
+///
+/// The verdict is what the text says. After [`ToolFault::Write`] exactly the first `written` bytes of the text are out, and after
+/// [`ToolFault::OutOfMemory`] a beginning of it may be; there is no other fault. Beside the bytes are held the records and parts of the
+/// file, the verdicts on its tables, and a piece of the text; the time is at most that of `parse`, of the `new` of each table, and of
+/// the text.
+pub fn show_bytes<W: Write>(
+    alloc: Global,
+    bytes: &[u8],
+    writer: &mut W,
+) -> Result<Verdict, ToolFault>
+    ensures { IsShownOf bytes.now (W.contents writer.old) (W.contents writer.new) result }
+{
     match parse(alloc, bytes) {
         Ok(image) => {
             // Judged before the first line goes out.

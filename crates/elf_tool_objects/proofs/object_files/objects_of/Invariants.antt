@@ -6,5 +6,5 @@ use Rattle.elf_tool_objects.proofs.object_files.objects_of.Given as goal
 abbrev pub invariant-loop-file : goal.invariant-loop-file
 invariant-loop-file l = record {
   count : length l.objects.items ≡ l.file;
-  begin : BeginAsObjects (map (λ f. f.items) l.files) l.objects.items;
+  begin : BeginAsObjects (map (λ f. f.now) l.files) l.objects.items;
 }
