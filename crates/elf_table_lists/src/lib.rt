@@ -1,9 +1,9 @@
 //! The tables of an ELF-64 image that are lists of entries and no more: relocation sections and section groups (gABI chapter 4), note
-//! sections and dynamic arrays (chapter 5). The symbols that the relocations of section 5 name are read so:
+//! sections and dynamic arrays (chapter 5). The symbols that the relocations of section 2 name are read so:
 //!
 //! ```
 //! let image = parse(alloc, &bytes)?;
-//! let relocs = Relocs::new(&image, 5)?;
+//! let relocs = Relocs::new(&image, 2)?;
 //! for relocation in relocs.iter() {
 //!     symbols.push(relocation.symbol)?;
 //! }
