@@ -1,4 +1,5 @@
 //! Of `elf`, `elf_c_room` and the crates of images.
+use elf_c_parts::{GAP, Part, PartsFault, parts_in};
 use elf_c_room::{ShortRoom, Slot, verdict_in};
 use elf_field::Order;
 use elf_image_copy::copy_image;
@@ -69,5 +70,23 @@ fn a_copy(rt: HostRuntime) -> Result<(), Fail> {
     outline.set_entry(0x1000);
     copy_image(&outline, &mut source, &mut writer)?;
     assert_eq!(rt; writer[25], 0x10);
+    Ok(())
+}
+
+#[test]
+fn parts_by_a_room(rt: HostRuntime) -> Result<(), Fail> {
+    let bytes = &header_alone(Order::Little);
+    let mut room = [Part {
+        start: 0,
+        len: 0,
+        owner: GAP,
+    }; 64];
+    match parts_in(bytes, &mut room) {
+        Ok(count) => println!(rt; "{count} parts")?,
+        Err(PartsFault::Rule { rule, at }) => println!(rt; "refused {rule} {at}")?,
+        Err(PartsFault::ShortRoom { wanted }) => println!(rt;
+            "a room of {wanted} parts is wanted"
+        )?,
+    }
     Ok(())
 }
