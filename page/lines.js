@@ -59,12 +59,13 @@ function* table_lines(reader, section) {
     const table = reader.table(section);
     if (type === 5 && table) yield hash_line(reader, section, table);
     if (!KINDS[type] || !table) return;
-    const line = { symbols: symbol_line, relocations: relocation_line, dynamic: dynamic_line, notes: note_line }[KINDS[type]];
-    for (let k = 0; k < table.entries; k++) yield line(reader, section, k, type);
+    const [line, entry] = { symbols: [symbol_line, "symbol"], relocations: [relocation_line, "relocation"], dynamic: [dynamic_line, "dynamic"],
+        notes: [note_line, "note"] }[KINDS[type]];
+    // Of a table that breaks its rules an entry may not be there.
+    for (let k = 0, it; k < table.entries && (it = reader[entry](section, k)); k++) yield line(reader, section, k, it, type);
 }
 
-function symbol_line(reader, section, k) {
-    const it = reader.symbol(section, k);
+function symbol_line(reader, section, k, it) {
     const places = { 0: "undef", 0xfff1: "abs", 0xfff2: "common" };
     const is_in_section = it.st_shndx < 0xff00 || it.st_shndx === 0xffff;
     const place = places[it.st_shndx] ?? (is_in_section ? it.section : "reserved");
@@ -72,19 +73,16 @@ function symbol_line(reader, section, k) {
         name_words(reader.bytes(it.name.start, it.name.len));
 }
 
-function relocation_line(reader, section, k, type) {
-    const it = reader.relocation(section, k);
+function relocation_line(reader, section, k, it, type) {
     return `reloc ${section} ${k} ${hex(it.r_offset)} ${it.symbol} ${it.relocation_type} ${type === 4 ? it.r_addend : "-"}`;
 }
 
-function dynamic_line(reader, section, k) {
-    const it = reader.dynamic(section, k);
+function dynamic_line(reader, section, k, it) {
     const place = STRING_TAGS.includes(it.d_tag) ? reader.string(section, it.d_un) : null;
     return `dynamic ${section} ${it.d_tag} ${hex(it.d_un)}${place ? ` ${name_words(reader.bytes(place.start, place.len))}` : ""}`;
 }
 
-function note_line(reader, section, k) {
-    const it = reader.note(section, k);
+function note_line(reader, section, k, it) {
     return `note ${section} ${it.n_type} ${name_words(reader.bytes(it.name.start, it.name.len))} ${digits(reader.bytes(it.desc.start, it.desc.len))}`;
 }
 

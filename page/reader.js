@@ -9,11 +9,40 @@ const MOST_BYTES = 2 ** 30;
 const SHORT_ROOM = 0;
 const NO_OWNER = 0xffffffffffffffffn;
 
+// What reads each struct of a layout.
+function struct_readers(layout) {
+    const readers = {};
+    for (const [name, { fields }] of Object.entries(layout)) {
+        const reads = fields.map((field) => [field.name, field.at, field_reader(field, readers)]);
+        readers[name] = (view, at) => {
+            const found = {};
+            for (const [name, offset, read] of reads) found[name] = read(view, at + offset);
+            return found;
+        };
+    }
+    return readers;
+}
+
+function field_reader({ struct, count, width, signed }, readers) {
+    if (struct) return readers[struct];
+    if (count) return (view, at) => Array.from({ length: count }, (_, k) => view.getUint8(at + k));
+    if (width === 8) return signed ? (view, at) => small(view.getBigInt64(at, true)) : (view, at) => small(view.getBigUint64(at, true));
+    const get = `get${signed ? "Int" : "Uint"}${8 * width}`;
+    return (view, at) => view[get](at, true);
+}
+
+// A number where one can hold it.
+function small(number) {
+    const found = Number(number);
+    return Number.isSafeInteger(found) ? found : number;
+}
+
 class Reader {
     // A reader of a file of so many bytes, which are to be put at `bytes()`.
     constructor(module, layout, length) {
         this.module = module.exports;
         this.layout = layout;
+        this.structs = struct_readers(layout);
         this.length = length;
         this.base = (Number(this.module.__heap_base.value) + 15) & ~15;
         this.next = this.base;
@@ -57,18 +86,7 @@ class Reader {
 
     // A struct at a place, as an object of numbers.
     struct(name, at) {
-        const view = this.view();
-        const found = {};
-        for (const field of this.layout[name].fields) found[field.name] = this.field(view, field, at + field.at);
-        return found;
-    }
-
-    field(view, field, at) {
-        if (field.struct) return this.struct(field.struct, at);
-        if (field.count) return Array.from({ length: field.count }, (_, k) => view.getUint8(at + k));
-        const get = `get${field.width === 8 ? "Big" : ""}${field.signed ? "Int" : "Uint"}${8 * field.width}`;
-        const number = view[get](at, true);
-        return typeof number === "bigint" && Number.isSafeInteger(Number(number)) ? Number(number) : number;
+        return this.structs[name](this.view(), at);
     }
 
     // ---- The verdict
@@ -146,14 +164,19 @@ class Reader {
 
     // The table in a section; null where it holds none.
     table(section) {
+        return this.has_table(section) ? this.struct("elfmap_table", this.elfmap_table) : null;
+    }
+
+    has_table(section) {
         if (this.opened !== section) {
             this.opened = this.call("elfmap_table", this.elfmap_file, this.start, this.length, section, this.elfmap_table) ? section : -1;
         }
-        return this.opened === section ? this.struct("elfmap_table", this.elfmap_table) : null;
+        return this.opened === section;
     }
 
     entry(struct, name, section, index) {
-        return this.table(section) && this.answer(struct, name, this.elfmap_table, this.start, this.length, index);
+        if (!this.has_table(section)) return null;
+        return this.answer(struct, name, this.elfmap_table, this.start, this.length, index);
     }
 
     symbol(section, index) {
@@ -179,12 +202,13 @@ class Reader {
 
     // A string of the table's string table, as an extent of the file.
     string(section, offset) {
-        return this.table(section) && this.answer("elfmap_extent", "elfmap_string", this.elfmap_table, this.start, this.length, offset);
+        if (!this.has_table(section)) return null;
+        return this.answer("elfmap_extent", "elfmap_string", this.elfmap_table, this.start, this.length, offset);
     }
 
     // The symbol of a name, by a hash table.
     find(section, name) {
-        if (!this.table(section) || name.length > PAGE) return null;
+        if (!this.has_table(section) || name.length > PAGE) return null;
         new Uint8Array(this.module.memory.buffer, this.text, name.length).set(name);
         const found = this.call("elfmap_find", this.elfmap_table, this.start, this.length, this.text, name.length, this.record);
         return found ? this.view().getUint32(this.record, true) : null;
@@ -200,6 +224,7 @@ const UTF8 = new TextDecoder("utf-8", { fatal: true });
 
 // Bytes as text: UTF-8 where they are that, and each byte that can't be seen as \xHH.
 function words_of(bytes) {
+    if (bytes.length < 256 && bytes.every((it) => it >= 32 && it < 127)) return String.fromCharCode(...bytes);
     let text;
     try {
         text = UTF8.decode(bytes);

@@ -8,6 +8,7 @@ const ROWS = 20000;
 
 let module;
 let reader;
+let section_names = new Map();
 // Grows with each file and each search: what is under way for an older one ends.
 let turn = 0;
 
@@ -48,6 +49,7 @@ async function open(file) {
         postMessage({ progress: (at + piece.byteLength) / length });
     }
     reader = made;
+    section_names = new Map();
     return judged();
 }
 
@@ -68,7 +70,7 @@ function tables(count) {
     for (let index = 0; index < count; index++) {
         const kind = KINDS[reader.section(index).sh_type];
         const table = kind && reader.table(index);
-        if (table) found.push({ section: index, kind, entries: table.entries, name: reader.words(reader.name(index)) });
+        if (table) found.push({ section: index, kind, entries: table.entries, name: section_name(index) });
     }
     return found;
 }
@@ -87,12 +89,16 @@ function rows(from, count, row) {
 
 function section_row(index) {
     const section = reader.section(index);
-    return section && { ...section, name: reader.words(reader.name(index)) };
+    return section && { ...section, name: section_name(index) };
 }
 
+// The name of a section, which many symbols may ask for.
 function section_name(index) {
-    const place = reader.name(index);
-    return place ? reader.words(place) : "";
+    if (!section_names.has(index)) {
+        const place = reader.name(index);
+        section_names.set(index, place ? reader.words(place) : "");
+    }
+    return section_names.get(index);
 }
 
 function symbol_row(table, index) {
