@@ -10,11 +10,14 @@ from importlib.machinery import SourceFileLoader
 sys.dont_write_bytecode = True
 TOP = os.path.dirname(os.path.dirname(os.path.abspath(__file__)))
 sys.path.insert(0, f"{TOP}/judge")
-import image
-from records import HEADER, NOBITS, NULL, PROGRAM_HEADER, SECTION_HEADER, File
+import image, objects, show, tables
+from records import DYNAMIC_SECTION, DYNSYM, HEADER, NOBITS, NOTE, NULL, PROGRAM_HEADER, REL, RELA, RELOCATION, SECTION_HEADER, SYMTAB, XINDEX, \
+    File
 
 cases = SourceFileLoader("cases", f"{TOP}/scripts/cases").load_module()
 MACHINE_FILES = ["/bin/true"]
+# Of a longer file the records alone are told: the judge is slow.
+LONG = 1 << 20
 
 
 def files():
@@ -39,8 +42,55 @@ def line(word, record, layout, *parts):
     return " ".join([word, *(str(getattr(record, it)) for it in layout), *shown])
 
 
+def hexadecimal(*parts):
+    return " ".join(f"={bytes(it).hex()}" for it in parts)
+
+
+def symbol_lines(f, i):
+    for k, it in enumerate(tables.symbols(f, i)):
+        section = tables.index_words(f, i)[k][1] if it.st_shndx == XINDEX else it.st_shndx
+        yield (f"symbol {i} {it.st_value} {it.st_size} {section} {it.st_shndx} {it.st_info} {it.st_other} "
+               + hexadecimal(show.symbol_name(f, i, k)))
+
+
+def relocation_lines(f, i):
+    kind = f.section(i).sh_type
+    for it in f.entries(i, RELOCATION, tables.ENTRY_SIZE[kind]):
+        addend = show.signed(it.r_addend, 64) if kind == RELA else 0
+        yield f"relocation {i} {it.r_offset} {addend} {it.r_info >> 32} {it.r_info & 0xffffffff}"
+
+
+def dynamic_lines(f, i):
+    strings = f.content(f.section(i).sh_link)
+    for it in tables.entries_before_null(f, i):
+        string = objects.string(strings, it.d_un) if it.d_un < len(strings) else b""
+        yield f"dynamic {i} {show.signed(it.d_tag, 64)} {it.d_un} {hexadecimal(string)}"
+
+
+def note_lines(f, i):
+    for at, _, name, size in tables.notes(f, i):
+        begin = at + 12 + tables.padded(name)
+        yield f"note {i} {f.number(at + 8, 4)} {hexadecimal(f.bytes[at + 12:at + 12 + name][:-1], f.bytes[begin:begin + size])}"
+
+
+ENTRY_LINES = {SYMTAB: symbol_lines, DYNSYM: symbol_lines, RELA: relocation_lines, REL: relocation_lines, DYNAMIC_SECTION: dynamic_lines,
+               NOTE: note_lines}
+
+
+def entry_lines(f):
+    """The entries of the tables that break none of their rules; of any other one that it does."""
+    for i, it in f.sections():
+        if it.sh_type in ENTRY_LINES:
+            yield from [f"broken {i}"] if tables.verdict(f, i) else ENTRY_LINES[it.sh_type](f, i)
+
+
+def rewritten(content):
+    text, written = objects.rewrite(content) or ("", None)
+    return f"rewrite {text.strip()}" if text else f"rewrite {hexadecimal(written)}"
+
+
 def told(content):
-    """The lines of what is told of a file: its refusal, or what it counts and each of its records."""
+    """The lines of what is told of a file: its refusal, or what it counts, each of its records, parts and entries, and its object."""
     broken = image.verdict(content)
     if broken:
         rule, at = broken
@@ -52,7 +102,11 @@ def told(content):
     for it in f.segments():
         own = content[it.p_offset:it.p_offset + it.p_filesz]
         lines.append(line("segment", it, PROGRAM_HEADER, None if it.p_type == NULL else own))
-    return lines
+    if len(content) > LONG:
+        return lines
+    for start, size, owner in show.parts(f):
+        lines.append(f"part {start} {size} {'gap' if owner.startswith('gap') else owner}")
+    return [*lines, *entry_lines(f), f"show {hexadecimal(show.show(content).encode())}", rewritten(content)]
 
 
 def main(folder):

@@ -6,7 +6,10 @@ use std::path::{Path, PathBuf};
 use std::process::Command;
 use std::{env, fs};
 
-use elfmap::{File, Header, Section, Segment, check};
+use elfmap::{Failure, File, Header, Owner, Part, Section, Segment, check};
+
+/// Of a longer file the judge tells the records alone.
+const LONG: usize = 1 << 20;
 
 /// A folder with the files, as `scripts/judged.py` writes it; `None` where there is no Python.
 fn judged_folder() -> Option<PathBuf> {
@@ -105,7 +108,84 @@ fn told(bytes: &[u8]) -> Vec<String> {
     lines.push(header_line(file.header()));
     lines.extend(file.sections().map(section_line));
     lines.extend(file.segments().map(segment_line));
+    if len > LONG {
+        return lines;
+    }
+    lines.extend(file.parts().unwrap().iter().map(part_line));
+    for index in 0..sections {
+        lines.extend(entry_lines(&file, index));
+    }
+    lines.push(format!(
+        "show {}",
+        shown(Some(&elfmap::show(bytes).unwrap()))
+    ));
+    lines.push(match elfmap::rewrite(bytes) {
+        Ok(object) => format!("rewrite {}", shown(Some(&object))),
+        Err(Failure::Refused { refusal, .. }) => {
+            format!("rewrite refused {} {}", refusal.rule, refusal.offset)
+        }
+        Err(failure) => format!("rewrite {failure}"),
+    });
     lines
+}
+
+fn part_line(part: &Part) -> String {
+    let owner = match part.owner {
+        Owner::Header => "header".to_string(),
+        Owner::SectionHeaders => "sections".to_string(),
+        Owner::ProgramHeaders => "segments".to_string(),
+        Owner::Content(index) => format!("content {index}"),
+        _ => "gap".to_string(),
+    };
+    format!("part {} {} {owner}", part.start, part.len)
+}
+
+/// The lines of a table's entries; none of a section that holds none.
+fn entry_lines(file: &File<'_>, index: usize) -> Vec<String> {
+    let symbols = file.symbols(index).into_iter().flatten().map(|it| {
+        let (value, size, section) = (it.st_value, it.st_size, it.section);
+        let (shndx, info, other) = (it.st_shndx, it.st_info, it.st_other);
+        assert_eq!((it.binding(), it.symbol_type()), (info >> 4, info & 15));
+        let name = shown(Some(it.name));
+        format!("symbol {index} {value} {size} {section} {shndx} {info} {other} {name}")
+    });
+    let relocations = file.relocations(index).into_iter().flatten().map(|it| {
+        let (offset, addend) = (it.r_offset, it.r_addend);
+        format!(
+            "relocation {index} {offset} {addend} {} {}",
+            it.symbol, it.relocation_type
+        )
+    });
+    let dynamic = file.dynamic(index).into_iter().flatten();
+    let dynamic = dynamic.map(|(it, text)| {
+        format!(
+            "dynamic {index} {} {} {}",
+            it.d_tag,
+            it.d_un,
+            shown(Some(text))
+        )
+    });
+    let notes = file.notes(index).into_iter().flatten().map(|it| {
+        let (name, desc) = (shown(Some(it.name)), shown(Some(it.desc)));
+        format!("note {index} {} {name} {desc}", it.n_type)
+    });
+    symbols
+        .chain(relocations)
+        .chain(dynamic)
+        .chain(notes)
+        .collect()
+}
+
+/// Lines without those of entries of tables that the judge refuses.
+fn comparable(lines: Vec<String>, judged: &[&str]) -> Vec<String> {
+    let broken = |line: &str| {
+        let mut words = line.split(' ');
+        let word = words.next().unwrap();
+        let is_entry = ["symbol", "relocation", "dynamic", "note"].contains(&word);
+        let index = words.next().unwrap_or_default();
+        is_entry && judged.contains(&format!("broken {index}").as_str())
+    };
+    lines.into_iter().filter(|it| !broken(it)).collect()
 }
 
 #[test]
@@ -119,9 +199,11 @@ fn tells_what_the_second_judge_tells() {
             break;
         };
         let expected = fs::read_to_string(folder.join(format!("{number}.txt"))).unwrap();
-        let lines = told(&bytes);
-        if !expected.lines().eq(&lines) {
-            let other = expected.lines().zip(&lines).find(|(a, b)| a != b);
+        let judged: Vec<&str> = expected.lines().collect();
+        let lines = comparable(told(&bytes), &judged);
+        let judged = judged.into_iter().filter(|it| !it.starts_with("broken "));
+        if !judged.clone().eq(&lines) {
+            let other = judged.zip(&lines).find(|(a, b)| a != b);
             panic!("file {number}: the judge and the crate: {other:.400?}");
         }
         if let Err(refusal) = check(&bytes) {
