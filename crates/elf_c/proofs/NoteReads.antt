@@ -77,12 +77,13 @@ notes_by_numbers t b i is =
 there_in : (o : Order) (table : List ℕ) (k : ℕ) → AreNotesWhole o table 0 →
     note_end o table (note_offset o table 0 k) ≤ length table ↔ (k < length (notes_in o table 0))
 there_in o table k whole =
-    let above = note_end_above o table (note_offset o table 0 k) in
-    (λ ends. slice_get_within (notes_in o table 0) k _ (note_entry o table 0 k (omega arith)),
-    λ below. elim (cases_lt (note_offset o table 0 k) (length table)) [
-      | inl begins ↦ whole k begins
-      | inr past ↦ (let none = no_more o table k past in absurd (omega arith))
-    ])
+    let above = note_end_above o table (note_offset o table 0 k) in (
+      λ ends. slice_get_within (notes_in o table 0) k _ (note_entry o table 0 k (omega arith)),
+      λ below. elim (cases_lt (note_offset o table 0 k) (length table)) [
+        | inl begins ↦ whole k begins
+        | inr past ↦ (let none = no_more o table k past in absurd (omega arith))
+      ],
+    )
 
 pub note_there : (t : Table) (b : List ℕ) (i k : ℕ) → IsTableOf NoteSection t b i → let o = order_named t.ei_data in let c = slot_bytes b t.content in
     note_end o c (note_offset o c 0 k) ≤ length c ↔ (k < length (notes_of (sections_in b) i))

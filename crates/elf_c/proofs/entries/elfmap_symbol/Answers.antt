@@ -29,6 +29,7 @@ returns-in-Some-clause-record c i is =
     ∙ ap (λ (s : List ℕ). entry (order (sections_in b)) s c.args.index) (table_content SymbolTable t b i is)
 
 pub returns-in-None-clause-there : goal.returns-in-None-clause-there
-returns-in-None-clause-there c i is =
-    (λ (wrong : IsTrue false). cc,
-    λ below. (let none = c.in-None.ensures.there.1 ((symbol_there c.args.table.now c.args.bytes.now i c.args.index is).1 below) in absurd cc))
+returns-in-None-clause-there c i is = (
+  λ (wrong : IsTrue false). cc,
+  λ below. (let none = c.in-None.ensures.there.1 ((symbol_there c.args.table.now c.args.bytes.now i c.args.index is).1 below) in absurd cc),
+)
