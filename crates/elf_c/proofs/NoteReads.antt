@@ -1,11 +1,11 @@
 -- The notes of a note section of a file, by the table's numbers.
-use Rattle.std.proofs.Common.{◌≡◌, ◌<◌, ◌≤◌, ◌+◌, ◌-◌, ◌↔◌, ℕ, List, None, Some, ap, arith, get_or, inl, inr, length, refl, subst, sym, ◌∙◌, drop}
+use Rattle.std.proofs.Common.{◌≡◌, ◌<◌, ◌≤◌, ◌+◌, ◌↔◌, ℕ, List, None, ap, arith, get_or, inl, inr, length, refl, subst, sym, ◌∙◌, drop}
 use Rattle.std.proofs.lemmas.Bool.{cases_lt}
 use Rattle.std.proofs.lemmas.List.{length-take}
 use Rattle.std.proofs.lemmas.Option.{slice_get_within, unwrap_or-slice_get}
-use Rattle.std.specs.Prelude.{slice_get, unwrap_or}
+use Rattle.std.specs.Prelude.{unwrap_or}
 use Rattle.elf_extent.specs.declared.extent.Extent.{Extent}
-use Rattle.elf_field.specs.Abi.{N_DESCSZ_AT, N_NAMESZ_AT, NHDR_SIZE, WORD_SIZE}
+use Rattle.elf_field.specs.Abi.{N_DESCSZ_AT, N_NAMESZ_AT, WORD_SIZE}
 use Rattle.elf_field.proofs.RecordTableLaws.{record_of_part}
 use Rattle.elf_field.specs.Word.{word_at}
 use Rattle.elf_field.specs.WordLaws.{word_laws}
@@ -16,7 +16,7 @@ use Rattle.elf_table_base.specs.declared.table_kind.TableKind.TheVariants.{NoteS
 use Rattle.elf_table_base.specs.Sections.{content, order, sections_in}
 use Rattle.elf_table_lists.specs.NoteRules.{note_rules, note_section_rules}
 use Rattle.elf_table_lists.specs.Notes.{AreNotesWhole, NoteValue, desc_start, descsz, namesz, note_at, note_end, note_offset, notes_in, notes_of, padded}
-use Rattle.elf_table_lists.proofs.Public.{no_note_entry, note_entry}
+use Rattle.elf_table_lists.proofs.Public.{note_entry}
 use Rattle.elf_c.specs.Entries.{no_note_value}
 use Rattle.elf_c.specs.Files.{order_named}
 use Rattle.elf_c.specs.Tables.{IsTableOf, slot_bytes}

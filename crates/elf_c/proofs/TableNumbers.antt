@@ -1,5 +1,5 @@
 -- The numbers of a table of a file are those that are gathered by the numbers of the file.
-use Rattle.std.proofs.Common.{◌≡◌, ◌<◌, ℕ, List, Option, Some, ap, length, refl, subst, sym, ◌∙◌}
+use Rattle.std.proofs.Common.{◌≡◌, ◌<◌, ℕ, List, Option, Some, ap, refl, subst, sym, ◌∙◌}
 use Rattle.std.proofs.lemmas.List.FromFn.{length-map-range_with_len}
 use Rattle.elf_extent.specs.declared.extent.Extent.{Extent}
 use Rattle.elf_field.specs.declared.order.Order.{Order}

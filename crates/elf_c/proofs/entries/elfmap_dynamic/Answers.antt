@@ -1,4 +1,4 @@
-use Rattle.std.proofs.Common.{◌≡◌, ◌<◌, ◌≤◌, ℕ, false, ap, arith, length, subst, sym, ◌∙◌}
+use Rattle.std.proofs.Common.{◌<◌, ℕ, false, ap, arith, length, subst, sym, ◌∙◌}
 use Rattle.std.specs.Prelude.{IsTrue}
 use Rattle.elf_table_base.specs.Sections.{sections_in}
 use Rattle.elf_table_lists.specs.DynamicArray.{dynamic_array_of, dynamic_entry_count}

@@ -1,10 +1,9 @@
-use Rattle.std.proofs.Common.{◌≡◌, ◌<◌, ℕ, List, Option, Some, None, false, true, ap, refl, ◌∙◌}
-use Rattle.std.specs.Prelude.{IsSome, IsTrue}
+use Rattle.std.proofs.Common.{ℕ, List, false, ap, refl, ◌∙◌}
+use Rattle.std.specs.Prelude.{IsTrue}
 use Rattle.elf_field.specs.declared.order.Order.{Order}
 use Rattle.elf_table_base.specs.declared.table_kind.TableKind.TheVariants.{SymbolTable}
-use Rattle.elf_table_base.specs.Sections.{content, order, sections_in}
+use Rattle.elf_table_base.specs.Sections.{order, sections_in}
 use Rattle.elf_table_symbols.specs.SymbolRules.{entry}
-use Rattle.elf_c.specs.Files.{order_named}
 use Rattle.elf_c.specs.Tables.{slot_bytes}
 use Rattle.elf_c.proofs.SymbolReads.{symbol_by_numbers, symbol_there}
 use Rattle.elf_c.proofs.TableReads.{table_content, table_order}
