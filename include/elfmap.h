@@ -289,6 +289,14 @@ bool elfmap_note(const struct elfmap_table *table, const uint8_t *bytes, size_t 
  */
 bool elfmap_note_at(const struct elfmap_table *table, const uint8_t *bytes, size_t len, uint64_t offset, struct elfmap_note *note);
 
+/*
+ * The index of a symbol of the symbol table that a hash table links to, by its name of `name_len` bytes, without a closing zero: the first
+ * one of this name on the chain of the name's bucket. True exactly where a symbol from 1 on has the name. It takes the time of the hash,
+ * and of one comparison for each symbol on the chain; whatever the table holds, it looks at no more of them than there are symbols.
+ */
+bool elfmap_find(const struct elfmap_table *table, const uint8_t *bytes, size_t len, const uint8_t *name, size_t name_len,
+                 uint32_t *symbol);
+
 #ifdef __cplusplus
 }
 #endif

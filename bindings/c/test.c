@@ -455,6 +455,64 @@ static void check_tables(bool is_big) {
     give_back(it);
 }
 
+static void put_words(uint8_t *at, const uint32_t *words, int count, bool is_big) {
+    for (int k = 0; k < count; k++)
+        put(at + 4 * k, 4, words[k], is_big);
+}
+
+static bool finds(const struct elfmap_table *table, struct guarded it, const char *name, uint32_t wanted) {
+    struct guarded text = guarded_bytes((const uint8_t *) name, strlen(name), true);
+    uint32_t symbol = 77;
+    bool is_found = elfmap_find(table, it.bytes, it.len, text.bytes, text.len, &symbol);
+    give_back(text);
+    return is_found == (wanted != 77) && symbol == wanted;
+}
+
+/* Finding by a hash table of one bucket, whose chain is symbols 1 and 2; and by words that break a rule. */
+static void check_find(bool is_big) {
+    const uint32_t words[] = {1, 3, 1, 0, 2, 0}, circle[] = {1, 3, 1, 1, 2, 1}, past[] = {1, 3, UINT32_MAX, 9, 9, 9},
+        no_buckets[] = {0, 3, 1, 0, 2, 0}, many[] = {1, UINT32_MAX, 1, 0, 2, 1}, cut[] = {UINT32_MAX, 3, 1, 0, 2, 0};
+    const uint32_t *const broken[] = {circle, past, no_buckets, many, cut};
+    uint8_t made[TABLES_SIZE];
+    struct elfmap_file file;
+    struct elfmap_table table;
+    make_tables(made, is_big);
+    put_words(made + HASH_AT, words, 6, is_big);
+    struct guarded it = guarded_bytes(made, TABLES_SIZE, true);
+    check(elfmap_file(it.bytes, it.len, &file) && elfmap_table(&file, it.bytes, it.len, 8, &table), "there is a hash table");
+    check(finds(&table, it, "one", 1) && finds(&table, it, "second", 2), "each symbol is found by its name");
+    check(finds(&table, it, "", 77) && finds(&table, it, "on", 77) && finds(&table, it, "ones", 77) && finds(&table, it, "no such", 77),
+          "no other name is found");
+    give_back(it);
+    for (size_t k = 0; k < sizeof broken / sizeof *broken; k++) {
+        put_words(made + HASH_AT, broken[k], 6, is_big);
+        it = guarded_bytes(made, TABLES_SIZE, true);
+        check(finds(&table, it, "no such", 77), "a look-up ends in words that break a rule");
+        give_back(it);
+    }
+}
+
+/* With any places in a table a look-up reads nothing outside of the bytes. */
+static void check_any_find(void) {
+    const uint64_t numbers[] = {0, 1, 4, 64, HASH_AT, TABLES_SIZE - 4, TABLES_SIZE, UINT64_C(1) << 60, UINT64_MAX - 3, UINT64_MAX};
+    const size_t count = sizeof numbers / sizeof *numbers;
+    uint8_t made[TABLES_SIZE];
+    size_t found = 0, tried = 0;
+    make_tables(made, false);
+    for (int at_end = 0; at_end < 2; at_end++) {
+        struct guarded it = guarded_bytes(made, TABLES_SIZE, at_end);
+        for (size_t k = 0; k < count * count * count * count; k++, tried++) {
+            struct elfmap_extent words = {numbers[k % count], numbers[k / count % count]};
+            struct elfmap_extent symbols = {numbers[k / count / count % count], numbers[k / count / count / count]};
+            struct elfmap_table table = {words, symbols, symbols, k, HASH, (uint8_t) (k % 3)};
+            uint32_t symbol;
+            found += elfmap_find(&table, it.bytes, it.len, made, k % 9, &symbol);
+        }
+        give_back(it);
+    }
+    check(found < tried, "not every name is found");
+}
+
 /* What there isn't is refused, and what was to be filled in stays as it was. */
 static void check_tables_unchanged(void) {
     uint8_t bytes[TABLES_SIZE];
@@ -726,6 +784,38 @@ static void tell_notes(const struct elfmap_table *table, const uint8_t *bytes, s
         printf("there is a note behind the last one\n");
 }
 
+/* Which symbol is found by the name of each symbol of a hash table, and by one that none has. */
+static void tell_found(const struct elfmap_table *table, const uint8_t *bytes, size_t len) {
+    struct elfmap_table symbols = *table;
+    struct elfmap_relocation entry;
+    struct elfmap_extent name;
+    uint64_t count = table->linked.len / 24;
+    uint32_t symbol;
+    symbols.content = table->linked;
+    symbols.sh_type = RELA;
+    for (uint64_t j = 0; j <= count; j++) {
+        const uint8_t *text = (const uint8_t *) "no such name";
+        size_t text_len = 12;
+        if (j < count) {
+            /* An entry is read as a relocation, whose first word is the name of the symbol there: any symbol has one. */
+            if (!elfmap_relocation(&symbols, bytes, len, j, &entry))
+                break;
+            uint32_t offset = (uint32_t) (table->ei_data == 2 ? entry.r_offset >> 32 : entry.r_offset);
+            if (!elfmap_string(table, bytes, len, offset, &name))
+                name.len = name.start = 0;
+            text = bytes + name.start;
+            text_len = (size_t) name.len;
+        }
+        printf("found ");
+        for (size_t k = 0; k < text_len; k++)
+            printf("%02x", (unsigned) text[k]);
+        if (elfmap_find(table, bytes, len, text, text_len, &symbol))
+            printf(" %" PRIu32 "\n", symbol);
+        else
+            printf(" none\n");
+    }
+}
+
 static void tell_tables(const struct elfmap_file *file, const uint8_t *bytes, size_t len) {
     struct elfmap_table t;
     for (uint64_t i = 0; i < file->sections; i++) {
@@ -742,6 +832,8 @@ static void tell_tables(const struct elfmap_file *file, const uint8_t *bytes, si
             tell_dynamic(&t, bytes, len);
         else if (t.sh_type == NOTE)
             tell_notes(&t, bytes, len);
+        else if (t.sh_type == HASH)
+            tell_found(&t, bytes, len);
     }
 }
 
@@ -782,6 +874,9 @@ int main(int count, char **words) {
     check_any_numbers();
     check_tables(false);
     check_tables(true);
+    check_find(false);
+    check_find(true);
+    check_any_find();
     check_tables_unchanged();
     check_any_tables();
     check_descending();

@@ -1,15 +1,14 @@
 -- The relocations of a relocation section and the entries of a dynamic array of a file, by the table's numbers.
-use Rattle.std.proofs.Common.{◌≡◌, ◌<◌, ℕ, Bool, List, Option, Some, ap, get_or, length, subst, sym, ◌∙◌}
+use Rattle.std.proofs.Common.{◌≡◌, ◌<◌, ℕ, List, Option, ap, get_or, length, subst, sym, ◌∙◌}
 use Rattle.std.specs.List.{before_first}
 use Rattle.elf_field.specs.declared.dynamic.Dyn.{Dyn}
 use Rattle.elf_field.specs.declared.order.Order.{Order}
-use Rattle.elf_image_rules.specs.Rows.{FirstIn}
 use Rattle.elf_image_rules.proofs.Public.{FirstIn-front}
 use Rattle.elf_table_all.specs.DynamicStrings.{dynamic_strings}
 use Rattle.elf_table_base.specs.declared.table_kind.TableKind.{TableKind}
 use Rattle.elf_table_base.specs.declared.table_kind.TableKind.TheVariants.{DynamicArray, RelocationTable}
 use Rattle.elf_table_base.specs.OwnRules.{own_rules}
-use Rattle.elf_table_base.specs.Sections.{content, count, order, section, sections_in}
+use Rattle.elf_table_base.specs.Sections.{order, section, sections_in}
 use Rattle.elf_table_lists.specs.DynamicArray.{dynamic_array_of, dynamic_entries, dynamic_entry, dynamic_entry_count, is_null_entry, no_dynamic_entry}
 use Rattle.elf_table_lists.specs.DynamicRules.{dynamic_section_rules}
 use Rattle.elf_table_lists.specs.Relocations.{has_addends, no_relocation_entry, relocation_count, relocation_in, relocations_in, relocations_of}

@@ -1,5 +1,5 @@
 -- The index table of a symbol table of a file, found section by section.
-use Rattle.std.proofs.Common.{◌≡◌, ◌<◌, ◌≤◌, ℕ, Bool, false, true, List, None, Option, Some, ap, arith, inl, inr, refl, subst, sym, ◌∙◌}
+use Rattle.std.proofs.Common.{◌≡◌, ◌<◌, ℕ, Bool, false, true, List, None, Option, Some, ap, inl, inr, refl, sym, ◌∙◌}
 use Rattle.std.proofs.lemmas.Bool.{cases_lt, eq-eqb, eqb-true}
 use Rattle.std.specs.Cmp.Derive.{both_true}
 use Rattle.std.specs.Prelude.{◌==◌, ◌&&◌}
@@ -16,7 +16,7 @@ use Rattle.elf_table_symbols.proofs.Public.{lowest_position}
 use Rattle.elf_c_room.specs.Room.{extent_in}
 use Rattle.elf_c_room.specs.declared.room.Slot.{Slot}
 use Rattle.elf_c.specs.Files.{IsFileOf}
-use Rattle.elf_c.specs.Tables.{content_place, index_place, no_place}
+use Rattle.elf_c.specs.Tables.{index_place, no_place}
 use Rattle.elf_c.specs.declared.shapes.File.{File}
 use Rattle.elf_c.proofs.SectionList.{count_listed}
 

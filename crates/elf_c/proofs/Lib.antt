@@ -2,6 +2,7 @@ mod Absent
 mod DynamicEntries
 mod EntryReads
 mod FileEntries
+mod HashReads
 mod IndexTables
 mod LoadedBytes
 mod NoteLengths

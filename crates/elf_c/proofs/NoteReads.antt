@@ -1,11 +1,11 @@
 -- The notes of a note section of a file, by the table's numbers.
-use Rattle.std.proofs.Common.{◌≡◌, ◌<◌, ◌≤◌, ◌+◌, ◌-◌, ◌↔◌, ℕ, List, None, Some, ap, arith, get_or, inl, inr, length, refl, subst, sym, ◌∙◌, drop}
+use Rattle.std.proofs.Common.{◌≡◌, ◌<◌, ◌≤◌, ◌+◌, ◌↔◌, ℕ, List, None, ap, arith, get_or, inl, inr, length, refl, subst, sym, ◌∙◌, drop}
 use Rattle.std.proofs.lemmas.Bool.{cases_lt}
 use Rattle.std.proofs.lemmas.List.{length-take}
 use Rattle.std.proofs.lemmas.Option.{slice_get_within, unwrap_or-slice_get}
-use Rattle.std.specs.Prelude.{slice_get, unwrap_or}
+use Rattle.std.specs.Prelude.{unwrap_or}
 use Rattle.elf_extent.specs.declared.extent.Extent.{Extent}
-use Rattle.elf_field.specs.Abi.{N_DESCSZ_AT, N_NAMESZ_AT, NHDR_SIZE, WORD_SIZE}
+use Rattle.elf_field.specs.Abi.{N_DESCSZ_AT, N_NAMESZ_AT, WORD_SIZE}
 use Rattle.elf_field.proofs.RecordTableLaws.{record_of_part}
 use Rattle.elf_field.specs.Word.{word_at}
 use Rattle.elf_field.specs.WordLaws.{word_laws}
@@ -16,7 +16,7 @@ use Rattle.elf_table_base.specs.declared.table_kind.TableKind.TheVariants.{NoteS
 use Rattle.elf_table_base.specs.Sections.{content, order, sections_in}
 use Rattle.elf_table_lists.specs.NoteRules.{note_rules, note_section_rules}
 use Rattle.elf_table_lists.specs.Notes.{AreNotesWhole, NoteValue, desc_start, descsz, namesz, note_at, note_end, note_offset, notes_in, notes_of, padded}
-use Rattle.elf_table_lists.proofs.Public.{no_note_entry, note_entry}
+use Rattle.elf_table_lists.proofs.Public.{note_entry}
 use Rattle.elf_c.specs.Entries.{no_note_value}
 use Rattle.elf_c.specs.Files.{order_named}
 use Rattle.elf_c.specs.Tables.{IsTableOf, slot_bytes}
@@ -77,12 +77,13 @@ notes_by_numbers t b i is =
 there_in : (o : Order) (table : List ℕ) (k : ℕ) → AreNotesWhole o table 0 →
     note_end o table (note_offset o table 0 k) ≤ length table ↔ (k < length (notes_in o table 0))
 there_in o table k whole =
-    let above = note_end_above o table (note_offset o table 0 k) in
-    (λ ends. slice_get_within (notes_in o table 0) k _ (note_entry o table 0 k (omega arith)),
-    λ below. elim (cases_lt (note_offset o table 0 k) (length table)) [
-      | inl begins ↦ whole k begins
-      | inr past ↦ (let none = no_more o table k past in absurd (omega arith))
-    ])
+    let above = note_end_above o table (note_offset o table 0 k) in (
+      λ ends. slice_get_within (notes_in o table 0) k _ (note_entry o table 0 k (omega arith)),
+      λ below. elim (cases_lt (note_offset o table 0 k) (length table)) [
+        | inl begins ↦ whole k begins
+        | inr past ↦ (let none = no_more o table k past in absurd (omega arith))
+      ],
+    )
 
 pub note_there : (t : Table) (b : List ℕ) (i k : ℕ) → IsTableOf NoteSection t b i → let o = order_named t.ei_data in let c = slot_bytes b t.content in
     note_end o c (note_offset o c 0 k) ≤ length c ↔ (k < length (notes_of (sections_in b) i))

@@ -1,8 +1,7 @@
 -- The sections that the rules of tables look at, by the numbers of a file.
-use Rattle.std.proofs.Common.{◌≡◌, ◌<◌, ◌*◌, ◌+◌, ℕ, List, None, Option, Some, get_or, length, map, refl, subst, sym, ◌∙◌, zero-add}
+use Rattle.std.proofs.Common.{◌≡◌, ◌<◌, ◌*◌, ◌+◌, ℕ, List, None, Option, Some, length, subst, sym, ◌∙◌, zero-add}
 use Rattle.std.proofs.lemmas.List.{get_or-map}
 use Rattle.std.proofs.lemmas.List.FromFn.{get_or-map-range_with_len, length-map-range_with_len}
-use Rattle.std.specs.List.{range_with_len}
 use Rattle.std.specs.Prelude.{SomeIff}
 use Rattle.elf_field.specs.Abi.{SHDR_SIZE}
 use Rattle.elf_field.specs.Shdr.{shdr_at}

@@ -7,7 +7,7 @@ use Rattle.elf_image_rules.specs.Rows.{FirstIn}
 use Rattle.elf_image_rules.proofs.Public.{FirstIn-behind, FirstIn-front}
 use Rattle.elf_table_base.specs.declared.table_kind.TableKind.TheVariants.{SymbolTable}
 use Rattle.elf_table_base.specs.OwnRules.{own_rules}
-use Rattle.elf_table_base.specs.Sections.{Sections, content, count, order, section, sections_in}
+use Rattle.elf_table_base.specs.Sections.{Sections, content, order, section, sections_in}
 use Rattle.elf_table_symbols.specs.IndexTable.{index_table, index_words}
 use Rattle.elf_table_symbols.specs.StringRules.{linked_string_rules}
 use Rattle.elf_table_symbols.specs.SymbolParts.{symbol_parts}

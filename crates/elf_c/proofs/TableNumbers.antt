@@ -1,5 +1,5 @@
 -- The numbers of a table of a file are those that are gathered by the numbers of the file.
-use Rattle.std.proofs.Common.{◌≡◌, ◌<◌, ℕ, List, Option, Some, ap, length, refl, subst, sym, ◌∙◌}
+use Rattle.std.proofs.Common.{◌≡◌, ◌<◌, ℕ, List, Option, Some, ap, refl, subst, sym, ◌∙◌}
 use Rattle.std.proofs.lemmas.List.FromFn.{length-map-range_with_len}
 use Rattle.elf_extent.specs.declared.extent.Extent.{Extent}
 use Rattle.elf_field.specs.declared.order.Order.{Order}
@@ -72,15 +72,16 @@ table_gathered file b i s kind place linked strings n is below same typed there 
     let kinds : Some kind ≡ kind_of (section f i).sh_type = typed ∙ ap kind_of type in
     let read : slot_bytes b place ≡ content f i =
     ap (λ (e : Extent). slot_bytes b (slot e)) (extent ∙ ap content_extent same) ∙ sym (content_listed b i below) in
-    let own = own_order file b is in
-    ((below, subst (λ (t : Shdr). IsLinkThere (kind_of t.sh_type) f t.sh_link) same (subst (λ (k : Option TableKind). IsLinkThere k f s.sh_link) typed there)),
-    same_numbers place (content_place f i) linked _ strings _ n _ s.sh_type _ file.ei_data _
-    (ap slot (extent ∙ ap content_extent same))
-    (linked_is ∙ ap (λ (k : Option TableKind). linked_place k f i s.sh_link) typed ∙ ap (λ (t : Shdr). linked_place (kind_of t.sh_type) f i t.sh_link) same)
-    (strings_is ∙ ap (λ (k : Option TableKind). strings_place k f s.sh_link) typed ∙ ap (λ (t : Shdr). strings_place (kind_of t.sh_type) f t.sh_link) same)
-    (counted ∙ ap (λ (o : Order). length_in kind s.sh_type o (slot_bytes b place)) own ∙ ap (length_in kind s.sh_type (order f)) read
-    ∙ ap (λ (t : ℕ). length_in kind t (order f) (content f i)) type ∙ length_by_content kind f i ∙ ap (λ (k : Option TableKind). length_of_table k f i) kinds)
-    type
-    (own_data file b i is)) where
+    let own = own_order file b is in (
+      (below, subst (λ (t : Shdr). IsLinkThere (kind_of t.sh_type) f t.sh_link) same (subst (λ (k : Option TableKind). IsLinkThere k f s.sh_link) typed there)),
+      same_numbers place (content_place f i) linked _ strings _ n _ s.sh_type _ file.ei_data _
+          (ap slot (extent ∙ ap content_extent same))
+          (linked_is ∙ ap (λ (k : Option TableKind). linked_place k f i s.sh_link) typed ∙ ap (λ (t : Shdr). linked_place (kind_of t.sh_type) f i t.sh_link) same)
+          (strings_is ∙ ap (λ (k : Option TableKind). strings_place k f s.sh_link) typed ∙ ap (λ (t : Shdr). strings_place (kind_of t.sh_type) f t.sh_link) same)
+          (counted ∙ ap (λ (o : Order). length_in kind s.sh_type o (slot_bytes b place)) own ∙ ap (length_in kind s.sh_type (order f)) read
+          ∙ ap (λ (t : ℕ). length_in kind t (order f) (content f i)) type ∙ length_by_content kind f i ∙ ap (λ (k : Option TableKind). length_of_table k f i) kinds)
+          type
+          (own_data file b i is),
+    ) where
       slot : Extent → Slot
       slot e = record { start = e.start; len = e.len }

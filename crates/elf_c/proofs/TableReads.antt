@@ -1,6 +1,6 @@
 -- What the numbers of a table of a file tell: its order, and the bytes that its entries are read from.
-use Rattle.std.proofs.Common.{◌≡◌, ◌≢◌, ◌<◌, ◌≤◌, ◌+◌, ◌-◌, ℕ, zero, suc, List, [], None, Option, Some, length, drop, inl, inr, refl, sym, subst, ap, ◌∙◌, arith}
-use Rattle.std.proofs.lemmas.Bool.{cases_eq, eqb-true, ne_eqb}
+use Rattle.std.proofs.Common.{◌≡◌, ◌<◌, ◌≤◌, ◌+◌, ℕ, zero, suc, List, None, Option, Some, length, drop, inl, inr, refl, sym, subst, ap, ◌∙◌, arith}
+use Rattle.std.proofs.lemmas.Bool.{cases_eq, eqb-true}
 use Rattle.std.proofs.lemmas.List.{length-drop, length-take}
 use Rattle.std.proofs.lemmas.List.Quantifiers.{position-Some}
 use Rattle.std.specs.Prelude.{◌==◌, ◌&&◌}
@@ -16,10 +16,9 @@ use Rattle.elf_image_rules.proofs.Public.{sound_file, table_some}
 use Rattle.elf_table_all.specs.TableRules.{rules_of_kind, table_rules}
 use Rattle.elf_table_base.specs.declared.table_kind.TableKind.{TableKind}
 use Rattle.elf_table_base.specs.Sections.{Sections, content, count, order, section, sections_in}
-use Rattle.elf_table_base.specs.TableKind.{kind_of}
 use Rattle.elf_table_symbols.specs.IndexTable.{index_table, index_words}
 use Rattle.elf_c.specs.Files.{order_named}
-use Rattle.elf_c.specs.Tables.{IsTableOf, content_place, index_place, linked_place, slot_bytes, strings_place}
+use Rattle.elf_c.specs.Tables.{IsTableOf, index_place, linked_place, slot_bytes, strings_place}
 use Rattle.elf_c.specs.declared.shapes.Table.{Table}
 use Rattle.elf_c.proofs.IndexTables.{both_hold}
 use Rattle.elf_c.proofs.SectionList.{content_listed, count_listed, section_listed}

@@ -7,6 +7,7 @@
 
 mod entries;
 mod file;
+mod find;
 mod lengths;
 mod load;
 mod names;

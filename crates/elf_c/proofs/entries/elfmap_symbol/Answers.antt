@@ -1,10 +1,9 @@
-use Rattle.std.proofs.Common.{◌≡◌, ◌<◌, ℕ, List, Option, Some, None, false, true, ap, refl, ◌∙◌}
-use Rattle.std.specs.Prelude.{IsSome, IsTrue}
+use Rattle.std.proofs.Common.{ℕ, List, false, ap, refl, ◌∙◌}
+use Rattle.std.specs.Prelude.{IsTrue}
 use Rattle.elf_field.specs.declared.order.Order.{Order}
 use Rattle.elf_table_base.specs.declared.table_kind.TableKind.TheVariants.{SymbolTable}
-use Rattle.elf_table_base.specs.Sections.{content, order, sections_in}
+use Rattle.elf_table_base.specs.Sections.{order, sections_in}
 use Rattle.elf_table_symbols.specs.SymbolRules.{entry}
-use Rattle.elf_c.specs.Files.{order_named}
 use Rattle.elf_c.specs.Tables.{slot_bytes}
 use Rattle.elf_c.proofs.SymbolReads.{symbol_by_numbers, symbol_there}
 use Rattle.elf_c.proofs.TableReads.{table_content, table_order}
@@ -29,6 +28,7 @@ returns-in-Some-clause-record c i is =
     ∙ ap (λ (s : List ℕ). entry (order (sections_in b)) s c.args.index) (table_content SymbolTable t b i is)
 
 pub returns-in-None-clause-there : goal.returns-in-None-clause-there
-returns-in-None-clause-there c i is =
-    (λ (wrong : IsTrue false). cc,
-    λ below. (let none = c.in-None.ensures.there.1 ((symbol_there c.args.table.now c.args.bytes.now i c.args.index is).1 below) in absurd cc))
+returns-in-None-clause-there c i is = (
+  λ (wrong : IsTrue false). cc,
+  λ below. (let none = c.in-None.ensures.there.1 ((symbol_there c.args.table.now c.args.bytes.now i c.args.index is).1 below) in absurd cc),
+)

@@ -1,6 +1,6 @@
-use Rattle.std.proofs.Common.{◌≡◌, ◌<◌, ◌≤◌, ◌+◌, ℕ, suc, List, add-one, ap, arith, below_more, length, subst, sym, ◌∙◌}
+use Rattle.std.proofs.Common.{◌≡◌, ◌<◌, ◌+◌, ℕ, List, arith, below_more, length, subst, sym, ◌∙◌}
 use Rattle.elf_field.specs.declared.order.Order.{Order}
-use Rattle.elf_table_lists.specs.Notes.{note_end, note_offset, notes_in}
+use Rattle.elf_table_lists.specs.Notes.{note_offset}
 use Rattle.elf_c.proofs.NoteLengths.{length_notes, note_end_above, note_offset_after, note_offset_zero}
 use Rattle.elf_c.proofs.lengths.note_count.Goals as goal
 

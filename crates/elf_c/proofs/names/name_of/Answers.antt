@@ -1,9 +1,7 @@
-use Rattle.std.proofs.Common.{◌≡◌, ◌↔◌, None, Option, ap, subst, sym, ◌∙◌}
-use Rattle.std.specs.Prelude.{IsSome}
+use Rattle.std.proofs.Common.{ap, ◌∙◌}
 use Rattle.elf_extent.specs.declared.extent.Extent.{Extent}
 use Rattle.elf_image_rules.specs.Tables.{bytes_in}
 use Rattle.elf_image_type.specs.Strings.{string}
-use Rattle.elf_c_room.specs.declared.room.Slot.{Slot}
 use Rattle.elf_c.proofs.Absent.{none_there}
 use Rattle.elf_c.proofs.FileEntries.{section_at, section_below}
 use Rattle.elf_c.proofs.SectionNames.{name_in_table, name_of_null, name_without_table, table_below}

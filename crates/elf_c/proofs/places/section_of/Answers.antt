@@ -1,6 +1,5 @@
-use Rattle.std.proofs.Common.{◌≡◌, ◌*◌, ◌+◌, ◌<◌, None, Option, Some, arith, length, refl, subst, sym}
+use Rattle.std.proofs.Common.{◌<◌, None, Option, Some, arith, refl, subst, sym}
 use Rattle.std.specs.Prelude.{SomeIff}
-use Rattle.elf_field.specs.Abi.{SHDR_SIZE}
 use Rattle.elf_field.specs.declared.shdr.Shdr.{Shdr}
 use Rattle.elf_table_base.specs.Sections.{count, section, sections_in}
 use Rattle.elf_c.proofs.SectionList.{found_listed}
