@@ -1,0 +1,38 @@
+-- Files that lie in bytes, one after the other.
+use Rattle.std.proofs.Common.{◌≡◌, ℕ, ◌+◌, ◌<◌, List, [], ◌∷◌, ◌++◌, ap, arith, drop, get_or, length, map, subst, sym, take, take-append-drop, ◌∙◌}
+use Rattle.std.specs.List.{All}
+use Rattle.std.proofs.lemmas.List.{drop_more, length-take-le, map-append, take_more}
+use Rattle.std.proofs.lemmas.List.Elements.{All-append, All-cons, All-nil}
+use Rattle.elf_c_room.specs.declared.room.Slot.{Slot}
+use Rattle.elf_c_engines.specs.FilesIn.{IsFirstOutside, LiesWithin}
+
+module _ (places : List Slot) (i : ℕ) (d : Slot) (below : i < length places) where
+  abbrev here : Slot
+  here = get_or places i d
+
+  -- the first one that passes the end
+  pub first_outside : (n : ℕ) → All (LiesWithin n) (take i places) → (LiesWithin n (get_or places i d) → ⊥) → IsFirstOutside n places i
+  first_outside n before outside = record {
+    before = take i places;
+    place = here;
+    behind = drop (i + 1) places;
+    places_are = sym (take-append-drop i places) ∙ ap (λ (xs : List Slot). take i places ++ xs) (drop_more places i d below);
+    within = before;
+    outside = omega (arith, outside);
+    index = sym (length-take-le i places (omega arith));
+  }
+
+  -- one more that doesn't
+  pub more_within : (n : ℕ) → All (LiesWithin n) (take i places) → LiesWithin n (get_or places i d) → All (LiesWithin n) (take (i + 1) places)
+  more_within n before within =
+      subst (All (LiesWithin n)) (sym (take_more places i d below))
+      (All-append (LiesWithin n) (take i places) (here ∷ []) before (All-cons (LiesWithin n) here [] within (All-nil (LiesWithin n))))
+
+  pub more_bytes : {X : Type 0} (f : X → List ℕ) (g : Slot → List ℕ) (files : List X) (file : X) → map f files ≡ map g (take i places)
+      → f file ≡ g (get_or places i d) → map f (files ++ file ∷ []) ≡ map g (take (i + 1) places)
+  more_bytes {X} f g files file before is =
+      map-append f files (file ∷ [])
+      ∙ ap (λ (xs : List (List ℕ)). xs ++ f file ∷ []) before
+      ∙ ap (λ (x : List ℕ). map g (take i places) ++ x ∷ []) is
+      ∙ sym (map-append g (take i places) (here ∷ []))
+      ∙ ap (map g) (sym (take_more places i d below))

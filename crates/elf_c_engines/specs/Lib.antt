@@ -1,0 +1,3 @@
+pub mod FilesIn
+pub mod LinkCalls
+pub mod Told

@@ -1,0 +1,145 @@
+//! How a call ends: with what an engine says, in the room of the caller, or without it.
+ghost use Rattle.std.specs.Prelude.{◌≡◌, ◌≤◌, ◌++◌, drop, length};
+ghost use Rattle.elf_c_engines.specs.Told.{IsTold, fault_numbers, fault_status, verdict_numbers, verdict_status};
+
+use elf_tool_text::{Refusal, Verdict};
+
+/// The statuses, by the names that C has: `ELFMAP_DONE` and so on.
+const DONE: u32 = 0;
+
+const REFUSED: u32 = 1;
+
+const NOT_LINKED: u32 = 2;
+
+const TOO_LONG: u32 = 3;
+
+const SMALL_ROOM: u32 = 4;
+
+const NO_MEMORY: u32 = 5;
+
+const BAD_RULES: u32 = 6;
+
+const BAD_FILES: u32 = 7;
+
+/// `struct elfmap_outcome`: what a call tells beside its status. A number that tells nothing is 0.
+#[repr(C)]
+#[derive(Clone, Copy, Debug, PartialEq, Eq)]
+pub struct Outcome {
+    /// How long the whole text or file is, in bytes, also where the room is shorter.
+    pub length: u64,
+    /// Of a refused file the lowest offset at which it breaks the rule, in bytes; of files that don't link the entry at which the
+    /// rule stands, from 0; of bad rules the line, from 1.
+    pub at: u64,
+    /// Which file, from 0.
+    pub file: u64,
+    /// Of files that don't link the index in the file at which the rule stands, from 0.
+    pub index: u64,
+    /// The number of the rule.
+    pub rule: u16,
+}
+
+/// Why a call gives no answer of an engine.
+#[derive(Clone, Copy, Debug, PartialEq, Eq)]
+pub(crate) enum CallFault {
+    /// This line of the rules is bad, and none before it. Lines count from 1.
+    BadRules { line: usize },
+    /// The extent of this file doesn't lie in the bytes, and each before it does. Files count from 0.
+    BadFiles { file: usize },
+    /// A growth was refused.
+    OutOfMemory,
+}
+
+/// Puts what an engine says into the room, if it is long enough for the text: else the room stays as it was. Answers the status.
+pub(crate) fn tell(verdict: Verdict, text: &[u8], room: &mut [u8], outcome: &mut Outcome) -> u32
+    ensures { IsTold verdict text.now room.old room.new outcome.new result }
+{
+    if text.len() > room.len() {
+        *outcome = numbers_of(Verdict::Done, text.len());
+        return SMALL_ROOM;
+    }
+    put(text, room);
+    *outcome = numbers_of(verdict, text.len());
+    status_of(verdict)
+}
+
+/// Ends a call without what an engine says. Answers the status.
+pub(crate) fn give_up(fault: CallFault, outcome: &mut Outcome) -> u32
+    ensures status { result ≡ fault_status fault }
+    ensures numbers { outcome.new ≡ fault_numbers fault }
+{
+    let nothing = numbers_of(Verdict::Done, 0);
+    let (status, numbers) = match fault {
+        CallFault::BadRules { line } => (
+            BAD_RULES,
+            Outcome {
+                at: line as u64,
+                ..nothing
+            },
+        ),
+        CallFault::BadFiles { file } => (
+            BAD_FILES,
+            Outcome {
+                file: file as u64,
+                ..nothing
+            },
+        ),
+        CallFault::OutOfMemory => (NO_MEMORY, nothing),
+    };
+    *outcome = numbers;
+    status
+}
+
+// Puts a text at the beginning of a room.
+fn put(text: &[u8], room: &mut [u8])
+    requires { length text.now ≤ length room.old }
+    ensures { room.new ≡ text.now ++ drop (length text.now) room.old }
+{
+    room[..text.len()].copy_from_slice(text);
+}
+
+fn status_of(verdict: Verdict) -> u32
+    ensures { result ≡ verdict_status verdict }
+{
+    match verdict {
+        Verdict::Done => DONE,
+        Verdict::Refused(Refusal::File { .. }) => REFUSED,
+        Verdict::Refused(Refusal::Link { .. }) => NOT_LINKED,
+        Verdict::Refused(Refusal::TooLong) => TOO_LONG,
+    }
+}
+
+// The numbers of a verdict and of the length of its text.
+fn numbers_of(verdict: Verdict, len: usize) -> Outcome
+    ensures { result ≡ verdict_numbers verdict len }
+{
+    let numbers = Outcome {
+        length: len as u64,
+        at: 0,
+        file: 0,
+        index: 0,
+        rule: 0,
+    };
+    match verdict {
+        Verdict::Refused(Refusal::File { file, rule, at }) => Outcome {
+            at,
+            file: file as u64,
+            rule,
+            ..numbers
+        },
+        Verdict::Refused(
+            Refusal::Link {
+                rule,
+                file,
+                index,
+                entry,
+            },
+        ) => Outcome {
+            at: entry as u64,
+            file: file as u64,
+            index: index as u64,
+            rule,
+            ..numbers
+        },
+        Verdict::Done | Verdict::Refused(Refusal::TooLong) => numbers,
+    }
+}
