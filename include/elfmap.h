@@ -238,11 +238,12 @@ bool elfmap_name(const struct elfmap_file *file, const uint8_t *bytes, size_t le
  * ---- The tables. As above each call answers true and fills in its last argument, or false, and leaves it as it was, and reads nothing
  * outside of the bytes. A table is sound where it breaks none of the rules 40 to 69: elfmap for C has no verdict on them yet. The entries
  * of a table that breaks one are told as far as they lie in the file, and the claims below are of a sound table alone, in a file that keeps
- * rules 1 to 32. `table` is to be what elfmap_table made of the same bytes. With any other numbers in it the answer says nothing.
+ * rules 1 to 32. `table` is to be what elfmap_table made of the same bytes. With any other numbers in it the answer says nothing, but that
+ * each call is false for a table of another kind than its own: those of `sh_type`.
  *
  *     struct elfmap_table table;
  *     struct elfmap_symbol symbol;
- *     if (elfmap_table(&file, bytes, len, i, &table) && (table.sh_type == 2 || table.sh_type == 11))
+ *     if (elfmap_table(&file, bytes, len, i, &table))
  *         for (uint64_t j = 0; elfmap_symbol(&table, bytes, len, j, &symbol); j++)
  *             printf("%.*s\n", (int) symbol.name.len, (const char *) bytes + symbol.name.start);
  */

@@ -544,6 +544,29 @@ static void check_tables_unchanged(void) {
     }
 }
 
+/* A table is no table of another kind. */
+static void check_other_kinds(void) {
+    uint8_t bytes[TABLES_SIZE];
+    struct elfmap_file file;
+    struct elfmap_table table;
+    struct elfmap_symbol symbol;
+    struct elfmap_relocation relocation;
+    struct elfmap_dynamic entry;
+    struct elfmap_note note;
+    make_tables(bytes, false);
+    check(elfmap_file(bytes, TABLES_SIZE, &file), "the numbers of the file are told");
+    for (uint64_t i = 1; i < TABLES; i++) {
+        if (!elfmap_table(&file, bytes, TABLES_SIZE, i, &table))
+            continue;
+        bool is_relocated = table.sh_type == RELA || table.sh_type == REL;
+        check(elfmap_symbol(&table, bytes, TABLES_SIZE, 0, &symbol) == (table.sh_type == SYMTAB), "only a symbol table has symbols");
+        check(elfmap_relocation(&table, bytes, TABLES_SIZE, 0, &relocation) == is_relocated, "only a relocation section has relocations");
+        check(elfmap_dynamic(&table, bytes, TABLES_SIZE, 0, &entry) == (table.sh_type == DYNAMIC), "only a dynamic array has its entries");
+        check(elfmap_note(&table, bytes, TABLES_SIZE, 0, &note) == (table.sh_type == NOTE), "only a note section has notes");
+        check(elfmap_note_at(&table, bytes, TABLES_SIZE, 0, &note) == (table.sh_type == NOTE), "at no offset of another one is a note");
+    }
+}
+
 static bool lies_in(struct elfmap_extent place, size_t len) {
     return place.start <= len && place.len <= len - place.start;
 }
@@ -552,16 +575,17 @@ static bool lies_in(struct elfmap_extent place, size_t len) {
 static void check_any_tables(void) {
     const uint64_t numbers[] = {0, 1, 3, 64, 135, 136, TABLES_SIZE - 24, TABLES_SIZE - 12, TABLES_SIZE - 1, TABLES_SIZE, UINT64_C(1) << 60,
                                 UINT64_MAX / 24, UINT64_MAX - 23, UINT64_MAX};
+    const uint32_t kinds[5] = {SYMTAB, RELA, REL, DYNAMIC, NOTE};
     const size_t count = sizeof numbers / sizeof *numbers;
     uint8_t made[TABLES_SIZE];
     bool is_inside = true;
     make_tables(made, false);
     for (int at_end = 0; at_end < 2; at_end++) {
         struct guarded it = guarded_bytes(made, TABLES_SIZE, at_end);
-        for (size_t k = 0; k < count * count * count; k++) {
-            uint64_t start = numbers[k % count], size = numbers[k / count % count], index = numbers[k / count / count];
+        for (size_t k = 0; k < 5 * count * count * count; k++) {
+            uint64_t start = numbers[k / 5 % count], size = numbers[k / 5 / count % count], index = numbers[k / 5 / count / count];
             struct elfmap_extent part = {start, size}, place;
-            struct elfmap_table table = {part, part, part, UINT64_MAX, k % 2 == 0 ? REL : RELA, (uint8_t) (k % 3)}, other;
+            struct elfmap_table table = {part, part, part, UINT64_MAX, kinds[k % 5], (uint8_t) (k % 3)}, other;
             struct elfmap_file file = {start, size, UINT64_MAX, UINT64_MAX, 0, (uint8_t) (k % 3)};
             struct elfmap_symbol symbol;
             struct elfmap_relocation relocation;
@@ -878,6 +902,7 @@ int main(int count, char **words) {
     check_find(true);
     check_any_find();
     check_tables_unchanged();
+    check_other_kinds();
     check_any_tables();
     check_descending();
     printf("%d passed, %d failed\n", passed, failed);

@@ -20,7 +20,7 @@ use Rattle.elf_c.specs.Files.{order_named}
 use Rattle.elf_c.specs.Tables.{IsTableOf, slot_bytes}
 use Rattle.elf_c.specs.declared.shapes.Table.{Table}
 use Rattle.elf_c.proofs.SectionList.{content_listed}
-use Rattle.elf_c.proofs.TableReads.{index_bytes, index_words_long, table_content, table_linked, table_order, table_sound, table_strings}
+use Rattle.elf_c.proofs.TableReads.{index_bytes, index_words_long, table_content, table_kind, table_linked, table_order, table_sound, table_strings}
 
 -- ---- what is read by the numbers is what the rules look at
 
@@ -92,8 +92,9 @@ symbol_there t b i j is =
     let words : slot_bytes b t.linked ≡ index_words f (index_table f i) = table_linked SymbolTable t b i is ∙ index_bytes b i in
     let listed : length (symbols_of f i) ≡ entry_count (slot_bytes b t.content) =
     ap length (sym (symbols_by_numbers t b i is)) ∙ length_symbols (order_named t.ei_data) (slot_bytes b t.content) (slot_bytes b t.strings) (slot_bytes b t.linked) in (
-      λ has. subst (λ (n : ℕ). j < n) (sym listed) has.0,
+      λ has. subst (λ (n : ℕ). j < n) (sym listed) has.1,
       λ below. (let within : j < entry_count (slot_bytes b t.content) = subst (λ (n : ℕ). j < n) listed below in (
+        table_kind SymbolTable t b i is,
         within,
         λ extended. subst (λ (w : List ℕ). WORD_SIZE * j + WORD_SIZE ≤ length w) (sym words)
             (word_there b i j t is (subst (λ (c : List ℕ). j < entry_count c) own within)

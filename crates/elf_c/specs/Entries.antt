@@ -6,11 +6,12 @@ use Rattle.elf_field.specs.declared.dynamic.Dyn.{Dyn}
 use Rattle.elf_field.specs.declared.order.Order.{Order}
 use Rattle.elf_field.specs.declared.sym.Sym.{Sym}
 use Rattle.elf_table_lists.specs.declared.relocation.Relocation as listed
-use Rattle.elf_table_lists.specs.Notes.{NoteValue}
+use Rattle.elf_table_base.specs.declared.table_kind.TableKind.TheVariants.{NoteSection, SymbolTable}
+use Rattle.elf_table_lists.specs.Notes.{NoteValue, note_end}
 use Rattle.elf_table_symbols.specs.SymbolRules.{entry, entry_count, word}
 use Rattle.elf_table_symbols.specs.Symbols.{SymbolEntryValue, place_of}
 use Rattle.elf_c.specs.Files.{order_named}
-use Rattle.elf_c.specs.Tables.{slot_bytes}
+use Rattle.elf_c.specs.Tables.{IsOfKind, slot_bytes}
 use Rattle.elf_c.specs.declared.shapes.DynamicEntry.{DynamicEntry}
 use Rattle.elf_c.specs.declared.shapes.Note.{Note}
 use Rattle.elf_c.specs.declared.shapes.Relocation.{Relocation}
@@ -44,11 +45,11 @@ symbol_record s = record {
 abbrev pub section_index : Order → List ℕ → ℕ → ℕ → ℕ
 section_index o words st_shndx j = if st_shndx == SHN_XINDEX then word o words j else st_shndx
 
--- the table has an entry j, and where this needs a word of the index table, that word
+-- a symbol table has an entry j, and where this needs a word of the index table, that word
 abbrev pub HasSymbol : Table → List ℕ → ℕ → Type 0
 HasSymbol t b j =
     let symbols = slot_bytes b t.content in
-    (j < entry_count symbols) ×
+    IsOfKind SymbolTable t × (j < entry_count symbols) ×
     ((entry (order_named t.ei_data) symbols j).st_shndx ≡ SHN_XINDEX → WORD_SIZE * j + WORD_SIZE ≤ length (slot_bytes b t.linked))
 
 -- a relocation: without an addend it is 0
@@ -71,6 +72,12 @@ note_told b n = record { note_type = n.n_type; name = slot_bytes b n.name; desc 
 -- the note that stands for one that isn't there
 abbrev pub no_note_value : NoteValue
 no_note_value = record { note_type = 0; name = []; desc = [] }
+
+-- a note section has a note at offset x that is whole
+abbrev pub HasNoteAt : Table → List ℕ → ℕ → Type 0
+HasNoteAt t b x =
+    let notes = slot_bytes b t.content in
+    IsOfKind NoteSection t × (note_end (order_named t.ei_data) notes x ≤ length notes)
 
 -- its name and its descriptor lie in a file of len bytes
 abbrev pub LiesInFile : Note → ℕ → Type 0

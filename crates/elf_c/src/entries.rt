@@ -15,11 +15,12 @@ ghost use Rattle.elf_table_symbols.specs.Symbols.{symbol_entry_in, symbols_of};
 ghost use Rattle.elf_table_symbols.specs.SymbolView.{no_symbol_entry};
 ghost use Rattle.elf_c.specs.Entries.{HasSymbol, dynamic_shape, relocation_shape, section_index, symbol_record, symbol_told};
 ghost use Rattle.elf_c.specs.Files.{order_named};
-ghost use Rattle.elf_c.specs.Tables.{IsTableOf, slot_bytes};
+ghost use Rattle.elf_c.specs.Tables.{IsOfKind, IsTableOf, slot_bytes};
 
 use crate::names::place_of_string;
 use crate::places::{bytes_of, order_of};
 use crate::shapes::{DynamicEntry, Relocation, Symbol, Table};
+use crate::tables::is_of_kind;
 use elf_c_room::Slot;
 use elf_field::Order;
 use elf_field::abi::{SHN_XINDEX, SHT_RELA, SYM_SIZE, WORD_SIZE};
@@ -41,6 +42,7 @@ pub extern "C" fn elfmap_symbol(
         OnTrue result (symbol_told bytes.now symbol.new ≡ get_or (symbols_of (sections_in bytes.now) i) index no_symbol_entry) }
     ensures record { (i : ℕ) → IsTableOf SymbolTable table.now bytes.now i → let f = sections_in bytes.now in
         OnTrue result (symbol_record symbol.new ≡ entry_of (order f) (content f i) index) }
+    ensures typed { OnTrue result (IsOfKind SymbolTable table.now) }
     ensures section { OnTrue result (symbol.new.st_shndx ≢ shn_xindex → symbol.new.section ≡ symbol.new.st_shndx) }
     ensures inside { OnTrue result (symbol.new.name.start + symbol.new.name.len ≤ length bytes.now) }
     ensures unchanged { OnFalse result (symbol.new ≡ symbol.old) }
@@ -54,7 +56,8 @@ pub extern "C" fn elfmap_symbol(
     }
 }
 
-/// Symbol `index` of a symbol table; None where the table has no such entry, or the index table no word for an entry that needs one.
+/// Symbol `index` of a symbol table; None where it is no symbol table, or has no such entry, or the index table no word for an entry that
+/// needs one.
 #[tactic(auto, unfolding(elf_table_symbols::specs::Symbols::symbol_entry_in))]
 fn symbol_of(table: &Table, bytes: &[u8], index: u64) -> Option<Symbol>
     ensures there { IsSome result ↔ HasSymbol table.now bytes.now index }
@@ -67,7 +70,9 @@ fn symbol_of(table: &Table, bytes: &[u8], index: u64) -> Option<Symbol>
 {
     let order = order_of(table.ei_data);
     let content = bytes_of(bytes, table.content);
-    if index >= (content.len() / SYM_SIZE as usize) as u64 {
+    if !is_of_kind(table, TableKind::SymbolTable)
+        || index >= (content.len() / SYM_SIZE as usize) as u64
+    {
         return None;
     }
     let symbol = entry(order, content, index as usize);
@@ -113,11 +118,14 @@ pub extern "C" fn elfmap_relocation(
         IsTrue result ↔ (index < length (relocations_of (sections_in bytes.now) i)) }
     ensures value { (i : ℕ) → IsTableOf RelocationTable table.now bytes.now i →
         OnTrue result (relocation.new ≡ relocation_shape (get_or (relocations_of (sections_in bytes.now) i) index no_relocation_entry)) }
+    ensures typed { OnTrue result (IsOfKind RelocationTable table.now) }
     ensures unchanged { OnFalse result (relocation.new ≡ relocation.old) }
 {
     let addends = table.sh_type == SHT_RELA;
     let content = bytes_of(bytes, table.content);
-    if index >= relocation_count(addends, content) as u64 {
+    if !is_of_kind(table, TableKind::RelocationTable)
+        || index >= relocation_count(addends, content) as u64
+    {
         return false;
     }
     let order = order_of(table.ei_data);
@@ -137,10 +145,12 @@ pub extern "C" fn elfmap_dynamic(
         IsTrue result ↔ (index < length (dynamic_array_of (sections_in bytes.now) i)) }
     ensures value { (i : ℕ) → IsTableOf DynamicArray table.now bytes.now i →
         OnTrue result (entry.new ≡ dynamic_shape (get_or (dynamic_array_of (sections_in bytes.now) i) index no_dynamic_entry)) }
+    ensures typed { OnTrue result (IsOfKind DynamicArray table.now) }
     ensures unchanged { OnFalse result (entry.new ≡ entry.old) }
 {
     let content = bytes_of(bytes, table.content);
-    if index >= table.entries || index >= dynamic_entry_count(content) as u64 {
+    let count = dynamic_entry_count(content) as u64;
+    if !is_of_kind(table, TableKind::DynamicArray) || index >= count.min(table.entries) {
         return false;
     }
     let order = order_of(table.ei_data);

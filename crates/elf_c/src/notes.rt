@@ -4,15 +4,17 @@ ghost use Rattle.std.specs.Bool.{OnFalse, OnTrue};
 ghost use Rattle.elf_table_base.specs.Sections.{sections_in};
 ghost use Rattle.elf_table_base.specs.declared.table_kind.TableKind.TheVariants.{NoteSection};
 ghost use Rattle.elf_table_lists.specs.Notes.{note_at as note_of_content, note_end as note_end_of, note_offset, notes_of};
-ghost use Rattle.elf_c.specs.Entries.{LiesInFile, no_note_value, note_told};
+ghost use Rattle.elf_c.specs.Entries.{HasNoteAt, LiesInFile, no_note_value, note_told};
 ghost use Rattle.elf_c.specs.Files.{order_named};
-ghost use Rattle.elf_c.specs.Tables.{IsTableOf, slot_bytes};
+ghost use Rattle.elf_c.specs.Tables.{IsOfKind, IsTableOf, slot_bytes};
 
 use crate::places::{bytes_of, order_of};
 use crate::shapes::{Note, Table};
+use crate::tables::is_of_kind;
 use elf_c_room::Slot;
 use elf_field::abi::{N_TYPE_AT, NHDR_SIZE};
 use elf_field::{Order, get_at};
+use elf_table_base::TableKind;
 use elf_table_lists::{desc_start, descsz, namesz, note_end};
 
 /// Note `index` of a note section; false where there is none of this index. It goes over the notes before it.
@@ -22,6 +24,7 @@ pub extern "C" fn elfmap_note(table: &Table, bytes: &[u8], index: u64, note: &mu
         IsTrue result ↔ (index < length (notes_of (sections_in bytes.now) i)) }
     ensures value { (i : ℕ) → IsTableOf NoteSection table.now bytes.now i →
         OnTrue result (note_told bytes.now note.new ≡ get_or (notes_of (sections_in bytes.now) i) index no_note_value) }
+    ensures typed { OnTrue result (IsOfKind NoteSection table.now) }
     ensures inside { OnTrue result (LiesInFile note.new (length bytes.now)) }
     ensures unchanged { OnFalse result (note.new ≡ note.old) }
 {
@@ -37,8 +40,7 @@ pub extern "C" fn elfmap_note(table: &Table, bytes: &[u8], index: u64, note: &mu
 /// The note at an offset of a note section; false where none begins there that is whole.
 #[unsafe(no_mangle)]
 pub extern "C" fn elfmap_note_at(table: &Table, bytes: &[u8], offset: u64, note: &mut Note) -> bool
-    ensures there { let t = table.now in let content = slot_bytes bytes.now t.content in
-        IsTrue result ↔ (note_end_of (order_named t.ei_data) content offset ≤ length content) }
+    ensures there { IsTrue result ↔ HasNoteAt table.now bytes.now offset }
     ensures value { let t = table.now in let content = slot_bytes bytes.now t.content in
         OnTrue result (note_told bytes.now note.new ≡ note_of_content (order_named t.ei_data) content offset) }
     ensures next { let t = table.now in let content = slot_bytes bytes.now t.content in
@@ -61,6 +63,7 @@ fn note_of_index(table: &Table, bytes: &[u8], index: u64) -> Option<Note>
         IsSome result ↔ (index < length (notes_of (sections_in bytes.now) i)) }
     ensures value { (i : ℕ) → IsTableOf NoteSection table.now bytes.now i →
         IfSome result (λ n. note_told bytes.now n ≡ get_or (notes_of (sections_in bytes.now) i) index no_note_value) }
+    ensures typed { IfSome result (λ n. IsOfKind NoteSection table.now) }
     ensures inside { IfSome result (λ n. LiesInFile n (length bytes.now)) }
 {
     let content = bytes_of(bytes, table.content);
@@ -68,16 +71,18 @@ fn note_of_index(table: &Table, bytes: &[u8], index: u64) -> Option<Note>
     note_of(table, bytes, offset as u64)
 }
 
-/// The note at an offset of a note section; None where it is cut.
+/// The note at an offset of a note section; None where it is no note section, or the note is cut.
 fn note_of(table: &Table, bytes: &[u8], offset: u64) -> Option<Note>
-    ensures there { let t = table.now in let content = slot_bytes bytes.now t.content in
-        IsSome result ↔ (note_end_of (order_named t.ei_data) content offset ≤ length content) }
+    ensures there { IsSome result ↔ HasNoteAt table.now bytes.now offset }
     ensures value { let t = table.now in let content = slot_bytes bytes.now t.content in
         IfSome result (λ n. note_told bytes.now n ≡ note_of_content (order_named t.ei_data) content offset) }
     ensures next { let t = table.now in let content = slot_bytes bytes.now t.content in
         IfSome result (λ n. n.next ≡ note_end_of (order_named t.ei_data) content offset) }
     ensures inside { IfSome result (λ n. LiesInFile n (length bytes.now)) }
 {
+    if !is_of_kind(table, TableKind::NoteSection) {
+        return None;
+    }
     let order = order_of(table.ei_data);
     let content = bytes_of(bytes, table.content);
     let next = end_of_note(order, content, offset)?;

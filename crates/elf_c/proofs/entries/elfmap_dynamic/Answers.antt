@@ -1,37 +1,48 @@
-use Rattle.std.proofs.Common.{◌<◌, ℕ, false, ap, arith, length, subst, sym, ◌∙◌}
+use Rattle.std.proofs.Common.{◌<◌, ℕ, false, ap, arith, length, refl, subst, sym, ◌∙◌}
 use Rattle.std.specs.Prelude.{IsTrue}
 use Rattle.elf_table_base.specs.Sections.{sections_in}
+use Rattle.elf_table_base.specs.declared.table_kind.TableKind.TheVariants.{DynamicArray}
 use Rattle.elf_table_lists.specs.DynamicArray.{dynamic_array_of, dynamic_entry_count}
 use Rattle.elf_c.specs.Entries.{dynamic_shape}
 use Rattle.elf_c.specs.Tables.{slot_bytes}
 use Rattle.elf_c.proofs.DynamicEntries.{entry_before_null}
 use Rattle.elf_c.proofs.EntryReads.{array_counted, array_counted_in, entry_by_numbers}
+use Rattle.elf_c.proofs.TableReads.{table_kind}
 use Rattle.elf_c.proofs.entries.elfmap_dynamic.Goals as goal
-use Rattle.elf_c.proofs.entries.elfmap_dynamic.Goals.{then-index-table-via-then-index-table, then-index-table-via-else-index-table+then-index-dynamic_entry_count}
+use Rattle.elf_c.proofs.entries.elfmap_dynamic.Goals.{then-not-is_of_kind-via-then-not-is_of_kind, then-not-is_of_kind-via-else-not-is_of_kind+then-index-min}
 
-pub returns-then-index-table-clause-there : goal.returns-then-index-table-clause-there
-returns-then-index-table-clause-there c i is =
+pub returns-then-not-is_of_kind-clause-there : goal.returns-then-not-is_of_kind-clause-there
+returns-then-not-is_of_kind-clause-there c i is =
     let t = c.args.table.now in
     let b = c.args.bytes.now in
-    let counted = array_counted t b i is in (
+    let counted = array_counted t b i is in
+    let own = c.dynamic_entry_count-count.ensures ∙ ap dynamic_entry_count c.bytes_of-content.ensures.content in (
       λ (wrong : IsTrue false). cc,
-      λ below. elim c.then-index-table.branch [
-        | then-index-table-via-then-index-table w ↦ (let past = w.if-index-table.true in absurd (omega arith))
-        | then-index-table-via-else-index-table+then-index-dynamic_entry_count w ↦
+      λ below. elim c.then-not-is_of_kind.branch [
+        | then-not-is_of_kind-via-then-not-is_of_kind w ↦
+            (let typed = c.is_of_kind.ensures.1 (table_kind DynamicArray t b i is) in let other = w.if-not-is_of_kind.true in absurd cc)
+        | then-not-is_of_kind-via-else-not-is_of_kind+then-index-min w ↦
             (let inside = entry_before_null _ (slot_bytes b t.content) c.args.index (subst (λ (n : ℕ). c.args.index < n) (sym (array_counted_in t b i is)) below) in
-            let read = ap dynamic_entry_count c.bytes_of-content.ensures.content in
-            let own = w.dynamic_entry_count.ensures in
-            let past = w.if-index-dynamic_entry_count.true in
+            let least = w.min.ensures in
+            let past = w.if-index-min.true in
             absurd (omega arith))
       ],
     )
+
+pub returns-clause-there : goal.returns-clause-there
+returns-clause-there c i is =
+    let counted = array_counted c.args.table.now c.args.bytes.now i is in
+    let least = c.min.ensures in
+    let before = c.if-index-min.false in
+    (λ _. omega arith, λ _. refl)
 
 pub returns-clause-value : goal.returns-clause-value
 returns-clause-value c i is =
     let t = c.args.table.now in
     let b = c.args.bytes.now in
     let counted = array_counted t b i is in
-    let before = c.if-index-table.false in
+    let least = c.min.ensures in
+    let before = c.if-index-min.false in
     let below : c.args.index < length (dynamic_array_of (sections_in b) i) = omega arith in
     c.new.ensures ∙ ap dynamic_shape (c.dynamic_entry.ensures
     ∙ rw (c.order_of-order.ensures, c.bytes_of-content.ensures.content) (entry_by_numbers t b i c.args.index is below))

@@ -1,21 +1,32 @@
 use Rattle.std.proofs.Common.{◌≡◌, ◌<◌, ℕ, List, false, ap, arith, get_or, refl, ◌∙◌}
 use Rattle.std.specs.Prelude.{IsTrue}
 use Rattle.elf_field.specs.declared.order.Order.{Order}
+use Rattle.elf_table_base.specs.declared.table_kind.TableKind.TheVariants.{RelocationTable}
 use Rattle.elf_table_base.specs.Sections.{sections_in}
 use Rattle.elf_table_lists.specs.Relocations.{has_addends, no_relocation_entry, relocation_count, relocation_in, relocations_of}
 use Rattle.elf_c.specs.Entries.{relocation_shape}
 use Rattle.elf_c.specs.Files.{order_named}
 use Rattle.elf_c.specs.Tables.{slot_bytes}
 use Rattle.elf_c.proofs.EntryReads.{relocation_by_numbers, relocations_counted}
+use Rattle.elf_c.proofs.TableReads.{table_kind}
 use Rattle.elf_c.proofs.entries.elfmap_relocation.Goals as goal
+use Rattle.elf_c.proofs.entries.elfmap_relocation.Goals.{then-not-is_of_kind-via-then-not-is_of_kind, then-not-is_of_kind-via-else-not-is_of_kind+then-index-relocation_count}
 
-pub returns-then-index-relocation_count-clause-there : goal.returns-then-index-relocation_count-clause-there
-returns-then-index-relocation_count-clause-there c i is =
+pub returns-then-not-is_of_kind-clause-there : goal.returns-then-not-is_of_kind-clause-there
+returns-then-not-is_of_kind-clause-there c i is =
     let t = c.args.table.now in
-    let counted = c.relocation_count.ensures ∙ ap (λ (s : List ℕ). relocation_count (has_addends t.sh_type) s) c.bytes_of-content.ensures.content
-    ∙ relocations_counted t c.args.bytes.now i is in
-    let past = c.if-index-relocation_count.true in
-    (λ (wrong : IsTrue false). cc, λ below. absurd (omega arith))
+    let b = c.args.bytes.now in (
+      λ (wrong : IsTrue false). cc,
+      λ below. elim c.then-not-is_of_kind.branch [
+        | then-not-is_of_kind-via-then-not-is_of_kind w ↦
+            (let typed = c.is_of_kind.ensures.1 (table_kind RelocationTable t b i is) in let other = w.if-not-is_of_kind.true in absurd cc)
+        | then-not-is_of_kind-via-else-not-is_of_kind+then-index-relocation_count w ↦
+            (let counted = w.relocation_count.ensures
+            ∙ ap (λ (s : List ℕ). relocation_count (has_addends t.sh_type) s) c.bytes_of-content.ensures.content ∙ relocations_counted t b i is in
+            let past = w.if-index-relocation_count.true in
+            absurd (omega arith))
+      ],
+    )
 
 pub returns-clause-there : goal.returns-clause-there
 returns-clause-there c i is =

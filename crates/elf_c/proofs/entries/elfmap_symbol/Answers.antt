@@ -17,7 +17,7 @@ returns-in-Some-clause-there c i is =
 pub returns-in-Some-clause-value : goal.returns-in-Some-clause-value
 returns-in-Some-clause-value c i is =
     let has = c.in-Some.ensures.there.0 refl in
-    c.in-Some.ensures.value ∙ symbol_by_numbers c.args.table.now c.args.bytes.now i c.args.index is has.0
+    c.in-Some.ensures.value ∙ symbol_by_numbers c.args.table.now c.args.bytes.now i c.args.index is has.1
 
 pub returns-in-Some-clause-record : goal.returns-in-Some-clause-record
 returns-in-Some-clause-record c i is =

@@ -1,5 +1,6 @@
 use Rattle.std.proofs.Common.{◌≡◌, ◌<◌, ◌≤◌, ◌↔◌, ℕ, List, ap, length, subst, sym, ◌∙◌}
 use Rattle.elf_field.specs.declared.order.Order.{Order}
+use Rattle.elf_table_base.specs.declared.table_kind.TableKind.TheVariants.{NoteSection}
 use Rattle.elf_table_base.specs.Sections.{sections_in}
 use Rattle.elf_table_lists.specs.Notes.{note_at, note_end, note_offset, notes_of}
 use Rattle.elf_c.specs.Entries.{note_told}
@@ -7,6 +8,7 @@ use Rattle.elf_c.specs.Files.{order_named}
 use Rattle.elf_c.specs.Tables.{slot_bytes}
 use Rattle.elf_c.proofs.Absent.{none_there, some_same}
 use Rattle.elf_c.proofs.NoteReads.{none_behind, note_by_numbers, note_there}
+use Rattle.elf_c.proofs.TableReads.{table_kind}
 use Rattle.elf_c.proofs.notes.note_of_index.Goals as goal
 
 -- an offset by the bytes that were read is the one by the numbers of the table
@@ -36,7 +38,7 @@ returns-clause-there c i is =
     c.order_of.ensures c.bytes_of-content.ensures.content in
     let there = subst (λ (x : ℕ). note_end o s x ≤ length s ↔ (c.args.index < length (notes_of (sections_in b) i))) (sym place)
     (note_there t b i c.args.index is) in
-    (λ some. there.0 (c.note_of.ensures.there.0 some), λ below. c.note_of.ensures.there.1 (there.1 below))
+    (λ some. there.0 (c.note_of.ensures.there.0 some).1, λ below. c.note_of.ensures.there.1 (table_kind NoteSection t b i is, there.1 below))
 
 pub returns-clause-value : goal.returns-clause-value
 returns-clause-value c i is =
@@ -48,4 +50,4 @@ returns-clause-value c i is =
     c.order_of.ensures c.bytes_of-content.ensures.content in
     some_same (note_told b) _ _ c.note_of.result c.note_of.ensures.value
     (λ some. ap (note_at o s) place
-    ∙ note_by_numbers t b i c.args.index is (subst (λ (x : ℕ). note_end o s x ≤ length s) place (c.note_of.ensures.there.0 some)))
+    ∙ note_by_numbers t b i c.args.index is (subst (λ (x : ℕ). note_end o s x ≤ length s) place (c.note_of.ensures.there.0 some).1))
