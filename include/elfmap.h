@@ -7,7 +7,8 @@
  *     cc -std=c99 program.c -I include crates/elf_c/out/libelf_c.a
  *
  * The library needs nothing, not even the C library. It takes no memory, keeps no state between two calls and has no variable of its own,
- * so that each call may be made from any thread, and from a signal handler, also while another one runs.
+ * so that each call may be made from any thread, and from a signal handler, also while another one runs. The engines at the end take
+ * memory: what is said of them stands there.
  *
  *     struct elfmap_fault fault;
  *     struct elfmap_file file;
@@ -297,6 +298,117 @@ bool elfmap_note_at(const struct elfmap_table *table, const uint8_t *bytes, size
  */
 bool elfmap_find(const struct elfmap_table *table, const uint8_t *bytes, size_t len, const uint8_t *name, size_t name_len,
                  uint32_t *symbol);
+
+/*
+ * ---- Engines: what the commands `show`, `rewrite`, `map` and `link` of the program `elfmap` write, of bytes in memory.
+ *
+ * What an engine says, a text or a file, is put into a room of `size` bytes that the caller lends. Each call answers a status and fills in
+ * `outcome`, whatever the status: a number of it that tells nothing is 0.
+ *
+ * - Where the status is ELFMAP_DONE, ELFMAP_REFUSED, ELFMAP_NOT_LINKED or ELFMAP_TOO_LONG, the first `outcome->length` bytes of the room are
+ *   all that the engine says, and behind them it is as it was.
+ * - Where it is ELFMAP_SMALL_ROOM, the engine says more than the room can hold, `outcome->length` is how long the room has to be, and it is
+ *   as it was. A call with a room of 0 bytes, whose pointer is not null, asks just that; a second call with that room and the same
+ *   arguments finds it large enough.
+ * - Where it is any other, the engine says nothing, and the room is as it was.
+ *
+ *     struct elfmap_outcome outcome;
+ *     uint8_t none;
+ *     if (elfmap_show(bytes, len, &none, 0, &outcome) == ELFMAP_SMALL_ROOM) {
+ *         uint8_t *text = malloc(outcome.length);
+ *         if (text && elfmap_show(bytes, len, text, outcome.length, &outcome) == ELFMAP_DONE)
+ *             fwrite(text, 1, outcome.length, stdout);
+ *         free(text);
+ *     }
+ *
+ * The engines take memory, by the three functions that stand at the end; a program that calls no engine needs none of them. A call gives all
+ * of it back before it returns, whatever the status: it holds a file's records and tables, what it says, and for `map` and `link` the
+ * objects, their link map, and copies of sections with bits, but no copy of the files. It keeps no state, so that calls may run at the same time in several
+ * threads if these three functions may.
+ */
+
+enum {
+    ELFMAP_DONE = 0,       /* nothing is refused */
+    ELFMAP_REFUSED = 1,    /* file `file` breaks rule `rule`, first at the offset `at`, and each file before it is one that is accepted */
+    ELFMAP_NOT_LINKED = 2, /* the files don't link: rule `rule` of the link stands first at the entry `at` of the index `index` of file `file` */
+    ELFMAP_TOO_LONG = 3,   /* the file to be written would be longer than 2^30 bytes, or have 0xffff segments or more */
+    ELFMAP_SMALL_ROOM = 4, /* the room is too small: it has to be `length` bytes long */
+    ELFMAP_NO_MEMORY = 5,  /* memory was refused */
+    ELFMAP_BAD_RULES = 6,  /* line `at` of the relocation rules is bad, and none before it; lines count from 1 */
+    ELFMAP_BAD_FILES = 7   /* the extent of file `file` does not lie in the bytes, and each before it does */
+};
+
+/* What a call of an engine tells beside its status. Files, indexes and entries count from 0. */
+struct elfmap_outcome {
+    uint64_t length; /* how long all is that the engine says, in bytes */
+    uint64_t at;     /* an offset, an entry or a line */
+    uint64_t file;   /* which file */
+    uint64_t index;  /* which section or symbol of the file; docs/RULES.md says for each rule of the link what is counted */
+    uint16_t rule;   /* the number of the rule: 1 to 33 of an image, from 40 on of an object, or 1 to 16 of a link */
+};
+
+/* Where a link places sections. */
+struct elfmap_options {
+    uint64_t base;       /* the address that placement begins at: a multiple of `page`, else rule 1 of the link stands */
+    uint64_t page;       /* what each output section begins at a multiple of: a power of two, else rule 1 stands */
+    uint32_t uses_rules; /* of elfmap_map alone: 0 where there are no relocation rules */
+};
+
+/*
+ * The lines of `elfmap show` on a file: its header, its parts, its sections, its segments and the entries of its tables. It is
+ * ELFMAP_DONE, or ELFMAP_REFUSED with the line `refused R A` in the room.
+ */
+uint32_t elfmap_show(const uint8_t *bytes, size_t len, uint8_t *room, size_t size, struct elfmap_outcome *outcome);
+
+/*
+ * The object that a relocatable file denotes, as a file in canonical layout. It is ELFMAP_DONE; or, with nothing said, ELFMAP_REFUSED by a
+ * rule of images or, from 40 on, of objects, or ELFMAP_TOO_LONG.
+ */
+uint32_t elfmap_rewrite(const uint8_t *bytes, size_t len, uint8_t *room, size_t size, struct elfmap_outcome *outcome);
+
+/*
+ * The lines of `elfmap map` on `count` files, each of which is an extent of the bytes (they may overlap): where the sections and names of
+ * their link stand, and, where `options->uses_rules` is not 0, the relocated bytes of each section by the relocation rules whose text
+ * `rules` is (docs/RULE_FILES.md; one of no bytes has no rule). It is ELFMAP_DONE; ELFMAP_REFUSED with the line `file F refused R A` in
+ * the room; ELFMAP_NOT_LINKED with the line `refused RULE FILE INDEX ENTRY`; or, with nothing said, ELFMAP_BAD_RULES, which is looked for
+ * first, or ELFMAP_BAD_FILES.
+ */
+uint32_t elfmap_map(const uint8_t *bytes, size_t len, const struct elfmap_extent *files, size_t count, const struct elfmap_options *options,
+                    const uint8_t *rules, size_t rules_len, uint8_t *room, size_t size, struct elfmap_outcome *outcome);
+
+/*
+ * The executable of `count` files, as `elfmap link` writes it, by these relocation rules. It begins at the symbol whose name has the
+ * `entry_len` bytes at `entry`. It is ELFMAP_DONE; or, with nothing said, ELFMAP_BAD_RULES, which is looked for first, ELFMAP_BAD_FILES,
+ * ELFMAP_REFUSED, ELFMAP_NOT_LINKED or ELFMAP_TOO_LONG.
+ */
+uint32_t elfmap_link(const uint8_t *bytes, size_t len, const struct elfmap_extent *files, size_t count, const struct elfmap_options *options,
+                     const uint8_t *entry, size_t entry_len, const uint8_t *rules, size_t rules_len, uint8_t *room, size_t size,
+                     struct elfmap_outcome *outcome);
+
+/*
+ * ---- The memory of the engines. The library has these three functions over malloc, realloc and free. A program that defines all three by
+ * itself has its own taken, and needs no malloc.
+ *
+ * `align` is 1, 2, 4, 8 or 16, and `size` is at most PTRDIFF_MAX. No function may call an engine, or leave by longjmp.
+ */
+
+/* Whether there is memory, and where: `start` is not null, also where there is none. */
+struct elfmap_block {
+    bool is_there;
+    void *start;
+};
+
+/* New memory of `size` bytes, at a multiple of `align`, that nothing else holds. */
+struct elfmap_block elfmap_alloc(size_t size, size_t align);
+
+/*
+ * Makes the memory at `start`, which elfmap_alloc or elfmap_realloc gave, one of `size` bytes, of which the first `kept` are as they were.
+ * It may move. Where there is none, that at `start` is as it was, and still held.
+ */
+struct elfmap_block elfmap_realloc(void *start, size_t kept, size_t size, size_t align);
+
+/* Gives back the memory at `start`, which elfmap_alloc or elfmap_realloc gave. */
+void elfmap_dealloc(void *start);
 
 #ifdef __cplusplus
 }

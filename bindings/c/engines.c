@@ -1,0 +1,535 @@
+/*
+ * Tests of the engines of the library for C.
+ *
+ *   engines                                    checks each engine on bytes that stand here; the last line is 'N passed, M failed'
+ *   engines show FILE
+ *   engines rewrite FILE
+ *   engines map BASE PAGE RULES FILE..         RULES is a file, or - for no relocation rules
+ *   engines link BASE PAGE ENTRY RULES FILE..
+ *                                              writes the status and the numbers of the outcome in a line, and behind it what the engine
+ *                                              says, for scripts/c-engines to compare with the cases
+ *
+ * Each call is tried with a room that is ample, one that is just as long as is wanted, one that is a byte shorter, and one of no bytes; and
+ * with memory that is refused at the first request, at the second, and so on. With OVER_MALLOC the memory is that of memory.c, of which
+ * nothing is refused.
+ */
+#define _DEFAULT_SOURCE
+#include "elfmap.h"
+#include <inttypes.h>
+#include <stdio.h>
+#include <stdlib.h>
+#include <string.h>
+#include <sys/mman.h>
+
+static int passed, failed;
+
+static bool check(bool holds, const char *what) {
+    if (holds) {
+        passed++;
+    } else {
+        failed++;
+        fprintf(stderr, "engines: %s\n", what);
+    }
+    return holds;
+}
+
+static void stop(const char *why) {
+    perror(why);
+    exit(2);
+}
+
+/* ---- Memory that is counted, and refused when the test says so. */
+
+static long held; /* how many blocks are held */
+
+#ifndef OVER_MALLOC
+static unsigned long requests; /* how many blocks were asked for */
+static unsigned long refused;  /* the number of the request that is refused, from 1; 0 for none */
+
+static struct elfmap_block block_at(void *start) {
+    struct elfmap_block block = {start != NULL, start != NULL ? start : &requests};
+    return block;
+}
+
+struct elfmap_block elfmap_alloc(size_t size, size_t align) {
+    check(align != 0 && 16 % align == 0, "an alignment divides 16");
+    if (++requests == refused)
+        return block_at(NULL);
+    void *start = malloc(size != 0 ? size : align);
+    held += start != NULL;
+    return block_at(start);
+}
+
+struct elfmap_block elfmap_realloc(void *start, size_t kept, size_t size, size_t align) {
+    check(kept <= size, "what is kept fits");
+    if (++requests == refused)
+        return block_at(NULL);
+    return block_at(realloc(start, size != 0 ? size : align));
+}
+
+void elfmap_dealloc(void *start) {
+    held--;
+    free(start);
+}
+#endif
+
+/* ---- A call, and what it answers. */
+
+enum engine { SHOW, REWRITE, MAP, LINK };
+
+struct call {
+    enum engine engine;
+    const uint8_t *bytes;
+    size_t len;
+    const struct elfmap_extent *files;
+    size_t count;
+    struct elfmap_options options;
+    const uint8_t *entry;
+    size_t entry_len;
+    const uint8_t *rules;
+    size_t rules_len;
+};
+
+struct answer {
+    uint32_t status;
+    struct elfmap_outcome outcome;
+    uint8_t *text;
+};
+
+static uint32_t called(const struct call *it, uint8_t *room, size_t size, struct elfmap_outcome *outcome) {
+    switch (it->engine) {
+    case SHOW:
+        return elfmap_show(it->bytes, it->len, room, size, outcome);
+    case REWRITE:
+        return elfmap_rewrite(it->bytes, it->len, room, size, outcome);
+    case MAP:
+        return elfmap_map(it->bytes, it->len, it->files, it->count, &it->options, it->rules, it->rules_len, room, size, outcome);
+    default:
+        return elfmap_link(it->bytes, it->len, it->files, it->count, &it->options, it->entry, it->entry_len, it->rules, it->rules_len,
+                           room, size, outcome);
+    }
+}
+
+static bool is_outcome(struct elfmap_outcome a, struct elfmap_outcome b) {
+    return a.length == b.length && a.at == b.at && a.file == b.file && a.index == b.index && a.rule == b.rule;
+}
+
+static bool is_length_alone(struct elfmap_outcome outcome, uint64_t length) {
+    struct elfmap_outcome alone = {length, 0, 0, 0, 0};
+    return is_outcome(outcome, alone);
+}
+
+static bool says_something(uint32_t status) {
+    return status <= ELFMAP_TOO_LONG;
+}
+
+enum { UNTOUCHED = 0xa5, BEHIND = 16 };
+
+static bool is_untouched(const uint8_t *room, size_t size) {
+    for (size_t k = 0; k < size; k++)
+        if (room[k] != UNTOUCHED)
+            return false;
+    return true;
+}
+
+/* A call with a room of just this size, all of whose bytes were the same: they stay in `room`. */
+static struct answer call_in(const struct call *it, size_t size) {
+    struct answer answer;
+    memset(&answer.outcome, 0x5a, sizeof answer.outcome);
+    answer.text = malloc(size != 0 ? size : 1);
+    if (!answer.text)
+        stop("malloc");
+    memset(answer.text, UNTOUCHED, size != 0 ? size : 1);
+    answer.status = called(it, answer.text, size, &answer.outcome);
+    check(held == 0, "all memory is given back");
+    return answer;
+}
+
+/* A room of fewer bytes than are wanted tells how many these are, and stays as it was. */
+static void check_short(const struct call *it, size_t size, uint64_t wanted) {
+    struct answer answer = call_in(it, size);
+    check(answer.status == ELFMAP_SMALL_ROOM, "a room that is too small is told");
+    check(is_length_alone(answer.outcome, wanted), "with how long it has to be");
+    check(is_untouched(answer.text, size), "and is as it was");
+    free(answer.text);
+}
+
+static bool is_answer(struct answer a, struct answer b) {
+    return a.status == b.status && is_outcome(a.outcome, b.outcome) && memcmp(a.text, b.text, a.outcome.length) == 0;
+}
+
+#ifndef OVER_MALLOC
+/*
+ * Each refusal of memory is told, with the room as it was, or the answer is the one that is wanted: what sorts does without memory that it
+ * only asks for to be faster. The first one is told.
+ */
+static void check_refusals(const struct call *it, struct answer wanted, size_t size) {
+    bool is_done = false;
+    for (unsigned long k = 1; !is_done && failed < 100; k++) {
+        refused = k;
+        requests = 0;
+        struct answer answer = call_in(it, size);
+        refused = 0;
+        is_done = requests < k;
+        if (answer.status == ELFMAP_NO_MEMORY) {
+            check(!is_done && is_length_alone(answer.outcome, 0), "a refusal of memory is told");
+            check(is_untouched(answer.text, size), "and the room is as it was");
+        } else {
+            check(is_done || k > 1, "the first refusal is told");
+            check(is_answer(answer, wanted), "what is done without that memory is the same");
+        }
+        free(answer.text);
+    }
+}
+#endif
+
+/* The answer of a call, after checks with rooms of several sizes and with refusals of memory. */
+static struct answer answer_of(const struct call *it) {
+    struct answer first = call_in(it, 0);
+    uint64_t length = first.status == ELFMAP_SMALL_ROOM ? first.outcome.length : 0;
+    if (first.status == ELFMAP_SMALL_ROOM)
+        check(length > 0 && is_length_alone(first.outcome, length), "a room of no bytes is too small for some");
+    else
+        check(first.outcome.length == 0, "an engine that says nothing wants no room");
+    free(first.text);
+    struct answer answer = call_in(it, length + BEHIND);
+    check(answer.outcome.length == length, "the length is the same in any room");
+    check(is_untouched(answer.text + length, BEHIND), "behind what is said the room is as it was");
+    check(answer.status != ELFMAP_SMALL_ROOM && answer.status != ELFMAP_NO_MEMORY, "a room that is long enough suffices");
+    check(says_something(answer.status) || length == 0, "without an answer nothing is said");
+    struct answer exact = call_in(it, length);
+    check(is_answer(exact, answer), "a room that is just as long suffices, and has the same");
+    free(exact.text);
+    if (length > 0) {
+        check_short(it, length - 1, length);
+        check_short(it, length / 2, length);
+    }
+#ifndef OVER_MALLOC
+    check_refusals(it, answer, length);
+#endif
+    return answer;
+}
+
+/* ---- Made files, least significant byte first. */
+
+enum { HEADER_SIZE = 64, SECTION_SIZE = 64, SYMBOL_SIZE = 24, ET_REL = 1, ET_EXEC = 2 };
+
+static void put(uint8_t *at, int width, uint64_t value) {
+    for (int i = 0; i < width; i++)
+        at[i] = (uint8_t) (value >> (8 * i));
+}
+
+static void make_header(uint8_t *bytes, int type, uint64_t e_shoff, uint64_t sections, uint64_t name_table) {
+    const uint8_t ident[] = {0x7f, 'E', 'L', 'F', 2, 1, 1};
+    memset(bytes, 0, HEADER_SIZE);
+    memcpy(bytes, ident, sizeof ident);
+    put(bytes + 16, 2, (uint64_t) type);
+    put(bytes + 18, 2, 62);
+    put(bytes + 20, 4, 1);
+    put(bytes + 40, 8, e_shoff);
+    put(bytes + 52, 2, HEADER_SIZE);
+    put(bytes + 58, 2, e_shoff ? SECTION_SIZE : 0);
+    put(bytes + 60, 2, sections);
+    put(bytes + 62, 2, name_table);
+}
+
+static void make_section(uint8_t *at, uint64_t name, uint64_t type, uint64_t flags, uint64_t offset, uint64_t size) {
+    memset(at, 0, SECTION_SIZE);
+    put(at, 4, name);
+    put(at + 4, 4, type);
+    put(at + 8, 8, flags);
+    put(at + 24, 8, offset);
+    put(at + 32, 8, size);
+    put(at + 48, 8, 1);
+}
+
+/* An object of eight bytes `.text` at 64, and the symbol `start` at its fourth byte. */
+static const char strings[] = "\0start";
+static const char names[] = "\0.text\0.symtab\0.strtab\0.shstrtab";
+enum {
+    TEXT_AT = HEADER_SIZE,
+    SYMBOLS_AT = TEXT_AT + 8,
+    STRINGS_AT = SYMBOLS_AT + 2 * SYMBOL_SIZE,
+    NAMES_AT = STRINGS_AT + sizeof strings,
+    TABLE_AT = NAMES_AT + sizeof names + (8 - (NAMES_AT + sizeof names) % 8) % 8,
+    OBJECT_SIZE = TABLE_AT + 5 * SECTION_SIZE
+};
+
+static void make_object(uint8_t *bytes) {
+    memset(bytes, 0, OBJECT_SIZE);
+    make_header(bytes, ET_REL, TABLE_AT, 5, 4);
+    memset(bytes + TEXT_AT, 0xcc, 8);
+    uint8_t *symbol = bytes + SYMBOLS_AT + SYMBOL_SIZE;
+    put(symbol, 4, 1);
+    symbol[4] = 0x12; /* STB_GLOBAL, STT_FUNC */
+    put(symbol + 6, 2, 1);
+    put(symbol + 8, 8, 4);
+    memcpy(bytes + STRINGS_AT, strings, sizeof strings);
+    memcpy(bytes + NAMES_AT, names, sizeof names);
+    uint8_t *table = bytes + TABLE_AT;
+    make_section(table + SECTION_SIZE, 1, 1, 6, TEXT_AT, 8);
+    make_section(table + 2 * SECTION_SIZE, 7, 2, 0, SYMBOLS_AT, 2 * SYMBOL_SIZE);
+    put(table + 2 * SECTION_SIZE + 40, 4, 3);
+    put(table + 2 * SECTION_SIZE + 44, 4, 1);
+    put(table + 2 * SECTION_SIZE + 48, 8, 8);
+    put(table + 2 * SECTION_SIZE + 56, 8, SYMBOL_SIZE);
+    make_section(table + 3 * SECTION_SIZE, 15, 3, 0, STRINGS_AT, sizeof strings);
+    make_section(table + 4 * SECTION_SIZE, 23, 3, 0, NAMES_AT, sizeof names);
+}
+
+/* ---- Checks. */
+
+static void check_answer(const struct call *it, uint32_t status, struct elfmap_outcome numbers, const char *text, const char *what) {
+    struct answer answer = answer_of(it);
+    numbers.length = strlen(text);
+    bool holds = answer.status == status && is_outcome(answer.outcome, numbers) && memcmp(answer.text, text, strlen(text)) == 0;
+    if (!check(holds, what))
+        fprintf(stderr, "engines: %u: at %" PRIu64 " file %" PRIu64 " index %" PRIu64 " rule %u: %.*s\n", (unsigned) answer.status,
+                answer.outcome.at, answer.outcome.file, answer.outcome.index, (unsigned) answer.outcome.rule, (int) answer.outcome.length,
+                (const char *) answer.text);
+    free(answer.text);
+}
+
+static struct call a_call(enum engine engine, const uint8_t *bytes, size_t len) {
+    static const uint8_t nothing[1] = {0};
+    struct call call = {engine, bytes, len, NULL, 0, {0x1000, 0x1000, 0}, nothing, 0, nothing, 0};
+    return call;
+}
+
+static const struct elfmap_outcome no_numbers = {0, 0, 0, 0, 0};
+
+static struct elfmap_outcome numbers_of(uint64_t file, unsigned rule, uint64_t index, uint64_t at) {
+    struct elfmap_outcome numbers = {0, at, file, index, (uint16_t) rule};
+    return numbers;
+}
+
+static void check_show(void) {
+    uint8_t bytes[HEADER_SIZE];
+    make_header(bytes, ET_REL, 0, 0, 0);
+    struct call call = a_call(SHOW, bytes, HEADER_SIZE);
+    check_answer(&call, ELFMAP_DONE, no_numbers, "file little 1 62 0x0 0x0\npart 0x0 0x40 header\n", "a header is shown");
+    call.len = 63;
+    check_answer(&call, ELFMAP_REFUSED, numbers_of(0, 2, 0, 63), "refused 2 63\n", "63 bytes are refused");
+    call.len = 0;
+    check_answer(&call, ELFMAP_REFUSED, numbers_of(0, 2, 0, 0), "refused 2 0\n", "no bytes are refused");
+    call.len = HEADER_SIZE;
+    bytes[3] = 'G';
+    check_answer(&call, ELFMAP_REFUSED, numbers_of(0, 3, 0, 3), "refused 3 3\n", "a wrong magic number is refused");
+}
+
+static void check_rewrite(void) {
+    uint8_t bytes[OBJECT_SIZE];
+    make_object(bytes);
+    struct call call = a_call(REWRITE, bytes, OBJECT_SIZE);
+    struct answer answer = answer_of(&call);
+    check(answer.status == ELFMAP_DONE && answer.outcome.length >= HEADER_SIZE && memcmp(answer.text, "\177ELF", 4) == 0,
+          "an object is rewritten");
+    struct call second = a_call(REWRITE, answer.text, answer.outcome.length);
+    struct answer again = answer_of(&second);
+    check(again.status == ELFMAP_DONE && again.outcome.length == answer.outcome.length
+              && memcmp(again.text, answer.text, answer.outcome.length) == 0, "and rewritten again it is the same");
+    free(again.text);
+    free(answer.text);
+    put(bytes + 16, 2, ET_EXEC);
+    check_answer(&call, ELFMAP_REFUSED, numbers_of(0, 70, 0, 16), "", "a program is no object");
+    bytes[4] = 1;
+    check_answer(&call, ELFMAP_REFUSED, numbers_of(0, 4, 0, 4), "", "nor is a file that is no image");
+}
+
+/* Two files in one row of bytes: an object, and behind it a byte that is no file. */
+enum { PAIR_SIZE = OBJECT_SIZE + 1 };
+static const struct elfmap_extent object_place = {0, OBJECT_SIZE};
+
+static const char map_lines[] = "output 0x1000 0x8 bits 0x6 .text\nmember 0x1000 0x8 0 0\nname 0x1004 strong start\n";
+static const char bytes_lines[] = "output 0x1000 0x8 bits 0x6 .text\nmember 0x1000 0x8 0 0\nname 0x1004 strong start\nbytes 0 0 cccccccccccccccc\n";
+
+static void check_map(void) {
+    uint8_t bytes[PAIR_SIZE];
+    bytes[OBJECT_SIZE] = 0;
+    make_object(bytes);
+    struct call call = a_call(MAP, bytes, PAIR_SIZE);
+    struct elfmap_extent files[3] = {object_place, {OBJECT_SIZE, 1}, {0, 0}};
+    call.files = files;
+    call.count = 1;
+    check_answer(&call, ELFMAP_DONE, no_numbers, map_lines, "an object is mapped");
+    call.rules = (const uint8_t *) "no rule";
+    call.rules_len = 7;
+    check_answer(&call, ELFMAP_DONE, no_numbers, map_lines, "rules that are not used are not looked at");
+    call.options.uses_rules = 1;
+    check_answer(&call, ELFMAP_BAD_RULES, numbers_of(0, 0, 0, 1), "", "the first line is bad");
+    call.rules = (const uint8_t *) "2 pc 4 signed\n1 abs 8 wrap\n3 abs";
+    call.rules_len = 32;
+    check_answer(&call, ELFMAP_BAD_RULES, numbers_of(0, 0, 0, 3), "", "the third line is bad");
+    call.rules_len = 27;
+    check_answer(&call, ELFMAP_DONE, no_numbers, bytes_lines, "with rules the relocated bytes are told");
+    call.rules_len = 0;
+    call.options.uses_rules = UINT32_MAX;
+    check_answer(&call, ELFMAP_DONE, no_numbers, bytes_lines, "also with rules of no lines");
+    call.options.uses_rules = 0;
+    call.count = 3;
+    check_answer(&call, ELFMAP_REFUSED, numbers_of(1, 2, 0, 1), "file 1 refused 2 1\n", "the second file is refused");
+    files[1] = object_place;
+    check_answer(&call, ELFMAP_REFUSED, numbers_of(2, 2, 0, 0), "file 2 refused 2 0\n", "then the third one is");
+    call.count = 2;
+    check_answer(&call, ELFMAP_NOT_LINKED, numbers_of(1, 8, 0, 0), "refused 8 1 0 0\n", "a name has two definitions");
+    call.options.base = 0x1001;
+    check_answer(&call, ELFMAP_NOT_LINKED, numbers_of(0, 1, 0, 0), "refused 1 0 0 0\n", "the base is no multiple of the page");
+    call.count = 0;
+    call.options.base = 0x1000;
+    check_answer(&call, ELFMAP_DONE, no_numbers, "", "no files have no lines");
+}
+
+/* An extent that does not lie in the bytes is told before anything is said of a file. */
+static void check_extents(void) {
+    uint8_t bytes[PAIR_SIZE];
+    bytes[OBJECT_SIZE] = 0;
+    make_object(bytes);
+    const struct elfmap_extent outside[] = {{0, PAIR_SIZE + 1},      {PAIR_SIZE, 1},          {PAIR_SIZE + 1, 0}, {UINT64_MAX, 1},
+                                            {UINT64_MAX, UINT64_MAX}, {1, UINT64_MAX},         {UINT64_MAX, 0},    {2, PAIR_SIZE - 1}};
+    for (size_t k = 0; k < sizeof outside / sizeof *outside; k++) {
+        for (int engine = MAP; engine <= LINK; engine++) {
+            struct elfmap_extent files[3] = {{OBJECT_SIZE, 1}, outside[k], {UINT64_MAX, 7}};
+            struct call call = a_call((enum engine) engine, bytes, PAIR_SIZE);
+            call.files = files;
+            call.count = 3;
+            check_answer(&call, ELFMAP_BAD_FILES, numbers_of(1, 0, 0, 0), "", "the second extent passes the end");
+            call.files = files + 1;
+            check_answer(&call, ELFMAP_BAD_FILES, no_numbers, "", "the first one does");
+            call.options.uses_rules = 1;
+            call.rules = (const uint8_t *) "\n";
+            call.rules_len = 1;
+            check_answer(&call, ELFMAP_BAD_RULES, numbers_of(0, 0, 0, 1), "", "bad rules are told first");
+        }
+    }
+    struct elfmap_extent at_end = {PAIR_SIZE, 0};
+    struct call call = a_call(MAP, bytes, PAIR_SIZE);
+    call.files = &at_end;
+    call.count = 1;
+    check_answer(&call, ELFMAP_REFUSED, numbers_of(0, 2, 0, 0), "file 0 refused 2 0\n", "no bytes at the end are a file of none");
+}
+
+static void check_link(void) {
+    uint8_t bytes[PAIR_SIZE];
+    bytes[OBJECT_SIZE] = 0;
+    make_object(bytes);
+    struct elfmap_extent files[2] = {object_place, {OBJECT_SIZE, 1}};
+    struct call call = a_call(LINK, bytes, PAIR_SIZE);
+    call.files = files;
+    call.count = 1;
+    call.entry = (const uint8_t *) "started";
+    call.entry_len = 5;
+    struct answer answer = answer_of(&call);
+    struct elfmap_header header;
+    struct elfmap_fault fault;
+    check(answer.status == ELFMAP_DONE && elfmap_verdict(answer.text, answer.outcome.length, &fault), "an object is linked");
+    check(elfmap_header(answer.text, answer.outcome.length, &header) && header.e_type == ET_EXEC && header.e_entry == 0x1004
+              && header.e_phnum == 1, "with its entry and a segment");
+    free(answer.text);
+    call.entry_len = 7;
+    check_answer(&call, ELFMAP_NOT_LINKED, numbers_of(0, 10, 0, 0), "", "there is no such entry");
+    call.entry_len = 5;
+    call.options.base = 0;
+    call.options.page = UINT64_C(1) << 31;
+    check_answer(&call, ELFMAP_TOO_LONG, no_numbers, "", "a segment at 2^31 is too far");
+    call.count = 2;
+    check_answer(&call, ELFMAP_REFUSED, numbers_of(1, 2, 0, 1), "", "the second file is refused");
+    call.rules = (const uint8_t *) "2 pc 4 signed";
+    call.rules_len = 13;
+    check_answer(&call, ELFMAP_BAD_RULES, numbers_of(0, 0, 0, 1), "", "a line without its end is bad");
+}
+
+/* Bytes that are one too many for a file: none of them is looked at. */
+static void check_too_many(void) {
+    const size_t len = (UINT64_C(1) << 30) + 1;
+    uint8_t *bytes = mmap(NULL, len, PROT_NONE, MAP_PRIVATE | MAP_ANONYMOUS | MAP_NORESERVE, -1, 0);
+    if (bytes == MAP_FAILED)
+        stop("mmap");
+    const struct elfmap_extent whole = {0, len};
+    const struct elfmap_outcome numbers = numbers_of(0, 1, 0, UINT64_C(1) << 30);
+    struct call call = a_call(SHOW, bytes, len);
+    call.files = &whole;
+    call.count = 1;
+    check_answer(&call, ELFMAP_REFUSED, numbers, "refused 1 1073741824\n", "too long a file is refused by show");
+    call.engine = REWRITE;
+    check_answer(&call, ELFMAP_REFUSED, numbers, "", "by rewrite");
+    call.engine = MAP;
+    check_answer(&call, ELFMAP_REFUSED, numbers, "file 0 refused 1 1073741824\n", "by map");
+    call.engine = LINK;
+    check_answer(&call, ELFMAP_REFUSED, numbers, "", "and by link");
+    munmap(bytes, len);
+}
+
+/* ---- What an engine answers for files. */
+
+/* Appends the bytes of a file to those that are there. */
+static void read_behind(const char *path, uint8_t **bytes, size_t *len) {
+    FILE *file = fopen(path, "rb");
+    if (!file || fseek(file, 0, SEEK_END) != 0)
+        stop(path);
+    long size = ftell(file);
+    *bytes = size < 0 ? NULL : realloc(*bytes, *len + (size_t) size + 1);
+    rewind(file);
+    if (!*bytes || fread(*bytes + *len, 1, (size_t) size, file) != (size_t) size)
+        stop(path);
+    fclose(file);
+    *len += (size_t) size;
+}
+
+/* A number in decimal, or in hexadecimal behind 0x. */
+static uint64_t number_of(const char *word) {
+    return strtoull(word, NULL, strncmp(word, "0x", 2) == 0 ? 16 : 10);
+}
+
+static int tell(int count, char **words) {
+    static const char *const engines[] = {"show", "rewrite", "map", "link"};
+    uint8_t *bytes = NULL, *rules = malloc(1);
+    struct elfmap_extent *files = malloc((size_t) count * sizeof *files);
+    if (!files || !rules)
+        stop("malloc");
+    struct call call = a_call(SHOW, NULL, 0);
+    while (strcmp(engines[call.engine], words[1]) != 0)
+        if (++call.engine > LINK)
+            stop(words[1]);
+    int first = call.engine == LINK ? 6 : call.engine == MAP ? 5 : 2;
+    if (call.engine >= MAP) {
+        const char *path = words[first - 1];
+        call.options.base = number_of(words[2]);
+        call.options.page = number_of(words[3]);
+        call.options.uses_rules = strcmp(path, "-") != 0;
+        if (call.options.uses_rules)
+            read_behind(path, &rules, &call.rules_len);
+        call.rules = rules;
+        call.entry = (const uint8_t *) words[4];
+        call.entry_len = call.engine == LINK ? strlen(words[4]) : 0;
+    }
+    for (int k = first; k < count; k++) {
+        files[call.count].start = call.len;
+        read_behind(words[k], &bytes, &call.len);
+        files[call.count].len = call.len - files[call.count].start;
+        call.count++;
+    }
+    call.bytes = bytes;
+    call.files = files;
+    struct answer answer = answer_of(&call);
+    printf("%u %" PRIu64 " %" PRIu64 " %" PRIu64 " %" PRIu64 " %u\n", (unsigned) answer.status, answer.outcome.length, answer.outcome.at,
+           answer.outcome.file, answer.outcome.index, (unsigned) answer.outcome.rule);
+    fwrite(answer.text, 1, answer.outcome.length, stdout);
+    free(answer.text);
+    free(bytes);
+    free(files);
+    free(rules);
+    return failed == 0 ? 0 : 1;
+}
+
+int main(int count, char **words) {
+    if (count > 2)
+        return tell(count, words);
+    check_show();
+    check_rewrite();
+    check_map();
+    check_extents();
+    check_link();
+    check_too_many();
+    printf("%d passed, %d failed\n", passed, failed);
+    return failed == 0 ? 0 : 1;
+}
