@@ -1,5 +1,5 @@
-//! The entries of symbol tables, relocation sections and dynamic arrays, and their strings (gABI chapter 4, Symbol Table, Relocation, String
-//! Table; chapter 5, Dynamic Section).
+//! The entries of symbol tables, relocation sections and dynamic arrays, and their strings (gABI chapter 4, Symbol Table, Relocation,
+//! String Table; chapter 5, Dynamic Section).
 ghost use Rattle.std.specs.Prelude.{◌≡◌, ◌≢◌, ℕ, ◌*◌, ◌+◌, ◌^◌, ◌<◌, ◌≤◌, ◌↔◌, IfSome, IsSome, IsTrue, Some, SomeIff, get_or, length};
 ghost use Rattle.std.specs.Bool.{OnFalse, OnTrue};
 ghost use Rattle.elf_field.specs.Abi.{SHN_XINDEX as shn_xindex, WORD_SIZE as word_size};
@@ -94,7 +94,8 @@ fn symbol_of(table: &Table, bytes: &[u8], index: u64) -> Option<Symbol>
 /// word that is not there.
 fn section_index_of(order: Order, words: &[u8], st_shndx: u16, j: u64) -> Option<u32>
     requires { j < 2 ^ 60 }
-    ensures { SomeIff result (st_shndx ≡ shn_xindex → word_size * j + word_size ≤ length words.now) (section_index order words.now st_shndx j) }
+    ensures { SomeIff result (st_shndx ≡ shn_xindex → word_size * j + word_size ≤ length words.now)
+        (section_index order words.now st_shndx j) }
 {
     if st_shndx != SHN_XINDEX {
         return Some(st_shndx as u32);

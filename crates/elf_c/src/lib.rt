@@ -1,8 +1,9 @@
-//! elfmap for C: the verdict on a file and accessors of its records, over bytes in memory. `include/elfmap.h` declares each export and
-//! says what a caller keeps.
+//! elfmap for C: the verdict on a file, and accessors of its records and of the entries of its tables, over bytes in memory.
+//! `include/elfmap.h` declares each export and says what a caller keeps.
 //!
-//! Nothing here takes memory or keeps a state between two calls. What an accessor needs of a file is a struct of numbers ([`File`]), which
-//! the caller holds: it may have any numbers, so each accessor tests what it reads against the length of the bytes.
+//! Nothing here takes memory or keeps a state between two calls. What an accessor needs of a file or of a table is a struct of numbers
+//! ([`File`], [`Table`]), which the caller holds: it may have any numbers, so each accessor tests what it reads against the length of the
+//! bytes.
 #![tactic(auto)]
 
 mod entries;

@@ -8,7 +8,7 @@ ghost use Rattle.elf_c.specs.Files.{IsFileOf, name_of_section};
 ghost use Rattle.elf_c.specs.Tables.{slot_bytes};
 
 use crate::places::{NOWHERE, bytes_of, place_of_content, section_of};
-use crate::shapes::File;
+use crate::shapes::{File, put};
 use elf_c_room::Slot;
 use elf_field::abi::SHT_NULL;
 use elf_image_type::strings::string_at;
@@ -22,13 +22,7 @@ pub extern "C" fn elfmap_name(file: &File, bytes: &[u8], index: u64, name: &mut 
     ensures inside { OnTrue result (name.new.start + name.new.len ≤ length bytes.now) }
     ensures unchanged { OnFalse result (name.new ≡ name.old) }
 {
-    match name_of(file, bytes, index) {
-        Some(place) => {
-            *name = place;
-            true
-        }
-        None => false,
-    }
+    put(name_of(file, bytes, index), name)
 }
 
 /// Where the name of section `index` stands: it is empty for a section header of type `SHT_NULL`, and where there is no section name

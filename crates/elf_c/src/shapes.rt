@@ -1,5 +1,6 @@
 //! The structs that C shares, by the names that the gABI gives their fields.
-ghost use Rattle.std.specs.Prelude.{◌≡◌};
+ghost use Rattle.std.specs.Prelude.{◌≡◌, ◌↔◌, IfSome, IsSome, IsTrue};
+ghost use Rattle.std.specs.Bool.{OnFalse};
 ghost use Rattle.elf_c.specs.Entries.{dynamic_shape, relocation_shape};
 ghost use Rattle.elf_c.specs.Shapes.{header_shape, section_shape, segment_shape};
 
@@ -242,4 +243,19 @@ pub struct Note {
     /// Where the next note begins, in bytes from the beginning of the section.
     pub next: u64,
     pub n_type: u32,
+}
+
+/// Puts what was found into the struct that a caller has given; false where nothing was found, and the struct stays as it was.
+pub(crate) fn put<T: Copy>(found: Option<T>, given: &mut T) -> bool
+    ensures there { IsTrue result ↔ IsSome found }
+    ensures value { IfSome found (λ x. given.new ≡ x) }
+    ensures unchanged { OnFalse result (given.new ≡ given.old) }
+{
+    match found {
+        Some(x) => {
+            *given = x;
+            true
+        }
+        None => false,
+    }
 }

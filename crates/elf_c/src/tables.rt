@@ -8,7 +8,7 @@ ghost use Rattle.elf_c.specs.Tables.{HoldsTable, IsLinkThere, IsTableOfKind, ind
 
 use crate::lengths::length_of;
 use crate::places::{NOWHERE, bytes_of, order_of, place_of_content, section_of};
-use crate::shapes::{File, Table};
+use crate::shapes::{File, Table, put};
 use elf_c_room::Slot;
 use elf_field::abi::SHT_SYMTAB_SHNDX;
 use elf_table_base::TableKind;
@@ -21,13 +21,7 @@ pub extern "C" fn elfmap_table(file: &File, bytes: &[u8], index: u64, table: &mu
     ensures value { IsFileOf file.now bytes.now → OnTrue result (table.new ≡ table_in bytes.now index) }
     ensures unchanged { OnFalse result (table.new ≡ table.old) }
 {
-    match table_of(file, bytes, index) {
-        Some(found) => {
-            *table = found;
-            true
-        }
-        None => false,
-    }
+    put(table_of(file, bytes, index), table)
 }
 
 /// The numbers of the table in section `index`.
