@@ -305,11 +305,10 @@ bool elfmap_find(const struct elfmap_table *table, const uint8_t *bytes, size_t 
  * What an engine says, a text or a file, is put into a room of `size` bytes that the caller lends. Each call answers a status and fills in
  * `outcome`, whatever the status: a number of it that tells nothing is 0.
  *
- * - Where the status is ELFMAP_DONE, ELFMAP_REFUSED, ELFMAP_NOT_LINKED or ELFMAP_TOO_LONG, the first `outcome->length` bytes of the room are
- *   all that the engine says, and behind them it is as it was.
- * - Where it is ELFMAP_SMALL_ROOM, the engine says more than the room can hold, `outcome->length` is how long the room has to be, and it is
- *   as it was. A call with a room of 0 bytes, whose pointer is not null, asks just that; a second call with that room and the same
- *   arguments finds it large enough.
+ * - Where the status is ELFMAP_DONE, ELFMAP_REFUSED, ELFMAP_NOT_LINKED or ELFMAP_TOO_LONG, the first `outcome->length` bytes of the room
+ *   are all that the engine says, and behind them it is as it was.
+ * - Where it is ELFMAP_SMALL_ROOM, the engine says more than the room can hold: `outcome->length` is how long the room has to be, and it is
+ *   as it was. A call with a room of 0 bytes, whose pointer is not null, asks just that.
  * - Where it is any other, the engine says nothing, and the room is as it was.
  *
  *     struct elfmap_outcome outcome;
@@ -321,16 +320,17 @@ bool elfmap_find(const struct elfmap_table *table, const uint8_t *bytes, size_t 
  *         free(text);
  *     }
  *
- * The engines take memory, by the three functions that stand at the end; a program that calls no engine needs none of them. A call gives all
- * of it back before it returns, whatever the status: it holds a file's records and tables, what it says, and for `map` and `link` the
- * objects, their link map, and copies of sections with bits, but no copy of the files. It keeps no state, so that calls may run at the same time in several
- * threads if these three functions may.
+ * The engines take memory, by the three functions that stand at the end; a program that calls no engine needs none of them. A call holds
+ * the records and tables of a file, or of files the objects, their link map and copies of sections with bits, and what it says, but no
+ * copy of the files. It gives all of that back before it returns, whatever the status. It keeps no state, so that calls may run at the
+ * same time in several threads if these three functions may. A call that is refused memory may ask again before it ends with
+ * ELFMAP_NO_MEMORY.
  */
 
 enum {
     ELFMAP_DONE = 0,       /* nothing is refused */
-    ELFMAP_REFUSED = 1,    /* file `file` breaks rule `rule`, first at the offset `at`, and each file before it is one that is accepted */
-    ELFMAP_NOT_LINKED = 2, /* the files don't link: rule `rule` of the link stands first at the entry `at` of the index `index` of file `file` */
+    ELFMAP_REFUSED = 1,    /* file `file` breaks rule `rule`, lowest at the offset `at`, and no file before it breaks any */
+    ELFMAP_NOT_LINKED = 2, /* the files don't link: rule `rule` of the link stands, first at entry `at` of `index` of file `file` */
     ELFMAP_TOO_LONG = 3,   /* the file to be written would be longer than 2^30 bytes, or have 0xffff segments or more */
     ELFMAP_SMALL_ROOM = 4, /* the room is too small: it has to be `length` bytes long */
     ELFMAP_NO_MEMORY = 5,  /* memory was refused */
@@ -343,7 +343,7 @@ struct elfmap_outcome {
     uint64_t length; /* how long all is that the engine says, in bytes */
     uint64_t at;     /* an offset, an entry or a line */
     uint64_t file;   /* which file */
-    uint64_t index;  /* which section or symbol of the file; docs/RULES.md says for each rule of the link what is counted */
+    uint64_t index;  /* the position of a section or symbol in the file, as docs/RULES.md says for each rule of the link */
     uint16_t rule;   /* the number of the rule: 1 to 33 of an image, from 40 on of an object, or 1 to 16 of a link */
 };
 
@@ -373,17 +373,18 @@ uint32_t elfmap_rewrite(const uint8_t *bytes, size_t len, uint8_t *room, size_t 
  * the room; ELFMAP_NOT_LINKED with the line `refused RULE FILE INDEX ENTRY`; or, with nothing said, ELFMAP_BAD_RULES, which is looked for
  * first, or ELFMAP_BAD_FILES.
  */
-uint32_t elfmap_map(const uint8_t *bytes, size_t len, const struct elfmap_extent *files, size_t count, const struct elfmap_options *options,
-                    const uint8_t *rules, size_t rules_len, uint8_t *room, size_t size, struct elfmap_outcome *outcome);
+uint32_t elfmap_map(const uint8_t *bytes, size_t len, const struct elfmap_extent *files, size_t count,
+                    const struct elfmap_options *options, const uint8_t *rules, size_t rules_len, uint8_t *room, size_t size,
+                    struct elfmap_outcome *outcome);
 
 /*
  * The executable of `count` files, as `elfmap link` writes it, by these relocation rules. It begins at the symbol whose name has the
  * `entry_len` bytes at `entry`. It is ELFMAP_DONE; or, with nothing said, ELFMAP_BAD_RULES, which is looked for first, ELFMAP_BAD_FILES,
  * ELFMAP_REFUSED, ELFMAP_NOT_LINKED or ELFMAP_TOO_LONG.
  */
-uint32_t elfmap_link(const uint8_t *bytes, size_t len, const struct elfmap_extent *files, size_t count, const struct elfmap_options *options,
-                     const uint8_t *entry, size_t entry_len, const uint8_t *rules, size_t rules_len, uint8_t *room, size_t size,
-                     struct elfmap_outcome *outcome);
+uint32_t elfmap_link(const uint8_t *bytes, size_t len, const struct elfmap_extent *files, size_t count,
+                     const struct elfmap_options *options, const uint8_t *entry, size_t entry_len, const uint8_t *rules, size_t rules_len,
+                     uint8_t *room, size_t size, struct elfmap_outcome *outcome);
 
 /*
  * ---- The memory of the engines. The library has these three functions over malloc, realloc and free. A program that defines all three by

@@ -160,8 +160,7 @@ static bool is_answer(struct answer a, struct answer b) {
 
 #ifndef OVER_MALLOC
 /*
- * Each refusal of memory is told, with the room as it was, or the answer is the one that is wanted: what sorts does without memory that it
- * only asks for to be faster. The first one is told.
+ * Each refusal of memory is told, with the room as it was; or the answer is the one that is wanted, where a call asks again.
  */
 static void check_refusals(const struct call *it, struct answer wanted, size_t size) {
     bool is_done = false;
@@ -175,8 +174,7 @@ static void check_refusals(const struct call *it, struct answer wanted, size_t s
             check(!is_done && is_length_alone(answer.outcome, 0), "a refusal of memory is told");
             check(is_untouched(answer.text, size), "and the room is as it was");
         } else {
-            check(is_done || k > 1, "the first refusal is told");
-            check(is_answer(answer, wanted), "what is done without that memory is the same");
+            check(is_answer(answer, wanted), "or a call that asks again answers the same");
         }
         free(answer.text);
     }
@@ -340,8 +338,8 @@ static void check_rewrite(void) {
 enum { PAIR_SIZE = OBJECT_SIZE + 1 };
 static const struct elfmap_extent object_place = {0, OBJECT_SIZE};
 
-static const char map_lines[] = "output 0x1000 0x8 bits 0x6 .text\nmember 0x1000 0x8 0 0\nname 0x1004 strong start\n";
-static const char bytes_lines[] = "output 0x1000 0x8 bits 0x6 .text\nmember 0x1000 0x8 0 0\nname 0x1004 strong start\nbytes 0 0 cccccccccccccccc\n";
+#define MAP_LINES "output 0x1000 0x8 bits 0x6 .text\nmember 0x1000 0x8 0 0\nname 0x1004 strong start\n"
+#define BYTES_LINES MAP_LINES "bytes 0 0 cccccccccccccccc\n"
 
 static void check_map(void) {
     uint8_t bytes[PAIR_SIZE];
@@ -351,20 +349,20 @@ static void check_map(void) {
     struct elfmap_extent files[3] = {object_place, {OBJECT_SIZE, 1}, {0, 0}};
     call.files = files;
     call.count = 1;
-    check_answer(&call, ELFMAP_DONE, no_numbers, map_lines, "an object is mapped");
+    check_answer(&call, ELFMAP_DONE, no_numbers, MAP_LINES, "an object is mapped");
     call.rules = (const uint8_t *) "no rule";
     call.rules_len = 7;
-    check_answer(&call, ELFMAP_DONE, no_numbers, map_lines, "rules that are not used are not looked at");
+    check_answer(&call, ELFMAP_DONE, no_numbers, MAP_LINES, "rules that are not used are not looked at");
     call.options.uses_rules = 1;
     check_answer(&call, ELFMAP_BAD_RULES, numbers_of(0, 0, 0, 1), "", "the first line is bad");
     call.rules = (const uint8_t *) "2 pc 4 signed\n1 abs 8 wrap\n3 abs";
     call.rules_len = 32;
     check_answer(&call, ELFMAP_BAD_RULES, numbers_of(0, 0, 0, 3), "", "the third line is bad");
     call.rules_len = 27;
-    check_answer(&call, ELFMAP_DONE, no_numbers, bytes_lines, "with rules the relocated bytes are told");
+    check_answer(&call, ELFMAP_DONE, no_numbers, BYTES_LINES, "with rules the relocated bytes are told");
     call.rules_len = 0;
     call.options.uses_rules = UINT32_MAX;
-    check_answer(&call, ELFMAP_DONE, no_numbers, bytes_lines, "also with rules of no lines");
+    check_answer(&call, ELFMAP_DONE, no_numbers, BYTES_LINES, "also with rules of no lines");
     call.options.uses_rules = 0;
     call.count = 3;
     check_answer(&call, ELFMAP_REFUSED, numbers_of(1, 2, 0, 1), "file 1 refused 2 1\n", "the second file is refused");
