@@ -19,7 +19,7 @@ ghost use Rattle.elf_c.specs.Tables.{IsTableOfKind, IsTableOf, slot_bytes};
 
 use crate::names::place_of_string;
 use crate::places::{bytes_of, order_of};
-use crate::shapes::{DynamicEntry, Relocation, Symbol, Table};
+use crate::shapes::{DynamicEntry, Relocation, Symbol, Table, put};
 use crate::tables::is_of_kind;
 use elf_c_room::Slot;
 use elf_field::Order;
@@ -47,13 +47,7 @@ pub extern "C" fn elfmap_symbol(
     ensures inside { OnTrue result (symbol.new.name.start + symbol.new.name.len ≤ length bytes.now) }
     ensures unchanged { OnFalse result (symbol.new ≡ symbol.old) }
 {
-    match symbol_of(table, bytes, index) {
-        Some(found) => {
-            *symbol = found;
-            true
-        }
-        None => false,
-    }
+    put(symbol_of(table, bytes, index), symbol)
 }
 
 /// Symbol `index` of a symbol table; None where it is no symbol table, or has no such entry, or the index table no word for an entry that

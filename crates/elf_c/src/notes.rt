@@ -9,7 +9,7 @@ ghost use Rattle.elf_c.specs.Files.{order_named};
 ghost use Rattle.elf_c.specs.Tables.{IsTableOfKind, IsTableOf, slot_bytes};
 
 use crate::places::{bytes_of, order_of};
-use crate::shapes::{Note, Table};
+use crate::shapes::{Note, Table, put};
 use crate::tables::is_of_kind;
 use elf_c_room::Slot;
 use elf_field::abi::{N_TYPE_AT, NHDR_SIZE};
@@ -28,13 +28,7 @@ pub extern "C" fn elfmap_note(table: &Table, bytes: &[u8], index: u64, note: &mu
     ensures inside { OnTrue result (LiesInFile note.new (length bytes.now)) }
     ensures unchanged { OnFalse result (note.new ≡ note.old) }
 {
-    match note_of_index(table, bytes, index) {
-        Some(found) => {
-            *note = found;
-            true
-        }
-        None => false,
-    }
+    put(note_of_index(table, bytes, index), note)
 }
 
 /// The note at an offset of a note section; false where none begins there that is whole.
@@ -48,13 +42,7 @@ pub extern "C" fn elfmap_note_at(table: &Table, bytes: &[u8], offset: u64, note:
     ensures inside { OnTrue result (LiesInFile note.new (length bytes.now)) }
     ensures unchanged { OnFalse result (note.new ≡ note.old) }
 {
-    match note_of(table, bytes, offset) {
-        Some(found) => {
-            *note = found;
-            true
-        }
-        None => false,
-    }
+    put(note_of(table, bytes, offset), note)
 }
 
 /// Note `index` of a note section.
