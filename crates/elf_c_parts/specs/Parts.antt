@@ -32,10 +32,14 @@ member_of_part part = record { index = part.owner; extent = extent_of_part part 
 abbrev pub AccountsFor : List ℕ → ℕ → List Part → Type 0
 AccountsFor b count parts = Accounts (extents_of_file b) (length b) 0 (map piece_of_part (take count parts))
 
--- the file keeps rules 1 to 32, and wants three parts for each extent and one, which is more than there are
+-- how many parts a room has to have: three for each extent, and one
+abbrev pub parts_wanted : List ℕ → ℕ
+parts_wanted b = 3 * length (extents_of_file b) + 1
+
+-- the file keeps rules 1 to 32, and wants more parts than there are
 pub record IsShortOfParts (b : List ℕ) (count wanted : ℕ) : Type 0 where
   pub kept : KeepsRecordRules b
-  pub wanted_all : wanted ≡ 3 * length (extents_of_file b) + 1
+  pub wanted_all : wanted ≡ parts_wanted b
   pub short : count < wanted
 
 -- why the parts of a file are not told in a room of so many

@@ -1,8 +1,8 @@
 //! What each byte of a file belongs to, by a room for its parts.
-ghost use Rattle.std.specs.Prelude.{◌≡◌, ◌≤◌, ◌*◌, ◌+◌, IfErr, IfOk, None, length};
-ghost use Rattle.elf_image_rules.specs.ImageRules.{IsFault, KeepsRecordRules, extents_of_file};
+ghost use Rattle.std.specs.Prelude.{◌≡◌, ◌≤◌, IfErr, IfOk, None, length};
+ghost use Rattle.elf_image_rules.specs.ImageRules.{IsFault, KeepsRecordRules};
 ghost use Rattle.elf_image_rules.specs.JudgedRecords.{file_of};
-ghost use Rattle.elf_c_parts.specs.Parts.{AccountsFor, IsPartsRefusal};
+ghost use Rattle.elf_c_parts.specs.Parts.{AccountsFor, IsPartsRefusal, parts_wanted};
 
 use crate::accounting::put_account;
 use crate::members::{lowest_double, put_members};
@@ -19,6 +19,7 @@ use elf_image_rules::{JudgedRecords, judge_records};
 /// memory but the room: what it held is lost.
 pub fn parts_in(bytes: &[u8], room: &mut [Part]) -> Result<usize, PartsFault>
     ensures kept { IfOk result (λ count. IsFault bytes.now None) }
+    ensures room { IfOk result (λ count. parts_wanted bytes.now ≤ length room.old) }
     ensures within { IfOk result (λ count. count ≤ length room.new) }
     ensures account { IfOk result (λ count. AccountsFor bytes.now count room.new) }
     ensures fault { IfErr result (IsPartsRefusal bytes.now (length room.old)) }
@@ -41,7 +42,7 @@ pub fn parts_in(bytes: &[u8], room: &mut [Part]) -> Result<usize, PartsFault>
 
 /// How many slots a file wants: three for each extent, and one.
 fn slots_wanted(records: &JudgedRecords) -> u64
-    ensures { result ≡ 3 * length (extents_of_file (file_of records.now)) + 1 }
+    ensures { result ≡ parts_wanted (file_of records.now) }
 {
     3 * (BEFORE_CONTENTS + records.section_count()) + 1
 }
@@ -50,7 +51,7 @@ fn slots_wanted(records: &JudgedRecords) -> u64
 /// hold a byte, which are sorted in the back.
 fn put_parts(records: &JudgedRecords, room: &mut [Part]) -> Result<usize, PartsFault>
     requires kept { KeepsRecordRules (file_of records.now) }
-    requires room { 3 * length (extents_of_file (file_of records.now)) + 1 ≤ length room.old }
+    requires room { parts_wanted (file_of records.now) ≤ length room.old }
     ensures kept { IfOk result (λ count. IsFault (file_of records.now) None) }
     ensures within { IfOk result (λ count. count ≤ length room.new) }
     ensures account { IfOk result (λ count. AccountsFor (file_of records.now) count room.new) }
