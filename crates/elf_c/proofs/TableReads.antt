@@ -19,7 +19,7 @@ use Rattle.elf_table_base.specs.Sections.{Sections, content, count, order, secti
 use Rattle.elf_table_base.specs.TableKind.{kind_of}
 use Rattle.elf_table_symbols.specs.IndexTable.{index_table, index_words}
 use Rattle.elf_c.specs.Files.{order_named}
-use Rattle.elf_c.specs.Tables.{IsOfKind, IsTableOf, index_place, linked_place, slot_bytes, strings_place}
+use Rattle.elf_c.specs.Tables.{IsTableOfKind, IsTableOf, index_place, linked_place, slot_bytes, strings_place}
 use Rattle.elf_c.specs.declared.shapes.Table.{Table}
 use Rattle.elf_c.proofs.IndexTables.{both_hold}
 use Rattle.elf_c.proofs.SectionList.{content_listed, count_listed, section_listed}
@@ -45,7 +45,7 @@ table_linked kind t b i is =
     ap (λ (u : Table). slot_bytes b u.linked) is.numbers
     ∙ ap (λ (k : Option TableKind). slot_bytes b (linked_place k f i (section f i).sh_link)) is.typed
 
-pub table_kind : (kind : TableKind) (t : Table) (b : List ℕ) (i : ℕ) → IsTableOf kind t b i → IsOfKind kind t
+pub table_kind : (kind : TableKind) (t : Table) (b : List ℕ) (i : ℕ) → IsTableOf kind t b i → IsTableOfKind kind t
 table_kind kind t b i is = ap (λ (u : Table). kind_of u.sh_type) is.numbers ∙ is.typed
 
 -- no rule of its kind is broken

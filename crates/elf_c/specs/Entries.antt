@@ -11,7 +11,7 @@ use Rattle.elf_table_lists.specs.Notes.{NoteValue, note_end}
 use Rattle.elf_table_symbols.specs.SymbolRules.{entry, entry_count, word}
 use Rattle.elf_table_symbols.specs.Symbols.{SymbolEntryValue, place_of}
 use Rattle.elf_c.specs.Files.{order_named}
-use Rattle.elf_c.specs.Tables.{IsOfKind, slot_bytes}
+use Rattle.elf_c.specs.Tables.{IsTableOfKind, slot_bytes}
 use Rattle.elf_c.specs.declared.shapes.DynamicEntry.{DynamicEntry}
 use Rattle.elf_c.specs.declared.shapes.Note.{Note}
 use Rattle.elf_c.specs.declared.shapes.Relocation.{Relocation}
@@ -49,7 +49,7 @@ section_index o words st_shndx j = if st_shndx == SHN_XINDEX then word o words j
 abbrev pub HasSymbol : Table → List ℕ → ℕ → Type 0
 HasSymbol t b j =
     let symbols = slot_bytes b t.content in
-    IsOfKind SymbolTable t × (j < entry_count symbols) ×
+    IsTableOfKind SymbolTable t × (j < entry_count symbols) ×
     ((entry (order_named t.ei_data) symbols j).st_shndx ≡ SHN_XINDEX → WORD_SIZE * j + WORD_SIZE ≤ length (slot_bytes b t.linked))
 
 -- a relocation: without an addend it is 0
@@ -77,7 +77,7 @@ no_note_value = record { note_type = 0; name = []; desc = [] }
 abbrev pub HasNoteAt : Table → List ℕ → ℕ → Type 0
 HasNoteAt t b x =
     let notes = slot_bytes b t.content in
-    IsOfKind NoteSection t × (note_end (order_named t.ei_data) notes x ≤ length notes)
+    IsTableOfKind NoteSection t × (note_end (order_named t.ei_data) notes x ≤ length notes)
 
 -- its name and its descriptor lie in a file of len bytes
 abbrev pub LiesInFile : Note → ℕ → Type 0

@@ -94,8 +94,8 @@ table_in b i =
     }
 
 -- these are numbers of a table of this kind
-abbrev pub IsOfKind : TableKind → Table → Type 0
-IsOfKind kind t = kind_of t.sh_type ≡ Some kind
+abbrev pub IsTableOfKind : TableKind → Table → Type 0
+IsTableOfKind kind t = kind_of t.sh_type ≡ Some kind
 
 -- the bytes break none of rules 1 to 32, section i holds a table of this kind that breaks none of its rules, and these are its numbers
 pub record IsTableOf (kind : TableKind) (table : Table) (b : List ℕ) (i : ℕ) : Type 0 where

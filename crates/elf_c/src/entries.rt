@@ -15,7 +15,7 @@ ghost use Rattle.elf_table_symbols.specs.Symbols.{symbol_entry_in, symbols_of};
 ghost use Rattle.elf_table_symbols.specs.SymbolView.{no_symbol_entry};
 ghost use Rattle.elf_c.specs.Entries.{HasSymbol, dynamic_shape, relocation_shape, section_index, symbol_record, symbol_told};
 ghost use Rattle.elf_c.specs.Files.{order_named};
-ghost use Rattle.elf_c.specs.Tables.{IsOfKind, IsTableOf, slot_bytes};
+ghost use Rattle.elf_c.specs.Tables.{IsTableOfKind, IsTableOf, slot_bytes};
 
 use crate::names::place_of_string;
 use crate::places::{bytes_of, order_of};
@@ -42,7 +42,7 @@ pub extern "C" fn elfmap_symbol(
         OnTrue result (symbol_told bytes.now symbol.new ≡ get_or (symbols_of (sections_in bytes.now) i) index no_symbol_entry) }
     ensures record { (i : ℕ) → IsTableOf SymbolTable table.now bytes.now i → let f = sections_in bytes.now in
         OnTrue result (symbol_record symbol.new ≡ entry_of (order f) (content f i) index) }
-    ensures typed { OnTrue result (IsOfKind SymbolTable table.now) }
+    ensures typed { OnTrue result (IsTableOfKind SymbolTable table.now) }
     ensures section { OnTrue result (symbol.new.st_shndx ≢ shn_xindex → symbol.new.section ≡ symbol.new.st_shndx) }
     ensures inside { OnTrue result (symbol.new.name.start + symbol.new.name.len ≤ length bytes.now) }
     ensures unchanged { OnFalse result (symbol.new ≡ symbol.old) }
@@ -113,7 +113,7 @@ pub extern "C" fn elfmap_relocation(
         IsTrue result ↔ (index < length (relocations_of (sections_in bytes.now) i)) }
     ensures value { (i : ℕ) → IsTableOf RelocationTable table.now bytes.now i →
         OnTrue result (relocation.new ≡ relocation_shape (get_or (relocations_of (sections_in bytes.now) i) index no_relocation_entry)) }
-    ensures typed { OnTrue result (IsOfKind RelocationTable table.now) }
+    ensures typed { OnTrue result (IsTableOfKind RelocationTable table.now) }
     ensures unchanged { OnFalse result (relocation.new ≡ relocation.old) }
 {
     let addends = table.sh_type == SHT_RELA;
@@ -140,7 +140,7 @@ pub extern "C" fn elfmap_dynamic(
         IsTrue result ↔ (index < length (dynamic_array_of (sections_in bytes.now) i)) }
     ensures value { (i : ℕ) → IsTableOf DynamicArray table.now bytes.now i →
         OnTrue result (entry.new ≡ dynamic_shape (get_or (dynamic_array_of (sections_in bytes.now) i) index no_dynamic_entry)) }
-    ensures typed { OnTrue result (IsOfKind DynamicArray table.now) }
+    ensures typed { OnTrue result (IsTableOfKind DynamicArray table.now) }
     ensures unchanged { OnFalse result (entry.new ≡ entry.old) }
 {
     let content = bytes_of(bytes, table.content);

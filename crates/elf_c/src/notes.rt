@@ -6,7 +6,7 @@ ghost use Rattle.elf_table_base.specs.declared.table_kind.TableKind.TheVariants.
 ghost use Rattle.elf_table_lists.specs.Notes.{note_at as note_of_content, note_end as note_end_of, note_offset, notes_of};
 ghost use Rattle.elf_c.specs.Entries.{HasNoteAt, LiesInFile, no_note_value, note_told};
 ghost use Rattle.elf_c.specs.Files.{order_named};
-ghost use Rattle.elf_c.specs.Tables.{IsOfKind, IsTableOf, slot_bytes};
+ghost use Rattle.elf_c.specs.Tables.{IsTableOfKind, IsTableOf, slot_bytes};
 
 use crate::places::{bytes_of, order_of};
 use crate::shapes::{Note, Table, put};
@@ -24,7 +24,7 @@ pub extern "C" fn elfmap_note(table: &Table, bytes: &[u8], index: u64, note: &mu
         IsTrue result ↔ (index < length (notes_of (sections_in bytes.now) i)) }
     ensures value { (i : ℕ) → IsTableOf NoteSection table.now bytes.now i →
         OnTrue result (note_told bytes.now note.new ≡ get_or (notes_of (sections_in bytes.now) i) index no_note_value) }
-    ensures typed { OnTrue result (IsOfKind NoteSection table.now) }
+    ensures typed { OnTrue result (IsTableOfKind NoteSection table.now) }
     ensures inside { OnTrue result (LiesInFile note.new (length bytes.now)) }
     ensures unchanged { OnFalse result (note.new ≡ note.old) }
 {
@@ -51,7 +51,7 @@ fn note_of_index(table: &Table, bytes: &[u8], index: u64) -> Option<Note>
         IsSome result ↔ (index < length (notes_of (sections_in bytes.now) i)) }
     ensures value { (i : ℕ) → IsTableOf NoteSection table.now bytes.now i →
         IfSome result (λ n. note_told bytes.now n ≡ get_or (notes_of (sections_in bytes.now) i) index no_note_value) }
-    ensures typed { IfSome result (λ n. IsOfKind NoteSection table.now) }
+    ensures typed { IfSome result (λ n. IsTableOfKind NoteSection table.now) }
     ensures inside { IfSome result (λ n. LiesInFile n (length bytes.now)) }
 {
     let content = bytes_of(bytes, table.content);

@@ -4,7 +4,7 @@ ghost use Rattle.std.specs.Bool.{OnFalse, OnTrue};
 ghost use Rattle.elf_table_base.specs.Sections.{sections_in};
 ghost use Rattle.elf_table_symbols.specs.IndexTable.{index_table};
 ghost use Rattle.elf_c.specs.Files.{IsFileOf};
-ghost use Rattle.elf_c.specs.Tables.{HoldsTable, IsLinkThere, IsOfKind, index_place, linked_place, strings_place, table_in};
+ghost use Rattle.elf_c.specs.Tables.{HoldsTable, IsLinkThere, IsTableOfKind, index_place, linked_place, strings_place, table_in};
 
 use crate::lengths::length_of;
 use crate::places::{NOWHERE, bytes_of, order_of, place_of_content, section_of};
@@ -99,7 +99,7 @@ fn place_of_index_table(file: &File, bytes: &[u8], index: u64) -> Slot
 
 /// Whether these are numbers of a table of this kind.
 pub fn is_of_kind(table: &Table, kind: TableKind) -> bool
-    ensures { IsTrue result ↔ IsOfKind kind table.now }
+    ensures { IsTrue result ↔ IsTableOfKind kind table.now }
 {
     TableKind::of(table.sh_type) == Some(kind)
 }
