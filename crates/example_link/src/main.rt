@@ -8,7 +8,6 @@ ghost use Rattle.elf_link.specs.LinkMap.{LinkMapValue};
 ghost use Rattle.elf_link.specs.MapFacts.{IsMapOfSome};
 
 use elf_exec::{is_ready, write_exec};
-use elf_image::parse;
 use elf_link::{Form, Options, Range, RelocRule, Width, map, relocate};
 use elf_object::{Object, object_of};
 use std::alloc::Global;
@@ -44,13 +43,12 @@ fn main(rt: HostRuntime) -> io::Result<ExitCode> {
     };
     if let Err(why) = linked {
         eprintln!(rt; "example_link: {why}")?;
-        return Ok(ExitCode::from(1));
     }
-    Ok(ExitCode::from(0))
+    Ok(ExitCode::from(linked.is_err() as u8))
 }
 
 fn object_in(alloc: Global, bytes: &[u8]) -> Result<Object<'_>, &'static str> {
-    let image = parse(alloc, bytes).map_err(|_| "a file is no ELF-64 file")?;
+    let image = elf_image::parse(alloc, bytes).map_err(|_| "a file is no ELF-64 file")?;
     object_of(alloc, &image).map_err(|_| "a file is no object")
 }
 
@@ -63,7 +61,9 @@ fn link<W: io::Write>(alloc: Global, files: &[Object<'_>], to: &mut W) -> Result
     let Ok(map) = map(alloc, files, &OPTIONS, hasher) else {
         return Err("the objects can't be linked");
     };
-    let linked = relocate(alloc, &map, files, &RULES).map_err(|_| "a relocation can't be applied")?;
+    let Ok(linked) = relocate(alloc, &map, files, &RULES) else {
+        return Err("a relocation can't be applied");
+    };
     is_ready(&linked, files, &map, &RULES);
     write_exec(alloc, &linked, to).map_err(|_| "the executable can't be written")
 }
