@@ -11,7 +11,6 @@ use elf_exec::{is_ready, write_exec};
 use elf_link::{Form, Options, Range, RelocRule, Width, map, relocate};
 use elf_object::{Object, object_of};
 use std::alloc::Global;
-use std::hash::{BuildHasherDefault, FoldHasher};
 use std::process::ExitCode;
 use std::{env, fs, io};
 
@@ -34,17 +33,19 @@ fn main(rt: HostRuntime) -> io::Result<ExitCode> {
         eprintln!(rt; "usage: example_link A B")?;
         return Ok(ExitCode::from(2));
     };
-    let alloc = rt.alloc();
     let first = fs::read(&rt, first.as_str())?;
     let second = fs::read(&rt, second.as_str())?;
-    let linked = match (object_in(alloc, &first), object_in(alloc, &second)) {
-        (Ok(first), Ok(second)) => link(alloc, &[first, second], &mut rt.stdout()),
-        (Err(why), _) | (_, Err(why)) => Err(why),
-    };
+    let linked = link_files(&rt, &first, &second);
     if let Err(why) = linked {
         eprintln!(rt; "example_link: {why}")?;
     }
     Ok(ExitCode::from(linked.is_err() as u8))
+}
+
+fn link_files(rt: &HostRuntime, first: &[u8], second: &[u8]) -> Result<(), &'static str> {
+    let alloc = rt.alloc();
+    let objects = [object_in(alloc, first)?, object_in(alloc, second)?];
+    link(alloc, &objects, &mut rt.stdout())
 }
 
 fn object_in(alloc: Global, bytes: &[u8]) -> Result<Object<'_>, &'static str> {
@@ -57,7 +58,7 @@ fn link<W: io::Write>(alloc: Global, files: &[Object<'_>], to: &mut W) -> Result
     ensures { OnOk result ((map : LinkMapValue) × IsMapOfSome files.now map × ((executable : List ℕ) ×
         ExecLaid files.now map RULES executable × Appends (W.contents to.old) (W.contents to.new) executable)) }
 {
-    let hasher: BuildHasherDefault<FoldHasher> = BuildHasherDefault::new();
+    let hasher = std::hash::BuildHasherDefault::<std::hash::FoldHasher>::new();
     let Ok(map) = map(alloc, files, &OPTIONS, hasher) else {
         return Err("the objects can't be linked");
     };
