@@ -4,11 +4,11 @@
  * A program is compiled so over a release, whose folder lib/pkgconfig is in PKG_CONFIG_PATH, and in the top folder of the sources:
  *
  *     cc -std=c99 program.c $(pkg-config --cflags --libs elfmap)
- *     cc -std=c99 program.c -I include crates/elf_c/out/libelf_c.a
+ *     cc -std=c99 program.c -I include crates/elf_c/out/libelfmap.a
  *
- * The library needs nothing, not even the C library. It takes no memory, keeps no state between two calls and has no variable of its own,
- * so that each call may be made from any thread, and from a signal handler, also while another one runs. The engines at the end take
- * memory: what is said of them stands there.
+ * But for the engines at the end, the calls need nothing, not even the C library. They take no memory, keep no state between two calls and
+ * have no variable of their own, so that each may be made from any thread, and from a signal handler, also while another one runs. The
+ * engines take memory: what is said of them stands there.
  *
  *     struct elfmap_fault fault;
  *     struct elfmap_file file;
@@ -19,11 +19,12 @@
  *         for (uint64_t i = 0; elfmap_section(&file, bytes, len, i, &section); i++)
  *             printf("section %llu has %llu bytes\n", (unsigned long long) i, (unsigned long long) section.sh_size);
  *
- * What a call answers is proved, for all bytes. What a caller keeps nothing can prove:
+ * What is said here of a call is proved, for all bytes. What a caller keeps nothing can prove:
  * - No pointer is null, also where its length is 0, and each is aligned as its type asks for.
- * - `bytes` points to `len` bytes, and `room` to `count` extents or parts; len is at most PTRDIFF_MAX bytes, and so is the size of a room.
- *   While a call runs nobody writes these bytes; nor reads or writes the room or the struct that the call fills in.
- * - The struct that a call fills in, and the room, overlap neither one another nor the bytes or another argument.
+ * - A pointer that a length follows points to so many items: `bytes` and `len`, `name` and `name_len`, `rules` and `rules_len`, `files` and
+ *   `count`, a room and its `count` or `size`. None of them is longer than PTRDIFF_MAX bytes.
+ * - While a call runs nobody writes what it is given as const, and nobody reads or writes the room or the struct that it fills in.
+ * - The struct that a call fills in, and the room, overlap neither one another nor another argument.
  *
  * Offsets and lengths are counted in bytes from the beginning of the file. Fields have the names of the gABI (System V ABI, generic part,
  * chapters 4 and 5). Numbers in records are those of the file, in the order of the machine. The rules stand in docs/RULES.md.
@@ -390,7 +391,8 @@ uint32_t elfmap_link(const uint8_t *bytes, size_t len, const struct elfmap_exten
  * ---- The memory of the engines. The library has these three functions over malloc, realloc and free. A program that defines all three by
  * itself has its own taken, and needs no malloc.
  *
- * `align` is 1, 2, 4, 8 or 16, and `size` is at most PTRDIFF_MAX. No function may call an engine, or leave by longjmp.
+ * `align` is 1, 2, 4, 8 or 16, and `size` is at most PTRDIFF_MAX; it may be 0, for which memory that is not there is told as refused. No
+ * function may call an engine, or leave by longjmp.
  */
 
 /* Whether there is memory, and where: `start` is not null, also where there is none. */
@@ -403,7 +405,8 @@ struct elfmap_block {
 struct elfmap_block elfmap_alloc(size_t size, size_t align);
 
 /*
- * Makes the memory at `start`, which elfmap_alloc or elfmap_realloc gave, one of `size` bytes, of which the first `kept` are as they were.
+ * Makes the memory at `start`, which elfmap_alloc or elfmap_realloc gave, one of `size` bytes, of which the first `kept`, which are no more
+ * than it has or than `size`, are as they were.
  * It may move. Where there is none, that at `start` is as it was, and still held.
  */
 struct elfmap_block elfmap_realloc(void *start, size_t kept, size_t size, size_t align);

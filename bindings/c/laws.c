@@ -6,7 +6,7 @@
  * - of a file that is refused `show` says just that line, and `rewrite` gives the same refusal;
  * - the parts of one that is accepted hold each byte once, in order, and the parts that are sections' are as long as these say;
  * - what `rewrite` writes is accepted, and rewritten gives itself; a name that a hash table finds is that of the symbol found;
- * - a link of the copy and itself by a room is the same by a longer room, and what is linked is accepted.
+ * - a link of the copy tells by a room of no bytes how long it is, and what is linked is accepted.
  *
  * The last line is 'N passed, M failed'. The copies that a law fails for are written to failed-SEED-K.
  */
@@ -18,7 +18,7 @@
 
 enum { LONGEST = 1 << 16, ROOM = 1 << 22, MANY = 1 << 16 };
 
-static uint8_t text[ROOM], again[ROOM], longer[ROOM];
+static uint8_t text[ROOM], again[ROOM];
 static struct elfmap_extent extents[MANY];
 static struct elfmap_part parts[3 * MANY];
 static uint64_t state;
@@ -128,7 +128,7 @@ static void linked(const uint8_t *bytes, size_t len) {
     struct elfmap_fault fault;
     const uint8_t *entry = (const uint8_t *) "answer";
     uint32_t status = elfmap_link(bytes, len, files, 1, &options, entry, 6, rules, sizeof rules - 1, text, ROOM, &outcome);
-    uint32_t wanted = elfmap_link(bytes, len, files, 1, &options, entry, 6, rules, sizeof rules - 1, longer, 0, &second);
+    uint32_t wanted = elfmap_link(bytes, len, files, 1, &options, entry, 6, rules, sizeof rules - 1, again, 0, &second);
     holds(wanted == (outcome.length > 0 ? ELFMAP_SMALL_ROOM : status) && second.length == outcome.length, "another length is wanted");
     if (status == ELFMAP_DONE)
         holds(elfmap_verdict(text, outcome.length, &fault), "what is linked is refused");

@@ -25,8 +25,8 @@ static uint8_t *bytes_of(const char *path, size_t *len) {
 /* Prints the symbols of a table; of any other section nothing. */
 static void tell_table(const struct elfmap_table *table, const uint8_t *bytes, size_t len) {
     struct elfmap_symbol symbol;
-    if (table->sh_type == 2 || table->sh_type == 11)
-        for (uint64_t j = 0; elfmap_symbol(table, bytes, len, j, &symbol); j++)
+    for (uint64_t j = 0; j < table->entries; j++)
+        if (elfmap_symbol(table, bytes, len, j, &symbol))
             printf("0x%" PRIx64 " %.*s\n", symbol.st_value, (int) symbol.name.len, (const char *) bytes + symbol.name.start);
 }
 
