@@ -1,7 +1,7 @@
 //! The notes of note sections (gABI chapter 5, Note Section).
 ghost use Rattle.std.specs.Prelude.{◌≡◌, ℕ, ◌+◌, ◌<◌, ◌≤◌, ◌↔◌, IfNone, IfSome, IsSome, IsTrue, SomeIff, get_or, length};
 ghost use Rattle.std.specs.Bool.{OnFalse, OnTrue};
-ghost use Rattle.elf_table_base.specs.Sections.{sections_in};
+ghost use Rattle.elf_table_base.specs.Sections.{content, order, sections_in};
 ghost use Rattle.elf_table_base.specs.declared.table_kind.TableKind.TheVariants.{NoteSection};
 ghost use Rattle.elf_table_lists.specs.Notes.{note_at as note_of_content, note_end as note_end_of, note_offset, notes_of};
 ghost use Rattle.elf_c.specs.Entries.{HasNoteAt, LiesInFile, no_note_value, note_told};
@@ -24,6 +24,8 @@ pub extern "C" fn elfmap_note(table: &Table, bytes: &[u8], index: u64, note: &mu
         IsTrue result ↔ (index < length (notes_of (sections_in bytes.now) i)) }
     ensures value { (i : ℕ) → IsTableOf NoteSection table.now bytes.now i →
         OnTrue result (note_told bytes.now note.new ≡ get_or (notes_of (sections_in bytes.now) i) index no_note_value) }
+    ensures next { (i : ℕ) → IsTableOf NoteSection table.now bytes.now i → let f = sections_in bytes.now in
+        OnTrue result (note.new.next ≡ note_offset (order f) (content f i) 0 (index + 1)) }
     ensures typed { OnTrue result (IsTableOfKind NoteSection table.now) }
     ensures inside { OnTrue result (LiesInFile note.new (length bytes.now)) }
     ensures unchanged { OnFalse result (note.new ≡ note.old) }
@@ -51,6 +53,8 @@ fn note_of_index(table: &Table, bytes: &[u8], index: u64) -> Option<Note>
         IsSome result ↔ (index < length (notes_of (sections_in bytes.now) i)) }
     ensures value { (i : ℕ) → IsTableOf NoteSection table.now bytes.now i →
         IfSome result (λ n. note_told bytes.now n ≡ get_or (notes_of (sections_in bytes.now) i) index no_note_value) }
+    ensures next { (i : ℕ) → IsTableOf NoteSection table.now bytes.now i → let f = sections_in bytes.now in
+        IfSome result (λ n. n.next ≡ note_offset (order f) (content f i) 0 (index + 1)) }
     ensures typed { IfSome result (λ n. IsTableOfKind NoteSection table.now) }
     ensures inside { IfSome result (λ n. LiesInFile n (length bytes.now)) }
 {
