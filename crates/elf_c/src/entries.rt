@@ -6,15 +6,16 @@ ghost use Rattle.elf_field.specs.Abi.{SHN_XINDEX as shn_xindex, WORD_SIZE as wor
 ghost use Rattle.elf_image_type.specs.Strings.{string};
 ghost use Rattle.elf_table_all.specs.DynamicStrings.{dynamic_strings};
 ghost use Rattle.elf_table_base.specs.Sections.{content, order, sections_in};
-ghost use Rattle.elf_table_base.specs.TableKind.{kind_of};
 ghost use Rattle.elf_table_base.specs.declared.table_kind.TableKind.TheVariants.{DynamicArray, RelocationTable, SymbolTable};
 ghost use Rattle.elf_table_lists.specs.DynamicArray.{dynamic_array_of, no_dynamic_entry};
 ghost use Rattle.elf_table_lists.specs.Relocations.{no_relocation_entry, relocations_of};
 ghost use Rattle.elf_table_symbols.specs.SymbolRules.{entry as entry_of, entry_count, word as word_of};
 ghost use Rattle.elf_table_symbols.specs.Symbols.{symbol_entry_in, symbols_of};
 ghost use Rattle.elf_table_symbols.specs.SymbolView.{no_symbol_entry};
+ghost use Rattle.elf_c_room.specs.Room.{extent_in};
 ghost use Rattle.elf_c.specs.Entries.{HasSymbol, dynamic_shape, relocation_shape, section_index, symbol_record, symbol_told};
 ghost use Rattle.elf_c.specs.Files.{order_named};
+ghost use Rattle.elf_c.specs.Places.{string_place};
 ghost use Rattle.elf_c.specs.Tables.{IsTableOfKind, IsTableOf, slot_bytes};
 
 use crate::names::place_of_string;
@@ -44,6 +45,7 @@ pub extern "C" fn elfmap_symbol(
         OnTrue result (symbol_record symbol.new ≡ entry_of (order f) (content f i) index) }
     ensures typed { OnTrue result (IsTableOfKind SymbolTable table.now) }
     ensures section { OnTrue result (symbol.new.st_shndx ≢ shn_xindex → symbol.new.section ≡ symbol.new.st_shndx) }
+    ensures named { OnTrue result (symbol.new.name ≡ string_place bytes.now (extent_in table.now.strings) symbol.new.st_name) }
     ensures inside { OnTrue result (symbol.new.name.start + symbol.new.name.len ≤ length bytes.now) }
     ensures unchanged { OnFalse result (symbol.new ≡ symbol.old) }
 {
@@ -60,6 +62,7 @@ fn symbol_of(table: &Table, bytes: &[u8], index: u64) -> Option<Symbol>
     ensures record { let t = table.now in
         IfSome result (λ s. symbol_record s ≡ entry_of (order_named t.ei_data) (slot_bytes bytes.now t.content) index) }
     ensures section { IfSome result (λ s. s.st_shndx ≢ shn_xindex → s.section ≡ s.st_shndx) }
+    ensures named { IfSome result (λ s. s.name ≡ string_place bytes.now (extent_in table.now.strings) s.st_name) }
     ensures inside { IfSome result (λ s. s.name.start + s.name.len ≤ length bytes.now) }
 {
     let order = order_of(table.ei_data);
@@ -159,6 +162,7 @@ pub extern "C" fn elfmap_dynamic(
 pub extern "C" fn elfmap_string(table: &Table, bytes: &[u8], offset: u64, place: &mut Slot) -> bool
     ensures there { IsTrue result ↔ (offset < length (slot_bytes bytes.now table.now.strings)) }
     ensures value { OnTrue result (slot_bytes bytes.now place.new ≡ string (slot_bytes bytes.now table.now.strings) offset) }
+    ensures stands { OnTrue result (place.new ≡ string_place bytes.now (extent_in table.now.strings) offset) }
     ensures dynamic { (i : ℕ) → IsTableOf DynamicArray table.now bytes.now i →
         slot_bytes bytes.now table.now.strings ≡ dynamic_strings (sections_in bytes.now) i }
     ensures inside { OnTrue result (place.new.start + place.new.len ≤ length bytes.now) }
