@@ -67,3 +67,12 @@ returns-clause-next c i is =
     some_same (λ (n : Note). n.next) _ _ c.note_of.result c.note_of.ensures.next
     (λ _. same_offset o (order f) s (content f i) (note_end o s c.in_ok-offset.offset) (j + 1) (note_offset_after o s c.in_ok-offset.offset j place)
     (table_order NoteSection t b i is) (table_content NoteSection t b i is))
+
+pub returns-clause-stands : goal.returns-clause-stands
+returns-clause-stands c =
+    let t = c.args.table.now in
+    let o = order_named t.ei_data in
+    let s = slot_bytes c.args.bytes.now t.content in
+    let place = same_offset c.order_of.result o c.bytes_of-content.result.now s c.in_ok-offset.offset c.args.index c.in_ok-offset.ensures.found
+    c.order_of.ensures c.bytes_of-content.ensures.content in
+    rw (← place) c.note_of.ensures.stands
