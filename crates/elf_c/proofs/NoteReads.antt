@@ -20,7 +20,7 @@ use Rattle.elf_table_lists.proofs.Public.{note_entry}
 use Rattle.elf_c_room.specs.declared.room.Slot.{Slot}
 use Rattle.elf_c.specs.Entries.{no_note_value}
 use Rattle.elf_c.specs.Files.{order_named}
-use Rattle.elf_c.specs.Places.{StandsAt}
+use Rattle.elf_c.specs.Places.{NoteStandsAt}
 use Rattle.elf_c.specs.Tables.{IsTableOf, slot_bytes}
 use Rattle.elf_c.specs.declared.shapes.Note.{Note}
 use Rattle.elf_c.specs.declared.shapes.Table.{Table}
@@ -48,7 +48,7 @@ note_end_in_file o b e x within =
 
 -- and where what it holds stands there
 pub note_stands_in_file : (n : Note) (o : Order) (b : List ℕ) (e : Extent) (x : ℕ) → note_end o (bytes_in b e) x ≤ e.len →
-    StandsAt n o b 0 (e.start + x) → StandsAt n o (bytes_in b e) e.start x
+    NoteStandsAt n o b 0 (e.start + x) → NoteStandsAt n o (bytes_in b e) e.start x
 unfolding namesz descsz note_end desc_start
 note_stands_in_file n o b e x within (name, desc) =
     let t : List ℕ = bytes_in b e in

@@ -32,5 +32,5 @@ note_name_place o content start x = record { start = start + name_start x; len =
 abbrev pub note_desc_place : Order → List ℕ → ℕ → ℕ → Slot
 note_desc_place o content start x = record { start = start + desc_start o content x; len = descsz o content x }
 
-abbrev pub StandsAt : Note → Order → List ℕ → ℕ → ℕ → Type 0
-StandsAt n o content start x = (n.name ≡ note_name_place o content start x) × (n.desc ≡ note_desc_place o content start x)
+abbrev pub NoteStandsAt : Note → Order → List ℕ → ℕ → ℕ → Type 0
+NoteStandsAt n o content start x = (n.name ≡ note_name_place o content start x) × (n.desc ≡ note_desc_place o content start x)

@@ -9,7 +9,7 @@ ghost use Rattle.elf_table_base.specs.Sections.{content, order, sections_in};
 ghost use Rattle.elf_table_base.specs.declared.table_kind.TableKind.TheVariants.{DynamicArray, RelocationTable, SymbolTable};
 ghost use Rattle.elf_table_lists.specs.DynamicArray.{dynamic_array_of, no_dynamic_entry};
 ghost use Rattle.elf_table_lists.specs.Relocations.{no_relocation_entry, relocations_of};
-ghost use Rattle.elf_table_symbols.specs.SymbolRules.{entry as entry_of, entry_count, word as word_of};
+ghost use Rattle.elf_table_symbols.specs.SymbolRules.{entry as entry_of};
 ghost use Rattle.elf_table_symbols.specs.Symbols.{symbol_entry_in, symbols_of};
 ghost use Rattle.elf_table_symbols.specs.SymbolView.{no_symbol_entry};
 ghost use Rattle.elf_c_room.specs.Room.{extent_in};
@@ -29,7 +29,8 @@ use elf_table_base::TableKind;
 use elf_table_lists::{dynamic_entry, dynamic_entry_count, relocation_at, relocation_count};
 use elf_table_symbols::{entry, word};
 
-/// Symbol `index` of a symbol table; false where there is none of this index.
+/// Symbol `index` of a symbol table; false where there is none of this index, or its `st_shndx` is `SHN_XINDEX` and the index table has no
+/// word for it, and for a table of another kind. A name of no bytes is said to stand at offset 0.
 #[unsafe(no_mangle)]
 pub extern "C" fn elfmap_symbol(
     table: &Table,
@@ -104,7 +105,7 @@ fn section_index_of(order: Order, words: &[u8], st_shndx: u16, j: u64) -> Option
     }
 }
 
-/// Relocation `index` of a relocation section; false where there is none of this index.
+/// Relocation `index` of a relocation section; false where there is none of this index, and for a table of another kind.
 #[unsafe(no_mangle)]
 pub extern "C" fn elfmap_relocation(
     table: &Table,
@@ -131,7 +132,8 @@ pub extern "C" fn elfmap_relocation(
     true
 }
 
-/// Entry `index` of a dynamic array; false where there is none of this index before the first entry of tag `DT_NULL`.
+/// Entry `index` of a dynamic array; false where there is none of this index before the first entry of tag `DT_NULL`, and for a table of
+/// another kind.
 #[unsafe(no_mangle)]
 pub extern "C" fn elfmap_dynamic(
     table: &Table,
@@ -157,7 +159,7 @@ pub extern "C" fn elfmap_dynamic(
 }
 
 /// Where the string at an offset of the table's strings stands in the file, without its closing zero; false where the offset is not below
-/// their length. A string of no bytes is said to stand at offset 0.
+/// their length, whatever the kind of the table. A string of no bytes is said to stand at offset 0.
 #[unsafe(no_mangle)]
 pub extern "C" fn elfmap_string(table: &Table, bytes: &[u8], offset: u64, place: &mut Slot) -> bool
     ensures there { IsTrue result ↔ (offset < length (slot_bytes bytes.now table.now.strings)) }
