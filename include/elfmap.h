@@ -202,9 +202,10 @@ bool elfmap_parts(const uint8_t *bytes, size_t len, struct elfmap_part *room, si
  * bytes or the file, and each takes a time that does not grow with the file, but for the length of a name, and in elfmap_load for the count
  * of program headers.
  *
- * They don't judge: of bytes that break a rule they tell what stands where the header says, if it lies in the file. `file` is to be what
- * elfmap_file made of the same bytes. With any other numbers in it, or of other bytes, the answer says nothing, and yet no call reads
- * outside of the bytes.
+ * They don't judge: of bytes that break a rule elfmap_file, elfmap_header, elfmap_section and elfmap_segment tell what stands where the
+ * header says, if it lies in the file; the claims on elfmap_load and elfmap_name are of a file that keeps rules 1 to 32. `file` is to be
+ * what elfmap_file made of the same bytes. With any other numbers in it, or of other bytes, elfmap_section and elfmap_segment go by these
+ * numbers, what elfmap_load and elfmap_name answer says nothing, and yet no call reads outside of the bytes.
  */
 
 /*
@@ -216,10 +217,16 @@ bool elfmap_file(const uint8_t *bytes, size_t len, struct elfmap_file *file);
 /* The ELF header. False exactly where the file is shorter than one, 64 bytes. */
 bool elfmap_header(const uint8_t *bytes, size_t len, struct elfmap_header *header);
 
-/* Section header `index`. Of a file that keeps rules 1 to 32 it is true exactly where `index` is below `file->sections`. */
+/*
+ * Section header `index`: the one at `file->e_shoff + 64 * index`. True exactly where `index` is below `file->sections`, and these 64 bytes
+ * lie in the file; of a file that keeps rules 1 to 32 they do for each such index.
+ */
 bool elfmap_section(const struct elfmap_file *file, const uint8_t *bytes, size_t len, uint64_t index, struct elfmap_section *section);
 
-/* Program header `index`. Of a file that keeps rules 1 to 32 it is true exactly where `index` is below `file->segments`. */
+/*
+ * Program header `index`: the one at `file->e_phoff + 56 * index`. True exactly where `index` is below `file->segments`, and these 56 bytes
+ * lie in the file; of a file that keeps rules 1 to 32 they do for each such index.
+ */
 bool elfmap_segment(const struct elfmap_file *file, const uint8_t *bytes, size_t len, uint64_t index, struct elfmap_segment *segment);
 
 /*
@@ -230,39 +237,46 @@ bool elfmap_segment(const struct elfmap_file *file, const uint8_t *bytes, size_t
 bool elfmap_load(const struct elfmap_file *file, const uint8_t *bytes, size_t len, uint64_t address, uint8_t *byte);
 
 /*
- * Where the name of section `index` stands, without its closing zero: it always lies in the bytes. Both numbers are 0 where the name has no
- * bytes, as that of a section header of type SHT_NULL (0), or of any one where there is no section name string table or an empty one. Of a
- * file that keeps rules 1 to 32 it is true exactly where `index` is below `file->sections`.
+ * Where the name of section `index` stands, without its closing zero: it always lies in the bytes, at offset `sh_name` of the section name
+ * string table. Both numbers are 0 where the name has no bytes, as that of a section header of type SHT_NULL (0), or of any one where there
+ * is no section name string table or an empty one. Of a file that keeps rules 1 to 32 it is true exactly where `index` is below
+ * `file->sections`. Of any other it is false also where the section header does not lie in the file, or that of the section name string
+ * table does not.
  */
 bool elfmap_name(const struct elfmap_file *file, const uint8_t *bytes, size_t len, uint64_t index, struct elfmap_extent *name);
 
 /*
  * ---- The tables. As above each call answers true and fills in its last argument, or false, and leaves it as it was, and reads nothing
  * outside of the bytes. A table is sound where it breaks none of the rules 40 to 69: elfmap for C has no verdict on them yet. The entries
- * of a table that breaks one are told as far as they lie in the file, and the claims below are of a sound table alone, in a file that keeps
- * rules 1 to 32. `table` is to be what elfmap_table made of the same bytes. With any other numbers in it the answer says nothing, but that
- * each call is false for a table of another kind than its own: those of `sh_type`.
+ * of a table that breaks one are told as far as they lie in the file, but for a symbol whose `st_shndx` is SHN_XINDEX (0xffff) and for
+ * which the index table has no word: it is not told. The claims below are of a sound table alone, in a file that keeps rules 1 to 32.
+ * `table` is to be what elfmap_table made of the same bytes. With any other numbers in it the answer says nothing, but that each call is
+ * false for a table of another kind than its own, by `sh_type`: elfmap_string alone, which has no kind of its own, reads the strings of any
+ * table.
  *
  *     struct elfmap_table table;
  *     struct elfmap_symbol symbol;
  *     if (elfmap_table(&file, bytes, len, i, &table))
- *         for (uint64_t j = 0; elfmap_symbol(&table, bytes, len, j, &symbol); j++)
- *             printf("%.*s\n", (int) symbol.name.len, (const char *) bytes + symbol.name.start);
+ *         for (uint64_t j = 0; j < table.entries; j++)
+ *             if (elfmap_symbol(&table, bytes, len, j, &symbol))
+ *                 printf("%.*s\n", (int) symbol.name.len, (const char *) bytes + symbol.name.start);
  */
 
 /*
- * What the other calls need of the table in section `index`: a symbol table (SHT_SYMTAB 2, SHT_DYNSYM 11), a relocation section
- * (SHT_RELA 4, SHT_REL 9), a note section (SHT_NOTE 7), a dynamic array (SHT_DYNAMIC 6) or a hash table (SHT_HASH 5). Of a file that keeps
- * rules 1 to 32 it is false exactly where there is no section of this index, or it is of another type, or the section that it links to is
- * not there, or, of a hash table, the one that its symbol table links to. It goes once over the section headers for the index table of a
- * symbol table, over the entries of a dynamic array up to the first of tag DT_NULL, and over the notes of a note section; else it takes a
- * time that does not grow with the file.
+ * What the other calls need of the table in section `index`: a symbol table (SHT_SYMTAB 2, SHT_DYNSYM 11), a relocation section (SHT_RELA
+ * 4, SHT_REL 9), a note section (SHT_NOTE 7), a dynamic array (SHT_DYNAMIC 6) or a hash table (SHT_HASH 5). Of a file that keeps rules 1 to
+ * 32 it is false exactly where there is no section of this index, or it is of another type, or the section that it links to is not there,
+ * or, of a hash table, the one that its symbol table links to. A note section links to none. It goes once over the section headers for the
+ * index table of a symbol table, over the entries of a dynamic array up to the first of tag DT_NULL, and over the notes of a note section;
+ * else it takes a time that does not grow with the file.
  */
 bool elfmap_table(const struct elfmap_file *file, const uint8_t *bytes, size_t len, uint64_t index, struct elfmap_table *table);
 
 /*
- * Symbol `index` of a symbol table, with the place of its name, which always lies in the bytes; both of its numbers are 0 where the name
- * has no bytes. True exactly where `index` is below `table->entries`. Its time grows with the length of the name alone.
+ * Symbol `index` of a symbol table, with the place of its name, which always lies in the bytes, at offset `st_name` of `table->strings`;
+ * both of its numbers are 0 where the name has no bytes. `symbol->section` is no section's index where `st_shndx` is 0 (undefined), or from
+ * 0xff00 to 0xfffe, as for an absolute symbol (SHN_ABS 0xfff1) and a common one (SHN_COMMON 0xfff2). True exactly where `index` is below
+ * `table->entries`. Its time grows with the length of the name alone.
  */
 bool elfmap_symbol(const struct elfmap_table *table, const uint8_t *bytes, size_t len, uint64_t index, struct elfmap_symbol *symbol);
 
@@ -274,15 +288,16 @@ bool elfmap_relocation(const struct elfmap_table *table, const uint8_t *bytes, s
 bool elfmap_dynamic(const struct elfmap_table *table, const uint8_t *bytes, size_t len, uint64_t index, struct elfmap_dynamic *entry);
 
 /*
- * Where the string at an offset of `table->strings` stands, without its closing zero: for an entry of a dynamic array whose value is the
- * offset of a string, as that of tag DT_NEEDED (1). It always lies in the bytes, and both numbers are 0 where it has no bytes. True exactly
- * where the offset is below the length of the strings.
+ * Where the string at an offset of `table->strings` stands, at that offset from their start and without its closing zero: for an entry of a
+ * dynamic array whose value is the offset of a string, as that of tag DT_NEEDED (1). It always lies in the bytes, and both numbers are 0
+ * where it has no bytes. True exactly where the offset is below the length of the strings.
  */
 bool elfmap_string(const struct elfmap_table *table, const uint8_t *bytes, size_t len, uint64_t offset, struct elfmap_extent *place);
 
 /*
- * Note `index` of a note section, whose name and descriptor lie in the bytes. True exactly where `index` is below `table->entries`. Its
- * time grows with the index: it goes over the notes before it. elfmap_note_at goes on from one to the next.
+ * Note `index` of a note section, whose name and descriptor lie in the bytes, and at `note->next` the next one begins, if there is one.
+ * True exactly where `index` is below `table->entries`. Its time grows with the index: it goes over the notes before it. elfmap_note_at
+ * goes on from one to the next.
  */
 bool elfmap_note(const struct elfmap_table *table, const uint8_t *bytes, size_t len, uint64_t index, struct elfmap_note *note);
 

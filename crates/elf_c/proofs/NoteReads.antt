@@ -1,5 +1,5 @@
 -- The notes of a note section of a file, by the table's numbers.
-use Rattle.std.proofs.Common.{◌≡◌, ◌<◌, ◌≤◌, ◌+◌, ◌↔◌, ℕ, List, None, ap, arith, get_or, inl, inr, length, refl, subst, sym, ◌∙◌, drop}
+use Rattle.std.proofs.Common.{◌≡◌, ◌<◌, ◌≤◌, ◌+◌, ◌-◌, ◌↔◌, ℕ, List, None, ap, arith, get_or, inl, inr, length, refl, subst, sym, ◌∙◌, drop}
 use Rattle.std.proofs.lemmas.Bool.{cases_lt}
 use Rattle.std.proofs.lemmas.List.{length-take}
 use Rattle.std.proofs.lemmas.Option.{slice_get_within, unwrap_or-slice_get}
@@ -15,11 +15,14 @@ use Rattle.elf_image_rules.specs.Tables.{bytes_in}
 use Rattle.elf_table_base.specs.declared.table_kind.TableKind.TheVariants.{NoteSection}
 use Rattle.elf_table_base.specs.Sections.{content, order, sections_in}
 use Rattle.elf_table_lists.specs.NoteRules.{note_rules, note_section_rules}
-use Rattle.elf_table_lists.specs.Notes.{AreNotesWhole, NoteValue, desc_start, descsz, namesz, note_at, note_end, note_offset, notes_in, notes_of, padded}
+use Rattle.elf_table_lists.specs.Notes.{AreNotesWhole, NoteValue, desc_start, descsz, name_start, namesz, note_at, note_end, note_offset, notes_in, notes_of, padded}
 use Rattle.elf_table_lists.proofs.Public.{note_entry}
+use Rattle.elf_c_room.specs.declared.room.Slot.{Slot}
 use Rattle.elf_c.specs.Entries.{no_note_value}
 use Rattle.elf_c.specs.Files.{order_named}
+use Rattle.elf_c.specs.Places.{NoteStandsAt}
 use Rattle.elf_c.specs.Tables.{IsTableOf, slot_bytes}
+use Rattle.elf_c.specs.declared.shapes.Note.{Note}
 use Rattle.elf_c.specs.declared.shapes.Table.{Table}
 use Rattle.elf_c.proofs.NoteLengths.{no_more, note_end_above}
 use Rattle.elf_c.proofs.TableReads.{table_content, table_order, table_sound}
@@ -42,6 +45,23 @@ note_end_in_file o b e x within =
     let named : padded (namesz o t x) ≡ padded (namesz o b (e.start + x)) = ap padded names in
     let told : padded (descsz o t x) ≡ padded (descsz o b (e.start + x)) = ap padded descs in
     omega arith
+
+-- and where what it holds stands there
+pub note_stands_in_file : (n : Note) (o : Order) (b : List ℕ) (e : Extent) (x : ℕ) → note_end o (bytes_in b e) x ≤ e.len →
+    NoteStandsAt n o b 0 (e.start + x) → NoteStandsAt n o (bytes_in b e) e.start x
+unfolding namesz descsz note_end desc_start
+note_stands_in_file n o b e x within (name, desc) =
+    let t : List ℕ = bytes_in b e in
+    let names : namesz o t x ≡ namesz o b (e.start + x) = word_in_file o b e x N_NAMESZ_AT (omega arith) in
+    let descs : descsz o t x ≡ descsz o b (e.start + x) = word_in_file o b e x N_DESCSZ_AT (omega arith) in
+    let named : padded (namesz o t x) ≡ padded (namesz o b (e.start + x)) = ap padded names in
+    let begins : 0 + name_start (e.start + x) ≡ e.start + name_start x = omega arith in
+    let told : 0 + desc_start o b (e.start + x) ≡ e.start + desc_start o t x = omega arith in (
+      name ∙ ap (λ (s : ℕ). slot s (namesz o b (e.start + x) - 1)) begins ∙ ap (λ (l : ℕ). slot (e.start + name_start x) (l - 1)) (sym names),
+      desc ∙ ap (λ (s : ℕ). slot s (descsz o b (e.start + x))) told ∙ ap (slot (e.start + desc_start o t x)) (sym descs),
+    ) where
+      slot : ℕ → ℕ → Slot
+      slot start len = record { start = start; len = len }
 
 pub length-bytes_in : (b : List ℕ) (e : Extent) → length (bytes_in b e) ≤ e.len
 length-bytes_in b e = let cut = length-take e.len (drop e.start b) in omega arith

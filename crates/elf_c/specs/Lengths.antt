@@ -14,7 +14,7 @@ use Rattle.elf_table_symbols.specs.SymbolRules.{entry_count}
 abbrev pub entries_before_null : Order → List ℕ → ℕ
 entries_before_null o table = length (before_first is_null_entry (dynamic_entries o table (dynamic_entry_count table)))
 
--- of a table of this kind in a section of this type
+-- of a table of this kind in a section of this type: no accessor reads the members of a group
 abbrev pub length_in : TableKind → ℕ → Order → List ℕ → ℕ
 length_in SymbolTable type o table = entry_count table
 length_in RelocationTable type o table = relocation_count (has_addends type) table

@@ -4,4 +4,5 @@ pub mod Files
 pub mod Segments
 pub mod Tables
 pub mod Lengths
+pub mod Places
 pub mod Entries

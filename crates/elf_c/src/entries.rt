@@ -6,15 +6,16 @@ ghost use Rattle.elf_field.specs.Abi.{SHN_XINDEX as shn_xindex, WORD_SIZE as wor
 ghost use Rattle.elf_image_type.specs.Strings.{string};
 ghost use Rattle.elf_table_all.specs.DynamicStrings.{dynamic_strings};
 ghost use Rattle.elf_table_base.specs.Sections.{content, order, sections_in};
-ghost use Rattle.elf_table_base.specs.TableKind.{kind_of};
 ghost use Rattle.elf_table_base.specs.declared.table_kind.TableKind.TheVariants.{DynamicArray, RelocationTable, SymbolTable};
 ghost use Rattle.elf_table_lists.specs.DynamicArray.{dynamic_array_of, no_dynamic_entry};
 ghost use Rattle.elf_table_lists.specs.Relocations.{no_relocation_entry, relocations_of};
-ghost use Rattle.elf_table_symbols.specs.SymbolRules.{entry as entry_of, entry_count, word as word_of};
+ghost use Rattle.elf_table_symbols.specs.SymbolRules.{entry as entry_of};
 ghost use Rattle.elf_table_symbols.specs.Symbols.{symbol_entry_in, symbols_of};
 ghost use Rattle.elf_table_symbols.specs.SymbolView.{no_symbol_entry};
+ghost use Rattle.elf_c_room.specs.Room.{extent_in};
 ghost use Rattle.elf_c.specs.Entries.{HasSymbol, dynamic_shape, relocation_shape, section_index, symbol_record, symbol_told};
 ghost use Rattle.elf_c.specs.Files.{order_named};
+ghost use Rattle.elf_c.specs.Places.{string_place};
 ghost use Rattle.elf_c.specs.Tables.{IsTableOfKind, IsTableOf, slot_bytes};
 
 use crate::names::place_of_string;
@@ -28,7 +29,8 @@ use elf_table_base::TableKind;
 use elf_table_lists::{dynamic_entry, dynamic_entry_count, relocation_at, relocation_count};
 use elf_table_symbols::{entry, word};
 
-/// Symbol `index` of a symbol table; false where there is none of this index.
+/// Symbol `index` of a symbol table; false where there is none of this index, or its `st_shndx` is `SHN_XINDEX` and the index table has no
+/// word for it, and for a table of another kind. A name of no bytes is said to stand at offset 0.
 #[unsafe(no_mangle)]
 pub extern "C" fn elfmap_symbol(
     table: &Table,
@@ -44,6 +46,7 @@ pub extern "C" fn elfmap_symbol(
         OnTrue result (symbol_record symbol.new ≡ entry_of (order f) (content f i) index) }
     ensures typed { OnTrue result (IsTableOfKind SymbolTable table.now) }
     ensures section { OnTrue result (symbol.new.st_shndx ≢ shn_xindex → symbol.new.section ≡ symbol.new.st_shndx) }
+    ensures named { OnTrue result (symbol.new.name ≡ string_place bytes.now (extent_in table.now.strings) symbol.new.st_name) }
     ensures inside { OnTrue result (symbol.new.name.start + symbol.new.name.len ≤ length bytes.now) }
     ensures unchanged { OnFalse result (symbol.new ≡ symbol.old) }
 {
@@ -60,6 +63,7 @@ fn symbol_of(table: &Table, bytes: &[u8], index: u64) -> Option<Symbol>
     ensures record { let t = table.now in
         IfSome result (λ s. symbol_record s ≡ entry_of (order_named t.ei_data) (slot_bytes bytes.now t.content) index) }
     ensures section { IfSome result (λ s. s.st_shndx ≢ shn_xindex → s.section ≡ s.st_shndx) }
+    ensures named { IfSome result (λ s. s.name ≡ string_place bytes.now (extent_in table.now.strings) s.st_name) }
     ensures inside { IfSome result (λ s. s.name.start + s.name.len ≤ length bytes.now) }
 {
     let order = order_of(table.ei_data);
@@ -101,7 +105,7 @@ fn section_index_of(order: Order, words: &[u8], st_shndx: u16, j: u64) -> Option
     }
 }
 
-/// Relocation `index` of a relocation section; false where there is none of this index.
+/// Relocation `index` of a relocation section; false where there is none of this index, and for a table of another kind.
 #[unsafe(no_mangle)]
 pub extern "C" fn elfmap_relocation(
     table: &Table,
@@ -128,7 +132,8 @@ pub extern "C" fn elfmap_relocation(
     true
 }
 
-/// Entry `index` of a dynamic array; false where there is none of this index before the first entry of tag `DT_NULL`.
+/// Entry `index` of a dynamic array; false where there is none of this index before the first entry of tag `DT_NULL`, and for a table of
+/// another kind.
 #[unsafe(no_mangle)]
 pub extern "C" fn elfmap_dynamic(
     table: &Table,
@@ -154,11 +159,12 @@ pub extern "C" fn elfmap_dynamic(
 }
 
 /// Where the string at an offset of the table's strings stands in the file, without its closing zero; false where the offset is not below
-/// their length. A string of no bytes is said to stand at offset 0.
+/// their length, whatever the kind of the table. A string of no bytes is said to stand at offset 0.
 #[unsafe(no_mangle)]
 pub extern "C" fn elfmap_string(table: &Table, bytes: &[u8], offset: u64, place: &mut Slot) -> bool
     ensures there { IsTrue result ↔ (offset < length (slot_bytes bytes.now table.now.strings)) }
     ensures value { OnTrue result (slot_bytes bytes.now place.new ≡ string (slot_bytes bytes.now table.now.strings) offset) }
+    ensures stands { OnTrue result (place.new ≡ string_place bytes.now (extent_in table.now.strings) offset) }
     ensures dynamic { (i : ℕ) → IsTableOf DynamicArray table.now bytes.now i →
         slot_bytes bytes.now table.now.strings ≡ dynamic_strings (sections_in bytes.now) i }
     ensures inside { OnTrue result (place.new.start + place.new.len ≤ length bytes.now) }

@@ -1,6 +1,5 @@
 //! How many entries a table has (gABI chapters 4 and 5).
-ghost use Rattle.std.specs.Prelude.{◌≡◌, ℕ, ◌==◌, length};
-ghost use Rattle.elf_field.specs.Abi.{SHT_RELA as sht_rela};
+ghost use Rattle.std.specs.Prelude.{◌≡◌, ℕ, length};
 ghost use Rattle.elf_table_lists.specs.Notes.{notes_in};
 ghost use Rattle.elf_c.specs.Lengths.{length_in};
 
@@ -17,6 +16,7 @@ pub fn length_of(order: Order, content: &[u8], kind: TableKind, section_type: u3
     match kind {
         TableKind::SymbolTable => content.len() / SYM_SIZE as usize,
         TableKind::RelocationTable => relocation_count(section_type == SHT_RELA, content),
+        // No accessor reads a group: elfmap_table refuses it.
         TableKind::SectionGroup => 0,
         TableKind::NoteSection => note_count(order, content),
         TableKind::DynamicArray => first_null_entry(order, content),

@@ -5,6 +5,7 @@ ghost use Rattle.elf_image_rules.specs.Tables.{bytes_in, file_counts};
 ghost use Rattle.elf_image_type.specs.Strings.{string};
 ghost use Rattle.elf_c_room.specs.Room.{extent_in};
 ghost use Rattle.elf_c.specs.Files.{IsFileOf, name_of_section};
+ghost use Rattle.elf_c.specs.Places.{name_place, string_place};
 ghost use Rattle.elf_c.specs.Tables.{slot_bytes};
 
 use crate::places::{NOWHERE, bytes_of, place_of_content, section_of};
@@ -13,12 +14,15 @@ use elf_c_room::Slot;
 use elf_field::abi::SHT_NULL;
 use elf_image_type::strings::string_at;
 
-/// Where the name of section `index` stands in the file, without its closing zero; false where there is no section of this index.
+/// Where the name of section `index` stands in the file, without its closing zero; false where there is no section of this index, or its
+/// header doesn't lie in the bytes, or that of the section name string table doesn't, where the name is looked for there. A name of no bytes
+/// is said to stand at offset 0.
 #[unsafe(no_mangle)]
 pub extern "C" fn elfmap_name(file: &File, bytes: &[u8], index: u64, name: &mut Slot) -> bool
     ensures there { IsFileOf file.now bytes.now → IsTrue result ↔ (index < (file_counts bytes.now).sections) }
     ensures value { IsFileOf file.now bytes.now →
         OnTrue result (bytes_in bytes.now (extent_in name.new) ≡ name_of_section bytes.now index) }
+    ensures stands { IsFileOf file.now bytes.now → OnTrue result (name.new ≡ name_place bytes.now index) }
     ensures inside { OnTrue result (name.new.start + name.new.len ≤ length bytes.now) }
     ensures unchanged { OnFalse result (name.new ≡ name.old) }
 {
@@ -31,6 +35,7 @@ fn name_of(file: &File, bytes: &[u8], index: u64) -> Option<Slot>
     ensures there { IsFileOf file.now bytes.now → IsSome result ↔ (index < (file_counts bytes.now).sections) }
     ensures value { IsFileOf file.now bytes.now →
         IfSome result (λ place. bytes_in bytes.now (extent_in place) ≡ name_of_section bytes.now index) }
+    ensures stands { IsFileOf file.now bytes.now → IfSome result (λ place. place ≡ name_place bytes.now index) }
     ensures inside { IfSome result (λ place. place.start + place.len ≤ length bytes.now) }
 {
     let section = section_of(file, bytes, index)?;
@@ -44,6 +49,7 @@ fn name_of(file: &File, bytes: &[u8], index: u64) -> Option<Slot>
 /// Where the string at an offset of a string table stands in the file; one of no bytes nowhere.
 pub fn place_of_string(bytes: &[u8], table: Slot, offset: u64) -> Slot
     ensures value { slot_bytes bytes.now result ≡ string (slot_bytes bytes.now table) offset }
+    ensures stands { result ≡ string_place bytes.now (extent_in table) offset }
     ensures inside { result.start + result.len ≤ length bytes.now }
 {
     let strings = bytes_of(bytes, table);

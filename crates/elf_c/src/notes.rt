@@ -1,11 +1,12 @@
 //! The notes of note sections (gABI chapter 5, Note Section).
 ghost use Rattle.std.specs.Prelude.{◌≡◌, ℕ, ◌+◌, ◌<◌, ◌≤◌, ◌↔◌, IfNone, IfSome, IsSome, IsTrue, SomeIff, get_or, length};
 ghost use Rattle.std.specs.Bool.{OnFalse, OnTrue};
-ghost use Rattle.elf_table_base.specs.Sections.{sections_in};
+ghost use Rattle.elf_table_base.specs.Sections.{content, order, sections_in};
 ghost use Rattle.elf_table_base.specs.declared.table_kind.TableKind.TheVariants.{NoteSection};
 ghost use Rattle.elf_table_lists.specs.Notes.{note_at as note_of_content, note_end as note_end_of, note_offset, notes_of};
 ghost use Rattle.elf_c.specs.Entries.{HasNoteAt, LiesInFile, no_note_value, note_told};
 ghost use Rattle.elf_c.specs.Files.{order_named};
+ghost use Rattle.elf_c.specs.Places.{NoteStandsAt};
 ghost use Rattle.elf_c.specs.Tables.{IsTableOfKind, IsTableOf, slot_bytes};
 
 use crate::places::{bytes_of, order_of};
@@ -17,13 +18,18 @@ use elf_field::{Order, get_at};
 use elf_table_base::TableKind;
 use elf_table_lists::{desc_start, descsz, namesz, note_end};
 
-/// Note `index` of a note section; false where there is none of this index. It goes over the notes before it.
+/// Note `index` of a note section; false where there is none of this index, or it or one before it is cut, and for a table of another kind.
+/// It goes over the notes before it.
 #[unsafe(no_mangle)]
 pub extern "C" fn elfmap_note(table: &Table, bytes: &[u8], index: u64, note: &mut Note) -> bool
     ensures there { (i : ℕ) → IsTableOf NoteSection table.now bytes.now i →
         IsTrue result ↔ (index < length (notes_of (sections_in bytes.now) i)) }
     ensures value { (i : ℕ) → IsTableOf NoteSection table.now bytes.now i →
         OnTrue result (note_told bytes.now note.new ≡ get_or (notes_of (sections_in bytes.now) i) index no_note_value) }
+    ensures next { (i : ℕ) → IsTableOf NoteSection table.now bytes.now i → let f = sections_in bytes.now in
+        OnTrue result (note.new.next ≡ note_offset (order f) (content f i) 0 (index + 1)) }
+    ensures stands { let t = table.now in let o = order_named t.ei_data in let notes = slot_bytes bytes.now t.content in
+        OnTrue result (NoteStandsAt note.new o notes t.content.start (note_offset o notes 0 index)) }
     ensures typed { OnTrue result (IsTableOfKind NoteSection table.now) }
     ensures inside { OnTrue result (LiesInFile note.new (length bytes.now)) }
     ensures unchanged { OnFalse result (note.new ≡ note.old) }
@@ -31,7 +37,7 @@ pub extern "C" fn elfmap_note(table: &Table, bytes: &[u8], index: u64, note: &mu
     put(note_of_index(table, bytes, index), note)
 }
 
-/// The note at an offset of a note section; false where none begins there that is whole.
+/// The note at an offset of a note section; false where none begins there that is whole, and for a table of another kind.
 #[unsafe(no_mangle)]
 pub extern "C" fn elfmap_note_at(table: &Table, bytes: &[u8], offset: u64, note: &mut Note) -> bool
     ensures there { IsTrue result ↔ HasNoteAt table.now bytes.now offset }
@@ -39,6 +45,8 @@ pub extern "C" fn elfmap_note_at(table: &Table, bytes: &[u8], offset: u64, note:
         OnTrue result (note_told bytes.now note.new ≡ note_of_content (order_named t.ei_data) content offset) }
     ensures next { let t = table.now in let content = slot_bytes bytes.now t.content in
         OnTrue result (note.new.next ≡ note_end_of (order_named t.ei_data) content offset) }
+    ensures stands { let t = table.now in
+        OnTrue result (NoteStandsAt note.new (order_named t.ei_data) (slot_bytes bytes.now t.content) t.content.start offset) }
     ensures inside { OnTrue result (LiesInFile note.new (length bytes.now)) }
     ensures unchanged { OnFalse result (note.new ≡ note.old) }
 {
@@ -51,6 +59,10 @@ fn note_of_index(table: &Table, bytes: &[u8], index: u64) -> Option<Note>
         IsSome result ↔ (index < length (notes_of (sections_in bytes.now) i)) }
     ensures value { (i : ℕ) → IsTableOf NoteSection table.now bytes.now i →
         IfSome result (λ n. note_told bytes.now n ≡ get_or (notes_of (sections_in bytes.now) i) index no_note_value) }
+    ensures next { (i : ℕ) → IsTableOf NoteSection table.now bytes.now i → let f = sections_in bytes.now in
+        IfSome result (λ n. n.next ≡ note_offset (order f) (content f i) 0 (index + 1)) }
+    ensures stands { let t = table.now in let o = order_named t.ei_data in let notes = slot_bytes bytes.now t.content in
+        IfSome result (λ n. NoteStandsAt n o notes t.content.start (note_offset o notes 0 index)) }
     ensures typed { IfSome result (λ n. IsTableOfKind NoteSection table.now) }
     ensures inside { IfSome result (λ n. LiesInFile n (length bytes.now)) }
 {
@@ -66,6 +78,8 @@ fn note_of(table: &Table, bytes: &[u8], offset: u64) -> Option<Note>
         IfSome result (λ n. note_told bytes.now n ≡ note_of_content (order_named t.ei_data) content offset) }
     ensures next { let t = table.now in let content = slot_bytes bytes.now t.content in
         IfSome result (λ n. n.next ≡ note_end_of (order_named t.ei_data) content offset) }
+    ensures stands { let t = table.now in
+        IfSome result (λ n. NoteStandsAt n (order_named t.ei_data) (slot_bytes bytes.now t.content) t.content.start offset) }
     ensures inside { IfSome result (λ n. LiesInFile n (length bytes.now)) }
 {
     if !is_of_kind(table, TableKind::NoteSection) {
@@ -100,6 +114,7 @@ fn note_in(order: Order, bytes: &[u8], at: usize, next: usize) -> Note
     requires { note_end_of order bytes.now at ≤ length bytes.now }
     ensures value { note_told bytes.now result ≡ note_of_content order bytes.now at }
     ensures next { result.next ≡ next }
+    ensures stands { NoteStandsAt result order bytes.now 0 at }
     ensures inside { LiesInFile result (length bytes.now) }
 {
     Note {

@@ -56,6 +56,7 @@ fn linked_of(
         SomeIff result (IsLinkThere (Some kind) f link) (linked_place (Some kind) f index link, strings_place (Some kind) f link) }
 {
     match kind {
+        // No accessor reads the members of a group.
         TableKind::SectionGroup => None,
         TableKind::NoteSection => Some((NOWHERE, NOWHERE)),
         TableKind::RelocationTable => {

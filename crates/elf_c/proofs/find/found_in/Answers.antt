@@ -1,9 +1,23 @@
 use Rattle.std.proofs.Common.{◌↔◌, ℕ, subst}
 use Rattle.std.specs.Prelude.{IsSome}
+use Rattle.elf_table_base.specs.declared.table_kind.TableKind.TheVariants.{HashTable}
 use Rattle.elf_table_hash.specs.HashTable.{Valid}
 use Rattle.elf_table_hash.specs.Probe.{HasSymbolNamed, HashValue, IsProbed}
 use Rattle.elf_c.proofs.HashReads.{table_hash, table_valid}
+use Rattle.elf_c.proofs.TableReads.{table_kind}
 use Rattle.elf_c.proofs.find.found_in.Goals as goal
+
+pub returns-then-not-is_of_kind-clause-there : goal.returns-then-not-is_of_kind-clause-there
+returns-then-not-is_of_kind-clause-there c i is =
+    let typed = c.is_of_kind.ensures.1 (table_kind HashTable c.args.table.now c.args.bytes.now i is) in
+    let other = c.if-not-is_of_kind.true in
+    absurd cc
+
+pub returns-then-not-is_of_kind-clause-value : goal.returns-then-not-is_of_kind-clause-value
+returns-then-not-is_of_kind-clause-value c i is =
+    let typed = c.is_of_kind.ensures.1 (table_kind HashTable c.args.table.now c.args.bytes.now i is) in
+    let other = c.if-not-is_of_kind.true in
+    absurd cc
 
 pub returns-clause-there : goal.returns-clause-there
 returns-clause-there c i is =

@@ -2,9 +2,10 @@ use Rattle.std.proofs.Common.{ap, ◌∙◌}
 use Rattle.elf_extent.specs.declared.extent.Extent.{Extent}
 use Rattle.elf_image_rules.specs.Tables.{bytes_in}
 use Rattle.elf_image_type.specs.Strings.{string}
+use Rattle.elf_c.specs.Places.{string_place}
 use Rattle.elf_c.proofs.Absent.{none_there}
 use Rattle.elf_c.proofs.FileEntries.{section_at, section_below}
-use Rattle.elf_c.proofs.SectionNames.{name_in_table, name_of_null, name_without_table, table_below}
+use Rattle.elf_c.proofs.SectionNames.{name_in_table, name_of_null, name_without_table, place_in_table, place_of_null, place_without_table, table_below}
 use Rattle.elf_c.proofs.names.name_of.Goals as goal
 use Rattle.elf_c.proofs.names.name_of.Goals.{then-section-eq-SHT_NULL-via-then-section-eq-SHT_NULL, then-section-eq-SHT_NULL-via-else-section-eq-SHT_NULL+then-file-eq0}
 
@@ -25,6 +26,18 @@ returns-then-section-eq-SHT_NULL-clause-value c is =
       | then-section-eq-SHT_NULL-via-else-section-eq-SHT_NULL+then-file-eq0 w ↦ name_without_table f b i is w.if-file-eq0.true
     ]
 
+pub returns-then-section-eq-SHT_NULL-clause-stands : goal.returns-then-section-eq-SHT_NULL-clause-stands
+returns-then-section-eq-SHT_NULL-clause-stands c is =
+    let f = c.args.file.now in
+    let b = c.args.bytes.now in
+    let i = c.args.index in
+    let below = section_below f b i _ is c.in_ok-section.ensures.read.0 in
+    elim c.then-section-eq-SHT_NULL.branch [
+      | then-section-eq-SHT_NULL-via-then-section-eq-SHT_NULL w ↦
+          place_of_null b i c.in_ok-section.section (c.in_ok-section.ensures.read.1 ∙ (section_at f b i is below).read) w.if-section-eq-SHT_NULL.true
+      | then-section-eq-SHT_NULL-via-else-section-eq-SHT_NULL+then-file-eq0 w ↦ place_without_table f b i is w.if-file-eq0.true
+    ]
+
 pub returns-in_err-table-clause-there : goal.returns-in_err-table-clause-there
 returns-in_err-table-clause-there c is =
     let f = c.args.file.now in
@@ -41,4 +54,16 @@ returns-clause-value c is =
     c.place_of_string.ensures.value
     ∙ ap (λ (e : Extent). string (bytes_in b e) c.in_ok-section.section.sh_name) c.place_of_content.ensures
     ∙ name_in_table f b i c.in_ok-section.section c.in_ok-table.table is (c.in_ok-section.ensures.read.1 ∙ (section_at f b i is below).read)
+    (c.in_ok-table.ensures.read.1 ∙ table.read) c.if-section-eq-SHT_NULL.false c.if-file-eq0.false
+
+pub returns-clause-stands : goal.returns-clause-stands
+returns-clause-stands c is =
+    let f = c.args.file.now in
+    let b = c.args.bytes.now in
+    let i = c.args.index in
+    let below = section_below f b i _ is c.in_ok-section.ensures.read.0 in
+    let table = section_at f b f.name_table is (table_below f b is c.if-file-eq0.false) in
+    c.place_of_string.ensures.stands
+    ∙ ap (λ (e : Extent). string_place b e c.in_ok-section.section.sh_name) c.place_of_content.ensures
+    ∙ place_in_table f b i c.in_ok-section.section c.in_ok-table.table is (c.in_ok-section.ensures.read.1 ∙ (section_at f b i is below).read)
     (c.in_ok-table.ensures.read.1 ∙ table.read) c.if-section-eq-SHT_NULL.false c.if-file-eq0.false

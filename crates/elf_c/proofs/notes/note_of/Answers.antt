@@ -3,9 +3,10 @@ use Rattle.elf_field.specs.declared.order.Order.{Order}
 use Rattle.elf_table_lists.specs.Notes.{note_at, note_end}
 use Rattle.elf_table_lists.proofs.Public.{note_in_file}
 use Rattle.elf_c_room.specs.Room.{extent_in}
+use Rattle.elf_c.specs.Places.{NoteStandsAt}
 use Rattle.elf_c.specs.Tables.{slot_bytes}
 use Rattle.elf_c.proofs.NoteLengths.{note_end_above}
-use Rattle.elf_c.proofs.NoteReads.{length-bytes_in, note_end_in_file}
+use Rattle.elf_c.proofs.NoteReads.{length-bytes_in, note_end_in_file, note_stands_in_file}
 use Rattle.elf_c.proofs.notes.note_of.Goals as goal
 
 pub overflow_add-at : goal.overflow_add-at
@@ -42,3 +43,14 @@ returns-clause-value c =
     let most = length-bytes_in b (extent_in place) in
     c.note_in.ensures.value ∙ sym (note_in_file o b (extent_in place) c.args.offset (omega arith))
     ∙ ap (λ (p : Order). note_at p (slot_bytes b place) c.args.offset) c.order_of-order.ensures
+
+pub returns-clause-stands : goal.returns-clause-stands
+returns-clause-stands c =
+    let o = c.order_of-order.result in
+    let b = c.args.bytes.now in
+    let place = c.args.table.now.content in
+    let own : note_end o (slot_bytes b place) c.args.offset ≤ length (slot_bytes b place) =
+    subst (λ (s : List ℕ). note_end o s c.args.offset ≤ length s) c.bytes_of-content.ensures.content c.in_ok-next.ensures.0 in
+    let most = length-bytes_in b (extent_in place) in
+    subst (λ (p : Order). NoteStandsAt c.note_in.result p (slot_bytes b place) place.start c.args.offset) c.order_of-order.ensures
+    (note_stands_in_file c.note_in.result o b (extent_in place) c.args.offset (omega arith) c.note_in.ensures.stands)

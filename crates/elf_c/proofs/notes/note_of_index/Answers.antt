@@ -1,14 +1,16 @@
-use Rattle.std.proofs.Common.{◌≡◌, ◌<◌, ◌≤◌, ◌↔◌, ℕ, List, ap, length, subst, sym, ◌∙◌}
+use Rattle.std.proofs.Common.{◌≡◌, ◌<◌, ◌≤◌, ◌+◌, ◌↔◌, ℕ, List, ap, length, subst, sym, ◌∙◌}
 use Rattle.elf_field.specs.declared.order.Order.{Order}
 use Rattle.elf_table_base.specs.declared.table_kind.TableKind.TheVariants.{NoteSection}
-use Rattle.elf_table_base.specs.Sections.{sections_in}
+use Rattle.elf_table_base.specs.Sections.{content, order, sections_in}
 use Rattle.elf_table_lists.specs.Notes.{note_at, note_end, note_offset, notes_of}
 use Rattle.elf_c.specs.Entries.{note_told}
 use Rattle.elf_c.specs.Files.{order_named}
 use Rattle.elf_c.specs.Tables.{slot_bytes}
+use Rattle.elf_c.specs.declared.shapes.Note.{Note}
 use Rattle.elf_c.proofs.Absent.{none_there, some_same}
+use Rattle.elf_c.proofs.NoteLengths.{note_offset_after}
 use Rattle.elf_c.proofs.NoteReads.{none_behind, note_by_numbers, note_there}
-use Rattle.elf_c.proofs.TableReads.{table_kind}
+use Rattle.elf_c.proofs.TableReads.{table_content, table_kind, table_order}
 use Rattle.elf_c.proofs.notes.note_of_index.Goals as goal
 
 -- an offset by the bytes that were read is the one by the numbers of the table
@@ -51,3 +53,26 @@ returns-clause-value c i is =
     some_same (note_told b) _ _ c.note_of.result c.note_of.ensures.value
     (λ some. ap (note_at o s) place
     ∙ note_by_numbers t b i c.args.index is (subst (λ (x : ℕ). note_end o s x ≤ length s) place (c.note_of.ensures.there.0 some).1))
+
+pub returns-clause-next : goal.returns-clause-next
+returns-clause-next c i is =
+    let t = c.args.table.now in
+    let b = c.args.bytes.now in
+    let f = sections_in b in
+    let o = order_named t.ei_data in
+    let s = slot_bytes b t.content in
+    let j = c.args.index in
+    let place = same_offset c.order_of.result o c.bytes_of-content.result.now s c.in_ok-offset.offset j c.in_ok-offset.ensures.found
+    c.order_of.ensures c.bytes_of-content.ensures.content in
+    some_same (λ (n : Note). n.next) _ _ c.note_of.result c.note_of.ensures.next
+    (λ _. same_offset o (order f) s (content f i) (note_end o s c.in_ok-offset.offset) (j + 1) (note_offset_after o s c.in_ok-offset.offset j place)
+    (table_order NoteSection t b i is) (table_content NoteSection t b i is))
+
+pub returns-clause-stands : goal.returns-clause-stands
+returns-clause-stands c =
+    let t = c.args.table.now in
+    let o = order_named t.ei_data in
+    let s = slot_bytes c.args.bytes.now t.content in
+    let place = same_offset c.order_of.result o c.bytes_of-content.result.now s c.in_ok-offset.offset c.args.index c.in_ok-offset.ensures.found
+    c.order_of.ensures c.bytes_of-content.ensures.content in
+    rw (← place) c.note_of.ensures.stands
