@@ -17,8 +17,8 @@ abbrev pub slot_looks : SlotRow → ℕ
 slot_looks row = row.looks
 
 -- there is a slot for each extent of the file, where it keeps rules 1 to 32; no other file wants a room
-abbrev pub HasRoom : List ℕ → ℕ → Type 0
-HasRoom b count = KeepsRecordRules b → length (extents_of_file b) ≤ count
+abbrev pub HasSlotsFor : List ℕ → ℕ → Type 0
+HasSlotsFor b count = KeepsRecordRules b → length (extents_of_file b) ≤ count
 
 -- the file keeps rules 1 to 32, and wants a room of as many slots as it has extents, which is more than there are
 pub record IsShortRoom (b : List ℕ) (count wanted : ℕ) : Type 0 where

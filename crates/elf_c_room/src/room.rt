@@ -5,7 +5,7 @@ ghost use Rattle.elf_extent.specs.Extent.{Doubly, holds_any};
 ghost use Rattle.elf_extent.specs.Least.{IsLowest};
 ghost use Rattle.elf_image_rules.specs.ImageRules.{IsFault, extents_of_file};
 ghost use Rattle.elf_image_rules.specs.JudgedRecords.{file_of};
-ghost use Rattle.elf_c_room.specs.Room.{HasRoom, IsShortRoom, extent_in};
+ghost use Rattle.elf_c_room.specs.Room.{HasSlotsFor, IsShortRoom, extent_in};
 
 use crate::extents::{extent_at, extent_count, extents_wanted};
 use elf_extent::{Extent, Row, sweep};
@@ -34,7 +34,7 @@ pub struct ShortRoom {
 /// extents, and in a smaller one is not judged by rule 33.
 pub fn verdict_in(bytes: &[u8], room: &mut [Slot]) -> Result<Option<(u16, u64)>, ShortRoom>
     ensures fault { IfOk result (λ found. IsFault bytes.now found) }
-    ensures enough { OnOk result (HasRoom bytes.now (length room.old)) }
+    ensures enough { OnOk result (HasSlotsFor bytes.now (length room.old)) }
     ensures short { IfErr result (λ short. IsShortRoom bytes.now (length room.old) short.wanted) }
 {
     let records = match judge_records(bytes) {
@@ -55,7 +55,7 @@ pub fn verdict_in(bytes: &[u8], room: &mut [Slot]) -> Result<Option<(u16, u64)>,
 fn told_in(bytes: &[u8], count: u64, broken: &Broken<u64>) -> Result<Option<(u16, u64)>, ShortRoom>
     requires { IsFault bytes.now (Some (broken.now.rule, broken.now.at)) }
     ensures fault { IfOk result (λ found. IsFault bytes.now found) }
-    ensures enough { OnOk result (HasRoom bytes.now count) }
+    ensures enough { OnOk result (HasSlotsFor bytes.now count) }
     ensures short { IfErr result (λ short. IsShortRoom bytes.now count short.wanted) }
 {
     // The contract of `judge_records` does not leave out that it tells rule 33.
