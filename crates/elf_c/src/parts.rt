@@ -2,7 +2,7 @@
 ghost use Rattle.std.specs.Prelude.{◌≡◌, ◌≢◌, ◌≤◌, None, Some, length};
 ghost use Rattle.std.specs.Bool.{OnFalse, OnTrue};
 ghost use Rattle.elf_image_rules.specs.ImageRules.{IsFault};
-ghost use Rattle.elf_c_parts.specs.Parts.{AccountsFor, IsShortOfParts, parts_wanted};
+ghost use Rattle.elf_c_parts.specs.Parts.{AccountsFor, HasPartsFor, IsShortOfParts, parts_wanted};
 ghost use Rattle.elf_c.specs.Verdicts.{SHORT_ROOM as short_room};
 
 use crate::shapes::Fault;
@@ -23,6 +23,7 @@ pub extern "C" fn elfmap_parts(
     ensures within { OnTrue result (parts.new ≤ length room.new) }
     ensures account { OnTrue result (AccountsFor bytes.now parts.new room.new) }
     ensures broken { OnFalse result (fault.new.rule ≢ short_room → IsFault bytes.now (Some (fault.new.rule, fault.new.at))) }
+    ensures enough { OnFalse result (fault.new.rule ≢ short_room) → HasPartsFor bytes.now (length room.old) }
     ensures short { OnFalse result (fault.new.rule ≡ short_room → IsShortOfParts bytes.now (length room.old) fault.new.at) }
     ensures fault_unchanged { OnTrue result (fault.new ≡ fault.old) }
     ensures parts_unchanged { OnFalse result (parts.new ≡ parts.old) }

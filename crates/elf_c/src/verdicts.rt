@@ -2,7 +2,8 @@
 ghost use Rattle.std.specs.Prelude.{◌≡◌, ◌≢◌, None, Some, length};
 ghost use Rattle.std.specs.Bool.{OnFalse, OnTrue};
 ghost use Rattle.elf_image_rules.specs.ImageRules.{IsFault};
-ghost use Rattle.elf_c.specs.Verdicts.{SHORT_ROOM as short_room, IsShortRoom};
+ghost use Rattle.elf_c_room.specs.Room.{HasSlotsFor, IsShortRoom};
+ghost use Rattle.elf_c.specs.Verdicts.{SHORT_ROOM as short_room};
 
 use crate::shapes::Fault;
 use elf_c_room::{ShortRoom, Slot, verdict_in};
@@ -32,6 +33,7 @@ pub extern "C" fn elfmap_verdict(bytes: &[u8], fault: &mut Fault) -> bool
 pub extern "C" fn elfmap_verdict_in(bytes: &[u8], room: &mut [Slot], fault: &mut Fault) -> bool
     ensures kept { OnTrue result (IsFault bytes.now None) }
     ensures broken { OnFalse result (fault.new.rule ≢ short_room → IsFault bytes.now (Some (fault.new.rule, fault.new.at))) }
+    ensures enough { OnFalse result (fault.new.rule ≢ short_room) → HasSlotsFor bytes.now (length room.old) }
     ensures short { OnFalse result (fault.new.rule ≡ short_room → IsShortRoom bytes.now (length room.old) fault.new.at) }
     ensures unchanged { OnTrue result (fault.new ≡ fault.old) }
 {

@@ -1,5 +1,5 @@
 -- What each byte of a file belongs to, in the slots of a room.
-use Rattle.std.specs.Prelude.{◌≡◌, ◌<◌, ◌+◌, ◌*◌, ◌-◌, ◌^◌, ◌==◌, if◌then◌else◌, ℕ, List, None, Some, length, map, take}
+use Rattle.std.specs.Prelude.{◌≡◌, ◌≤◌, ◌<◌, ◌+◌, ◌*◌, ◌-◌, ◌^◌, ◌==◌, if◌then◌else◌, ℕ, List, None, Some, length, map, take}
 use Rattle.elf_extent.specs.declared.extent.Extent.{Extent}
 use Rattle.elf_extent.specs.declared.extent.Piece.{Piece}
 use Rattle.elf_extent.specs.declared.members.Member.{Member}
@@ -36,6 +36,10 @@ AccountsFor b count parts = Accounts (extents_of_file b) (length b) 0 (map piece
 abbrev pub parts_wanted : List ℕ → ℕ
 parts_wanted b = 3 * length (extents_of_file b) + 1
 
+-- a room of so many parts is large enough for the file, where it keeps rules 1 to 32; no other file wants a room
+abbrev pub HasPartsFor : List ℕ → ℕ → Type 0
+HasPartsFor b count = KeepsRecordRules b → parts_wanted b ≤ count
+
 -- the file keeps rules 1 to 32, and wants more parts than there are
 pub record IsShortOfParts (b : List ℕ) (count wanted : ℕ) : Type 0 where
   pub kept : KeepsRecordRules b
@@ -44,5 +48,5 @@ pub record IsShortOfParts (b : List ℕ) (count wanted : ℕ) : Type 0 where
 
 -- why the parts of a file are not told in a room of so many
 abbrev pub IsPartsRefusal : List ℕ → ℕ → PartsFault → Type 0
-IsPartsRefusal b count (Rule rule at) = IsFault b (Some (rule, at))
+IsPartsRefusal b count (Rule rule at) = IsFault b (Some (rule, at)) × HasPartsFor b count
 IsPartsRefusal b count (ShortRoom wanted) = IsShortOfParts b count wanted

@@ -1,1 +1,2 @@
+mod RecordRules
 mod Slots

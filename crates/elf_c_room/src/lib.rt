@@ -14,5 +14,5 @@
 mod extents;
 mod room;
 
-pub use extents::{BEFORE_CONTENTS, extent_at, extent_count};
+pub use extents::{BEFORE_CONTENTS, extent_at, extent_count, extents_wanted};
 pub use room::{ShortRoom, Slot, verdict_in};

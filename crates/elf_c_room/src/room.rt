@@ -1,16 +1,16 @@
 //! The verdict on a file, by a room for its extents.
-ghost use Rattle.std.specs.Prelude.{◌≡◌, ◌≤◌, ◌<◌, IfErr, IfOk, filter, length, map, take};
+ghost use Rattle.std.specs.Prelude.{◌≡◌, ◌≤◌, ◌<◌, IfErr, IfOk, OnOk, Some, filter, length, map, take};
 ghost use Rattle.std.specs.List.{All};
 ghost use Rattle.elf_extent.specs.Extent.{Doubly, holds_any};
 ghost use Rattle.elf_extent.specs.Least.{IsLowest};
-ghost use Rattle.elf_image_rules.specs.ImageRules.{IsFault, KeepsRecordRules, extents_of_file};
+ghost use Rattle.elf_image_rules.specs.ImageRules.{IsFault, extents_of_file};
 ghost use Rattle.elf_image_rules.specs.JudgedRecords.{file_of};
-ghost use Rattle.elf_c_room.specs.Room.{extent_in};
+ghost use Rattle.elf_c_room.specs.Room.{HasSlotsFor, IsShortRoom, extent_in};
 
-use crate::extents::{extent_at, extent_count};
+use crate::extents::{extent_at, extent_count, extents_wanted};
 use elf_extent::{Extent, Row, sweep};
 use elf_image_rules::rules::SHARED_BYTE;
-use elf_image_rules::{JudgedRecords, judge_records};
+use elf_image_rules::{Broken, JudgedRecords, judge_records};
 
 /// `struct elfmap_extent`: a slot of a room, which holds an extent of a file.
 #[repr(C)]
@@ -34,13 +34,12 @@ pub struct ShortRoom {
 /// extents, and in a smaller one is not judged by rule 33.
 pub fn verdict_in(bytes: &[u8], room: &mut [Slot]) -> Result<Option<(u16, u64)>, ShortRoom>
     ensures fault { IfOk result (λ found. IsFault bytes.now found) }
-    ensures kept { IfErr result (λ short. KeepsRecordRules bytes.now) }
-    ensures wanted { IfErr result (λ short. short.wanted ≡ length (extents_of_file bytes.now)) }
-    ensures short { IfErr result (λ short. length room.old < short.wanted) }
+    ensures enough { OnOk result (HasSlotsFor bytes.now (length room.old)) }
+    ensures short { IfErr result (λ short. IsShortRoom bytes.now (length room.old) short.wanted) }
 {
     let records = match judge_records(bytes) {
         Ok(records) => records,
-        Err(broken) => return Ok(Some((broken.rule, broken.at))),
+        Err(broken) => return told_in(bytes, room.len() as u64, &broken),
     };
     let wanted = extent_count(&records);
     if (room.len() as u64) < wanted {
@@ -49,6 +48,20 @@ pub fn verdict_in(bytes: &[u8], room: &mut [Slot]) -> Result<Option<(u16, u64)>,
     match lowest_shared_byte(&records, room) {
         Some(at) => Ok(Some((SHARED_BYTE, at))),
         None => Ok(None),
+    }
+}
+
+/// The first rule that the file breaks, where it is one of 1 to 32, or there are as many slots as the file has extents.
+fn told_in(bytes: &[u8], count: u64, broken: &Broken<u64>) -> Result<Option<(u16, u64)>, ShortRoom>
+    requires { IsFault bytes.now (Some (broken.now.rule, broken.now.at)) }
+    ensures fault { IfOk result (λ found. IsFault bytes.now found) }
+    ensures enough { OnOk result (HasSlotsFor bytes.now count) }
+    ensures short { IfErr result (λ short. IsShortRoom bytes.now count short.wanted) }
+{
+    // The contract of `judge_records` does not leave out that it tells rule 33.
+    match extents_wanted(bytes, broken) {
+        Some(wanted) if count < wanted => Err(ShortRoom { wanted }),
+        _ => Ok(Some((broken.rule, broken.at))),
     }
 }
 

@@ -35,10 +35,11 @@ put_account-requires-clause-ascending c =
 pub returns-in-Some-clause-fault : goal.returns-in-Some-clause-fault
 returns-in-Some-clause-fault c =
     let b = file_of c.args.records.now in
-    fault_of_extents b (Some c.in-Some.at) c.requires.kept
+    let fault = fault_of_extents b (Some c.in-Some.at) c.requires.kept
     (lowest_sorted (extents_of_file b) _ (Some c.in-Some.at)
     (held_moved (extents_of_file (file_of c.args.records.now)) _ _ _ _ c.put_members-count.ensures.held c.split_at_mut-members.ensures.front c.sort_unstable_by_key.ensures.permutation)
-    c.in-Some.ensures)
+    c.in-Some.ensures) in
+    (fault, λ kept. c.requires.room)
 
 pub returns-in-None-clause-kept : goal.returns-in-None-clause-kept
 returns-in-None-clause-kept c =

@@ -1,0 +1,10 @@
+use Rattle.std.proofs.Common.{◌≡◌, arith, length}
+use Rattle.elf_image_rules.specs.ImageRules.{extents_of_file}
+use Rattle.elf_c_parts.proofs.FileExtents.{few_parts}
+use Rattle.elf_c_parts.proofs.filing.parts_in.Goals as goal
+
+pub slots_wanted-wanted-requires : goal.slots_wanted-wanted-requires
+slots_wanted-wanted-requires c =
+    let few = few_parts c.args.bytes.now c.in-Ok.ensures.kept in
+    let count : c.extent_count.result ≡ length (extents_of_file c.args.bytes.now) = rw c.in-Ok.ensures.file at c.extent_count.ensures in
+    omega arith
