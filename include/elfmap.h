@@ -203,9 +203,9 @@ bool elfmap_parts(const uint8_t *bytes, size_t len, struct elfmap_part *room, si
  * of program headers.
  *
  * They don't judge: of bytes that break a rule elfmap_file, elfmap_header, elfmap_section and elfmap_segment tell what stands where the
- * header says, if it lies in the file; the claims on elfmap_load and elfmap_name are of a file that keeps rules 1 to 32. `file` is to be
- * what elfmap_file made of the same bytes. With any other numbers in it, or of other bytes, elfmap_section and elfmap_segment go by these
- * numbers, what elfmap_load and elfmap_name answer says nothing, and yet no call reads outside of the bytes.
+ * header says, if it lies in the file; what elfmap_load and elfmap_name tell is claimed of a file that keeps rules 1 to 32. `file` is to
+ * be what elfmap_file made of the same bytes. With any other numbers in it, or of other bytes, elfmap_section and elfmap_segment go by
+ * these numbers, what elfmap_load and elfmap_name tell says nothing, and yet no call reads outside of the bytes.
  */
 
 /*
@@ -240,8 +240,8 @@ bool elfmap_load(const struct elfmap_file *file, const uint8_t *bytes, size_t le
  * Where the name of section `index` stands, without its closing zero: it always lies in the bytes, at offset `sh_name` of the section name
  * string table. Both numbers are 0 where the name has no bytes, as that of a section header of type SHT_NULL (0), or of any one where there
  * is no section name string table or an empty one. Of a file that keeps rules 1 to 32 it is true exactly where `index` is below
- * `file->sections`. Of any other it is false also where the section header does not lie in the file, or that of the section name string
- * table does not.
+ * `file->sections`. Of any other it is false too where the section header does not lie in the file, or that of the section name string
+ * table does not and the name is looked for there.
  */
 bool elfmap_name(const struct elfmap_file *file, const uint8_t *bytes, size_t len, uint64_t index, struct elfmap_extent *name);
 

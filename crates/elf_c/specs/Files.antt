@@ -1,6 +1,7 @@
 -- The numbers of a file that its accessors need, and what they tell of it.
 use Rattle.std.specs.Prelude.{◌≡◌, ◌≢◌, ◌<◌, ◌≤◌, ◌+◌, ◌*◌, ◌==◌, if◌then◌else◌, ℕ, List, [], length, slice_index}
 use Rattle.elf_field.specs.Abi.{EHDR_SIZE, EI_DATA, ELFDATA2MSB, SHDR_SIZE, SHT_NULL}
+use Rattle.elf_field.specs.Shdr.{shdr_at}
 use Rattle.elf_field.specs.declared.order.Order.{Order}
 use Rattle.elf_field.specs.declared.order.Order.TheVariants.{Little, Big}
 use Rattle.elf_image_rules.specs.ImageRules.{KeepsRecordRules}
@@ -43,6 +44,16 @@ file_order file = order_named file.ei_data
 -- a table of so many entries has one of this index, which lies in a file of len bytes
 abbrev pub HasEntry : ℕ → ℕ → ℕ → ℕ → ℕ → Type 0
 HasEntry count table size index len = (index < count) × (table + size * index + size ≤ len)
+
+-- section header i lies in a file of these bytes
+abbrev pub HasSectionHeader : File → List ℕ → ℕ → Type 0
+HasSectionHeader f b i = HasEntry f.sections f.e_shoff SHDR_SIZE i (length b)
+
+-- and that of the section name string table does too, where its name is looked for there
+abbrev pub HasName : File → List ℕ → ℕ → Type 0
+HasName f b i =
+    HasSectionHeader f b i ×
+    ((shdr_at (file_order f) b (f.e_shoff + SHDR_SIZE * i)).sh_type ≢ SHT_NULL → f.name_table ≢ 0 → HasSectionHeader f b f.name_table)
 
 -- the name of section i: a string of the section name string table, and empty for an entry of type NULL
 abbrev pub name_of_section : List ℕ → ℕ → List ℕ

@@ -4,7 +4,7 @@ ghost use Rattle.std.specs.Bool.{OnFalse, OnTrue};
 ghost use Rattle.elf_image_rules.specs.Tables.{bytes_in, file_counts};
 ghost use Rattle.elf_image_type.specs.Strings.{string};
 ghost use Rattle.elf_c_room.specs.Room.{extent_in};
-ghost use Rattle.elf_c.specs.Files.{IsFileOf, name_of_section};
+ghost use Rattle.elf_c.specs.Files.{HasName, IsFileOf, name_of_section};
 ghost use Rattle.elf_c.specs.Places.{name_place, string_place};
 ghost use Rattle.elf_c.specs.Tables.{slot_bytes};
 
@@ -22,6 +22,7 @@ pub extern "C" fn elfmap_name(file: &File, bytes: &[u8], index: u64, name: &mut 
     ensures there { IsFileOf file.now bytes.now → IsTrue result ↔ (index < (file_counts bytes.now).sections) }
     ensures value { IsFileOf file.now bytes.now →
         OnTrue result (bytes_in bytes.now (extent_in name.new) ≡ name_of_section bytes.now index) }
+    ensures lies { IsTrue result ↔ HasName file.now bytes.now index }
     ensures stands { IsFileOf file.now bytes.now → OnTrue result (name.new ≡ name_place bytes.now index) }
     ensures inside { OnTrue result (name.new.start + name.new.len ≤ length bytes.now) }
     ensures unchanged { OnFalse result (name.new ≡ name.old) }
@@ -35,6 +36,7 @@ fn name_of(file: &File, bytes: &[u8], index: u64) -> Option<Slot>
     ensures there { IsFileOf file.now bytes.now → IsSome result ↔ (index < (file_counts bytes.now).sections) }
     ensures value { IsFileOf file.now bytes.now →
         IfSome result (λ place. bytes_in bytes.now (extent_in place) ≡ name_of_section bytes.now index) }
+    ensures lies { IsSome result ↔ HasName file.now bytes.now index }
     ensures stands { IsFileOf file.now bytes.now → IfSome result (λ place. place ≡ name_place bytes.now index) }
     ensures inside { IfSome result (λ place. place.start + place.len ≤ length bytes.now) }
 {

@@ -1,5 +1,6 @@
-use Rattle.std.proofs.Common.{ap, ◌∙◌}
+use Rattle.std.proofs.Common.{◌≢◌, ap, subst, sym, ◌∙◌}
 use Rattle.elf_extent.specs.declared.extent.Extent.{Extent}
+use Rattle.elf_field.specs.declared.shdr.Shdr.{Shdr}
 use Rattle.elf_image_rules.specs.Tables.{bytes_in}
 use Rattle.elf_image_type.specs.Strings.{string}
 use Rattle.elf_c.specs.Places.{string_place}
@@ -67,3 +68,29 @@ returns-clause-stands c is =
     ∙ ap (λ (e : Extent). string_place b e c.in_ok-section.section.sh_name) c.place_of_content.ensures
     ∙ place_in_table f b i c.in_ok-section.section c.in_ok-table.table is (c.in_ok-section.ensures.read.1 ∙ (section_at f b i is below).read)
     (c.in_ok-table.ensures.read.1 ∙ table.read) c.if-section-eq-SHT_NULL.false c.if-file-eq0.false
+
+-- ---- of any bytes and numbers
+
+pub returns-in_err-section-clause-lies : goal.returns-in_err-section-clause-lies
+returns-in_err-section-clause-lies c = none_there _ _ c.from_residual.ensures (λ has. c.in_err-section.ensures.read has.0)
+
+pub returns-then-section-eq-SHT_NULL-clause-lies : goal.returns-then-section-eq-SHT_NULL-clause-lies
+returns-then-section-eq-SHT_NULL-clause-lies c =
+    let read = ap (λ (s : Shdr). s.sh_type) (sym c.in_ok-section.ensures.read.1) in (
+      λ _. (
+        c.in_ok-section.ensures.read.0,
+        λ typed some. elim c.then-section-eq-SHT_NULL.branch [
+          | then-section-eq-SHT_NULL-via-then-section-eq-SHT_NULL w ↦ absurd (typed (read ∙ w.if-section-eq-SHT_NULL.true))
+          | then-section-eq-SHT_NULL-via-else-section-eq-SHT_NULL+then-file-eq0 w ↦ absurd (some w.if-file-eq0.true)
+        ],
+      ),
+      λ _. cc,
+    )
+
+pub returns-in_err-table-clause-lies : goal.returns-in_err-table-clause-lies
+returns-in_err-table-clause-lies c =
+    let typed = subst (λ (s : Shdr). s.sh_type ≢ 0) c.in_ok-section.ensures.read.1 c.if-section-eq-SHT_NULL.false in
+    none_there _ _ c.from_residual-in_err-table.ensures (λ has. c.in_err-table.ensures.read (has.1 typed c.if-file-eq0.false))
+
+pub returns-clause-lies : goal.returns-clause-lies
+returns-clause-lies c = (λ _. (c.in_ok-section.ensures.read.0, λ typed some. c.in_ok-table.ensures.read.0), λ _. cc)
