@@ -29,7 +29,7 @@ fn extents(rt: HostRuntime) -> Result<(), Fail> {
 
     // A byte, then eight at a multiple of eight.
     let places = place(alloc, &[(1, 1), (8, 8)], 64)?;
-    assert_eq!(rt; places.as_slice(), [64, 72]);
+    assert_eq!(rt; places.as_slice(), [64, 72].as_slice());
     Ok(())
 }
 
@@ -64,5 +64,5 @@ fn positions_of_names(rt: HostRuntime) -> Result<(), Fail> {
 fn a_made_file(rt: HostRuntime) {
     let mut file = [0; 64];
     set_header(&mut file, Order::Big, &[]);
-    assert_eq!(rt; &file[..6], b"\x7fELF\x02\x02");
+    assert_eq!(rt; &file[..6], b"\x7fELF\x02\x02".as_slice());
 }

@@ -52,19 +52,17 @@ fn relocated_bytes(rt: HostRuntime) -> Result<(), Fail> {
     let (caller, callee) = (parse(alloc, &caller)?, parse(alloc, &callee)?);
     let objects = [object_of(alloc, &caller)?, object_of(alloc, &callee)?];
     let hasher: BuildHasherDefault<FoldHasher> = BuildHasherDefault::new();
-    let rule = CALL;
+    let rules = [CALL];
     let options = Options {
         base: 0x1000,
         page: 0x1000,
         entry: Some(b"main"),
     };
     let link = map(alloc, &objects, &options, hasher)?;
-    let linked = relocate(alloc, &link, &objects, &[rule])?;
+    let linked = relocate(alloc, &link, &objects, &rules)?;
     // A call in section 0 of file 0, whose target begins one byte behind it.
-    assert_eq!(rt;
-        linked.bytes(0, 0),
-        Some([0xe8, 1, 0, 0, 0, 0xc3].as_slice())
-    );
+    let code = [0xe8, 1, 0, 0, 0, 0xc3];
+    assert_eq!(rt; linked.bytes(0, 0), Some(code.as_slice()));
     Ok(())
 }
 

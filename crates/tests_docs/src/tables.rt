@@ -1,5 +1,6 @@
 //! Of the crates of tables.
 use elf_field::abi;
+use elf_image_stream::Fault;
 use elf_image_type::parse;
 use elf_table_base::TableKind;
 use elf_table_hash::Hash;
@@ -24,6 +25,7 @@ fn names_of_symbols(rt: HostRuntime) -> Result<(), Fail> {
     let bytes = caller();
     let mut names = Vec::new(alloc);
     let image = parse(alloc, &bytes)?;
+    assert!(rt; image.section_count() > 3);
     let symbols = Symbols::new(&image, 3)?;
     for symbol in symbols.iter() {
         names.push(symbol.name)?;
@@ -38,16 +40,18 @@ fn symbols_of_relocations(rt: HostRuntime) -> Result<(), Fail> {
     let bytes = caller();
     let mut symbols = Vec::new(alloc);
     let image = parse(alloc, &bytes)?;
+    assert!(rt; image.section_count() > 2);
     let relocs = Relocs::new(&image, 2)?;
     for relocation in relocs.iter() {
         symbols.push(relocation.symbol)?;
     }
-    assert_eq!(rt; symbols.as_slice(), [2]);
+    assert_eq!(rt; symbols.as_slice(), [2].as_slice());
     Ok(())
 }
 
-fn main_by_hash(alloc: Global, bytes: &[u8]) -> Result<Option<u32>, Fail> {
+fn main_by_hash(rt: &impl Abort, alloc: Global, bytes: &[u8]) -> Result<Option<u32>, Fault> {
     let image = parse(alloc, &bytes)?;
+    assert!(rt; image.section_count() > 4);
     let hash = Hash::new(alloc, &image, 4)?;
     let index = hash.find(b"main");
     Ok(index)
@@ -56,5 +60,6 @@ fn main_by_hash(alloc: Global, bytes: &[u8]) -> Result<Option<u32>, Fail> {
 /// Section 4 of this file is no hash table.
 #[test]
 fn a_symbol_by_its_name(rt: HostRuntime) {
-    assert!(rt; main_by_hash(rt.alloc(), &caller()).is_err());
+    let told = main_by_hash(&rt, rt.alloc(), &caller());
+    assert!(rt; matches!(told, Err(Fault::Rule { rule: 40, .. })));
 }

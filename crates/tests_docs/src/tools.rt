@@ -12,7 +12,8 @@ use elf_tool_program::run;
 use elf_tool_rewrite::rewrite;
 use elf_tool_rule_file::read_rules;
 use elf_tool_show::show;
-use elf_tool_text::{Refusal, Verdict, begin_line, end_line, push_decimal, push_hexadecimal};
+use elf_tool_text::line::{begin_line, end_line, push_decimal, push_hexadecimal};
+use elf_tool_text::{Refusal, Verdict};
 use elf_tool_words::{Request, read_words};
 use std::process::Abort;
 use std::test::Fail;
@@ -29,7 +30,7 @@ fn a_check(rt: HostRuntime) -> Result<(), Fail> {
         check(alloc, &mut header.as_slice(), &mut out),
         Ok(Verdict::Done)
     );
-    assert_eq!(rt; out.as_slice(), b"ok 64 0 0\n");
+    assert_eq!(rt; out.as_slice(), b"ok 64 0 0\n".as_slice());
     Ok(())
 }
 
@@ -42,7 +43,7 @@ fn a_check_by_a_source(rt: HostRuntime) -> Result<(), Fail> {
         check_source(alloc, &mut Bytes(&header), &mut out),
         Ok(Verdict::Done)
     );
-    assert_eq!(rt; out.as_slice(), b"ok 64 0 0\n");
+    assert_eq!(rt; out.as_slice(), b"ok 64 0 0\n".as_slice());
     Ok(())
 }
 
@@ -58,7 +59,7 @@ fn what_is_shown(rt: HostRuntime) -> Result<(), Fail> {
     );
     assert_eq!(rt;
         out.as_slice(),
-        b"file little 1 62 0x0 0x0\npart 0x0 0x40 header\n"
+        b"file little 1 62 0x0 0x0\npart 0x0 0x40 header\n".as_slice()
     );
     Ok(())
 }
@@ -93,7 +94,7 @@ fn a_map(rt: HostRuntime) -> Result<(), Fail> {
         entry: None,
     };
     let verdict = map(alloc, &mut [object.as_slice()], &options, None, &mut out);
-    assert_eq!(rt; out.as_slice(), b"refused 1 0 0 0\n");
+    assert_eq!(rt; out.as_slice(), b"refused 1 0 0 0\n".as_slice());
     assert!(rt; verdict.is_ok());
     Ok(())
 }
@@ -126,6 +127,7 @@ fn a_link(rt: HostRuntime) -> Result<(), Fail> {
 fn a_file_of_rules(rt: HostRuntime) -> Result<(), Fail> {
     let alloc = rt.alloc();
     let rules = read_rules(alloc, b"2 pc 4 signed\n1 abs 8 wrap\n")?;
+    assert_eq!(rt; rules.len(), 2);
     assert_eq!(rt;
         rules[0],
         RelocRule {
@@ -146,7 +148,7 @@ fn a_line(rt: HostRuntime) -> Result<(), Fail> {
     push_hexadecimal(&mut text, 64)?;
     push_decimal(&mut text, 24)?;
     end_line(&mut text)?;
-    assert_eq!(rt; text.as_slice(), b"part 0x40 24\n");
+    assert_eq!(rt; text.as_slice(), b"part 0x40 24\n".as_slice());
     Ok(())
 }
 
