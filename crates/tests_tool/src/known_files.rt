@@ -31,8 +31,7 @@ impl Read for KnownBytes<'_> {
 /// Holds one file, under every name.
 #[derive(Drop)]
 pub struct KnownFile<'a> {
-    /// Its bytes.
-    pub bytes: &'a [u8],
+    bytes: &'a [u8],
 }
 
 impl<'a> Opener for KnownFile<'a> {
