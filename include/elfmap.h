@@ -139,7 +139,8 @@ struct elfmap_symbol {
     uint64_t st_value;
     uint64_t st_size;
     uint32_t st_name;
-    uint32_t section; /* the index of its section: st_shndx, or the word of the index table where that is SHN_XINDEX (0xffff) */
+    uint32_t section; /* st_shndx, or the word of the index table where that is SHN_XINDEX (0xffff): the index of its section, but where
+                         st_shndx is 0 or from 0xff00 to 0xfffe */
     uint16_t st_shndx;
     uint8_t st_info;
     uint8_t st_other;

@@ -762,7 +762,9 @@ static void tell_bytes(const uint8_t *bytes, struct elfmap_extent place) {
 
 static void tell_symbols(const struct elfmap_table *table, const uint8_t *bytes, size_t len) {
     struct elfmap_symbol s;
-    for (uint64_t j = 0; elfmap_symbol(table, bytes, len, j, &s); j++) {
+    for (uint64_t j = 0; j < table->entries; j++) {
+        if (!elfmap_symbol(table, bytes, len, j, &s))
+            continue;
         printf("symbol %" PRIu32 " %u %u %u %" PRIu64 " %" PRIu64 " %" PRIu32 " ", s.st_name, (unsigned) s.st_info, (unsigned) s.st_other,
                (unsigned) s.st_shndx, s.st_value, s.st_size, s.section);
         tell_bytes(bytes, s.name);
