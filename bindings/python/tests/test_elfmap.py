@@ -163,6 +163,49 @@ class RefusedTest(unittest.TestCase):
             self.assertTrue(sentence.startswith("the link is refused because "))
 
 
+class LinkTest(unittest.TestCase):
+    """What a program of the repository links is linked here too."""
+
+    RULES = "4 pc 4 signed\n"
+
+    def setUp(self):
+        folder = build.REPOSITORY / "crates/example_link"
+        self.start = (folder / "data/start.o").read_bytes()
+        self.answer = (folder / "data/answer.o").read_bytes()
+        self.executable = (folder / "stdout").read_bytes()
+
+    def test_an_executable(self):
+        files = bytearray(self.start), memoryview(self.answer)
+        self.assertEqual(elfmap.link(files, self.RULES), self.executable)
+        other = elfmap.link(files, self.RULES, base=0x10000, page=0x2000, entry=b"answer")
+        self.assertEqual(elfmap.parse(other).segments[0].p_vaddr, 0x10000)
+
+    def test_a_map(self):
+        lines = elfmap.map([self.start, self.answer], self.RULES).splitlines()
+        self.assertRegex(lines[0], "^output 0x400000 ")
+        self.assertTrue(any(it.startswith("bytes ") for it in lines))
+
+    def test_what_does_not_link(self):
+        with self.assertRaises(elfmap.NotLinked) as raised:
+            elfmap.link([self.start], self.RULES)
+        refused = raised.exception
+        self.assertEqual((refused.rule, refused.name), (9, "UNDEFINED_NAME"))
+        self.assertEqual(refused.file, 0)
+        self.assertEqual(str(pickle.loads(pickle.dumps(refused))), str(refused))
+
+    def test_a_file_that_is_no_object(self):
+        with self.assertRaises(elfmap.Refused) as raised:
+            elfmap.link([self.start, self.executable], self.RULES)
+        refused = raised.exception
+        self.assertEqual((refused.file, refused.rule, refused.offset), (1, 70, 16))
+
+    def test_bad_rules(self):
+        with self.assertRaises(elfmap.BadRules) as raised:
+            elfmap.map([self.start], "4 pc 4 signed\n4 pc 3 signed\n")
+        self.assertEqual(raised.exception.line, 2)
+        self.assertEqual(str(raised.exception), "line 2 of the rules is bad")
+
+
 class BytesTest(unittest.TestCase):
     def test_any_bytes_in_one_piece(self):
         data = bytes(small_file())

@@ -2,7 +2,7 @@
 
 use std::error::Error;
 
-use elfmap::{File, Refusal, Section, check, rules};
+use elfmap::{Failure, File, Options, Refusal, Section, check, link, map, rules};
 
 /// A header, the names from 64 on, and from 88 on the section headers: NULL, `.bss`, `.shstrtab`.
 fn small_file() -> Vec<u8> {
@@ -99,4 +99,55 @@ fn debugging_prints_no_contents() {
     assert_eq!(shown, "File { len: 280, sections: 3, segments: 0, .. }");
     let section = format!("{:?}", file.section(1).unwrap());
     assert!(section.starts_with("Section { name: \".bss\", header: SectionHeader {"));
+}
+
+/// The objects that a program of the repository links, and what it writes.
+const START: &[u8] = include_bytes!("../../../crates/example_link/data/start.o");
+const ANSWER: &[u8] = include_bytes!("../../../crates/example_link/data/answer.o");
+const EXECUTABLE: &[u8] = include_bytes!("../../../crates/example_link/stdout");
+const RULES: &str = "4 pc 4 signed\n";
+
+#[test]
+fn objects_are_linked() {
+    let options = Options::default();
+    assert_eq!(
+        link(&[START, ANSWER], &options, RULES).as_deref(),
+        Ok(EXECUTABLE)
+    );
+    let other = Options {
+        base: 0x10000,
+        page: 0x2000,
+        entry: b"answer",
+    };
+    let executable = link(&[START, ANSWER], &other, RULES).unwrap();
+    let file = File::parse(&executable).unwrap();
+    assert_eq!(file.segment(0).unwrap().header().p_vaddr, 0x10000);
+    assert_eq!(file.load(0x10000), executable.get(0x2000).copied());
+}
+
+#[test]
+fn a_map_has_lines() {
+    let text = map(&[START, ANSWER], &Options::default(), RULES).unwrap();
+    assert!(text.starts_with(b"output 0x400000 "));
+    assert!(text.windows(7).any(|it| it == b"\nbytes "));
+}
+
+#[test]
+fn what_does_not_link_is_told() {
+    let options = Options::default();
+    let Err(Failure::NotLinked(refusal)) = link(&[START], &options, RULES) else {
+        panic!("a name is undefined");
+    };
+    assert_eq!(
+        (refusal.rule, refusal.file),
+        (rules::link::UNDEFINED_NAME, 0)
+    );
+    let no_object = link(&[START, EXECUTABLE], &options, RULES);
+    let refusal = Refusal::clone(match &no_object {
+        Err(Failure::Refused { file: 1, refusal }) => refusal,
+        other => panic!("an executable is no object: {other:?}"),
+    });
+    assert_eq!((refusal.rule, refusal.offset), (rules::NOT_RELOCATABLE, 16));
+    let bad = map(&[START], &options, "4 pc 4 signed\n4 pc 3 signed\n");
+    assert_eq!(bad, Err(Failure::BadRules { line: 2 }));
 }
