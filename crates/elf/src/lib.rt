@@ -11,6 +11,16 @@
 //! | [`exec`] | the executable of a link |
 //! | [`tool`] | the program `elfmap`, over any readers and writers |
 //!
+//! Five things that people do with it, each a program of at most 60 lines, but for its clause, in a crate of its name:
+//!
+//! | program | what it shows |
+//! |---|---|
+//! | `example_symbols FILE` | reading a file, judging it, and listing the symbols of its tables |
+//! | `example_make` | making an object from nothing and writing its canonical layout |
+//! | `example_edit FILE SECTION FLAGS` | zeroing the gaps of a file, setting the flags of a section, and writing the image |
+//! | `example_link A B` | linking two objects, relocating their bytes, and writing the executable |
+//! | `example_copy FILE SECTION FLAGS` | copying a file with an edit by a source, without its contents in memory |
+//!
 //! ```
 //! use elf::image::{parse, verdict};
 //!
