@@ -11,7 +11,7 @@
 //! | [`exec`] | the executable of a link |
 //! | [`tool`] | the program `elfmap`, over any readers and writers |
 //!
-//! Five things that people do with it, each a program of at most 60 lines, but for its clause, in a crate of its name:
+//! Five things that people do with it, each a program of some 60 lines, in a crate of its name:
 //!
 //! | program | what it shows |
 //! |---|---|
