@@ -9,7 +9,7 @@
 //!
 //! // A byte, then eight at a multiple of eight.
 //! let places = place(alloc, &[(1, 1), (8, 8)], 64)?;
-//! assert_eq!(places.as_slice(), [64, 72]);
+//! assert_eq!(places.as_slice(), [64, 72].as_slice());
 //! ```
 #![tactic(auto)]
 

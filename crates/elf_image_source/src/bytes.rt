@@ -3,7 +3,7 @@ ghost use Rattle.std.specs.Prelude.{◌≡◌};
 
 use crate::source::{Failed, Source};
 
-/// Bytes in memory. It tells them, gives all that is asked for within them, and never fails.
+/// Bytes in memory. It tells them, gives all of them that a read asks for, and never fails.
 #[derive(Clone, Copy, Debug)]
 pub struct Bytes<'a>(pub &'a [u8]);
 
