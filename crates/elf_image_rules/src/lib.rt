@@ -36,6 +36,7 @@ pub mod tables;
 
 pub use alignment::is_wrong_alignment;
 pub use broken::Broken;
+pub use file_extents::FileExtents;
 pub use header_rules::{MAX_LEN, judge_header, judge_ident, judge_length};
 pub use image_rules::{judge_by_sorting, judge_entries, judge_records, verdict};
 pub use judged_records::JudgedRecords;
