@@ -5,7 +5,7 @@
 //!
 //! ```
 //! // Two bytes are no header: rule 2, at the file's end.
-//! assert_eq!(verdict(&[0x7f, 0x45]), Some((rules::TOO_SHORT, 2)));
+//! assert_eq!(rt; verdict(&[0x7f, 0x45]), Some((rules::TOO_SHORT, 2)));
 //! ```
 //!
 //! [`rules`] names the numbers and says what breaks each rule. A rule is one row of a list of definitions,
