@@ -6,7 +6,9 @@
  * - of a file that is refused `show` says just that line, and `rewrite` gives the same refusal;
  * - the parts of one that is accepted hold each byte once, in order, and the parts that are sections' are as long as these say;
  * - what `rewrite` writes is accepted, and rewritten gives itself; a name that a hash table finds is that of the symbol found;
- * - a link of the copy tells by a room of no bytes how long it is, and what is linked is accepted.
+ * - a link of the copy tells by a room of no bytes how long it is, and what is linked is accepted;
+ * - `map` by relocation rules says first what it says without, and is refused as the link is, but for the entry symbol; each byte that it
+ *   tells of a section is in the memory of what is linked, at the section's address.
  *
  * The last line is 'N passed, M failed'. The copies that a law fails for are written to failed-SEED-K.
  */
@@ -18,7 +20,7 @@
 
 enum { LONGEST = 1 << 16, ROOM = 1 << 22, MANY = 1 << 16 };
 
-static uint8_t text[ROOM], again[ROOM];
+static uint8_t text[ROOM], again[ROOM], third[ROOM];
 static struct elfmap_extent extents[MANY];
 static struct elfmap_part parts[3 * MANY];
 static uint64_t state;
@@ -120,6 +122,49 @@ static void rewritten(const uint8_t *bytes, size_t len) {
     holds(status == ELFMAP_DONE && second.length == outcome.length && memcmp(text, again, outcome.length) == 0, "what is written is written otherwise");
 }
 
+/* A line of the map of one file: of a member its address is kept, and of relocated bytes each is sought in memory. */
+static void line_of_map(const struct elfmap_file *file, const uint8_t *linked, size_t len, const char *line) {
+    static uint64_t addresses[MANY];
+    char *rest;
+    if (memcmp(line, "member ", 7) == 0) {
+        uint64_t address = strtoull(line + 7, &rest, 16);
+        strtoull(rest, &rest, 16);
+        strtoull(rest, &rest, 10);
+        addresses[strtoull(rest, &rest, 10) % MANY] = address;
+    } else if (memcmp(line, "bytes 0 ", 8) == 0) {
+        uint64_t address = addresses[strtoull(line + 8, &rest, 10) % MANY];
+        for (const char *digits = rest + 1; digits[0] > '-'; digits += 2, address++) {
+            char number[] = {digits[0], digits[1], 0};
+            uint8_t byte;
+            if (!holds(elfmap_load(file, linked, len, address, &byte) && byte == strtoul(number, NULL, 16), "memory has other bytes than the map"))
+                return;
+        }
+    }
+}
+
+static void mapped(const uint8_t *bytes, size_t len, const uint8_t *rules, size_t rules_len, uint32_t link, struct elfmap_outcome other) {
+    struct elfmap_extent files[] = {{0, len}};
+    struct elfmap_options options = {0x400000, 0x1000, 0};
+    struct elfmap_outcome plain, outcome;
+    struct elfmap_file file;
+    uint32_t status = elfmap_map(bytes, len, files, 1, &options, rules, 0, third, ROOM, &plain);
+    options.uses_rules = 1;
+    uint32_t ruled = elfmap_map(bytes, len, files, 1, &options, rules, rules_len, again, ROOM, &outcome);
+    if (ruled == ELFMAP_DONE) {
+        holds(status == ELFMAP_DONE && plain.length <= outcome.length && memcmp(third, again, plain.length) == 0, "rules change the map");
+        holds(link == ELFMAP_DONE || link == ELFMAP_TOO_LONG || link == ELFMAP_SMALL_ROOM || (link == ELFMAP_NOT_LINKED && other.rule == 10),
+              "what is mapped is not linked");
+    } else {
+        bool same = ruled == link && outcome.rule == other.rule && outcome.index == other.index && outcome.at == other.at;
+        holds(same || ruled == ELFMAP_SMALL_ROOM || (link == ELFMAP_NOT_LINKED && other.rule == 10 && outcome.rule > 10),
+              "map and link are refused otherwise");
+    }
+    if (ruled != ELFMAP_DONE || link != ELFMAP_DONE || !holds(elfmap_file(text, other.length, &file), "what is linked has no numbers"))
+        return;
+    for (uint64_t at = 0; at < outcome.length; at = (uint64_t) ((uint8_t *) memchr(again + at, '\n', outcome.length - at) - again) + 1)
+        line_of_map(&file, text, other.length, (const char *) again + at);
+}
+
 static void linked(const uint8_t *bytes, size_t len) {
     struct elfmap_extent files[] = {{0, len}};
     struct elfmap_options options = {0x400000, 0x1000, 1};
@@ -132,6 +177,7 @@ static void linked(const uint8_t *bytes, size_t len) {
     holds(wanted == (outcome.length > 0 ? ELFMAP_SMALL_ROOM : status) && second.length == outcome.length, "another length is wanted");
     if (status == ELFMAP_DONE)
         holds(elfmap_verdict(text, outcome.length, &fault), "what is linked is refused");
+    mapped(bytes, len, rules, sizeof rules - 1, status, outcome);
 }
 
 static bool judge(const uint8_t *bytes, size_t len) {

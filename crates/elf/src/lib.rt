@@ -24,7 +24,7 @@
 //! ```
 //! use elf::image::{parse, verdict};
 //!
-//! assert_eq!(verdict(&bytes), None);
+//! assert_eq!(rt; verdict(&bytes), None);
 //! let image = parse(alloc, &bytes)?;
 //! ```
 #![tactic(auto)]

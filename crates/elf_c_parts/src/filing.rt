@@ -1,5 +1,5 @@
 //! What each byte of a file belongs to, by a room for its parts.
-ghost use Rattle.std.specs.Prelude.{◌≡◌, ◌≤◌, ◌<◌, ◌+◌, ◌*◌, ◌^◌, IfErr, IfOk, None, Some, length};
+ghost use Rattle.std.specs.Prelude.{◌≡◌, ◌≤◌, ◌<◌, ◌+◌, ◌*◌, ◌^◌, IfErr, IfOk, None, length};
 ghost use Rattle.elf_image_rules.specs.ImageRules.{IsFault, KeepsRecordRules};
 ghost use Rattle.elf_image_rules.specs.JudgedRecords.{file_of};
 ghost use Rattle.elf_c_parts.specs.Parts.{AccountsFor, IsPartsRefusal, parts_wanted};
@@ -7,9 +7,8 @@ ghost use Rattle.elf_c_parts.specs.Parts.{AccountsFor, IsPartsRefusal, parts_wan
 use crate::accounting::put_account;
 use crate::members::{lowest_double, put_members};
 use crate::shapes::{Part, PartsFault};
-use elf_c_room::{extent_count, extents_wanted};
 use elf_image_rules::rules::SHARED_BYTE;
-use elf_image_rules::{Broken, JudgedRecords, judge_records};
+use elf_image_rules::{FileExtents, JudgedRecords, judge_records};
 
 /// The parts of a file: how many there are. They stand in the first slots of the room, in ascending order, none of them empty, and hold
 /// each byte of the file exactly once: each extent that holds a byte, and each gap between them, as long as it can be.
@@ -26,31 +25,18 @@ pub fn parts_in(bytes: &[u8], room: &mut [Part]) -> Result<usize, PartsFault>
 {
     let records = match judge_records(bytes) {
         Ok(records) => records,
-        Err(broken) => return Err(told_in(bytes, room.len() as u64, &broken)),
+        Err(broken) => {
+            return Err(PartsFault::Rule {
+                rule: broken.rule,
+                at: broken.at,
+            });
+        }
     };
-    let wanted = slots_wanted(extent_count(&records));
+    let wanted = slots_wanted(FileExtents::new(&records).len());
     if (room.len() as u64) < wanted {
         return Err(PartsFault::ShortRoom { wanted });
     }
     put_parts(&records, room)
-}
-
-/// The first rule that the file breaks, where it is one of 1 to 32, or a room of `count` slots is large enough.
-fn told_in(bytes: &[u8], count: u64, broken: &Broken<u64>) -> PartsFault
-    requires { IsFault bytes.now (Some (broken.now.rule, broken.now.at)) }
-    ensures { IsPartsRefusal bytes.now count result }
-{
-    // The contract of `judge_records` does not leave out that it tells rule 33.
-    if let Some(extents) = extents_wanted(bytes, broken) {
-        let wanted = slots_wanted(extents);
-        if count < wanted {
-            return PartsFault::ShortRoom { wanted };
-        }
-    }
-    PartsFault::Rule {
-        rule: broken.rule,
-        at: broken.at,
-    }
 }
 
 /// How many slots a file wants that has so many extents: three for each, and one.
@@ -71,9 +57,10 @@ fn put_parts(records: &JudgedRecords, room: &mut [Part]) -> Result<usize, PartsF
     ensures account { IfOk result (λ count. AccountsFor (file_of records.now) count room.new) }
     ensures fault { IfErr result (IsPartsRefusal (file_of records.now) (length room.old)) }
 {
-    let mid = 2 * extent_count(records) as usize + 1;
+    let extents = FileExtents::new(records);
+    let mid = 2 * extents.len() as usize + 1;
     let (parts, back) = room.split_at_mut(mid);
-    let count = put_members(records, back);
+    let count = put_members(&extents, back);
     let (members, _) = back.split_at_mut(count);
     members.sort_unstable_by_key(|member| member.start);
     match lowest_double(members) {

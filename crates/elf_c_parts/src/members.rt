@@ -5,27 +5,25 @@ ghost use Rattle.std.specs.List.Sorted.{IsNonDecreasingBy};
 ghost use Rattle.elf_extent.specs.Extent.{Doubly, holds_any};
 ghost use Rattle.elf_extent.specs.Least.{IsLowest};
 ghost use Rattle.elf_extent.specs.Members.{AreMembers};
-ghost use Rattle.elf_image_rules.specs.ImageRules.{extents_of_file};
-ghost use Rattle.elf_image_rules.specs.JudgedRecords.{file_of};
+ghost use Rattle.elf_image_rules.specs.FileExtents.{file_extents};
 ghost use Rattle.elf_c_parts.specs.Parts.{extent_of_part, member_of_part};
 
 use crate::shapes::Part;
-use elf_c_room::{extent_at, extent_count};
 use elf_extent::{Extent, Row, sweep};
-use elf_image_rules::JudgedRecords;
+use elf_image_rules::FileExtents;
 
 /// Puts the extents of the file that hold a byte into the room, from its first slot on, each with its index: how many these are.
-pub fn put_members(records: &JudgedRecords, room: &mut [Part]) -> usize
-    requires { length (extents_of_file (file_of records.now)) ≤ length room.old }
+pub fn put_members(extents: &FileExtents, room: &mut [Part]) -> usize
+    requires { length (file_extents extents.now) ≤ length room.old }
     ensures within { result ≤ length room.new }
-    ensures few { result ≤ length (extents_of_file (file_of records.now)) }
-    ensures members { let es = extents_of_file (file_of records.now) in
+    ensures few { result ≤ length (file_extents extents.now) }
+    ensures members { let es = file_extents extents.now in
         AreMembers es (length es) (map member_of_part (take result room.new)) }
-    ensures held { map extent_of_part (take result room.new) ≡ filter holds_any (extents_of_file (file_of records.now)) }
+    ensures held { map extent_of_part (take result room.new) ≡ filter holds_any (file_extents extents.now) }
 {
     let mut count = 0;
-    for index in 0..extent_count(records) {
-        let extent = extent_at(records, index);
+    for index in 0..extents.len() {
+        let extent = extents.at(index);
         if extent.len > 0 {
             room[count] = Part {
                 start: extent.start,

@@ -1,2 +1,1 @@
-mod RecordRules
 mod Slots

@@ -11,8 +11,6 @@
 //! ```
 #![tactic(auto)]
 
-mod extents;
 mod room;
 
-pub use extents::{BEFORE_CONTENTS, extent_at, extent_count, extents_wanted};
 pub use room::{ShortRoom, Slot, verdict_in};

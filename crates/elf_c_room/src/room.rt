@@ -3,14 +3,13 @@ ghost use Rattle.std.specs.Prelude.{◌≡◌, ◌≤◌, ◌<◌, IfErr, IfOk, 
 ghost use Rattle.std.specs.List.{All};
 ghost use Rattle.elf_extent.specs.Extent.{Doubly, holds_any};
 ghost use Rattle.elf_extent.specs.Least.{IsLowest};
-ghost use Rattle.elf_image_rules.specs.ImageRules.{IsFault, extents_of_file};
-ghost use Rattle.elf_image_rules.specs.JudgedRecords.{file_of};
+ghost use Rattle.elf_image_rules.specs.FileExtents.{file_extents};
+ghost use Rattle.elf_image_rules.specs.ImageRules.{IsFault};
 ghost use Rattle.elf_c_room.specs.Room.{HasSlotsFor, IsShortRoom, extent_in};
 
-use crate::extents::{extent_at, extent_count, extents_wanted};
 use elf_extent::{Extent, Row, sweep};
 use elf_image_rules::rules::SHARED_BYTE;
-use elf_image_rules::{Broken, JudgedRecords, judge_records};
+use elf_image_rules::{FileExtents, judge_records};
 
 /// `struct elfmap_extent`: a slot of a room, which holds an extent of a file.
 #[repr(C)]
@@ -39,50 +38,37 @@ pub fn verdict_in(bytes: &[u8], room: &mut [Slot]) -> Result<Option<(u16, u64)>,
 {
     let records = match judge_records(bytes) {
         Ok(records) => records,
-        Err(broken) => return told_in(bytes, room.len() as u64, &broken),
+        Err(broken) => return Ok(Some((broken.rule, broken.at))),
     };
-    let wanted = extent_count(&records);
+    let extents = FileExtents::new(&records);
+    let wanted = extents.len();
     if (room.len() as u64) < wanted {
         return Err(ShortRoom { wanted });
     }
-    match lowest_shared_byte(&records, room) {
+    match lowest_shared_byte(&extents, room) {
         Some(at) => Ok(Some((SHARED_BYTE, at))),
         None => Ok(None),
     }
 }
 
-/// The first rule that the file breaks, where it is one of 1 to 32, or there are as many slots as the file has extents.
-fn told_in(bytes: &[u8], count: u64, broken: &Broken<u64>) -> Result<Option<(u16, u64)>, ShortRoom>
-    requires { IsFault bytes.now (Some (broken.now.rule, broken.now.at)) }
-    ensures fault { IfOk result (λ found. IsFault bytes.now found) }
-    ensures enough { OnOk result (HasSlotsFor bytes.now count) }
-    ensures short { IfErr result (λ short. IsShortRoom bytes.now count short.wanted) }
-{
-    // The contract of `judge_records` does not leave out that it tells rule 33.
-    match extents_wanted(bytes, broken) {
-        Some(wanted) if count < wanted => Err(ShortRoom { wanted }),
-        _ => Ok(Some((broken.rule, broken.at))),
-    }
-}
-
 /// The lowest byte that two parts of the file hold.
-fn lowest_shared_byte(records: &JudgedRecords, room: &mut [Slot]) -> Option<u64>
-    requires { length (extents_of_file (file_of records.now)) ≤ length room.old }
-    ensures { IsLowest (Doubly (extents_of_file (file_of records.now))) result }
+fn lowest_shared_byte(extents: &FileExtents, room: &mut [Slot]) -> Option<u64>
+    requires { length (file_extents extents.now) ≤ length room.old }
+    ensures { IsLowest (Doubly (file_extents extents.now)) result }
 {
-    let count = put_extents(records, room);
+    let count = put_extents(extents, room);
     lowest_double(&mut room[..count])
 }
 
 /// Puts the extents of the file that hold a byte into the room, from its first slot on: how many these are.
-fn put_extents(records: &JudgedRecords, room: &mut [Slot]) -> usize
-    requires { length (extents_of_file (file_of records.now)) ≤ length room.old }
+fn put_extents(extents: &FileExtents, room: &mut [Slot]) -> usize
+    requires { length (file_extents extents.now) ≤ length room.old }
     ensures within { result ≤ length room.new }
-    ensures held { map extent_in (take result room.new) ≡ filter holds_any (extents_of_file (file_of records.now)) }
+    ensures held { map extent_in (take result room.new) ≡ filter holds_any (file_extents extents.now) }
 {
     let mut count = 0;
-    for index in 0..extent_count(records) {
-        let extent = extent_at(records, index);
+    for index in 0..extents.len() {
+        let extent = extents.at(index);
         if extent.len > 0 {
             room[count] = Slot {
                 start: extent.start,

@@ -9,7 +9,7 @@
 //! is_ready(&linked, &objects, &map, &rules);
 //! let mut text = Vec::new(alloc);
 //! write_exec(alloc, &linked, &mut text)?;
-//! assert_eq!(text.len(), 64);
+//! assert_eq!(rt; text.len(), 64);
 //! ```
 #![tactic(auto)]
 

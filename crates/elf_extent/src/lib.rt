@@ -5,11 +5,11 @@
 //! ```
 //! // The bytes 2 and 3 lie in both extents.
 //! let extents = [Extent { start: 0, len: 4 }, Extent { start: 2, len: 4 }];
-//! assert_eq!(first_double(alloc, &extents)?, Some(2));
+//! assert_eq!(rt; first_double(alloc, &extents)?, Some(2));
 //!
 //! // A byte, then eight at a multiple of eight.
 //! let places = place(alloc, &[(1, 1), (8, 8)], 64)?;
-//! assert_eq!(places.as_slice(), [64, 72].as_slice());
+//! assert_eq!(rt; places.as_slice(), [64, 72].as_slice());
 //! ```
 #![tactic(auto)]
 

@@ -6,8 +6,8 @@
 //! let entry = Dyn { d_tag: abi::DT_NEEDED, d_un: 7 };
 //! let mut bytes = [0; 16];
 //! entry.put(Order::Big, &mut bytes);
-//! assert_eq!(bytes, [0, 0, 0, 0, 0, 0, 0, 1, 0, 0, 0, 0, 0, 0, 0, 7]);
-//! assert_eq!(Dyn::get(Order::Big, &bytes), entry);
+//! assert_eq!(rt; bytes, [0, 0, 0, 0, 0, 0, 0, 1, 0, 0, 0, 0, 0, 0, 0, 7]);
+//! assert_eq!(rt; Dyn::get(Order::Big, &bytes), entry);
 //! ```
 #![tactic(auto)]
 

@@ -21,7 +21,7 @@ use Rattle.elf_image_outline.specs.declared.part.Part.{Part}
 use Rattle.elf_image_stream.specs.declared.fault.Fault.{Fault}
 use Rattle.elf_image_stream.specs.declared.fault.Fault.TheVariants.{Io, OutOfMemory, Rule}
 
--- of every source: only where a read failed may the flag be another one, so nothing but Io is answered after a failure
+-- of every source: the flag is what it was before the scan, but where the answer is Io: only a read that failed may change it
 abbrev pub Leaves : {T : Type 0} → Bool → Bool → Result T Fault → Type 0
 Leaves old new (Ok t) = new ≡ old
 Leaves old new (Err OutOfMemory) = new ≡ old

@@ -1,6 +1,6 @@
 -- The runs of rules, one after the other, are the rules of the file.
 use Rattle.std.proofs.Common.{◌≡◌, ℕ, inl, inr, Option, None, Some, Result, Ok, Err, List, ◌++◌, length, refl, subst}
-use Rattle.std.specs.Prelude.{IfErr, IfOk, OnOk}
+use Rattle.std.specs.Prelude.{IfErr, IfOk, OnErr, OnOk}
 use Rattle.elf_field.specs.declared.ehdr.Ehdr.{Ehdr}
 use Rattle.elf_field.specs.declared.shdr.Shdr.{Shdr}
 use Rattle.elf_field.specs.declared.phdr.Phdr.{Phdr}
@@ -20,7 +20,7 @@ use Rattle.elf_image_rules.specs.SegmentRules.{segment_rules}
 use Rattle.elf_image_rules.specs.NameRules.{section_name_rules}
 use Rattle.elf_image_rules.specs.OverlapRule.{shared_fault}
 use Rattle.elf_image_rules.specs.ImageRules.{IsFault, KeepsRecordRules, extents_of_file, header_entry_rules, header_table_rules, image_rules, record_rules, rules_in}
-use Rattle.elf_image_rules.proofs.Rows.{FirstIn-later, FirstIn-rest, FirstIn-sooner}
+use Rattle.elf_image_rules.proofs.Rows.{FirstIn-later, FirstIn-rest, FirstIn-sooner, one_fault}
 
 -- rules 13 to 32 of a file with this header
 abbrev pub table_rules_of : List ℕ → Ehdr → List {1} (Ruled ℕ)
@@ -61,6 +61,12 @@ pub judged_broken : {T : Type 0} (b : List ℕ) (result : Result T (Broken ℕ))
     IfErr result (λ broken. IsFault b (Some (broken.rule, broken.at)))
 judged_broken b (Ok u) run = tt
 judged_broken b (Err e) run = fault_of_records b (e.rule, e.at) run
+
+-- where one of them is broken they are not kept
+pub judged_unkept : {T : Type 0} (b : List ℕ) (result : Result T (Broken ℕ)) → FirstIn (record_rules_of b) (fault_of result) →
+    OnErr result (¬ KeepsRecordRules b)
+judged_unkept b (Ok u) run = tt
+judged_unkept b (Err e) run = λ kept. let same = one_fault (record_rules_of b) (Some (e.rule, e.at)) None run kept in absurd cc
 
 pub judged_kept : {T : Type 0} (b : List ℕ) (result : Result T (Broken ℕ)) → FirstIn (record_rules_of b) (fault_of result) →
     OnOk result (KeepsRecordRules b)

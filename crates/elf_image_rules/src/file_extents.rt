@@ -32,14 +32,14 @@ impl<'a> FileExtents<'a> {
     }
 
     /// How many there are.
-    fn len(&self) -> u64
+    pub fn len(&self) -> u64
         ensures { result ≡ length (file_extents self.now) }
     {
         FileExtents::BEFORE_CONTENTS + self.records.section_count()
     }
 
     /// The extent of this index.
-    fn at(&self, index: u64) -> Extent
+    pub fn at(&self, index: u64) -> Extent
         requires { index < length (file_extents self.now) }
         ensures { slice_get (file_extents self.now) index ≡ Some result }
     {

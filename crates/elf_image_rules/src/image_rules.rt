@@ -1,5 +1,5 @@
 //! The first rule that a file breaks.
-ghost use Rattle.std.specs.Prelude.{◌≡◌, ◌+◌, ◌<◌, ◌≤◌, ◌^◌, ℕ, List, Some, IfErr, IfOk, OnOk, length};
+ghost use Rattle.std.specs.Prelude.{◌≡◌, ◌+◌, ◌<◌, ◌≤◌, ◌^◌, ℕ, List, Some, IfErr, IfOk, OnErr, OnOk, length};
 ghost use Rattle.elf_image_rules.specs.Broken.{fault_of};
 ghost use Rattle.elf_image_rules.specs.ImageRules.{IsFault, KeepsRecordRules, header_entry_rules, header_table_rules};
 ghost use Rattle.elf_image_rules.specs.JudgedRecords.{file_of};
@@ -72,6 +72,7 @@ pub fn judge_by_sorting<'a>(
 pub fn judge_records<'a>(bytes: &'a [u8]) -> Result<JudgedRecords<'a>, Broken<u64>>
     ensures broken { IfErr result (λ broken. IsFault bytes.entry.now (Some (broken.rule, broken.at))) }
     ensures kept { OnOk result (KeepsRecordRules bytes.entry.now) }
+    ensures unkept { OnErr result (¬ KeepsRecordRules bytes.entry.now) }
     ensures file { IfOk result (λ records. file_of records ≡ bytes.entry.now) }
 {
     let len = bytes.len() as u64;

@@ -5,7 +5,7 @@
 //!
 //! ```
 //! // Two bytes are no header: rule 2, at the file's end.
-//! assert_eq!(verdict(&[0x7f, 0x45]), Some((rules::TOO_SHORT, 2)));
+//! assert_eq!(rt; verdict(&[0x7f, 0x45]), Some((rules::TOO_SHORT, 2)));
 //! ```
 //!
 //! [`rules`] names the numbers and says what breaks each rule. A rule is one row of a list of definitions,
@@ -36,6 +36,7 @@ pub mod tables;
 
 pub use alignment::is_wrong_alignment;
 pub use broken::Broken;
+pub use file_extents::FileExtents;
 pub use header_rules::{MAX_LEN, judge_header, judge_ident, judge_length};
 pub use image_rules::{judge_by_sorting, judge_entries, judge_records, verdict};
 pub use judged_records::JudgedRecords;

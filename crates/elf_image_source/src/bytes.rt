@@ -1,5 +1,5 @@
 //! Bytes in memory as a source.
-ghost use Rattle.std.specs.Prelude.{◌≡◌};
+ghost use Rattle.std.specs.Prelude.{◌≡◌, ◌-◌, ◌++◌, drop, length, min, take};
 
 use crate::source::{Failed, Source};
 
@@ -19,12 +19,22 @@ impl<'a> Source for Bytes<'a> {
     }
 
     fn read_at(&mut self, at: u64, buf: &mut [u8]) -> Result<usize, Failed> {
+        Ok(self.copy_at(at, buf))
+    }
+}
+
+impl Bytes<'_> {
+    /// Copies the bytes from offset `at` on to the front of `buf`, as many as stand there or as `buf` has room for, and answers how many.
+    pub fn copy_at(&self, at: u64, buf: &mut [u8]) -> usize
+        ensures all { result ≡ min (length self.now.0.now - at) (length buf.old) }
+        ensures bytes { buf.new ≡ take result (drop at self.now.0.now) ++ drop result buf.old }
+    {
         if at >= self.0.len() as u64 {
-            return Ok(0);
+            return 0;
         }
         let rest = &self.0[at as usize..];
         let count = rest.len().min(buf.len());
         buf[..count].copy_from_slice(&rest[..count]);
-        Ok(count)
+        count
     }
 }

@@ -11,10 +11,11 @@
 //! };
 //! let link = map(alloc, &objects, &options, hasher)?;
 //! // The address of section 0 of file 1, and what `main` is bound to.
-//! assert_eq!(link.address(1, 0), Some(0x1006));
-//! assert_eq!(link.binding(b"main"), Some(Binding::Strong { file: 0, symbol: 0 }));
-//! let linked = relocate(alloc, &link, &objects, &relocation_rules)?;
-//! assert_eq!(linked.bytes(1, 0), Some(b"\xc3".as_slice()));
+//! assert_eq!(rt; link.address(1, 0), Some(0x1006));
+//! assert_eq!(rt; link.binding(b"main"), Some(Binding::Strong { file: 0, symbol: 0 }));
+//! let linked = relocate(alloc, &link, &objects, &rules)?;
+//! let code = [0xc3];
+//! assert_eq!(rt; linked.bytes(1, 0), Some(code.as_slice()));
 //! ```
 #![tactic(auto)]
 

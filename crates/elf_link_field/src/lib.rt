@@ -5,11 +5,11 @@
 //! // A field of four bytes that counts from itself: the address of a call's target, less four bytes, less the field's address.
 //! let rule = RelocRule { kind: 2, form: Form::Pc, width: Width::W4, range: Range::Signed };
 //! let number = rule.form.number(0x1006, -4, 0x1001);
-//! assert_eq!(number, 1);
-//! assert!(rule.range.admits(rule.width, number));
+//! assert_eq!(rt; number, 1);
+//! assert!(rt; rule.range.admits(rule.width, number));
 //! let mut code = [0xe8, 0, 0, 0, 0];
 //! patch(Order::Little, &mut code, 1, rule.width, number);
-//! assert_eq!(code, [0xe8, 1, 0, 0, 0]);
+//! assert_eq!(rt; code, [0xe8, 1, 0, 0, 0]);
 //! ```
 #![tactic(auto)]
 

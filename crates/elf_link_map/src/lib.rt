@@ -11,8 +11,8 @@
 //! };
 //! let link = map(alloc, &objects, &options, hasher)?;
 //! // Where section 0 of file 1 stands, and what `main` is bound to.
-//! assert_eq!(link.address(1, 0), Some(0x1006));
-//! assert_eq!(link.binding(b"main"), Some(Binding::Strong { file: 0, symbol: 0 }));
+//! assert_eq!(rt; link.address(1, 0), Some(0x1006));
+//! assert_eq!(rt; link.binding(b"main"), Some(Binding::Strong { file: 0, symbol: 0 }));
 //! ```
 #![tactic(auto)]
 

@@ -3,9 +3,9 @@
 //!
 //! ```
 //! let mut positions = NamePositions::new(alloc, 2)?;
-//! assert_eq!(positions.place(b"main", 0)?, None);
-//! assert_eq!(positions.place(b"main", 1)?, Some(0));
-//! assert_eq!(positions.get(b"main"), Some(0));
+//! assert_eq!(rt; positions.place(b"main", 0)?, None);
+//! assert_eq!(rt; positions.place(b"main", 1)?, Some(0));
+//! assert_eq!(rt; positions.get(b"main"), Some(0));
 //! ```
 #![tactic(auto)]
 

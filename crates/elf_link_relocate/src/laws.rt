@@ -9,26 +9,27 @@ ghost use Rattle.elf_link_relocate.specs.RelocationRules.{applied_entry_rules};
 ghost use Rattle.elf_object_type.specs.Object.{ObjectValue};
 ghost use Rattle.elf_link_field.specs.declared.rule.RelocRule.{RelocRule};
 
-/// Where none of rules 12 to 16 stands, the memory of a link has one byte at each address, or none.
+/// In a map of the files, where none of rules 1 to 16 stands, the memory of a link has one byte at each address, or none.
 pub fn one_byte()
     ensures { (fs : List ObjectValue) (m : LinkMapValue) (rules : List RelocRule) → IsMapOfSome fs m → FirstAmong (applied_entry_rules fs m rules) None →
         (x v w : ℕ) → IsMemory fs m rules x v → IsMemory fs m rules x w → v ≡ w }
 {}
 
-/// Where none of rules 12 to 16 stands, each field lies in the content of a section that has an address.
+/// In a map of the files, where none of rules 1 to 16 stands, each field lies in the content of a section that has an address.
 pub fn field_in_content()
     ensures { (fs : List ObjectValue) (m : LinkMapValue) (rules : List RelocRule) → IsMapOfSome fs m → FirstAmong (applied_entry_rules fs m rules) None →
         (x : ℕ) → HasFieldAt fs m rules x → HasContentAt fs m x }
 {}
 
-/// Where none of rules 12 to 16 stands, memory has bytes in the outputs and from the first common to the end of the last alone.
+/// In a map of the files, where none of rules 1 to 16 stands, memory has bytes in the outputs and from the first common to the end of the
+/// last alone.
 pub fn memory_in()
     ensures { (fs : List ObjectValue) (m : LinkMapValue) (rules : List RelocRule) → IsMapOfSome fs m → FirstAmong (applied_entry_rules fs m rules) None →
         (x v : ℕ) → IsMemory fs m rules x v → IsInMemory m x }
 {}
 
-/// Where none of rules 12 to 16 stands, memory has a byte at each address in an output, and at each from the first common to the end of the
-/// last.
+/// In a map of the files, where none of rules 1 to 16 stands, memory has a byte at each address in an output, and at each from the first
+/// common to the end of the last.
 pub fn some_byte()
     ensures { (fs : List ObjectValue) (m : LinkMapValue) (rules : List RelocRule) → IsMapOfSome fs m → FirstAmong (applied_entry_rules fs m rules) None →
         (x : ℕ) → IsInMemory m x → (v : ℕ) × IsMemory fs m rules x v }
@@ -40,8 +41,8 @@ pub fn memory_there()
         (x : ℕ) → IsInMemory m x → (v : ℕ) × IsMemory fs m rules x v }
 {}
 
-/// Where none of rules 12 to 16 stands, the byte at an address in an output is 0 where none of its members has content: in gaps between
-/// members, and where these take memory without bits.
+/// In a map of the files, where none of rules 1 to 16 stands, the byte at an address in an output is 0 where none of its members has content:
+/// in gaps between members, and where these take memory without bits.
 pub fn memory_zero()
     ensures { (fs : List ObjectValue) (m : LinkMapValue) (rules : List RelocRule) → IsMapOfSome fs m → FirstAmong (applied_entry_rules fs m rules) None →
         (x k : ℕ) → k < length m.outputs → IsInOutputAt m k x → IsInNoMember fs m k x → IsMemory fs m rules x 0 }

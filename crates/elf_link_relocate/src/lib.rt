@@ -5,9 +5,10 @@
 //!
 //! ```
 //! let link = map(alloc, &objects, &options, hasher)?;
-//! let linked = relocate(alloc, &link, &objects, &[rule])?;
+//! let linked = relocate(alloc, &link, &objects, &rules)?;
 //! // A call in section 0 of file 0, whose target begins one byte behind it.
-//! assert_eq!(linked.bytes(0, 0), Some([0xe8, 1, 0, 0, 0, 0xc3].as_slice()));
+//! let code = [0xe8, 1, 0, 0, 0, 0xc3];
+//! assert_eq!(rt; linked.bytes(0, 0), Some(code.as_slice()));
 //! ```
 #![tactic(auto)]
 

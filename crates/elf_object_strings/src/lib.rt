@@ -4,8 +4,8 @@
 //! ```
 //! // A zero, and `cab` and `x` with the zeros that end them; `ab` and `b` begin within `cab`, the empty name is the first zero.
 //! let shared = shared_table(alloc, &[b"b", b"ab", b"", b"ab", b"cab", b"x"])?;
-//! assert_eq!(shared.bytes.as_slice(), b"\0cab\0x\0");
-//! assert_eq!(shared.offsets.as_slice(), [3, 2, 0, 2, 1, 5]);
+//! assert_eq!(rt; shared.bytes.as_slice(), b"\0cab\0x\0".as_slice());
+//! assert_eq!(rt; shared.offsets.as_slice(), [3, 2, 0, 2, 1, 5].as_slice());
 //! ```
 #![tactic(auto)]
 

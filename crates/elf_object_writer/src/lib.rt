@@ -3,7 +3,7 @@
 //!
 //! ```
 //! let layout = lay_out(alloc, &object)?;
-//! assert_eq!(layout.length(), 376);
+//! assert_eq!(rt; layout.length(), 376);
 //! ```
 #![tactic(auto)]
 

@@ -2,7 +2,7 @@
 //! and [`judge_own_rules`], which looks at what the section header of a table says of the table by itself, rules 40 and 42 to 44.
 //!
 //! ```
-//! assert_eq!(TableKind::of(abi::SHT_SYMTAB), Some(TableKind::SymbolTable));
+//! assert_eq!(rt; TableKind::of(abi::SHT_SYMTAB), Some(TableKind::SymbolTable));
 //! ```
 #![tactic(auto)]
 

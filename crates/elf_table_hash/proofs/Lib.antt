@@ -8,3 +8,4 @@ mod ProbeLemmas
 mod ThreadLemmas
 mod BuiltLemmas
 pub mod Public
+mod NearStrings

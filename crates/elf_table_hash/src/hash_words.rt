@@ -1,6 +1,7 @@
 //! The words of a hash table, and the names that it is for (gABI chapter 5, Hash Table).
 ghost use Rattle.std.specs.Prelude.{◌≡◌, ◌≢◌, ◌↔◌, ◌<◌, ◌≤◌, ◌+◌, [], IsTrue, length, get_or};
 ghost use Rattle.elf_table_hash.specs.HashTable.{bucket as bucket_word, bucket_of as bucket_of_name, chain as chain_word, nbucket as nbucket_of, nchain as nchain_of};
+ghost use Rattle.elf_image_type.specs.Strings.{string};
 ghost use Rattle.elf_table_hash.specs.WordLists.{names_in, words_in};
 
 use crate::name_hash::elf_hash;
@@ -157,6 +158,24 @@ impl<'a> SymbolNames<'a> {
     pub(crate) fn has(&self, s: u32, name: &[u8]) -> bool
         ensures { IsTrue result ↔ (s < length self.now) × (get_or self.now s [] ≡ name.now) }
     {
-        (s as usize) < self.len() && self.get(s) == name
+        (s as usize) < self.len() && self.is_named(s, name)
     }
+
+    /// Whether symbol `s` has this name.
+    fn is_named(&self, s: u32, name: &[u8]) -> bool
+        requires { s < length self.now }
+        ensures { IsTrue result ↔ (get_or self.now s [] ≡ name.now) }
+    {
+        let symbol = entry(self.order, self.table, s as usize);
+        is_string_at(self.names, symbol.st_name as usize, name)
+    }
+}
+
+/// Whether this is the string at an offset of a string table. No more of that is read than one byte beyond this length.
+fn is_string_at(table: &[u8], offset: usize, name: &[u8]) -> bool
+    ensures { IsTrue result ↔ (string table.now offset ≡ name.now) }
+{
+    let rest = &table[offset.min(table.len())..];
+    let near = &rest[..rest.len().min(name.len().saturating_add(1))];
+    string_at(near, 0) == name
 }

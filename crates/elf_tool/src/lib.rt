@@ -4,7 +4,7 @@
 //! ```
 //! // The first word is the program's name; `files` opens names, `out` and `err` take what is written.
 //! let status = run(alloc, &["elfmap", "check", "header.elf"], &mut files, &mut out, &mut err);
-//! assert_eq!(status, Status::Done as u8);
+//! assert_eq!(rt; status, Status::Done as u8);
 //! ```
 #![tactic(auto)]
 

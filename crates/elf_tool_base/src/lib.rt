@@ -2,7 +2,7 @@
 //!
 //! ```
 //! // A file that can't be opened ends the program with status 3, and its name stands on standard error.
-//! assert_eq!(unopened(OpenFault::Refused, "no-such-file", &mut err), Status::Failed);
+//! assert_eq!(rt; unopened(OpenFault::Refused, "no-such-file", &mut err), Status::Failed);
 //! ```
 #![tactic(auto)]
 

@@ -4,8 +4,8 @@
 //! ```
 //! // A header alone is a file of 64 bytes without sections and segments.
 //! let mut out = Vec::new(alloc);
-//! assert_eq!(check(alloc, &mut header.as_slice(), &mut out), Ok(Verdict::Done));
-//! assert_eq!(out.as_slice(), b"ok 64 0 0\n");
+//! assert_eq!(rt; check(alloc, &mut header.as_slice(), &mut out), Ok(Verdict::Done));
+//! assert_eq!(rt; out.as_slice(), b"ok 64 0 0\n".as_slice());
 //! ```
 #![tactic(auto)]
 

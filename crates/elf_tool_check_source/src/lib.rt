@@ -3,8 +3,8 @@
 //!
 //! ```
 //! let mut out = Vec::new(alloc);
-//! assert_eq!(check_source(alloc, &mut Bytes(&header), &mut out), Ok(Verdict::Done));
-//! assert_eq!(out.as_slice(), b"ok 64 0 0\n");
+//! assert_eq!(rt; check_source(alloc, &mut Bytes(&header), &mut out), Ok(Verdict::Done));
+//! assert_eq!(rt; out.as_slice(), b"ok 64 0 0\n".as_slice());
 //! ```
 #![tactic(auto)]
 

@@ -3,10 +3,10 @@
 //! files' bytes.
 //!
 //! ```
-//! // `object` is an object file's bytes. A base that is no multiple of the page is the first of the link's rules.
+//! // `bytes` are those of an object file. A base that is no multiple of the page is the first of the link's rules.
 //! let options = Options { base: 0x1001, page: 0x1000, entry: None };
-//! let verdict = map(alloc, &mut [object.as_slice()], &options, None, &mut out);
-//! assert_eq!(out.as_slice(), b"refused 1 0 0 0\n");
+//! let verdict = map(alloc, &mut [bytes], &options, None, &mut out);
+//! assert_eq!(rt; out.as_slice(), b"refused 1 0 0 0\n".as_slice());
 //! ```
 #![tactic(auto)]
 

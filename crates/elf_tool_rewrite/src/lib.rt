@@ -2,10 +2,10 @@
 //! denotes in its canonical layout, or says why it can't; and [`rewrite_bytes`], which has the file's bytes.
 //!
 //! ```
-//! // A file that is not relocatable denotes no object: rule 70, at `e_type`.
+//! // `bytes` are those of a file that is not relocatable, so it denotes no object: rule 70, at `e_type`.
 //! let mut out = Vec::new(alloc);
 //! let refused = Refusal::File { file: 0, rule: 70, at: 16 };
-//! assert_eq!(rewrite(alloc, &mut program.as_slice(), &mut out), Ok(Verdict::Refused(refused)));
+//! assert_eq!(rt; rewrite(alloc, &mut bytes, &mut out), Ok(Verdict::Refused(refused)));
 //! ```
 #![tactic(auto)]
 

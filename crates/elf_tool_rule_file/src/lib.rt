@@ -3,7 +3,7 @@
 //!
 //! ```
 //! let rules = read_rules(alloc, b"2 pc 4 signed\n1 abs 8 wrap\n")?;
-//! assert_eq!(rules[0], RelocRule { kind: 2, form: Form::Pc, width: Width::W4, range: Range::Signed });
+//! assert_eq!(rt; rules[0], RelocRule { kind: 2, form: Form::Pc, width: Width::W4, range: Range::Signed });
 //! ```
 #![tactic(auto)]
 

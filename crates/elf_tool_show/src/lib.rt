@@ -4,8 +4,8 @@
 //! ```
 //! // A header alone is a file of 64 bytes without sections and segments.
 //! let mut out = Vec::new(alloc);
-//! assert_eq!(show(alloc, &mut header.as_slice(), &mut out), Ok(Verdict::Done));
-//! assert_eq!(out.as_slice(), b"file little 1 62 0x0 0x0\npart 0x0 0x40 header\n");
+//! assert_eq!(rt; show(alloc, &mut header.as_slice(), &mut out), Ok(Verdict::Done));
+//! assert_eq!(rt; out.as_slice(), b"file little 1 62 0x0 0x0\npart 0x0 0x40 header\n".as_slice());
 //! ```
 #![tactic(auto)]
 

@@ -4,12 +4,14 @@
 //! A [`line`](mod@line) is its words with single blanks between them and a line feed behind:
 //!
 //! ```
+//! use elf_tool_text::line::{begin_line, end_line, push_decimal, push_hexadecimal};
+//!
 //! let mut text = Vec::new(alloc);
 //! begin_line(&mut text, b"part")?;
 //! push_hexadecimal(&mut text, 64)?;
 //! push_decimal(&mut text, 24)?;
 //! end_line(&mut text)?;
-//! assert_eq!(text.as_slice(), b"part 0x40 24\n");
+//! assert_eq!(rt; text.as_slice(), b"part 0x40 24\n".as_slice());
 //! ```
 #![tactic(auto)]
 

@@ -3,7 +3,7 @@
 //! ```
 //! // The first word is the program's name.
 //! let request = read_words(alloc, &["elfmap", "check", "header.elf"])?;
-//! assert_eq!(request, Request::Check { file: "header.elf" });
+//! assert_eq!(rt; request, Request::Check { file: "header.elf" });
 //! ```
 #![tactic(auto)]
 

@@ -3,7 +3,7 @@
 //! ```
 //! let mut file = [0; 64];
 //! set_header(&mut file, Order::Big, &[]);
-//! assert_eq!(&file[..6], b"\x7fELF\x02\x02");
+//! assert_eq!(rt; &file[..6], b"\x7fELF\x02\x02".as_slice());
 //! ```
 #![tactic(auto)]
 

@@ -3,8 +3,7 @@ use Rattle.std.proofs.lemmas.List.{take_all}
 use Rattle.elf_extent.specs.Extent.{holds_any}
 use Rattle.elf_extent.specs.Members.{AreMembers}
 use Rattle.elf_extent.proofs.Public.{members_more, members_none, members_skip}
-use Rattle.elf_image_rules.specs.ImageRules.{extents_of_file}
-use Rattle.elf_image_rules.specs.JudgedRecords.{file_of}
+use Rattle.elf_image_rules.specs.FileExtents.{file_extents}
 use Rattle.elf_c_parts.specs.declared.shapes.Part.{Part}
 use Rattle.elf_c_parts.specs.Parts.{member_of_part}
 use Rattle.elf_c_parts.proofs.PartSlots.{held_past, held_then, map_more}
@@ -14,20 +13,20 @@ use Rattle.elf_c_parts.proofs.members.put_members.Goals.{then-extent-gt0, else-e
 pub loop-index-init : goal.loop-index-init
 loop-index-init c = record {
   few = omega arith;
-  members = members_none (extents_of_file (file_of c.args.records.now));
+  members = members_none (file_extents c.args.extents.now);
   held = refl;
 }
 
 pub loop-index-preserved : goal.loop-index-preserved
 loop-index-preserved c =
-    let es = extents_of_file (file_of c.args.records.now) in
+    let es = file_extents c.args.extents.now in
     let i = c.loop-index.index in
     let k = c.loop-index.count in
     let room = c.loop-index.room in
     let within : i < length es = omega arith in
     let few = c.loop-index.invariant.few in
-    let e = c.extent_at-extent.result in
-    let read = c.extent_at-extent.ensures in
+    let e = c.at-extent.result in
+    let read = c.at-extent.ensures in
     elim c.if-extent-gt0.branch [
       | then-extent-gt0 w ↦
           let part : Part = record { start = e.start; len = e.len; owner = i } in
@@ -49,12 +48,12 @@ loop-index-preserved c =
 
 pub returns-clause-members : goal.returns-clause-members
 returns-clause-members c =
-    let es = extents_of_file (file_of c.args.records.now) in
+    let es = file_extents c.args.extents.now in
     let end : c.loop-index.index ≡ length es = omega arith in
     subst (λ (n : ℕ). AreMembers es n (map member_of_part (take c.loop-index.count c.loop-index.room))) end c.loop-index.invariant.members
 
 pub returns-clause-held : goal.returns-clause-held
 returns-clause-held c =
-    let es = extents_of_file (file_of c.args.records.now) in
+    let es = file_extents c.args.extents.now in
     let end : length es ≤ c.loop-index.index = omega arith in
     c.loop-index.invariant.held ∙ ap (filter holds_any) (take_all c.loop-index.index es end)

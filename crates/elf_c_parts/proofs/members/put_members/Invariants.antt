@@ -1,14 +1,13 @@
 use Rattle.std.proofs.Common.{◌≡◌, ◌≤◌, filter, map, take}
 use Rattle.elf_extent.specs.Extent.{holds_any}
 use Rattle.elf_extent.specs.Members.{AreMembers}
-use Rattle.elf_image_rules.specs.ImageRules.{extents_of_file}
-use Rattle.elf_image_rules.specs.JudgedRecords.{file_of}
+use Rattle.elf_image_rules.specs.FileExtents.{file_extents}
 use Rattle.elf_c_parts.specs.Parts.{extent_of_part, member_of_part}
 use Rattle.elf_c_parts.proofs.members.put_members.Given as goal
 
 abbrev pub invariant-loop-index : goal.invariant-loop-index
 invariant-loop-index l = record {
   few : l.count ≤ l.index;
-  members : AreMembers (extents_of_file (file_of l.records)) l.index (map member_of_part (take l.count l.room));
-  held : map extent_of_part (take l.count l.room) ≡ filter holds_any (take l.index (extents_of_file (file_of l.records)));
+  members : AreMembers (file_extents l.extents) l.index (map member_of_part (take l.count l.room));
+  held : map extent_of_part (take l.count l.room) ≡ filter holds_any (take l.index (file_extents l.extents));
 }

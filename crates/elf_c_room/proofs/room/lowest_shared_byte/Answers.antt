@@ -1,14 +1,13 @@
-use Rattle.elf_image_rules.specs.ImageRules.{extents_of_file}
-use Rattle.elf_image_rules.specs.JudgedRecords.{file_of}
+use Rattle.elf_image_rules.specs.FileExtents.{file_extents}
 use Rattle.elf_extent.proofs.Public.{held_nonempty, lowest_held}
 use Rattle.elf_c_room.proofs.room.lowest_shared_byte.Goals as goal
 
 pub lowest_double-requires : goal.lowest_double-requires
 lowest_double-requires c =
-    let es = extents_of_file (file_of c.args.records.now) in
+    let es = file_extents c.args.extents.now in
     rw c.put_extents-count.ensures.held (held_nonempty es)
 
 pub returns : goal.returns
 returns c =
-    let es = extents_of_file (file_of c.args.records.now) in
+    let es = file_extents c.args.extents.now in
     lowest_held es _ (rw c.put_extents-count.ensures.held at c.lowest_double.ensures)

@@ -1,11 +1,16 @@
 use Rattle.std.proofs.Common.{arith, refl}
 use Rattle.elf_image_rules.proofs.Rows.{FirstIn-handed, FirstIn-stop}
-use Rattle.elf_image_rules.proofs.ImageRules.{judged_broken, from_length, from_ident, from_header, from_tables}
+use Rattle.elf_image_rules.proofs.ImageRules.{judged_broken, judged_unkept, from_length, from_ident, from_header, from_tables}
 use Rattle.elf_image_rules.proofs.image_rules.judge_records.Goals as goal
 
 pub returns-in_err-judge_length-clause-broken : goal.returns-in_err-judge_length-clause-broken
 returns-in_err-judge_length-clause-broken c =
     judged_broken c.args.bytes.now _ (from_length c.args.bytes.now _ _ refl
+    (FirstIn-stop _ _ _ _ c.in_err-judge_length.ensures.fault c.from_residual.ensures.1))
+
+pub returns-in_err-judge_length-clause-unkept : goal.returns-in_err-judge_length-clause-unkept
+returns-in_err-judge_length-clause-unkept c =
+    judged_unkept c.args.bytes.now _ (from_length c.args.bytes.now _ _ refl
     (FirstIn-stop _ _ _ _ c.in_err-judge_length.ensures.fault c.from_residual.ensures.1))
 
 pub header_of-header-requires : goal.header_of-header-requires
@@ -16,9 +21,20 @@ returns-in_err-judge_ident-clause-broken c =
     judged_broken c.args.bytes.now _ (from_ident c.args.bytes.now _ _ c.header_of-header.ensures c.in_ok-judge_length.ensures.fault
     (FirstIn-stop _ _ _ _ c.in_err-judge_ident.ensures c.from_residual-in_err-judge_ident.ensures.1))
 
+pub returns-in_err-judge_ident-clause-unkept : goal.returns-in_err-judge_ident-clause-unkept
+returns-in_err-judge_ident-clause-unkept c =
+    judged_unkept c.args.bytes.now _ (from_ident c.args.bytes.now _ _ c.header_of-header.ensures c.in_ok-judge_length.ensures.fault
+    (FirstIn-stop _ _ _ _ c.in_err-judge_ident.ensures c.from_residual-in_err-judge_ident.ensures.1))
+
 pub returns-in_err-judge_header-clause-broken : goal.returns-in_err-judge_header-clause-broken
 returns-in_err-judge_header-clause-broken c =
     judged_broken c.args.bytes.now _ (from_header c.args.bytes.now _ _ c.header_of-header.ensures c.in_ok-judge_length.ensures.fault
+    c.in_ok-judge_ident.ensures
+    (FirstIn-stop _ _ _ _ c.in_err-judge_header.ensures.fault c.from_residual-in_err-judge_header.ensures.1))
+
+pub returns-in_err-judge_header-clause-unkept : goal.returns-in_err-judge_header-clause-unkept
+returns-in_err-judge_header-clause-unkept c =
+    judged_unkept c.args.bytes.now _ (from_header c.args.bytes.now _ _ c.header_of-header.ensures c.in_ok-judge_length.ensures.fault
     c.in_ok-judge_ident.ensures
     (FirstIn-stop _ _ _ _ c.in_err-judge_header.ensures.fault c.from_residual-in_err-judge_header.ensures.1))
 
@@ -28,6 +44,12 @@ judge_tables-requires c = c.in_ok-judge_header.ensures.first c.in_ok-judge_lengt
 pub returns-in_err-counts-clause-broken : goal.returns-in_err-counts-clause-broken
 returns-in_err-counts-clause-broken c =
     judged_broken c.args.bytes.now _ (from_tables c.args.bytes.now _ _ c.header_of-header.ensures c.in_ok-judge_length.ensures.fault
+    c.in_ok-judge_ident.ensures c.in_ok-judge_header.ensures.fault
+    (FirstIn-handed _ _ _ c.in_err-counts.ensures.fault c.from_residual-in_err-counts.ensures.1))
+
+pub returns-in_err-counts-clause-unkept : goal.returns-in_err-counts-clause-unkept
+returns-in_err-counts-clause-unkept c =
+    judged_unkept c.args.bytes.now _ (from_tables c.args.bytes.now _ _ c.header_of-header.ensures c.in_ok-judge_length.ensures.fault
     c.in_ok-judge_ident.ensures c.in_ok-judge_header.ensures.fault
     (FirstIn-handed _ _ _ c.in_err-counts.ensures.fault c.from_residual-in_err-counts.ensures.1))
 
