@@ -1,2 +1,4 @@
 -- The lemmas of this crate.
+mod CheckReport
 mod RuleFile
+mod SaysOne
