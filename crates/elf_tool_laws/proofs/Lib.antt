@@ -1,4 +1,6 @@
 -- The lemmas of this crate.
 mod CheckReport
+mod Faults
+mod RewriteReport
 mod RuleFile
 mod SaysOne

@@ -2,8 +2,14 @@
 ghost use Rattle.std.specs.Prelude.{ℕ, List};
 ghost use Rattle.elf_tool_check.specs.Check.{CheckSays};
 ghost use Rattle.elf_tool_laws.specs.SaysOne.{SaysOne};
+ghost use Rattle.elf_tool_rewrite.specs.Rewrite.{RewriteSays};
 
 /// `check` says one verdict and one text of the bytes of a file.
 pub fn one_check()
     ensures { (b : List ℕ) → SaysOne (CheckSays b) }
+{}
+
+/// `rewrite` says one verdict and one text of the bytes of a file.
+pub fn one_rewrite()
+    ensures { (b : List ℕ) → SaysOne (RewriteSays b) }
 {}
