@@ -4,3 +4,4 @@ mod Faults
 mod RewriteReport
 mod RuleFile
 mod SaysOne
+mod ShowReport

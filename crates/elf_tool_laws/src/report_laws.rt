@@ -3,10 +3,16 @@ ghost use Rattle.std.specs.Prelude.{ℕ, List};
 ghost use Rattle.elf_tool_check.specs.Check.{CheckSays};
 ghost use Rattle.elf_tool_laws.specs.SaysOne.{SaysOne};
 ghost use Rattle.elf_tool_rewrite.specs.Rewrite.{RewriteSays};
+ghost use Rattle.elf_tool_show.specs.Show.{ShowSays};
 
 /// `check` says one verdict and one text of the bytes of a file.
 pub fn one_check()
     ensures { (b : List ℕ) → SaysOne (CheckSays b) }
+{}
+
+/// `show` says one verdict and one text of the bytes of a file.
+pub fn one_show()
+    ensures { (b : List ℕ) → SaysOne (ShowSays b) }
 {}
 
 /// `rewrite` says one verdict and one text of the bytes of a file.
