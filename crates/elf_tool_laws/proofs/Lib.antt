@@ -1,6 +1,10 @@
 -- The lemmas of this crate.
 mod CheckReport
 mod Faults
+mod LinkFaults
+mod MapReport
+mod ObjectFiles
+mod OneLinked
 mod RewriteReport
 mod RuleFile
 mod SaysOne

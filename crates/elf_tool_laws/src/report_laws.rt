@@ -1,7 +1,10 @@
 //! What bytes have one of: what each command says of its input is one verdict and one text.
-ghost use Rattle.std.specs.Prelude.{ℕ, List};
+ghost use Rattle.std.specs.Prelude.{ℕ, List, Option};
+ghost use Rattle.elf_link_field.specs.declared.rule.RelocRule.{RelocRule};
+ghost use Rattle.elf_link_files.specs.declared.options.Options.{Options};
 ghost use Rattle.elf_tool_check.specs.Check.{CheckSays};
 ghost use Rattle.elf_tool_laws.specs.SaysOne.{SaysOne};
+ghost use Rattle.elf_tool_map.specs.Map.{MapSays};
 ghost use Rattle.elf_tool_rewrite.specs.Rewrite.{RewriteSays};
 ghost use Rattle.elf_tool_show.specs.Show.{ShowSays};
 
@@ -18,4 +21,9 @@ pub fn one_show()
 /// `rewrite` says one verdict and one text of the bytes of a file.
 pub fn one_rewrite()
     ensures { (b : List ℕ) → SaysOne (RewriteSays b) }
+{}
+
+/// `map` says one verdict and one text of its options, the relocation rules, if any, and the bytes of its files.
+pub fn one_map()
+    ensures { (opt : Options) (rules : Option (List RelocRule)) (files : List (List ℕ)) → SaysOne (MapSays opt rules files) }
 {}
