@@ -2,6 +2,7 @@
 mod CheckReport
 mod Faults
 mod LinkFaults
+mod LinkReport
 mod MapReport
 mod ObjectFiles
 mod OneLinked

@@ -9,6 +9,6 @@ mod rewrite_laws;
 mod rule_file_laws;
 
 pub use link_laws::linked_executable;
-pub use report_laws::{one_check, one_map, one_rewrite, one_show};
+pub use report_laws::{one_check, one_link, one_map, one_rewrite, one_show};
 pub use rewrite_laws::rewrite_again;
 pub use rule_file_laws::one_rule_file;

@@ -1,9 +1,10 @@
-//! What bytes have one of: what each command says of its input is one verdict and one text.
+//! What a command says of its input: one verdict and one text.
 ghost use Rattle.std.specs.Prelude.{ℕ, List, Option};
 ghost use Rattle.elf_link_field.specs.declared.rule.RelocRule.{RelocRule};
 ghost use Rattle.elf_link_files.specs.declared.options.Options.{Options};
 ghost use Rattle.elf_tool_check.specs.Check.{CheckSays};
 ghost use Rattle.elf_tool_laws.specs.SaysOne.{SaysOne};
+ghost use Rattle.elf_tool_link.specs.Link.{FilesLink};
 ghost use Rattle.elf_tool_map.specs.Map.{MapSays};
 ghost use Rattle.elf_tool_rewrite.specs.Rewrite.{RewriteSays};
 ghost use Rattle.elf_tool_show.specs.Show.{ShowSays};
@@ -26,4 +27,9 @@ pub fn one_rewrite()
 /// `map` says one verdict and one text of its options, the relocation rules, if any, and the bytes of its files.
 pub fn one_map()
     ensures { (opt : Options) (rules : Option (List RelocRule)) (files : List (List ℕ)) → SaysOne (MapSays opt rules files) }
+{}
+
+/// `link` says one verdict and one text, an executable or nothing, of its options, the relocation rules and the bytes of its files.
+pub fn one_link()
+    ensures { (opt : Options) (rules : List RelocRule) (files : List (List ℕ)) → SaysOne (FilesLink opt rules files) }
 {}
