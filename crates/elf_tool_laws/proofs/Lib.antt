@@ -1,1 +1,12 @@
 -- The lemmas of this crate.
+mod CheckReport
+mod Faults
+mod LinkFaults
+mod LinkReport
+mod MapReport
+mod ObjectFiles
+mod OneLinked
+mod RewriteReport
+mod RuleFile
+mod SaysOne
+mod ShowReport
