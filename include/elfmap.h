@@ -19,7 +19,8 @@
  *         for (uint64_t i = 0; elfmap_section(&file, bytes, len, i, &section); i++)
  *             printf("section %llu has %llu bytes\n", (unsigned long long) i, (unsigned long long) section.sh_size);
  *
- * What is said here of a call is proved, for all bytes. What a caller keeps nothing can prove:
+ * What is said here of a call's answer, the room and the struct that it fills in is proved, for all bytes; times, and that memory is given
+ * back, are not. What a caller keeps nothing can prove:
  * - No pointer is null, also where its length is 0, and each is aligned as its type asks for.
  * - A pointer that a length follows points to so many items: `bytes` and `len`, `name` and `name_len`, `rules` and `rules_len`, `files` and
  *   `count`, a room and its `count` or `size`. None of them is longer than PTRDIFF_MAX bytes.
@@ -248,7 +249,7 @@ bool elfmap_name(const struct elfmap_file *file, const uint8_t *bytes, size_t le
 
 /*
  * ---- The tables. As above each call answers true and fills in its last argument, or false, and leaves it as it was, and reads nothing
- * outside of the bytes. A table is sound where it breaks none of the rules 40 to 69: elfmap for C has no verdict on them yet. The entries
+ * outside of the bytes. A table is sound where it breaks none of the rules 40 to 69: elfmap for C has no verdict on them. The entries
  * of a table that breaks one are told as far as they lie in the file, but for a symbol whose `st_shndx` is SHN_XINDEX (0xffff) and for
  * which the index table has no word: it is not told. The claims below are of a sound table alone, in a file that keeps rules 1 to 32.
  * `table` is to be what elfmap_table made of the same bytes. With any other numbers in it the answer says nothing, but that each call is
