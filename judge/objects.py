@@ -167,8 +167,8 @@ def object_of(content):
 # ---- the canonical layout
 
 def string_table(names):
-    """A zero, and each distinct name that is neither empty nor a proper suffix of another one, with its zero, in the order of first use; and
-    the lowest place at which each name stands with a zero behind it."""
+    """A zero, and each distinct name that is neither empty nor a proper suffix of another one, with its zero, in the order of first use;
+    and the lowest place at which each name stands with a zero behind it."""
     tails = {name[k:] for name in names for k in range(1, len(name))}
     kept = [name for name in dict.fromkeys(names) if name and name not in tails]
     table = b"\0" + b"".join(name + b"\0" for name in kept)

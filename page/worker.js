@@ -1,5 +1,6 @@
 "use strict";
-// Reads a dropped file into the module's memory, judges it, and answers what the page asks of it: it runs beside the page, which stays quick.
+// Reads a dropped file into the module's memory, judges it, and answers what the page asks of it.
+// It runs beside the page, which stays quick.
 
 // So many bytes are read at a time.
 const PIECE = 1 << 24;
