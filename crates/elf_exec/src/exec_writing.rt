@@ -17,8 +17,8 @@ use std::io::Write;
 /// too, is [`ExecFault::Io`], and so is a write that takes 0 bytes of a rest that is not empty. Nothing is tried again and nothing is
 /// flushed.
 ///
-/// Memory is taken for the segments, their places and the list of the parts alone. Relocated bytes are offered as they stand, and zeros and program headers are
-/// made as they go out. Linear in the bytes that go out, the members and the outputs.
+/// Memory is taken for the segments, their places and the list of the parts alone. Relocated bytes are offered as they stand, and zeros
+/// and program headers are made as they go out. Linear in the bytes that go out, the members and the outputs.
 pub fn write_exec<W: Write>(
     alloc: Global,
     linked: &Linked<'_, '_>,

@@ -15,7 +15,7 @@ pub enum PlaceFault {
 }
 
 /// The least multiple of `align` not below `cursor`, in bytes; None if it does not fit a u64. The
-/// alignment 0 counts as 1.
+/// alignment 0 counts as 1. Takes one division and no memory.
 pub fn next_place(cursor: u64, align: u64) -> Option<u64>
     ensures { MatchOption result (HasNoPlace cursor align) (IsLeastPlace cursor align) }
 {

@@ -44,7 +44,8 @@ pub trait Pieces {
         ensures { Sends (W.contents writer.old) (W.contents writer.new) out (piece self.now j) result };
 }
 
-/// Sends them all, one after the other.
+/// Sends them all, one after the other. Where one meets a fault, that is the answer, with the count of all bytes that are out, and none
+/// behind it is sent.
 pub fn send_all<P: Pieces, W: Write>(
     writer: &mut W,
     out: u64,

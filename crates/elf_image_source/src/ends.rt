@@ -20,6 +20,7 @@ fn read_byte<S: Source>(source: &mut S, at: u64) -> Result<u8, ReadFault>
 /// The length and the ends of a table of `len` bytes from an offset on.
 ///
 /// It reads two bytes, but one where the table has one: so some table has these ends, even if the source gives other bytes each time.
+/// The fault is that of [`read_exactly`], of the one or the other byte.
 pub fn read_ends<S: Source>(source: &mut S, start: u64, len: u64) -> Result<TableEnds, ReadFault>
     requires { start + len < 2 ^ 64 }
     ensures kept { S.content source.new ≡ S.content source.old }

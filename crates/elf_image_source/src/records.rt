@@ -67,7 +67,7 @@ impl From<RecordsFault> for Fault {
     }
 }
 
-/// The record at an offset.
+/// The record at an offset, read as [`read_exactly`] reads its bytes, whose fault it answers. Takes no memory.
 pub fn read_record<T: Record, S: Source>(
     source: &mut S,
     order: Order,
@@ -133,6 +133,9 @@ fn read_several<T: Record + Drop, S: Source>(
 }
 
 /// The table of so many records at an offset, read through one array of [`BLOCK`] bytes.
+///
+/// [`RecordsFault::OutOfMemory`] comes where memory for the table is refused, before anything is read, and [`RecordsFault::Io`] as
+/// [`read_exactly`] answers it of the block at which a read failed. Linear in the table's length.
 pub fn read_records<T: Record + Drop, S: Source>(
     alloc: Global,
     source: &mut S,

@@ -57,7 +57,8 @@ fn file_numbers(
 }
 
 /// For each symbol of each file that is not local where its name stands among [`LinkMap::names`]; 0 for a local one. It takes log n
-/// comparisons of names a symbol; [`map_numbered`](crate::map_numbered) answers the numbers without.
+/// comparisons of names a symbol; [`map_numbered`](crate::map_numbered) answers the numbers without. The error comes where memory is
+/// refused, and the map is as it was in any case.
 #[tactic(auto, unfolding(crate::specs::BindingNumbers::AreBindingNumbers))]
 pub fn name_numbers(
     alloc: Global,

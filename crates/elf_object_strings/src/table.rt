@@ -22,8 +22,8 @@ pub struct Shared {
 /// proper suffix of another one, with the zero that ends it, in the order in which the names first occur.
 ///
 /// Each name stands at its offset with a zero behind it. Of names without a zero byte the offset is the lowest at which the name so
-/// stands, that of the empty name is 0, and no table that holds them all is shorter. Takes n log n comparisons of names, from their ends on, and at most six numbers of memory
-/// a name besides the table. Answers [`OutOfMemory`] only where memory was refused.
+/// stands, that of the empty name is 0, and no table that holds them all is shorter. Takes n log n comparisons of names, from their ends
+/// on, and at most six numbers of memory a name besides the table. Answers [`OutOfMemory`] only where memory was refused.
 pub fn shared_table(alloc: Global, names: &[&[u8]]) -> Result<Shared, OutOfMemory>
     ensures bytes { IfOk result (λ shared. shared.bytes.items ≡ string_table (texts names.now)) }
     ensures offsets { IfOk result (λ shared. shared.offsets.items ≡ map (name_offset (texts names.now)) (texts names.now)) }

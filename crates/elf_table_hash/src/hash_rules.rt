@@ -25,7 +25,8 @@ use elf_table_base::{TableKind, judge_own_rules};
 use elf_table_symbols::SymbolVerdicts;
 use std::alloc::{AllocError, Global};
 
-/// All rules of the hash table in section `i`, by these verdicts on the symbol tables. [`Fault::OutOfMemory`] comes only where no rule from 40 to 67 is broken.
+/// All rules of the hash table in section `i`, by these verdicts on the symbol tables. [`Fault::OutOfMemory`] comes only where no rule
+/// from 40 to 67 is broken.
 #[tactic(auto, unfolding(crate::specs::HashRules::hash_table_rules, crate::specs::HashRules::hash_table_front))]
 pub fn judge_hash_table(
     alloc: Global,

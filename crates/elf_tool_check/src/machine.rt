@@ -7,7 +7,8 @@ use crate::program::run_check;
 use elf_tool_base::{MachineFiles, refuse_words};
 use std::{env, io};
 
-/// Runs the program that has `check` alone over the machine's words and files, standard output and standard error. Answers the exit status, as [`run_check`] does.
+/// Runs the program that has `check` alone over the machine's words and files, standard output and standard error. Answers the exit
+/// status, as [`run_check`] does.
 pub fn check_on_machine(rt: &HostRuntime) -> u8
     ensures { (status : Ending) × (result ≡ code_of status) }
 {

@@ -31,7 +31,7 @@ use std::io::Write;
 /// what goes wrong. A failed write to `err` changes nothing.
 ///
 /// Answers the exit status: 0 done, 1 refused, 2 wrong usage, a call for help or a bad line in the rule file, 3 a file
-/// that cannot be opened, a failed read or write, or want of memory.
+/// that cannot be opened, a failed read or write, or want of memory. Time and memory are those of the command that the words name.
 pub fn run<S: AsStr, O: Opener, W: Write, E: Write>(
     alloc: Global,
     words: &[S],

@@ -97,7 +97,7 @@ const MOST_FILES: usize = 64;
 /// [`WordsFault::Words`] comes only where that definition does not take them. Where it does, want of
 /// memory aside, [`WordsFault::TooManyFiles`] comes exactly where it gives `map` or `link` more than 64 files,
 /// and else [`WordsFault::BadNumber`] exactly where it gives one of these a number that is none.
-/// [`WordsFault::OutOfMemory`] comes only where memory is refused. Names borrow from the words.
+/// [`WordsFault::OutOfMemory`] comes only where memory is refused. Names borrow from the words. Linear in their length.
 pub fn read_words<'a, S: AsStr>(alloc: Global, words: &'a [S]) -> Result<Request<'a>, WordsFault>
     ensures ok { IfOk result (IsAskedBy (map S.text words.entry.now)) }
     ensures err { IfErr result (IsRefusedBy (map S.text words.entry.now)) }
