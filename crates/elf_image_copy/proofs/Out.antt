@@ -1,9 +1,10 @@
 -- Bytes that are copied piece by piece, and what is out when a piece fails.
-use Rattle.std.proofs.Common.{◌≡◌, ◌≤◌, ◌<◌, ◌+◌, ◌-◌, ℕ, Bool, true, List, ◌++◌, length, take, drop, Option, Some, Result, Ok, Err, sym, ap, ap₂, subst, ◌∙◌, arith, length-append, take-add}
+use Rattle.std.proofs.Common.{◌≡◌, ◌≤◌, ◌<◌, ◌+◌, ◌-◌, ℕ, List, ◌++◌, length, take, drop, Option, Some, Result, Ok, Err, sym, ap, ap₂, subst, ◌∙◌, arith, length-append, take-add}
 use Rattle.std.specs.Result.{IsErrAnd}
 use Rattle.std.specs.Io.KnownBytes.{Appends}
 use Rattle.std.proofs.KnownBytes.{Appends-trans}
 use Rattle.std.proofs.lemmas.List.{drop-drop, drop_at, length-take, length-take-le, take-append-le, take_at}
+use Rattle.elf_image_source.specs.Source.{FailsAt}
 use Rattle.elf_image_copy.specs.declared.fault.CopyFault.{CopyFault}
 use Rattle.elf_image_copy.specs.declared.fault.CopyFault.TheVariants.{Read, Write}
 use Rattle.elf_image_copy.specs.Copying.{Copies, CopiedOut, FlagsCopy, ReadsBehind, bytes_out, later}
@@ -73,8 +74,8 @@ range_splits b start m n len within =
     ∙ ap (λ (k : ℕ). take n (drop (start + m) b) ++ take (len - (m + n)) (drop k b)) (let e : start + m + n ≡ start + (m + n) = omega arith in e))
 
 -- a read failed before anything went out
-pub flag_failed : (content : Option (List ℕ)) (old new : Bool) (at : ℕ) (result : Result (Unit {0}) CopyFault) → IsErrAnd result (λ fault. fault ≡ Read at 0) →
-    ((b : List ℕ) → content ≡ Some b → new ≡ true) → FlagsCopy content old new result
+pub flag_failed : (content : Option (List ℕ)) (old new : Option ℕ) (at : ℕ) (result : Result (Unit {0}) CopyFault) → IsErrAnd result (λ fault. fault ≡ Read at 0) →
+    FailsAt old new at × ((b : List ℕ) → content ≡ Some b → new ≡ Some at) → FlagsCopy content old new result
 flag_failed content old new at (Ok u) is fails = absurd is
 flag_failed content old new at (Err fault) is fails = subst (λ (f : CopyFault). FlagsCopy content old new (Err f)) (sym is) fails
 

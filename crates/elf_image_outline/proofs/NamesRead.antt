@@ -1,5 +1,5 @@
 -- What was read of a source that tells its bytes is what they hold, so what the rules find of it is the verdict on them.
-use Rattle.std.proofs.Common.{◌≡◌, ◌≢◌, ◌≤◌, ◌<◌, ◌+◌, ◌-◌, ℕ, min, Bool, None, Some, Option, List, [], length, map, take, drop, refl, sym, ap, subst, ◌∙◌, inl, inr, arith, length-drop}
+use Rattle.std.proofs.Common.{◌≡◌, ◌≢◌, ◌≤◌, ◌<◌, ◌+◌, ◌-◌, ℕ, min, None, Some, Option, List, [], length, map, take, drop, refl, sym, ap, subst, ◌∙◌, inl, inr, arith, length-drop}
 use Rattle.std.specs.Prelude.{if◌then◌else◌, ◌==◌}
 use Rattle.std.proofs.Math.Nat.{min-eq_left, min-eq_right, min-le_left}
 use Rattle.std.proofs.lemmas.Bool.{cases_eq, cases_lt, ne_eqb}
@@ -145,7 +145,7 @@ verdict_of_tables len b h c ss gs found says has records run =
     subst (Finds (length b)) records.header (subst (λ (n : ℕ). Finds n h) says moved)
 
 -- what stops the judging of tables that were read of a file stops the scan
-pub stops_of_tables : (len : ℕ) (b : List ℕ) (new : Bool) (h : Ehdr) (c : Counts) (ss : List Shdr) (gs : List Phdr) (fault : Fault) → len ≡ length b →
+pub stops_of_tables : (len : ℕ) (b : List ℕ) (new : Option ℕ) (h : Ehdr) (c : Counts) (ss : List Shdr) (gs : List Phdr) (fault : Fault) → len ≡ length b →
     HasTables len h c ss gs → AreRecordsIn b h ss gs → BreaksTables len h ss gs (names b h) fault → Stops b new fault
 stops_of_tables len b new h c ss gs OutOfMemory says has records breaks = tt
 stops_of_tables len b new h c ss gs (Io at) says has records breaks = absurd breaks

@@ -1,5 +1,5 @@
 -- The runs of rules that the stages of a scan judge are the rules of the file that the source tells.
-use Rattle.std.proofs.Common.{◌≡◌, ◌<◌, ℕ, Bool, None, Some, Option, Result, Ok, Err, List, length, map, take, drop, refl, sym, ap, subst, ◌∙◌, inl, inr, arith}
+use Rattle.std.proofs.Common.{◌≡◌, ◌<◌, ℕ, None, Some, Option, Result, Ok, Err, List, length, map, take, drop, refl, sym, ap, subst, ◌∙◌, inl, inr, arith}
 use Rattle.std.specs.Prelude.{IfSome}
 use Rattle.std.specs.List.{range_with_len}
 use Rattle.std.proofs.lemmas.Bool.{cases_eq}
@@ -41,7 +41,7 @@ header_of_block b block long is =
     ∙ ehdr_laws.part (order_of (take EI_NIDENT b)) b 0
 
 -- a broken rule of the file is what a stage answers
-pub scans_rule : {T : Type 0} (b : List ℕ) (new : Bool) (IsAnswer : T → Type 0) (broken : Broken ℕ) (result : Result T Fault) →
+pub scans_rule : {T : Type 0} (b : List ℕ) (new : Option ℕ) (IsAnswer : T → Type 0) (broken : Broken ℕ) (result : Result T Fault) →
     FirstIn (record_rules_of b) (Some (broken.rule, broken.at)) → IsErrAnd result (λ fault. fault ≡ Rule broken.rule broken.at) →
     Scans b new IsAnswer result
 scans_rule b new IsAnswer broken (Ok t) run same = absurd same
@@ -65,7 +65,7 @@ header_broken b len h fault says is lengths ident run =
     (FirstIn-sooner (header_rules (length b) h) _ fault (subst (λ (n : ℕ). FirstIn (header_rules n h) (Some fault)) says run))
 
 -- what stopped a part of a stage stops the stage
-pub scans_fault : {U : Type 0} (b : List ℕ) (new : Bool) (IsAnswer : U → Type 0) (fault : Fault) (result : Result U Fault) →
+pub scans_fault : {U : Type 0} (b : List ℕ) (new : Option ℕ) (IsAnswer : U → Type 0) (fault : Fault) (result : Result U Fault) →
     Stops b new fault → IsErrAnd result (λ other. other ≡ fault) → Scans b new IsAnswer result
 scans_fault b new IsAnswer fault (Ok u) stops same = absurd same
 scans_fault b new IsAnswer fault (Err other) stops same = subst (Stops b new) (sym same) stops

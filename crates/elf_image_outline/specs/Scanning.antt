@@ -1,5 +1,5 @@
 -- What the stages of a scan answer: a scan reads a source as an image, without its contents.
-use Rattle.std.specs.Prelude.{◌≡◌, ◌≢◌, ◌≤◌, ◌<◌, ◌^◌, ◌==◌, if◌then◌else◌, ℕ, Bool, true, List, None, Some, Result, Ok, Err, length, map}
+use Rattle.std.specs.Prelude.{◌≡◌, ◌≢◌, ◌≤◌, ◌<◌, ◌^◌, ◌==◌, if◌then◌else◌, ℕ, Option, List, None, Some, Result, Ok, Err, length, map}
 use Rattle.std.specs.List.{AllByRecursion}
 use Rattle.elf_field.specs.Ehdr.{IsEhdr}
 use Rattle.elf_field.specs.Phdr.{IsPhdr}
@@ -18,23 +18,25 @@ use Rattle.elf_image_rules.specs.Tables.{content_extent, counts_in, phdr_offset,
 use Rattle.elf_image_rules.specs.declared.tables.Counts.{Counts}
 use Rattle.elf_image_outline.specs.Image.{part_piece, value_extents}
 use Rattle.elf_image_outline.specs.declared.part.Part.{Part}
+use Rattle.elf_image_source.specs.Source.{FailsAt}
 use Rattle.elf_image_stream.specs.declared.fault.Fault.{Fault}
 use Rattle.elf_image_stream.specs.declared.fault.Fault.TheVariants.{Io, OutOfMemory, Rule}
 
--- of every source: the flag is what it was before the scan, but where the answer is Io: only a read that failed may change it
-abbrev pub Leaves : {T : Type 0} → Bool → Bool → Result T Fault → Type 0
+-- of every source: the flag is what it was before the scan, but where the answer is Io: then it may be the offset that is answered
+abbrev pub Leaves : {T : Type 0} → Option ℕ → Option ℕ → Result T Fault → Type 0
 Leaves old new (Ok t) = new ≡ old
 Leaves old new (Err OutOfMemory) = new ≡ old
-Leaves old new (Err (Io at)) = Unit {0}
+Leaves old new (Err (Io at)) = FailsAt old new at
 Leaves old new (Err (Rule number at)) = new ≡ old
 
--- of a source that tells its bytes b: why there is no answer. It is the first rule that they break, or a call of the source failed
-abbrev pub Stops : List ℕ → Bool → Fault → Type 0
+-- of a source that tells its bytes b: why there is no answer. It is the first rule that they break, or a call failed that was asked for
+-- the offset
+abbrev pub Stops : List ℕ → Option ℕ → Fault → Type 0
 Stops b new OutOfMemory = Unit {0}
-Stops b new (Io at) = new ≡ true
+Stops b new (Io at) = new ≡ Some at
 Stops b new (Rule number at) = IsFault b (Some (number, at))
 
-abbrev pub Scans : {T : Type 0} → List ℕ → Bool → (T → Type 0) → Result T Fault → Type 0
+abbrev pub Scans : {T : Type 0} → List ℕ → Option ℕ → (T → Type 0) → Result T Fault → Type 0
 Scans b new IsAnswer (Ok t) = IsAnswer t
 Scans b new IsAnswer (Err fault) = Stops b new fault
 

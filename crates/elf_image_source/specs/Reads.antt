@@ -1,5 +1,5 @@
 -- What whole reads of a source answer: bytes, a record, a table of records; and when one fails.
-use Rattle.std.specs.Prelude.{◌≡◌, ◌<◌, ◌≤◌, ◌+◌, ◌*◌, ℕ, Bool, true, List, length, take, drop, map, Option, Some, Result, Ok, Err, [], ◌∷◌}
+use Rattle.std.specs.Prelude.{◌≡◌, ◌<◌, ◌≤◌, ◌+◌, ◌*◌, ℕ, List, length, take, drop, map, Option, Some, Result, Ok, Err, [], ◌∷◌}
 use Rattle.std.specs.List.{AllByRecursion, range_with_len}
 use Rattle.elf_field.specs.declared.order.Order.{Order}
 use Rattle.elf_field.specs.Bytes.{IsBytes}
@@ -7,24 +7,27 @@ use Rattle.elf_image_rules.specs.declared.string_table.TableEnds.{TableEnds}
 use Rattle.elf_image_rules.specs.StringTable.{AreEnds}
 use Rattle.elf_image_stream.specs.declared.fault.Fault.{Fault}
 use Rattle.elf_image_stream.specs.declared.fault.Fault.TheVariants.{Io as FailedAt, OutOfMemory as NoMemory}
+use Rattle.elf_image_source.specs.Source.{FailsAt}
 use Rattle.elf_image_source.specs.declared.whole.ReadFault.{ReadFault}
 use Rattle.elf_image_source.specs.declared.records.RecordsFault.{RecordsFault}
 use Rattle.elf_image_source.specs.declared.records.RecordsFault.TheVariants.{Io, OutOfMemory}
 
 -- a read of n bytes from an offset on failed at one of them; and where the source tells its bytes and has all of these, a call of it did
-abbrev pub HasFailed : Option (List ℕ) → Bool → ℕ → ℕ → ℕ → Type 0
-HasFailed content new at n failed_at =
-    (at ≤ failed_at) × (failed_at < at + n) × ((b : List ℕ) → content ≡ Some b → at + n ≤ length b → new ≡ true)
+-- that was asked for this one
+abbrev pub HasFailed : Option (List ℕ) → Option ℕ → Option ℕ → ℕ → ℕ → ℕ → Type 0
+HasFailed content old new at n failed_at =
+    (at ≤ failed_at) × (failed_at < at + n) × FailsAt old new failed_at
+    × ((b : List ℕ) → content ≡ Some b → at + n ≤ length b → new ≡ Some failed_at)
 
 -- a buffer is filled with the bytes from an offset on, and the flag is left; or a read failed
-abbrev pub Reads : Option (List ℕ) → Bool → Bool → ℕ → List ℕ → Result (Unit {0}) ReadFault → Type 0
+abbrev pub Reads : Option (List ℕ) → Option ℕ → Option ℕ → ℕ → List ℕ → Result (Unit {0}) ReadFault → Type 0
 Reads content old new at buf (Ok u) = (new ≡ old) × ((b : List ℕ) → content ≡ Some b → buf ≡ take (length buf) (drop at b))
-Reads content old new at buf (Err fault) = HasFailed content new at (length buf) fault.at
+Reads content old new at buf (Err fault) = HasFailed content old new at (length buf) fault.at
 
 -- the record of n bytes at an offset, whose fields fit, and the flag is left; or a read failed
-abbrev pub ReadsRecord : {T : Type 0} → (List ℕ → ℕ → T) → (T → Type 0) → ℕ → Option (List ℕ) → Bool → Bool → ℕ → Result T ReadFault → Type 0
+abbrev pub ReadsRecord : {T : Type 0} → (List ℕ → ℕ → T) → (T → Type 0) → ℕ → Option (List ℕ) → Option ℕ → Option ℕ → ℕ → Result T ReadFault → Type 0
 ReadsRecord record_at IsValid n content old new at (Ok v) = (new ≡ old) × IsValid v × ((b : List ℕ) → content ≡ Some b → v ≡ record_at b at)
-ReadsRecord record_at IsValid n content old new at (Err fault) = HasFailed content new at n fault.at
+ReadsRecord record_at IsValid n content old new at (Err fault) = HasFailed content old new at n fault.at
 
 -- so many records of n bytes, one after the other from an offset on
 abbrev pub table_at : {T : Type 0} → (List ℕ → ℕ → T) → ℕ → List ℕ → ℕ → ℕ → List T
@@ -36,16 +39,16 @@ Extends {T = T} value several old new = (from : ℕ) (f : ℕ → T) → ((i : �
     old ≡ map f (range_with_len 0 from) → new ≡ map f (range_with_len 0 (from + several))
 
 -- the records of n bytes from an offset on, whose fields fit, and the flag is left
-pub record HasTable {T : Type 0} (record_at : List ℕ → ℕ → T) (IsValid : T → Type 0) (n : ℕ) (content : Option (List ℕ)) (old new : Bool) (at count : ℕ) (vs : List T) : Type 0 where
+pub record HasTable {T : Type 0} (record_at : List ℕ → ℕ → T) (IsValid : T → Type 0) (n : ℕ) (content : Option (List ℕ)) (old new : Option ℕ) (at count : ℕ) (vs : List T) : Type 0 where
   pub flag : new ≡ old
   pub many : length vs ≡ count
   pub valid : AllByRecursion IsValid vs
   pub told : (b : List ℕ) → content ≡ Some b → vs ≡ table_at record_at n b at count
 
 -- why there is no table of so many bytes: memory was refused, and the flag is left; or a read failed
-abbrev pub IsRecordsFault : Option (List ℕ) → Bool → Bool → ℕ → ℕ → RecordsFault → Type 0
+abbrev pub IsRecordsFault : Option (List ℕ) → Option ℕ → Option ℕ → ℕ → ℕ → RecordsFault → Type 0
 IsRecordsFault content old new at n OutOfMemory = new ≡ old
-IsRecordsFault content old new at n (Io failed_at) = HasFailed content new at n failed_at
+IsRecordsFault content old new at n (Io failed_at) = HasFailed content old new at n failed_at
 
 -- the same as a fault of a file
 abbrev pub records_fault : RecordsFault → Fault
@@ -53,14 +56,14 @@ records_fault OutOfMemory = NoMemory
 records_fault (Io at) = FailedAt at
 
 -- the byte at an offset, and the flag is left; or a read failed
-abbrev pub ReadsByte : Option (List ℕ) → Bool → Bool → ℕ → Result ℕ ReadFault → Type 0
+abbrev pub ReadsByte : Option (List ℕ) → Option ℕ → Option ℕ → ℕ → Result ℕ ReadFault → Type 0
 ReadsByte content old new at (Ok byte) = (new ≡ old) × ((b : List ℕ) → content ≡ Some b → byte ∷ [] ≡ take 1 (drop at b))
-ReadsByte content old new at (Err fault) = HasFailed content new at 1 fault.at
+ReadsByte content old new at (Err fault) = HasFailed content old new at 1 fault.at
 
 -- the ends of a table of so many bytes from an offset on, and the flag is left; or a read failed. Some table has these ends, which holds of
 -- a source that gives other bytes each time too
-abbrev pub ReadsEnds : Option (List ℕ) → Bool → Bool → ℕ → ℕ → Result TableEnds ReadFault → Type 0
+abbrev pub ReadsEnds : Option (List ℕ) → Option ℕ → Option ℕ → ℕ → ℕ → Result TableEnds ReadFault → Type 0
 ReadsEnds content old new start len (Ok ends) =
     (new ≡ old) × ((table : List ℕ) × AreEnds ends table × IsBytes table) × (ends.len ≡ len)
     × ((b : List ℕ) → content ≡ Some b → start + len ≤ length b → AreEnds ends (take len (drop start b)))
-ReadsEnds content old new start len (Err fault) = HasFailed content new start len fault.at
+ReadsEnds content old new start len (Err fault) = HasFailed content old new start len fault.at

@@ -1,9 +1,14 @@
--- What a source of bytes says of them: a list that no call changes, where it tells it, and a flag that each failed call sets.
-use Rattle.std.specs.Prelude.{◌≡◌, ◌<◌, ◌≤◌, ◌+◌, ℕ, Bool, true, List, length, take, drop, Option, Result, MatchResult, IfOk, IfSome}
+-- What a source of bytes says of them: a list that no call changes, where it tells it, and a flag of failure: the offset that the last failed
+-- call was asked for.
+use Rattle.std.specs.Prelude.{◌≡◌, ◌<◌, ◌≤◌, ◌+◌, ◌⊎◌, ℕ, List, length, take, drop, Option, Some, Result, MatchResult, IfOk, IfSome}
 
--- a failed call sets the flag, and any other one leaves it
-abbrev pub Flags : {T E : Type 0} → Bool → Bool → Result T E → Type 0
-Flags old new result = MatchResult result (λ _. new ≡ old) (λ _. new ≡ true)
+-- a call that is asked for an offset sets the flag to it where the call fails, and leaves the flag else
+abbrev pub Flags : {T E : Type 0} → ℕ → Option ℕ → Option ℕ → Result T E → Type 0
+Flags at old new result = MatchResult result (λ _. new ≡ old) (λ _. new ≡ Some at)
+
+-- a call that was asked for this offset failed; or none failed, and one gave no byte: the flag is left
+abbrev pub FailsAt : Option ℕ → Option ℕ → ℕ → Type 0
+FailsAt old new at = (new ≡ Some at) ⊎ (new ≡ old)
 
 -- the length that is answered is that of the content
 abbrev pub SaysLength : {E : Type 0} → Option (List ℕ) → Result ℕ E → Type 0

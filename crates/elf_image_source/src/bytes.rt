@@ -8,11 +8,11 @@ use crate::source::{Failed, Source};
 pub struct Bytes<'a>(pub &'a [u8]);
 
 impl<'a> Source for Bytes<'a> {
-    ghost use Rattle.std.specs.Prelude.{false, Some};
+    ghost use Rattle.std.specs.Prelude.{None, Some};
 
     ghost content = { λ s. Some s.0.now };
 
-    ghost failed = { λ _. false };
+    ghost failed = { λ _. None };
 
     fn length(&mut self) -> Result<u64, Failed> {
         Ok(self.0.len() as u64)

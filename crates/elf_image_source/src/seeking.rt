@@ -1,5 +1,5 @@
 //! What seeks and reads, as an open file, as a source.
-ghost use Rattle.std.specs.Prelude.{◌≡◌, false};
+ghost use Rattle.std.specs.Prelude.{◌≡◌, None};
 
 use crate::source::{Failed, Source};
 use std::io::{Read, Seek, SeekFrom};
@@ -8,17 +8,18 @@ use std::io::{Read, Seek, SeekFrom};
 #[derive(Debug, Drop)]
 pub struct Seeking<F> {
     inner: F,
-    failed: bool,
+    /// The offset that the last failed call was asked for.
+    failed: Option<u64>,
 }
 
 impl<F> Seeking<F> {
     /// A source over this file, no call of which has failed.
     pub fn new(inner: F) -> Seeking<F>
-        ensures { result.failed ≡ false }
+        ensures { result.failed ≡ None }
     {
         Seeking {
             inner,
-            failed: false,
+            failed: None,
         }
     }
 }
@@ -30,7 +31,7 @@ impl<F: Read + Seek> Source for Seeking<F> {
         match self.inner.seek(SeekFrom::End(0)) {
             Ok(length) => Ok(length),
             Err(_) => {
-                self.failed = true;
+                self.failed = Some(0);
                 Err(Failed)
             }
         }
@@ -40,14 +41,14 @@ impl<F: Read + Seek> Source for Seeking<F> {
         match self.inner.seek(SeekFrom::Start(at)) {
             Ok(_) => {}
             Err(_) => {
-                self.failed = true;
+                self.failed = Some(at);
                 return Err(Failed);
             }
         }
         match self.inner.read(buf) {
             Ok(count) => Ok(count),
             Err(_) => {
-                self.failed = true;
+                self.failed = Some(at);
                 Err(Failed)
             }
         }

@@ -32,7 +32,7 @@ fn read_more<S: Source>(
 ) -> Result<usize, Failed>
     requires { filled < length buf.old }
     ensures kept { S.content source.new ≡ S.content source.old }
-    ensures flag { Flags (S.failed source.old) (S.failed source.new) result }
+    ensures flag { Flags at (S.failed source.old) (S.failed source.new) result }
     ensures bound { IfOk result (λ k. filled + k ≤ length buf.new) }
     ensures same { length buf.new ≡ length buf.old }
     ensures front { take filled buf.new ≡ take filled buf.old }

@@ -45,7 +45,7 @@ pub trait Opener {
     fn source(&mut self, name: &str) -> Result<Self::Seek, OpenFault>
         ensures bytes { IfSome (holds self.old name.now) (λ bytes.
             IfOk result (λ source. Self.Seek.content source ≡ Some bytes)) }
-        ensures unfailed { IfOk result (λ source. Self.Seek.failed source ≡ false) }
+        ensures unfailed { IfOk result (λ source. Self.Seek.failed source ≡ None) }
         ensures fault { IfErr result (IsOpenFault (opens self.old name.now)) }
         ensures kept { holds self.new ≡ holds self.old }
         ensures still { opens self.new ≡ opens self.old };

@@ -12,7 +12,7 @@ pub struct Cut<'a> {
     pub calls: u64,
     /// The most bytes that a call was asked for.
     pub longest: usize,
-    pub failed: bool,
+    pub failed: Option<u64>,
 }
 
 impl<'a> Cut<'a> {
@@ -24,7 +24,7 @@ impl<'a> Cut<'a> {
             gives_none: false,
             calls: 0,
             longest: 0,
-            failed: false,
+            failed: None,
         }
     }
 }
@@ -43,7 +43,7 @@ impl Source for Cut<'_> {
             if self.gives_none {
                 return Ok(0);
             }
-            self.failed = true;
+            self.failed = Some(at);
             return Err(Failed);
         }
         let room = self.piece.min(buf.len());

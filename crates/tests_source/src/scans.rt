@@ -102,7 +102,7 @@ fn each_failed_call_is_answered_with_its_offset(rt: HostRuntime) {
             scan(rt.alloc(), &mut source).err(),
             Some(Fault::Io { at: ASKED[k] })
         );
-        assert!(rt; source.failed);
+        assert_eq!(rt; source.failed, Some(ASKED[k]));
     }
 }
 
@@ -117,6 +117,6 @@ fn each_call_that_gives_nothing_is_answered_with_its_offset(rt: HostRuntime) {
             scan(rt.alloc(), &mut source).err(),
             Some(Fault::Io { at: ASKED[k] })
         );
-        assert!(rt; !source.failed);
+        assert_eq!(rt; source.failed, None);
     }
 }

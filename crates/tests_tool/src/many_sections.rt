@@ -1,6 +1,6 @@
 //! Objects of so many sections that their count, and then the index of their section name string
 //! table too, stand in section header 0.
-ghost use Rattle.std.specs.Prelude.{◌<◌, ◌≡◌, false, length};
+ghost use Rattle.std.specs.Prelude.{◌<◌, ◌≡◌, None, length};
 
 use crate::said::{assert_accepts, assert_lines, assert_written_back};
 use elf_field::{Ehdr, Order, Record, Shdr};
@@ -149,7 +149,7 @@ fn counts_in_the_header_and_in_section_header_0(rt: HostRuntime) -> Result<(), F
 struct Bytewise<'a>(&'a [u8]);
 
 impl Source for Bytewise<'_> {
-    ghost failed = { λ _. false };
+    ghost failed = { λ _. None };
 
     fn length(&mut self) -> Result<u64, Failed> {
         Ok(self.0.len() as u64)

@@ -1,5 +1,5 @@
 //! `check --seek` over sources of which one call fails, or which have fewer bytes than they say: each has its exact answer.
-ghost use Rattle.std.specs.Prelude.{◌≡◌, false};
+ghost use Rattle.std.specs.Prelude.{◌≡◌, None};
 ghost use Rattle.elf_image_source.specs.Source.{Flags};
 
 use crate::program::{HEADER, ROOM, Ran, Shelf, assert_ran};
@@ -21,29 +21,29 @@ struct Tape<'a> {
     len: u64,
     failing: u64,
     calls: u64,
-    failed: bool,
+    failed: Option<u64>,
 }
 
 impl<'a> Tape<'a> {
     fn new(bytes: &'a [u8], failing: u64) -> Tape<'a>
-        ensures { result.failed ≡ false }
+        ensures { result.failed ≡ None }
     {
         Tape {
             bytes,
             len: bytes.len() as u64,
             failing,
             calls: 0,
-            failed: false,
+            failed: None,
         }
     }
 
-    // A further call.
-    fn call(&mut self) -> Result<(), Failed>
-        ensures { Flags self.old.failed self.new.failed result }
+    // A further call, which is asked for this offset.
+    fn call(&mut self, at: u64) -> Result<(), Failed>
+        ensures { Flags at self.old.failed self.new.failed result }
     {
         self.calls = self.calls.saturating_add(1);
         if self.calls == self.failing {
-            self.failed = true;
+            self.failed = Some(at);
             return Err(Failed);
         }
         Ok(())
@@ -54,12 +54,12 @@ impl Source for Tape<'_> {
     ghost failed = { λ tape. tape.failed };
 
     fn length(&mut self) -> Result<u64, Failed> {
-        self.call()?;
+        self.call(0)?;
         Ok(self.len)
     }
 
     fn read_at(&mut self, at: u64, buf: &mut [u8]) -> Result<usize, Failed> {
-        self.call()?;
+        self.call(at)?;
         Bytes(self.bytes).read_at(at, buf)
     }
 }

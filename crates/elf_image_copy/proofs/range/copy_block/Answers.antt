@@ -6,4 +6,4 @@ pub returns-in_err-read_exactly-clause-flag : goal.returns-in_err-read_exactly-c
 returns-in_err-read_exactly-clause-flag g c =
     let failed = c.in_err-read_exactly.ensures in
     flag_failed _ _ _ c.in_err-read_exactly.field-0.0.at _ c.from_residual.ensures.1
-    (λ b told. failed.reads.2 b told (subst (λ (n : ℕ). c.args.at + n ≤ length b) (sym failed.same) (c.requires.within b told)))
+    (failed.reads.2, λ b told. failed.reads.3 b told (subst (λ (n : ℕ). c.args.at + n ≤ length b) (sym failed.same) (c.requires.within b told)))
