@@ -1,5 +1,5 @@
 //! The whole program: from the words of its command line to its exit status.
-ghost use Rattle.std.specs.Prelude.{◌≡◌, Some, map as map_list, option_copied};
+ghost use Rattle.std.specs.Prelude.{◌≡◌, map as map_list, option_copied};
 ghost use Rattle.elf_tool_base.specs.Ending.{EndsFile, code_of, ending_of};
 ghost use Rattle.elf_tool_base.specs.declared.ending.Status.{Status as Ending};
 ghost use Rattle.elf_tool_check_source.specs.CheckSource.{IsSourceChecked};
@@ -72,10 +72,7 @@ fn ending<S: AsStr, O: Opener, W: Write, E: Write>(
                 page,
                 entry: None,
             };
-            match rules {
-                None => map_files(alloc, &options, None, &names, files, out, err),
-                Some(file) => map_by_rules(alloc, &options, file, &names, files, out, err),
-            }
+            map_by_rules(alloc, &options, rules, &names, files, out, err)
         }
         Ok(
             Request::Link {
@@ -167,15 +164,18 @@ fn map_files<O: Opener, W: Write, E: Write>(
 fn map_by_rules<O: Opener, W: Write, E: Write>(
     alloc: Global,
     options: &Options<'_>,
-    file: &str,
+    file: Option<&str>,
     names: &[&str],
     files: &mut O,
     out: &mut W,
     err: &mut E,
 ) -> Status
-    ensures { EndsMap options.now (O.holds files.old) (O.opens files.old) (Some file.now) (map_list (λ name. name.now) names.now)
+    ensures { EndsMap options.now (O.holds files.old) (O.opens files.old) (option_copied file.entry) (map_list (λ name. name.now) names.now)
         (W.contents out.old) (W.contents out.new) result }
 {
+    let Some(file) = file else {
+        return map_files(alloc, options, None, names, files, out, err);
+    };
     match rules_of(alloc, file, files) {
         Ok(rules) => map_files(alloc, options, Some(&rules), names, files, out, err),
         Err(fault) => no_rules(fault, file, err),

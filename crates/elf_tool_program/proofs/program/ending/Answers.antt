@@ -1,20 +1,13 @@
-use Rattle.std.proofs.Common.{None, Some, ap, inl, refl}
+use Rattle.std.proofs.Common.{Some, ap, inl, refl}
 use Rattle.elf_tool_words.specs.declared.words.Request.TheVariants.{Link, Map}
 use Rattle.elf_tool_program.proofs.program.ending.Goals as goal
-
-pub returns-in-None : goal.returns-in-None
-returns-in-None g c =
-    let r = c.in-Ok-Map in
-    let asked = rw (r.field-0-is, c.in-None.is) at r.ensures.ok in
-    let ends = rw (r.base-is, r.page-is, c.deref.ensures.value) at c.map_files.ensures in
-    inl (Map r.base r.page None r.names, asked, ends)
 
 pub returns-in-Ok-Map : goal.returns-in-Ok-Map
 returns-in-Ok-Map g c =
     let r = c.in-Ok-Map in
-    let asked = rw (r.field-0-is, c.in-Some.is) at r.ensures.ok in
-    let ends = rw (r.base-is, r.page-is, c.deref-in-Some.ensures.value) at c.map_by_rules.ensures in
-    inl (Map r.base r.page (Some c.in-Some.file) r.names, asked, ends)
+    let asked = rw r.field-0-is at r.ensures.ok in
+    let ends = rw (r.base-is, r.page-is, c.deref.ensures.value) at c.map_by_rules.ensures in
+    inl (Map r.base r.page r.rules r.names, asked, ends)
 
 pub returns-in-Ok-Link : goal.returns-in-Ok-Link
 returns-in-Ok-Link g c =
