@@ -11,7 +11,7 @@
 //! | [`exec`] | the executable of a link |
 //! | [`tool`] | the program `elfmap`, over any readers and writers |
 //!
-//! Five things that people do with it, each a program of some 60 lines, in a crate of its name:
+//! Six things that people do with it, each a program of 40 to 70 lines, in a crate of its name:
 //!
 //! | program | what it shows |
 //! |---|---|
@@ -20,6 +20,7 @@
 //! | `example_edit FILE SECTION FLAGS` | zeroing the gaps of a file, setting the flags of a section, and writing the image |
 //! | `example_link A B` | linking two objects, relocating their bytes, and writing the executable |
 //! | `example_copy FILE SECTION FLAGS` | copying a file with an edit by a source, without its contents in memory |
+//! | `example_roundtrip FILE` | parsing a file, and writing its image: the same bytes |
 //!
 //! ```
 //! use elf::image::{parse, verdict};

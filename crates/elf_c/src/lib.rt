@@ -3,7 +3,7 @@
 //!
 //! Nothing here takes memory or keeps a state between two calls. What an accessor needs of a file or of a table is a struct of numbers
 //! ([`File`], [`Table`]), which the caller holds: it may have any numbers, so each accessor tests what it reads against the length of the
-//! bytes.
+//! bytes. Begin with `verdicts`, then `file`, which makes a [`File`], and `records`, which reads by it.
 #![tactic(auto)]
 
 mod entries;

@@ -15,8 +15,8 @@ use elf_field::abi::SHT_NULL;
 use elf_image_type::strings::string_at;
 
 /// Where the name of section `index` stands in the file, without its closing zero; false where there is no section of this index, or its
-/// header doesn't lie in the bytes, or that of the section name string table doesn't, where the name is looked for there. A name of no bytes
-/// is said to stand at offset 0.
+/// header doesn't lie in the bytes, or that of the section name string table doesn't, where the name is looked for there. A name of no
+/// bytes is said to stand at offset 0.
 #[unsafe(no_mangle)]
 pub extern "C" fn elfmap_name(file: &File, bytes: &[u8], index: u64, name: &mut Slot) -> bool
     ensures there { IsFileOf file.now bytes.now → IsTrue result ↔ (index < (file_counts bytes.now).sections) }

@@ -177,8 +177,8 @@ pub struct Symbol {
     pub st_value: u64,
     pub st_size: u64,
     pub st_name: u32,
-    /// `st_shndx`, or the word of the index table where that is `SHN_XINDEX`: the index of the section where it is defined, but no section's
-    /// where `st_shndx` is 0 (undefined) or from 0xff00 to 0xfffe (as `SHN_ABS` and `SHN_COMMON`).
+    /// `st_shndx`, or the word of the index table where that is `SHN_XINDEX`: the index of the section where it is defined, but no
+    /// section's where `st_shndx` is 0 (undefined) or from 0xff00 to 0xfffe (as `SHN_ABS` and `SHN_COMMON`).
     pub section: u32,
     pub st_shndx: u16,
     pub st_info: u8,

@@ -46,8 +46,9 @@ fn copy_part<S: Source, W: Write>(
 /// bytes than before gives them to the writer: where it doesn't tell its bytes, the count of what is out is all that holds.
 ///
 /// [`CopyFault::Read`]: a call of the source failed, or gave no byte where the outline says that there is one; `at` is the offset that it
-/// was asked for. [`CopyFault::Write`]: a call of the writer failed, an interruption too, or took 0 bytes of a rest that is not empty.
-/// Nothing is tried again, nothing is flushed, and no memory is taken. Linear in the length of the file.
+/// was asked for. Of a source none of whose calls had failed before, nothing else is answered after a failed call of it.
+/// [`CopyFault::Write`]: a call of the writer failed, an interruption too, or took 0 bytes of a rest that is not empty. Nothing is tried
+/// again, nothing is flushed, and no memory is taken. Linear in the length of the file.
 pub fn copy_image<S: Source, W: Write>(
     outline: &Outline,
     source: &mut S,

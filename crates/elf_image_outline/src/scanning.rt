@@ -14,13 +14,14 @@ use elf_image_source::Source;
 use elf_image_stream::Fault;
 use std::alloc::Global;
 
-/// The records and the parts of an ELF-64 file that breaks no rule, read of a source: the header, the two tables and the ends of the section
-/// name string table are read, and no other byte.
+/// The records and the parts of an ELF-64 file that breaks no rule, read of a source: the header, the two tables and the ends of the
+/// section name string table are read, and no other byte.
 ///
-/// [`Fault::Rule`] is the first of rules 1 to 33 that the bytes break, at the lowest offset where they break it. [`Fault::Io`] is the offset
-/// that a call was asked for which failed, or which gave no byte where the length says that there is one; after a failed call nothing else
-/// is answered. [`Fault::OutOfMemory`] comes only where memory is refused, which is asked for from rule 22 on: for the two tables, and a
-/// list of the extents of the file. Sorting these takes n log n comparisons; all else is linear in the records.
+/// [`Fault::Rule`] is the first of rules 1 to 33 that the bytes break, at the lowest offset where they break it. [`Fault::Io`] is the
+/// offset that a call was asked for which failed (0 for a failed `length`), or which gave no byte where the length says that there is one.
+/// Of a source none of whose calls had failed before, nothing else is answered after a failed call. [`Fault::OutOfMemory`] comes only where
+/// memory is refused, which is asked for from rule 22 on: for the two tables, and a list of the extents of the file. Sorting these takes
+/// n log n comparisons; all else is linear in the records.
 pub fn scan<S: Source>(alloc: Global, source: &mut S) -> Result<Outline, Fault>
     ensures kept { S.content source.new ≡ S.content source.old }
     ensures flag { Leaves (S.failed source.old) (S.failed source.new) result }

@@ -6,9 +6,10 @@ ghost use Rattle.elf_image_sending.specs.Sending.{Sends};
 use elf_image_stream::{WriteFault, write_whole};
 use std::io::Write;
 
-/// Sends some bytes.
+/// Sends these bytes behind `out` others, and answers how many are out then.
 ///
-/// A text of 2^64 bytes and more ends here, before the count of what is out no longer fits.
+/// [`WriteFault`] where a call of the writer fails, an interruption too, or takes 0 bytes of a rest that is not empty; and where 2^64 bytes
+/// and more would be out, before any of these goes out. It has the count of all bytes that are out.
 pub fn send<W: Write>(writer: &mut W, out: u64, bytes: &[u8]) -> Result<u64, WriteFault>
     ensures { Sends (W.contents writer.old) (W.contents writer.new) out bytes.now result }
 {

@@ -26,8 +26,8 @@ pub trait Source {
         ensures length { SaysLength (content self.old) result };
 
     /// Reads bytes from offset `at` on to the front of `buf`, and answers how many. They may be fewer than `buf` has room for, but 0
-    /// only where no byte stands at the offset, or `buf` is empty. [`Failed`] where the call fails, which sets the flag to `at`; `buf` may have changed
-    /// then.
+    /// only where no byte stands at the offset, or `buf` is empty. [`Failed`] where the call fails, which sets the flag to `at`; `buf`
+    /// may have changed then.
     fn read_at(&mut self, at: u64, buf: &mut [u8]) -> Result<usize, Failed>
         ensures kept { content self.new ≡ content self.old }
         ensures flag { Flags at (failed self.old) (failed self.new) result }

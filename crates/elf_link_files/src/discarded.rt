@@ -83,6 +83,8 @@ fn marks_in<'a>(
 }
 
 /// A mark for each section of each file: whether it is discarded. It takes n log n comparisons of signatures.
+///
+/// Fails for want of memory alone.
 pub fn discarded(alloc: Global, objects: &[Object<'_>]) -> Result<Vec<Vec<bool>>, AllocError>
     ensures { IfOk result (λ marks. AreDiscardMarks objects.now (map (λ row. row.items) marks.items)) }
 {

@@ -63,7 +63,7 @@ fn chosen_at(
     Ok(commons)
 }
 
-/// All commons that are placed, in the order of the first one of each name.
+/// All commons that are placed, in the order of the first one of each name. Fails for want of memory alone.
 pub fn chosen_commons(
     alloc: Global,
     objects: &[Object<'_>],

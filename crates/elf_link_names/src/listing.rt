@@ -157,7 +157,7 @@ fn push_file(
     Ok(())
 }
 
-/// All that is listed, in order by file and position.
+/// All that is listed, in order by file and position. Fails for want of memory alone.
 pub fn all_listed(
     alloc: Global,
     what: Listed,

@@ -170,7 +170,7 @@ fn groups_of_kind<'a, S: BuildHasher + Drop>(
     groups_of(alloc, objects, &sites, seen)
 }
 
-/// The members of each output, in order of placement: of those with bits, and behind them of those without.
+/// The members of each output, in order of placement: of those with bits, and behind them of those without. Fails for want of memory alone.
 pub fn outputs_of<'a, S: BuildHasher + Drop>(
     alloc: Global,
     objects: &[Object<'a>],

@@ -10,7 +10,7 @@ use elf_link_files::{Chosen, Site};
 use elf_object_type::Object;
 use std::alloc::{AllocError, Global};
 
-/// The sections of all outputs, in order.
+/// The sections of all outputs, in order. Fails for want of memory alone.
 pub fn placed(alloc: Global, outputs: &[Vec<Site>]) -> Result<Vec<Site>, AllocError>
     ensures { IfOk result (λ sites. sites.items ≡ flat (map (λ ms. ms.items) outputs.now)) }
 {
@@ -57,7 +57,7 @@ fn common_parts(alloc: Global, page: u64, commons: &[Chosen]) -> Result<Vec<(u64
     Ok(parts)
 }
 
-/// The parts of all outputs, and behind them those of the commons.
+/// The parts of all outputs, and behind them those of the commons. Fails for want of memory alone.
 pub fn all_parts(
     alloc: Global,
     page: u64,

@@ -17,7 +17,8 @@ use elf_table_base::rules::*;
 use elf_table_base::{TableKind, judge_own_rules};
 use elf_table_symbols::judge_linked_strings;
 
-/// All rules of the dynamic section `i`.
+/// All rules of the dynamic section `i`. [`Broken`] is the first that is broken, at its lowest offset: 40, 42, 43, 44, then 41 of the
+/// string table that the section links to, then 63 and 64.
 #[tactic(auto, unfolding(crate::specs::DynamicRules::dynamic_section_rules))]
 pub fn judge_dynamic_section(image: &Image<'_>, i: usize) -> Result<(), Broken<u64>>
     requires { i < length image.now.sections }

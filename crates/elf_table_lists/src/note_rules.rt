@@ -15,7 +15,7 @@ use elf_image_rules::Broken;
 use elf_image_type::Image;
 use elf_table_base::rules::*;
 
-/// Rules 40 and 59 to 62 of the note section `i`.
+/// Rules 40 and 59 to 62 of the note section `i`. [`Broken`] is the first of them that is broken, at its lowest offset.
 #[tactic(auto, unfolding(crate::specs::NoteRules::note_section_rules))]
 pub fn judge_note_section(image: &Image<'_>, i: usize) -> Result<(), Broken<u64>>
     requires { i < length image.now.sections }

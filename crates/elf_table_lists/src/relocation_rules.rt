@@ -19,7 +19,8 @@ use elf_table_base::rules::*;
 use elf_table_base::{TableKind, judge_own_rules};
 use elf_table_symbols::SymbolVerdicts;
 
-/// All rules of the relocation section `i`, by these verdicts on the symbol tables.
+/// All rules of the relocation section `i`, by these verdicts on the symbol tables. [`Broken`] is the first that is broken, at its lowest
+/// offset: 40, 42, 43, 44, then all rules of the symbol table that the section links to, then 53 and 54.
 #[tactic(auto, unfolding(crate::specs::RelocationRules::relocation_section_rules))]
 pub fn judge_relocation_section(
     image: &Image<'_>,

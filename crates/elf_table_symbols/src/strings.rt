@@ -74,7 +74,8 @@ fn judge_string_table(image: &Image<'_>, i: usize) -> Result<(), Broken<u64>>
     judge_linked_strings(image.content(i), section.sh_offset)
 }
 
-/// Rule 41 of a string table at this offset in the file, which another table links to.
+/// Rule 41 of a string table at this offset in the file, which another table links to. [`Broken`] has the lowest offset where the rule is
+/// broken: that of the first byte where this isn't 0, else of the last.
 #[tactic(auto, unfolding(crate::specs::StringRules::linked_string_rules))]
 pub fn judge_linked_strings(table: &[u8], start: u64) -> Result<(), Broken<u64>>
     requires { 0 < length table.now → start + length table.now ≤ MAX_LEN }

@@ -214,7 +214,8 @@ fn judge_rest(
     judge_places(parts)
 }
 
-/// All rules of the symbol table in section `i`, which has these index tables.
+/// All rules of the symbol table in section `i`, which has these index tables. [`Broken`] is the first that is broken, at its lowest
+/// offset: 40, 42, 43, 44, then 41 of the string table that the section links to, then 45 to 52.
 #[tactic(auto, unfolding(crate::specs::SymbolRules::symbol_table_rules))]
 pub fn judge_symbol_table(
     image: &Image<'_>,

@@ -1,6 +1,6 @@
 //! The laws on commands: what each of them says of its input is one verdict and one text; what `rewrite` wrote it writes again, and what
 //! `link` wrote is an image that loads the memory of the link. A file of relocation rules gives at most one list of them or one bad line.
-//! Each is the contract of a function that does nothing, and the program does without them.
+//! Each is the contract of a function that does nothing, and the program does without them. Begin with [`one_check`].
 #![tactic(auto)]
 
 mod link_laws;

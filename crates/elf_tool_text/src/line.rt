@@ -13,14 +13,14 @@ use digits::put_wide_digits;
 pub(crate) use digits::{MOST_DIGITS, put_digits};
 use std::alloc::{AllocError, Global};
 
-/// Appends a line's first word.
+/// Appends a line's first word. Fails for want of memory alone.
 pub fn begin_line(text: &mut Vec<u8>, first: &[u8]) -> Result<(), AllocError>
     ensures { OnOk result (text.new.items ≡ text.old.items ++ first.now) }
 {
     text.extend_from_slice(first)
 }
 
-/// Appends a further word.
+/// Appends a further word. Fails for want of memory alone.
 pub fn push_word(text: &mut Vec<u8>, word: &[u8]) -> Result<(), AllocError>
     ensures { OnOk result (text.new.items ≡ text.old.items ++ blank ∷ word.now) }
 {
@@ -28,7 +28,7 @@ pub fn push_word(text: &mut Vec<u8>, word: &[u8]) -> Result<(), AllocError>
     text.extend_from_slice(word)
 }
 
-/// Appends a number in decimal.
+/// Appends a number in decimal. Fails for want of memory alone.
 pub fn push_decimal(text: &mut Vec<u8>, number: u64) -> Result<(), AllocError>
     ensures { OnOk result (text.new.items ≡ text.old.items ++ blank ∷ decimal number) }
 {
@@ -38,7 +38,7 @@ pub fn push_decimal(text: &mut Vec<u8>, number: u64) -> Result<(), AllocError>
     text.extend_from_slice(&digits[start..])
 }
 
-/// Appends a signed number in decimal.
+/// Appends a signed number in decimal. Fails for want of memory alone.
 pub fn push_signed(text: &mut Vec<u8>, number: i64) -> Result<(), AllocError>
     ensures { OnOk result (text.new.items ≡ text.old.items ++ blank ∷ signed_decimal number) }
 {
@@ -48,7 +48,7 @@ pub fn push_signed(text: &mut Vec<u8>, number: i64) -> Result<(), AllocError>
     text.extend_from_slice(&digits[start..])
 }
 
-/// Appends a number in hexadecimal, in lower case behind `0x`.
+/// Appends a number in hexadecimal, in lower case behind `0x`. Fails for want of memory alone.
 pub fn push_hexadecimal(text: &mut Vec<u8>, number: u64) -> Result<(), AllocError>
     ensures { OnOk result (text.new.items ≡ text.old.items ++ blank ∷ hexadecimal number) }
 {
@@ -58,7 +58,7 @@ pub fn push_hexadecimal(text: &mut Vec<u8>, number: u64) -> Result<(), AllocErro
     text.extend_from_slice(&digits[start..])
 }
 
-/// Appends a number that may be above 64 bits in hexadecimal, in lower case behind `0x`.
+/// Appends a number that may be above 64 bits in hexadecimal, in lower case behind `0x`. Fails for want of memory alone.
 pub fn push_wide_hexadecimal(text: &mut Vec<u8>, number: u128) -> Result<(), AllocError>
     ensures { OnOk result (text.new.items ≡ text.old.items ++ blank ∷ hexadecimal number) }
 {
@@ -68,7 +68,7 @@ pub fn push_wide_hexadecimal(text: &mut Vec<u8>, number: u128) -> Result<(), All
     text.extend_from_slice(&digits[start..])
 }
 
-/// Appends bytes, each as two hexadecimal digits in lower case.
+/// Appends bytes, each as two hexadecimal digits in lower case. Fails for want of memory alone.
 pub fn push_bytes(alloc: Global, text: &mut Vec<u8>, bytes: &[u8]) -> Result<(), AllocError>
     ensures { OnOk result (text.new.items ≡ text.old.items ++ blank ∷ encode_lower bytes.now) }
 {
@@ -77,7 +77,7 @@ pub fn push_bytes(alloc: Global, text: &mut Vec<u8>, bytes: &[u8]) -> Result<(),
 }
 
 /// Appends a name: as it stands where it is plain, `-` where it is empty, and else in hexadecimal
-/// behind `#`.
+/// behind `#`. Fails for want of memory alone.
 #[tactic(auto, unfolding(crate::specs::Line::name_text))]
 pub fn push_name(alloc: Global, text: &mut Vec<u8>, name: &[u8]) -> Result<(), AllocError>
     ensures { OnOk result (text.new.items ≡ text.old.items ++ blank ∷ name_text name.now) }
@@ -109,14 +109,14 @@ fn is_graphic(name: &[u8]) -> bool
     name.iter().all(|b| (b'!'..=b'~').contains(b))
 }
 
-/// Ends a line.
+/// Ends a line. Fails for want of memory alone.
 pub fn end_line(text: &mut Vec<u8>) -> Result<(), AllocError>
     ensures { OnOk result (text.new.items ≡ text.old.items ++ codes "\n") }
 {
     text.extend_from_slice(b"\n")
 }
 
-/// The line on a file of this length, with so many sections and segments, that is accepted.
+/// The line on a file of this length in bytes, with so many sections and segments, that is accepted. Fails for want of memory alone.
 pub fn ok_line(
     alloc: Global,
     length: usize,
@@ -128,7 +128,7 @@ pub fn ok_line(
     format!(in alloc; "ok {length} {sections} {segments}\n")
 }
 
-/// The line on a file that is refused by this rule at this offset.
+/// The line on a file that is refused by this rule at this offset. Fails for want of memory alone.
 pub fn refused_line(alloc: Global, rule: u16, at: u64) -> Result<String, AllocError>
     ensures { IfOk result (λ line. string_bytes line ≡ refused_line_of rule at) }
 {

@@ -1,4 +1,5 @@
-//! Words and digits that go out without memory, each call with the count of the bytes that are out.
+//! Words and digits that go out without memory, each call with the count of the bytes that are out. Each fails as [`send`] does, and the
+//! fault has the count of all bytes that are out: where the writer fails, or 2^64 bytes and more would be out.
 ghost use Rattle.std.specs.Prelude.{◌≡◌, ◌∷◌, ◌<◌, ◌≤◌, length};
 ghost use Rattle.std.specs.Fmt.{decimal};
 ghost use Rattle.hex.specs.Hex.{encode_lower};
@@ -13,7 +14,7 @@ use std::io::Write;
 /// How many bytes are made digits at a time.
 const BLOCK: usize = 4096;
 
-/// Sends a further word of a line.
+/// Sends a blank and a further word of a line. Fails as [`send`](elf_image_sending::send) does, of the one or the other.
 pub fn send_word<W: Write>(writer: &mut W, out: u64, word: &[u8]) -> Result<u64, WriteFault>
     ensures { Sends (W.contents writer.old) (W.contents writer.new) out (blank ∷ word.now) result }
 {
@@ -21,7 +22,7 @@ pub fn send_word<W: Write>(writer: &mut W, out: u64, word: &[u8]) -> Result<u64,
     send(writer, out, word)
 }
 
-/// Sends a number in decimal, as a further word.
+/// Sends a number in decimal, as a further word. Fails as [`send_word`] does.
 pub fn send_decimal<W: Write>(writer: &mut W, out: u64, number: u64) -> Result<u64, WriteFault>
     ensures { Sends (W.contents writer.old) (W.contents writer.new) out (blank ∷ decimal number) result }
 {
@@ -30,7 +31,8 @@ pub fn send_decimal<W: Write>(writer: &mut W, out: u64, number: u64) -> Result<u
     send_word(writer, out, &digits[start..])
 }
 
-/// Sends bytes, each as two hexadecimal digits in lower case, a block at a time.
+/// Sends bytes, each as two hexadecimal digits in lower case, a block at a time. Fails as [`send`](elf_image_sending::send) does, of any
+/// block.
 pub fn send_hexadecimal<W: Write>(writer: &mut W, out: u64, bytes: &[u8]) -> Result<u64, WriteFault>
     ensures { Sends (W.contents writer.old) (W.contents writer.new) out (encode_lower bytes.now) result }
 {

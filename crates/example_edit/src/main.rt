@@ -1,5 +1,5 @@
-//! `example_edit FILE SECTION FLAGS`: writes an ELF-64 file to standard output with zeros in its gaps and with other flags (`sh_flags`) of a
-//! section, whose index and flags are decimal numbers.
+//! `example_edit FILE SECTION FLAGS`: writes an ELF-64 file to standard output with zeros in its gaps and with other flags (`sh_flags`)
+//! of a section, whose index and flags are decimal numbers.
 #![tactic(auto)]
 
 ghost use Rattle.std.specs.Prelude.{ℕ, List, OnOk};
