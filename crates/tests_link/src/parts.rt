@@ -14,9 +14,11 @@ use elf_object_type::{
 use std::alloc::{AllocError, Global};
 use std::hash::{BuildHasherDefault, DefaultHasher};
 
-pub(crate) const GLOBAL: u8 = 0x10;
+/// The info of a global symbol.
+pub const GLOBAL: u8 = 0x10;
 
-pub(crate) const WEAK: u8 = 0x20;
+/// The info of a weak one.
+pub const WEAK: u8 = 0x20;
 
 /// The size of an entry with its addend.
 const RELA_SIZE: u64 = 24;
@@ -36,7 +38,7 @@ pub(crate) fn section<'a>(name: &'a [u8], flags: u64, align: u64, body: Body<'a>
 }
 
 /// A section of data in memory, with these bytes.
-pub(crate) fn data<'a>(name: &'a [u8], content: &'a [u8]) -> Section<'a> {
+pub fn data<'a>(name: &'a [u8], content: &'a [u8]) -> Section<'a> {
     Section {
         name,
         flags: 3,
@@ -50,7 +52,7 @@ pub(crate) fn data<'a>(name: &'a [u8], content: &'a [u8]) -> Section<'a> {
 }
 
 /// A section of relocations, with their addends beside them.
-pub(crate) fn relocs<'a>(target: usize, entries: Vec<Relocation>) -> Section<'a> {
+pub fn relocs<'a>(target: usize, entries: Vec<Relocation>) -> Section<'a> {
     Section {
         name: b".rela",
         flags: 0,
@@ -68,7 +70,7 @@ pub(crate) fn relocs<'a>(target: usize, entries: Vec<Relocation>) -> Section<'a>
 }
 
 /// A symbol.
-pub(crate) fn symbol<'a>(name: &'a [u8], info: u8, place: Place, value: u64) -> Symbol<'a> {
+pub fn symbol<'a>(name: &'a [u8], info: u8, place: Place, value: u64) -> Symbol<'a> {
     Symbol {
         name,
         info,
@@ -80,7 +82,7 @@ pub(crate) fn symbol<'a>(name: &'a [u8], info: u8, place: Place, value: u64) -> 
 }
 
 /// An object of these sections and symbols, for machine 62.
-pub(crate) fn object<'a>(
+pub fn object<'a>(
     alloc: Global,
     order: Order,
     sections: Vec<Section<'a>>,
@@ -99,15 +101,12 @@ pub(crate) fn object<'a>(
 }
 
 /// These items, in a vector.
-pub(crate) fn list<T: Drop, const N: usize>(
-    alloc: Global,
-    items: [T; N],
-) -> Result<Vec<T>, AllocError> {
+pub fn list<T: Drop, const N: usize>(alloc: Global, items: [T; N]) -> Result<Vec<T>, AllocError> {
     Ok(Vec::from_array(alloc, items)?)
 }
 
 /// The rule of a kind.
-pub(crate) fn rule(kind: u32, form: Form, width: Width, range: Range) -> RelocRule {
+pub fn rule(kind: u32, form: Form, width: Width, range: Range) -> RelocRule {
     RelocRule {
         kind,
         form,
@@ -117,7 +116,7 @@ pub(crate) fn rule(kind: u32, form: Form, width: Width, range: Range) -> RelocRu
 }
 
 /// Whether section 0 of the first file has these bytes.
-pub(crate) fn holds(linked: &Linked<'_, '_>, bytes: &[u8]) -> bool {
+pub fn holds(linked: &Linked<'_, '_>, bytes: &[u8]) -> bool {
     linked.bytes(0, 0) == Some(bytes)
 }
 
@@ -140,7 +139,7 @@ pub(crate) fn mapped_by<'a>(
 }
 
 /// That from this address on, each output at a multiple of 0x1000.
-pub(crate) fn mapped<'a>(
+pub fn mapped<'a>(
     alloc: Global,
     objects: &[Object<'a>],
     base: u64,

@@ -1,5 +1,5 @@
 //! Tests of the program and its commands, over readers, writers and openers that fail, and of files of many sections and segments. What
-//! a command answers of a file whose reader and writer are sound stands in `cases/`.
+//! a command answers of a file whose reader and writer are sound stands in `cases/`; tests of `map` and `link` stand in `tests_tool_links`.
 #![tactic(auto)]
 
 #[cfg(test)]
@@ -12,13 +12,9 @@ mod known_files;
 #[cfg(test)]
 mod lines;
 #[cfg(test)]
-mod link_calls;
-#[cfg(test)]
 mod many_sections;
 #[cfg(test)]
 mod many_segments;
-#[cfg(test)]
-mod map_calls;
 #[cfg(test)]
 mod program;
 #[cfg(test)]

@@ -1,8 +1,7 @@
 //! Forty thousand fields of one, two, four and eight bytes, whose addends stand in them.
 ghost use Rattle.std.specs.Prelude.{◌<◌};
 
-use crate::large::fields::push_number;
-use crate::parts::{GLOBAL, data, holds, list, mapped, object, rule, symbol};
+use crate::fields::push_number;
 use elf_field::Order;
 use elf_link_field::{Form, Range, RelocRule, Width};
 use elf_link_map::LinkFault;
@@ -10,6 +9,7 @@ use elf_link_relocate::relocate;
 use elf_object_type::{Body, Info, Object, ObjectFault, Place, Relocation, Section};
 use std::alloc::{AllocError, Global};
 use std::test::Fail;
+use tests_link::{GLOBAL, data, holds, list, mapped, object, rule, symbol};
 
 /// How many groups of four fields there are, side by side.
 const GROUPS: usize = 10_000;

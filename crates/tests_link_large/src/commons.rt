@@ -1,13 +1,13 @@
 //! Five thousand commons, each of which has an entry in each of forty files.
 ghost use Rattle.std.specs.Prelude.{◌<◌};
 
-use crate::parts::{GLOBAL, mapped, object, symbol};
 use elf_field::Order;
 use elf_link_map::LinkMap;
 use elf_object_type::{Object, Place, Symbol};
 use std::alloc::{AllocError, Global};
 use std::fmt::Write;
 use std::test::Fail;
+use tests_link::{GLOBAL, mapped, object, symbol};
 
 const NAMES: u64 = 5_000;
 

@@ -1,5 +1,5 @@
 //! Where the outputs and the sections of the large link stand.
-use crate::large::files::{LINKS, OUTPUTS, SECTIONS, address_of, digits, linked, short_name};
+use crate::files::{LINKS, OUTPUTS, SECTIONS, address_of, digits, linked, short_name};
 use elf_field::Order;
 use elf_link_map::{LinkMap, Output};
 use std::alloc::Global;

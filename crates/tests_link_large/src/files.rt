@@ -2,13 +2,13 @@
 //! defines 17 names, one of them long, and has five fields, in its section 1.
 //!
 //! Section `s` of file `f` is number `4 f + s`. Number `k` goes to output `k mod 40`, as its member `k / 40`: that is where it stands.
-use crate::parts::{GLOBAL, WEAK, data, list, mapped, object, relocs, symbol};
 use elf_field::Order;
 use elf_link_map::LinkMap;
 use elf_object_type::{Object, ObjectFault, Place, Relocation, Section, Symbol};
 use std::alloc::{AllocError, Global};
 use std::fmt::Write;
 use std::test::Fail;
+use tests_link::{GLOBAL, WEAK, data, list, mapped, object, relocs, symbol};
 
 /// How many files there are.
 pub(crate) const FILES: u8 = 66;

@@ -1,11 +1,11 @@
 //! An object of a million symbols, each of a name of its own.
-use crate::parts::{GLOBAL, mapped, object, symbol};
 use elf_field::Order;
 use elf_link_map::{Binding, LinkMap};
 use elf_object_type::{Place, Symbol};
 use std::alloc::{AllocError, Global};
 use std::fmt::Write;
 use std::test::Fail;
+use tests_link::{GLOBAL, mapped, object, symbol};
 
 const COUNT: usize = 1_000_000;
 

@@ -1,8 +1,7 @@
 //! The fields of the large link.
 ghost use Rattle.std.specs.Prelude.{◌≤◌};
 
-use crate::large::files::{FILES, LINKS, address_of, digits, files};
-use crate::parts::{list, mapped, rule};
+use crate::files::{FILES, LINKS, address_of, digits, files};
 use elf_field::Order;
 use elf_link_field::{Form, Range, RelocRule, Width};
 use elf_link_map::LinkFault;
@@ -10,6 +9,7 @@ use elf_link_relocate::{Linked, relocate};
 use elf_object_type::Object;
 use std::alloc::{AllocError, Global};
 use std::test::Fail;
+use tests_link::{list, mapped, rule};
 
 /// The rules of kinds 1 to 5.
 fn rules() -> [RelocRule; 5] {

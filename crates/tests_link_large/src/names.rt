@@ -1,5 +1,5 @@
 //! What the names of the large link are bound to.
-use crate::large::files::{LINKS, LONG, digits, linked, name_of};
+use crate::files::{LINKS, LONG, digits, linked, name_of};
 use elf_field::Order;
 use elf_link_map::{Binding, LinkMap, Named};
 use std::alloc::Global;
