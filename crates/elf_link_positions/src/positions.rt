@@ -103,8 +103,8 @@ impl<'a> NamePositions<'a> {
         }
     }
 
-    /// The position of a name that has one, which stays; a further name gets this one, and the answer is None. Where memory is refused,
-    /// no name's position has changed. Takes one look at a table for most names, and log n comparisons for any.
+    /// The position of a name that has one, which stays; a further name gets this one, and the answer is None. The error comes only where
+    /// memory is refused. Takes one look at a table for most names, and log n comparisons for any.
     #[tactic(auto, unfolding(crate::specs::Slots::name_position))]
     pub fn place(&mut self, name: &'a [u8], next: usize) -> Result<Option<usize>, AllocError>
         ensures old { IfOk result (λ old. old ≡ name_position self.old name.now) }
