@@ -4,10 +4,13 @@ use Rattle.std.specs.Result.{IsErrAnd}
 use Rattle.std.specs.Io.KnownBytes.{Appends}
 use Rattle.std.proofs.KnownBytes.{Appends-trans}
 use Rattle.std.proofs.lemmas.List.{drop-drop, drop_at, length-take, length-take-le, take-append-le, take_at}
-use Rattle.elf_image_source.specs.Source.{FailsAt}
+use Rattle.elf_image_source.specs.Reads.{HasFailed}
+use Rattle.elf_image_source.specs.Source.{Reaches, Remembers}
+use Rattle.elf_image_source.specs.declared.failures.Failures.{Failures}
+use Rattle.elf_image_source.proofs.Public.{failed_within}
 use Rattle.elf_image_copy.specs.declared.fault.CopyFault.{CopyFault}
 use Rattle.elf_image_copy.specs.declared.fault.CopyFault.TheVariants.{Read, Write}
-use Rattle.elf_image_copy.specs.Copying.{Copies, CopiedOut, FlagsCopy, ReadsBehind, bytes_out, later}
+use Rattle.elf_image_copy.specs.Copying.{Copies, CopiedOut, ReadsBehind, bytes_out, failed_read, later}
 
 -- m bytes went out, and n more behind them
 pub out_more : (content now a b c : Option (List ℕ)) (m n : ℕ) (f g h : List ℕ → List ℕ) → now ≡ content → CopiedOut content a b m f → CopiedOut now b c n g →
@@ -73,11 +76,12 @@ range_splits b start m n len within =
     (sym (range_more b (start + m) n (len - (m + n)))
     ∙ ap (λ (k : ℕ). take n (drop (start + m) b) ++ take (len - (m + n)) (drop k b)) (let e : start + m + n ≡ start + (m + n) = omega arith in e))
 
--- a read failed before anything went out
-pub flag_failed : (content : Option (List ℕ)) (old new : Option ℕ) (at : ℕ) (result : Result (Unit {0}) CopyFault) → IsErrAnd result (λ fault. fault ≡ Read at 0) →
-    FailsAt old new at × ((b : List ℕ) → content ≡ Some b → new ≡ Some at) → FlagsCopy content old new result
-flag_failed content old new at (Ok u) is fails = absurd is
-flag_failed content old new at (Err fault) is fails = subst (λ (f : CopyFault). FlagsCopy content old new (Err f)) (sym is) fails
+-- a read of bytes that the source has failed before anything went out
+pub read_failed : (content : Option (List ℕ)) (old new : Failures) (at n x : ℕ) (result : Result (Unit {0}) CopyFault) → Reaches content (at + n) →
+    HasFailed content old new at n x → IsErrAnd result (λ fault. fault ≡ Read x 0) → Remembers (failed_read result) old new
+read_failed content old new at n x (Ok u) reaches failed is = absurd is
+read_failed content old new at n x (Err fault) reaches failed is =
+    subst (λ (f : CopyFault). Remembers (failed_read (Err f)) old new) (sym is) (failed_within content old new at n x reaches failed)
 
 -- records or zeros that the source has no part in
 pub out_own : (content a b : Option (List ℕ)) (len : ℕ) (own : List ℕ) (bytes : List ℕ → List ℕ) → length own ≡ len → ((x : List ℕ) → own ≡ bytes x) → Appends a b own →

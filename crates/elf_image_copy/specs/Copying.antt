@@ -1,7 +1,6 @@
 -- What a copy from a source onto a writer answers, and what is out then.
 use Rattle.std.specs.Prelude.{◌≡◌, ◌<◌, ◌≤◌, ◌+◌, ℕ, List, length, take, Option, None, Some, Result, Ok, Err}
 use Rattle.std.specs.Io.KnownBytes.{Appends}
-use Rattle.elf_image_source.specs.Source.{FailsAt}
 use Rattle.elf_image_copy.specs.declared.fault.CopyFault.{CopyFault}
 use Rattle.elf_image_copy.specs.declared.fault.CopyFault.TheVariants.{Read, Write}
 
@@ -27,26 +26,14 @@ abbrev pub Copies : Option (List ℕ) → Option (List ℕ) → Option (List ℕ
 Copies content old new len bytes (Ok u) = CopiedOut content old new len bytes
 Copies content old new len bytes (Err fault) = (bytes_out fault < len) × CopiedOut content old new (bytes_out fault) (λ b. take (bytes_out fault) (bytes b))
 
--- the source's flag is left, but for a read that failed: then it may be the offset that is answered, and where the source tells its bytes, it
--- is
-abbrev pub FlagsCopy : Option (List ℕ) → Option ℕ → Option ℕ → Result (Unit {0}) CopyFault → Type 0
-FlagsCopy content old new (Ok u) = new ≡ old
-FlagsCopy content old new (Err (Write written)) = new ≡ old
-FlagsCopy content old new (Err (Read at written)) = FailsAt old new at × ((b : List ℕ) → content ≡ Some b → new ≡ Some at)
+-- the offset of a failed read that is answered
+abbrev pub failed_read : Result (Unit {0}) CopyFault → Option ℕ
+failed_read (Ok u) = None
+failed_read (Err (Write written)) = None
+failed_read (Err (Read at written)) = Some at
 
 -- a read of len bytes from start on failed at one of them, in the block behind those that are out
 abbrev pub ReadsBehind : ℕ → ℕ → ℕ → Result (Unit {0}) CopyFault → Type 0
 ReadsBehind block start len (Ok u) = Unit
 ReadsBehind block start len (Err (Write written)) = Unit
 ReadsBehind block start len (Err (Read at written)) = (start + written ≤ at) × (at < start + written + block) × (at < start + len)
-
--- a read failed that was asked for this offset
-abbrev pub IsReadFailure : ℕ → Result (Unit {0}) CopyFault → Type 0
-IsReadFailure x (Ok u) = ⊥
-IsReadFailure x (Err (Write written)) = ⊥
-IsReadFailure x (Err (Read at written)) = at ≡ x
-
--- of a source that tells its bytes, and no call of which failed before: a failed read is answered with exactly the offset that its flag has
-abbrev pub AnswersFlag : Option (List ℕ) → Option ℕ → Option ℕ → Result (Unit {0}) CopyFault → Type 0
-AnswersFlag content old new result =
-    (b : List ℕ) → content ≡ Some b → old ≡ None → (at : ℕ) → (IsReadFailure at result → new ≡ Some at) × (new ≡ Some at → IsReadFailure at result)

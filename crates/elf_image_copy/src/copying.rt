@@ -2,7 +2,8 @@
 ghost use Rattle.std.specs.Prelude.{◌≡◌, ℕ, List, Some, slice_get};
 ghost use Rattle.elf_image_outline.specs.Image.{IsImage, part_bytes};
 ghost use Rattle.elf_image_outline.specs.Outline.{IsOutlineOf, IsSoundOutline, bytes_of_outline, image_in, placed_part};
-ghost use Rattle.elf_image_copy.specs.Copying.{AnswersFlag, Copies, FlagsCopy, ReadsBehind};
+ghost use Rattle.elf_image_source.specs.Source.{Remembers};
+ghost use Rattle.elf_image_copy.specs.Copying.{Copies, ReadsBehind, failed_read};
 
 use crate::fault::CopyFault;
 use crate::range::copy_range;
@@ -23,7 +24,7 @@ fn copy_part<S: Source, W: Write>(
     requires part { (k : ℕ) × (slice_get outline.now.parts k ≡ Some part) }
     requires of { (b : List ℕ) → S.content source.old ≡ Some b → IsOutlineOf outline.now b }
     ensures kept { S.content source.new ≡ S.content source.old }
-    ensures flag { FlagsCopy (S.content source.old) (S.failed source.old) (S.failed source.new) result }
+    ensures failures { Remembers (failed_read result) (S.failures source.old) (S.failures source.new) }
     ensures copies { Copies (S.content source.old) (W.contents writer.old) (W.contents writer.new) part.len
         (λ b. part_bytes (image_in outline.now b) (placed_part outline.now.zeroed b part)) result }
     ensures behind { ReadsBehind BLOCK part.start part.len result }
@@ -46,9 +47,9 @@ fn copy_part<S: Source, W: Write>(
 /// bytes than before gives them to the writer: where it doesn't tell its bytes, the count of what is out is all that holds.
 ///
 /// [`CopyFault::Read`]: a call of the source failed, or gave no byte where the outline says that there is one; `at` is the offset that it
-/// was asked for. Of a source none of whose calls had failed before, nothing else is answered after a failed call of it.
-/// [`CopyFault::Write`]: a call of the writer failed, an interruption too, or took 0 bytes of a rest that is not empty. Nothing is tried
-/// again, nothing is flushed, and no memory is taken. Linear in the length of the file.
+/// was asked for. After such a call nothing else is answered. [`CopyFault::Write`]: a call of the writer failed, an interruption too, or
+/// took 0 bytes of a rest that is not empty. Nothing is tried again, nothing is flushed, and no memory is taken. Linear in the length of
+/// the file.
 pub fn copy_image<S: Source, W: Write>(
     outline: &Outline,
     source: &mut S,
@@ -60,8 +61,7 @@ pub fn copy_image<S: Source, W: Write>(
         (bytes_of_outline outline.now) result }
     ensures image { (b : List ℕ) → S.content source.old ≡ Some b →
         IsImage (image_in outline.now b) (bytes_of_outline outline.now b) }
-    ensures flag { FlagsCopy (S.content source.old) (S.failed source.old) (S.failed source.new) result }
-    ensures exactly { AnswersFlag (S.content source.old) (S.failed source.old) (S.failed source.new) result }
+    ensures failures { Remembers (failed_read result) (S.failures source.old) (S.failures source.new) }
     ensures behind { ReadsBehind BLOCK 0 outline.now.len result }
 {
     outline.stands();

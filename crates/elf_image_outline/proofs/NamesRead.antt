@@ -145,11 +145,11 @@ verdict_of_tables len b h c ss gs found says has records run =
     subst (Finds (length b)) records.header (subst (λ (n : ℕ). Finds n h) says moved)
 
 -- what stops the judging of tables that were read of a file stops the scan
-pub stops_of_tables : (len : ℕ) (b : List ℕ) (new : Option ℕ) (h : Ehdr) (c : Counts) (ss : List Shdr) (gs : List Phdr) (fault : Fault) → len ≡ length b →
-    HasTables len h c ss gs → AreRecordsIn b h ss gs → BreaksTables len h ss gs (names b h) fault → Stops b new fault
-stops_of_tables len b new h c ss gs OutOfMemory says has records breaks = tt
-stops_of_tables len b new h c ss gs (Io at) says has records breaks = absurd breaks
-stops_of_tables len b new h c ss gs (Rule number at) says has records breaks =
+pub stops_of_tables : (len : ℕ) (b : List ℕ) (h : Ehdr) (c : Counts) (ss : List Shdr) (gs : List Phdr) (fault : Fault) → len ≡ length b →
+    HasTables len h c ss gs → AreRecordsIn b h ss gs → BreaksTables len h ss gs (names b h) fault → Stops b fault
+stops_of_tables len b h c ss gs OutOfMemory says has records breaks = tt
+stops_of_tables len b h c ss gs (Io at) says has records breaks = absurd breaks
+stops_of_tables len b h c ss gs (Rule number at) says has records breaks =
     verdict_of_tables len b h c ss gs (Some (number, at)) says has records breaks
 
 -- tables and parts that were read of a file that breaks no rule make its image

@@ -41,11 +41,11 @@ header_of_block b block long is =
     ∙ ehdr_laws.part (order_of (take EI_NIDENT b)) b 0
 
 -- a broken rule of the file is what a stage answers
-pub scans_rule : {T : Type 0} (b : List ℕ) (new : Option ℕ) (IsAnswer : T → Type 0) (broken : Broken ℕ) (result : Result T Fault) →
+pub scans_rule : {T : Type 0} (b : List ℕ) (IsAnswer : T → Type 0) (broken : Broken ℕ) (result : Result T Fault) →
     FirstIn (record_rules_of b) (Some (broken.rule, broken.at)) → IsErrAnd result (λ fault. fault ≡ Rule broken.rule broken.at) →
-    Scans b new IsAnswer result
-scans_rule b new IsAnswer broken (Ok t) run same = absurd same
-scans_rule b new IsAnswer broken (Err fault) run same = subst (Stops b new) (sym same) (fault_of_records b (broken.rule, broken.at) run)
+    Scans b IsAnswer result
+scans_rule b IsAnswer broken (Ok t) run same = absurd same
+scans_rule b IsAnswer broken (Err fault) run same = subst (Stops b) (sym same) (fault_of_records b (broken.rule, broken.at) run)
 
 pub length_broken : (b : List ℕ) (len : ℕ) (fault : ℕ × ℕ) → len ≡ length b → FirstIn (length_rules len) (Some fault) → FirstIn (record_rules_of b) (Some fault)
 length_broken b len fault says run =
@@ -65,10 +65,10 @@ header_broken b len h fault says is lengths ident run =
     (FirstIn-sooner (header_rules (length b) h) _ fault (subst (λ (n : ℕ). FirstIn (header_rules n h) (Some fault)) says run))
 
 -- what stopped a part of a stage stops the stage
-pub scans_fault : {U : Type 0} (b : List ℕ) (new : Option ℕ) (IsAnswer : U → Type 0) (fault : Fault) (result : Result U Fault) →
-    Stops b new fault → IsErrAnd result (λ other. other ≡ fault) → Scans b new IsAnswer result
-scans_fault b new IsAnswer fault (Ok u) stops same = absurd same
-scans_fault b new IsAnswer fault (Err other) stops same = subst (Stops b new) (sym same) stops
+pub scans_fault : {U : Type 0} (b : List ℕ) (IsAnswer : U → Type 0) (fault : Fault) (result : Result U Fault) →
+    Stops b fault → IsErrAnd result (λ other. other ≡ fault) → Scans b IsAnswer result
+scans_fault b IsAnswer fault (Ok u) stops same = absurd same
+scans_fault b IsAnswer fault (Err other) stops same = subst (Stops b) (sym same) stops
 
 head_of : (b : List ℕ) (len : ℕ) (h : Ehdr) → len ≡ length b → KeepsHeadRules len h → KeepsHeadRules (length b) h
 head_of b len h says kept = subst (λ (n : ℕ). KeepsHeadRules n h) says kept

@@ -18,27 +18,25 @@ use Rattle.elf_image_rules.specs.Tables.{content_extent, counts_in, phdr_offset,
 use Rattle.elf_image_rules.specs.declared.tables.Counts.{Counts}
 use Rattle.elf_image_outline.specs.Image.{part_piece, value_extents}
 use Rattle.elf_image_outline.specs.declared.part.Part.{Part}
-use Rattle.elf_image_source.specs.Source.{FailsAt}
 use Rattle.elf_image_stream.specs.declared.fault.Fault.{Fault}
 use Rattle.elf_image_stream.specs.declared.fault.Fault.TheVariants.{Io, OutOfMemory, Rule}
 
--- of every source: the flag is what it was before the scan, but where the answer is Io: then it may be the offset that is answered
-abbrev pub Leaves : {T : Type 0} → Option ℕ → Option ℕ → Result T Fault → Type 0
-Leaves old new (Ok t) = new ≡ old
-Leaves old new (Err OutOfMemory) = new ≡ old
-Leaves old new (Err (Io at)) = FailsAt old new at
-Leaves old new (Err (Rule number at)) = new ≡ old
+-- the offset of a failed read that is answered
+abbrev pub failed_read : {T : Type 0} → Result T Fault → Option ℕ
+failed_read (Ok t) = None
+failed_read (Err OutOfMemory) = None
+failed_read (Err (Io at)) = Some at
+failed_read (Err (Rule number at)) = None
 
--- of a source that tells its bytes b: why there is no answer. It is the first rule that they break, or a call failed that was asked for
--- the offset
-abbrev pub Stops : List ℕ → Option ℕ → Fault → Type 0
-Stops b new OutOfMemory = Unit {0}
-Stops b new (Io at) = new ≡ Some at
-Stops b new (Rule number at) = IsFault b (Some (number, at))
+-- of a source that tells its bytes b: why there is no answer. A rule is the first that they break
+abbrev pub Stops : List ℕ → Fault → Type 0
+Stops b OutOfMemory = Unit {0}
+Stops b (Io at) = Unit {0}
+Stops b (Rule number at) = IsFault b (Some (number, at))
 
-abbrev pub Scans : {T : Type 0} → List ℕ → Option ℕ → (T → Type 0) → Result T Fault → Type 0
-Scans b new IsAnswer (Ok t) = IsAnswer t
-Scans b new IsAnswer (Err fault) = Stops b new fault
+abbrev pub Scans : {T : Type 0} → List ℕ → (T → Type 0) → Result T Fault → Type 0
+Scans b IsAnswer (Ok t) = IsAnswer t
+Scans b IsAnswer (Err fault) = Stops b fault
 
 -- rules 1 to 12: the length and the header
 pub record KeepsHeadRules (len : ℕ) (h : Ehdr) : Type 0 where

@@ -2,9 +2,10 @@
 ghost use Rattle.std.specs.Prelude.{◌≡◌, ◌≤◌, ◌+◌, ℕ, List, Some, IfOk, length};
 ghost use Rattle.elf_field.specs.Abi.{SHDR_SIZE};
 ghost use Rattle.elf_field.specs.Ehdr.{IsEhdr};
-ghost use Rattle.elf_image_outline.specs.Scanning.{KeepsHeadRules, Leaves, Scans};
+ghost use Rattle.elf_image_outline.specs.Scanning.{KeepsHeadRules, Scans, failed_read};
 ghost use Rattle.elf_image_rules.specs.HeaderRules.{MAX_LEN};
 ghost use Rattle.elf_image_rules.specs.Tables.{header as header_in};
+ghost use Rattle.elf_image_source.specs.Source.{Remembers};
 
 use elf_field::abi::EHDR_SIZE;
 use elf_field::{Ehdr, Record};
@@ -23,13 +24,13 @@ pub(crate) struct Head {
 /// The length and the header of a source that keeps rules 1 to 12; else the first of them that it breaks.
 pub(crate) fn scan_head<S: Source>(source: &mut S) -> Result<Head, Fault>
     ensures kept { S.content source.new ≡ S.content source.old }
-    ensures flag { Leaves (S.failed source.old) (S.failed source.new) result }
+    ensures failures { Remembers (failed_read result) (S.failures source.old) (S.failures source.new) }
     ensures judged { IfOk result (λ head. KeepsHeadRules head.len head.header) }
     ensures room { IfOk result (λ head. head.header.e_shoff + SHDR_SIZE ≤ head.len) }
     ensures short { IfOk result (λ head. head.len ≤ MAX_LEN) }
     ensures valid { IfOk result (λ head. IsEhdr head.header) }
     ensures told { (b : List ℕ) → S.content source.old ≡ Some b →
-        Scans b (S.failed source.new) (λ head. (head.len ≡ length b) × (head.header ≡ header_in b)) result }
+        Scans b (λ head. (head.len ≡ length b) × (head.header ≡ header_in b)) result }
 {
     let Ok(len) = source.length() else {
         return Err(Fault::Io { at: 0 });

@@ -1,9 +1,10 @@
 //! The ends of a source's section name string table (gABI chapter 4, String Table).
 ghost use Rattle.std.specs.Prelude.{◌≡◌, ◌≤◌, ◌<◌, ◌+◌, ◌-◌, ℕ, List, Some, IfOk, length, min};
 ghost use Rattle.elf_image_outline.specs.Image.{AreRecordsIn};
-ghost use Rattle.elf_image_outline.specs.Scanning.{HasTables, Leaves, Scans, names_extent};
+ghost use Rattle.elf_image_outline.specs.Scanning.{HasTables, Scans, failed_read, names_extent};
 ghost use Rattle.elf_image_rules.specs.StringTable.{AreEnds};
 ghost use Rattle.elf_image_rules.specs.Tables.{names as names_in, section_header_of};
+ghost use Rattle.elf_image_source.specs.Source.{Reaches, Remembers};
 
 use crate::scan_tables::Tables;
 use elf_extent::Extent;
@@ -29,8 +30,9 @@ pub(crate) fn scan_names<S: Source>(
     len: u64,
     tables: &Tables,
 ) -> Result<TableEnds, Fault>
+    requires there { Reaches (S.content source.old) len }
     ensures kept { S.content source.new ≡ S.content source.old }
-    ensures flag { Leaves (S.failed source.old) (S.failed source.new) result }
+    ensures failures { Remembers (failed_read result) (S.failures source.old) (S.failures source.new) }
     ensures some { IfOk result (λ ends. (names : List ℕ) × AreEnds ends names) }
     ensures place { IfOk result (λ ends. 0 < ends.len →
         (section_header_of tables.now.sections.items tables.now.counts.name_table).sh_offset + ends.len ≤ len) }
@@ -39,7 +41,7 @@ pub(crate) fn scan_names<S: Source>(
     ensures told { (b : List ℕ) → S.content source.old ≡ Some b → len ≡ length b →
         HasTables len tables.now.header tables.now.counts tables.now.sections.items tables.now.segments.items →
         AreRecordsIn b tables.now.header tables.now.sections.items tables.now.segments.items →
-        Scans b (S.failed source.new) (λ ends. AreEnds ends (names_in b tables.now.header)) result }
+        Scans b (λ ends. AreEnds ends (names_in b tables.now.header)) result }
 {
     let extent = extent_of_names(tables);
     let there = len.saturating_sub(extent.start).min(extent.len);

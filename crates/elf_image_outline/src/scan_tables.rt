@@ -5,10 +5,11 @@ ghost use Rattle.elf_field.specs.Abi.{SHDR_SIZE};
 ghost use Rattle.elf_field.specs.Ehdr.{IsEhdr};
 ghost use Rattle.elf_field.specs.Shdr.{IsShdr, shdr_at};
 ghost use Rattle.elf_image_outline.specs.Image.{AreRecordsIn};
-ghost use Rattle.elf_image_outline.specs.Scanning.{HasTables, KeepsHeadRules, Leaves, Scans};
+ghost use Rattle.elf_image_outline.specs.Scanning.{HasTables, KeepsHeadRules, Scans, failed_read};
 ghost use Rattle.elf_image_rules.specs.HeaderRules.{MAX_LEN};
 ghost use Rattle.elf_image_rules.specs.Tables.{header as header_in, no_section_header, order_of, section_header_of, sections as sections_in};
 ghost use Rattle.elf_image_source.specs.Reads.{table_at};
+ghost use Rattle.elf_image_source.specs.Source.{Reaches, Remembers};
 
 use crate::scan_head::Head;
 use elf_field::abi::EI_NIDENT;
@@ -33,12 +34,13 @@ pub(crate) struct Tables {
 fn read_first<S: Source>(source: &mut S, header: &Ehdr) -> Result<Shdr, Fault>
     requires valid { IsEhdr header.now }
     requires room { header.now.e_shoff + SHDR_SIZE ≤ MAX_LEN }
+    requires there { Reaches (S.content source.old) (header.now.e_shoff + SHDR_SIZE) }
     ensures kept { S.content source.new ≡ S.content source.old }
-    ensures flag { Leaves (S.failed source.old) (S.failed source.new) result }
+    ensures failures { Remembers (failed_read result) (S.failures source.old) (S.failures source.new) }
     ensures valid { IfOk result IsShdr }
     ensures none { IfOk result (λ first. header.now.e_shoff ≡ 0 → first ≡ no_section_header) }
-    ensures told { (b : List ℕ) → S.content source.old ≡ Some b → header.now.e_shoff + SHDR_SIZE ≤ length b →
-        Scans b (S.failed source.new) (λ first. first ≡ sections_in b header.now 0) result }
+    ensures told { (b : List ℕ) → S.content source.old ≡ Some b →
+        Scans b (λ first. first ≡ sections_in b header.now 0) result }
 {
     match header.e_shoff {
         0 => Ok(NO_SECTION),
@@ -57,16 +59,17 @@ fn read_sections<S: Source>(
 ) -> Result<Vec<Shdr>, Fault>
     requires valid { IsEhdr header.now }
     requires room { header.now.e_shoff + SHDR_SIZE * count ≤ MAX_LEN }
+    requires there { Reaches (S.content source.old) (header.now.e_shoff + SHDR_SIZE * count) }
     requires first { IsShdr first }
     requires none { count ≡ 0 → first ≡ no_section_header }
     ensures kept { S.content source.new ≡ S.content source.old }
-    ensures flag { Leaves (S.failed source.old) (S.failed source.new) result }
+    ensures failures { Remembers (failed_read result) (S.failures source.old) (S.failures source.new) }
     ensures many { IfOk result (λ v. length v.items ≡ count) }
     ensures valid { IfOk result (λ v. AllByRecursion IsShdr v.items) }
     ensures first { IfOk result (λ v. section_header_of v.items 0 ≡ first) }
-    ensures told { (b : List ℕ) → S.content source.old ≡ Some b → header.now.e_shoff + SHDR_SIZE * count ≤ length b →
+    ensures told { (b : List ℕ) → S.content source.old ≡ Some b →
         (0 < count → first ≡ shdr_at (order_of header.now.e_ident) b header.now.e_shoff) →
-        Scans b (S.failed source.new) (λ v. v.items ≡ table_at (shdr_at (order_of header.now.e_ident)) SHDR_SIZE b header.now.e_shoff count) result }
+        Scans b (λ v. v.items ≡ table_at (shdr_at (order_of header.now.e_ident)) SHDR_SIZE b header.now.e_shoff count) result }
 {
     let order = order_in(&header.e_ident);
     let mut sections = read_records(alloc, source, order, header.e_shoff, count as usize)?;
@@ -85,13 +88,14 @@ pub(crate) fn scan_tables<S: Source>(
     requires kept { KeepsHeadRules head.now.len head.now.header }
     requires room { head.now.header.e_shoff + SHDR_SIZE ≤ head.now.len }
     requires short { head.now.len ≤ MAX_LEN }
+    requires there { Reaches (S.content source.old) head.now.len }
     requires valid { IsEhdr head.now.header }
     ensures kept { S.content source.new ≡ S.content source.old }
-    ensures flag { Leaves (S.failed source.old) (S.failed source.new) result }
+    ensures failures { Remembers (failed_read result) (S.failures source.old) (S.failures source.new) }
     ensures header { IfOk result (λ t. t.header ≡ head.now.header) }
     ensures tables { IfOk result (λ t. HasTables head.now.len t.header t.counts t.sections.items t.segments.items) }
     ensures told { (b : List ℕ) → S.content source.old ≡ Some b → head.now.len ≡ length b → head.now.header ≡ header_in b →
-        Scans b (S.failed source.new) (λ t. AreRecordsIn b t.header t.sections.items t.segments.items) result }
+        Scans b (λ t. AreRecordsIn b t.header t.sections.items t.segments.items) result }
 {
     let Head { len, header } = *head;
     let first = read_first(source, &header)?;

@@ -1,3 +1,4 @@
 mod EndsIn
 mod Filled
+pub mod Public
 mod Tables

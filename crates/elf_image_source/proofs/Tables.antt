@@ -1,5 +1,5 @@
 -- Records that are read one behind the other are those of a table.
-use Rattle.std.proofs.Common.{◌≡◌, ◌<◌, ◌≤◌, ◌+◌, ◌-◌, ◌*◌, ℕ, Option, List, [], ◌∷◌, ◌++◌, length, take, drop, map, refl, sym, ap, ap₂, subst, ◌∙◌, arith, zero-add, mul-le-mul_left}
+use Rattle.std.proofs.Common.{◌≡◌, ◌<◌, ◌≤◌, ◌+◌, ◌-◌, ◌*◌, ◌⊎◌, inl, inr, ℕ, Option, List, [], ◌∷◌, ◌++◌, take, drop, map, sym, ap, ap₂, subst, ◌∙◌, arith, zero-add, mul-le-mul_left}
 use Rattle.std.specs.List.{AllByRecursion, range_with_len}
 use Rattle.std.proofs.Math.Nat.{mul-add, mul-one}
 use Rattle.std.proofs.lemmas.List.FromFn.{map-range_with_len_more}
@@ -7,7 +7,8 @@ use Rattle.std.proofs.lemmas.List.{drop-drop, drop-take, take-take}
 use Rattle.elf_field.specs.declared.order.Order.{Order}
 use Rattle.elf_field.specs.Record.{IsRecord}
 use Rattle.elf_image_source.specs.Reads.{Extends, IsRecordsFault, table_at}
-use Rattle.elf_image_source.specs.Source.{FailsAt}
+use Rattle.elf_image_source.specs.Source.{EndsBefore, Fails}
+use Rattle.elf_image_source.specs.declared.failures.Failures.{Failures}
 use Rattle.elf_image_source.specs.declared.records.RecordsFault.{RecordsFault}
 use Rattle.elf_image_source.specs.declared.records.RecordsFault.TheVariants.{Io, OutOfMemory}
 
@@ -59,13 +60,19 @@ table_on {size = size} {at = at} laws o b block start table from several old now
         ∙ sym (record_in_part laws o b start (size * several) (size * i) inside)
         ∙ ap (λ (s : List ℕ). at o s (size * i)) (sym is)
 
+-- what failed in a later part of some bytes failed in them
+failed_later : (content before : Option (List ℕ)) (old start new : Failures) (low high x : ℕ) → before ≡ content → start ≡ old → low ≤ high →
+    Fails start new x ⊎ ((new ≡ start) × EndsBefore before low) → Fails old new x ⊎ ((new ≡ old) × EndsBefore content high)
+failed_later content before old start new low high x same left within (inl fails) = inl (subst (λ (f : Failures). Fails f new x) left fails)
+failed_later content before old start new low high x same left within (inr (still, (b, told, short))) =
+    inr (still ∙ left, (b, sym same ∙ told, omega arith))
+
 -- a fault of a later part of a table is one of the table
-pub fault_later : (content before : Option (List ℕ)) (old start new : Option ℕ) (at n from m : ℕ) (fault : RecordsFault) →
+pub fault_later : (content before : Option (List ℕ)) (old start new : Failures) (at n from m : ℕ) (fault : RecordsFault) →
     before ≡ content → start ≡ old → at ≤ from → from + m ≤ at + n → IsRecordsFault before start new from m fault → IsRecordsFault content old new at n fault
 fault_later content before old start new at n from m OutOfMemory same left low high is = is ∙ left
-fault_later content before old start new at n from m (Io x) same left low high (above, below, fails, told) = (
+fault_later content before old start new at n from m (Io x) same left low high (above, below, fails) = (
   omega arith,
   omega arith,
-  subst (λ (flag : Option ℕ). FailsAt flag new x) left fails,
-  λ b is long. told b (same ∙ is) (omega arith),
+  failed_later content before old start new (from + m) (at + n) x same left high fails,
 )

@@ -8,11 +8,12 @@ use crate::source::{Failed, Source};
 pub struct Bytes<'a>(pub &'a [u8]);
 
 impl<'a> Source for Bytes<'a> {
-    ghost use Rattle.std.specs.Prelude.{None, Some};
+    ghost use Rattle.std.specs.Prelude.{Some};
+    ghost use Rattle.elf_image_source.specs.Source.{none};
 
     ghost content = { λ s. Some s.0.now };
 
-    ghost failed = { λ _. None };
+    ghost failures = { λ _. none };
 
     fn length(&mut self) -> Result<u64, Failed> {
         Ok(self.0.len() as u64)

@@ -10,7 +10,7 @@ use elf_image_rules::TableEnds;
 fn read_byte<S: Source>(source: &mut S, at: u64) -> Result<u8, ReadFault>
     requires { at + 1 < 2 ^ 64 }
     ensures kept { S.content source.new ≡ S.content source.old }
-    ensures reads { ReadsByte (S.content source.old) (S.failed source.old) (S.failed source.new) at result }
+    ensures reads { ReadsByte (S.content source.old) (S.failures source.old) (S.failures source.new) at result }
 {
     let mut byte = [0; 1];
     read_exactly(source, at, &mut byte)?;
@@ -24,7 +24,7 @@ fn read_byte<S: Source>(source: &mut S, at: u64) -> Result<u8, ReadFault>
 pub fn read_ends<S: Source>(source: &mut S, start: u64, len: u64) -> Result<TableEnds, ReadFault>
     requires { start + len < 2 ^ 64 }
     ensures kept { S.content source.new ≡ S.content source.old }
-    ensures reads { ReadsEnds (S.content source.old) (S.failed source.old) (S.failed source.new) start len result }
+    ensures reads { ReadsEnds (S.content source.old) (S.failures source.old) (S.failures source.new) start len result }
 {
     if len == 0 {
         return Ok(TableEnds {

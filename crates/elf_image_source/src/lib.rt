@@ -7,6 +7,7 @@
 
 mod bytes;
 mod ends;
+mod failures;
 mod records;
 mod seeking;
 mod source;
@@ -14,6 +15,7 @@ mod whole;
 
 pub use bytes::Bytes;
 pub use ends::read_ends;
+pub use failures::Failures;
 pub use records::{RecordsFault, read_record, read_records};
 pub use seeking::Seeking;
 pub use source::{Failed, Source};

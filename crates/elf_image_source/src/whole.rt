@@ -1,6 +1,6 @@
 //! Whole reads: as many bytes as are asked for, however the source's reads are cut.
-ghost use Rattle.std.specs.Prelude.{◌≡◌, ◌<◌, ◌≤◌, ◌+◌, ◌^◌, length, take, drop, IfOk};
-ghost use Rattle.elf_image_source.specs.Source.{Flags, GivesFrom};
+ghost use Rattle.std.specs.Prelude.{◌≡◌, ◌<◌, ◌≤◌, ◌+◌, ◌-◌, ◌^◌, length, take, drop, IfOk};
+ghost use Rattle.elf_image_source.specs.Source.{GivesFrom, RemembersRead};
 ghost use Rattle.elf_image_source.specs.Reads.{Reads};
 
 use crate::source::{Failed, Source};
@@ -32,7 +32,7 @@ fn read_more<S: Source>(
 ) -> Result<usize, Failed>
     requires { filled < length buf.old }
     ensures kept { S.content source.new ≡ S.content source.old }
-    ensures flag { Flags at (S.failed source.old) (S.failed source.new) result }
+    ensures failures { RemembersRead (S.content source.old) at (length buf.old - filled) (S.failures source.old) (S.failures source.new) result }
     ensures bound { IfOk result (λ k. filled + k ≤ length buf.new) }
     ensures same { length buf.new ≡ length buf.old }
     ensures front { take filled buf.new ≡ take filled buf.old }
@@ -49,7 +49,7 @@ pub fn read_exactly<S: Source>(source: &mut S, at: u64, buf: &mut [u8]) -> Resul
     requires { at + length buf.old < 2 ^ 64 }
     ensures kept { S.content source.new ≡ S.content source.old }
     ensures same { length buf.new ≡ length buf.old }
-    ensures reads { Reads (S.content source.old) (S.failed source.old) (S.failed source.new) at buf.new result }
+    ensures reads { Reads (S.content source.old) (S.failures source.old) (S.failures source.new) at buf.new result }
 {
     let mut filled = 0;
     while filled < buf.len() {

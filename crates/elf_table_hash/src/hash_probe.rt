@@ -27,7 +27,8 @@ pub fn find_in(
     probe_in(&words, &names, name).0
 }
 
-/// The first symbol of this name on the chain of the name's bucket, with its position there, counted from 1, or else the length of the chain.
+/// The first symbol of this name on the chain of the name's bucket, with its position there, counted from 1, or else the length of the
+/// chain.
 pub(crate) fn probe_in(
     words: &HashWords<'_>,
     names: &SymbolNames<'_>,

@@ -40,12 +40,10 @@ pub trait Opener {
         ensures kept { holds self.new ≡ holds self.old }
         ensures still { opens self.new ≡ opens self.old };
 
-    /// A source of the file's bytes, no call of which has failed. It fails as [`reader`](Opener::reader) does, and what is known of the
-    /// files stays.
+    /// A source of the file's bytes. It fails as [`reader`](Opener::reader) does, and what is known of the files stays.
     fn source(&mut self, name: &str) -> Result<Self::Seek, OpenFault>
         ensures bytes { IfSome (holds self.old name.now) (λ bytes.
             IfOk result (λ source. Self.Seek.content source ≡ Some bytes)) }
-        ensures unfailed { IfOk result (λ source. Self.Seek.failed source ≡ None) }
         ensures fault { IfErr result (IsOpenFault (opens self.old name.now)) }
         ensures kept { holds self.new ≡ holds self.old }
         ensures still { opens self.new ≡ opens self.old };

@@ -42,7 +42,7 @@ fn ending<S: AsStr, O: Opener, W: Write, E: Write>(
 {
     match read_words(alloc, words) {
         Ok(Request::Check { file }) => check_file(alloc, file, files, out, err),
-        Ok(_) => misused("this program has the command check alone", err),
+        Ok(_) => misused("this program has the command check FILE alone", err),
         Err(fault) => no_request(&fault, err),
     }
 }

@@ -6,7 +6,6 @@ use Rattle.elf_image_outline.specs.Image.{IsImage}
 use Rattle.elf_image_outline.specs.Outline.{OutlineValue, image_in}
 use Rattle.elf_image_rules.specs.ImageRules.{IsFault}
 use Rattle.elf_image_rules.specs.declared.broken.Broken.{Broken}
-use Rattle.elf_image_source.specs.Source.{FailsAt}
 use Rattle.elf_tool_base.specs.Ending.{Call}
 use Rattle.elf_tool_check.specs.Check.{CheckSays}
 use Rattle.elf_tool_text.specs.Engine.{IsSaid}
@@ -28,25 +27,23 @@ IsCheckLine (Refused TooLong) text = ⊥
 abbrev pub SourceSays : Option (List ℕ) → Verdict → List ℕ → Type 0
 SourceSays content verdict text = IsCheckLine verdict text × ((b : List ℕ) → content ≡ Some b → IsBytes b → CheckSays b verdict text)
 
--- what is said is written, or exactly the first `written` bytes of it, or for want of memory nothing; and nothing where a read failed: of a
--- source that tells its bytes only after a failed call, which was asked for that offset
-abbrev pub IsSourceSaid : Option (List ℕ) → Option ℕ → Option (List ℕ) → Option (List ℕ) → Result Verdict ToolFault → Type 0
-IsSourceSaid content failed old new (Ok verdict) = IsSaid (SourceSays content) old new (Ok verdict)
-IsSourceSaid content failed old new (Err (Read at)) = Keeps old new × ((b : List ℕ) → content ≡ Some b → IsBytes b → failed ≡ Some at)
-IsSourceSaid content failed old new (Err (Write written)) = IsSaid (SourceSays content) old new (Err (Write written))
-IsSourceSaid content failed old new (Err OutOfMemory) = Keeps old new
+-- what is said is written, or exactly the first `written` bytes of it, or for want of memory and where a read failed nothing
+abbrev pub IsSourceSaid : Option (List ℕ) → Option (List ℕ) → Option (List ℕ) → Result Verdict ToolFault → Type 0
+IsSourceSaid content old new (Ok verdict) = IsSaid (SourceSays content) old new (Ok verdict)
+IsSourceSaid content old new (Err (Read at)) = Keeps old new
+IsSourceSaid content old new (Err (Write written)) = IsSaid (SourceSays content) old new (Err (Write written))
+IsSourceSaid content old new (Err OutOfMemory) = Keeps old new
 
--- the flag of a source: only where a read failed may it be another one, and then it is the offset that is answered
-abbrev pub LeavesFlag : {T : Type 0} → Option ℕ → Option ℕ → Result T ToolFault → Type 0
-LeavesFlag old new (Ok t) = new ≡ old
-LeavesFlag old new (Err (Read at)) = FailsAt old new at
-LeavesFlag old new (Err (Write written)) = new ≡ old
-LeavesFlag old new (Err OutOfMemory) = new ≡ old
+-- the offset of a failed read that is answered
+abbrev pub failed_read : {T : Type 0} → Result T ToolFault → Option ℕ
+failed_read (Ok t) = None
+failed_read (Err (Read at)) = Some at
+failed_read (Err (Write written)) = None
+failed_read (Err OutOfMemory) = None
 
--- a call of `check_source` on a source that was just opened, so that no call of it had failed
+-- a call of `check_source` on a source
 abbrev pub IsSourceChecked : Call
-IsSourceChecked content after old new result =
-    (failed : Option ℕ) × (after ≡ content) × LeavesFlag None failed result × IsSourceSaid content failed old new result
+IsSourceChecked content after old new result = (after ≡ content) × IsSourceSaid content old new result
 
 -- ---- what was scanned
 
@@ -55,11 +52,11 @@ abbrev pub IsScanned : List ℕ → Result OutlineValue (Broken ℕ) → Type 0
 IsScanned b (Ok outline) = IsImage (image_in outline b) b
 IsScanned b (Err broken) = IsFault b (Some (broken.rule, broken.at))
 
--- why there is neither: a call of the source failed that was asked for the offset, or memory was refused
-abbrev pub IsScanStopped : Option (List ℕ) → Option ℕ → ToolFault → Type 0
-IsScanStopped content failed (Read at) = (b : List ℕ) → content ≡ Some b → IsBytes b → failed ≡ Some at
-IsScanStopped content failed (Write written) = ⊥
-IsScanStopped content failed OutOfMemory = Unit {0}
+-- why there is neither: a read failed, or memory was refused
+abbrev pub IsScanStopped : ToolFault → Type 0
+IsScanStopped (Read at) = Unit {0}
+IsScanStopped (Write written) = ⊥
+IsScanStopped OutOfMemory = Unit {0}
 
 -- the line of an outline, or of the rule
 abbrev pub line_of_scan : Result OutlineValue (Broken ℕ) → List ℕ

@@ -2,8 +2,9 @@
 ghost use Rattle.std.specs.Prelude.{◌≡◌, ℕ, List, Ok, Some, IfErr, IfOk, string_bytes};
 ghost use Rattle.elf_field.specs.Bytes.{IsBytes};
 ghost use Rattle.elf_image_rules.specs.Broken.{fault_of};
+ghost use Rattle.elf_image_source.specs.Source.{Remembers};
 ghost use Rattle.elf_tool_check.specs.Check.{verdict_of};
-ghost use Rattle.elf_tool_check_source.specs.CheckSource.{IsScanStopped, IsScanned, IsSourceSaid, LeavesFlag, line_of_scan};
+ghost use Rattle.elf_tool_check_source.specs.CheckSource.{IsScanStopped, IsScanned, IsSourceSaid, failed_read, line_of_scan};
 
 use elf_image_outline::{Outline, scan};
 use elf_image_rules::Broken;
@@ -19,17 +20,16 @@ use std::io::Write;
 ///
 /// The verdict is what the line says. Nothing is out after [`ToolFault::Read`] and after [`ToolFault::OutOfMemory`]; after
 /// [`ToolFault::Write`] exactly the first `written` bytes of the line are. [`ToolFault::Read`] has the offset that a call of the source was
-/// asked for which failed (0 for a failed `length`), or which gave no byte where the length says that there is one. Of a source none of
-/// whose calls had failed before, nothing else is answered after a failed call of it. Time and memory are those of
-/// [`scan`](elf_image_outline::scan), and a line.
+/// asked for which failed (0 for a failed `length`), or which gave no byte where the length says that there is one; after such a call
+/// nothing else is answered. Time and memory are those of [`scan`](elf_image_outline::scan), and a line.
 pub fn check_source<S: Source, W: Write>(
     alloc: Global,
     source: &mut S,
     writer: &mut W,
 ) -> Result<Verdict, ToolFault>
     ensures kept { S.content source.new ≡ S.content source.old }
-    ensures flag { LeavesFlag (S.failed source.old) (S.failed source.new) result }
-    ensures said { IsSourceSaid (S.content source.old) (S.failed source.new) (W.contents writer.old) (W.contents writer.new) result }
+    ensures failures { Remembers (failed_read result) (S.failures source.old) (S.failures source.new) }
+    ensures said { IsSourceSaid (S.content source.old) (W.contents writer.old) (W.contents writer.new) result }
 {
     let judged = judged_by_scan(alloc, source)?;
     let line = line_on_scan(alloc, &judged)?;
@@ -43,8 +43,8 @@ fn judged_by_scan<S: Source>(
     source: &mut S,
 ) -> Result<Result<Outline, Broken<u64>>, ToolFault>
     ensures kept { S.content source.new ≡ S.content source.old }
-    ensures flag { LeavesFlag (S.failed source.old) (S.failed source.new) result }
-    ensures stopped { IfErr result (IsScanStopped (S.content source.old) (S.failed source.new)) }
+    ensures failures { Remembers (failed_read result) (S.failures source.old) (S.failures source.new) }
+    ensures stopped { IfErr result IsScanStopped }
     ensures told { (b : List ℕ) → S.content source.old ≡ Some b → IsBytes b → IfOk result (IsScanned b) }
 {
     match scan(alloc, source) {

@@ -1,5 +1,5 @@
--- The lines of the tables that a file holds, word by word. (gABI chapter 4, Symbol Table, Relocation, Section Groups; chapter 5, Note Section,
--- Dynamic Section, Hash Table.)
+-- The lines of the tables that a file holds, word by word. (gABI chapter 4, Symbol Table, Relocation, Section Groups; chapter 5, Note
+-- Section, Dynamic Section, Hash Table.)
 use Rattle.std.specs.Prelude.{ℕ, ℤ, Option, None, Some, List, [], ◌∷◌, codes, get_or, if◌then◌else◌, length, map}
 use Rattle.std.specs.Fmt.{decimal, signed_decimal}
 use Rattle.std.specs.List.{flat_map, range_with_len}

@@ -1,6 +1,6 @@
 //! `tests_growths RULES FILE..`: makes each call of the library that takes memory, of records and extents by themselves and of these files,
-//! and prints a line on each: which it was, and a number that tells its answer, or `out of memory`, or `refused`. Behind them it prints what
-//! is asked of the values that came out, which takes no memory. `scripts/failing-calls` runs it with growths refused.
+//! and prints a line on each: which it was, and a number that tells its answer, or `out of memory`, or `refused`. Behind them it prints
+//! what is asked of the values that came out, which takes no memory. `scripts/failing-calls` runs it with growths refused.
 #![tactic(auto)]
 
 mod extents;

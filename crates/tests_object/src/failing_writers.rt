@@ -9,8 +9,8 @@ use std::io::ErrorKind;
 use std::process::Abort;
 use std::test::Fail;
 
-/// Writes the object to a writer that takes so many bytes a call, and whose call of this number, behind so many bytes, alone fails, or takes
-/// nothing: that is the answer, and no call comes after it.
+/// Writes the object to a writer that takes so many bytes a call, and whose call of this number, behind so many bytes, alone fails, or
+/// takes nothing: that is the answer, and no call comes after it.
 fn assert_stopped(
     rt: &impl Abort,
     alloc: Global,

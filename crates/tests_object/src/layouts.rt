@@ -133,8 +133,8 @@ fn length(alloc: Global, last: &[u8]) -> Result<Result<u64, LayoutFault>, Fail> 
     Ok(lay_out(alloc, &object).map(|layout| layout.length()))
 }
 
-// At 2^30 - 4,096 the last content begins, and behind it stand 24 + 1 + 38 bytes and 22 section headers: 38, and not 44, since `.text` stands
-// within `.rela.text`.
+// At 2^30 - 4,096 the last content begins, and behind it stand 24 + 1 + 38 bytes and 22 section headers: 38, and not 44, since `.text`
+// stands within `.rela.text`.
 #[test]
 fn shared_names_count_once(rt: HostRuntime) -> Result<(), Fail> {
     let content = [0; 2625];

@@ -1,5 +1,7 @@
 //! Sources over bytes that give little, or fail at one call alone.
-use elf_image_source::{Bytes, Failed, Source};
+ghost use Rattle.std.specs.Prelude.{◌≡◌, ◌≤◌, length, IfOk};
+
+use elf_image_source::{Bytes, Failed, Failures, Source};
 
 /// Gives its bytes, at most `piece` a call. The call of `read_at` of number `failing`, counted from 1, fails, or gives no byte where
 /// `gives_none`; every other one succeeds.
@@ -12,7 +14,7 @@ pub struct Cut<'a> {
     pub calls: u64,
     /// The most bytes that a call was asked for.
     pub longest: usize,
-    pub failed: Option<u64>,
+    pub failures: Failures,
 }
 
 impl<'a> Cut<'a> {
@@ -24,29 +26,41 @@ impl<'a> Cut<'a> {
             gives_none: false,
             calls: 0,
             longest: 0,
-            failed: None,
+            failures: Failures::NONE,
         }
     }
 }
 
+impl Cut<'_> {
+    fn answer(&mut self, at: u64, buf: &mut [u8]) -> Result<usize, Failed>
+        ensures bound { IfOk result (λ k. k ≤ length buf.new) }
+        ensures same { length buf.new ≡ length buf.old }
+        ensures kept { self.new.failures ≡ self.old.failures }
+    {
+        self.calls = self.calls.saturating_add(1);
+        self.longest = self.longest.max(buf.len());
+        if self.calls == self.failing && self.gives_none {
+            return Ok(0);
+        }
+        if self.calls == self.failing {
+            return Err(Failed);
+        }
+        let room = self.piece.min(buf.len());
+        Ok(Bytes(self.bytes).copy_at(at, &mut buf[..room]))
+    }
+}
+
 impl Source for Cut<'_> {
-    ghost failed = { λ s. s.failed };
+    ghost failures = { λ s. s.failures };
 
     fn length(&mut self) -> Result<u64, Failed> {
         Ok(self.bytes.len() as u64)
     }
 
     fn read_at(&mut self, at: u64, buf: &mut [u8]) -> Result<usize, Failed> {
-        self.calls = self.calls.saturating_add(1);
-        self.longest = self.longest.max(buf.len());
-        if self.calls == self.failing {
-            if self.gives_none {
-                return Ok(0);
-            }
-            self.failed = Some(at);
-            return Err(Failed);
-        }
-        let room = self.piece.min(buf.len());
-        Bytes(self.bytes).read_at(at, &mut buf[..room])
+        let room = buf.len();
+        let read = self.answer(at, buf);
+        self.failures = self.failures.and_read(at, room, &read);
+        read
     }
 }

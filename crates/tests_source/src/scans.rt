@@ -3,14 +3,14 @@ use crate::fakes::Cut;
 use elf_field::Order;
 use elf_image_outline::{Owner, Part, scan};
 use elf_image_rules::rules;
-use elf_image_source::Bytes;
+use elf_image_source::{Bytes, Failures};
 use elf_image_stream::Fault;
 use std::process::Abort;
 use std::test::Fail;
 use tests_files::{empty_contents, one_section, one_segment, set};
 
-/// The offsets that a scan of the file of one section asks for, where each call gives all: the header, section header 0, the section headers,
-/// and the ends of the section name string table.
+/// The offsets that a scan of the file of one section asks for, where each call gives all: the header, section header 0, the section
+/// headers, and the ends of the section name string table.
 const ASKED: [u64; 5] = [0, 136, 136, 97, 129];
 
 /// The parts of the file of one section: whose each is, where it begins and how long it is.
@@ -102,7 +102,11 @@ fn each_failed_call_is_answered_with_its_offset(rt: HostRuntime) {
             scan(rt.alloc(), &mut source).err(),
             Some(Fault::Io { at: ASKED[k] })
         );
-        assert_eq!(rt; source.failed, Some(ASKED[k]));
+        let failures = Failures {
+            count: 1,
+            last: ASKED[k],
+        };
+        assert_eq!(rt; source.failures, failures);
     }
 }
 
@@ -117,6 +121,10 @@ fn each_call_that_gives_nothing_is_answered_with_its_offset(rt: HostRuntime) {
             scan(rt.alloc(), &mut source).err(),
             Some(Fault::Io { at: ASKED[k] })
         );
-        assert_eq!(rt; source.failed, None);
+        let failures = Failures {
+            count: 1,
+            last: ASKED[k],
+        };
+        assert_eq!(rt; source.failures, failures);
     }
 }

@@ -175,11 +175,11 @@ no_show name one other = let both : codes "check" ≡ codes "show" = sym one ∙
 
 source_says : (bytes : List ℕ) → IsBytes bytes → (content after old new : Option (List ℕ)) (answer : Result Verdict ToolFault) (status : Status)
     → content ≡ Some bytes → IsSourceChecked content after old new answer → status ≡ ending_of answer → Tells status bytes
-source_says bytes are content after old new (Ok Done) status known (failed, kept, flag, said) is = record {
+source_says bytes are content after old new (Ok Done) status known (kept, said) is = record {
   done = λ zero. check_says bytes Done said.0 (said.1.1 bytes known are);
   refused = λ one. let e : 0 ≡ 1 = sym (ap code_of is) ∙ one in absurd (omega arith);
 }
-source_says bytes are content after old new (Ok (Refused refusal)) status known (failed, kept, flag, said) is = record {
+source_says bytes are content after old new (Ok (Refused refusal)) status known (kept, said) is = record {
   done = λ zero. let e : 1 ≡ 0 = sym (ap code_of is) ∙ zero in absurd (omega arith);
   refused = λ one. check_says bytes (Refused refusal) said.0 (said.1.1 bytes known are);
 }

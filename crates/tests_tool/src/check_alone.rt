@@ -26,7 +26,7 @@ fn other_commands_are_wrong_usage(rt: HostRuntime) {
         &["elfmap", "map", "--base", "0", "--page", "1", "a.o"],
     ];
     for words in rows {
-        let told = "this program has the command check alone\n";
+        let told = "this program has the command check FILE alone\n";
         assert_ran(&rt, &run_on(rt.alloc(), words), 2, "", told);
     }
 }

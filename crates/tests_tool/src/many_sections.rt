@@ -4,7 +4,7 @@ ghost use Rattle.std.specs.Prelude.{◌<◌, ◌≡◌, None, length};
 
 use crate::said::{assert_accepts, assert_lines, assert_written_back};
 use elf_field::{Ehdr, Order, Record, Shdr};
-use elf_image_source::{Bytes, Failed, Source};
+use elf_image_source::{Bytes, Failed, Failures, Source};
 use elf_image_stream::Fault;
 use elf_image_type::{parse, verdict};
 use elf_tool_program::{Verdict, check_source, show};
@@ -146,18 +146,23 @@ fn counts_in_the_header_and_in_section_header_0(rt: HostRuntime) -> Result<(), F
 
 /// Gives a byte a call.
 #[derive(Drop)]
-struct Bytewise<'a>(&'a [u8]);
+struct Bytewise<'a> {
+    bytes: &'a [u8],
+    failures: Failures,
+}
 
 impl Source for Bytewise<'_> {
-    ghost failed = { λ _. None };
+    ghost failures = { λ s. s.failures };
 
     fn length(&mut self) -> Result<u64, Failed> {
-        Ok(self.0.len() as u64)
+        Ok(self.bytes.len() as u64)
     }
 
     fn read_at(&mut self, at: u64, buf: &mut [u8]) -> Result<usize, Failed> {
-        let most = buf.len().min(1);
-        Bytes(self.0).read_at(at, &mut buf[..most])
+        let room = buf.len();
+        let count = Bytes(self.bytes).copy_at(at, &mut buf[..room.min(1)]);
+        self.failures = self.failures.and_read(at, room, &Ok(count));
+        Ok(count)
     }
 }
 
@@ -165,7 +170,11 @@ impl Source for Bytewise<'_> {
 fn is_sought_by_a_byte_a_call(rt: HostRuntime) -> Result<(), Fail> {
     let file = object(rt.alloc(), 65_277)?;
     let mut out = Sink::new(1000, None);
-    let answer = check_source(rt.alloc(), &mut Bytewise(&file), &mut out);
+    let mut source = Bytewise {
+        bytes: &file,
+        failures: Failures::NONE,
+    };
+    let answer = check_source(rt.alloc(), &mut source, &mut out);
     let line = b"ok 4178104 65281 0\n".as_slice();
     assert_eq!(rt; (answer, out.text()), (Ok(Verdict::Done), line));
     Ok(())

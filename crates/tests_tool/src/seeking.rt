@@ -1,10 +1,9 @@
 //! `check --seek` over sources of which one call fails, or which have fewer bytes than they say: each has its exact answer.
-ghost use Rattle.std.specs.Prelude.{◌≡◌, None};
-ghost use Rattle.elf_image_source.specs.Source.{Flags};
+ghost use Rattle.std.specs.Prelude.{◌≡◌, ◌≤◌, length, IfOk};
 
 use crate::program::{HEADER, ROOM, Ran, Shelf, assert_ran};
 use elf_field::Order;
-use elf_image_source::{Bytes, Failed, Source};
+use elf_image_source::{Bytes, Failed, Failures, Source};
 use elf_tool_program::{OpenFault, Opener, ToolFault, Verdict, check_source, run};
 use std::alloc::Global;
 use std::process::Abort;
@@ -21,46 +20,59 @@ struct Tape<'a> {
     len: u64,
     failing: u64,
     calls: u64,
-    failed: Option<u64>,
+    failures: Failures,
 }
 
 impl<'a> Tape<'a> {
-    fn new(bytes: &'a [u8], failing: u64) -> Tape<'a>
-        ensures { result.failed ≡ None }
-    {
+    fn new(bytes: &'a [u8], failing: u64) -> Tape<'a> {
         Tape {
             bytes,
             len: bytes.len() as u64,
             failing,
             calls: 0,
-            failed: None,
+            failures: Failures::NONE,
         }
     }
 
-    // A further call, which is asked for this offset.
-    fn call(&mut self, at: u64) -> Result<(), Failed>
-        ensures { Flags at self.old.failed self.new.failed result }
+    // A further call.
+    fn call(&mut self) -> Result<(), Failed>
+        ensures { self.new.failures ≡ self.old.failures }
     {
         self.calls = self.calls.saturating_add(1);
         if self.calls == self.failing {
-            self.failed = Some(at);
             return Err(Failed);
         }
         Ok(())
     }
+
+    fn answer(&mut self, at: u64, buf: &mut [u8]) -> Result<usize, Failed>
+        ensures bound { IfOk result (λ k. k ≤ length buf.new) }
+        ensures same { length buf.new ≡ length buf.old }
+        ensures kept { self.new.failures ≡ self.old.failures }
+    {
+        self.call()?;
+        Ok(Bytes(self.bytes).copy_at(at, buf))
+    }
 }
 
 impl Source for Tape<'_> {
-    ghost failed = { λ tape. tape.failed };
+    ghost failures = { λ tape. tape.failures };
 
     fn length(&mut self) -> Result<u64, Failed> {
-        self.call(0)?;
-        Ok(self.len)
+        match self.call() {
+            Ok(()) => Ok(self.len),
+            Err(failed) => {
+                self.failures = self.failures.and_one_at(0);
+                Err(failed)
+            }
+        }
     }
 
     fn read_at(&mut self, at: u64, buf: &mut [u8]) -> Result<usize, Failed> {
-        self.call(at)?;
-        Bytes(self.bytes).read_at(at, buf)
+        let room = buf.len();
+        let read = self.answer(at, buf);
+        self.failures = self.failures.and_read(at, room, &read);
+        read
     }
 }
 

@@ -18,7 +18,7 @@ loop-part-preserved g c =
     let went = c.in-Ok.ensures in
     record {
       kept = went.kept ∙ before.kept;
-      flag = went.flag ∙ before.flag;
+      failures = went.failures ∙ before.failures;
       out = parts_more c.args.outline.now c.parts-part-items.result.now c.loop-part.part-index _ _ _ _ _ _ c.stands.ensures c.parts-part-items.ensures.value
           c.loop-part-test.true before.kept before.out went.copies;
     }

@@ -13,7 +13,7 @@ loop-done-preserved g c =
     record {
       within = omega arith;
       kept = c.in-Ok.ensures.kept ∙ before.kept;
-      flag = c.in-Ok.ensures.flag ∙ before.flag;
+      failures = c.in-Ok.ensures.failures ∙ before.failures;
       out = out_more _ _ _ _ _ done size (λ b. take done (drop c.args.start b)) (λ b. take size (drop (c.args.start + done) b)) (λ b. take (done + size) (drop c.args.start b))
           before.kept before.out went (λ b. range_more b c.args.start done size);
     }

@@ -7,7 +7,7 @@ abbrev pub invariant-loop-done : goal.invariant-loop-done
 invariant-loop-done g l = record {
   within : l.done ≤ l.len;
   kept : g.S.Source.content l.source ≡ g.S.Source.content l.initial.source;
-  flag : g.S.Source.failed l.source ≡ g.S.Source.failed l.initial.source;
+  failures : g.S.Source.failures l.source ≡ g.S.Source.failures l.initial.source;
   out : CopiedOut (g.S.Source.content l.initial.source) (g.W.Write.contents l.initial.writer) (g.W.Write.contents l.writer) l.done (λ b. take l.done (drop l.start b));
 }
 

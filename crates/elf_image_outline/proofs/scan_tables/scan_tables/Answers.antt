@@ -1,4 +1,4 @@
-use Rattle.std.proofs.Common.{◌≡◌, ◌≤◌, ◌∙◌, length, ap, arith}
+use Rattle.std.proofs.Common.{◌≡◌, ◌≤◌, ◌∙◌, length, ap}
 use Rattle.elf_image_rules.specs.declared.tables.Counts.{Counts}
 use Rattle.elf_image_rules.specs.Tables.{sections, shdr_offset}
 use Rattle.elf_image_outline.proofs.ScanRules.{first_at, program_table_broken, scans_fault, scans_rule, section_table_broken, tables_read}
@@ -8,10 +8,9 @@ pub returns-in_err-judge_section_table-clause-told : goal.returns-in_err-judge_s
 returns-in_err-judge_section_table-clause-told g c b told says is =
     let h = c.args.head.now.header in
     let first = c.in_ok-first.first in
-    let room = c.requires.room in
-    let read : first ≡ sections b h 0 = c.in_ok-first.ensures.told b told (omega (arith, says)) in
+    let read : first ≡ sections b h 0 = c.in_ok-first.ensures.told b told in
     let broken = c.in_err-judge_section_table.field-0.0 in
-    scans_rule b _ _ broken _
+    scans_rule b _ broken _
     (section_table_broken b c.args.head.now.len h first (broken.rule, broken.at) says is c.requires.kept read c.in_err-judge_section_table.ensures.fault)
     c.from_residual-in_err-judge_section_table.ensures.1
 
@@ -19,10 +18,9 @@ pub returns-in_err-judge_program_table-clause-told : goal.returns-in_err-judge_p
 returns-in_err-judge_program_table-clause-told g c b told says is =
     let h = c.args.head.now.header in
     let first = c.in_ok-first.first in
-    let room = c.requires.room in
-    let read : first ≡ sections b h 0 = c.in_ok-first.ensures.told b told (omega (arith, says)) in
+    let read : first ≡ sections b h 0 = c.in_ok-first.ensures.told b told in
     let broken = c.in_err-judge_program_table.field-0.0 in
-    scans_rule b _ _ broken _
+    scans_rule b _ broken _
     (program_table_broken b c.args.head.now.len h first (broken.rule, broken.at) says is c.requires.kept read c.in_ok-judge_section_table.ensures.fault
     c.in_err-judge_program_table.ensures.fault)
     c.from_residual-in_err-judge_program_table.ensures.1
@@ -32,12 +30,11 @@ returns-in_err-sections-clause-told g c b told says is =
     let h = c.args.head.now.header in
     let first = c.in_ok-first.first in
     let count = c.counts_of-counts.result.sections in
-    let room = c.requires.room in
-    let read : first ≡ sections b h 0 = c.in_ok-first.ensures.told b told (omega (arith, says)) in
+    let read : first ≡ sections b h 0 = c.in_ok-first.ensures.told b told in
     let counted = ap (λ (k : Counts). k.sections) c.counts_of-counts.ensures.value in
     let inside : shdr_offset h count ≤ length b = rw counted (rw says at c.in_ok-judge_section_table.ensures.inside) in
-    scans_fault b _ _ c.in_err-sections.field-0.0 _
-    (c.in_err-sections.ensures.told b (c.in_ok-first.ensures.kept ∙ told) inside (λ some. first_at b h first count read counted some))
+    scans_fault b _ c.in_err-sections.field-0.0 _
+    (c.in_err-sections.ensures.told b (c.in_ok-first.ensures.kept ∙ told) (λ some. first_at b h first count read counted some))
     c.from_residual-in_err-sections.ensures.1
 
 pub returns-clause-told : goal.returns-clause-told
@@ -45,10 +42,9 @@ returns-clause-told g c b told says is =
     let h = c.args.head.now.header in
     let first = c.in_ok-first.first in
     let counts = c.counts_of-counts.result in
-    let room = c.requires.room in
-    let read : first ≡ sections b h 0 = c.in_ok-first.ensures.told b told (omega (arith, says)) in
+    let read : first ≡ sections b h 0 = c.in_ok-first.ensures.told b told in
     let counted = ap (λ (k : Counts). k.sections) c.counts_of-counts.ensures.value in
     let inside : shdr_offset h counts.sections ≤ length b = rw counted (rw says at c.in_ok-judge_section_table.ensures.inside) in
     tables_read b h first counts c.in_ok-sections.sections.items c.in_ok-segments.segments.items is read c.counts_of-counts.ensures.value
-    (c.in_ok-sections.ensures.told b (c.in_ok-first.ensures.kept ∙ told) inside (λ some. first_at b h first counts.sections read counted some))
+    (c.in_ok-sections.ensures.told b (c.in_ok-first.ensures.kept ∙ told) (λ some. first_at b h first counts.sections read counted some))
     (rw c.order_in-order.ensures at (c.in_ok-segments.ensures.ok.told b (c.in_ok-sections.ensures.kept ∙ c.in_ok-first.ensures.kept ∙ told)))

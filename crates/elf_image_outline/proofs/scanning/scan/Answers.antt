@@ -13,8 +13,8 @@ returns-in_err-parts-clause-told g c b told are =
     let (says, is) = c.in_ok-head.ensures.told b told in
     let records = c.in_ok-tables.ensures.told b (c.in_ok-head.ensures.kept ∙ told) says is in
     let ends = c.in_ok-ends.ensures.told b (c.in_ok-tables.ensures.kept ∙ c.in_ok-head.ensures.kept ∙ told) says has records in
-    scans_fault b _ _ c.in_err-parts.field-0.0 _
-    (stops_of_tables c.in_ok-head.head.len b _ t.header t.counts t.sections.items t.segments.items c.in_err-parts.field-0.0 says has records
+    scans_fault b _ c.in_err-parts.field-0.0 _
+    (stops_of_tables c.in_ok-head.head.len b t.header t.counts t.sections.items t.segments.items c.in_err-parts.field-0.0 says has records
     (c.in_err-parts.ensures.err _ ends))
     c.from_residual-in_err-parts.ensures.1
 

@@ -1,4 +1,4 @@
-use Rattle.std.proofs.Common.{rules, ◌≡◌, ◌<◌, ◌+◌, ◌-◌, ◌∙◌, ◌∷◌, [], ℕ, List, ap, drop, refl, subst, sym, take, arith}
+use Rattle.std.proofs.Common.{rules, ◌≡◌, ◌<◌, ◌+◌, ◌-◌, ◌∙◌, ℕ, List, ap, drop, refl, subst, sym, take, arith}
 use Rattle.elf_image_rules.specs.StringTable.{AreEnds}
 use Rattle.elf_field.specs.Bytes.{IsBytes}
 use Rattle.elf_image_source.proofs.EndsIn.{ends_in, one_byte_table, some_table}

@@ -1,5 +1,4 @@
-use Rattle.std.proofs.Common.{rules, ◌*◌, subst, sym}
-use Rattle.std.specs.List.{AllByRecursion}
+use Rattle.std.proofs.Common.{rules, ◌*◌}
 use Rattle.elf_image_source.proofs.Tables.{all_more, extends_on}
 use Rattle.elf_image_source.proofs.records.push_records.Goals as goal
 

@@ -1,4 +1,4 @@
-use Rattle.std.proofs.Common.{rules, ◌≡◌, ◌≤◌, ◌+◌, ◌*◌, arith, mul-le-mul_left}
+use Rattle.std.proofs.Common.{◌≤◌, ◌+◌, ◌*◌, arith, mul-le-mul_left}
 use Rattle.std.proofs.Math.Nat.{mul-add}
 use Rattle.elf_image_source.proofs.Tables.{fault_later}
 use Rattle.elf_image_source.proofs.records.read_records.Goals as goal
@@ -21,5 +21,5 @@ returns-in-Err-clause-err g c =
     let sum = mul-add size next several in
     let le : size * (next + several) ≤ size * c.args.count = mul-le-mul_left size (omega arith) in
     let before = c.loop-next.invariant in
-    fault_later _ _ _ _ _ c.args.at (size * c.args.count) _ (size * several) c.in-Err.fault before.kept before.flag
+    fault_later _ _ _ _ _ c.args.at (size * c.args.count) _ (size * several) c.in-Err.fault before.kept before.failures
     (omega arith) (rw c.SIZE-in-loop-next.ensures (omega arith)) c.in-Err.ensures.err

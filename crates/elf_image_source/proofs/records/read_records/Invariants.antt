@@ -8,7 +8,7 @@ abbrev pub invariant-loop-next : goal.invariant-loop-next
 invariant-loop-next g l = record {
   within : l.next ≤ l.count;
   kept : g.S.Source.content l.source ≡ g.S.Source.content l.initial.source;
-  flag : g.S.Source.failed l.source ≡ g.S.Source.failed l.initial.source;
+  failures : g.S.Source.failures l.source ≡ g.S.Source.failures l.initial.source;
   many : length l.records.items ≡ l.next;
   valid : AllByRecursion g.T.Record.IsValid l.records.items;
   told : (b : List ℕ) → g.S.Source.content l.initial.source ≡ Some b →

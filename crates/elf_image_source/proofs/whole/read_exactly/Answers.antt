@@ -1,4 +1,4 @@
-use Rattle.std.proofs.Common.{rules, ◌+◌, ◌∙◌, ℕ, List, Option, drop, subst, IfSome}
+use Rattle.std.proofs.Common.{rules, arith, ◌+◌, ◌∙◌, ℕ, List, Option, drop, subst, IfSome}
 use Rattle.elf_image_source.specs.Source.{GivesAt}
 use Rattle.elf_image_source.proofs.Filled.{filled_on}
 use Rattle.elf_image_source.proofs.whole.read_exactly.Goals as goal
@@ -12,7 +12,7 @@ loop-filled-preserved g c =
       within = search rules;
       same = search rules;
       kept = read.kept ∙ before.kept;
-      flag = read.flag ∙ before.flag;
+      failures = read.failures.1 (λ dry. absurd (let none = dry.2 in omega arith)) ∙ before.failures;
       bytes = λ b told. filled_on b _ _ c.args.at n c.in-Ok.count read.front (before.bytes b told)
           (subst (λ (content : Option (List ℕ)). IfSome content (λ b. GivesAt b (c.args.at + n) c.in-Ok.count (drop n c.read_more.new.buf))) (before.kept ∙ told) read.bytes);
     }

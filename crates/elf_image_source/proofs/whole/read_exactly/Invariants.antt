@@ -7,7 +7,7 @@ invariant-loop-filled g l = record {
   within : l.filled ≤ length l.buf;
   same : length l.buf ≡ length l.initial.buf;
   kept : g.S.Source.content l.source ≡ g.S.Source.content l.initial.source;
-  flag : g.S.Source.failed l.source ≡ g.S.Source.failed l.initial.source;
+  failures : g.S.Source.failures l.source ≡ g.S.Source.failures l.initial.source;
   bytes : (b : List ℕ) → g.S.Source.content l.initial.source ≡ Some b → take l.filled l.buf ≡ take l.filled (drop l.at b);
 }
 

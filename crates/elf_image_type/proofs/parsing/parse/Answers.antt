@@ -3,7 +3,7 @@ use Rattle.elf_field.specs.Bytes.{IsBytes}
 use Rattle.elf_field.specs.declared.shdr.Shdr.{Shdr}
 use Rattle.elf_image_rules.specs.Tables.{bytes_in, content_extent}
 use Rattle.elf_image_outline.specs.Image.{ImageValue, IsImage, IsSoundImage}
-use Rattle.elf_image_outline.specs.Outline.{contents_in, image_of}
+use Rattle.elf_image_outline.specs.Outline.{OutlineValue, contents_in, image_of}
 use Rattle.elf_image_outline.proofs.TableRules.{stopped}
 use Rattle.elf_image_type.specs.Parsing.{IsParseFault}
 use Rattle.elf_image_type.proofs.BytesScanned.{stops_parse}
@@ -13,7 +13,7 @@ pub returns-in_err-outline-clause-err : goal.returns-in_err-outline-clause-err
 returns-in_err-outline-clause-err c =
     let b = c.args.bytes.now in
     let are : IsBytes b = λ i. omega (arith, c.type_inv.bytes i) in
-    stopped (IsParseFault b) _ _ (stops_parse b _ c.in_ok-judge_records.ensures.kept (c.in_err-outline.ensures.told b refl are)) c.from_residual-in_err-outline.ensures.1
+    stopped (IsParseFault b) _ _ (stops_parse OutlineValue b _ _ c.in_ok-judge_records.ensures.kept c.in_err-outline.ensures.failures (c.in_err-outline.ensures.told b refl are)) c.from_residual-in_err-outline.ensures.1
 
 pub new-requires : goal.new-requires
 new-requires c =
