@@ -9,8 +9,8 @@ ghost use Rattle.elf_tool_text.specs.Line.{blank, hexadecimal, is_graphic as is_
 
 mod digits;
 
-use digits::put_wide_digits;
-pub(crate) use digits::{MOST_DIGITS, put_digits};
+pub(crate) use digits::{MOST_IN_WORD, put_digits};
+use digits::{put_before, put_wide_digits};
 use std::alloc::{AllocError, Global};
 
 /// Appends a line's first word. Fails for want of memory alone.
@@ -32,40 +32,44 @@ pub fn push_word(text: &mut Vec<u8>, word: &[u8]) -> Result<(), AllocError>
 pub fn push_decimal(text: &mut Vec<u8>, number: u64) -> Result<(), AllocError>
     ensures { OnOk result (text.new.items ≡ text.old.items ++ blank ∷ decimal number) }
 {
-    let mut digits = [0; MOST_DIGITS];
-    let start = put_digits(number, 10, &mut digits);
-    text.extend_from_slice(b" ")?;
-    text.extend_from_slice(&digits[start..])
+    let mut word = [0; MOST_IN_WORD];
+    let digits = put_digits(number, 10, &mut word);
+    let start = put_before(b" ", digits, &mut word);
+    text.extend_from_slice(&word[start..])
 }
 
 /// Appends a signed number in decimal. Fails for want of memory alone.
 pub fn push_signed(text: &mut Vec<u8>, number: i64) -> Result<(), AllocError>
     ensures { OnOk result (text.new.items ≡ text.old.items ++ blank ∷ signed_decimal number) }
 {
-    let mut digits = [0; MOST_DIGITS];
-    let start = put_digits(number.unsigned_abs(), 10, &mut digits);
-    text.extend_from_slice(if number < 0 { b" -" } else { b" " })?;
-    text.extend_from_slice(&digits[start..])
+    let mut word = [0; MOST_IN_WORD];
+    let digits = put_digits(number.unsigned_abs(), 10, &mut word);
+    let start = if number < 0 {
+        put_before(b" -", digits, &mut word)
+    } else {
+        put_before(b" ", digits, &mut word)
+    };
+    text.extend_from_slice(&word[start..])
 }
 
 /// Appends a number in hexadecimal, in lower case behind `0x`. Fails for want of memory alone.
 pub fn push_hexadecimal(text: &mut Vec<u8>, number: u64) -> Result<(), AllocError>
     ensures { OnOk result (text.new.items ≡ text.old.items ++ blank ∷ hexadecimal number) }
 {
-    let mut digits = [0; MOST_DIGITS];
-    let start = put_digits(number, 16, &mut digits);
-    text.extend_from_slice(b" 0x")?;
-    text.extend_from_slice(&digits[start..])
+    let mut word = [0; MOST_IN_WORD];
+    let digits = put_digits(number, 16, &mut word);
+    let start = put_before(b" 0x", digits, &mut word);
+    text.extend_from_slice(&word[start..])
 }
 
 /// Appends a number that may be above 64 bits in hexadecimal, in lower case behind `0x`. Fails for want of memory alone.
 pub fn push_wide_hexadecimal(text: &mut Vec<u8>, number: u128) -> Result<(), AllocError>
     ensures { OnOk result (text.new.items ≡ text.old.items ++ blank ∷ hexadecimal number) }
 {
-    let mut digits = [0; MOST_DIGITS];
-    let start = put_wide_digits(number, &mut digits);
-    text.extend_from_slice(b" 0x")?;
-    text.extend_from_slice(&digits[start..])
+    let mut word = [0; MOST_IN_WORD];
+    let digits = put_wide_digits(number, &mut word);
+    let start = put_before(b" 0x", digits, &mut word);
+    text.extend_from_slice(&word[start..])
 }
 
 /// Appends bytes, each as two hexadecimal digits in lower case. Fails for want of memory alone.
