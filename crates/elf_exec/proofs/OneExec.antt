@@ -10,7 +10,7 @@ use Rattle.elf_link_files.specs.Rows.{FirstAmong}
 use Rattle.elf_link_relocate.specs.RelocationRules.{applied_entry_rules}
 use Rattle.elf_link_relocate.specs.Linked.{IsLinked, LinkedValue}
 use Rattle.elf_link_relocate.specs.MapFacts.{IsMapOfSome}
-use Rattle.elf_link_relocate.proofs.Public.{one_byte}
+use Rattle.elf_link_relocate.proofs.Public.{any_options, one_byte}
 use Rattle.elf_exec.specs.declared.load.Load.{Load}
 use Rattle.elf_exec.specs.ExecLaid.{AreLoadBytes, ExecLaid, bytes_from, exec_bytes, load_parts}
 use Rattle.elf_exec.specs.ExecWriting.{IsExec, IsReadyLink}
@@ -41,7 +41,7 @@ module _ (fs : List ObjectValue) (m : LinkMapValue) (rules : List RelocRule) (is
       let first = are.long in
       let second = also.long in
       ext_get_or 0 s t (omega arith)
-      (λ k lt. one_byte fs m rules is sound (load.address + k) (slice_index s k) (slice_index t k) (are.memory k lt) (also.memory k (omega arith)))
+      (λ k lt. one_byte fs m rules (any_options fs m is) sound (load.address + k) (slice_index s k) (slice_index t k) (are.memory k lt) (also.memory k (omega arith)))
 
   same_exec : (a b : List ℕ) → ExecLaid fs m rules a → ExecLaid fs m rules b → a ≡ b
   same_exec a b this that =

@@ -21,7 +21,7 @@ use Rattle.elf_link_map.proofs.Public.{outputs_stand}
 use Rattle.elf_link_relocate.specs.Fields.{content_of}
 use Rattle.elf_link_relocate.specs.Linked.{AreBytesOf, HasLiveBits, LinkedValue, bytes_at}
 use Rattle.elf_link_relocate.specs.Memory.{IsInNoMember, IsMemory}
-use Rattle.elf_link_relocate.proofs.Public.{memory_zero}
+use Rattle.elf_link_relocate.proofs.Public.{any_options, memory_zero}
 use Rattle.elf_exec.specs.ExecWriting.{IsReadyLink}
 use Rattle.elf_exec.specs.Pieces.{member_content, output_content}
 use Rattle.elf_exec.proofs.Rows.{IsInPart, byte_of_spread, same_map, size_at}
@@ -122,7 +122,7 @@ module _ (l : LinkedValue) (ready : IsReadyLink l) (k : ℕ) (k_in : k < length 
     | inr (none, is) ↦ (
         let long = length-output in
         subst (λ (w : ℕ). IsMemory fs m l.rules (o.address + i) w) (sym is)
-        (memory_zero fs m l.rules ready.map ready.linked.sound (o.address + i) k k_in (omega arith, omega arith) (in_none i none)))
+        (memory_zero fs m l.rules (any_options fs m ready.map) ready.linked.sound (o.address + i) k k_in (omega arith, omega arith) (in_none i none)))
   ]
     where
       in_none : (i : ℕ) → ((j n : ℕ) → IsInPart addresses parts (o.address + i) j n → ⊥) → IsInNoMember fs m k (o.address + i)

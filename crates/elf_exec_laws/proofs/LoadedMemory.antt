@@ -14,7 +14,7 @@ use Rattle.elf_link_map.specs.LinkMap.{LinkMapValue}
 use Rattle.elf_link_map.specs.Standing.{member_at, output_at}
 use Rattle.elf_link_relocate.specs.Fields.{content_of}
 use Rattle.elf_link_relocate.specs.Memory.{HasContentAt, IsInMemory, IsInOutputAt, IsMemory}
-use Rattle.elf_link_relocate.proofs.Public.{field_in_content, memory_in, memory_zero, one_byte, some_byte}
+use Rattle.elf_link_relocate.proofs.Public.{any_options, field_in_content, memory_in, memory_zero, one_byte, some_byte}
 use Rattle.elf_exec.specs.declared.load.Load.{Load}
 use Rattle.elf_exec.specs.ExecLaid.{program_headers}
 use Rattle.elf_exec.specs.Loads.{load_at, load_in, loads}
@@ -73,7 +73,7 @@ module _ (fs : List ObjectValue) (m : LinkMapValue) (rules : List RelocRule) (li
   -- ---- memory where no bits are
 
   output_zero : (x k : ℕ) → k < length m.outputs → (output_at m k).no_bits ≡ true → IsInOutputAt m k x → IsMemory fs m rules x 0
-  output_zero x k lt without here = memory_zero fs m rules link.map link.relocated x k lt here (λ i i_in (from, to). (
+  output_zero x k lt without here = memory_zero fs m rules (any_options fs m link.map) link.relocated x k lt here (λ i i_in (from, to). (
       let p = member_at (output_at m k) i in
       let empty = no_content (section_in fs p.file p.section).body (((outputs fs m rules link b file).members k lt).kind i i_in ∙ without) in
       omega arith))
@@ -86,13 +86,13 @@ module _ (fs : List ObjectValue) (m : LinkMapValue) (rules : List RelocRule) (li
       omega arith
 
   zero_if_no_content : (x v : ℕ) → (HasContentAt fs m x → ⊥) → IsMemory fs m rules x v → v ≡ 0
-  zero_if_no_content x v none (inl (p, r, k, at, byte)) = absurd (none (field_in_content fs m rules link.map link.relocated x (p, r, k, at)))
+  zero_if_no_content x v none (inl (p, r, k, at, byte)) = absurd (none (field_in_content fs m rules (any_options fs m link.map) link.relocated x (p, r, k, at)))
   zero_if_no_content x v none (inr (no_field, inl (f, s, k, at, byte))) = absurd (none (f, s, k, at))
   zero_if_no_content x v none (inr (no_field, inr (outside, area, zero_is))) = zero_is
 
   commons_zero : (x : ℕ) → 0 < length m.commons → (common_at m.commons 0).address ≤ x → IsInMemory m x → IsMemory fs m rules x 0
   commons_zero x some behind area =
-      let (v, memory) = some_byte fs m rules link.map link.relocated x area in
+      let (v, memory) = some_byte fs m rules (any_options fs m link.map) link.relocated x area in
       subst (λ (w : ℕ). IsMemory fs m rules x w) (zero_if_no_content x v (no_content_behind x some behind) memory) memory
 
   -- ---- a segment gives its addresses memory's bytes
@@ -159,8 +159,8 @@ module _ (fs : List ObjectValue) (m : LinkMapValue) (rules : List RelocRule) (li
   pub memory_loads : (x w : ℕ) → IsMemory fs m rules x w → Loads b (program_headers m.page (loads m) file.laid.places) x w
   memory_loads x w memory =
       let long = segments_long fs m rules link b file in
-      let (j, lt, has) = segment_there x (memory_in fs m rules link.map link.relocated x w memory) in
-      (j, omega arith, has, one_byte fs m rules link.map link.relocated x w (loaded b (program_header_of segments j) x) memory (segment_memory j x lt has))
+      let (j, lt, has) = segment_there x (memory_in fs m rules (any_options fs m link.map) link.relocated x w memory) in
+      (j, omega arith, has, one_byte fs m rules (any_options fs m link.map) link.relocated x w (loaded b (program_header_of segments j) x) memory (segment_memory j x lt has))
 
 -- ---- what is found at an address, where the segments give what memory has there
 

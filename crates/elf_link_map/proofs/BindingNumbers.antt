@@ -11,7 +11,7 @@ use Rattle.elf_link_names.specs.Binds.{entries}
 use Rattle.elf_link_names.specs.NameNumbers.{AreNameNumbers}
 use Rattle.elf_link_map.specs.declared.bindings.Binding.{Binding}
 use Rattle.elf_link_map.specs.BindingNumbers.{AreBindingNumbers}
-use Rattle.elf_link_map.specs.LinkMap.{IsBinding, IsLinkMap, LinkMapValue, bound_in}
+use Rattle.elf_link_map.specs.LinkMap.{IsBinding, IsLinkMap, LinkMapValue, bound_in, with_options}
 use Rattle.elf_link_map.specs.Naming.{AreBindingPositions}
 use Rattle.elf_link_map.proofs.Naming.{position_found}
 
@@ -27,9 +27,10 @@ numbers_bound fs m position rows are at = record {
 }
 
 -- the name of a symbol that is not local stands in the link map
-pub entry_bound : (fs : List ObjectValue) (m : LinkMapValue) (f i : ℕ) → ((opt : Options) × IsLinkMap opt fs m) → f < length fs →
+pub entry_bound : (fs : List ObjectValue) (m : LinkMapValue) (f i : ℕ) →
+    ((opt : Options) × (base page entry : ℕ) × IsLinkMap opt fs (with_options m base page entry)) → f < length fs →
     i < length (object_at fs f).symbols → binding (symbol_in fs f i) ≢ STB_LOCAL → bound_in m.bindings (symbol_in fs f i).name ≡ None → ⊥
-entry_bound fs m f i (opt, (l, plan, is)) f_in i_in not_local none =
+entry_bound fs m f i (opt, base, page, entry, (l, plan, is)) f_in i_in not_local none =
     let name = (symbol_in fs f i).name in
     let never = subst (λ (o : Option Binding). MatchOption o (Never (entries fs name)) (IsBinding fs m.commons name)) none (is.bindings name) in
     never (site f i) (f_in, i_in, (not_local, refl), refl)

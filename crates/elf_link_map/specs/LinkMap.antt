@@ -91,6 +91,10 @@ pub record IsMapOf (opt : Options) (fs : List ObjectValue) (l : LinkPlan) (m : L
   pub page : m.page ≡ opt.page
   pub entry : HasValue (link_parts fs opt l) opt.base l.target m.entry
 
+-- the same map with this base, page and entry
+abbrev pub with_options : LinkMapValue → ℕ → ℕ → ℕ → LinkMapValue
+with_options m base page entry = record m { base = base; page = page; entry = entry }
+
 -- the link map of some objects and options
 abbrev pub IsLinkMap : Options → List ObjectValue → LinkMapValue → Type 0
 IsLinkMap opt fs m = (l : LinkPlan) × IsLinkPlan opt fs l × IsMapOf opt fs l m

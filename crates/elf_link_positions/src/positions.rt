@@ -104,11 +104,12 @@ impl<'a> NamePositions<'a> {
     }
 
     /// The position of a name that has one, which stays; a further name gets this one, and the answer is None. The error comes only where
-    /// memory is refused. Takes one look at a table for most names, and log n comparisons for any.
+    /// memory is refused, and leaves each name where it was. Takes one look at a table for most names, and log n comparisons for any.
     #[tactic(auto, unfolding(crate::specs::Slots::name_position))]
     pub fn place(&mut self, name: &'a [u8], next: usize) -> Result<Option<usize>, AllocError>
         ensures old { IfOk result (λ old. old ≡ name_position self.old name.now) }
         ensures placed { IfOk result (λ old. IsPlaced old name.now next (name_position self.old) (name_position self.new)) }
+        ensures err { OnErr result ((q : List ℕ) → name_position self.new q ≡ name_position self.old q) }
     {
         let hash = hash_of(name);
         let home = home_of(hash, self.first.len());

@@ -12,6 +12,7 @@ mod Marked
 mod AtFields
 mod Patches
 mod Memories
+mod AnyOptions
 mod OneByte
 mod SomeByte
 mod MemoryLaws

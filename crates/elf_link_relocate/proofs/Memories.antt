@@ -10,7 +10,6 @@ use Rattle.elf_link_field.specs.Rule.{size_of}
 use Rattle.elf_link_map.specs.Apart.{BeginsAt, StandApart}
 use Rattle.elf_field.specs.Abi.{SHF_ALLOC}
 use Rattle.elf_object_type.specs.Positions.{HasFlag}
-use Rattle.elf_link_files.specs.declared.options.Options.{Options}
 use Rattle.elf_link_files.specs.declared.site.Site.{Site}
 use Rattle.elf_link_files.specs.Files.{object_at, section_in}
 use Rattle.elf_link_files.specs.Listing.{site}
@@ -18,7 +17,7 @@ use Rattle.elf_link_files.specs.Live.{Live}
 use Rattle.elf_link_files.specs.Rows.{FirstAmong}
 use Rattle.elf_link_outputs.specs.Placed.{cell}
 use Rattle.elf_link_outputs.specs.Outputs.{live, memory_size}
-use Rattle.elf_link_map.specs.LinkMap.{IsLinkMap, LinkMapValue}
+use Rattle.elf_link_map.specs.LinkMap.{LinkMapValue}
 use Rattle.elf_link_map.specs.Standing.{address_in, or_zero}
 use Rattle.elf_link_relocate.specs.declared.field.Field.{Field}
 use Rattle.elf_link_relocate.specs.Collecting.{field_at}
@@ -27,7 +26,6 @@ use Rattle.elf_link_relocate.specs.Fields.{HasField, HasOffset, IsWithin, conten
 use Rattle.elf_link_relocate.specs.Grid.{item}
 use Rattle.elf_link_relocate.specs.Judged.{AreJudged}
 use Rattle.elf_link_relocate.specs.Linked.{AreBytesOf, HasLiveBits, IsLinked}
-use Rattle.elf_link_relocate.specs.MapFacts.{IsMapOfSome, IsSoundMap}
 use Rattle.elf_link_relocate.specs.Marking.{IsCovered, IsFieldIn}
 use Rattle.elf_link_relocate.specs.Memory.{HasFieldAt, IsFieldByte, IsMemory}
 use Rattle.elf_link_field.specs.Number.{relocation_number}
@@ -36,14 +34,6 @@ use Rattle.elf_link_relocate.specs.Patching.{AreRelocated, IsRelocated}
 use Rattle.elf_link_relocate.specs.RelocationRules.{applied_entry_rules}
 use Rattle.elf_link_relocate.specs.Values.{value_at}
 use Rattle.elf_link_relocate.proofs.AtFields.{position}
-
--- ---- the map
-
-pub sound_of : (fs : List ObjectValue) (m : LinkMapValue) → IsMapOfSome fs m → ((opt : Options) → IsLinkMap opt fs m → StandApart fs m) → IsSoundMap fs m
-sound_of fs m (opt, (l, placed, is), clean) law = record {
-  discarded = is.discarded;
-  places = law opt (l, placed, is);
-}
 
 -- ---- small facts
 

@@ -15,13 +15,14 @@ use Rattle.elf_link_outputs.specs.declared.output.Member.{Member}
 use Rattle.elf_link_map.specs.Apart.{BeginsAt, StandApart, size_in}
 use Rattle.elf_link_map.specs.LinkMap.{LinkMapValue}
 use Rattle.elf_link_map.specs.Standing.{IsMemberAt, OutputsStand, address_in, member_address, member_at, or_zero, output_at, output_end}
-use Rattle.elf_link_map.proofs.Public.{member_within, outputs_stand, parts_apart}
+use Rattle.elf_link_map.proofs.Public.{member_within}
 use Rattle.elf_link_relocate.specs.Entries.{target_at}
 use Rattle.elf_link_relocate.specs.Fields.{content_in, field_start}
 use Rattle.elf_link_relocate.specs.Linked.{IsLinked, LinkedValue}
-use Rattle.elf_link_relocate.specs.MapFacts.{IsMapOfSome}
+use Rattle.elf_link_relocate.specs.MapFacts.{IsMapButOptions}
 use Rattle.elf_link_relocate.specs.Memory.{HasContentAt, HasFieldAt, HaveBytes, IsInCommons, IsInContent, IsInMember, IsInMemory, IsInNoMember, IsInOutput, IsInOutputAt, IsMemory}
 use Rattle.elf_link_relocate.specs.RelocationRules.{applied_entry_rules, field_out_of_range, fields_overlap, unplaced}
+use Rattle.elf_link_relocate.proofs.AnyOptions.{apart_of, outputs_of, sound_of}
 use Rattle.elf_link_relocate.proofs.Memories.{content_fits}
 use Rattle.elf_link_relocate.proofs.OneByte.{begins, within_of}
 use Rattle.elf_link_relocate.proofs.SomeByte.{IsDecided, content_byte, some_below}
@@ -128,27 +129,26 @@ module _ (fs : List ObjectValue) (m : LinkMapValue) (rules : List RelocRule) (st
 
 -- ---- the laws
 
-pub field_in_content : (fs : List ObjectValue) (m : LinkMapValue) (rules : List RelocRule) → IsMapOfSome fs m →
+pub field_in_content : (fs : List ObjectValue) (m : LinkMapValue) (rules : List RelocRule) → IsMapButOptions fs m →
     FirstAmong (applied_entry_rules fs m rules) None → (x : ℕ) → HasFieldAt fs m rules x → HasContentAt fs m x
-field_in_content fs m rules (opt, is, sound) clean =
-    field_content fs m rules (parts_apart opt fs m is) (outputs_stand opt fs m is) clean.1.1.0 clean.1.1.1.0
+field_in_content fs m rules is clean = field_content fs m rules (apart_of fs m is) (outputs_of fs m is) clean.1.1.0 clean.1.1.1.0
 
-pub memory_in : (fs : List ObjectValue) (m : LinkMapValue) (rules : List RelocRule) → IsMapOfSome fs m →
+pub memory_in : (fs : List ObjectValue) (m : LinkMapValue) (rules : List RelocRule) → IsMapButOptions fs m →
     FirstAmong (applied_entry_rules fs m rules) None → (x v : ℕ) → IsMemory fs m rules x v → IsInMemory m x
-memory_in fs m rules (opt, is, sound) clean = in_memory fs m rules (parts_apart opt fs m is) (outputs_stand opt fs m is) clean.1.1.0 clean.1.1.1.0
+memory_in fs m rules is clean = in_memory fs m rules (apart_of fs m is) (outputs_of fs m is) clean.1.1.0 clean.1.1.1.0
 
-pub some_byte : (fs : List ObjectValue) (m : LinkMapValue) (rules : List RelocRule) → IsMapOfSome fs m →
+pub some_byte : (fs : List ObjectValue) (m : LinkMapValue) (rules : List RelocRule) → IsMapButOptions fs m →
     FirstAmong (applied_entry_rules fs m rules) None → (x : ℕ) → IsInMemory m x → (v : ℕ) × IsMemory fs m rules x v
-some_byte fs m rules (opt, (l, placed, of), sound) clean =
-    byte_there fs m rules (parts_apart opt fs m (l, placed, of)) (outputs_stand opt fs m (l, placed, of)) clean.1.1.0 clean.1.1.1.0 clean.1.0 of.discarded
+some_byte fs m rules is clean =
+    byte_there fs m rules (apart_of fs m is) (outputs_of fs m is) clean.1.1.0 clean.1.1.1.0 clean.1.0 (sound_of fs m is).discarded
 
-pub memory_there : (fs : List ObjectValue) (m : LinkMapValue) (rules : List RelocRule) (l : LinkedValue) → IsMapOfSome fs m → IsLinked fs m rules l →
+pub memory_there : (fs : List ObjectValue) (m : LinkMapValue) (rules : List RelocRule) (l : LinkedValue) → IsMapButOptions fs m → IsLinked fs m rules l →
     (x : ℕ) → IsInMemory m x → (v : ℕ) × IsMemory fs m rules x v
 memory_there fs m rules l is linked = some_byte fs m rules is linked.sound
 
-pub memory_zero : (fs : List ObjectValue) (m : LinkMapValue) (rules : List RelocRule) → IsMapOfSome fs m →
+pub memory_zero : (fs : List ObjectValue) (m : LinkMapValue) (rules : List RelocRule) → IsMapButOptions fs m →
     FirstAmong (applied_entry_rules fs m rules) None → (x k : ℕ) → k < length m.outputs → IsInOutputAt m k x → IsInNoMember fs m k x → IsMemory fs m rules x 0
-memory_zero fs m rules (opt, is, sound) clean = zero_at fs m rules (parts_apart opt fs m is) (outputs_stand opt fs m is) clean.1.1.0 clean.1.1.1.0
+memory_zero fs m rules is clean = zero_at fs m rules (apart_of fs m is) (outputs_of fs m is) clean.1.1.0 clean.1.1.1.0
 
 pub memory_bytes : (fs : List ObjectValue) (m : LinkMapValue) (rules : List RelocRule) → HaveBytes fs → (x v : ℕ) → IsMemory fs m rules x v → v < 256
 memory_bytes fs m rules have x v (inl (p, r, k, at, (z, number, is))) =

@@ -13,13 +13,13 @@ use Rattle.elf_link_outputs.specs.Placed.{cell}
 use Rattle.elf_link_map.specs.Apart.{BeginsAt, StandApart, size_in}
 use Rattle.elf_link_map.specs.LinkMap.{LinkMapValue}
 use Rattle.elf_link_map.specs.Standing.{address_in, or_zero}
-use Rattle.elf_link_map.proofs.Public.{parts_apart}
 use Rattle.elf_link_relocate.specs.Entries.{entry_at, target_at}
 use Rattle.elf_link_relocate.specs.Fields.{HasField, HasOffset, IsWithin, content_in, field_start}
-use Rattle.elf_link_relocate.specs.MapFacts.{IsMapOfSome}
+use Rattle.elf_link_relocate.specs.MapFacts.{IsMapButOptions}
 use Rattle.elf_link_relocate.specs.Memory.{IsContentByte, IsFieldByte, IsMemory, number_byte}
 use Rattle.elf_link_relocate.specs.Numbers.{number_at}
 use Rattle.elf_link_relocate.specs.RelocationRules.{applied_entry_rules, field_out_of_range, fields_overlap}
+use Rattle.elf_link_relocate.proofs.AnyOptions.{apart_of}
 use Rattle.elf_link_relocate.proofs.FirstRule.{one_rule}
 use Rattle.elf_link_relocate.proofs.Memories.{content_fits, live_in}
 use Rattle.elf_link_relocate.proofs.Sites.{ordered}
@@ -106,6 +106,6 @@ module _ (fs : List ObjectValue) (m : LinkMapValue) (rules : List RelocRule) (st
   one_of x v w (inr (none, inr (outside, area, zero_is))) (inr (never, inl (f, s, k, at, byte))) = absurd (outside (f, s, k, at))
   one_of x v w (inr (none, inr (outside, area, zero_is))) (inr (never, inr (beyond, around, again))) = zero_is ∙ sym again
 
-pub one_byte : (fs : List ObjectValue) (m : LinkMapValue) (rules : List RelocRule) → IsMapOfSome fs m → FirstAmong (applied_entry_rules fs m rules) None →
+pub one_byte : (fs : List ObjectValue) (m : LinkMapValue) (rules : List RelocRule) → IsMapButOptions fs m → FirstAmong (applied_entry_rules fs m rules) None →
     (x v w : ℕ) → IsMemory fs m rules x v → IsMemory fs m rules x w → v ≡ w
-one_byte fs m rules (opt, is, sound) clean = one_of fs m rules (parts_apart opt fs m is) clean.1.1.0 clean.1.1.1.0
+one_byte fs m rules is clean = one_of fs m rules (apart_of fs m is) clean.1.1.0 clean.1.1.1.0

@@ -1,15 +1,20 @@
 -- What relocating needs to know of a link map.
-use Rattle.std.specs.Prelude.{None, List}
+use Rattle.std.specs.Prelude.{ℕ, None, List}
 use Rattle.elf_object_type.specs.Object.{ObjectValue}
 use Rattle.elf_link_files.specs.declared.options.Options.{Options}
 use Rattle.elf_link_files.specs.Discarded.{AreDiscardMarks}
 use Rattle.elf_link_map.specs.Apart.{StandApart}
 use Rattle.elf_link_map.specs.LinkFaults.{FirstOfLink}
-use Rattle.elf_link_map.specs.LinkMap.{IsLinkMap, LinkMapValue}
+use Rattle.elf_link_map.specs.LinkMap.{IsLinkMap, LinkMapValue, with_options}
 
 -- none of rules 1 to 11 of the link stands, and the map is the one of these objects, for some options
 abbrev pub IsMapOfSome : List ObjectValue → LinkMapValue → Type 0
 IsMapOfSome fs m = (opt : Options) × IsLinkMap opt fs m × FirstOfLink opt fs None
+
+-- the same, whatever its base, page and entry are: with some in place of them it is such a map. So nothing is asked of an entry symbol, nor
+-- rule 10: options may name none
+abbrev pub IsMapButOptions : List ObjectValue → LinkMapValue → Type 0
+IsMapButOptions fs m = (base page entry : ℕ) × IsMapOfSome fs (with_options m base page entry)
 
 -- it tells which sections are discarded, and its sections stand apart
 pub record IsSoundMap (fs : List ObjectValue) (m : LinkMapValue) : Type 0 where

@@ -1,50 +1,59 @@
-//! What the layers above may know of relocated bytes.
+//! What the layers above may know of relocated bytes. A map of the files is one whatever its base, page and entry are.
 ghost use Rattle.std.specs.Prelude.{◌≡◌, ◌<◌, ℕ, List, None, length};
+ghost use Rattle.elf_link_files.specs.declared.options.Options.{Options};
 ghost use Rattle.elf_link_files.specs.Rows.{FirstAmong};
-ghost use Rattle.elf_link_map.specs.LinkMap.{LinkMapValue};
+ghost use Rattle.elf_link_map.specs.LinkFaults.{FirstOfLink};
+ghost use Rattle.elf_link_map.specs.LinkMap.{IsLinkMap, LinkMapValue, with_options};
 ghost use Rattle.elf_link_relocate.specs.Linked.{IsLinked, LinkedValue};
-ghost use Rattle.elf_link_relocate.specs.MapFacts.{IsMapOfSome};
+ghost use Rattle.elf_link_relocate.specs.MapFacts.{IsMapButOptions};
 ghost use Rattle.elf_link_relocate.specs.Memory.{HasContentAt, HasFieldAt, HaveBytes, IsInMemory, IsInNoMember, IsInOutputAt, IsMemory};
 ghost use Rattle.elf_link_relocate.specs.RelocationRules.{applied_entry_rules};
 ghost use Rattle.elf_object_type.specs.Object.{ObjectValue};
 ghost use Rattle.elf_link_field.specs.declared.rule.RelocRule.{RelocRule};
 
+/// A map of the files is the map for options that name no entry symbol too, with the entry 0, and there none of rules 1 to 11 stands: so
+/// neither rule 10 nor the value of an entry symbol is asked of it.
+pub fn without_entry()
+    ensures { (fs : List ObjectValue) (m : LinkMapValue) → IsMapButOptions fs m →
+        (opt : Options) × (opt.entry ≡ None) × IsLinkMap opt fs (with_options m opt.base opt.page 0) × FirstOfLink opt fs None }
+{}
+
 /// In a map of the files, where none of rules 1 to 16 stands, the memory of a link has one byte at each address, or none.
 pub fn one_byte()
-    ensures { (fs : List ObjectValue) (m : LinkMapValue) (rules : List RelocRule) → IsMapOfSome fs m → FirstAmong (applied_entry_rules fs m rules) None →
+    ensures { (fs : List ObjectValue) (m : LinkMapValue) (rules : List RelocRule) → IsMapButOptions fs m → FirstAmong (applied_entry_rules fs m rules) None →
         (x v w : ℕ) → IsMemory fs m rules x v → IsMemory fs m rules x w → v ≡ w }
 {}
 
 /// In a map of the files, where none of rules 1 to 16 stands, each field lies in the content of a section that has an address.
 pub fn field_in_content()
-    ensures { (fs : List ObjectValue) (m : LinkMapValue) (rules : List RelocRule) → IsMapOfSome fs m → FirstAmong (applied_entry_rules fs m rules) None →
+    ensures { (fs : List ObjectValue) (m : LinkMapValue) (rules : List RelocRule) → IsMapButOptions fs m → FirstAmong (applied_entry_rules fs m rules) None →
         (x : ℕ) → HasFieldAt fs m rules x → HasContentAt fs m x }
 {}
 
 /// In a map of the files, where none of rules 1 to 16 stands, memory has bytes in the outputs and from the first common to the end of the
 /// last alone.
 pub fn memory_in()
-    ensures { (fs : List ObjectValue) (m : LinkMapValue) (rules : List RelocRule) → IsMapOfSome fs m → FirstAmong (applied_entry_rules fs m rules) None →
+    ensures { (fs : List ObjectValue) (m : LinkMapValue) (rules : List RelocRule) → IsMapButOptions fs m → FirstAmong (applied_entry_rules fs m rules) None →
         (x v : ℕ) → IsMemory fs m rules x v → IsInMemory m x }
 {}
 
 /// In a map of the files, where none of rules 1 to 16 stands, memory has a byte at each address in an output, and at each from the first
 /// common to the end of the last.
 pub fn some_byte()
-    ensures { (fs : List ObjectValue) (m : LinkMapValue) (rules : List RelocRule) → IsMapOfSome fs m → FirstAmong (applied_entry_rules fs m rules) None →
+    ensures { (fs : List ObjectValue) (m : LinkMapValue) (rules : List RelocRule) → IsMapButOptions fs m → FirstAmong (applied_entry_rules fs m rules) None →
         (x : ℕ) → IsInMemory m x → (v : ℕ) × IsMemory fs m rules x v }
 {}
 
 /// Of relocated bytes too: memory has a byte at each of these addresses.
 pub fn memory_there()
-    ensures { (fs : List ObjectValue) (m : LinkMapValue) (rules : List RelocRule) (l : LinkedValue) → IsMapOfSome fs m → IsLinked fs m rules l →
+    ensures { (fs : List ObjectValue) (m : LinkMapValue) (rules : List RelocRule) (l : LinkedValue) → IsMapButOptions fs m → IsLinked fs m rules l →
         (x : ℕ) → IsInMemory m x → (v : ℕ) × IsMemory fs m rules x v }
 {}
 
 /// In a map of the files, where none of rules 1 to 16 stands, the byte at an address in an output is 0 where none of its members has content:
 /// in gaps between members, and where these take memory without bits.
 pub fn memory_zero()
-    ensures { (fs : List ObjectValue) (m : LinkMapValue) (rules : List RelocRule) → IsMapOfSome fs m → FirstAmong (applied_entry_rules fs m rules) None →
+    ensures { (fs : List ObjectValue) (m : LinkMapValue) (rules : List RelocRule) → IsMapButOptions fs m → FirstAmong (applied_entry_rules fs m rules) None →
         (x k : ℕ) → k < length m.outputs → IsInOutputAt m k x → IsInNoMember fs m k x → IsMemory fs m rules x 0 }
 {}
 

@@ -2,7 +2,7 @@
 ghost use Rattle.std.specs.Prelude.{IfErr, IfOk, map as map_list};
 ghost use Rattle.elf_link_map.specs.BindingNumbers.{AreBindingNumbers};
 ghost use Rattle.elf_link_relocate.specs.Linked.{IsLinked};
-ghost use Rattle.elf_link_relocate.specs.MapFacts.{IsMapOfSome};
+ghost use Rattle.elf_link_relocate.specs.MapFacts.{IsMapButOptions};
 ghost use Rattle.elf_link_relocate.specs.RelocationRules.{IsRelocationFault};
 
 use crate::copies::all_copies;
@@ -11,7 +11,7 @@ use crate::linked::Linked;
 use crate::linking::Linking;
 use crate::patching::patch_all;
 use elf_link_field::RelocRule;
-use elf_link_map::{LinkFault, LinkMap, name_numbers, parts_apart};
+use elf_link_map::{LinkFault, LinkMap, name_numbers};
 use elf_object_type::Object;
 use std::alloc::Global;
 
@@ -26,12 +26,11 @@ pub fn relocate_numbered<'m, 'a>(
     rules: &'m [RelocRule],
     numbers: &[Vec<usize>],
 ) -> Result<Linked<'m, 'a>, LinkFault>
-    requires map { IsMapOfSome objects.now map.now }
+    requires map { IsMapButOptions objects.now map.now }
     requires numbers { AreBindingNumbers objects.now map.now (map_list (λ row. row.items) numbers.now) }
     ensures linked { IfOk result (λ linked. IsLinked objects.now map.now rules.now linked) }
     ensures err { IfErr result (IsRelocationFault objects.now map.now rules.now) }
 {
-    parts_apart();
     let linking = Linking {
         objects,
         map,
@@ -51,7 +50,8 @@ pub fn relocate_numbered<'m, 'a>(
 /// The relocated bytes of these objects, whose link map it is: the number of each applied relocation in its field, by the first
 /// relocation rule of its kind.
 ///
-/// Its condition is kept by a map that [`map`](elf_link_map::map) answered of these objects: `match map(..) { Ok(link) => .. }`.
+/// Its condition is kept by a map that [`map`](elf_link_map::map) answered of these objects: `match map(..) { Ok(link) => .. }`. It asks
+/// nothing of the map's base, page and entry, nor that there is an entry symbol.
 ///
 /// [`LinkFault::Rule`] is the first of rules 12 to 16 ([`rules`](crate::rules)) that stands, at its first entry by file, section and
 /// position. [`LinkFault::OutOfMemory`] comes only where memory is refused: a number for each symbol, a value for each name, a field for
@@ -64,7 +64,7 @@ pub fn relocate<'m, 'a>(
     objects: &'m [Object<'a>],
     rules: &'m [RelocRule],
 ) -> Result<Linked<'m, 'a>, LinkFault>
-    requires { IsMapOfSome objects.now map.now }
+    requires { IsMapButOptions objects.now map.now }
     ensures linked { IfOk result (λ linked. IsLinked objects.now map.now rules.now linked) }
     ensures err { IfErr result (IsRelocationFault objects.now map.now rules.now) }
 {

@@ -8,7 +8,7 @@ use Rattle.elf_link_map.specs.LinkMap.{LinkMapValue}
 use Rattle.elf_link_relocate.specs.Linked.{AreBytesOf, HasLiveBits, IsLinked, LinkedValue, bytes_at}
 use Rattle.elf_link_relocate.specs.MapFacts.{IsMapOfSome}
 use Rattle.elf_link_relocate.specs.Memory.{IsMemory}
-use Rattle.elf_link_relocate.proofs.Public.{one_byte}
+use Rattle.elf_link_relocate.proofs.Public.{any_options, one_byte}
 use Rattle.elf_exec.specs.ExecWriting.{IsExec}
 use Rattle.elf_exec.proofs.Public.{one_exec, ready_of}
 use Rattle.elf_tool_laws.proofs.Faults.{same_some}
@@ -21,7 +21,7 @@ module _ (fs : List ObjectValue) (m : LinkMapValue) (rules : List RelocRule) (is
       let same : b ≡ a = same_some b a (sym also ∙ begins) in
       let long = one.long ∙ sym other.long in
       ext_get_or 0 xs ys long (λ k lt.
-      one_byte fs m rules is linked.sound (a + k) (get_or xs k 0) (get_or ys k 0) (each k lt)
+      one_byte fs m rules (any_options fs m is) linked.sound (a + k) (get_or xs k 0) (get_or ys k 0) (each k lt)
       (subst (λ (x : ℕ). IsMemory fs m rules (x + k) (get_or ys k 0)) same (every k (omega arith))))
 
   one_copy : (f s : ℕ) (l : LinkedValue) (x y : Option (List ℕ)) → IsLinked fs m rules l → MatchOption x (¬ HasLiveBits fs f s) (AreBytesOf fs m rules f s) →

@@ -5,7 +5,7 @@ ghost use Rattle.elf_link_files.specs.Rows.{FirstAmong};
 ghost use Rattle.elf_link_map.specs.LinkMap.{LinkMapValue};
 ghost use Rattle.elf_link_map.specs.Standing.{output_at};
 ghost use Rattle.elf_link_relocate.specs.Linked.{IsLinked, LinkedValue};
-ghost use Rattle.elf_link_relocate.specs.MapFacts.{IsMapOfSome};
+ghost use Rattle.elf_link_relocate.specs.MapFacts.{IsMapButOptions, IsMapOfSome};
 ghost use Rattle.elf_link_relocate.specs.Memory.{HasContentAt, HaveBytes, IsInMemory, IsInOutputAt, IsMemory};
 ghost use Rattle.elf_link_relocate.specs.RelocationRules.{applied_entry_rules};
 ghost use Rattle.elf_object_type.specs.Object.{ObjectValue};
@@ -17,7 +17,7 @@ use elf_link_relocate::{
 
 /// Memory has a byte exactly at the addresses in outputs, and from the first common to the end of the last.
 fn memory_is_there()
-    ensures { (fs : List ObjectValue) (m : LinkMapValue) (rules : List RelocRule) → IsMapOfSome fs m → FirstAmong (applied_entry_rules fs m rules) None →
+    ensures { (fs : List ObjectValue) (m : LinkMapValue) (rules : List RelocRule) → IsMapButOptions fs m → FirstAmong (applied_entry_rules fs m rules) None →
         (x : ℕ) → IsInMemory m x ↔ ((v : ℕ) × IsMemory fs m rules x v) }
 {
     some_byte();
@@ -26,7 +26,7 @@ fn memory_is_there()
 
 /// Where bytes are relocated, memory has one byte at each of these addresses, below 256.
 fn memory_is_one()
-    ensures { (fs : List ObjectValue) (m : LinkMapValue) (rules : List RelocRule) (l : LinkedValue) → IsMapOfSome fs m → IsLinked fs m rules l →
+    ensures { (fs : List ObjectValue) (m : LinkMapValue) (rules : List RelocRule) (l : LinkedValue) → IsMapButOptions fs m → IsLinked fs m rules l →
         HaveBytes fs → (x : ℕ) → IsInMemory m x → (v : ℕ) × (v < 256) × ((w : ℕ) → IsMemory fs m rules x w → w ≡ v) }
 {
     memory_there();
@@ -36,7 +36,7 @@ fn memory_is_one()
 
 /// Memory is 0 where no content is.
 fn memory_without_content()
-    ensures { (fs : List ObjectValue) (m : LinkMapValue) (rules : List RelocRule) → IsMapOfSome fs m → FirstAmong (applied_entry_rules fs m rules) None →
+    ensures { (fs : List ObjectValue) (m : LinkMapValue) (rules : List RelocRule) → IsMapButOptions fs m → FirstAmong (applied_entry_rules fs m rules) None →
         (x : ℕ) → IsInMemory m x → ¬ HasContentAt fs m x → IsMemory fs m rules x 0 }
 {
     field_in_content();

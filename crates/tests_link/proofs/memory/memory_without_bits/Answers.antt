@@ -17,7 +17,7 @@ pub returns : goal.returns
 returns c fs m rules is clean x k k_in here no_bits_is =
     let (opt, map, sound) = is in
     let members = (c.outputs_stand.ensures opt fs m map).members k k_in in
-    c.memory_zero.ensures fs m rules is clean x k k_in here
+    c.memory_zero.ensures fs m rules (m.base, m.page, m.entry, is) clean x k k_in here
     (λ i i_in (from, to). (
     let p = member_at (output_at m k) i in
     let empty = no_content (section_in fs p.file p.section).body (members.kind i i_in ∙ no_bits_is) in

@@ -1,0 +1,5 @@
+use Rattle.elf_link_relocate.proofs.AnyOptions.{without_entry}
+use Rattle.elf_link_relocate.proofs.laws.without_entry.Goals as goal
+
+pub returns : goal.returns
+returns c = without_entry
