@@ -10,7 +10,7 @@ use Rattle.elf_image_source.specs.declared.failures.Failures.{Failures}
 use Rattle.elf_image_source.proofs.Public.{failed_within}
 use Rattle.elf_image_copy.specs.declared.fault.CopyFault.{CopyFault}
 use Rattle.elf_image_copy.specs.declared.fault.CopyFault.TheVariants.{Read, Write}
-use Rattle.elf_image_copy.specs.Copying.{Copies, CopiedOut, ReadsBehind, bytes_out, failed_read, later}
+use Rattle.elf_image_copy.specs.Copying.{Copies, CopiedOut, ReadsBehind, bytes_out, copy_failure, later}
 
 -- m bytes went out, and n more behind them
 pub out_more : (content now a b c : Option (List ℕ)) (m n : ℕ) (f g h : List ℕ → List ℕ) → now ≡ content → CopiedOut content a b m f → CopiedOut now b c n g →
@@ -78,10 +78,10 @@ range_splits b start m n len within =
 
 -- a read of bytes that the source has failed before anything went out
 pub read_failed : (content : Option (List ℕ)) (old new : Failures) (at n x : ℕ) (result : Result (Unit {0}) CopyFault) → Reaches content (at + n) →
-    HasFailed content old new at n x → IsErrAnd result (λ fault. fault ≡ Read x 0) → Remembers (failed_read result) old new
+    HasFailed content old new at n x → IsErrAnd result (λ fault. fault ≡ Read x 0) → Remembers (copy_failure result) old new
 read_failed content old new at n x (Ok u) reaches failed is = absurd is
 read_failed content old new at n x (Err fault) reaches failed is =
-    subst (λ (f : CopyFault). Remembers (failed_read (Err f)) old new) (sym is) (failed_within content old new at n x reaches failed)
+    subst (λ (f : CopyFault). Remembers (copy_failure (Err f)) old new) (sym is) (failed_within content old new at n x reaches failed)
 
 -- records or zeros that the source has no part in
 pub out_own : (content a b : Option (List ℕ)) (len : ℕ) (own : List ℕ) (bytes : List ℕ → List ℕ) → length own ≡ len → ((x : List ℕ) → own ≡ bytes x) → Appends a b own →

@@ -27,10 +27,10 @@ Copies content old new len bytes (Ok u) = CopiedOut content old new len bytes
 Copies content old new len bytes (Err fault) = (bytes_out fault < len) × CopiedOut content old new (bytes_out fault) (λ b. take (bytes_out fault) (bytes b))
 
 -- the offset of a failed read that is answered
-abbrev pub failed_read : Result (Unit {0}) CopyFault → Option ℕ
-failed_read (Ok u) = None
-failed_read (Err (Write written)) = None
-failed_read (Err (Read at written)) = Some at
+abbrev pub copy_failure : Result (Unit {0}) CopyFault → Option ℕ
+copy_failure (Ok u) = None
+copy_failure (Err (Write written)) = None
+copy_failure (Err (Read at written)) = Some at
 
 -- a read of len bytes from start on failed at one of them, in the block behind those that are out
 abbrev pub ReadsBehind : ℕ → ℕ → ℕ → Result (Unit {0}) CopyFault → Type 0

@@ -3,7 +3,7 @@ ghost use Rattle.std.specs.Prelude.{◌≡◌, ℕ, List, Some, slice_get};
 ghost use Rattle.elf_image_outline.specs.Image.{IsImage, part_bytes};
 ghost use Rattle.elf_image_outline.specs.Outline.{IsOutlineOf, IsSoundOutline, bytes_of_outline, image_in, placed_part};
 ghost use Rattle.elf_image_source.specs.Source.{Remembers};
-ghost use Rattle.elf_image_copy.specs.Copying.{Copies, ReadsBehind, failed_read};
+ghost use Rattle.elf_image_copy.specs.Copying.{Copies, ReadsBehind, copy_failure};
 
 use crate::fault::CopyFault;
 use crate::range::copy_range;
@@ -24,7 +24,7 @@ fn copy_part<S: Source, W: Write>(
     requires part { (k : ℕ) × (slice_get outline.now.parts k ≡ Some part) }
     requires of { (b : List ℕ) → S.content source.old ≡ Some b → IsOutlineOf outline.now b }
     ensures kept { S.content source.new ≡ S.content source.old }
-    ensures failures { Remembers (failed_read result) (S.failures source.old) (S.failures source.new) }
+    ensures failures { Remembers (copy_failure result) (S.failures source.old) (S.failures source.new) }
     ensures copies { Copies (S.content source.old) (W.contents writer.old) (W.contents writer.new) part.len
         (λ b. part_bytes (image_in outline.now b) (placed_part outline.now.zeroed b part)) result }
     ensures behind { ReadsBehind BLOCK part.start part.len result }
@@ -61,7 +61,7 @@ pub fn copy_image<S: Source, W: Write>(
         (bytes_of_outline outline.now) result }
     ensures image { (b : List ℕ) → S.content source.old ≡ Some b →
         IsImage (image_in outline.now b) (bytes_of_outline outline.now b) }
-    ensures failures { Remembers (failed_read result) (S.failures source.old) (S.failures source.new) }
+    ensures failures { Remembers (copy_failure result) (S.failures source.old) (S.failures source.new) }
     ensures behind { ReadsBehind BLOCK 0 outline.now.len result }
 {
     outline.stands();

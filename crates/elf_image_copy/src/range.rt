@@ -1,7 +1,7 @@
 //! Bytes of a source onto a writer, through one array.
 ghost use Rattle.std.specs.Prelude.{◌≡◌, ◌<◌, ◌≤◌, ◌+◌, ◌^◌, ℕ, List, Some, drop, length, take};
 ghost use Rattle.elf_image_source.specs.Source.{Remembers};
-ghost use Rattle.elf_image_copy.specs.Copying.{Copies, ReadsBehind, failed_read};
+ghost use Rattle.elf_image_copy.specs.Copying.{Copies, ReadsBehind, copy_failure};
 
 use crate::fault::CopyFault;
 use elf_image_source::{Source, read_exactly};
@@ -20,7 +20,7 @@ fn copy_block<S: Source, W: Write>(
     requires fits { at + length block.old < 2 ^ 64 }
     requires within { (b : List ℕ) → S.content source.old ≡ Some b → at + length block.old ≤ length b }
     ensures kept { S.content source.new ≡ S.content source.old }
-    ensures failures { Remembers (failed_read result) (S.failures source.old) (S.failures source.new) }
+    ensures failures { Remembers (copy_failure result) (S.failures source.old) (S.failures source.new) }
     ensures copies { Copies (S.content source.old) (W.contents writer.old) (W.contents writer.new) (length block.old)
         (λ b. take (length block.old) (drop at b)) result }
     ensures behind { ReadsBehind BLOCK at (length block.old) result }
@@ -40,7 +40,7 @@ pub(crate) fn copy_range<S: Source, W: Write>(
     requires fits { start + len < 2 ^ 64 }
     requires within { (b : List ℕ) → S.content source.old ≡ Some b → start + len ≤ length b }
     ensures kept { S.content source.new ≡ S.content source.old }
-    ensures failures { Remembers (failed_read result) (S.failures source.old) (S.failures source.new) }
+    ensures failures { Remembers (copy_failure result) (S.failures source.old) (S.failures source.new) }
     ensures copies { Copies (S.content source.old) (W.contents writer.old) (W.contents writer.new) len
         (λ b. take len (drop start b)) result }
     ensures behind { ReadsBehind BLOCK start len result }

@@ -22,11 +22,11 @@ use Rattle.elf_image_stream.specs.declared.fault.Fault.{Fault}
 use Rattle.elf_image_stream.specs.declared.fault.Fault.TheVariants.{Io, OutOfMemory, Rule}
 
 -- the offset of a failed read that is answered
-abbrev pub failed_read : {T : Type 0} → Result T Fault → Option ℕ
-failed_read (Ok t) = None
-failed_read (Err OutOfMemory) = None
-failed_read (Err (Io at)) = Some at
-failed_read (Err (Rule number at)) = None
+abbrev pub scan_failure : {T : Type 0} → Result T Fault → Option ℕ
+scan_failure (Ok t) = None
+scan_failure (Err OutOfMemory) = None
+scan_failure (Err (Io at)) = Some at
+scan_failure (Err (Rule number at)) = None
 
 -- of a source that tells its bytes b: why there is no answer. A rule is the first that they break
 abbrev pub Stops : List ℕ → Fault → Type 0

@@ -2,7 +2,7 @@
 ghost use Rattle.std.specs.Prelude.{◌≡◌, ◌≤◌, ◌+◌, ℕ, List, Some, IfOk, length};
 ghost use Rattle.elf_field.specs.Abi.{SHDR_SIZE};
 ghost use Rattle.elf_field.specs.Ehdr.{IsEhdr};
-ghost use Rattle.elf_image_outline.specs.Scanning.{KeepsHeadRules, Scans, failed_read};
+ghost use Rattle.elf_image_outline.specs.Scanning.{KeepsHeadRules, Scans, scan_failure};
 ghost use Rattle.elf_image_rules.specs.HeaderRules.{MAX_LEN};
 ghost use Rattle.elf_image_rules.specs.Tables.{header as header_in};
 ghost use Rattle.elf_image_source.specs.Source.{Remembers};
@@ -24,7 +24,7 @@ pub(crate) struct Head {
 /// The length and the header of a source that keeps rules 1 to 12; else the first of them that it breaks.
 pub(crate) fn scan_head<S: Source>(source: &mut S) -> Result<Head, Fault>
     ensures kept { S.content source.new ≡ S.content source.old }
-    ensures failures { Remembers (failed_read result) (S.failures source.old) (S.failures source.new) }
+    ensures failures { Remembers (scan_failure result) (S.failures source.old) (S.failures source.new) }
     ensures judged { IfOk result (λ head. KeepsHeadRules head.len head.header) }
     ensures room { IfOk result (λ head. head.header.e_shoff + SHDR_SIZE ≤ head.len) }
     ensures short { IfOk result (λ head. head.len ≤ MAX_LEN) }

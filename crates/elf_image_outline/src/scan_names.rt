@@ -1,7 +1,7 @@
 //! The ends of a source's section name string table (gABI chapter 4, String Table).
 ghost use Rattle.std.specs.Prelude.{◌≡◌, ◌≤◌, ◌<◌, ◌+◌, ◌-◌, ℕ, List, Some, IfOk, length, min};
 ghost use Rattle.elf_image_outline.specs.Image.{AreRecordsIn};
-ghost use Rattle.elf_image_outline.specs.Scanning.{HasTables, Scans, failed_read, names_extent};
+ghost use Rattle.elf_image_outline.specs.Scanning.{HasTables, Scans, names_extent, scan_failure};
 ghost use Rattle.elf_image_rules.specs.StringTable.{AreEnds};
 ghost use Rattle.elf_image_rules.specs.Tables.{names as names_in, section_header_of};
 ghost use Rattle.elf_image_source.specs.Source.{Reaches, Remembers};
@@ -32,7 +32,7 @@ pub(crate) fn scan_names<S: Source>(
 ) -> Result<TableEnds, Fault>
     requires there { Reaches (S.content source.old) len }
     ensures kept { S.content source.new ≡ S.content source.old }
-    ensures failures { Remembers (failed_read result) (S.failures source.old) (S.failures source.new) }
+    ensures failures { Remembers (scan_failure result) (S.failures source.old) (S.failures source.new) }
     ensures some { IfOk result (λ ends. (names : List ℕ) × AreEnds ends names) }
     ensures place { IfOk result (λ ends. 0 < ends.len →
         (section_header_of tables.now.sections.items tables.now.counts.name_table).sh_offset + ends.len ≤ len) }

@@ -5,7 +5,7 @@ ghost use Rattle.elf_field.specs.Abi.{SHDR_SIZE};
 ghost use Rattle.elf_field.specs.Ehdr.{IsEhdr};
 ghost use Rattle.elf_field.specs.Shdr.{IsShdr, shdr_at};
 ghost use Rattle.elf_image_outline.specs.Image.{AreRecordsIn};
-ghost use Rattle.elf_image_outline.specs.Scanning.{HasTables, KeepsHeadRules, Scans, failed_read};
+ghost use Rattle.elf_image_outline.specs.Scanning.{HasTables, KeepsHeadRules, Scans, scan_failure};
 ghost use Rattle.elf_image_rules.specs.HeaderRules.{MAX_LEN};
 ghost use Rattle.elf_image_rules.specs.Tables.{header as header_in, no_section_header, order_of, section_header_of, sections as sections_in};
 ghost use Rattle.elf_image_source.specs.Reads.{table_at};
@@ -36,7 +36,7 @@ fn read_first<S: Source>(source: &mut S, header: &Ehdr) -> Result<Shdr, Fault>
     requires room { header.now.e_shoff + SHDR_SIZE ≤ MAX_LEN }
     requires there { Reaches (S.content source.old) (header.now.e_shoff + SHDR_SIZE) }
     ensures kept { S.content source.new ≡ S.content source.old }
-    ensures failures { Remembers (failed_read result) (S.failures source.old) (S.failures source.new) }
+    ensures failures { Remembers (scan_failure result) (S.failures source.old) (S.failures source.new) }
     ensures valid { IfOk result IsShdr }
     ensures none { IfOk result (λ first. header.now.e_shoff ≡ 0 → first ≡ no_section_header) }
     ensures told { (b : List ℕ) → S.content source.old ≡ Some b →
@@ -63,7 +63,7 @@ fn read_sections<S: Source>(
     requires first { IsShdr first }
     requires none { count ≡ 0 → first ≡ no_section_header }
     ensures kept { S.content source.new ≡ S.content source.old }
-    ensures failures { Remembers (failed_read result) (S.failures source.old) (S.failures source.new) }
+    ensures failures { Remembers (scan_failure result) (S.failures source.old) (S.failures source.new) }
     ensures many { IfOk result (λ v. length v.items ≡ count) }
     ensures valid { IfOk result (λ v. AllByRecursion IsShdr v.items) }
     ensures first { IfOk result (λ v. section_header_of v.items 0 ≡ first) }
@@ -91,7 +91,7 @@ pub(crate) fn scan_tables<S: Source>(
     requires there { Reaches (S.content source.old) head.now.len }
     requires valid { IsEhdr head.now.header }
     ensures kept { S.content source.new ≡ S.content source.old }
-    ensures failures { Remembers (failed_read result) (S.failures source.old) (S.failures source.new) }
+    ensures failures { Remembers (scan_failure result) (S.failures source.old) (S.failures source.new) }
     ensures header { IfOk result (λ t. t.header ≡ head.now.header) }
     ensures tables { IfOk result (λ t. HasTables head.now.len t.header t.counts t.sections.items t.segments.items) }
     ensures told { (b : List ℕ) → S.content source.old ≡ Some b → head.now.len ≡ length b → head.now.header ≡ header_in b →

@@ -3,7 +3,7 @@ ghost use Rattle.std.specs.Prelude.{◌≡◌, ℕ, List, Some, IfOk};
 ghost use Rattle.elf_field.specs.Bytes.{IsBytes};
 ghost use Rattle.elf_image_outline.specs.Image.{IsImage};
 ghost use Rattle.elf_image_outline.specs.Outline.{IsOutlineOf, image_in};
-ghost use Rattle.elf_image_outline.specs.Scanning.{Scans, failed_read};
+ghost use Rattle.elf_image_outline.specs.Scanning.{Scans, scan_failure};
 ghost use Rattle.elf_image_source.specs.Source.{Remembers};
 
 use crate::judged::judged_parts;
@@ -20,12 +20,12 @@ use std::alloc::Global;
 ///
 /// [`Fault::Rule`] is the first of rules 1 to 33 that the bytes break, at the lowest offset where they break it. [`Fault::Io`] is the
 /// offset that a call was asked for which failed (0 for a failed `length`), or which gave no byte where the length says that there is one.
-/// After such a call nothing else is answered. [`Fault::OutOfMemory`] comes only where
-/// memory is refused, which is asked for from rule 22 on: for the two tables, and a list of the extents of the file. Sorting these takes
-/// n log n comparisons; all else is linear in the records.
+/// After such a call nothing else is answered. [`Fault::OutOfMemory`] comes only where memory is refused, which is asked for from rule 22
+/// on: for the two tables, and a list of the extents of the file. Sorting these takes n log n comparisons; all else is linear in the
+/// records.
 pub fn scan<S: Source>(alloc: Global, source: &mut S) -> Result<Outline, Fault>
     ensures kept { S.content source.new ≡ S.content source.old }
-    ensures failures { Remembers (failed_read result) (S.failures source.old) (S.failures source.new) }
+    ensures failures { Remembers (scan_failure result) (S.failures source.old) (S.failures source.new) }
     ensures told { (b : List ℕ) → S.content source.old ≡ Some b → IsBytes b →
         Scans b (λ outline. IsImage (image_in outline b) b) result }
     ensures of { (b : List ℕ) → S.content source.old ≡ Some b → IsBytes b → IfOk result (λ outline. IsOutlineOf outline b) }

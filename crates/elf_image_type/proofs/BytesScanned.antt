@@ -3,13 +3,13 @@ use Rattle.std.proofs.Common.{ℕ, List, Err, refl}
 use Rattle.elf_image_rules.specs.ImageRules.{KeepsRecordRules}
 use Rattle.elf_image_stream.specs.declared.fault.Fault.{Fault}
 use Rattle.elf_image_stream.specs.declared.fault.Fault.TheVariants.{Io, OutOfMemory, Rule}
-use Rattle.elf_image_outline.specs.Scanning.{Stops, failed_read}
+use Rattle.elf_image_outline.specs.Scanning.{Stops, scan_failure}
 use Rattle.elf_image_source.specs.Source.{Remembers}
 use Rattle.elf_image_source.specs.declared.failures.Failures.{Failures}
 use Rattle.elf_image_type.specs.Parsing.{IsParseFault}
 
 -- and no call of it fails
-pub stops_parse : (T : Type 0) (b : List ℕ) (f : Failures) (fault : Fault) → KeepsRecordRules b → Remembers (failed_read {T = T} (Err fault)) f f → Stops b fault → IsParseFault b fault
+pub stops_parse : (T : Type 0) (b : List ℕ) (f : Failures) (fault : Fault) → KeepsRecordRules b → Remembers (scan_failure {T = T} (Err fault)) f f → Stops b fault → IsParseFault b fault
 stops_parse T b f OutOfMemory kept remembers stops = kept
 stops_parse T b f (Io at) kept remembers stops = absurd (remembers.0 refl)
 stops_parse T b f (Rule number at) kept remembers stops = stops

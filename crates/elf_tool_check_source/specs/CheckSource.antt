@@ -35,11 +35,11 @@ IsSourceSaid content old new (Err (Write written)) = IsSaid (SourceSays content)
 IsSourceSaid content old new (Err OutOfMemory) = Keeps old new
 
 -- the offset of a failed read that is answered
-abbrev pub failed_read : {T : Type 0} → Result T ToolFault → Option ℕ
-failed_read (Ok t) = None
-failed_read (Err (Read at)) = Some at
-failed_read (Err (Write written)) = None
-failed_read (Err OutOfMemory) = None
+abbrev pub check_failure : {T : Type 0} → Result T ToolFault → Option ℕ
+check_failure (Ok t) = None
+check_failure (Err (Read at)) = Some at
+check_failure (Err (Write written)) = None
+check_failure (Err OutOfMemory) = None
 
 -- a call of `check_source` on a source
 abbrev pub IsSourceChecked : Call

@@ -4,7 +4,7 @@ ghost use Rattle.elf_field.specs.Bytes.{IsBytes};
 ghost use Rattle.elf_image_rules.specs.Broken.{fault_of};
 ghost use Rattle.elf_image_source.specs.Source.{Remembers};
 ghost use Rattle.elf_tool_check.specs.Check.{verdict_of};
-ghost use Rattle.elf_tool_check_source.specs.CheckSource.{IsScanStopped, IsScanned, IsSourceSaid, failed_read, line_of_scan};
+ghost use Rattle.elf_tool_check_source.specs.CheckSource.{IsScanStopped, IsScanned, IsSourceSaid, check_failure, line_of_scan};
 
 use elf_image_outline::{Outline, scan};
 use elf_image_rules::Broken;
@@ -28,7 +28,7 @@ pub fn check_source<S: Source, W: Write>(
     writer: &mut W,
 ) -> Result<Verdict, ToolFault>
     ensures kept { S.content source.new ≡ S.content source.old }
-    ensures failures { Remembers (failed_read result) (S.failures source.old) (S.failures source.new) }
+    ensures failures { Remembers (check_failure result) (S.failures source.old) (S.failures source.new) }
     ensures said { IsSourceSaid (S.content source.old) (W.contents writer.old) (W.contents writer.new) result }
 {
     let judged = judged_by_scan(alloc, source)?;
@@ -43,7 +43,7 @@ fn judged_by_scan<S: Source>(
     source: &mut S,
 ) -> Result<Result<Outline, Broken<u64>>, ToolFault>
     ensures kept { S.content source.new ≡ S.content source.old }
-    ensures failures { Remembers (failed_read result) (S.failures source.old) (S.failures source.new) }
+    ensures failures { Remembers (check_failure result) (S.failures source.old) (S.failures source.new) }
     ensures stopped { IfErr result IsScanStopped }
     ensures told { (b : List ℕ) → S.content source.old ≡ Some b → IsBytes b → IfOk result (IsScanned b) }
 {
