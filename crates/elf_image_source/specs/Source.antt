@@ -1,6 +1,6 @@
 -- What a source of bytes says of them: a list that no call changes, where it tells it, and its failures: how many calls failed, and what
 -- the last of them was asked for.
-use Rattle.std.specs.Prelude.{◌≡◌, ◌≢◌, ◌<◌, ◌≤◌, ◌+◌, ℕ, List, length, take, drop, Option, None, Some, Result, Ok, Err, IfOk, IfSome}
+use Rattle.std.specs.Prelude.{◌≡◌, ◌<◌, ◌≤◌, ◌+◌, ◌%◌, ◌^◌, ℕ, List, length, take, drop, Option, None, Some, Result, Ok, Err, IfOk, IfSome}
 use Rattle.elf_image_source.specs.declared.failures.Failures.{Failures}
 
 -- no call failed
@@ -9,7 +9,7 @@ none = record { count = 0; last = 0 }
 
 -- one call more failed, and was asked for this offset
 abbrev pub Fails : Failures → Failures → ℕ → Type 0
-Fails old new at = (new.count ≢ old.count) × (new.last ≡ at)
+Fails old new at = (new.count ≡ (old.count + 1) % 2 ^ 64) × (new.last ≡ at)
 
 -- a call failed that was asked for this offset, or none did
 abbrev pub Remembers : Option ℕ → Failures → Failures → Type 0

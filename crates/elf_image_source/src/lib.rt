@@ -8,6 +8,7 @@
 mod bytes;
 mod ends;
 mod failures;
+pub mod laws;
 mod records;
 mod seeking;
 mod source;

@@ -1,15 +1,14 @@
 -- What stops a scan of the bytes of a slice is why they are no image.
-use Rattle.std.proofs.Common.{ℕ, List, Err, refl}
+use Rattle.std.proofs.Common.{◌≡◌, ℕ, List, Err, arith}
 use Rattle.elf_image_rules.specs.ImageRules.{KeepsRecordRules}
 use Rattle.elf_image_stream.specs.declared.fault.Fault.{Fault}
 use Rattle.elf_image_stream.specs.declared.fault.Fault.TheVariants.{Io, OutOfMemory, Rule}
 use Rattle.elf_image_outline.specs.Scanning.{Stops, scan_failure}
-use Rattle.elf_image_source.specs.Source.{Remembers}
-use Rattle.elf_image_source.specs.declared.failures.Failures.{Failures}
+use Rattle.elf_image_source.specs.Source.{Remembers, none}
 use Rattle.elf_image_type.specs.Parsing.{IsParseFault}
 
 -- and no call of it fails
-pub stops_parse : (T : Type 0) (b : List ℕ) (f : Failures) (fault : Fault) → KeepsRecordRules b → Remembers (scan_failure {T = T} (Err fault)) f f → Stops b fault → IsParseFault b fault
-stops_parse T b f OutOfMemory kept remembers stops = kept
-stops_parse T b f (Io at) kept remembers stops = absurd (remembers.0 refl)
-stops_parse T b f (Rule number at) kept remembers stops = stops
+pub stops_parse : (T : Type 0) (b : List ℕ) (fault : Fault) → KeepsRecordRules b → Remembers (scan_failure {T = T} (Err fault)) none none → Stops b fault → IsParseFault b fault
+stops_parse T b OutOfMemory kept remembers stops = kept
+stops_parse T b (Io at) kept remembers stops = absurd (let same : 0 ≡ 1 = remembers.0 in omega arith)
+stops_parse T b (Rule number at) kept remembers stops = stops

@@ -1,6 +1,8 @@
 //! Whole reads.
 use crate::fakes::Cut;
-use elf_image_source::{Bytes, Failed, ReadFault, Seeking, Source, read_ends, read_exactly};
+use elf_image_source::{
+    Bytes, Failed, Failures, ReadFault, Seeking, Source, read_ends, read_exactly,
+};
 use std::io::Cursor;
 
 /// What a call that asks for three bytes at this offset comes to, and the bytes.
@@ -107,4 +109,28 @@ fn a_failed_call_is_told(rt: HostRuntime) {
     let mut buf = [0; 2];
     let answers = [source.read_at(0, &mut buf), source.read_at(0, &mut buf)];
     assert_eq!(rt; answers, [Err(Failed), Ok(2)]);
+}
+
+#[test]
+fn failures_are_counted_modulo_2_64(rt: HostRuntime) {
+    let most = Failures {
+        count: u64::MAX,
+        last: 7,
+    };
+    assert_eq!(rt; most.and_one_at(7), Failures { count: 0, last: 7 });
+}
+
+#[test]
+fn a_read_of_no_byte_is_a_failure_where_there_is_room(rt: HostRuntime) {
+    let one = Failures { count: 1, last: 9 };
+    let rows = [
+        (4, Ok(1), Failures::NONE),
+        (0, Ok(0), Failures::NONE),
+        (4, Ok(0), one),
+        (4, Err(Failed), one),
+        (0, Err(Failed), one),
+    ];
+    for (room, read, failures) in rows {
+        assert_eq!(rt; Failures::NONE.and_read(9, room, &read), failures);
+    }
 }

@@ -13,7 +13,7 @@ pub returns-in_err-outline-clause-err : goal.returns-in_err-outline-clause-err
 returns-in_err-outline-clause-err c =
     let b = c.args.bytes.now in
     let are : IsBytes b = λ i. omega (arith, c.type_inv.bytes i) in
-    stopped (IsParseFault b) _ _ (stops_parse OutlineValue b _ _ c.in_ok-judge_records.ensures.kept c.in_err-outline.ensures.failures (c.in_err-outline.ensures.told b refl are)) c.from_residual-in_err-outline.ensures.1
+    stopped (IsParseFault b) _ _ (stops_parse OutlineValue b _ c.in_ok-judge_records.ensures.kept c.in_err-outline.ensures.failures (c.in_err-outline.ensures.told b refl are)) c.from_residual-in_err-outline.ensures.1
 
 pub new-requires : goal.new-requires
 new-requires c =
