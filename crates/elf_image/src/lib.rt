@@ -4,7 +4,7 @@
 //! they break, at its lowest offset in the file; [`parse`] makes an [`Image`] of bytes that break none, whose accessors tell the records,
 //! names, contents and parts and whose edits keep it an image; and [`write`] writes it. [`scan`] answers the same of a [`Source`] that is
 //! read at any place, and keeps an [`Outline`]: the records and parts, without the contents, by which [`copy_image`] writes the file with
-//! the edits of the outline. The entry of a file that some reader gives is set so:
+//! the edits of the outline. A source of your own keeps its [`Failures`]. The entry of a file that some reader gives is set so:
 //!
 //! ```
 //! let mut bytes = Vec::new(alloc);
@@ -18,6 +18,6 @@
 pub use elf_image_copy::{CopyFault, copy_image};
 pub use elf_image_outline::{NoSection, Outline, Owner, Part, ReplaceFault, scan};
 pub use elf_image_rules::{rules, verdict};
-pub use elf_image_source::{Bytes, Failed, Seeking, Source};
+pub use elf_image_source::{Bytes, Failed, Failures, Seeking, Source};
 pub use elf_image_stream::{Fault, WriteFault, read_to_end, resume};
 pub use elf_image_type::{Image, parse, write};

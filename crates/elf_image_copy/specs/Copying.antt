@@ -26,7 +26,7 @@ abbrev pub Copies : Option (List ℕ) → Option (List ℕ) → Option (List ℕ
 Copies content old new len bytes (Ok u) = CopiedOut content old new len bytes
 Copies content old new len bytes (Err fault) = (bytes_out fault < len) × CopiedOut content old new (bytes_out fault) (λ b. take (bytes_out fault) (bytes b))
 
--- the offset of a failed read that is answered
+-- the offset of a failed read that is answered; None of any other answer
 abbrev pub copy_failure : Result (Unit {0}) CopyFault → Option ℕ
 copy_failure (Ok u) = None
 copy_failure (Err (Write written)) = None

@@ -1,6 +1,6 @@
 //! Bytes of a source onto a writer, through one array.
 ghost use Rattle.std.specs.Prelude.{◌≡◌, ◌<◌, ◌≤◌, ◌+◌, ◌^◌, ℕ, List, Some, drop, length, take};
-ghost use Rattle.elf_image_source.specs.Source.{Remembers};
+ghost use Rattle.elf_image_source.specs.Source.{Reaches, Remembers};
 ghost use Rattle.elf_image_copy.specs.Copying.{Copies, ReadsBehind, copy_failure};
 
 use crate::fault::CopyFault;
@@ -18,7 +18,7 @@ fn copy_block<S: Source, W: Write>(
 ) -> Result<(), CopyFault>
     requires small { length block.old ≤ BLOCK }
     requires fits { at + length block.old < 2 ^ 64 }
-    requires within { (b : List ℕ) → S.content source.old ≡ Some b → at + length block.old ≤ length b }
+    requires within { Reaches (S.content source.old) (at + length block.old) }
     ensures kept { S.content source.new ≡ S.content source.old }
     ensures failures { Remembers (copy_failure result) (S.failures source.old) (S.failures source.new) }
     ensures copies { Copies (S.content source.old) (W.contents writer.old) (W.contents writer.new) (length block.old)
@@ -38,7 +38,7 @@ pub(crate) fn copy_range<S: Source, W: Write>(
     len: u64,
 ) -> Result<(), CopyFault>
     requires fits { start + len < 2 ^ 64 }
-    requires within { (b : List ℕ) → S.content source.old ≡ Some b → start + len ≤ length b }
+    requires within { Reaches (S.content source.old) (start + len) }
     ensures kept { S.content source.new ≡ S.content source.old }
     ensures failures { Remembers (copy_failure result) (S.failures source.old) (S.failures source.new) }
     ensures copies { Copies (S.content source.old) (W.contents writer.old) (W.contents writer.new) len

@@ -21,14 +21,15 @@ use Rattle.elf_image_outline.specs.declared.part.Part.{Part}
 use Rattle.elf_image_stream.specs.declared.fault.Fault.{Fault}
 use Rattle.elf_image_stream.specs.declared.fault.Fault.TheVariants.{Io, OutOfMemory, Rule}
 
--- the offset of a failed read that is answered
+-- the offset of a failed read that is answered; None of any other answer
 abbrev pub scan_failure : {T : Type 0} → Result T Fault → Option ℕ
 scan_failure (Ok t) = None
 scan_failure (Err OutOfMemory) = None
 scan_failure (Err (Io at)) = Some at
 scan_failure (Err (Rule number at)) = None
 
--- of a source that tells its bytes b: why there is no answer. A rule is the first that they break
+-- of a source that tells its bytes b: why there is no answer. A rule that is answered is the first that they break; want of memory and a
+-- failed read may come of any bytes
 abbrev pub Stops : List ℕ → Fault → Type 0
 Stops b OutOfMemory = Unit {0}
 Stops b (Io at) = Unit {0}

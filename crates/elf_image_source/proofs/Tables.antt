@@ -7,7 +7,7 @@ use Rattle.std.proofs.lemmas.List.{drop-drop, drop-take, take-take}
 use Rattle.elf_field.specs.declared.order.Order.{Order}
 use Rattle.elf_field.specs.Record.{IsRecord}
 use Rattle.elf_image_source.specs.Reads.{Extends, IsRecordsFault, table_at}
-use Rattle.elf_image_source.specs.Source.{EndsBefore, Fails}
+use Rattle.elf_image_source.specs.Source.{EndsBy, Fails}
 use Rattle.elf_image_source.specs.declared.failures.Failures.{Failures}
 use Rattle.elf_image_source.specs.declared.records.RecordsFault.{RecordsFault}
 use Rattle.elf_image_source.specs.declared.records.RecordsFault.TheVariants.{Io, OutOfMemory}
@@ -61,11 +61,10 @@ table_on {size = size} {at = at} laws o b block start table from several old now
         ∙ ap (λ (s : List ℕ). at o s (size * i)) (sym is)
 
 -- what failed in a later part of some bytes failed in them
-failed_later : (content before : Option (List ℕ)) (old start new : Failures) (low high x : ℕ) → before ≡ content → start ≡ old → low ≤ high →
-    Fails start new x ⊎ ((new ≡ start) × EndsBefore before low) → Fails old new x ⊎ ((new ≡ old) × EndsBefore content high)
-failed_later content before old start new low high x same left within (inl fails) = inl (subst (λ (f : Failures). Fails f new x) left fails)
-failed_later content before old start new low high x same left within (inr (still, (b, told, short))) =
-    inr (still ∙ left, (b, sym same ∙ told, omega arith))
+failed_later : (content before : Option (List ℕ)) (old start new : Failures) (x : ℕ) → before ≡ content → start ≡ old →
+    Fails start new x ⊎ ((new ≡ start) × EndsBy before x) → Fails old new x ⊎ ((new ≡ old) × EndsBy content x)
+failed_later content before old start new x same left (inl fails) = inl (subst (λ (f : Failures). Fails f new x) left fails)
+failed_later content before old start new x same left (inr (still, (b, told, short))) = inr (still ∙ left, (b, sym same ∙ told, short))
 
 -- a fault of a later part of a table is one of the table
 pub fault_later : (content before : Option (List ℕ)) (old start new : Failures) (at n from m : ℕ) (fault : RecordsFault) →
@@ -74,5 +73,5 @@ fault_later content before old start new at n from m OutOfMemory same left low h
 fault_later content before old start new at n from m (Io x) same left low high (above, below, fails) = (
   omega arith,
   omega arith,
-  failed_later content before old start new (from + m) (at + n) x same left high fails,
+  failed_later content before old start new x same left fails,
 )

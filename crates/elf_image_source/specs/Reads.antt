@@ -6,17 +6,17 @@ use Rattle.elf_image_rules.specs.declared.string_table.TableEnds.{TableEnds}
 use Rattle.elf_image_rules.specs.StringTable.{AreEnds}
 use Rattle.elf_image_stream.specs.declared.fault.Fault.{Fault}
 use Rattle.elf_image_stream.specs.declared.fault.Fault.TheVariants.{Io as FailedAt, OutOfMemory as NoMemory}
-use Rattle.elf_image_source.specs.Source.{EndsBefore, Fails}
+use Rattle.elf_image_source.specs.Source.{EndsBy, Fails}
 use Rattle.elf_image_source.specs.declared.failures.Failures.{Failures}
 use Rattle.elf_image_source.specs.declared.whole.ReadFault.{ReadFault}
 use Rattle.elf_image_source.specs.declared.records.RecordsFault.{RecordsFault}
 use Rattle.elf_image_source.specs.declared.records.RecordsFault.TheVariants.{Io, OutOfMemory}
 
 -- a read of n bytes from an offset on failed at one of them: a call failed that was asked for this one; or none failed, and the source
--- tells that its bytes end before all of these
+-- tells that no byte stands there
 abbrev pub HasFailed : Option (List ℕ) → Failures → Failures → ℕ → ℕ → ℕ → Type 0
 HasFailed content old new at n failed_at =
-    (at ≤ failed_at) × (failed_at < at + n) × (Fails old new failed_at ⊎ ((new ≡ old) × EndsBefore content (at + n)))
+    (at ≤ failed_at) × (failed_at < at + n) × (Fails old new failed_at ⊎ ((new ≡ old) × EndsBy content failed_at))
 
 -- a buffer is filled with the bytes from an offset on, and no call failed; or a read failed
 abbrev pub Reads : Option (List ℕ) → Failures → Failures → ℕ → List ℕ → Result (Unit {0}) ReadFault → Type 0

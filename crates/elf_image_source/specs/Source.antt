@@ -4,8 +4,8 @@ use Rattle.std.specs.Prelude.{◌≡◌, ◌<◌, ◌≤◌, ◌+◌, ◌%◌, �
 use Rattle.elf_image_source.specs.declared.failures.Failures.{Failures}
 
 -- no call failed
-abbrev pub none : Failures
-none = record { count = 0; last = 0 }
+abbrev pub no_failures : Failures
+no_failures = record { count = 0; last = 0 }
 
 -- one call more failed, and was asked for this offset
 abbrev pub Fails : Failures → Failures → ℕ → Type 0
@@ -34,9 +34,9 @@ RemembersRead content at room old new (Err e) = Fails old new at
 abbrev pub SaysLength : {E : Type 0} → Option (List ℕ) → Result ℕ E → Type 0
 SaysLength content result = IfOk result (λ len. IfSome content (λ b. len ≡ length b))
 
--- the source tells bytes, which end before this offset
-abbrev pub EndsBefore : Option (List ℕ) → ℕ → Type 0
-EndsBefore content end = (b : List ℕ) × (content ≡ Some b) × (length b < end)
+-- the source tells its bytes, and none stands at this offset
+abbrev pub EndsBy : Option (List ℕ) → ℕ → Type 0
+EndsBy content at = (b : List ℕ) × (content ≡ Some b) × (length b ≤ at)
 
 -- where the source tells its bytes, they reach to this offset
 abbrev pub Reaches : Option (List ℕ) → ℕ → Type 0

@@ -9,11 +9,11 @@ pub struct Bytes<'a>(pub &'a [u8]);
 
 impl<'a> Source for Bytes<'a> {
     ghost use Rattle.std.specs.Prelude.{Some};
-    ghost use Rattle.elf_image_source.specs.Source.{none};
+    ghost use Rattle.elf_image_source.specs.Source.{no_failures};
 
     ghost content = { λ s. Some s.0.now };
 
-    ghost failures = { λ _. none };
+    ghost failures = { λ _. no_failures };
 
     fn length(&mut self) -> Result<u64, Failed> {
         Ok(self.0.len() as u64)

@@ -1,12 +1,13 @@
 //! What seeks and reads, as an open file, as a source.
 ghost use Rattle.std.specs.Prelude.{◌≡◌, ◌≤◌, length, IfOk};
-ghost use Rattle.elf_image_source.specs.Source.{none};
+ghost use Rattle.elf_image_source.specs.Source.{no_failures};
 
 use crate::failures::Failures;
 use crate::source::{Failed, Source};
 use std::io::{Read, Seek, SeekFrom};
 
-/// Seeks to each offset and reads there. It does not tell its bytes. A seek that fails counts as a failed call, an interruption too.
+/// Seeks to each offset and reads there. It does not tell its bytes. A seek that fails counts as a failed call, an interruption too, and so
+/// does a read that gives no byte though it has room for some.
 #[derive(Debug, Drop)]
 pub struct Seeking<F> {
     inner: F,
@@ -16,7 +17,7 @@ pub struct Seeking<F> {
 impl<F> Seeking<F> {
     /// A source over this file, no call of which has failed.
     pub fn new(inner: F) -> Seeking<F>
-        ensures { result.failures ≡ none }
+        ensures { result.failures ≡ no_failures }
     {
         Seeking {
             inner,

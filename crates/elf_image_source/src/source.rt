@@ -9,7 +9,8 @@ pub struct Failed;
 /// Bytes that are read at any place.
 ///
 /// A source remembers its calls that failed, and tells its bytes or doesn't. Of one that tells them no call changes them. A file's source
-/// does not tell: a file may change while it is read.
+/// does not tell: a file may change while it is read. One that does not tell keeps [`Failures`](crate::Failures): `and_one_at(0)` behind
+/// a length that failed, and `and_read` behind each read.
 pub trait Source {
     ghost use Rattle.std.specs.Prelude.{ℕ, List, None, Option};
     ghost use Rattle.elf_image_source.specs.declared.failures.Failures.{Failures};

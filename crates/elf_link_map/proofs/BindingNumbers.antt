@@ -4,14 +4,13 @@ use Rattle.std.specs.Prelude.{None, Option, MatchOption}
 use Rattle.elf_field.specs.Abi.{STB_LOCAL}
 use Rattle.elf_object_type.specs.Object.{ObjectValue, binding}
 use Rattle.elf_extent.specs.Least.{Never}
-use Rattle.elf_link_files.specs.declared.options.Options.{Options}
 use Rattle.elf_link_files.specs.Files.{object_at, symbol_in}
 use Rattle.elf_link_files.specs.Listing.{site}
 use Rattle.elf_link_names.specs.Binds.{entries}
 use Rattle.elf_link_names.specs.NameNumbers.{AreNameNumbers}
 use Rattle.elf_link_map.specs.declared.bindings.Binding.{Binding}
 use Rattle.elf_link_map.specs.BindingNumbers.{AreBindingNumbers}
-use Rattle.elf_link_map.specs.LinkMap.{IsBinding, IsLinkMap, LinkMapValue, bound_in, with_options}
+use Rattle.elf_link_map.specs.LinkMap.{IsBinding, IsSomeLinkMap, LinkMapValue, bound_in}
 use Rattle.elf_link_map.specs.Naming.{AreBindingPositions}
 use Rattle.elf_link_map.proofs.Naming.{position_found}
 
@@ -27,8 +26,7 @@ numbers_bound fs m position rows are at = record {
 }
 
 -- the name of a symbol that is not local stands in the link map
-pub entry_bound : (fs : List ObjectValue) (m : LinkMapValue) (f i : ℕ) →
-    ((opt : Options) × (base page entry : ℕ) × IsLinkMap opt fs (with_options m base page entry)) → f < length fs →
+pub entry_bound : (fs : List ObjectValue) (m : LinkMapValue) (f i : ℕ) → IsSomeLinkMap fs m → f < length fs →
     i < length (object_at fs f).symbols → binding (symbol_in fs f i) ≢ STB_LOCAL → bound_in m.bindings (symbol_in fs f i).name ≡ None → ⊥
 entry_bound fs m f i (opt, base, page, entry, (l, plan, is)) f_in i_in not_local none =
     let name = (symbol_in fs f i).name in

@@ -98,3 +98,7 @@ with_options m base page entry = record m { base = base; page = page; entry = en
 -- the link map of some objects and options
 abbrev pub IsLinkMap : Options → List ObjectValue → LinkMapValue → Type 0
 IsLinkMap opt fs m = (l : LinkPlan) × IsLinkPlan opt fs l × IsMapOf opt fs l m
+
+-- the link map of some objects, whatever its base, page and entry are
+abbrev pub IsSomeLinkMap : List ObjectValue → LinkMapValue → Type 0
+IsSomeLinkMap fs m = (opt : Options) × (base page entry : ℕ) × IsLinkMap opt fs (with_options m base page entry)

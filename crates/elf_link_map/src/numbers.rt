@@ -1,9 +1,8 @@
 //! The number of each symbol's name: the position of its binding in a link map (gABI chapter 4, Symbol Table).
-ghost use Rattle.std.specs.Prelude.{◌≡◌, ◌<◌, ℕ, IfOk, length, map as map_list};
-ghost use Rattle.elf_link_files.specs.declared.options.Options.{Options};
+ghost use Rattle.std.specs.Prelude.{◌≡◌, ◌<◌, IfOk, length, map as map_list};
 ghost use Rattle.elf_link_files.specs.Files.{object_at};
 ghost use Rattle.elf_link_map.specs.BindingNumbers.{AreBindingNumbers, IsBindingNumber, IsBindingRow};
-ghost use Rattle.elf_link_map.specs.LinkMap.{IsLinkMap, with_options};
+ghost use Rattle.elf_link_map.specs.LinkMap.{IsSomeLinkMap};
 
 use crate::link_map::LinkMap;
 use elf_field::abi::*;
@@ -22,7 +21,7 @@ pub struct NumberedMap<'a> {
 
 /// Where the name of the symbol at `index` of a file stands; 0 for a local symbol.
 fn name_number(objects: &[Object<'_>], map: &LinkMap<'_>, file: usize, index: usize) -> usize
-    requires map { (opt : Options) × (base page entry : ℕ) × IsLinkMap opt objects.now (with_options map.now base page entry) }
+    requires map { IsSomeLinkMap objects.now map.now }
     requires file { file < length objects.now }
     requires index { index < length (object_at objects.now file).symbols }
     ensures { IsBindingNumber objects.now map.now file index result }
@@ -44,7 +43,7 @@ fn file_numbers(
     map: &LinkMap<'_>,
     file: usize,
 ) -> Result<Vec<usize>, AllocError>
-    requires map { (opt : Options) × (base page entry : ℕ) × IsLinkMap opt objects.now (with_options map.now base page entry) }
+    requires map { IsSomeLinkMap objects.now map.now }
     requires file { file < length objects.now }
     ensures { IfOk result (λ row. IsBindingRow objects.now map.now file (length (object_at objects.now file).symbols) row.items) }
 {
@@ -66,7 +65,7 @@ pub fn name_numbers(
     objects: &[Object<'_>],
     map: &LinkMap<'_>,
 ) -> Result<Vec<Vec<usize>>, AllocError>
-    requires { (opt : Options) × (base page entry : ℕ) × IsLinkMap opt objects.now (with_options map.now base page entry) }
+    requires { IsSomeLinkMap objects.now map.now }
     ensures { IfOk result (λ rows. AreBindingNumbers objects.now map.now (map_list (λ row. row.items) rows.items)) }
 {
     let mut rows = Vec::with_capacity(alloc, objects.len())?;

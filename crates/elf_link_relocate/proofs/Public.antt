@@ -1,5 +1,4 @@
--- What the proofs of the crates above may cite: the laws of src/laws.rt, each under its name there, and that a map of some objects meets
--- their premise.
+-- What the proofs of the crates above may cite: the laws of src/laws.rt, each under its name there.
 pub use Rattle.elf_link_relocate.proofs.AnyOptions.{any_options, without_entry}
 pub use Rattle.elf_link_relocate.proofs.MemoryLaws.{field_in_content, memory_bytes, memory_in, memory_there, memory_zero, some_byte}
 pub use Rattle.elf_link_relocate.proofs.OneByte.{one_byte}

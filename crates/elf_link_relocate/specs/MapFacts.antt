@@ -11,8 +11,8 @@ use Rattle.elf_link_map.specs.LinkMap.{IsLinkMap, LinkMapValue, with_options}
 abbrev pub IsMapOfSome : List ObjectValue → LinkMapValue → Type 0
 IsMapOfSome fs m = (opt : Options) × IsLinkMap opt fs m × FirstOfLink opt fs None
 
--- the same, whatever its base, page and entry are: with some in place of them it is such a map. So nothing is asked of an entry symbol, nor
--- rule 10: options may name none
+-- the same but for its base, page and entry: with some in their place it is such a map. Neither rule 10 nor the entry's value is asked: by
+-- the law `without_entry`
 abbrev pub IsMapButOptions : List ObjectValue → LinkMapValue → Type 0
 IsMapButOptions fs m = (base page entry : ℕ) × IsMapOfSome fs (with_options m base page entry)
 

@@ -1,18 +1,24 @@
-//! What the layers above may know of relocated bytes. A map of the files is one whatever its base, page and entry are.
+//! What the layers above may know of relocated bytes. What is said of a map of the files holds whatever its base, page and entry are
+//! (`IsMapButOptions`).
 ghost use Rattle.std.specs.Prelude.{◌≡◌, ◌<◌, ℕ, List, None, length};
 ghost use Rattle.elf_link_files.specs.declared.options.Options.{Options};
 ghost use Rattle.elf_link_files.specs.Rows.{FirstAmong};
 ghost use Rattle.elf_link_map.specs.LinkFaults.{FirstOfLink};
 ghost use Rattle.elf_link_map.specs.LinkMap.{IsLinkMap, LinkMapValue, with_options};
 ghost use Rattle.elf_link_relocate.specs.Linked.{IsLinked, LinkedValue};
-ghost use Rattle.elf_link_relocate.specs.MapFacts.{IsMapButOptions};
+ghost use Rattle.elf_link_relocate.specs.MapFacts.{IsMapButOptions, IsMapOfSome};
 ghost use Rattle.elf_link_relocate.specs.Memory.{HasContentAt, HasFieldAt, HaveBytes, IsInMemory, IsInNoMember, IsInOutputAt, IsMemory};
 ghost use Rattle.elf_link_relocate.specs.RelocationRules.{applied_entry_rules};
 ghost use Rattle.elf_object_type.specs.Object.{ObjectValue};
 ghost use Rattle.elf_link_field.specs.declared.rule.RelocRule.{RelocRule};
 
-/// A map of the files is the map for options that name no entry symbol too, with the entry 0, and there none of rules 1 to 11 stands: so
-/// neither rule 10 nor the value of an entry symbol is asked of it.
+/// A map of the files for some options is one whatever its base, page and entry are.
+pub fn any_options()
+    ensures { (fs : List ObjectValue) (m : LinkMapValue) → IsMapOfSome fs m → IsMapButOptions fs m }
+{}
+
+/// A map of the files is, with the base and page of some options that name no entry symbol, and the entry 0, in place of its own, the map
+/// for these, and none of rules 1 to 11 stands for them: so neither rule 10 nor the value of an entry symbol is asked of it.
 pub fn without_entry()
     ensures { (fs : List ObjectValue) (m : LinkMapValue) → IsMapButOptions fs m →
         (opt : Options) × (opt.entry ≡ None) × IsLinkMap opt fs (with_options m opt.base opt.page 0) × FirstOfLink opt fs None }
@@ -50,8 +56,8 @@ pub fn memory_there()
         (x : ℕ) → IsInMemory m x → (v : ℕ) × IsMemory fs m rules x v }
 {}
 
-/// In a map of the files, where none of rules 1 to 16 stands, the byte at an address in an output is 0 where none of its members has content:
-/// in gaps between members, and where these take memory without bits.
+/// In a map of the files, where none of rules 1 to 16 stands, the byte at an address in an output is 0 where none of its members has
+/// content: in gaps between members, and where these take memory without bits.
 pub fn memory_zero()
     ensures { (fs : List ObjectValue) (m : LinkMapValue) (rules : List RelocRule) → IsMapButOptions fs m → FirstAmong (applied_entry_rules fs m rules) None →
         (x k : ℕ) → k < length m.outputs → IsInOutputAt m k x → IsInNoMember fs m k x → IsMemory fs m rules x 0 }

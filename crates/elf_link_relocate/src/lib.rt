@@ -30,8 +30,8 @@ mod sharing;
 mod values;
 
 pub use laws::{
-    field_in_content, memory_bytes, memory_in, memory_there, memory_zero, one_byte, some_byte,
-    without_entry,
+    any_options, field_in_content, memory_bytes, memory_in, memory_there, memory_zero, one_byte,
+    some_byte, without_entry,
 };
 pub use linked::{Identity, Linked};
 pub use relocating::{relocate, relocate_numbered};

@@ -33,8 +33,8 @@ pub fn push_decimal(text: &mut Vec<u8>, number: u64) -> Result<(), AllocError>
     ensures { OnOk result (text.new.items ≡ text.old.items ++ blank ∷ decimal number) }
 {
     let mut word = [0; MOST_IN_WORD];
-    let digits = put_digits(number, 10, &mut word);
-    let start = put_before(b" ", digits, &mut word);
+    let first = put_digits(number, 10, &mut word);
+    let start = put_before(b" ", first, &mut word);
     text.extend_from_slice(&word[start..])
 }
 
@@ -43,11 +43,11 @@ pub fn push_signed(text: &mut Vec<u8>, number: i64) -> Result<(), AllocError>
     ensures { OnOk result (text.new.items ≡ text.old.items ++ blank ∷ signed_decimal number) }
 {
     let mut word = [0; MOST_IN_WORD];
-    let digits = put_digits(number.unsigned_abs(), 10, &mut word);
+    let first = put_digits(number.unsigned_abs(), 10, &mut word);
     let start = if number < 0 {
-        put_before(b" -", digits, &mut word)
+        put_before(b" -", first, &mut word)
     } else {
-        put_before(b" ", digits, &mut word)
+        put_before(b" ", first, &mut word)
     };
     text.extend_from_slice(&word[start..])
 }
@@ -57,8 +57,8 @@ pub fn push_hexadecimal(text: &mut Vec<u8>, number: u64) -> Result<(), AllocErro
     ensures { OnOk result (text.new.items ≡ text.old.items ++ blank ∷ hexadecimal number) }
 {
     let mut word = [0; MOST_IN_WORD];
-    let digits = put_digits(number, 16, &mut word);
-    let start = put_before(b" 0x", digits, &mut word);
+    let first = put_digits(number, 16, &mut word);
+    let start = put_before(b" 0x", first, &mut word);
     text.extend_from_slice(&word[start..])
 }
 
@@ -67,8 +67,8 @@ pub fn push_wide_hexadecimal(text: &mut Vec<u8>, number: u128) -> Result<(), All
     ensures { OnOk result (text.new.items ≡ text.old.items ++ blank ∷ hexadecimal number) }
 {
     let mut word = [0; MOST_IN_WORD];
-    let digits = put_wide_digits(number, &mut word);
-    let start = put_before(b" 0x", digits, &mut word);
+    let first = put_wide_digits(number, &mut word);
+    let start = put_before(b" 0x", first, &mut word);
     text.extend_from_slice(&word[start..])
 }
 

@@ -18,9 +18,9 @@ pub mod extent {
 /// Images.
 pub mod image {
     pub use elf::image::{
-        Bytes, CopyFault, Failed, Fault, Image, NoSection, Outline, Owner, Part, ReplaceFault,
-        Seeking, Source, WriteFault, copy_image, parse, read_to_end, resume, rules, scan, verdict,
-        write,
+        Bytes, CopyFault, Failed, Failures, Fault, Image, NoSection, Outline, Owner, Part,
+        ReplaceFault, Seeking, Source, WriteFault, copy_image, parse, read_to_end, resume, rules,
+        scan, verdict, write,
     };
 }
 

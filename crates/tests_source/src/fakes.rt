@@ -32,6 +32,7 @@ impl<'a> Cut<'a> {
 }
 
 impl Cut<'_> {
+    /// What the next call of `read_at` answers.
     fn answer(&mut self, at: u64, buf: &mut [u8]) -> Result<usize, Failed>
         ensures bound { IfOk result (λ k. k ≤ length buf.new) }
         ensures same { length buf.new ≡ length buf.old }

@@ -15,8 +15,8 @@ pub(crate) const MOST_IN_WORD: usize = MOST_BEFORE + 64;
 pub(crate) fn put_digits(number: u64, base: u64, out: &mut [u8; MOST_IN_WORD]) -> usize
     requires least { 2 ≤ base }
     requires most { base ≤ 16 }
-    ensures room { 3 ≤ result }
-    ensures inside { result ≤ 67 }
+    ensures room { MOST_BEFORE ≤ result }
+    ensures inside { result ≤ MOST_IN_WORD }
     ensures digits { drop result out.new ≡ digits base false number }
 {
     let mut start = MOST_IN_WORD;
@@ -45,8 +45,8 @@ fn glyph(digit: u64) -> u8
 
 /// Puts the hexadecimal digits of a number of up to 128 bits at the end of `out`, and answers where they start.
 pub(super) fn put_wide_digits(number: u128, out: &mut [u8; MOST_IN_WORD]) -> usize
-    ensures room { 3 ≤ result }
-    ensures inside { result ≤ 67 }
+    ensures room { MOST_BEFORE ≤ result }
+    ensures inside { result ≤ MOST_IN_WORD }
     ensures digits { drop result out.new ≡ digits 16 false number }
 {
     let mut start = MOST_IN_WORD;
@@ -66,8 +66,8 @@ pub(super) fn put_wide_digits(number: u128, out: &mut [u8; MOST_IN_WORD]) -> usi
 #[inline(always)]
 pub(super) fn put_before(bytes: &[u8], start: usize, out: &mut [u8; MOST_IN_WORD]) -> usize
     requires room { length bytes.now ≤ start }
-    requires inside { start ≤ 67 }
-    ensures inside { result ≤ 67 }
+    requires inside { start ≤ MOST_IN_WORD }
+    ensures inside { result ≤ MOST_IN_WORD }
     ensures bytes { drop result out.new ≡ bytes.now ++ drop start out.old }
 {
     let from = start - bytes.len();
