@@ -17,12 +17,16 @@ segment_flags flags =
 abbrev pub output_load : ℕ → OutputValue → Load
 output_load k o = record { position = k; address = o.address; size = o.length; flags = segment_flags o.flags; no_bits = o.no_bits }
 
+-- so many zeros at an address, which is writable
+abbrev pub zeros_load : ℕ → ℕ → ℕ → Load
+zeros_load k address size = record { position = k; address = address; size = size; flags = PF_R + PF_W; no_bits = true }
+
 -- the commons, behind so many outputs: from where the first one begins to where the last one ends; without commons nothing
 abbrev pub commons_load : ℕ → List CommonValue → Load
 commons_load k cs =
     let first = common_at cs 0 in
     let last = common_at cs (length cs - 1) in
-    record { position = k; address = first.address; size = last.address + last.size - first.address; flags = PF_R + PF_W; no_bits = true }
+    zeros_load k first.address (last.address + last.size - first.address)
 
 abbrev pub load_at : LinkMapValue → ℕ → Load
 load_at m k = if nat_lt k (length m.outputs) then output_load k (output_at m k) else commons_load k m.commons

@@ -28,7 +28,6 @@ pub fn write_exec<W: Write>(
     ensures { IsExecWritten linked.now (W.contents writer.old) (W.contents writer.new) result }
 {
     let placed = PlacedExec::new(alloc, linked)?;
-    placed.is_placed();
     match send_exec(writer, &placed) {
         Ok(_) => Ok(()),
         Err(fault) => Err(ExecFault::Io {

@@ -2,7 +2,7 @@
 ghost use Rattle.std.specs.Prelude.{◌≡◌, IfOk, map as map_list};
 ghost use Rattle.elf_link_outputs.specs.PlacedView.{common_value, output_value};
 ghost use Rattle.elf_exec.specs.ExecLaid.{file_size};
-ghost use Rattle.elf_exec.specs.Loads.{EndInTime, commons_load, load_at, loads, output_load, segment_flags};
+ghost use Rattle.elf_exec.specs.Loads.{EndInTime, commons_load, load_at, loads, output_load, segment_flags, zeros_load};
 
 use elf_field::abi::*;
 use elf_link_map::{Common, LinkMap, Output};
@@ -68,33 +68,30 @@ fn segment_flags(flags: u64) -> u32
     PF_R + write + execute
 }
 
+/// The segment from where the first common begins to the end of the last one.
 fn commons_load(position: usize, commons: &[Common<'_>]) -> Load
     requires { EndInTime (map_list common_value commons.now) }
     ensures { result ≡ commons_load position (map_list common_value commons.now) }
 {
-    let (address, size) = commons_stretch(commons);
+    match (commons.first(), commons.last()) {
+        (Some(first), Some(last)) => {
+            let size = (last.address + last.size).saturating_sub(first.address);
+            zeros_load(position, first.address, size)
+        }
+        _ => zeros_load(position, 0, 0),
+    }
+}
+
+/// The segment of so many zeros at an address.
+fn zeros_load(position: usize, address: u64, size: u64) -> Load
+    ensures { result ≡ zeros_load position address size }
+{
     Load {
         position,
         address,
         size,
         flags: PF_R + PF_W,
         no_bits: true,
-    }
-}
-
-/// Where the first common begins, and how many bytes it is from there to the end of the last one.
-fn commons_stretch(commons: &[Common<'_>]) -> (u64, u64)
-    requires { EndInTime (map_list common_value commons.now) }
-    ensures { let load = commons_load 0 (map_list common_value commons.now) in result ≡ (load.address, load.size) }
-{
-    match (commons.first(), commons.last()) {
-        (Some(first), Some(last)) => {
-            (
-                first.address,
-                (last.address + last.size).saturating_sub(first.address),
-            )
-        }
-        _ => (0, 0),
     }
 }
 

@@ -1,14 +1,13 @@
 //! The bytes of the segments, each at its place in the file, with zeros between.
 ghost use Rattle.std.specs.Prelude.{◌≡◌, ◌<◌, length};
 ghost use Rattle.elf_image_sending.specs.Sending.{Sends};
-ghost use Rattle.elf_exec.specs.ExecLaid.{bytes_from};
 ghost use Rattle.elf_exec.specs.Loads.{loads};
 ghost use Rattle.elf_exec.specs.Pieces.{load_content, load_padding, loads_text};
 
 use crate::load::{Load, file_size};
 use crate::member_pieces::send_output;
 use crate::placed_exec::PlacedExec;
-use elf_field::abi::*;
+use crate::placing::table_end;
 use elf_image_sending::{Pieces, send_all, send_zeros};
 use elf_image_stream::WriteFault;
 use elf_link_relocate::Linked;
@@ -76,16 +75,9 @@ fn load_padding(placed: &PlacedExec<'_, '_, '_>, k: usize) -> u64
 {
     let place = placed.place(k);
     if k == 0 {
-        return place.saturating_sub(bytes_from(placed));
+        return place.saturating_sub(table_end(placed.count()));
     }
     place
         .saturating_sub(placed.place(k - 1))
         .saturating_sub(file_size(placed.load(k - 1)))
-}
-
-/// Where the program header table ends.
-pub(crate) fn bytes_from(placed: &PlacedExec<'_, '_, '_>) -> u64
-    ensures { result ≡ bytes_from placed.now.linked.map }
-{
-    EHDR_SIZE + PHDR_SIZE * placed.count() as u64
 }

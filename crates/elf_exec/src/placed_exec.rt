@@ -39,6 +39,7 @@ impl<'l, 'm, 'a> PlacedExec<'l, 'm, 'a> {
     ) -> Result<PlacedExec<'l, 'm, 'a>, ExecFault>
         requires { IsReadyLink linked.now }
         ensures ok { IfOk result (λ placed. placed.linked ≡ linked.now) }
+        ensures placed { IfOk result IsPlacedExec }
         ensures err { IfErr result (IsPlacingFault linked.now) }
     {
         let loads = loads(alloc, linked.map())?;
@@ -53,15 +54,9 @@ impl<'l, 'm, 'a> PlacedExec<'l, 'm, 'a> {
         })
     }
 
-    /// Promises that the segments are at their places. It does nothing.
-    pub(crate) fn is_placed(&self)
-        ensures { IsPlacedExec self.now }
-    {
-        let _ = &self.places;
-    }
-
     pub(crate) fn linked(&self) -> &'l Linked<'m, 'a>
-        ensures { result.now ≡ self.now.linked }
+        ensures value { result.now ≡ self.now.linked }
+        ensures placed { IsPlacedExec self.now }
     {
         self.linked
     }
@@ -70,8 +65,8 @@ impl<'l, 'm, 'a> PlacedExec<'l, 'm, 'a> {
     pub(crate) fn count(&self) -> usize
         ensures value { result ≡ length (loads self.now.linked.map) }
         ensures few { result < PN_XNUM }
+        ensures placed { IsPlacedExec self.now }
     {
-        self.is_placed();
         self.loads.len()
     }
 
@@ -87,7 +82,6 @@ impl<'l, 'm, 'a> PlacedExec<'l, 'm, 'a> {
         requires { k < length (loads self.now.linked.map) }
         ensures { result ≡ slice_index self.now.places k }
     {
-        self.is_placed();
         self.places[k]
     }
 }

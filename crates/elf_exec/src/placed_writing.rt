@@ -6,8 +6,9 @@ ghost use Rattle.elf_field.specs.Abi.{EHDR_SIZE};
 ghost use Rattle.elf_exec.specs.Pieces.{loads_text, placed_header, placed_table};
 
 use crate::exec_header::exec_header;
-use crate::load_pieces::{bytes_from, send_loads};
+use crate::load_pieces::send_loads;
 use crate::placed_exec::PlacedExec;
+use crate::placing::table_end;
 use crate::program_headers::ProgramHeaders;
 use elf_field::abi::*;
 use elf_image_stream::WriteFault;
@@ -51,9 +52,9 @@ fn send_behind_header<W: Write>(
 fn send_table<W: Write>(writer: &mut W, placed: &PlacedExec<'_, '_, '_>) -> Result<u64, WriteFault>
     ensures { Sends (W.contents writer.old) (W.contents writer.new) EHDR_SIZE (placed_table placed.now) result }
 {
-    placed.is_placed();
+    let end = table_end(placed.count());
     match write_table(writer, placed) {
-        Ok(()) => Ok(bytes_from(placed)),
+        Ok(()) => Ok(end),
         Err(fault) => Err(fault.after(EHDR_SIZE)),
     }
 }
@@ -62,7 +63,6 @@ fn send_table<W: Write>(writer: &mut W, placed: &PlacedExec<'_, '_, '_>) -> Resu
 fn write_table<W: Write>(writer: &mut W, placed: &PlacedExec<'_, '_, '_>) -> Result<(), WriteFault>
     ensures { Writes (W.contents writer.old) (W.contents writer.new) (placed_table placed.now) result }
 {
-    placed.is_placed();
     let order = placed.linked().identity().order;
     write_entries(writer, order, &ProgramHeaders { placed })
 }

@@ -1,7 +1,7 @@
 //! Where the bytes of the segments stand in an executable: each at the least place that its alignment allows.
-ghost use Rattle.std.specs.Prelude.{◌≡◌, ◌<◌, ◌≤◌, IfErr, IfOk, length, map as map_list};
+ghost use Rattle.std.specs.Prelude.{◌≡◌, ◌+◌, ◌*◌, ◌<◌, ◌≤◌, IfErr, IfOk, length, map as map_list};
 ghost use Rattle.elf_extent.specs.Place.{EndsFit, Least};
-ghost use Rattle.elf_field.specs.Abi.{PN_XNUM};
+ghost use Rattle.elf_field.specs.Abi.{EHDR_SIZE, PHDR_SIZE, PN_XNUM};
 ghost use Rattle.elf_image_rules.specs.HeaderRules.{MAX_LEN};
 ghost use Rattle.elf_exec.specs.ExecLaid.{bytes_from, load_part, load_parts};
 ghost use Rattle.elf_exec.specs.ExecWriting.{IsReadyLink};
@@ -30,8 +30,16 @@ pub(crate) fn place_loads(
     ensures err { IfErr result (IsPlacingFault linked.now) }
 {
     let parts = load_parts(alloc, linked.map().page(), loads)?;
-    let from = EHDR_SIZE + PHDR_SIZE * loads.len() as u64;
+    let from = table_end(loads.len());
     place_parts(alloc, &parts, from)
+}
+
+/// Where the program header table of so many segments ends.
+pub(crate) fn table_end(count: usize) -> u64
+    requires { count < PN_XNUM }
+    ensures { result ≡ EHDR_SIZE + PHDR_SIZE * count }
+{
+    EHDR_SIZE + PHDR_SIZE * count as u64
 }
 
 /// The bytes of each segment in the file, as parts (size, alignment).

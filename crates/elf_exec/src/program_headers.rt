@@ -25,12 +25,10 @@ impl<'p, 'l, 'm, 'a> Entries for ProgramHeaders<'p, 'l, 'm, 'a> {
     ghost fit = { λ _. Unit {0} };
 
     fn count(&self) -> usize {
-        self.placed.is_placed();
         self.placed.count()
     }
 
     fn entry(&self, index: usize) -> Phdr {
-        self.placed.is_placed();
         let page = self.placed.linked().map().page();
         program_header(page, self.placed.load(index), self.placed.place(index))
     }

@@ -56,7 +56,7 @@ impl Record for Dyn {
     }
 
     fn fits(&self) {
-        fields_fit(*self);
+        prove_fields(*self);
     }
 }
 
@@ -79,7 +79,7 @@ fn write<O: ByteOrder>(v: &Dyn, b: &mut [u8])
 }
 
 // A value's fields are within their widths because their types are.
-fn fields_fit(v: Dyn)
+fn prove_fields(v: Dyn)
     ensures { IsDyn v }
 {
     let _ = v;

@@ -85,7 +85,7 @@ impl Record for Ehdr {
     }
 
     fn fits(&self) {
-        fields_fit(*self);
+        prove_fields(*self);
     }
 }
 
@@ -149,7 +149,7 @@ fn write<O: ByteOrder>(v: &Ehdr, b: &mut [u8])
 }
 
 // A value's fields are within their widths because their types are.
-fn fields_fit(v: Ehdr)
+fn prove_fields(v: Ehdr)
     ensures { IsEhdr v }
 {
     let _ = v;

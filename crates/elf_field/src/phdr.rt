@@ -71,7 +71,7 @@ impl Record for Phdr {
     }
 
     fn fits(&self) {
-        fields_fit(*self);
+        prove_fields(*self);
     }
 }
 
@@ -106,7 +106,7 @@ fn write<O: ByteOrder>(v: &Phdr, b: &mut [u8])
 }
 
 // A value's fields are within their widths because their types are.
-fn fields_fit(v: Phdr)
+fn prove_fields(v: Phdr)
     ensures { IsPhdr v }
 {
     let _ = v;

@@ -74,7 +74,7 @@ impl Record for Rel {
     }
 
     fn fits(&self) {
-        fields_fit(*self);
+        prove_fields(*self);
     }
 }
 
@@ -97,7 +97,7 @@ fn write<O: ByteOrder>(v: &Rel, b: &mut [u8])
 }
 
 // A value's fields are within their widths because their types are.
-fn fields_fit(v: Rel)
+fn prove_fields(v: Rel)
     ensures { IsRel v }
 {
     let _ = v;

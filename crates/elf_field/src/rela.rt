@@ -76,7 +76,7 @@ impl Record for Rela {
     }
 
     fn fits(&self) {
-        fields_fit(*self);
+        prove_fields(*self);
     }
 }
 
@@ -101,7 +101,7 @@ fn write<O: ByteOrder>(v: &Rela, b: &mut [u8])
 }
 
 // A value's fields are within their widths because their types are.
-fn fields_fit(v: Rela)
+fn prove_fields(v: Rela)
     ensures { IsRela v }
 {
     let _ = v;

@@ -75,7 +75,7 @@ impl Record for Shdr {
     }
 
     fn fits(&self) {
-        fields_fit(*self);
+        prove_fields(*self);
     }
 }
 
@@ -114,7 +114,7 @@ fn write<O: ByteOrder>(v: &Shdr, b: &mut [u8])
 }
 
 // A value's fields are within their widths because their types are.
-fn fields_fit(v: Shdr)
+fn prove_fields(v: Shdr)
     ensures { IsShdr v }
 {
     let _ = v;

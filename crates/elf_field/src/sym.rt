@@ -82,7 +82,7 @@ impl Record for Sym {
     }
 
     fn fits(&self) {
-        fields_fit(*self);
+        prove_fields(*self);
     }
 }
 
@@ -113,7 +113,7 @@ fn write<O: ByteOrder>(v: &Sym, b: &mut [u8])
 }
 
 // A value's fields are within their widths because their types are.
-fn fields_fit(v: Sym)
+fn prove_fields(v: Sym)
     ensures { IsSym v }
 {
     let _ = v;

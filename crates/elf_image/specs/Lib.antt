@@ -18,7 +18,7 @@ pub use Rattle.elf_image_outline.specs.Image
 pub use Rattle.elf_image_outline.specs.Outline
 pub use Rattle.elf_image_stream.specs.Output
 pub use Rattle.elf_image_type.specs.Loads
-pub use Rattle.elf_image_type.specs.Parsing
+pub use Rattle.elf_image_outline.specs.Parsing
 pub use Rattle.elf_image_outline.specs.Parts
 pub use Rattle.elf_image_outline.specs.Scanning
 pub use Rattle.elf_image_source.specs.Source

@@ -64,7 +64,7 @@ pub fn copy_image<S: Source, W: Write>(
     ensures failures { Remembers (copy_failure result) (S.failures source.old) (S.failures source.new) }
     ensures behind { ReadsBehind BLOCK 0 outline.now.len result }
 {
-    outline.stands();
+    outline.prove_stands();
     for part in outline.parts() {
         match copy_part(outline, *part, source, writer) {
             Ok(()) => {}

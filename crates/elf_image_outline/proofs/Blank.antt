@@ -22,11 +22,13 @@ use Rattle.elf_image_rules.specs.declared.tables.Counts.{Counts}
 use Rattle.elf_image_rules.proofs.Public.{rules_kept, rules_unbroken}
 use Rattle.elf_image_outline.specs.declared.part.Part.{Part}
 use Rattle.elf_image_outline.specs.Edits.{flagged}
-use Rattle.elf_image_outline.specs.Image.{IsSoundImage, gap_len, part_piece, piece_of, value_extents, value_names}
-use Rattle.elf_image_outline.specs.Outline.{IsOutlineOf, IsSoundOutline, OutlineValue, blank_image, contents_in, image_of, outline_value, placed_part}
+use Rattle.elf_image_outline.specs.Image.{ImageValue, IsSoundImage, gap_len, part_piece, piece_of, value_extents, value_names}
+use Rattle.elf_image_outline.specs.Outline.{IsOutlineOf, IsSoundOutline, OutlineValue, blank_image, contents_in, image_in, image_of, outline_value, placed_part}
 use Rattle.elf_image_outline.specs.Scanning.{HasTables, KeepTables, names_extent}
 use Rattle.elf_image_outline.proofs.Edited.{IsBytes-zeros, map-set_same, sound-with_flags}
+use Rattle.elf_image_outline.proofs.Named.{content_len, names_there}
 use Rattle.elf_image_outline.proofs.NamesRead.{unnamed}
+use Rattle.elf_image_outline.proofs.Parsed.{pieces_placed}
 use Rattle.elf_image_outline.proofs.PartsOfImage.{at_mapped}
 use Rattle.elf_image_outline.proofs.TableRules.{Finds, extents_inside}
 
@@ -42,10 +44,6 @@ lengths_blank (s ∷ ss) = ap₂ (λ (n : ℕ) (ns : List ℕ). n ∷ ns) (lengt
 bytes_blank : (ss : List Shdr) → AllByRecursion IsBytes (map zeros_of ss)
 bytes_blank [] = tt
 bytes_blank (s ∷ ss) = (IsBytes-zeros (content_extent s).len, bytes_blank ss)
-
-pieces_blank : (ps : List Part) → map piece_of (map (placed_part true []) ps) ≡ map part_piece ps
-pieces_blank [] = refl
-pieces_blank (p ∷ ps) = ap (λ (qs : List Piece). part_piece p ∷ qs) (pieces_blank ps)
 
 gaps_blank : (ps : List Part) → AllByRecursion (λ p. IsBytes p.gap × (length p.gap ≡ gap_len p.part)) (map (placed_part true []) ps)
 gaps_blank [] = tt
@@ -83,7 +81,7 @@ names_inside : (len : ℕ) (h : Ehdr) (c : Counts) (ss : List Shdr) (gs : List P
     0 < (names_extent ss c.name_table).len → (names_extent ss c.name_table).start + (names_extent ss c.name_table).len ≤ len
 names_inside len h c ss gs names has kept =
     let k = c.name_table in
-    let all : AreWithin (value_extents h ss gs) len = extents_inside len h c ss gs names (value_extents h ss gs) has refl kept in
+    let all : AreWithin (value_extents h ss gs) len = extents_inside len h c ss gs names has kept in
     let Inside : Extent → Type 0 = λ e. 0 < e.len → e.start + e.len ≤ len in
     elim (cases_eq k 0) [
       | inl none ↦ rw none (λ some. absurd (omega arith))
@@ -143,9 +141,47 @@ blank_sound len h c ss gs names ps has keep long =
       segment_count = has.segment_count ∙ ap (λ (k : Counts). k.segments) has.counts;
       lengths = lengths_blank ss;
       bytes = bytes_blank ss;
-      accounts = subst (λ (qs : List Piece). Accounts (value_extents h ss gs) len 0 qs) (sym (pieces_blank ps)) keep.accounts;
+      accounts = subst (λ (qs : List Piece). Accounts (value_extents h ss gs) len 0 qs) (sym (pieces_placed true [] ps)) keep.accounts;
       gaps = gaps_blank ps;
       clean = subst (λ (zs : List ℕ). FirstIn (image_rules len h (section_header_of ss) (program_header_of gs) zs) None) (sym (names_blank len h c ss gs has)) kept;
+    }
+
+-- ---- an outline of bytes
+
+-- the blank names are as many zeros as there are names
+names_sized : (v : ImageValue) → IsSoundImage v →
+    value_names v.header v.sections (map zeros_of v.sections) ≡ replicate (length (value_names v.header v.sections v.contents)) 0
+names_sized v sound =
+    let k = name_table v.header (section_header_of v.sections 0) in
+    elim (cases_eq k 0) [
+      | inl none ↦ rw none refl
+      | inr some ↦
+          (let below = names_there v sound some in
+          rw (ne_eqb k 0 some) (get_or-map zeros_of v.sections k no_section_header [] below
+          ∙ ap (λ (n : ℕ). replicate n 0) (sym (content_len v k sound below))))
+    ]
+
+-- what is an image with the contents of some bytes is one with zeros in their place
+pub blank_of : (o : OutlineValue) (b : List ℕ) → IsOutlineOf o b → IsSoundOutline o
+blank_of o b sound =
+    let v = image_in o b in
+    let names = value_names o.header o.sections v.contents in
+    let s = section_header_of o.sections in
+    let g = program_header_of o.segments in
+    let kept = rules_unbroken o.len o.header s g (replicate (length names) 0)
+    (renamed o.len (length names) o.header s g names refl (rules_kept o.len o.header s g names sound.clean)) in
+    record {
+      header = sound.header;
+      section_headers = sound.section_headers;
+      program_headers = sound.program_headers;
+      section_count = sound.section_count;
+      segment_count = sound.segment_count;
+      lengths = lengths_blank o.sections;
+      bytes = bytes_blank o.sections;
+      accounts = subst (λ (qs : List Piece). Accounts (value_extents o.header o.sections o.segments) o.len 0 qs)
+          (pieces_placed o.zeroed b o.parts ∙ sym (pieces_placed true [] o.parts)) sound.accounts;
+      gaps = gaps_blank o.parts;
+      clean = subst (λ (zs : List ℕ). FirstIn (image_rules o.len o.header s g zs) None) (sym (names_sized v sound)) kept;
     }
 
 -- ---- flags that are set: what is made of each section header by its content's extent stays

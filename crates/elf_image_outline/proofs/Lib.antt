@@ -13,3 +13,4 @@ pub mod NamesRead
 pub mod ScanRules
 pub mod TableRules
 pub mod Blank
+pub mod JudgedFile

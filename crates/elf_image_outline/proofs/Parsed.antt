@@ -1,6 +1,6 @@
 -- From the tables, contents and parts that were read of a file that breaks no rule to its image.
 use Rattle.std.proofs.Common.{◌≡◌, ℕ, None, List, [], ◌∷◌, length, map, refl, sym, ap, subst}
-use Rattle.std.specs.Prelude.{false}
+use Rattle.std.specs.Prelude.{Bool, false}
 use Rattle.std.specs.List.{AllByRecursion}
 use Rattle.elf_field.specs.declared.ehdr.Ehdr.{Ehdr}
 use Rattle.elf_field.specs.declared.shdr.Shdr.{Shdr}
@@ -39,9 +39,10 @@ tables_within b h ss gs records clean =
     let cs = map (λ s. bytes_in b (content_extent s)) ss in
     within_of (made b h ss gs cs []) (counted_by_reads (made b h ss gs cs []) b (made_reads b h ss gs cs [] records refl) clean)
 
-pieces_of : (b : List ℕ) (ps : List Part) → map piece_of (map (placed_part false b) ps) ≡ map part_piece ps
-pieces_of b [] = refl
-pieces_of b (p ∷ ps) = ap (λ (qs : List _). part_piece p ∷ qs) (pieces_of b ps)
+-- a gap's bytes leave its piece as it is
+pub pieces_placed : (zeroed : Bool) (b : List ℕ) (ps : List Part) → map piece_of (map (placed_part zeroed b) ps) ≡ map part_piece ps
+pieces_placed zeroed b [] = refl
+pieces_placed zeroed b (p ∷ ps) = ap (λ (qs : List _). part_piece p ∷ qs) (pieces_placed zeroed b ps)
 
 gaps_of : (b : List ℕ) (ps : List Part) → AllByRecursion (λ (p : PlacedPart). p.gap ≡ gap_in b p.part) (map (placed_part false b) ps)
 gaps_of b [] = tt
@@ -58,7 +59,7 @@ made_is_image b h ss gs cs ps are records contents accounts clean = record {
     within = records_within (made b h ss gs cs ps) b
         (counted_by_reads (made b h ss gs cs ps) b (made_reads b h ss gs cs ps records contents) clean) refl;
     contents = contents;
-    accounts = subst (Accounts (value_extents h ss gs) (length b) 0) (sym (pieces_of b ps)) accounts;
+    accounts = subst (Accounts (value_extents h ss gs) (length b) 0) (sym (pieces_placed false b ps)) accounts;
     gaps = gaps_of b ps;
   };
   clean = clean;

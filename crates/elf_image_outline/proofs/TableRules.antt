@@ -1,6 +1,6 @@
 -- The rules of tables in memory: the runs that are judged are all rules of an image that has such tables.
 use Rattle.std.proofs.Common.{◌≡◌, ℕ, None, Some, Option, Result, Ok, Err, List, refl, sym, ap, subst, ◌∙◌, inl}
-use Rattle.std.specs.Prelude.{IfErr}
+use Rattle.std.specs.Prelude.{IfErr, IfOk, OnOk}
 use Rattle.std.specs.Result.{IsErrAnd}
 use Rattle.elf_field.specs.declared.ehdr.Ehdr.{Ehdr}
 use Rattle.elf_field.specs.declared.phdr.Phdr.{Phdr}
@@ -18,9 +18,9 @@ use Rattle.elf_image_rules.specs.Tables.{program_header_count, program_header_of
 use Rattle.elf_image_rules.specs.declared.tables.Counts.{Counts}
 use Rattle.elf_image_rules.proofs.Public.{FirstIn-later, FirstIn-sooner, extents_within, sound_tables}
 use Rattle.elf_image_stream.specs.declared.fault.Fault.{Fault}
-use Rattle.elf_image_stream.specs.declared.fault.Fault.TheVariants.{Rule}
+use Rattle.elf_image_stream.specs.declared.fault.Fault.TheVariants.{Io, OutOfMemory, Rule}
 use Rattle.elf_image_outline.specs.Image.{value_extents}
-use Rattle.elf_image_outline.specs.Scanning.{BreaksTables, HasTables}
+use Rattle.elf_image_outline.specs.Scanning.{BreaksTables, HasTables, IsSharedFault}
 use Rattle.elf_image_outline.proofs.Standing.{extents_are}
 
 -- the run of rules 1 to 32 that found this
@@ -62,25 +62,34 @@ tables_extents len h c ss gs has =
     sym (extents_are h ss gs _ _ (has.section_count ∙ ap (λ (k : Counts). k.sections) has.counts) (has.segment_count ∙ ap (λ (k : Counts). k.segments) has.counts))
 
 -- the lowest byte that two of the extents hold is what all rules find where rules 1 to 32 are kept
-pub byte_shared : (len : ℕ) (h : Ehdr) (c : Counts) (ss : List Shdr) (gs : List Phdr) (names : List ℕ) (es : List Extent) (x : ℕ) → HasTables len h c ss gs →
-    es ≡ value_extents h ss gs → Finds len h ss gs names None → IsLowest (Doubly es) (Some x) → BreaksTables len h ss gs names (Rule 33 x)
+pub sharing_broken : (len : ℕ) (h : Ehdr) (c : Counts) (ss : List Shdr) (gs : List Phdr) (names : List ℕ) (fault : Fault) → HasTables len h c ss gs →
+    Finds len h ss gs names None → IsSharedFault (value_extents h ss gs) fault → BreaksTables len h ss gs names fault
 unfolding image_rules
-byte_shared len h c ss gs names es x has same kept lowest =
-    FirstIn-later (record_rules len h (section_header_of ss) (program_header_of gs) names) _ (Some (33, x)) kept
-    (inl (refl, subst (λ (xs : List Extent). IsLowest (Doubly xs) (Some x)) (same ∙ tables_extents len h c ss gs has) lowest))
+sharing_broken len h c ss gs names OutOfMemory has kept shared = kept
+sharing_broken len h c ss gs names (Io at) has kept shared = absurd shared
+sharing_broken len h c ss gs names (Rule number at) has kept (is, lowest) =
+    subst (λ (n : ℕ). BreaksTables len h ss gs names (Rule n at)) (sym is)
+    (FirstIn-later (record_rules len h (section_header_of ss) (program_header_of gs) names) _ (Some (33, at)) kept
+    (inl (refl, subst (λ (xs : List Extent). IsLowest (Doubly xs) (Some at)) (tables_extents len h c ss gs has) lowest)))
 
 -- and where there is none no rule is broken
-pub none_shared : (len : ℕ) (h : Ehdr) (c : Counts) (ss : List Shdr) (gs : List Phdr) (names : List ℕ) (es : List Extent) → HasTables len h c ss gs →
-    es ≡ value_extents h ss gs → Finds len h ss gs names None → IsLowest (Doubly es) None →
+pub none_shared : (len : ℕ) (h : Ehdr) (c : Counts) (ss : List Shdr) (gs : List Phdr) (names : List ℕ) → HasTables len h c ss gs →
+    Finds len h ss gs names None → IsLowest (Doubly (value_extents h ss gs)) None →
     FirstIn (image_rules len h (section_header_of ss) (program_header_of gs) names) None
 unfolding image_rules
-none_shared len h c ss gs names es has same kept lowest =
+none_shared len h c ss gs names has kept lowest =
     FirstIn-later (record_rules len h (section_header_of ss) (program_header_of gs) names) _ None kept
-    (subst (λ (xs : List Extent). IsLowest (Doubly xs) None) (same ∙ tables_extents len h c ss gs has) lowest, tt)
+    (subst (λ (xs : List Extent). IsLowest (Doubly xs) None) (tables_extents len h c ss gs has) lowest, tt)
 
 -- the extents lie in the file where rules 1 to 32 are kept
-pub extents_inside : (len : ℕ) (h : Ehdr) (c : Counts) (ss : List Shdr) (gs : List Phdr) (names : List ℕ) (es : List Extent) → HasTables len h c ss gs →
-    es ≡ value_extents h ss gs → Finds len h ss gs names None → AreWithin es len
-extents_inside len h c ss gs names es has same kept =
-    subst (λ (xs : List Extent). AreWithin xs len) (sym (same ∙ tables_extents len h c ss gs has))
+pub extents_inside : (len : ℕ) (h : Ehdr) (c : Counts) (ss : List Shdr) (gs : List Phdr) (names : List ℕ) → HasTables len h c ss gs →
+    Finds len h ss gs names None → AreWithin (value_extents h ss gs) len
+extents_inside len h c ss gs names has kept =
+    subst (λ (xs : List Extent). AreWithin xs len) (sym (tables_extents len h c ss gs has))
     (extents_within len h (section_header_of ss) (sound_tables len h (section_header_of ss) (program_header_of gs) names kept))
+
+-- a call that ended well, with what that says by itself and of its value
+pub ended_well : {T E : Type 0} (r : Result T E) (Alone : Type 0) (Value Says : T → Type 0) → OnOk r Alone → IfOk r Value → ((t : T) → Alone → Value t → Says t) →
+    IfOk r Says
+ended_well (Ok t) Alone Value Says alone value says = says t alone value
+ended_well (Err e) Alone Value Says alone value says = tt

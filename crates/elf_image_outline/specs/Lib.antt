@@ -5,3 +5,4 @@ pub mod OutlineView
 pub mod Edits
 pub mod Parts
 pub mod Scanning
+pub mod Parsing

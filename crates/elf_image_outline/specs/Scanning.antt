@@ -8,6 +8,8 @@ use Rattle.elf_field.specs.declared.ehdr.Ehdr.{Ehdr}
 use Rattle.elf_field.specs.declared.phdr.Phdr.{Phdr}
 use Rattle.elf_field.specs.declared.shdr.Shdr.{Shdr}
 use Rattle.elf_extent.specs.Account.{Accounts}
+use Rattle.elf_extent.specs.Extent.{Doubly}
+use Rattle.elf_extent.specs.Least.{IsLowest}
 use Rattle.elf_extent.specs.declared.extent.Extent.{Extent}
 use Rattle.elf_image_rules.specs.HeaderRules.{MAX_LEN, header_rules, ident_rules, length_rules}
 use Rattle.elf_image_rules.specs.ImageRules.{IsFault, image_rules, record_rules}
@@ -78,3 +80,9 @@ BreaksTables len h ss gs names (Rule number at) = FirstIn (image_rules len h (se
 pub record KeepTables (len : ℕ) (h : Ehdr) (ss : List Shdr) (gs : List Phdr) (names : List ℕ) (ps : List Part) : Type 0 where
   pub clean : FirstIn (image_rules len h (section_header_of ss) (program_header_of gs) names) None
   pub accounts : Accounts (value_extents h ss gs) len 0 (map part_piece ps)
+
+-- of these extents: rule 33 with the lowest byte that two of them hold; or out of memory
+abbrev pub IsSharedFault : List Extent → Fault → Type 0
+IsSharedFault es OutOfMemory = Unit {0}
+IsSharedFault es (Io at) = ⊥
+IsSharedFault es (Rule number at) = (number ≡ 33) × IsLowest (Doubly es) (Some at)

@@ -1,18 +1,49 @@
 //! What each byte of a file belongs to, by its records.
-ghost use Rattle.std.specs.Prelude.{◌≡◌, ◌*◌, ◌<◌, ◌^◌, IfOk, length, map};
+ghost use Rattle.std.specs.Prelude.{◌≡◌, ◌*◌, ◌<◌, ◌^◌, None, IfErr, IfOk, OnOk, length, map};
 ghost use Rattle.elf_extent.specs.Account.{Accounts};
-ghost use Rattle.elf_extent.specs.Extent.{AreDisjoint, AreWithin};
+ghost use Rattle.elf_extent.specs.Extent.{AreDisjoint, AreWithin, Doubly};
+ghost use Rattle.elf_extent.specs.Least.{IsLowest};
 ghost use Rattle.elf_image_outline.specs.Image.{owner_index, part_piece, value_extents};
+ghost use Rattle.elf_image_outline.specs.Scanning.{IsSharedFault};
 
 use crate::part::{Owner, Part};
 use elf_extent::{Extent, OutOfMemory, Piece, SortedExtents};
 use elf_field::abi::{EHDR_SIZE, PHDR_SIZE, SHDR_SIZE};
 use elf_field::{Ehdr, Phdr, Shdr};
 use elf_image_rules::content::extent_of_content;
+use elf_image_rules::rules::SHARED_BYTE;
+use elf_image_stream::Fault;
 use std::alloc::{AllocError, Global};
 
+/// The parts of a file of `len` bytes with this header and these tables, where no byte lies in two of them: else rule 33, at the lowest such
+/// byte. The extents are sorted once for both.
+pub(crate) fn unshared_parts(
+    alloc: Global,
+    len: u64,
+    header: &Ehdr,
+    sections: &[Shdr],
+    segments: &[Phdr],
+) -> Result<Vec<Part>, Fault>
+    requires sections { SHDR_SIZE * length sections.now < 2 ^ 64 }
+    requires segments { PHDR_SIZE * length segments.now < 2 ^ 64 }
+    requires within { AreWithin (value_extents header.now sections.now segments.now) len }
+    ensures unshared { OnOk result (IsLowest (Doubly (value_extents header.now sections.now segments.now)) None) }
+    ensures parts { IfOk result (λ parts. Accounts (value_extents header.now sections.now segments.now) len 0 (map part_piece parts.items)) }
+    ensures err { IfErr result (IsSharedFault (value_extents header.now sections.now segments.now)) }
+{
+    let extents = extents_of(alloc, header, sections, segments)?;
+    let sorted = SortedExtents::new(alloc, &extents)?;
+    match sorted.first_double() {
+        Some(at) => Err(Fault::Rule {
+            rule: SHARED_BYTE,
+            at,
+        }),
+        None => Ok(account_parts(alloc, &sorted, len)?),
+    }
+}
+
 /// The parts of a file of `len` bytes with these extents.
-pub(crate) fn account_parts(
+fn account_parts(
     alloc: Global,
     sorted: &SortedExtents<'_>,
     len: u64,
@@ -28,7 +59,7 @@ pub(crate) fn account_parts(
 }
 
 /// The extents of the header, the two tables and the contents.
-pub(crate) fn extents_of(
+fn extents_of(
     alloc: Global,
     header: &Ehdr,
     entries: &[Shdr],

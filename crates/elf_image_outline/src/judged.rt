@@ -5,11 +5,9 @@ ghost use Rattle.elf_image_outline.specs.Scanning.{BreaksTables, HasTables, Keep
 ghost use Rattle.elf_image_rules.specs.StringTable.{AreEnds};
 ghost use Rattle.elf_image_rules.specs.Tables.{section_header_of};
 
-use crate::extents::{account_parts, extents_of};
+use crate::extents::unshared_parts;
 use crate::part::Part;
 use crate::scan_tables::Tables;
-use elf_extent::SortedExtents;
-use elf_image_rules::rules::SHARED_BYTE;
 use elf_image_rules::{TableEnds, TableRecords, judge_entries};
 use elf_image_stream::Fault;
 use std::alloc::Global;
@@ -38,13 +36,11 @@ pub(crate) fn judged_parts(
         segments: &tables.segments,
     };
     judge_entries(&records, &tables.header, tables.counts, ends, len)?;
-    let extents = extents_of(alloc, &tables.header, &tables.sections, &tables.segments)?;
-    let sorted = SortedExtents::new(alloc, &extents)?;
-    match sorted.first_double() {
-        Some(at) => Err(Fault::Rule {
-            rule: SHARED_BYTE,
-            at,
-        }),
-        None => Ok(account_parts(alloc, &sorted, len)?),
-    }
+    unshared_parts(
+        alloc,
+        len,
+        &tables.header,
+        &tables.sections,
+        &tables.segments,
+    )
 }

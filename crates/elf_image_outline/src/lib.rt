@@ -8,6 +8,7 @@
 mod edit_fault;
 mod extents;
 mod judged;
+mod judged_file;
 mod outline;
 mod part;
 mod scan_head;
@@ -16,6 +17,7 @@ mod scan_tables;
 mod scanning;
 
 pub use edit_fault::{NoSection, ReplaceFault};
+pub use judged_file::outline_of;
 pub use outline::Outline;
 pub use part::{Owner, Part};
 pub use scanning::scan;

@@ -70,8 +70,9 @@ impl Outline {
         }
     }
 
-    /// Promises that the outline is of an image by itself, with zeros for contents and gaps. It does nothing.
-    pub fn stands(&self)
+    /// Proves that the outline is of an image by itself, with zeros for contents and gaps. Code of another type
+    /// does not see the invariant: this call shows it. It does nothing.
+    pub fn prove_stands(&self)
         ensures { IsSoundOutline self.now }
     {
         let _ = &self.parts;

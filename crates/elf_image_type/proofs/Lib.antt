@@ -1,5 +1,4 @@
 -- `Public` is for the proofs of the crates above, the others are for those of this one.
-mod BytesScanned
 mod Fields
 mod FileParts
 mod LoadedBytes

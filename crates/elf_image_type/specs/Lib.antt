@@ -1,7 +1,6 @@
 -- The words of this crate's contracts.
 pub mod Strings
 pub mod View
-pub mod Parsing
 pub mod Loads
 pub mod FileParts
 pub mod RelocatableFile

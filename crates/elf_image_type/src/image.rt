@@ -55,8 +55,9 @@ impl<'a> Image<'a> {
         }
     }
 
-    /// Promises that the image stands as a list of bytes that breaks no rule. It does nothing.
-    pub fn stands(&self)
+    /// Proves that the image stands as a list of bytes that breaks no rule. Code of another type
+    /// does not see the invariant: this call shows it. It does nothing.
+    pub fn prove_stands(&self)
         ensures { (b : List ℕ) × IsImage self.now b }
     {
         let _ = &self.outline;
@@ -117,6 +118,15 @@ impl<'a> Image<'a> {
         self.outline.section(i)
     }
 
+    /// Proves that section header `i` lies in the file, so that offsets in it are numbers of 64 bits.
+    fn prove_header_inside(&self, i: usize)
+        requires { i < length self.now.sections }
+        ensures inside { shdr_offset self.now.header i + SHDR_SIZE ≤ self.now.len }
+        ensures short { self.now.len ≤ MAX_LEN }
+    {
+        let _ = self.section(i);
+    }
+
     /// The offset in the file of section header `i`, which is below
     /// [`section_count`](Image::section_count).
     pub fn header_offset(&self, i: usize) -> u64
@@ -125,8 +135,7 @@ impl<'a> Image<'a> {
         ensures inside { result + SHDR_SIZE ≤ self.now.len }
         ensures short { self.now.len ≤ MAX_LEN }
     {
-        // That header lies in the file, so that the sum is a number of 64 bits.
-        let _ = self.section(i);
+        self.prove_header_inside(i);
         self.header().e_shoff + SHDR_SIZE * i as u64
     }
 
@@ -175,6 +184,17 @@ impl<'a> Image<'a> {
         self.contents[i]
     }
 
+    /// Proves that the content of section `i` lies in the file, so that offsets in it are numbers of 64 bits.
+    pub fn prove_content_inside(&self, i: usize)
+        requires { i < length self.now.sections }
+        ensures size { length (get_or self.now.contents i []) ≡ (content_extent (section_header_of self.now.sections i)).len }
+        ensures inside { let s = section_header_of self.now.sections i in
+            0 < (content_extent s).len → s.sh_offset + (content_extent s).len ≤ self.now.len }
+        ensures short { self.now.len ≤ MAX_LEN }
+    {
+        let _ = self.content(i);
+    }
+
     /// The offset in the file of the content of section `i`: `sh_offset`, at which the section has
     /// bytes only where its content is not empty.
     pub fn content_offset(&self, i: usize) -> u64
@@ -184,8 +204,7 @@ impl<'a> Image<'a> {
             result + (content_extent (section_header_of self.now.sections i)).len ≤ self.now.len }
         ensures short { self.now.len ≤ MAX_LEN }
     {
-        // That content lies in the file.
-        let _ = self.content(i);
+        self.prove_content_inside(i);
         self.section(i).sh_offset
     }
 

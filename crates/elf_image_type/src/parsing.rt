@@ -2,14 +2,13 @@
 ghost use Rattle.std.specs.Prelude.{◌≡◌, IfErr, IfOk, map};
 ghost use Rattle.elf_image_rules.specs.Tables.{bytes_in, content_extent};
 ghost use Rattle.elf_image_outline.specs.Image.{IsImage};
-ghost use Rattle.elf_image_type.specs.Parsing.{IsParseFault};
+ghost use Rattle.elf_image_outline.specs.Parsing.{IsParseFault};
 
 use crate::image::Image;
 use elf_field::Shdr;
-use elf_image_outline::scan;
+use elf_image_outline::outline_of;
 use elf_image_rules::content::content_of;
 use elf_image_rules::judge_records;
-use elf_image_source::Bytes;
 use elf_image_stream::Fault;
 use std::alloc::{AllocError, Global};
 
@@ -24,9 +23,9 @@ pub fn parse<'a>(alloc: Global, bytes: &'a [u8]) -> Result<Image<'a>, Fault>
     ensures ok { IfOk result (λ image. IsImage image bytes.entry.now) }
     ensures err { IfErr result (λ fault. IsParseFault bytes.entry.now fault) }
 {
-    // These rules take no memory, so that want of it never hides one that is broken.
-    judge_records(bytes)?;
-    let outline = scan(alloc, &mut Bytes(bytes))?;
+    // These rules take no memory, so that running out of it never hides one that is broken.
+    let records = judge_records(bytes)?;
+    let outline = outline_of(alloc, &records)?;
     let contents = contents_of(alloc, bytes, outline.sections())?;
     Ok(Image::new(outline, bytes, contents))
 }

@@ -25,17 +25,21 @@ one_each none P n xs ys same one other =
     let within : k < n = (let count = one.count in omega arith) in
     same k (get_or xs k none) (get_or ys k none) within (one.each k within) (other.each k within)))
 
--- an item of a table in rows, where something is said of each by its row and its position there, is read
+-- an item of a table in rows is read
+pub item_read : {A : Type 0} (none : A) (rows : List (Vec A)) (row : Vec A) (f i : ℕ) (x : A) → f < length rows →
+    i < length (get_or (map (λ (r : Vec A). r.items) rows) f []) → row ≡ get_or rows f row → x ≡ get_or row.items i x →
+    get_or (get_or (map (λ (r : Vec A). r.items) rows) f []) i none ≡ x
+item_read {A} none rows row f i x f_in i_in row_is x_is =
+    let here : get_or (map (λ (r : Vec A). r.items) rows) f [] ≡ row.items =
+    get_or-map (λ (r : Vec A). r.items) rows f row [] f_in ∙ ap (λ (r : Vec A). r.items) (sym row_is) in
+    ap (λ (xs : List A). get_or xs i none) here ∙ get_or_default row.items i none x (rw (← here) i_in) ∙ sym x_is
+
+-- so what is said of each by its row and its position there holds of it
 pub table_read : {A : Type 0} (none : A) (P : ℕ → ℕ → A → Type 0) (wide : ℕ → ℕ) (n : ℕ) (rows : List (Vec A)) (row : Vec A) (f i : ℕ) (x : A) → f < n →
     i < wide f → row ≡ get_or rows f row → x ≡ get_or row.items i x →
     AreEach [] (λ g. AreEach none (P g) (wide g)) n (map (λ (r : Vec A). r.items) rows) → P f i x
 table_read {A} none P wide n rows row f i x f_in i_in row_is x_is are =
     let many = length-map rows (λ (r : Vec A). r.items) in
     let count = are.count in
-    let f_row : f < length rows = omega arith in
-    let here : get_or (map (λ (r : Vec A). r.items) rows) f [] ≡ row.items =
-    get_or-map (λ (r : Vec A). r.items) rows f row [] f_row ∙ ap (λ (r : Vec A). r.items) (sym row_is) in
     let each = are.each f f_in in
-    let long : length row.items ≡ wide f = ap (λ (xs : List A). length xs) (sym here) ∙ each.count in
-    let i_row : i < length row.items = omega arith in
-    subst (P f i) (ap (λ (xs : List A). get_or xs i none) here ∙ get_or_default row.items i none x i_row ∙ sym x_is) (each.each i i_in)
+    subst (P f i) (item_read none rows row f i x (omega arith) (rw each.count i_in) row_is x_is) (each.each i i_in)

@@ -1,7 +1,9 @@
 -- The words of this crate's contracts.
 pub mod Files
 pub mod Rows
+pub mod Ids
 pub mod Discarded
+pub mod Inputs
 pub mod Marking
 pub mod Live
 pub mod Symbols

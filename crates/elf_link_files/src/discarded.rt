@@ -3,11 +3,13 @@
 ghost use Rattle.std.specs.Prelude.{◌≡◌, ℕ, ◌+◌, ◌<◌, List, IfOk, OnOk, length, map, not, true, if◌then◌else◌, slice_index};
 ghost use Rattle.std.specs.Str.{bytes_eq};
 ghost use Rattle.elf_link_files.specs.Discarded.{AreDiscardMarks};
-ghost use Rattle.elf_link_files.specs.Files.{object_at, section_in};
+ghost use Rattle.elf_link_files.specs.Files.{object_at};
+ghost use Rattle.elf_link_files.specs.Ids.{IsSectionIn, section_with};
 ghost use Rattle.elf_link_files.specs.Marking.{AreMarksBefore, AreMembersMarked, HasSeen, has_name};
 ghost use Rattle.elf_object_type.specs.Positions.{members_of};
 
-use crate::files::{keeps_rules, section_count, section_of};
+use crate::files::{prove_rules, section_count, section_of};
+use crate::ids::SectionId;
 use crate::section_tests::comdat_signature;
 use elf_object_type::{Body, Object};
 use std::alloc::{AllocError, Global};
@@ -21,15 +23,14 @@ fn add_name<'a>(seen: &mut BTreeSet<&'a [u8]>, name: &'a [u8]) -> Result<bool, A
     Ok(seen.insert(name)?)
 }
 
-/// Marks the members of the group at `index` of a file.
-fn mark_members(objects: &[Object<'_>], file: usize, index: usize, marks: &mut Vec<bool>)
-    requires file { file < length objects.now }
-    requires index { index < length (object_at objects.now file).sections }
-    requires marks { length marks.old.items ≡ length (object_at objects.now file).sections }
-    ensures { AreMembersMarked marks.old.items (members_of (section_in objects.now file index).body) (length (members_of (section_in objects.now file index).body)) marks.new.items }
+/// Marks the members of a group.
+fn mark_members(objects: &[Object<'_>], id: SectionId, marks: &mut Vec<bool>)
+    requires section { IsSectionIn objects.now id }
+    requires marks { length marks.old.items ≡ length (object_at objects.now id.file).sections }
+    ensures { AreMembersMarked marks.old.items (members_of (section_with objects.now id).body) (length (members_of (section_with objects.now id).body)) marks.new.items }
 {
-    keeps_rules(objects, file);
-    let Body::Group { members, .. } = &section_of(objects, file, index).body else {
+    prove_rules(objects, id.file);
+    let Body::Group { members, .. } = &section_of(objects, id.file, id.index).body else {
         return;
     };
     for member in members {
@@ -37,27 +38,25 @@ fn mark_members(objects: &[Object<'_>], file: usize, index: usize, marks: &mut V
     }
 }
 
-/// Goes past the section at `index` of a file: of a COMDAT group whose signature was seen before, the members are marked; its
+/// Goes past a section: of a COMDAT group whose signature was seen before, the members are marked; its
 /// signature is seen from now on.
 fn pass_section<'a>(
     objects: &[Object<'a>],
-    file: usize,
-    index: usize,
+    id: SectionId,
     seen: &mut BTreeSet<&'a [u8]>,
     marks: &mut Vec<bool>,
 ) -> Result<(), AllocError>
-    requires file { file < length objects.now }
-    requires index { index < length (object_at objects.now file).sections }
-    requires seen { HasSeen objects.now file index seen.old }
-    requires marks { AreMarksBefore objects.now file index marks.old.items }
-    ensures seen { OnOk result (HasSeen objects.now file (index + 1) seen.new) }
-    ensures marks { OnOk result (AreMarksBefore objects.now file (index + 1) marks.new.items) }
+    requires section { IsSectionIn objects.now id }
+    requires seen { HasSeen objects.now id.file id.index seen.old }
+    requires marks { AreMarksBefore objects.now id.file id.index marks.old.items }
+    ensures seen { OnOk result (HasSeen objects.now id.file (id.index + 1) seen.new) }
+    ensures marks { OnOk result (AreMarksBefore objects.now id.file (id.index + 1) marks.new.items) }
 {
-    let Some(signature) = comdat_signature(objects, file, index) else {
+    let Some(signature) = comdat_signature(objects, id) else {
         return Ok(());
     };
     if !add_name(seen, signature)? {
-        mark_members(objects, file, index, marks);
+        mark_members(objects, id, marks);
     }
     Ok(())
 }
@@ -77,15 +76,15 @@ fn marks_in<'a>(
     let count = section_count(&objects[file]);
     let mut marks = vec![in alloc; false; count]?;
     for index in 0..count {
-        pass_section(objects, file, index, seen, &mut marks)?;
+        pass_section(objects, SectionId { file, index }, seen, &mut marks)?;
     }
     Ok(marks)
 }
 
 /// A mark for each section of each file: whether it is discarded. It takes n log n comparisons of signatures.
 ///
-/// Fails for want of memory alone.
-pub fn discarded(alloc: Global, objects: &[Object<'_>]) -> Result<Vec<Vec<bool>>, AllocError>
+/// Fails only when out of memory.
+pub(crate) fn discarded(alloc: Global, objects: &[Object<'_>]) -> Result<Vec<Vec<bool>>, AllocError>
     ensures { IfOk result (λ marks. AreDiscardMarks objects.now (map (λ row. row.items) marks.items)) }
 {
     let mut seen = BTreeSet::new(alloc);

@@ -7,11 +7,11 @@ ghost use Rattle.elf_object_type.specs.ObjectView.{section_value, symbol_value};
 use elf_object_type::{Object, Section, Symbol};
 
 /// Promises that a file breaks none of the object rules. It does nothing.
-pub fn keeps_rules(objects: &[Object<'_>], file: usize)
+pub fn prove_rules(objects: &[Object<'_>], file: usize)
     requires { file < length objects.now }
     ensures { IsObject (object_at objects.now file) }
 {
-    objects[file].keeps_rules();
+    objects[file].prove_rules();
 }
 
 /// How many sections a file has.

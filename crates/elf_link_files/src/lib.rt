@@ -2,22 +2,28 @@
 //! link, and how a rule ([`rules`]) that stands is told.
 //!
 //! `elf_link_names` judges names over it, `elf_link_outputs` places sections, and `elf_link_map` makes the link map of both. Begin with
-//! [`files`], which are the objects, and [`discarded`], the sections of them that the link leaves out.
+//! [`Inputs`], which are the files, and know which of their sections the link discards.
 #![tactic(auto)]
 
 mod chosen;
-pub mod discarded;
+mod discarded;
 mod fault;
 pub mod files;
+mod ids;
+mod inputs;
 mod options;
 pub mod rules;
-pub mod section_tests;
+mod section_tests;
 mod site;
-pub mod site_test;
-pub mod symbol_tests;
+mod site_test;
+mod symbol_tests;
 
 pub use chosen::Chosen;
 pub use elf_image_rules::Broken;
 pub use fault::LinkFault;
+pub use ids::{SectionId, SymbolId};
+pub use inputs::Inputs;
 pub use options::Options;
 pub use site::{Site, is_at, site_in};
+pub use site_test::SiteTest;
+pub use symbol_tests::is_no_power;

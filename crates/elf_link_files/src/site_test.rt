@@ -1,17 +1,14 @@
 //! The first section or symbol that breaks a rule by itself, over all files.
-ghost use Rattle.std.specs.Prelude.{◌≡◌, ◌↔◌, ◌<◌, IsTrue, MatchOption, length, map};
-ghost use Rattle.elf_link_files.specs.Discarded.{AreDiscardMarks};
+ghost use Rattle.std.specs.Prelude.{◌≡◌, ◌↔◌, ◌<◌, IsTrue, MatchOption, length};
 ghost use Rattle.elf_link_files.specs.Files.{object_at};
 ghost use Rattle.elf_extent.specs.Least.{Never};
 ghost use Rattle.elf_link_files.specs.Rows.{IsFirstAt};
 ghost use Rattle.elf_link_files.specs.SiteTests.{BreaksSiteTest, HasNoneIn, IsFirstIn, counted, row_of};
 
-use crate::files::{section_count, symbol_count};
-use crate::section_tests::{has_empty_signature, is_live_with};
+use crate::ids::{SectionId, SymbolId};
+use crate::inputs::Inputs;
 use crate::site::{Site, site_in};
-use crate::symbol_tests::{is_bad_common, is_bad_symbol};
 use elf_field::abi::*;
-use elf_object_type::Object;
 
 /// A rule of the link that looks at one section or one symbol by itself.
 #[derive(Clone, Copy)]
@@ -28,68 +25,57 @@ pub enum SiteTest {
     BadCommon,
 }
 
-impl SiteTest {
+impl<'l, 'a> Inputs<'l, 'a> {
     /// How many sections or symbols of a file are tested.
-    fn count(&self, object: &Object<'_>) -> usize
-        ensures { result ≡ counted self.now object.now }
+    fn tested_count(&self, test: SiteTest, file: usize) -> usize
+        requires { file < length self.now }
+        ensures { result ≡ counted test (object_at self.now file) }
     {
-        match self {
-            SiteTest::Tls | SiteTest::LinkOrder | SiteTest::EmptySignature => section_count(object),
-            _ => symbol_count(object),
+        match test {
+            SiteTest::Tls | SiteTest::LinkOrder | SiteTest::EmptySignature => {
+                self.section_count(file)
+            }
+            _ => self.symbol_count(file),
         }
     }
 
     /// Whether the section or symbol at `index` of a file breaks the rule.
-    fn is_broken_by(
-        &self,
-        objects: &[Object<'_>],
-        marks: &[Vec<bool>],
-        file: usize,
-        index: usize,
-    ) -> bool
-        requires file { file < length objects.now }
-        requires index { index < counted self.now (object_at objects.now file) }
-        requires marks { AreDiscardMarks objects.now (map (λ row. row.items) marks.now) }
-        ensures { IsTrue result ↔ BreaksSiteTest objects.now self.now file index }
+    fn breaks(&self, test: SiteTest, file: usize, index: usize) -> bool
+        requires file { file < length self.now }
+        requires index { index < counted test (object_at self.now file) }
+        ensures { IsTrue result ↔ BreaksSiteTest self.now test file index }
     {
-        match self {
-            SiteTest::Tls => is_live_with(SHF_TLS, objects, marks, file, index),
-            SiteTest::LinkOrder => is_live_with(SHF_LINK_ORDER, objects, marks, file, index),
-            SiteTest::EmptySignature => has_empty_signature(objects, file, index),
-            SiteTest::BadSymbol => is_bad_symbol(objects, file, index),
-            SiteTest::BadCommon => is_bad_common(objects, file, index),
+        match test {
+            SiteTest::Tls => self.is_live_with(SHF_TLS, SectionId { file, index }),
+            SiteTest::LinkOrder => self.is_live_with(SHF_LINK_ORDER, SectionId { file, index }),
+            SiteTest::EmptySignature => self.has_empty_signature(SectionId { file, index }),
+            SiteTest::BadSymbol => self.is_bad_symbol(SymbolId { file, index }),
+            SiteTest::BadCommon => self.is_bad_common(SymbolId { file, index }),
         }
     }
-}
 
-/// The first position in a file that breaks the rule.
-fn first_in_file(
-    test: &SiteTest,
-    objects: &[Object<'_>],
-    marks: &[Vec<bool>],
-    file: usize,
-) -> Option<usize>
-    requires file { file < length objects.now }
-    requires marks { AreDiscardMarks objects.now (map (λ row. row.items) marks.now) }
-    ensures { MatchOption result (HasNoneIn objects.now test.now file) (IsFirstIn objects.now test.now file) }
-{
-    for index in 0..test.count(&objects[file]) {
-        if test.is_broken_by(objects, marks, file, index) {
-            return Some(index);
+    /// The first position in a file that breaks the rule.
+    fn first_in_file(&self, test: SiteTest, file: usize) -> Option<usize>
+        requires { file < length self.now }
+        ensures { MatchOption result (HasNoneIn self.now test file) (IsFirstIn self.now test file) }
+    {
+        for index in 0..self.tested_count(test, file) {
+            if self.breaks(test, file, index) {
+                return Some(index);
+            }
         }
+        None
     }
-    None
-}
 
-/// The first site that breaks the rule, by file and position.
-pub fn first_site(test: &SiteTest, objects: &[Object<'_>], marks: &[Vec<bool>]) -> Option<Site>
-    requires marks { AreDiscardMarks objects.now (map (λ row. row.items) marks.now) }
-    ensures { MatchOption result (Never (row_of objects.now test.now)) (IsFirstAt (row_of objects.now test.now)) }
-{
-    for file in 0..objects.len() {
-        if let Some(index) = first_in_file(test, objects, marks, file) {
-            return Some(site_in(file, index));
+    /// The first site that breaks the rule, by file and position.
+    pub fn first_site(&self, test: SiteTest) -> Option<Site>
+        ensures { MatchOption result (Never (row_of self.now test)) (IsFirstAt (row_of self.now test)) }
+    {
+        for file in 0..self.file_count() {
+            if let Some(index) = self.first_in_file(test, file) {
+                return Some(site_in(file, index));
+            }
         }
+        None
     }
-    None
 }

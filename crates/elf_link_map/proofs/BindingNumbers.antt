@@ -1,5 +1,5 @@
 -- The number of each symbol's name, from that among the known names, or by a search.
-use Rattle.std.proofs.Common.{◌≡◌, ◌≢◌, ℕ, ◌<◌, List, [], get_or, length, refl, subst}
+use Rattle.std.proofs.Common.{◌≡◌, ◌≢◌, ℕ, ◌<◌, List, [], get_or, length, refl, sym, subst}
 use Rattle.std.specs.Prelude.{None, Option, MatchOption}
 use Rattle.elf_field.specs.Abi.{STB_LOCAL}
 use Rattle.elf_object_type.specs.Object.{ObjectValue, binding}
@@ -9,7 +9,7 @@ use Rattle.elf_link_files.specs.Listing.{site}
 use Rattle.elf_link_names.specs.Binds.{entries}
 use Rattle.elf_link_names.specs.NameNumbers.{AreNameNumbers}
 use Rattle.elf_link_map.specs.declared.bindings.Binding.{Binding}
-use Rattle.elf_link_map.specs.BindingNumbers.{AreBindingNumbers}
+use Rattle.elf_link_map.specs.BindingNumbers.{AreBindingNumbers, AreNumbersIn}
 use Rattle.elf_link_map.specs.LinkMap.{IsBinding, IsSomeLinkMap, LinkMapValue, bound_in}
 use Rattle.elf_link_map.specs.Naming.{AreBindingPositions}
 use Rattle.elf_link_map.proofs.Naming.{position_found}
@@ -24,6 +24,11 @@ numbers_bound fs m position rows are at = record {
     each = λ i i_in not_local. position_found m.bindings position (symbol_in fs f i).name (get_or (get_or rows f []) i 0) ((are.each f f_in).each i i_in not_local) at;
   };
 }
+
+pub numbers_in : (fs : List ObjectValue) (bindings : List (List ℕ × Binding)) (position : List ℕ → Option ℕ) (rows : List (List ℕ)) → AreNameNumbers fs position rows →
+    AreBindingPositions bindings position → AreNumbersIn fs bindings rows
+numbers_in fs bindings position rows are at m same =
+    numbers_bound fs m position rows are (subst (λ (bs : List (List ℕ × Binding)). AreBindingPositions bs position) (sym same) at)
 
 -- the name of a symbol that is not local stands in the link map
 pub entry_bound : (fs : List ObjectValue) (m : LinkMapValue) (f i : ℕ) → IsSomeLinkMap fs m → f < length fs →

@@ -1,57 +1,61 @@
--- The link map and its plan.
-use Rattle.std.proofs.Common.{◌≡◌, ℕ, ◌+◌, List, length, inr, sym, ◌∙◌, ap, subst}
+-- From what is placed to the plan of a link and its faults.
+use Rattle.std.proofs.Common.{◌≡◌, ℕ, List, length, inr, ◌∙◌, ap, subst}
 use Rattle.std.specs.Prelude.{None, IfErr, Result, Ok, Err}
-use Rattle.elf_extent.specs.Place.{Least}
-use Rattle.elf_extent.proofs.Public.{fits_length, least_places}
+use Rattle.elf_extent.specs.Place.{EndsFit, Least}
+use Rattle.elf_extent.proofs.Public.{least_places}
 use Rattle.elf_object_type.specs.Object.{ObjectValue}
-use Rattle.elf_link_files.specs.declared.chosen.Chosen.{Chosen}
 use Rattle.elf_link_files.specs.declared.fault.LinkFault.{LinkFault}
 use Rattle.elf_link_files.specs.declared.fault.LinkFault.TheVariants.{Rule, OutOfMemory}
 use Rattle.elf_link_files.specs.declared.options.Options.{Options}
-use Rattle.elf_link_files.specs.declared.site.Site.{Site}
 use Rattle.elf_link_files.specs.FileRules.{option_rules}
 use Rattle.elf_link_files.specs.Rows.{FirstAmong}
 use Rattle.elf_link_names.specs.LinkRules.{input_rules}
 use Rattle.elf_link_names.specs.ChosenCommons.{AreChosen}
 use Rattle.elf_link_outputs.specs.declared.addresses.Target.{Target}
+use Rattle.elf_link_outputs.specs.AddressedFrom.{IsAddressedFrom}
 use Rattle.elf_link_outputs.specs.AddressFault.{IsAddressFault}
-use Rattle.elf_link_outputs.specs.Addresses.{IsTarget, IsTargetBelow}
-use Rattle.elf_link_outputs.specs.Plan.{AreOutputs, flat, parts_of}
-use Rattle.elf_link_outputs.proofs.Public.{parts_long}
+use Rattle.elf_link_outputs.specs.Addresses.{HasValue, address_rules}
+use Rattle.elf_link_outputs.specs.Plan.{AreOutputs, Plan, parts_of, placed}
+use Rattle.elf_link_outputs.specs.Planned.{AddressedValue, PlanValue, plan_parts}
 use Rattle.elf_link_map.specs.Entry.{IsEntrySymbolTarget}
 use Rattle.elf_link_map.specs.LinkFaults.{IsLinkFault}
-use Rattle.elf_link_map.specs.LinkMap.{IsLinkPlan, LinkPlan}
+use Rattle.elf_link_map.specs.PlacedFor.{IsPlacedAt, IsAddressingFault}
 
--- a plan with its target, and some places
-abbrev pub link_plan : List (List Site) → List Chosen → Target → List ℕ → LinkPlan
-link_plan oss cs target places = record { plan = record { outputs = oss; commons = cs }; places = places; target = target }
+pub placed_at : (opt : Options) (fs : List ObjectValue) (p : PlanValue) (a : AddressedValue) (target : Target) → a.plan.objects ≡ fs → a.plan.page ≡ opt.page →
+    AreOutputs fs a.plan.plan.outputs → AreChosen fs a.plan.plan.commons →
+    IsEntrySymbolTarget fs (placed a.plan.plan) a.plan.plan.commons opt.entry target → IsAddressedFrom p opt.base target a → IsPlacedAt opt fs a target
+placed_at opt fs p a target objects page outputs chosen entry from =
+    let parts : plan_parts a.plan ≡ parts_of fs opt.page a.plan.plan =
+    ap (λ (os : List ObjectValue). parts_of os a.plan.page a.plan.plan) objects ∙ ap (λ (n : ℕ). parts_of fs n a.plan.plan) page in
+    record {
+      objects = objects;
+      page = page;
+      plan = record {
+        plan = record { outputs = outputs; commons = chosen };
+        target = entry;
+        least = subst (λ (ps : List (ℕ × ℕ)). Least ps opt.base a.places) parts from.least;
+      };
+      sound = subst (λ (ps : List (ℕ × ℕ)). FirstAmong (address_rules ps opt.base target) None) parts from.sound;
+      fits = subst (λ (ps : List (ℕ × ℕ)). EndsFit ps a.places (length ps)) parts from.fits;
+      entry = subst (λ (ps : List (ℕ × ℕ)). HasValue ps opt.base target a.entry) parts from.entry;
+    }
 
-pub is_placed : (opt : Options) (fs : List ObjectValue) (oss : List (List Site)) (cs : List Chosen) (target : Target) (places : List ℕ) → AreOutputs fs oss →
-    AreChosen fs cs → IsEntrySymbolTarget fs (flat oss) cs opt.entry target → Least (parts_of fs opt.page (record { outputs = oss; commons = cs })) opt.base places →
-    IsLinkPlan opt fs (link_plan oss cs target places)
-is_placed opt fs oss cs target places outputs chosen is least = record {
-  plan = record { outputs = outputs; commons = chosen };
-  target = is;
-  least = least;
-}
+pub placing_fault : (opt : Options) (fs : List ObjectValue) (plan : Plan) (target : Target) (fault : LinkFault) → AreOutputs fs plan.outputs →
+    AreChosen fs plan.commons → IsEntrySymbolTarget fs (placed plan) plan.commons opt.entry target →
+    IsAddressFault (parts_of fs opt.page plan) opt.base target fault → IsAddressingFault opt fs fault
+placing_fault opt fs plan target (Rule number file index entry) outputs chosen is first =
+    let (places, least) = least_places (parts_of fs opt.page plan) opt.base in (
+      record { plan = plan; places = places; target = target },
+      record { plan = record { outputs = outputs; commons = chosen }; target = is; least = least },
+      first,
+    )
+placing_fault opt fs plan target OutOfMemory outputs chosen is first = tt
 
-pub target_below : (fs : List ObjectValue) (page : ℕ) (oss : List (List Site)) (cs : List Chosen) (target : Target) →
-    IsTargetBelow (length (flat oss) + length cs) target → IsTarget (parts_of fs page (record { outputs = oss; commons = cs })) target
-target_below fs page oss cs target below = subst (λ (n : ℕ). IsTargetBelow n target) (sym (parts_long fs page oss cs)) below
-
-pub fault_of : (opt : Options) (fs : List ObjectValue) (oss : List (List Site)) (cs : List Chosen) (target : Target) (fault : LinkFault) →
-    FirstAmong (input_rules opt fs) None → FirstAmong (option_rules opt fs) None → AreOutputs fs oss → AreChosen fs cs → IsEntrySymbolTarget fs (flat oss) cs opt.entry target →
-    IsAddressFault (parts_of fs opt.page (record { outputs = oss; commons = cs })) opt.base target fault → IsLinkFault opt fs fault
-fault_of opt fs oss cs target (Rule number file index entry) clean options outputs chosen is first =
-    let (places, least) = least_places (parts_of fs opt.page (record { outputs = oss; commons = cs })) opt.base in
-    inr (clean, (link_plan oss cs target places, is_placed opt fs oss cs target places outputs chosen is least, first))
-fault_of opt fs oss cs target OutOfMemory clean options outputs chosen is first = options
+pub link_fault : (opt : Options) (fs : List ObjectValue) (fault : LinkFault) → FirstAmong (input_rules opt fs) None → FirstAmong (option_rules opt fs) None →
+    IsAddressingFault opt fs fault → IsLinkFault opt fs fault
+link_fault opt fs (Rule number file index entry) clean options is = inr (clean, is)
+link_fault opt fs OutOfMemory clean options is = options
 
 pub if_err_map : {A : Type 0} (P Q : LinkFault → Type 0) (r : Result A LinkFault) → ((fault : LinkFault) → P fault → Q fault) → IfErr r P → IfErr r Q
 if_err_map P Q (Ok a) into is = tt
 if_err_map P Q (Err fault) into is = into fault is
-
-pub places_cover : (fs : List ObjectValue) (page base : ℕ) (oss : List (List Site)) (cs : List Chosen) (parts : List (ℕ × ℕ)) (places : List ℕ) →
-    parts ≡ parts_of fs page (record { outputs = oss; commons = cs }) → Least parts base places → length places ≡ length (flat oss) + length cs
-places_cover fs page base oss cs parts places same least =
-    fits_length parts base places least.fits ∙ ap (λ (ps : List (ℕ × ℕ)). length ps) same ∙ parts_long fs page oss cs

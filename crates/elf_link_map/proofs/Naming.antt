@@ -1,15 +1,14 @@
 -- The names of a link map by position, in the order of their first entries.
-use Rattle.std.proofs.Common.{◌≡◌, ℕ, ◌+◌, ◌<◌, Bool, List, [], ◌∷◌, get_or, length, map, zero, suc, inl, inr, refl, sym, ◌∙◌, ap, ap₂, subst, arith}
-use Rattle.std.specs.Prelude.{cond, if◌then◌else◌, Option, None, Some, MatchOption}
+use Rattle.std.proofs.Common.{◌≡◌, ℕ, ◌<◌, Bool, List, [], ◌∷◌, get_or, length, map, zero, suc, refl, sym, ◌∙◌, ap, ap₂, subst, arith}
+use Rattle.std.specs.Prelude.{cond, Option, None, Some, MatchOption}
 use Rattle.std.specs.Str.{bytes_eq}
-use Rattle.std.proofs.lemmas.Bool.{cases_lt}
 use Rattle.std.proofs.lemmas.List.{get_or-map}
 use Rattle.std.proofs.lemmas.Slice.Eq.{bytes_eq-Decides}
 use Rattle.elf_object_type.specs.Object.{ObjectValue}
 use Rattle.elf_link_files.specs.declared.site.Site.{Site}
 use Rattle.elf_link_files.specs.Listing.{Lists, site_at, name_at}
 use Rattle.elf_extent.specs.Least.{Never}
-use Rattle.elf_link_files.proofs.Public.{same_name, match_map, not_true}
+use Rattle.elf_link_files.proofs.Public.{match_map, not_true}
 use Rattle.elf_link_names.specs.Binds.{entries}
 use Rattle.elf_link_names.specs.Listing.{first_entries}
 use Rattle.elf_link_names.specs.Naming.{ArePositionsOf}
@@ -17,9 +16,9 @@ use Rattle.elf_link_names.proofs.Public.{names_once, entry_listed}
 use Rattle.elf_link_outputs.specs.Placed.{CommonValue}
 use Rattle.elf_link_map.specs.declared.bindings.Binding.{Binding}
 use Rattle.elf_link_map.specs.declared.names.Named.{Named}
-use Rattle.elf_link_map.specs.LinkMap.{AreBindings, AreNames, IsBinding, IsCommonNamed, bound_in, no_name}
+use Rattle.elf_link_map.specs.LinkMap.{AreBindings, AreNames, IsBinding, bound_in, no_name}
 use Rattle.elf_link_map.specs.LinkMapView.{named_value}
-use Rattle.elf_link_map.specs.Naming.{AreBindingPositions, AreCommonPositionsBelow, AreNamedAt}
+use Rattle.elf_link_map.specs.Naming.{AreBindingPositions, AreNamedAt}
 
 -- ---- what a list has of a name
 
@@ -94,27 +93,5 @@ pub position_found : (bs : List (List ℕ × Binding)) (position : List ℕ → 
 position_found bs position name k at are =
     subst (λ (o : Option ℕ). MatchOption o (bound_in bs name ≡ None) (λ j. (j < length bs) × (bound_in bs name ≡ Some (get_or bs j no_name).1))) at (are name)
 
-pub position_absent : (bs : List (List ℕ × Binding)) (position : List ℕ → Option ℕ) (name : List ℕ) → position name ≡ None → AreBindingPositions bs position →
-    bound_in bs name ≡ None
-position_absent bs position name at are =
-    subst (λ (o : Option ℕ). MatchOption o (bound_in bs name ≡ None) (λ j. (j < length bs) × (bound_in bs name ≡ Some (get_or bs j no_name).1))) at (are name)
-
 pub binding_at : (ns : List Named) (k : ℕ) (d : Named) → k < length ns → (get_or (map named_value ns) k no_name).1 ≡ (get_or ns k d).binding
 binding_at ns k d lt = ap (λ (e : List ℕ × Binding). e.1) (get_or-map named_value ns k d no_name lt)
-
--- ---- commons by name
-
-pub commons_more : (cs : List CommonValue) (n : ℕ) (m : List ℕ) (old now : List ℕ → Option ℕ) → IsCommonNamed cs m n →
-    ((q : List ℕ) → now q ≡ (if bytes_eq m q then Some n else old q)) → AreCommonPositionsBelow cs n old → AreCommonPositionsBelow cs (n + 1) now
-commons_more cs n m old now here added are name = elim (same_name m name) [
-  | inl same ↦ subst (λ (o : Option ℕ). MatchOption o ((k : ℕ) → k < n + 1 → IsCommonNamed cs name k → ⊥) (IsCommonNamed cs name))
-      (sym (added name ∙ ap (λ (t : Bool). if t then Some n else old name) ((bytes_eq-Decides m name).1 same))) (here.0, here.1 ∙ same)
-  | inr other ↦ subst (λ (o : Option ℕ). MatchOption o ((k : ℕ) → k < n + 1 → IsCommonNamed cs name k → ⊥) (IsCommonNamed cs name))
-      (sym (added name ∙ ap (λ (t : Bool). if t then Some n else old name) (not_true (bytes_eq m name) (λ equal. other ((bytes_eq-Decides m name).0 equal)))))
-      (match_map (old name) _ ((k : ℕ) → k < n + 1 → IsCommonNamed cs name k → ⊥) _ (IsCommonNamed cs name)
-      (λ none k lt is. elim (cases_lt k n) [
-        | inl below ↦ none k below is
-        | inr above ↦ (let same : k ≡ n = omega arith in other (sym here.1 ∙ (subst (IsCommonNamed cs name) same is).1))
-      ])
-      (λ k is. is) (are name))
-]

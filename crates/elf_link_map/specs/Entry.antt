@@ -43,10 +43,12 @@ IsChoiceTarget fs ps cs name (Common size align) t = (k : ℕ) × IsCommonOf fs 
 IsChoiceTarget fs ps cs name (Weak file symbol) t = IsSymbolTarget fs ps file symbol t
 IsChoiceTarget fs ps cs name Zero t = t ≡ Lost
 
--- the value of a name; lost where it is bound to nothing
+-- that of a name that is bound; of any name, lost where it is bound to nothing
+abbrev pub IsBoundTarget : List ObjectValue → List Site → List Chosen → List ℕ → Target → Type 0
+IsBoundTarget fs ps cs name t = (choice : Choice) × Binds fs name choice × IsChoiceTarget fs ps cs name choice t
+
 abbrev pub IsNameTarget : List ObjectValue → List Site → List Chosen → List ℕ → Target → Type 0
-IsNameTarget fs ps cs name t =
-    (IsUnbound fs name × (t ≡ Lost)) ⊎ ((choice : Choice) × Binds fs name choice × IsChoiceTarget fs ps cs name choice t)
+IsNameTarget fs ps cs name t = (IsUnbound fs name × (t ≡ Lost)) ⊎ IsBoundTarget fs ps cs name t
 
 -- the entry symbol's value: 0 where no name is given
 abbrev pub IsEntrySymbolTarget : List ObjectValue → List Site → List Chosen → Option (Bor (List ℕ)) → Target → Type 0

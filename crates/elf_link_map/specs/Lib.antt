@@ -7,3 +7,4 @@ pub mod BindingNumbers
 pub mod Apart
 pub mod Standing
 pub mod LinkFaults
+pub mod PlacedFor

@@ -1,28 +1,17 @@
 //! What every name is bound to, with addresses (gABI chapter 4, Symbol Table: symbol binding).
-ghost use Rattle.std.specs.Prelude.{◌≡◌, ℕ, if◌then◌else◌, Some, List, IfOk, MatchOption, OnOk, length, map};
-ghost use Rattle.std.specs.Str.{bytes_eq};
-ghost use Rattle.elf_link_files.specs.Listing.{name_at};
-ghost use Rattle.elf_link_names.specs.declared.choice.Choice.TheVariants.{Common as CommonChoice};
-ghost use Rattle.elf_link_names.specs.Binds.{Binds, IsUnbound};
-ghost use Rattle.elf_link_names.specs.Listing.{first_entries};
-ghost use Rattle.elf_link_names.specs.KnownNames.{AreAllKnown, AreKnownWhole, IsKnownWhole, first_site};
-ghost use Rattle.elf_link_positions.specs.Ordered.{position_by};
-ghost use Rattle.elf_link_positions.specs.Slots.{name_position};
-ghost use Rattle.elf_link_names.specs.Binds.{AllBound};
+ghost use Rattle.std.specs.Prelude.{◌<◌, IfOk, length, map};
+ghost use Rattle.elf_link_files.specs.Discarded.{AreDiscardMarks};
+ghost use Rattle.elf_link_names.specs.Resolved.{name_in};
 ghost use Rattle.elf_link_outputs.specs.PlacedView.{common_value};
-ghost use Rattle.elf_link_map.specs.LinkMap.{AreBindings, AreNames, IsBinding, IsCommonNamed};
+ghost use Rattle.elf_link_map.specs.BindingNumbers.{AreNumbersIn};
+ghost use Rattle.elf_link_map.specs.LinkMap.{AreBindings, AreNames, IsBinding};
 ghost use Rattle.elf_link_map.specs.LinkMapView.{named_value};
-ghost use Rattle.elf_link_map.specs.Naming.{AreBindingPositions, AreCommonPositions, AreNamedAt, IsNamedAt};
-ghost use Rattle.elf_link_map.specs.Naming.{HaveCommons};
+ghost use Rattle.elf_link_map.specs.Naming.{AreCommonNames, AreNamedAt};
 
 use crate::names::{Named, Names};
-use elf_link_files::files::symbol_of;
-use elf_link_names::bind::{choice_of, known_item};
-use elf_link_names::{Choice, Known, KnownNames};
+use elf_link_names::{Choice, Resolution};
 use elf_link_outputs::Common;
-use elf_object_type::Object;
 use std::alloc::{AllocError, Global};
-use std::collections::BTreeMap;
 
 /// What a name is bound to.
 #[derive(Clone, Copy, Debug, PartialEq, Eq)]
@@ -37,151 +26,73 @@ pub enum Binding {
     Zero,
 }
 
-/// Notes the position of a name.
-fn note_position<'n>(
-    positions: &mut BTreeMap<&'n [u8], usize>,
-    name: &'n [u8],
-    position: usize,
-) -> Result<(), AllocError>
-    ensures { OnOk result ((q : List ℕ) → position_by positions.new q ≡ (if bytes_eq name.now q then Some position else position_by positions.old q)) }
-{
-    positions.insert(name, position)?;
-    Ok(())
+/// What a link map keeps of a resolution: the numbers are positions among these names.
+#[derive(Drop)]
+pub(crate) struct BoundNames<'a> {
+    /// A mark for each section of each file, whether it is discarded.
+    pub(crate) marks: Vec<Vec<bool>>,
+    /// All names with their bindings, in the order of their first entries.
+    pub(crate) names: Names<'a>,
+    /// For each symbol of each file that is not local where its name stands among them.
+    pub(crate) numbers: Vec<Vec<usize>>,
 }
 
-/// The position of the common of each name.
-fn common_positions<'n>(
-    alloc: Global,
-    commons: &[Common<'n>],
-) -> Result<BTreeMap<&'n [u8], usize>, AllocError>
-    ensures { IfOk result (λ positions. AreCommonPositions (map common_value commons.now) (position_by positions)) }
+/// What the name of number `k` is bound to.
+fn binding_at(resolution: &Resolution<'_, '_>, commons: &[Common<'_>], k: usize) -> Binding
+    requires number { k < length resolution.now.firsts }
+    requires commons { AreCommonNames resolution.now.objects resolution.now.commons (map common_value commons.now) }
+    ensures { IsBinding resolution.now.objects (map common_value commons.now) (name_in resolution.now k) result }
 {
-    let mut positions = BTreeMap::new(alloc);
-    for k in 0..commons.len() {
-        note_position(&mut positions, commons[k].name, k)?;
-    }
-    Ok(positions)
-}
-
-/// The position of the common of this name.
-fn common_named(
-    commons: &[Common<'_>],
-    index: &BTreeMap<&[u8], usize>,
-    name: &[u8],
-) -> Option<usize>
-    requires { AreCommonPositions (map common_value commons.now) (position_by index.now) }
-    ensures { MatchOption result ((k : ℕ) → IsCommonNamed (map common_value commons.now) name.now k → ⊥) (IsCommonNamed (map common_value commons.now) name.now) }
-{
-    index.get(name).copied()
-}
-
-/// The binding of a name to its common.
-fn common_binding(
-    objects: &[Object<'_>],
-    commons: &[Common<'_>],
-    index: &BTreeMap<&[u8], usize>,
-    name: &[u8],
-    size: u64,
-    align: u64,
-) -> Option<Binding>
-    requires binds { Binds objects.now name.now (CommonChoice size align) }
-    requires commons { HaveCommons objects.now (map common_value commons.now) }
-    requires index { AreCommonPositions (map common_value commons.now) (position_by index.now) }
-    ensures { MatchOption result (IsUnbound objects.now name.now) (IsBinding objects.now (map common_value commons.now) name.now) }
-{
-    match common_named(commons, index, name) {
-        Some(k) => Some(Binding::Common {
-            address: commons[k].address,
+    match resolution.choice(k) {
+        Choice::Strong { file, symbol } => Binding::Strong { file, symbol },
+        Choice::Common { size, align } => Binding::Common {
+            address: commons[resolution.common_position(k)].address,
             size,
             align,
-        }),
-        None => None,
+        },
+        Choice::Weak { file, symbol } => Binding::Weak { file, symbol },
+        Choice::Zero => Binding::Zero,
     }
 }
 
-/// The binding of a name that makes this choice.
-fn binding_by(
-    objects: &[Object<'_>],
-    commons: &[Common<'_>],
-    index: &BTreeMap<&[u8], usize>,
-    name: &[u8],
-    choice: Choice,
-) -> Option<Binding>
-    requires binds { Binds objects.now name.now choice }
-    requires commons { HaveCommons objects.now (map common_value commons.now) }
-    requires index { AreCommonPositions (map common_value commons.now) (position_by index.now) }
-    ensures { MatchOption result (IsUnbound objects.now name.now) (IsBinding objects.now (map common_value commons.now) name.now) }
-{
-    match choice {
-        Choice::Strong { file, symbol } => Some(Binding::Strong { file, symbol }),
-        Choice::Common { size, align } => common_binding(
-            objects, commons, index, name, size, align,
-        ),
-        Choice::Weak { file, symbol } => Some(Binding::Weak { file, symbol }),
-        Choice::Zero => Some(Binding::Zero),
-    }
-}
-
-/// The name of a first entry, and what it is bound to.
-fn named_for<'a>(
-    objects: &[Object<'a>],
-    commons: &[Common<'_>],
-    index: &BTreeMap<&[u8], usize>,
-    known: Known,
-) -> Named<'a>
-    requires commons { HaveCommons objects.now (map common_value commons.now) }
-    requires index { AreCommonPositions (map common_value commons.now) (position_by index.now) }
-    requires bound { AllBound objects.now }
-    requires site { first_entries objects.now (first_site known) }
-    requires known { IsKnownWhole objects.now (name_at objects.now (first_site known)) known }
-    ensures { IsNamedAt objects.now (map common_value commons.now) (first_site known) (named_value result) }
-{
-    let name = symbol_of(objects, known.first.file, known.first.index).name;
-    let Some(choice) = choice_of(known) else {
-        unreachable!();
-    };
-    let Some(binding) = binding_by(objects, commons, index, name, choice) else {
-        unreachable!();
-    };
-    Named { name, binding }
-}
-
-/// All names that are known, and what each is bound to.
+/// All names, and what each is bound to.
 fn names_of<'a>(
     alloc: Global,
-    objects: &[Object<'a>],
+    resolution: &Resolution<'_, 'a>,
     commons: &[Common<'_>],
-    index: &BTreeMap<&[u8], usize>,
-    known: &[Known],
 ) -> Result<Vec<Named<'a>>, AllocError>
-    requires commons { HaveCommons objects.now (map common_value commons.now) }
-    requires index { AreCommonPositions (map common_value commons.now) (position_by index.now) }
-    requires bound { AllBound objects.now }
-    requires known { AreKnownWhole objects.now known.now }
-    ensures { IfOk result (λ names. AreNamedAt objects.now (map common_value commons.now) (map first_site known.now) (length known.now) (map named_value names.items)) }
+    requires { AreCommonNames resolution.now.objects resolution.now.commons (map common_value commons.now) }
+    ensures { IfOk result (λ names. AreNamedAt resolution.now.objects (map common_value commons.now) resolution.now.firsts (length resolution.now.firsts) (map named_value names.items)) }
 {
-    let mut names = Vec::with_capacity(alloc, known.len())?;
-    for k in 0..known.len() {
-        names.push(named_for(objects, commons, index, known_item(known, k)))?;
+    let count = resolution.name_count();
+    let mut names = Vec::with_capacity(alloc, count)?;
+    for k in 0..count {
+        names.push(Named {
+            name: resolution.name(k),
+            binding: binding_at(resolution, commons, k),
+        })?;
     }
     Ok(names)
 }
 
-/// All names with their bindings, in the order of their first entries.
+/// All names with their bindings, in the order of their first entries, and what else a link map keeps. The commons are those of the
+/// resolution, with addresses.
 pub(crate) fn all_bindings<'a>(
     alloc: Global,
-    objects: &[Object<'a>],
-    names: KnownNames<'a>,
+    resolution: Resolution<'_, 'a>,
     commons: &[Common<'_>],
-) -> Result<Names<'a>, AllocError>
-    requires known { AreAllKnown objects.now (name_position names.positions) names.known.items }
-    requires commons { HaveCommons objects.now (map common_value commons.now) }
-    requires bound { AllBound objects.now }
-    ensures bindings { IfOk result (AreBindings objects.now (map common_value commons.now)) }
-    ensures names { IfOk result (AreNames objects.now) }
-    ensures positions { IfOk result (λ all. AreBindingPositions all (name_position names.entry.positions)) }
+) -> Result<BoundNames<'a>, AllocError>
+    requires { AreCommonNames resolution.objects resolution.commons (map common_value commons.now) }
+    ensures marks { IfOk result (λ bound. AreDiscardMarks resolution.entry.objects (map (λ row. row.items) bound.marks.items)) }
+    ensures bindings { IfOk result (λ bound. AreBindings resolution.entry.objects (map common_value commons.now) bound.names) }
+    ensures names { IfOk result (λ bound. AreNames resolution.entry.objects bound.names) }
+    ensures numbers { IfOk result (λ bound. AreNumbersIn resolution.entry.objects bound.names (map (λ row. row.items) bound.numbers.items)) }
 {
-    let index = common_positions(alloc, commons)?;
-    let list = names_of(alloc, objects, commons, &index, &names.known)?;
-    Ok(Names::new(list, names.positions))
+    let list = names_of(alloc, &resolution, commons)?;
+    let parts = resolution.into_parts();
+    Ok(BoundNames {
+        marks: parts.marks,
+        names: Names::new(list, parts.positions),
+        numbers: parts.numbers,
+    })
 }

@@ -8,7 +8,7 @@ ghost use Rattle.elf_link_map.specs.LinkMap.{IsLinkMap, LinkMapValue};
 ghost use Rattle.elf_link_map.specs.Standing.{AreObjects, ArePaged, OutputsStand};
 ghost use Rattle.elf_object_type.specs.Object.{ObjectValue};
 
-use elf_link_files::files::keeps_rules;
+use elf_link_files::files::prove_rules;
 use elf_object_type::Object;
 
 /// In the link map of some objects a section has an address exactly where it is live, the commons stand behind all sections, each
@@ -34,7 +34,7 @@ pub fn are_objects(objects: &[Object<'_>])
     ensures { AreObjects objects.now }
 {
     for file in 0..objects.len() {
-        keeps_rules(objects, file);
+        prove_rules(objects, file);
     }
 }
 

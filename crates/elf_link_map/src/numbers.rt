@@ -1,5 +1,5 @@
 //! The number of each symbol's name: the position of its binding in a link map (gABI chapter 4, Symbol Table).
-ghost use Rattle.std.specs.Prelude.{◌≡◌, ◌<◌, IfOk, length, map as map_list};
+ghost use Rattle.std.specs.Prelude.{◌<◌, IfOk, length, map as map_list};
 ghost use Rattle.elf_link_files.specs.Files.{object_at};
 ghost use Rattle.elf_link_map.specs.BindingNumbers.{AreBindingNumbers, IsBindingNumber, IsBindingRow};
 ghost use Rattle.elf_link_map.specs.LinkMap.{IsSomeLinkMap};

@@ -1,23 +1,14 @@
 //! What the entry symbol's value is made of (gABI chapter 4, ELF Header: `e_entry`; Symbol Table: `st_value`).
-ghost use Rattle.std.specs.Prelude.{◌≡◌, ◌↔◌, ℕ, ◌+◌, ◌^◌, ◌<◌, IsTrue, MatchOption, length};
-ghost use Rattle.elf_link_files.specs.Files.{object_at};
-ghost use Rattle.elf_link_files.specs.Listing.{name_at};
-ghost use Rattle.elf_link_files.specs.Commons.{AreSymbols};
-ghost use Rattle.elf_link_names.specs.Binds.{Binds};
-ghost use Rattle.elf_link_names.specs.ChosenCommons.{IsCommonOf};
-ghost use Rattle.elf_link_names.specs.KnownNames.{AreAllKnown};
-ghost use Rattle.elf_link_positions.specs.Slots.{name_position};
-ghost use Rattle.elf_link_names.specs.ChosenCommons.{HaveChosen};
-ghost use Rattle.elf_link_outputs.specs.declared.addresses.Target.TheVariants.{Part};
+ghost use Rattle.std.specs.Prelude.{ℕ, ◌+◌, ◌^◌, ◌<◌, MatchOption, length};
+ghost use Rattle.elf_link_files.specs.Ids.{IsSymbolIn};
+ghost use Rattle.elf_link_names.specs.Resolved.{name_in};
 ghost use Rattle.elf_link_outputs.specs.Addresses.{IsTargetBelow};
-ghost use Rattle.elf_link_map.specs.Entry.{HasSite, IsChoiceTarget, IsEntrySymbolTarget, IsNameTarget, IsSectionTarget, IsSymbolTarget};
+ghost use Rattle.elf_link_map.specs.Entry.{HasSite, IsBoundTarget, IsEntrySymbolTarget, IsNameTarget, IsSectionTarget, IsSymbolTarget};
 
-use elf_link_files::files::symbol_of;
-use elf_link_files::{Chosen, Site, is_at};
-use elf_link_names::bind::bind;
-use elf_link_names::{Choice, KnownNames};
+use elf_link_files::{Site, SymbolId, is_at};
+use elf_link_names::{Choice, Resolution};
 use elf_link_outputs::addresses::Target;
-use elf_object_type::{Object, Place};
+use elf_object_type::Place;
 
 /// The position of a section among those that are placed.
 fn position_of(sites: &[Site], file: usize, section: usize) -> Option<usize>
@@ -43,117 +34,64 @@ fn section_target(sites: &[Site], file: usize, section: usize, offset: u64) -> T
 }
 
 /// The value of a symbol.
-fn symbol_target(objects: &[Object<'_>], sites: &[Site], file: usize, index: usize) -> Target
-    requires file { file < length objects.now }
-    requires index { index < length (object_at objects.now file).symbols }
-    ensures target { IsSymbolTarget objects.now sites.now file index result }
+fn symbol_target(resolution: &Resolution<'_, '_>, sites: &[Site], id: SymbolId) -> Target
+    requires { IsSymbolIn resolution.now.objects id }
+    ensures target { IsSymbolTarget resolution.now.objects sites.now id.file id.index result }
     ensures below { IsTargetBelow (length sites.now) result }
 {
-    let symbol = symbol_of(objects, file, index);
+    let symbol = resolution.symbol(id);
     match symbol.place {
         Place::Undef | Place::Common => Target::Lost,
         Place::Abs => Target::Fixed(symbol.value),
-        Place::In(section) => section_target(sites, file, section, symbol.value),
+        Place::In(section) => section_target(sites, id.file, section, symbol.value),
     }
 }
 
-/// Whether a chosen common is of this name.
-fn is_of_name(objects: &[Object<'_>], common: Chosen, name: &[u8]) -> bool
-    requires file { common.site.file < length objects.now }
-    requires index { common.site.index < length (object_at objects.now common.site.file).symbols }
-    ensures { IsTrue result ↔ (name_at objects.now common.site ≡ name.now) }
+/// The value of the name of number `k` by its binding. A common stands behind all sections.
+fn bound_target(resolution: &Resolution<'_, '_>, sites: &[Site], k: usize) -> Target
+    requires number { k < length resolution.now.firsts }
+    requires fits { length sites.now + length resolution.now.commons < 2 ^ 64 }
+    ensures target { IsBoundTarget resolution.now.objects sites.now resolution.now.commons (name_in resolution.now k) result }
+    ensures below { IsTargetBelow (length sites.now + length resolution.now.commons) result }
 {
-    symbol_of(objects, common.site.file, common.site.index).name == name
-}
-
-/// The position of the chosen common of this name.
-fn common_of(objects: &[Object<'_>], commons: &[Chosen], name: &[u8]) -> Option<usize>
-    requires { AreSymbols objects.now commons.now }
-    ensures { MatchOption result ((k : ℕ) → IsCommonOf objects.now commons.now name.now k → ⊥) (IsCommonOf objects.now commons.now name.now) }
-{
-    for k in 0..commons.len() {
-        if is_of_name(objects, commons[k], name) {
-            return Some(k);
-        }
-    }
-    None
-}
-
-/// The value of the common of this name, which stands behind all sections.
-fn common_target(objects: &[Object<'_>], sites: &[Site], commons: &[Chosen], name: &[u8]) -> Target
-    requires symbols { AreSymbols objects.now commons.now }
-    requires named { (k : ℕ) × IsCommonOf objects.now commons.now name.now k }
-    requires fits { length sites.now + length commons.now < 2 ^ 64 }
-    ensures target { (k : ℕ) × IsCommonOf objects.now commons.now name.now k × (result ≡ Part (length sites.now + k) 0) }
-    ensures below { IsTargetBelow (length sites.now + length commons.now) result }
-{
-    match common_of(objects, commons, name) {
-        Some(k) => Target::Part(sites.len() + k, 0),
-        None => Target::Lost,
-    }
-}
-
-/// The value of a name by its binding.
-fn choice_target(
-    objects: &[Object<'_>],
-    sites: &[Site],
-    commons: &[Chosen],
-    name: &[u8],
-    choice: Choice,
-) -> Target
-    requires choice { Binds objects.now name.now choice }
-    requires symbols { AreSymbols objects.now commons.now }
-    requires commons { HaveChosen objects.now commons.now }
-    requires fits { length sites.now + length commons.now < 2 ^ 64 }
-    ensures target { IsChoiceTarget objects.now sites.now commons.now name.now choice result }
-    ensures below { IsTargetBelow (length sites.now + length commons.now) result }
-{
-    match choice {
-        Choice::Strong { file, symbol } => symbol_target(objects, sites, file, symbol),
-        Choice::Common { .. } => common_target(objects, sites, commons, name),
-        Choice::Weak { file, symbol } => symbol_target(objects, sites, file, symbol),
+    match resolution.choice(k) {
+        Choice::Strong { file, symbol } | Choice::Weak { file, symbol } => symbol_target(
+            resolution,
+            sites,
+            SymbolId {
+                file,
+                index: symbol,
+            },
+        ),
+        Choice::Common { .. } => Target::Part(sites.len() + resolution.common_position(k), 0),
         Choice::Zero => Target::Lost,
     }
 }
 
-/// The value of a name.
-fn name_target(
-    objects: &[Object<'_>],
-    names: &KnownNames<'_>,
-    sites: &[Site],
-    commons: &[Chosen],
-    name: &[u8],
-) -> Target
-    requires names { AreAllKnown objects.now (name_position names.now.positions) names.now.known.items }
-    requires symbols { AreSymbols objects.now commons.now }
-    requires commons { HaveChosen objects.now commons.now }
-    requires fits { length sites.now + length commons.now < 2 ^ 64 }
-    ensures target { IsNameTarget objects.now sites.now commons.now name.now result }
-    ensures below { IsTargetBelow (length sites.now + length commons.now) result }
+/// The value of a name; lost where no symbol has it that is not local.
+fn name_target(resolution: &Resolution<'_, '_>, sites: &[Site], name: &[u8]) -> Target
+    requires { length sites.now + length resolution.now.commons < 2 ^ 64 }
+    ensures target { IsNameTarget resolution.now.objects sites.now resolution.now.commons name.now result }
+    ensures below { IsTargetBelow (length sites.now + length resolution.now.commons) result }
 {
-    match bind(objects, names, name) {
-        Some(choice) => choice_target(objects, sites, commons, name, choice),
+    match resolution.number(name) {
+        Some(k) => bound_target(resolution, sites, k),
         None => Target::Lost,
     }
 }
 
 /// The value of the entry symbol, 0 where none is named.
 pub(crate) fn entry_target(
-    objects: &[Object<'_>],
-    names: &KnownNames<'_>,
+    resolution: &Resolution<'_, '_>,
     sites: &[Site],
-    commons: &[Chosen],
     name: Option<&[u8]>,
 ) -> Target
-    requires names { AreAllKnown objects.now (name_position names.now.positions) names.now.known.items }
-    requires symbols { AreSymbols objects.now commons.now }
-    requires commons { HaveChosen objects.now commons.now }
-    requires fits { length sites.now + length commons.now < 2 ^ 64 }
-    ensures target { IsEntrySymbolTarget objects.now sites.now commons.now name.entry result }
-    ensures below { IsTargetBelow (length sites.now + length commons.now) result }
+    requires { length sites.now + length resolution.now.commons < 2 ^ 64 }
+    ensures target { IsEntrySymbolTarget resolution.now.objects sites.now resolution.now.commons name.entry result }
+    ensures below { IsTargetBelow (length sites.now + length resolution.now.commons) result }
 {
     match name {
-        Some(name) => name_target(objects, names, sites, commons, name),
+        Some(name) => name_target(resolution, sites, name),
         None => Target::Fixed(0),
     }
 }

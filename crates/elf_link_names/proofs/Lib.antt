@@ -5,5 +5,6 @@ pub mod BoundNames
 pub mod Naming
 pub mod Tabled
 pub mod NameNumbers
+pub mod Numbers
 pub mod OneChoice
 pub mod Public

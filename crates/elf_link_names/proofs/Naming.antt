@@ -1,6 +1,6 @@
 -- Names by position, in the order of their first entries.
 use Rattle.std.proofs.Common.{◌≡◌, ℕ, ◌+◌, ◌<◌, ◌⊎◌, Bool, List, length, inl, inr, refl, sym, ◌∙◌, ap, subst, arith}
-use Rattle.std.specs.Prelude.{if◌then◌else◌, Option, None, Some, MatchOption}
+use Rattle.std.specs.Prelude.{if◌then◌else◌, Option, Some, MatchOption}
 use Rattle.std.specs.Str.{bytes_eq}
 use Rattle.std.proofs.lemmas.Bool.{cases_eq, cases_lt}
 use Rattle.std.proofs.lemmas.Slice.Eq.{bytes_eq-Decides}
@@ -17,11 +17,6 @@ use Rattle.elf_link_names.specs.Listing.{first_entries}
 use Rattle.elf_link_names.specs.Naming.{ArePositionsOf}
 
 -- ---- a name is noted at its position
-
-pub positions_none : (fs : List ObjectValue) (ps : List Site) (position : List ℕ → Option ℕ) → ((q : List ℕ) → position q ≡ None) → ArePositionsOf fs ps 0 position
-positions_none fs ps position empty name =
-    subst (λ (o : Option ℕ). MatchOption o ((k : ℕ) → k < 0 → name_at fs (site_at ps k) ≡ name → ⊥) (λ k. (k < 0) × (name_at fs (site_at ps k) ≡ name)))
-    (sym (empty name)) (λ k lt is. omega arith)
 
 pub positions_more : (fs : List ObjectValue) (ps : List Site) (n : ℕ) (m : List ℕ) (old now : List ℕ → Option ℕ) → m ≡ name_at fs (site_at ps n) →
     ((q : List ℕ) → now q ≡ (if bytes_eq m q then Some n else old q)) → ArePositionsOf fs ps n old → ArePositionsOf fs ps (n + 1) now

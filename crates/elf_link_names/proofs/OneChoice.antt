@@ -11,10 +11,9 @@ use Rattle.elf_link_files.specs.Rows.{IsFirstAt}
 use Rattle.elf_link_files.proofs.Public.{site_is, one_first, one_site_list, once_of, one_each}
 use Rattle.elf_link_names.specs.declared.choice.Choice.{Choice}
 use Rattle.elf_link_names.specs.declared.choice.Choice.TheVariants.{Strong, Common, Weak, Zero}
-use Rattle.elf_link_names.specs.declared.listing.Listed.TheVariants.{ChosenCommons}
 use Rattle.elf_link_names.specs.Binds.{Binds, IsLargest, align_at, commons, size_at, strong, weak}
 use Rattle.elf_link_names.specs.ChosenCommons.{IsCommonOf, AreChosen, AreChosenAt, IsOfLargest}
-use Rattle.elf_link_names.specs.Listing.{listed_row}
+use Rattle.elf_link_names.specs.Listing.{chosen_commons}
 
 -- ---- the choice of a name
 
@@ -70,12 +69,12 @@ one_of_largest fs p c d (here, (size, align)) (there, (width, step)) =
 
 pub one_chosen : (fs : List ObjectValue) (cs ds : List Chosen) → AreChosen fs cs → AreChosen fs ds → cs ≡ ds
 one_chosen fs cs ds (ps, lists, one) (qs, others, other) =
-    let same = one_site_list (listed_row fs ChosenCommons) qs ps others lists in
+    let same = one_site_list (chosen_commons fs) qs ps others lists in
     one_each no_common (λ k c. (c.site ≡ site_at ps k) × IsOfLargest fs c) (length ps) cs ds (λ k c d lt. one_of_largest fs (site_at ps k) c d) one
     (subst (λ (rs : List Site). AreChosenAt fs rs (length rs) ds) same other)
 
 -- the first common of the name
-first_common : (fs : List ObjectValue) (cs : List Chosen) (ps : List Site) (name : List ℕ) (k : ℕ) → Lists (listed_row fs ChosenCommons) ps →
+first_common : (fs : List ObjectValue) (cs : List Chosen) (ps : List Site) (name : List ℕ) (k : ℕ) → Lists (chosen_commons fs) ps →
     AreChosenAt fs ps (length ps) cs → IsCommonOf fs cs name k → (k < length ps) × IsFirstAt (commons fs name) (site_at ps k)
 first_common fs cs ps name k lists are (lt, named) =
     let within : k < length ps = (let count = are.count in omega arith) in
@@ -93,7 +92,7 @@ one_common fs cs name j k (ps, lists, are) one other =
     let (j_in, first) = first_common fs cs ps name j lists are one in
     let (k_in, second) = first_common fs cs ps name k lists are other in
     let same = one_first (commons fs name) (site_at ps j) (site_at ps k) first second in
-    let once = once_of (listed_row fs ChosenCommons) ps lists in
+    let once = once_of (chosen_commons fs) ps lists in
     elim (cases_lt j k) [
       | inl below ↦ absurd (once j k below k_in same)
       | inr not_below ↦ elim (cases_lt k j) [

@@ -1,13 +1,10 @@
 -- What is known of each name, symbol by symbol and file by file.
 use Rattle.std.proofs.Common.{◌≡◌, ◌≢◌, ◌↔◌, ℕ, ◌+◌, ◌<◌, ◌≤◌, ◌⊎◌, Bool, true, false, List, [], ◌∷◌, ◌++◌, length, map, set, inl, inr, refl, sym, ◌∙◌, ap, subst, arith, length-append}
-use Rattle.std.specs.Prelude.{cond, if◌then◌else◌, Option, None, Some, MatchOption}
-use Rattle.std.specs.Cmp.Lexicographic.{slice_cmp}
+use Rattle.std.specs.Prelude.{if◌then◌else◌, Option, None, Some, MatchOption}
 use Rattle.std.specs.Option.{option_map}
-use Rattle.std.specs.Ordering.{is_eq, nat_cmp}
 use Rattle.std.specs.Str.{bytes_eq}
 use Rattle.std.proofs.lemmas.Bool.{cases_eq, cases_lt}
-use Rattle.std.proofs.lemmas.List.{get_or-map, get_or_push, get_or-set_other, get_or-set_same, length-map, length-set, map-append}
-use Rattle.std.proofs.lemmas.Map.Text.{is_eq-slice_cmp}
+use Rattle.std.proofs.lemmas.List.{get_or_push, get_or-set_other, get_or-set_same, length-map, length-set, map-append}
 use Rattle.std.proofs.Math.ListN.{get_or-append}
 use Rattle.std.proofs.Math.Seq.{map-set_same}
 use Rattle.elf_field.specs.Abi.{STB_GLOBAL, STB_LOCAL, STB_WEAK}
@@ -17,15 +14,15 @@ use Rattle.elf_link_files.specs.Files.{IsEarlier, object_at, symbol_in}
 use Rattle.elf_link_files.specs.Listing.{Lists, UpTo, site, site_at, name_at}
 use Rattle.elf_extent.specs.Least.{Never}
 use Rattle.elf_image_rules.specs.Rows.{Row}
-use Rattle.elf_link_files.specs.Rows.{AtSymbol, IsFirstAt, symbol_count}
+use Rattle.elf_link_files.specs.Rows.{AtEach, AtSymbol, IsFirstAt, symbol_count}
 use Rattle.elf_link_files.specs.Symbols.{IsCommon, IsEntry, IsNotWeak, IsStrong, IsWeak}
 use Rattle.elf_link_files.proofs.Public.{first_earlier, first_in_row, lists_same, listed_more, listed_past, site_is, match_map, earlier_more, earlier_next, file_before}
 use Rattle.elf_link_names.specs.declared.known_names.Block.{Block}
 use Rattle.elf_link_names.specs.declared.known_names.Known.{Known}
-use Rattle.elf_link_names.specs.declared.known_names.Spot.{Spot}
+use Rattle.elf_link_files.specs.declared.ids.SymbolId.{SymbolId}
 use Rattle.elf_link_names.specs.Binds.{IsLargest, IsUnbound, commons, entries, strong, weak}
 use Rattle.elf_link_names.specs.Listing.{IsFirstEntry, first_entries}
-use Rattle.elf_link_names.specs.KnownNames.{AreAllKnown, AreKnownBefore, AreKnownWhole, IsBest, IsBlock, IsCommonBest, IsFirstBefore, IsKnownBefore, IsKnownWhole, IsLargerOf, IsWholeBest, IsWholeBlock, NoneBefore, SomeBefore, first_or, first_site, known_at, no_known, spot_in, spot_site}
+use Rattle.elf_link_names.specs.KnownNames.{AreAllKnown, AreKnownBefore, IsBest, IsBlock, IsCommonBest, IsFirstBefore, IsKnownBefore, IsKnownWhole, IsLargerOf, IsWholeBest, IsWholeBlock, NoneBefore, SomeBefore, first_or, first_site, known_at, no_known, id_in, id_site}
 use Rattle.elf_link_names.specs.Naming.{ArePositionsOf}
 use Rattle.elf_link_names.proofs.Naming.{apart_names, entry_there, entry_told, positions_more}
 
@@ -42,7 +39,7 @@ none_past fs P f i other none p row earlier = elim (earlier_next p.file p.index 
 
 -- a row that has this site and none before it
 first_here : (fs : List ObjectValue) (P : ℕ → ℕ → Type 0) (f i : ℕ) → f < length fs → i < length (object_at fs f).symbols → P f i →
-    NoneBefore (AtSymbol fs P) f i → IsFirstBefore (AtSymbol fs P) f (i + 1) (spot_in f i)
+    NoneBefore (AtSymbol fs P) f i → IsFirstBefore (AtSymbol fs P) f (i + 1) (id_in f i)
 first_here fs P f i file index here none = (
   record {
     stands = (file, index, here, refl);
@@ -54,16 +51,16 @@ first_here fs P f i file index here none = (
   inr (refl, omega arith),
 )
 
-first_past : (row : Row Site) (f i : ℕ) (s : Spot) → IsFirstBefore row f i s → IsFirstBefore row f (i + 1) s
+first_past : (row : Row Site) (f i : ℕ) (s : SymbolId) → IsFirstBefore row f i s → IsFirstBefore row f (i + 1) s
 first_past row f i s (first, earlier) = (first, earlier_more s.file s.index f i earlier)
 
-pub best_past : (fs : List ObjectValue) (P : ℕ → ℕ → Type 0) (f i : ℕ) (best : Option Spot) → (P f i → ⊥) → IsBest (AtSymbol fs P) f i best →
+pub best_past : (fs : List ObjectValue) (P : ℕ → ℕ → Type 0) (f i : ℕ) (best : Option SymbolId) → (P f i → ⊥) → IsBest (AtSymbol fs P) f i best →
     IsBest (AtSymbol fs P) f (i + 1) best
 best_past fs P f i None other none = none_past fs P f i other none
 best_past fs P f i (Some s) other is = first_past (AtSymbol fs P) f i s is
 
-pub best_next : (fs : List ObjectValue) (P : ℕ → ℕ → Type 0) (f i : ℕ) (best now : Option Spot) (passes : Bool) → f < length fs →
-    i < length (object_at fs f).symbols → (passes ≡ true) ↔ P f i → now ≡ first_or best passes (spot_in f i) → IsBest (AtSymbol fs P) f i best →
+pub best_next : (fs : List ObjectValue) (P : ℕ → ℕ → Type 0) (f i : ℕ) (best now : Option SymbolId) (passes : Bool) → f < length fs →
+    i < length (object_at fs f).symbols → (passes ≡ true) ↔ P f i → now ≡ first_or best passes (id_in f i) → IsBest (AtSymbol fs P) f i best →
     IsBest (AtSymbol fs P) f (i + 1) now
 best_next fs P f i (Some s) now passes file index tells is best = subst (IsBest (AtSymbol fs P) f (i + 1)) (sym is) (first_past (AtSymbol fs P) f i s best)
 best_next fs P f i None now true file index tells is none =
@@ -147,7 +144,7 @@ block_more fs name f i b now file index here first size align is = record {
 }
 
 pub block_one : (fs : List ObjectValue) (name : List ℕ) (f i : ℕ) (now : Block) → f < length fs → i < length (object_at fs f).symbols →
-    IsCommon fs name f i → now.first ≡ spot_in f i → now.size ≡ (symbol_in fs f i).size → now.align ≡ (symbol_in fs f i).value →
+    IsCommon fs name f i → now.first ≡ id_in f i → now.size ≡ (symbol_in fs f i).size → now.align ≡ (symbol_in fs f i).value →
     NoneBefore (commons fs name) f i → IsBlock fs name f (i + 1) now
 block_one fs name f i now file index here first size align none = record {
   first = subst (IsFirstBefore (commons fs name) f (i + 1)) (sym first) (first_here fs (IsCommon fs name) f i file index here none);
@@ -181,7 +178,7 @@ known_other fs name f i k other is = record {
 
 -- nothing is known of a name without entries
 pub known_none : (fs : List ObjectValue) (name : List ℕ) (f i : ℕ) → NoneBefore (entries fs name) f i →
-    IsKnownBefore fs name f i (record { first = spot_in f i; strong = None; weak = None; common = None; not_weak = false })
+    IsKnownBefore fs name f i (record { first = id_in f i; strong = None; weak = None; common = None; not_weak = false })
 known_none fs name f i none = record {
   strong = λ p (file, index, here, entry) earlier. none p (file, index, strong_entry fs name p.file p.index here, entry) earlier;
   weak = λ p (file, index, here, entry) earlier. none p (file, index, weak_entry fs name p.file p.index here, entry) earlier;
@@ -223,27 +220,6 @@ none_placed fs f i position ks name at is =
     let many = length-map ks first_site in
     none_listed fs f i (map first_site ks) name is.firsts (λ k lt. not_placed fs f i position ks name at is k (omega arith))
 
-pub known_placed : (fs : List ObjectValue) (f i : ℕ) (position : List ℕ → Option ℕ) (ks : List Known) (name : List ℕ) (k : ℕ) →
-    position name ≡ Some k → AreKnownBefore fs f i position ks → IsKnownBefore fs name f i (known_at ks k)
-known_placed fs f i position ks name k at is =
-    let (lt, named) = placed_at fs f i position ks name k at is in
-    subst (λ n. IsKnownBefore fs n f i (known_at ks k)) named (is.each k lt)
-
-names_none : (fs : List ObjectValue) (position : List ℕ → Option ℕ) → ((q : List ℕ) → position q ≡ None) → AreKnownBefore fs 0 0 position []
-names_none fs position empty = record {
-  places = λ name. subst (λ (o : Option ℕ). MatchOption o ((k : ℕ) → k < 0 → name_at fs (site_at [] k) ≡ name → ⊥) (λ k. (k < 0) × (name_at fs (site_at [] k) ≡ name)))
-      (sym (empty name)) (λ k lt is. omega arith);
-  firsts = record {
-    each = λ k lt. absurd (omega arith);
-    all = λ p (row, earlier). absurd (elim earlier [ inl below ↦ omega arith | inr (same, below) ↦ omega arith ]);
-    order = λ j k lt within. absurd (omega arith);
-  };
-  each = λ k lt. absurd (omega arith);
-}
-
-pub names_empty : (fs : List ObjectValue) (position : List ℕ → Option ℕ) (ks : List Known) → ks ≡ [] → ((q : List ℕ) → position q ≡ None) → AreKnownBefore fs 0 0 position ks
-names_empty fs position ks none empty = subst (AreKnownBefore fs 0 0 position) (sym none) (names_none fs position empty)
-
 pub names_local : (fs : List ObjectValue) (f i : ℕ) (position : List ℕ → Option ℕ) (ks : List Known) → binding (symbol_in fs f i) ≡ STB_LOCAL →
     AreKnownBefore fs f i position ks → AreKnownBefore fs f (i + 1) position ks
 names_local fs f i position ks local is = record {
@@ -266,7 +242,7 @@ names_again fs f i old now ks k known same at first next is =
     let name = (symbol_in fs f i).name in
     let (lt, named) = placed_at fs f i old ks name k at is in
     let many = length-map ks first_site in
-    let sites : map first_site (set ks k known) ≡ map first_site ks = map-set_same first_site ks k known no_known (ap spot_site first) in
+    let sites : map first_site (set ks k known) ≡ map first_site ks = map-set_same first_site ks k known no_known (ap id_site first) in
     let long : length (set ks k known) ≡ length ks = length-set ks k known in
     record {
       places = λ q. rw (same q, sites, long) (is.places q);
@@ -290,14 +266,14 @@ names_again fs f i old now ks k known same at first next is =
 pub names_new : (fs : List ObjectValue) (f i : ℕ) (old now : List ℕ → Option ℕ) (ks : List Known) (known : Known) → f < length fs →
     i < length (object_at fs f).symbols → binding (symbol_in fs f i) ≢ STB_LOCAL →
     ((q : List ℕ) → now q ≡ (if bytes_eq (symbol_in fs f i).name q then Some (length ks) else old q)) → old (symbol_in fs f i).name ≡ None →
-    known.first ≡ spot_in f i → IsKnownBefore fs (symbol_in fs f i).name f (i + 1) known → AreKnownBefore fs f i old ks →
+    known.first ≡ id_in f i → IsKnownBefore fs (symbol_in fs f i).name f (i + 1) known → AreKnownBefore fs f i old ks →
     AreKnownBefore fs f (i + 1) now (ks ++ known ∷ [])
 names_new fs f i old now ks known file index not_local added missing first next is =
     let name = (symbol_in fs f i).name in
     let none = not_placed fs f i old ks name missing is in
     let none_entry = none_placed fs f i old ks name missing is in
     let many = length-map ks first_site in
-    let sites : map first_site (ks ++ known ∷ []) ≡ map first_site ks ++ site f i ∷ [] = map-append first_site ks (known ∷ []) ∙ ap (λ (s : Spot). map first_site ks ++ spot_site s ∷ []) first in
+    let sites : map first_site (ks ++ known ∷ []) ≡ map first_site ks ++ site f i ∷ [] = map-append first_site ks (known ∷ []) ∙ ap (λ (s : SymbolId). map first_site ks ++ id_site s ∷ []) first in
     let long : length (ks ++ known ∷ []) ≡ length ks + 1 = simp length-append in
     let last : site_at (map first_site ks ++ site f i ∷ []) (length ks) ≡ site f i = get_or_push (map first_site ks) (site f i) (site 0 0) (length ks) many in
     let kept : (k : ℕ) → k < length ks → site_at (map first_site ks ++ site f i ∷ []) k ≡ site_at (map first_site ks) k =
@@ -321,17 +297,29 @@ names_new fs f i old now ks known file index not_local added missing first next 
 
 -- ---- the end of a file
 
-file_back : (fs : List ObjectValue) (P : ℕ → ℕ → Type 0) (f : ℕ) (p : Site) → AtSymbol fs P p → IsEarlier p.file p.index (f + 1) 0 →
-    IsEarlier p.file p.index f (length (object_at fs f).symbols)
-file_back fs P f p there (inr (same, never)) = absurd (omega arith)
-file_back fs P f p there (inl below) = elim (cases_lt p.file f) [
+row_back : (count : ObjectValue → ℕ) (fs : List ObjectValue) (P : ℕ → ℕ → Type 0) (f : ℕ) (p : Site) → AtEach count fs P p →
+    IsEarlier p.file p.index (f + 1) 0 → IsEarlier p.file p.index f (count (object_at fs f))
+row_back count fs P f p there (inr (same, never)) = absurd (omega arith)
+row_back count fs P f p there (inl below) = elim (cases_lt p.file f) [
   | inl first ↦ inl first
   | inr above ↦ (
       let same : p.file ≡ f = omega arith in
-      inr (same, subst (λ (n : ℕ). p.index < length (object_at fs n).symbols) same there.1))
+      inr (same, subst (λ (n : ℕ). p.index < count (object_at fs n)) same there.1))
 ]
 
-best_file : (fs : List ObjectValue) (P : ℕ → ℕ → Type 0) (f : ℕ) (best : Option Spot) → IsBest (AtSymbol fs P) f (length (object_at fs f).symbols) best →
+-- what is listed of a row up to the end of a file is listed up to the next one
+pub listed_file : (count : ObjectValue → ℕ) (fs : List ObjectValue) (P : ℕ → ℕ → Type 0) (f : ℕ) (ps : List Site) →
+    Lists (UpTo (AtEach count fs P) f (count (object_at fs f))) ps → Lists (UpTo (AtEach count fs P) (f + 1) 0) ps
+listed_file count fs P f ps =
+    lists_same (UpTo (AtEach count fs P) f (count (object_at fs f))) (UpTo (AtEach count fs P) (f + 1) 0) ps
+    (λ p (row, earlier). (row, file_before p.file p.index f (count (object_at fs f)) earlier))
+    (λ p (row, earlier). (row, row_back count fs P f p row earlier))
+
+file_back : (fs : List ObjectValue) (P : ℕ → ℕ → Type 0) (f : ℕ) (p : Site) → AtSymbol fs P p → IsEarlier p.file p.index (f + 1) 0 →
+    IsEarlier p.file p.index f (length (object_at fs f).symbols)
+file_back fs P f p there earlier = row_back symbol_count fs P f p there earlier
+
+best_file : (fs : List ObjectValue) (P : ℕ → ℕ → Type 0) (f : ℕ) (best : Option SymbolId) → IsBest (AtSymbol fs P) f (length (object_at fs f).symbols) best →
     IsBest (AtSymbol fs P) (f + 1) 0 best
 best_file fs P f None none = λ p there earlier. none p there (file_back fs P f p there earlier)
 best_file fs P f (Some s) (first, earlier) = (first, file_before s.file s.index f (length (object_at fs f).symbols) earlier)
@@ -371,15 +359,13 @@ pub names_file : (fs : List ObjectValue) (f : ℕ) (position : List ℕ → Opti
     AreKnownBefore fs f (length (object_at fs f).symbols) position ks → AreKnownBefore fs (f + 1) 0 position ks
 names_file fs f position ks is = record {
   places = is.places;
-  firsts = lists_same (UpTo (first_entries fs) f (length (object_at fs f).symbols)) (UpTo (first_entries fs) (f + 1) 0) (map first_site ks)
-      (λ p (row, earlier). (row, file_before p.file p.index f (length (object_at fs f).symbols) earlier))
-      (λ p (row, earlier). (row, file_back fs (IsFirstEntry fs) f p row earlier)) is.firsts;
+  firsts = listed_file symbol_count fs (IsFirstEntry fs) f (map first_site ks) is.firsts;
   each = λ k lt. known_file fs (name_at fs (site_at (map first_site ks) k)) f (known_at ks k) (is.each k lt);
 }
 
 -- ---- all symbols
 
-best_whole : (fs : List ObjectValue) (P : ℕ → ℕ → Type 0) (best : Option Spot) → IsBest (AtSymbol fs P) (length fs) 0 best → IsWholeBest (AtSymbol fs P) best
+best_whole : (fs : List ObjectValue) (P : ℕ → ℕ → Type 0) (best : Option SymbolId) → IsBest (AtSymbol fs P) (length fs) 0 best → IsWholeBest (AtSymbol fs P) best
 best_whole fs P None none = λ p there. none p there (inl there.0)
 best_whole fs P (Some s) is = is.0
 
@@ -419,12 +405,6 @@ whole_at fs position ks k lt is =
     let row = (is.firsts.each k (omega arith)).0 in
     whole fs (name_at fs (site_at (map first_site ks) k)) (known_at ks k) (site_at (map first_site ks) k, entry_there fs (site_at (map first_site ks) k) row) (is.each k lt)
 
-pub found_whole : (fs : List ObjectValue) (position : List ℕ → Option ℕ) (ks : List Known) (name : List ℕ) (k : ℕ) → position name ≡ Some k →
-    AreAllKnown fs position ks → IsKnownWhole fs name (known_at ks k)
-found_whole fs position ks name k at is =
-    let (lt, named) = placed_at fs (length fs) 0 position ks name k at is in
-    subst (λ n. IsKnownWhole fs n (known_at ks k)) named (whole_at fs position ks k lt is)
-
 pub found_none : (fs : List ObjectValue) (position : List ℕ → Option ℕ) (ks : List Known) (name : List ℕ) → position name ≡ None →
     AreAllKnown fs position ks → Never (entries fs name)
 found_none fs position ks name at is p there = none_placed fs (length fs) 0 position ks name at is p there (inl there.0)
@@ -436,9 +416,6 @@ whole_firsts fs position ks is =
 pub whole_places : (fs : List ObjectValue) (position : List ℕ → Option ℕ) (ks : List Known) → AreAllKnown fs position ks →
     ArePositionsOf fs (map first_site ks) (length (map first_site ks)) position
 whole_places fs position ks is = subst (λ n. ArePositionsOf fs (map first_site ks) n position) (sym (length-map ks first_site)) is.places
-
-pub site_known : (ks : List Known) (k : ℕ) → k < length ks → site_at (map first_site ks) k ≡ first_site (known_at ks k)
-site_known ks k lt = get_or-map first_site ks k no_known (site 0 0) lt
 
 -- ---- what a name without entries is bound to
 
@@ -458,17 +435,14 @@ unbound fs name none = (
 
 -- ---- by what is known
 
-pub strong_known : (fs : List ObjectValue) (name : List ℕ) (k : Known) (s : Spot) → k.strong ≡ Some s → IsKnownWhole fs name k → IsFirstAt (strong fs name) (spot_site s)
+pub strong_known : (fs : List ObjectValue) (name : List ℕ) (k : Known) (s : SymbolId) → k.strong ≡ Some s → IsKnownWhole fs name k → IsFirstAt (strong fs name) (id_site s)
 strong_known fs name k s at is = subst (IsWholeBest (strong fs name)) at is.strong
 
 pub strong_unknown : (fs : List ObjectValue) (name : List ℕ) (k : Known) → k.strong ≡ None → IsKnownWhole fs name k → Never (strong fs name)
 strong_unknown fs name k at is = subst (IsWholeBest (strong fs name)) at is.strong
 
-pub weak_known : (fs : List ObjectValue) (name : List ℕ) (k : Known) (s : Spot) → k.weak ≡ Some s → IsKnownWhole fs name k → IsFirstAt (weak fs name) (spot_site s)
+pub weak_known : (fs : List ObjectValue) (name : List ℕ) (k : Known) (s : SymbolId) → k.weak ≡ Some s → IsKnownWhole fs name k → IsFirstAt (weak fs name) (id_site s)
 weak_known fs name k s at is = subst (IsWholeBest (weak fs name)) at is.weak
-
-pub weak_unknown : (fs : List ObjectValue) (name : List ℕ) (k : Known) → k.weak ≡ None → IsKnownWhole fs name k → Never (weak fs name)
-weak_unknown fs name k at is = subst (IsWholeBest (weak fs name)) at is.weak
 
 pub common_known : (fs : List ObjectValue) (name : List ℕ) (k : Known) (b : Block) → k.common ≡ Some b → IsKnownWhole fs name k → IsWholeBlock fs name b
 common_known fs name k b at is = subst (λ o. MatchOption o (Never (commons fs name)) (IsWholeBlock fs name)) at is.common
@@ -476,14 +450,6 @@ common_known fs name k b at is = subst (λ o. MatchOption o (Never (commons fs n
 pub common_unknown : (fs : List ObjectValue) (name : List ℕ) (k : Known) → k.common ≡ None → IsKnownWhole fs name k → Never (commons fs name)
 common_unknown fs name k at is = subst (λ o. MatchOption o (Never (commons fs name)) (IsWholeBlock fs name)) at is.common
 
-pub strong_site : (row : Row Site) (best : Option Spot) → IsWholeBest row best → MatchOption (option_map spot_site best) (Never row) (IsFirstAt row)
+pub strong_site : (row : Row Site) (best : Option SymbolId) → IsWholeBest row best → MatchOption (option_map id_site best) (Never row) (IsFirstAt row)
 strong_site row None none = none
 strong_site row (Some s) is = is
-
--- each name is known as a whole, by its first entry
-pub whole_all : (fs : List ObjectValue) (position : List ℕ → Option ℕ) (ks : List Known) → AreAllKnown fs position ks → AreKnownWhole fs ks
-whole_all fs position ks is k lt =
-    let many = length-map ks first_site in (
-      subst (first_entries fs) (site_known ks k lt) ((whole_firsts fs position ks is).each k (omega arith)),
-      subst (λ p. IsKnownWhole fs (name_at fs p) (known_at ks k)) (site_known ks k lt) (whole_at fs position ks k lt is),
-    )

@@ -11,16 +11,16 @@ use Rattle.elf_link_files.specs.Rows.{IsFirstAt}
 use Rattle.elf_link_names.specs.declared.choice.Choice.{Choice}
 use Rattle.elf_link_names.specs.declared.known_names.Block.{Block}
 use Rattle.elf_link_names.specs.declared.known_names.Known.{Known}
-use Rattle.elf_link_names.specs.declared.known_names.Spot.{Spot}
+use Rattle.elf_link_files.specs.declared.ids.SymbolId.{SymbolId}
 use Rattle.elf_link_names.specs.Binds.{Binds, IsLargest, IsUnbound, align_at, commons, entries, not_weak, size_at, strong, weak}
 use Rattle.elf_link_names.specs.Listing.{first_entries}
 use Rattle.elf_link_names.specs.Naming.{ArePositionsOf}
 
-abbrev pub spot_in : ℕ → ℕ → Spot
-spot_in file index = record { file = file; index = index }
+abbrev pub id_in : ℕ → ℕ → SymbolId
+id_in file index = record { file = file; index = index }
 
-abbrev pub spot_site : Spot → Site
-spot_site s = site s.file s.index
+abbrev pub id_site : SymbolId → Site
+id_site s = site s.file s.index
 
 -- no site of the row stands before position i of file f
 abbrev pub NoneBefore : Row Site → ℕ → ℕ → Type 0
@@ -30,16 +30,16 @@ NoneBefore row f i = (p : Site) → row p → IsEarlier p.file p.index f i → �
 abbrev pub SomeBefore : Row Site → ℕ → ℕ → Type 0
 SomeBefore row f i = (p : Site) × row p × IsEarlier p.file p.index f i
 
--- a spot is the first site of the row, and stands before it
-abbrev pub IsFirstBefore : Row Site → ℕ → ℕ → Spot → Type 0
-IsFirstBefore row f i s = IsFirstAt row (spot_site s) × IsEarlier s.file s.index f i
+-- a symbol is the first site of the row, and stands before it
+abbrev pub IsFirstBefore : Row Site → ℕ → ℕ → SymbolId → Type 0
+IsFirstBefore row f i s = IsFirstAt row (id_site s) × IsEarlier s.file s.index f i
 
 -- the first site of the row, where one stands before it
-abbrev pub IsBest : Row Site → ℕ → ℕ → Option Spot → Type 0
+abbrev pub IsBest : Row Site → ℕ → ℕ → Option SymbolId → Type 0
 IsBest row f i best = MatchOption best (NoneBefore row f i) (IsFirstBefore row f i)
 
--- what stood first stays; else the next spot does, where it passes
-abbrev pub first_or : Option Spot → Bool → Spot → Option Spot
+-- what stood first stays; else the next symbol does, where it passes
+abbrev pub first_or : Option SymbolId → Bool → SymbolId → Option SymbolId
 first_or (Some s) passes next = Some s
 first_or None passes next = if passes then Some next else None
 
@@ -65,14 +65,14 @@ pub record IsKnownBefore (fs : List ObjectValue) (name : List ℕ) (f i : ℕ) (
 
 -- that which stands for one that isn't there
 abbrev pub no_known : Known
-no_known = record { first = spot_in 0 0; strong = None; weak = None; common = None; not_weak = false }
+no_known = record { first = id_in 0 0; strong = None; weak = None; common = None; not_weak = false }
 
 abbrev pub known_at : List Known → ℕ → Known
 known_at ks k = get_or ks k no_known
 
 -- the first entry of the name
 abbrev pub first_site : Known → Site
-first_site k = spot_site k.first
+first_site k = id_site k.first
 
 -- what is known of each name before position i of file f, and the position of each name there
 pub record AreKnownBefore (fs : List ObjectValue) (f i : ℕ) (position : List ℕ → Option ℕ) (ks : List Known) : Type 0 where
@@ -81,11 +81,11 @@ pub record AreKnownBefore (fs : List ObjectValue) (f i : ℕ) (position : List �
   pub each : (k : ℕ) → k < length ks → IsKnownBefore fs (name_at fs (site_at (map first_site ks) k)) f i (known_at ks k)
 
 -- all entries of the name
-abbrev pub IsWholeBest : Row Site → Option Spot → Type 0
-IsWholeBest row best = MatchOption best (Never row) (λ s. IsFirstAt row (spot_site s))
+abbrev pub IsWholeBest : Row Site → Option SymbolId → Type 0
+IsWholeBest row best = MatchOption best (Never row) (λ s. IsFirstAt row (id_site s))
 
 pub record IsWholeBlock (fs : List ObjectValue) (name : List ℕ) (b : Block) : Type 0 where
-  pub first : IsFirstAt (commons fs name) (spot_site b.first)
+  pub first : IsFirstAt (commons fs name) (id_site b.first)
   pub size : IsLargest (commons fs name) (size_at fs) b.size
   pub align : IsLargest (commons fs name) (align_at fs) b.align
 
@@ -96,24 +96,14 @@ pub record IsKnownWhole (fs : List ObjectValue) (name : List ℕ) (k : Known) : 
   pub common : MatchOption k.common (Never (commons fs name)) (IsWholeBlock fs name)
   pub not_weak : (k.not_weak ≡ true) ↔ ((p : Site) × not_weak fs name p)
 
--- what a name makes of what is known of it
-abbrev pub Makes : Known → Option Choice → Type 0
-Makes known choice = (fs : List ObjectValue) (name : List ℕ) → IsKnownWhole fs name known → MatchOption choice (IsUnbound fs name) (Binds fs name)
+-- whether a name is bound to nothing, by what is known of it
+abbrev pub TellsUnbound : Known → Bool → Type 0
+TellsUnbound known unbound = (fs : List ObjectValue) (name : List ℕ) → IsKnownWhole fs name known → (unbound ≡ true) ↔ IsUnbound fs name
+
+-- what a bound name makes of what is known of it
+abbrev pub Makes : Known → Choice → Type 0
+Makes known choice = (fs : List ObjectValue) (name : List ℕ) → IsKnownWhole fs name known → (IsUnbound fs name → ⊥) → Binds fs name choice
 
 -- the same past all symbols
 abbrev pub AreAllKnown : List ObjectValue → (List ℕ → Option ℕ) → List Known → Type 0
 AreAllKnown fs position ks = AreKnownBefore fs (length fs) 0 position ks
-
--- whether the first common of a name is symbol i of file f
-abbrev pub IsFirstCommonOf : Known → ℕ → ℕ → Bool → Type 0
-IsFirstCommonOf known f i first = (fs : List ObjectValue) (name : List ℕ) → IsKnownWhole fs name known → (first ≡ true) ↔ IsFirstAt (commons fs name) (site f i)
-
--- whether the first common of a name, which has no GLOBAL definition, is symbol i of file f
-abbrev pub IsChosenOf : Known → ℕ → ℕ → Bool → Type 0
-IsChosenOf known f i chosen = (fs : List ObjectValue) (name : List ℕ) → IsKnownWhole fs name known →
-    (chosen ≡ true) ↔ (IsFirstAt (commons fs name) (site f i) × Never (strong fs name))
-
--- each name is known as a whole, by its first entry
-abbrev pub AreKnownWhole : List ObjectValue → List Known → Type 0
-AreKnownWhole fs ks = (k : ℕ) → k < length ks →
-    first_entries fs (first_site (known_at ks k)) × IsKnownWhole fs (name_at fs (first_site (known_at ks k))) (known_at ks k)

@@ -7,3 +7,7 @@ pub mod ChosenCommons
 pub mod Naming
 pub mod KnownNames
 pub mod NameNumbers
+pub mod NameTable
+pub mod Numbers
+pub mod Resolved
+pub mod Resolution

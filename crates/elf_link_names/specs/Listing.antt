@@ -5,12 +5,10 @@ use Rattle.elf_link_files.specs.Files.{symbol_in}
 use Rattle.elf_link_files.specs.Live.{Live}
 use Rattle.elf_extent.specs.Least.{Never}
 use Rattle.elf_image_rules.specs.Rows.{Row}
-use Rattle.elf_link_files.specs.Rows.{AtEach, AtSymbol, IsFirstAt, section_count, symbol_count}
+use Rattle.elf_link_files.specs.Rows.{AtSection, AtSymbol, IsFirstAt}
 use Rattle.elf_link_files.specs.declared.site.Site.{Site}
 use Rattle.elf_link_files.specs.Symbols.{IsCommon, IsEntry}
 use Rattle.elf_link_files.specs.Listing.{site}
-use Rattle.elf_link_names.specs.declared.listing.Listed.{Listed}
-use Rattle.elf_link_names.specs.declared.listing.Listed.TheVariants.{LiveSections, ChosenCommons}
 use Rattle.elf_link_names.specs.Binds.{commons, entries, strong}
 
 -- a common is chosen where its name has no GLOBAL definition; it stands for the name where it is the first one
@@ -25,14 +23,8 @@ IsFirstEntry fs f i = (let name = (symbol_in fs f i).name in IsEntry fs name f i
 abbrev pub first_entries : List ObjectValue → Row Site
 first_entries fs = AtSymbol fs (IsFirstEntry fs)
 
--- what is listed
-abbrev pub listed_count : Listed → ObjectValue → ℕ
-listed_count LiveSections = section_count
-listed_count ChosenCommons = symbol_count
+abbrev pub chosen_commons : List ObjectValue → Row Site
+chosen_commons fs = AtSymbol fs (IsChosen fs)
 
-abbrev pub IsListed : List ObjectValue → Listed → ℕ → ℕ → Type 0
-IsListed fs LiveSections f i = Live fs f i
-IsListed fs ChosenCommons f i = IsChosen fs f i
-
-abbrev pub listed_row : List ObjectValue → Listed → Row Site
-listed_row fs what = AtEach (listed_count what) fs (IsListed fs what)
+abbrev pub live_sections : List ObjectValue → Row Site
+live_sections fs = AtSection fs (Live fs)

@@ -3,7 +3,14 @@ use Rattle.std.specs.Prelude.{◌≡◌, ◌≢◌, ℕ, Option, Some, List, [],
 use Rattle.elf_field.specs.Abi.{STB_LOCAL}
 use Rattle.elf_object_type.specs.Object.{ObjectValue, binding}
 use Rattle.elf_link_files.specs.Files.{object_at, symbol_in}
+use Rattle.elf_link_files.specs.Ids.{IsSymbolIn, symbol_with}
 use Rattle.elf_link_files.specs.Items.{AreEach}
+use Rattle.elf_link_files.specs.declared.ids.SymbolId.{SymbolId}
+
+-- a symbol that is not local: an entry of its name
+pub record IsEntryIn (fs : List ObjectValue) (id : SymbolId) : Type 0 where
+  pub symbol : IsSymbolIn fs id
+  pub entry : binding (symbol_with fs id) ≢ STB_LOCAL
 
 -- k is where the name of symbol i of file f stands; nothing is said of a local one
 abbrev pub IsNameNumber : List ObjectValue → (List ℕ → Option ℕ) → ℕ → ℕ → ℕ → Type 0

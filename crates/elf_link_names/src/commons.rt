@@ -1,84 +1,96 @@
 //! The commons that are placed: of each name without a global definition one, of the largest size and the largest alignment
 //! (gABI chapter 4, Symbol Table: `SHN_COMMON`).
-ghost use Rattle.std.specs.Prelude.{◌≡◌, IfOk, length, map};
-ghost use Rattle.elf_link_files.specs.Discarded.{AreDiscardMarks};
-ghost use Rattle.elf_link_files.specs.Listing.{Lists};
-ghost use Rattle.elf_link_files.specs.Commons.{AreSymbols};
-ghost use Rattle.elf_link_names.specs.declared.listing.Listed.TheVariants.{ChosenCommons};
-ghost use Rattle.elf_link_names.specs.Listing.{listed_row};
-ghost use Rattle.elf_link_names.specs.KnownNames.{AreAllKnown};
-ghost use Rattle.elf_link_names.specs.NameNumbers.{AreNameNumbers};
-ghost use Rattle.elf_link_positions.specs.Slots.{name_position};
-ghost use Rattle.elf_link_names.specs.ChosenCommons.{AreChosen, AreChosenAt, IsOfLargest};
-ghost use Rattle.elf_link_names.specs.ChosenCommons.{HaveChosen};
+ghost use Rattle.std.specs.Prelude.{◌≡◌, ◌↔◌, ◌+◌, ◌<◌, IfOk, IsTrue, MatchOption, OnOk, length};
+ghost use Rattle.elf_link_files.specs.Ids.{IsSymbolIn};
+ghost use Rattle.elf_link_files.specs.Listing.{UpTo};
+ghost use Rattle.elf_link_names.specs.ChosenCommons.{AreChosen, AreChosenIn, IsBlockOf, IsChosenOf, IsPlacedFor};
+ghost use Rattle.elf_link_names.specs.Listing.{IsChosen, chosen_commons as chosen_row};
 
-use crate::bind::known_of;
-use crate::known_names::KnownNames;
-use crate::listing::{Listed, all_listed};
-use elf_link_files::{Chosen, Site};
-use elf_object_type::Object;
+use crate::known_names::{Block, Known};
+use crate::name_table::NameTable;
+use elf_link_files::{Chosen, SymbolId, site_in};
 use std::alloc::{AllocError, Global};
 
-/// The common that is placed for the chosen one at a site.
-fn chosen_for(
-    objects: &[Object<'_>],
-    names: &KnownNames<'_>,
-    numbers: &[Vec<usize>],
-    site: Site,
-) -> Chosen
-    requires site { listed_row objects.now ChosenCommons site }
-    requires names { AreAllKnown objects.now (name_position names.now.positions) names.now.known.items }
-    requires numbers { AreNameNumbers objects.now (name_position names.now.positions) (map (λ row. row.items) numbers.now) }
-    ensures site { result.site ≡ site }
-    ensures largest { IsOfLargest objects.now result }
+/// Whether two symbols are one.
+fn is_same(one: SymbolId, other: SymbolId) -> bool
+    ensures { IsTrue result ↔ ((one.file ≡ other.file) × (one.index ≡ other.index)) }
 {
-    let known = known_of(objects, names, numbers, site.file, site.index);
-    let Some(block) = known.common else {
-        unreachable!();
-    };
-    Chosen {
-        site,
+    one.file == other.file && one.index == other.index
+}
+
+/// The common of the first symbol of a block, where this is it.
+fn chosen_in(block: Block, id: SymbolId) -> Option<Chosen>
+    ensures { IsBlockOf block id result }
+{
+    if !is_same(block.first, id) {
+        return None;
+    }
+    Some(Chosen {
+        site: site_in(id.file, id.index),
         size: block.size,
         align: block.align,
+    })
+}
+
+/// The common that is placed for a symbol, by what is known of its name; None where the symbol is not the first common of the name, or
+/// the name has a global definition.
+fn chosen_of(known: Known, id: SymbolId) -> Option<Chosen>
+    ensures { IsChosenOf known id result }
+{
+    if let Some(_) = known.strong {
+        return None;
+    }
+    match known.common {
+        Some(block) => chosen_in(block, id),
+        None => None,
     }
 }
 
-/// The commons that are placed for the chosen ones at these sites.
-fn chosen_at(
-    alloc: Global,
-    objects: &[Object<'_>],
-    names: &KnownNames<'_>,
-    numbers: &[Vec<usize>],
-    sites: &[Site],
-) -> Result<Vec<Chosen>, AllocError>
-    requires names { AreAllKnown objects.now (name_position names.now.positions) names.now.known.items }
-    requires numbers { AreNameNumbers objects.now (name_position names.now.positions) (map (λ row. row.items) numbers.now) }
-    requires sites { Lists (listed_row objects.now ChosenCommons) sites.now }
-    ensures { IfOk result (λ commons. AreChosenAt objects.now sites.now (length sites.now) commons.items) }
-{
-    let mut commons = Vec::new(alloc);
-    for k in 0..sites.len() {
-        commons.push(chosen_for(objects, names, numbers, sites[k]))?;
+impl<'l, 'a> NameTable<'l, 'a> {
+    /// The common that is placed for a symbol; None where there is none.
+    fn chosen(&self, id: SymbolId) -> Option<Chosen>
+        requires { IsSymbolIn self.now id }
+        ensures { MatchOption result (IsChosen self.now id.file id.index → ⊥) (IsPlacedFor self.now id) }
+    {
+        if !self.inputs.is_common_entry(id) {
+            return None;
+        }
+        chosen_of(self.known_of(id), id)
     }
-    Ok(commons)
-}
 
-/// All commons that are placed, in the order of the first one of each name. Fails for want of memory alone.
-pub fn chosen_commons(
-    alloc: Global,
-    objects: &[Object<'_>],
-    marks: &[Vec<bool>],
-    names: &KnownNames<'_>,
-    numbers: &[Vec<usize>],
-) -> Result<Vec<Chosen>, AllocError>
-    requires marks { AreDiscardMarks objects.now (map (λ row. row.items) marks.now) }
-    requires names { AreAllKnown objects.now (name_position names.now.positions) names.now.known.items }
-    requires numbers { AreNameNumbers objects.now (name_position names.now.positions) (map (λ row. row.items) numbers.now) }
-    ensures chosen { IfOk result (λ commons. AreChosen objects.now commons.items) }
-    ensures symbols { IfOk result (λ commons. AreSymbols objects.now commons.items) }
-    ensures all { IfOk result (λ commons. HaveChosen objects.now commons.items) }
-{
-    let sites = all_listed(alloc, Listed::ChosenCommons, objects, marks, names, numbers)?;
-    let commons = chosen_at(alloc, objects, names, numbers, &sites)?;
-    Ok(commons)
+    /// Adds the common that is placed for a symbol to those for the symbols before it.
+    fn push_chosen(&self, id: SymbolId, commons: &mut Vec<Chosen>) -> Result<(), AllocError>
+        requires symbol { IsSymbolIn self.now id }
+        requires before { AreChosenIn (UpTo (chosen_row self.now) id.file id.index) self.now commons.old.items }
+        ensures { OnOk result (AreChosenIn (UpTo (chosen_row self.now) id.file (id.index + 1)) self.now commons.new.items) }
+    {
+        let Some(chosen) = self.chosen(id) else {
+            return Ok(());
+        };
+        commons.push(chosen)?;
+        Ok(())
+    }
+
+    /// Adds the commons that are placed for the symbols of a file to those of the files before it.
+    fn push_chosen_of(&self, file: usize, commons: &mut Vec<Chosen>) -> Result<(), AllocError>
+        requires file { file < length self.now }
+        requires before { AreChosenIn (UpTo (chosen_row self.now) file 0) self.now commons.old.items }
+        ensures { OnOk result (AreChosenIn (UpTo (chosen_row self.now) (file + 1) 0) self.now commons.new.items) }
+    {
+        for index in 0..self.inputs.symbol_count(file) {
+            self.push_chosen(SymbolId { file, index }, commons)?;
+        }
+        Ok(())
+    }
+
+    /// All commons that are placed, in the order of the first one of each name. Fails only when out of memory.
+    pub(crate) fn chosen_commons(&self, alloc: Global) -> Result<Vec<Chosen>, AllocError>
+        ensures { IfOk result (λ commons. AreChosen self.now commons.items) }
+    {
+        let mut commons = Vec::new(alloc);
+        for file in 0..self.inputs.file_count() {
+            self.push_chosen_of(file, &mut commons)?;
+        }
+        Ok(commons)
+    }
 }

@@ -1,15 +1,12 @@
 //! Rules 1 to 7: the options, and each file, section and symbol by itself.
-ghost use Rattle.std.specs.Prelude.{◌≡◌, ◌↔◌, ◌<◌, IsTrue, MatchOption, length, map};
-ghost use Rattle.elf_link_files.specs.Discarded.{AreDiscardMarks};
+ghost use Rattle.std.specs.Prelude.{◌↔◌, ◌<◌, IsTrue, MatchOption};
 ghost use Rattle.elf_link_files.specs.FileRules.{AreBadOptions, IsMismatch, link_section_rules, link_symbol_rules, mismatch, option_rules};
 ghost use Rattle.elf_extent.specs.Least.{Never};
 ghost use Rattle.elf_image_rules.specs.Broken.{fault_of};
 ghost use Rattle.elf_link_files.specs.Rows.{FirstAmong, IsFirstAt};
 
 use elf_link_files::rules::*;
-use elf_link_files::site_test::{SiteTest, first_site};
-use elf_link_files::symbol_tests::is_no_power;
-use elf_link_files::{Broken, Options, Site, site_in};
+use elf_link_files::{Broken, Inputs, Options, Site, SiteTest, is_no_power, site_in};
 use elf_object_type::Object;
 
 /// Rule 1: whether the page is no power of two, or the base no multiple of it.
@@ -57,34 +54,29 @@ pub(crate) fn judge_options(
 }
 
 /// Rules 3 to 5: the sections.
-pub(crate) fn judge_sections(
-    objects: &[Object<'_>],
-    marks: &[Vec<bool>],
-) -> Result<(), Broken<Site>>
-    requires marks { AreDiscardMarks objects.now (map (λ row. row.items) marks.now) }
-    ensures { FirstAmong (link_section_rules objects.now) (fault_of result) }
+pub(crate) fn judge_sections(inputs: &Inputs<'_, '_>) -> Result<(), Broken<Site>>
+    ensures { FirstAmong (link_section_rules inputs.now) (fault_of result) }
 {
-    if let Some(site) = first_site(&SiteTest::Tls, objects, marks) {
+    if let Some(site) = inputs.first_site(SiteTest::Tls) {
         return Err(Broken::new(TLS, site));
     }
-    if let Some(site) = first_site(&SiteTest::LinkOrder, objects, marks) {
+    if let Some(site) = inputs.first_site(SiteTest::LinkOrder) {
         return Err(Broken::new(LINK_ORDER, site));
     }
-    if let Some(site) = first_site(&SiteTest::EmptySignature, objects, marks) {
+    if let Some(site) = inputs.first_site(SiteTest::EmptySignature) {
         return Err(Broken::new(EMPTY_SIGNATURE, site));
     }
     Ok(())
 }
 
 /// Rules 6 and 7: the symbols by themselves.
-pub(crate) fn judge_symbols(objects: &[Object<'_>], marks: &[Vec<bool>]) -> Result<(), Broken<Site>>
-    requires marks { AreDiscardMarks objects.now (map (λ row. row.items) marks.now) }
-    ensures { FirstAmong (link_symbol_rules objects.now) (fault_of result) }
+pub(crate) fn judge_symbols(inputs: &Inputs<'_, '_>) -> Result<(), Broken<Site>>
+    ensures { FirstAmong (link_symbol_rules inputs.now) (fault_of result) }
 {
-    if let Some(site) = first_site(&SiteTest::BadSymbol, objects, marks) {
+    if let Some(site) = inputs.first_site(SiteTest::BadSymbol) {
         return Err(Broken::new(BAD_SYMBOL, site));
     }
-    if let Some(site) = first_site(&SiteTest::BadCommon, objects, marks) {
+    if let Some(site) = inputs.first_site(SiteTest::BadCommon) {
         return Err(Broken::new(BAD_COMMON, site));
     }
     Ok(())

@@ -1,39 +1,28 @@
 //! What is known of each name, from one pass over all symbols: its first definitions, its commons, and what else needs it
 //! (gABI chapter 4, Symbol Table).
-ghost use Rattle.std.specs.Prelude.{◌≡◌, ◌↔◌, ◌+◌, ◌<◌, None, Some, false, ℕ, List, IfOk, IsTrue, MatchOption, OnOk, length, map};
+ghost use Rattle.std.specs.Prelude.{◌≡◌, ◌↔◌, ◌+◌, ◌<◌, None, Some, false, IfOk, IsTrue, OnOk, length, map};
 ghost use Rattle.elf_object_type.specs.ObjectView.{symbol_value};
-ghost use Rattle.elf_link_files.specs.Discarded.{AreDiscardMarks};
-ghost use Rattle.elf_link_files.specs.Files.{object_at, symbol_in};
+ghost use Rattle.elf_link_files.specs.Files.{object_at};
+ghost use Rattle.elf_link_files.specs.Ids.{IsSymbolIn, symbol_with};
 ghost use Rattle.elf_link_names.specs.Binds.{not_weak as not_weak_row};
-ghost use Rattle.elf_link_names.specs.KnownNames.{AreAllKnown, AreKnownBefore, IsBlock, IsCommonBest, IsKnownBefore, IsLargerOf, SomeBefore, first_or, spot_in};
+ghost use Rattle.elf_link_names.specs.KnownNames.{AreAllKnown, AreKnownBefore, IsBlock, IsCommonBest, IsKnownBefore, IsLargerOf, SomeBefore, first_or, known_at};
 ghost use Rattle.elf_link_names.specs.NameNumbers.{AreNameNumbers, IsNameNumber, IsNumberRow, KeepsPositions};
 ghost use Rattle.elf_link_positions.specs.Slots.{name_position};
 ghost use Rattle.elf_field.specs.Abi.{STB_LOCAL};
 ghost use Rattle.elf_link_files.specs.Symbols.{IsCommon};
 ghost use Rattle.elf_object_type.specs.Object.{binding as binding_of};
 
-use crate::bind::known_item;
 use elf_field::abi::*;
-use elf_link_files::files::{symbol_count, symbol_of};
-use elf_link_files::symbol_tests::{is_common_entry, is_definition, is_not_weak};
+use elf_link_files::{Inputs, SymbolId};
 use elf_link_positions::NamePositions;
-use elf_object_type::{Object, Symbol};
+use elf_object_type::Symbol;
 use std::alloc::{AllocError, Global};
-
-/// A symbol, by file and position.
-#[derive(Clone, Copy)]
-pub struct Spot {
-    /// The file's position among the objects, from 0.
-    pub file: usize,
-    /// The symbol's position in the file, from 0.
-    pub index: usize,
-}
 
 /// The commons of a name: the first one, and the largest size and alignment of all.
 #[derive(Clone, Copy)]
 pub struct Block {
     /// The first one.
-    pub first: Spot,
+    pub first: SymbolId,
     /// The largest size.
     pub size: u64,
     /// The largest alignment.
@@ -44,18 +33,18 @@ pub struct Block {
 #[derive(Clone, Copy)]
 pub struct Known {
     /// Its first entry.
-    pub first: Spot,
+    pub first: SymbolId,
     /// Its first global definition.
-    pub strong: Option<Spot>,
+    pub strong: Option<SymbolId>,
     /// Its first weak definition.
-    pub weak: Option<Spot>,
+    pub weak: Option<SymbolId>,
     /// Its commons.
     pub common: Option<Block>,
     /// Whether it has an entry that is not weak.
     pub not_weak: bool,
 }
 
-/// What is known of each name, in the order of the first entries, and the position of each there.
+/// What is known of each name, in the order of the first entries, and the position of each there: one item for each name that is not local.
 #[derive(Drop)]
 pub struct KnownNames<'a> {
     /// The position of each name in `known`.
@@ -64,13 +53,21 @@ pub struct KnownNames<'a> {
     pub known: Vec<Known>,
 }
 
+/// What is known of the name at a position.
+pub(crate) fn known_item(known: &[Known], k: usize) -> Known
+    requires { k < length known.now }
+    ensures { result ≡ known_at known.now k }
+{
+    known[k]
+}
+
 /// What stood first, or else this symbol where it passes.
-fn first_of(best: Option<Spot>, passes: bool, file: usize, index: usize) -> Option<Spot>
-    ensures { result ≡ first_or best passes (spot_in file index) }
+fn first_of(best: Option<SymbolId>, passes: bool, id: SymbolId) -> Option<SymbolId>
+    ensures { result ≡ first_or best passes id }
 {
     match best {
         Some(_) => best,
-        None if passes => Some(Spot { file, index }),
+        None if passes => Some(id),
         None => None,
     }
 }
@@ -83,14 +80,13 @@ fn larger(most: u64, other: u64) -> u64
 }
 
 /// The commons of a name, where this symbol is one more.
-fn joined(objects: &[Object<'_>], file: usize, index: usize, block: Option<Block>) -> Block
-    requires file { file < length objects.now }
-    requires index { index < length (object_at objects.now file).symbols }
-    requires common { IsCommon objects.now (symbol_in objects.now file index).name file index }
-    requires before { IsCommonBest objects.now (symbol_in objects.now file index).name file index block }
-    ensures { IsBlock objects.now (symbol_in objects.now file index).name file (index + 1) result }
+fn joined(inputs: &Inputs<'_, '_>, id: SymbolId, block: Option<Block>) -> Block
+    requires symbol { IsSymbolIn inputs.now id }
+    requires common { IsCommon inputs.now (symbol_with inputs.now id).name id.file id.index }
+    requires before { IsCommonBest inputs.now (symbol_with inputs.now id).name id.file id.index block }
+    ensures { IsBlock inputs.now (symbol_with inputs.now id).name id.file (id.index + 1) result }
 {
-    let symbol = symbol_of(objects, file, index);
+    let symbol = inputs.symbol(id);
     match block {
         Some(block) => Block {
             first: block.first,
@@ -98,7 +94,7 @@ fn joined(objects: &[Object<'_>], file: usize, index: usize, block: Option<Block
             align: larger(block.align, symbol.value),
         },
         None => Block {
-            first: Spot { file, index },
+            first: id,
             size: symbol.size,
             align: symbol.value,
         },
@@ -106,68 +102,53 @@ fn joined(objects: &[Object<'_>], file: usize, index: usize, block: Option<Block
 }
 
 /// The commons of a symbol's name, past the symbol.
-fn common_past(
-    objects: &[Object<'_>],
-    file: usize,
-    index: usize,
-    block: Option<Block>,
-) -> Option<Block>
-    requires file { file < length objects.now }
-    requires index { index < length (object_at objects.now file).symbols }
-    requires before { IsCommonBest objects.now (symbol_in objects.now file index).name file index block }
-    ensures { IsCommonBest objects.now (symbol_in objects.now file index).name file (index + 1) result }
+fn common_past(inputs: &Inputs<'_, '_>, id: SymbolId, block: Option<Block>) -> Option<Block>
+    requires symbol { IsSymbolIn inputs.now id }
+    requires before { IsCommonBest inputs.now (symbol_with inputs.now id).name id.file id.index block }
+    ensures { IsCommonBest inputs.now (symbol_with inputs.now id).name id.file (id.index + 1) result }
 {
-    if !is_common_entry(objects, file, index) {
+    if !inputs.is_common_entry(id) {
         return block;
     }
-    Some(joined(objects, file, index, block))
+    Some(joined(inputs, id, block))
 }
 
 /// Whether a symbol's name has an entry that is not weak, past the symbol.
-fn not_weak_past(objects: &[Object<'_>], file: usize, index: usize, found: bool) -> bool
-    requires file { file < length objects.now }
-    requires index { index < length (object_at objects.now file).symbols }
-    requires before { IsTrue found ↔ SomeBefore (not_weak_row objects.now (symbol_in objects.now file index).name) file index }
-    ensures { IsTrue result ↔ SomeBefore (not_weak_row objects.now (symbol_in objects.now file index).name) file (index + 1) }
+fn not_weak_past(inputs: &Inputs<'_, '_>, id: SymbolId, found: bool) -> bool
+    requires symbol { IsSymbolIn inputs.now id }
+    requires before { IsTrue found ↔ SomeBefore (not_weak_row inputs.now (symbol_with inputs.now id).name) id.file id.index }
+    ensures { IsTrue result ↔ SomeBefore (not_weak_row inputs.now (symbol_with inputs.now id).name) id.file (id.index + 1) }
 {
-    if is_not_weak(objects, file, index) {
+    if inputs.is_not_weak(id) {
         return true;
     }
     found
 }
 
 /// What is known of a symbol's name, past the symbol.
-fn known_past(
-    objects: &[Object<'_>],
-    marks: &[Vec<bool>],
-    file: usize,
-    index: usize,
-    known: Known,
-) -> Known
-    requires file { file < length objects.now }
-    requires index { index < length (object_at objects.now file).symbols }
-    requires marks { AreDiscardMarks objects.now (map (λ row. row.items) marks.now) }
-    requires before { IsKnownBefore objects.now (symbol_in objects.now file index).name file index known }
-    ensures known { IsKnownBefore objects.now (symbol_in objects.now file index).name file (index + 1) result }
+fn known_past(inputs: &Inputs<'_, '_>, id: SymbolId, known: Known) -> Known
+    requires symbol { IsSymbolIn inputs.now id }
+    requires before { IsKnownBefore inputs.now (symbol_with inputs.now id).name id.file id.index known }
+    ensures known { IsKnownBefore inputs.now (symbol_with inputs.now id).name id.file (id.index + 1) result }
     ensures first { result.first ≡ known.first }
 {
-    let strong = is_definition(STB_GLOBAL, objects, marks, file, index);
-    let weak = is_definition(STB_WEAK, objects, marks, file, index);
+    let strong = inputs.is_definition(STB_GLOBAL, id);
+    let weak = inputs.is_definition(STB_WEAK, id);
     Known {
         first: known.first,
-        strong: first_of(known.strong, strong, file, index),
-        weak: first_of(known.weak, weak, file, index),
-        common: common_past(objects, file, index, known.common),
-        not_weak: not_weak_past(objects, file, index, known.not_weak),
+        strong: first_of(known.strong, strong, id),
+        weak: first_of(known.weak, weak, id),
+        common: common_past(inputs, id, known.common),
+        not_weak: not_weak_past(inputs, id, known.not_weak),
     }
 }
 
 /// What is known of a name whose first entry is this symbol, before it is looked at.
-fn unknown(file: usize, index: usize) -> Known
-    ensures { result ≡ record { first = spot_in file index; strong = None; weak = None; common = None; not_weak = false } }
+fn unknown(id: SymbolId) -> Known
+    ensures { result ≡ record { first = id; strong = None; weak = None; common = None; not_weak = false } }
 {
     Known {
-        first: Spot { file, index },
+        first: id,
         strong: None,
         weak: None,
         common: None,
@@ -182,23 +163,19 @@ fn is_local(symbol: &Symbol<'_>) -> bool
     symbol.binding() == STB_LOCAL
 }
 
-/// Goes past the symbol at `index` of a file, and answers the number of its name; 0 for a local one.
+/// Goes past a symbol, and returns the number of its name; 0 for a local one.
 fn pass_symbol<'a>(
-    objects: &[Object<'a>],
-    marks: &[Vec<bool>],
-    file: usize,
-    index: usize,
+    inputs: &Inputs<'_, 'a>,
+    id: SymbolId,
     names: &mut KnownNames<'a>,
 ) -> Result<usize, AllocError>
-    requires file { file < length objects.now }
-    requires index { index < length (object_at objects.now file).symbols }
-    requires marks { AreDiscardMarks objects.now (map (λ row. row.items) marks.now) }
-    requires before { AreKnownBefore objects.now file index (name_position names.old.positions) names.old.known.items }
-    ensures names { OnOk result (AreKnownBefore objects.now file (index + 1) (name_position names.new.positions) names.new.known.items) }
-    ensures number { IfOk result (IsNameNumber objects.now (name_position names.new.positions) file index) }
+    requires symbol { IsSymbolIn inputs.now id }
+    requires before { AreKnownBefore inputs.now id.file id.index (name_position names.old.positions) names.old.known.items }
+    ensures names { OnOk result (AreKnownBefore inputs.now id.file (id.index + 1) (name_position names.new.positions) names.new.known.items) }
+    ensures number { IfOk result (IsNameNumber inputs.now (name_position names.new.positions) id.file id.index) }
     ensures kept { OnOk result (KeepsPositions (name_position names.old.positions) (name_position names.new.positions)) }
 {
-    let symbol = symbol_of(objects, file, index);
+    let symbol = inputs.symbol(id);
     let name = symbol.name;
     if is_local(&symbol) {
         return Ok(0);
@@ -208,47 +185,43 @@ fn pass_symbol<'a>(
     match place {
         Some(k) => {
             let known = known_item(&names.known, k);
-            names.known[k] = known_past(objects, marks, file, index, known);
+            names.known[k] = known_past(inputs, id, known);
             Ok(k)
         }
         None => {
-            let known = unknown(file, index);
-            names
-                .known
-                .push(known_past(objects, marks, file, index, known))?;
+            let known = unknown(id);
+            names.known.push(known_past(inputs, id, known))?;
             Ok(next)
         }
     }
 }
 
-/// Goes past the symbols of a file, and answers the number of each one's name.
+/// Goes past the symbols of a file, and returns the number of each one's name.
 fn pass_file<'a>(
     alloc: Global,
-    objects: &[Object<'a>],
-    marks: &[Vec<bool>],
+    inputs: &Inputs<'_, 'a>,
     file: usize,
     names: &mut KnownNames<'a>,
 ) -> Result<Vec<usize>, AllocError>
-    requires file { file < length objects.now }
-    requires marks { AreDiscardMarks objects.now (map (λ row. row.items) marks.now) }
-    requires before { AreKnownBefore objects.now file 0 (name_position names.old.positions) names.old.known.items }
-    ensures names { OnOk result (AreKnownBefore objects.now file (length (object_at objects.now file).symbols) (name_position names.new.positions) names.new.known.items) }
-    ensures numbers { IfOk result (λ row. IsNumberRow objects.now (name_position names.new.positions) file (length (object_at objects.now file).symbols) row.items) }
+    requires file { file < length inputs.now }
+    requires before { AreKnownBefore inputs.now file 0 (name_position names.old.positions) names.old.known.items }
+    ensures names { OnOk result (AreKnownBefore inputs.now file (length (object_at inputs.now file).symbols) (name_position names.new.positions) names.new.known.items) }
+    ensures numbers { IfOk result (λ row. IsNumberRow inputs.now (name_position names.new.positions) file (length (object_at inputs.now file).symbols) row.items) }
     ensures kept { OnOk result (KeepsPositions (name_position names.old.positions) (name_position names.new.positions)) }
 {
-    let count = symbol_count(&objects[file]);
+    let count = inputs.symbol_count(file);
     let mut row = Vec::with_capacity(alloc, count)?;
     for index in 0..count {
-        row.push(pass_symbol(objects, marks, file, index, names)?)?;
+        row.push(pass_symbol(inputs, SymbolId { file, index }, names)?)?;
     }
     Ok(row)
 }
 
 /// How many symbols the files have, for room: no more names are known. It stops at the largest number.
-fn all_symbol_count(objects: &[Object<'_>]) -> usize {
+fn all_symbol_count(inputs: &Inputs<'_, '_>) -> usize {
     let mut count: usize = 0;
-    for file in 0..objects.len() {
-        count = count.saturating_add(symbol_count(&objects[file]));
+    for file in 0..inputs.file_count() {
+        count = count.saturating_add(inputs.symbol_count(file));
     }
     count
 }
@@ -257,19 +230,17 @@ fn all_symbol_count(objects: &[Object<'_>]) -> usize {
 #[tactic(auto, unfolding(crate::specs::NameNumbers::AreNameNumbers))]
 pub(crate) fn known_names<'a>(
     alloc: Global,
-    objects: &[Object<'a>],
-    marks: &[Vec<bool>],
+    inputs: &Inputs<'_, 'a>,
 ) -> Result<(KnownNames<'a>, Vec<Vec<usize>>), AllocError>
-    requires marks { AreDiscardMarks objects.now (map (λ row. row.items) marks.now) }
-    ensures names { IfOk result (λ both. AreAllKnown objects.now (name_position both.0.positions) both.0.known.items) }
-    ensures numbers { IfOk result (λ both. AreNameNumbers objects.now (name_position both.0.positions) (map (λ row. row.items) both.1.items)) }
+    ensures names { IfOk result (λ both. AreAllKnown inputs.now (name_position both.0.positions) both.0.known.items) }
+    ensures numbers { IfOk result (λ both. AreNameNumbers inputs.now (name_position both.0.positions) (map (λ row. row.items) both.1.items)) }
 {
-    let positions = NamePositions::new(alloc, all_symbol_count(objects))?;
+    let positions = NamePositions::new(alloc, all_symbol_count(inputs))?;
     let known = Vec::new(alloc);
     let mut names = KnownNames { positions, known };
-    let mut numbers = Vec::with_capacity(alloc, objects.len())?;
-    for file in 0..objects.len() {
-        numbers.push(pass_file(alloc, objects, marks, file, &mut names)?)?;
+    let mut numbers = Vec::with_capacity(alloc, inputs.file_count())?;
+    for file in 0..inputs.file_count() {
+        numbers.push(pass_file(alloc, inputs, file, &mut names)?)?;
     }
     Ok((names, numbers))
 }

@@ -1,11 +1,11 @@
 //! The names of a link (gABI chapter 4, Symbol Table): what is known of each, what it is bound to, which commons are placed, and
 //! rules 1 to 9, which are asked before anything is placed.
 //!
-//! [`judge`](judge::judge) answers the marks and what is known of all names, or the first of those rules that stands. Begin there:
-//! it asks `file_rules`, then `name_rules`, and [`bind`] tells of one symbol what its name is bound to.
+//! [`judge`](judge::judge) returns the [`Resolution`] of the names, or the first of those rules that is broken. Begin there: it asks
+//! rules 1 to 7 (`file_rules`), makes one pass over all symbols (`known_names`), and asks rules 8 and 9 of the names (`name_rules`).
 #![tactic(auto)]
 
-pub mod bind;
+mod bind;
 mod choice;
 mod commons;
 mod file_rules;
@@ -13,8 +13,9 @@ pub mod judge;
 mod known_names;
 mod listing;
 mod name_rules;
+mod name_table;
+mod ranks;
+mod resolution;
 
 pub use choice::Choice;
-pub use commons::chosen_commons;
-pub use known_names::{Block, Known, KnownNames, Spot};
-pub use listing::{Listed, all_listed};
+pub use resolution::{Resolution, ResolutionParts};

@@ -1,11 +1,12 @@
 -- Places of the parts of a plan.
-use Rattle.std.proofs.Common.{◌≡◌, ℕ, ◌+◌, ◌<◌, ◌≤◌, ◌^◌, List, [], ◌∷◌, get_or, length, map, set, take, zero, suc, inl, inr, refl, sym, ◌∙◌, ap, subst, arith, length-append, add-one}
+use Rattle.std.proofs.Common.{◌≡◌, ℕ, ◌+◌, ◌<◌, ◌≤◌, ◌^◌, List, [], ◌∷◌, ◌++◌, get_or, length, map, set, take, zero, suc, inl, inr, refl, sym, ◌∙◌, ap, subst, arith, length-append, add-one}
 use Rattle.std.specs.Global.{Vec}
 use Rattle.std.specs.Prelude.{Option, Some, slice_index}
 use Rattle.std.specs.List.{flat_map}
 use Rattle.std.specs.Vec.{with_item}
 use Rattle.std.proofs.lemmas.Bool.{cases_lt}
-use Rattle.std.proofs.lemmas.List.{get_or-map, length-map, map-set}
+use Rattle.std.proofs.lemmas.List.{append-nil, get_or-map, length-map, map-set, take_more}
+use Rattle.std.proofs.lemmas.Grind.{flat_map-append}
 use Rattle.std.proofs.lemmas.List.Folds.{length-flat_map-take}
 use Rattle.elf_extent.specs.Place.{end_of}
 use Rattle.elf_extent.proofs.Public.{above_earlier, fits_length}
@@ -14,7 +15,8 @@ use Rattle.elf_link_files.specs.declared.chosen.Chosen.{Chosen}
 use Rattle.elf_link_files.specs.declared.site.Site.{Site}
 use Rattle.elf_link_outputs.specs.Placed.{members_at, start_of}
 use Rattle.elf_link_outputs.specs.Outputs.{part_of, raised}
-use Rattle.elf_link_outputs.specs.Plan.{common_part, flat, output_parts, parts_of}
+use Rattle.elf_link_outputs.specs.Plan.{common_part, flat, output_parts, parts_of, placed}
+use Rattle.elf_link_outputs.specs.Planned.{PlanValue, plan_parts}
 use Rattle.elf_link_outputs.specs.Planning.{ArePlaced, with_cell}
 
 pub places_long : (parts : List (ℕ × ℕ)) (places : List ℕ) → ArePlaced parts places → length places ≡ length parts
@@ -79,6 +81,26 @@ parts_long fs page oss cs =
       length-raised page (map common_part cs),
       length-map cs common_part,
     )
+
+-- ---- one output more
+
+pub flat_more : {A : Type 0} (f : List Site → List A) (groups : List (Vec Site)) (oss : List (List Site)) (i : ℕ) (v : Vec Site) →
+    map (λ ms. ms.items) groups ≡ oss → i < length groups → v ≡ get_or groups i v → flat_map f (take (i + 1) oss) ≡ flat_map f (take i oss) ++ f v.items
+flat_more f groups oss i v same lt at =
+    let many = length-map groups (λ ms. ms.items) in
+    let all = map (λ ms. ms.items) groups in
+    subst (λ (os : List (List Site)). flat_map f (take (i + 1) os) ≡ flat_map f (take i os) ++ f v.items) same
+    (ap (flat_map f) (take_more all i [] (omega arith) ∙ ap (λ (ms : List Site). take i all ++ ms ∷ []) (item_is groups i v lt at)) ∙
+    flat_map-append f (take i all) (v.items ∷ []) ∙ ap (λ (xs : List _). flat_map f (take i all) ++ xs) (append-nil (f v.items)))
+
+-- ---- the places of a plan
+
+pub plan_long : (p : PlanValue) → length (plan_parts p) ≡ length (placed p.plan) + length p.plan.commons
+plan_long p = parts_long p.objects p.page p.plan.outputs p.plan.commons
+
+-- they are as many as its sections and commons
+pub plan_places : (p : PlanValue) (places : List ℕ) → ArePlaced (plan_parts p) places → length places ≡ length (placed p.plan) + length p.plan.commons
+plan_places p places are = places_long (plan_parts p) places are ∙ plan_long p
 
 -- ---- a cell of rows
 

@@ -7,3 +7,10 @@ pub mod Planning
 pub mod OutputGroups
 pub mod Addresses
 pub mod AddressFault
+pub mod Planned
+pub mod OutputsView
+pub mod PlanView
+pub mod AddressedView
+pub mod AddressedFrom
+pub mod LiveView
+pub mod SectionsView

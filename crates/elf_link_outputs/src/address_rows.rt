@@ -41,7 +41,7 @@ fn fill(rows: &mut Vec<Vec<Option<u64>>>, objects: &[Object<'_>], sites: &[Site]
 }
 
 /// The address of each live section, and of no other. Fails for want of memory alone.
-pub fn section_addresses(
+pub(crate) fn section_addresses(
     alloc: Global,
     objects: &[Object<'_>],
     sites: &[Site],

@@ -55,7 +55,7 @@ fn entry_value(parts: &[(u64, u64)], base: u64, target: Target) -> Option<u64>
 
 /// Where everything stands.
 #[derive(Drop)]
-pub struct Addressed {
+pub(crate) struct Places {
     /// The address of each part.
     pub places: Vec<u64>,
     /// The entry symbol's value.
@@ -66,12 +66,12 @@ pub struct Addressed {
 ///
 /// Answers rule 10 where the entry symbol has no value below 2^64, else rule 11 where a part ends at 2^64 or later, and
 /// [`LinkFault::OutOfMemory`] only where memory is refused and none of them stands.
-pub fn addresses(
+pub(crate) fn addresses(
     alloc: Global,
     parts: &[(u64, u64)],
     base: u64,
     target: Target,
-) -> Result<Addressed, LinkFault>
+) -> Result<Places, LinkFault>
     requires { IsTarget parts.now target }
     ensures sound { OnOk result (FirstAmong (address_rules parts.now base target) None) }
     ensures least { IfOk result (λ placed. Least parts.now base placed.places.items) }
@@ -83,7 +83,7 @@ pub fn addresses(
         return Err(LinkFault::from(Broken::new(NO_ENTRY, site_in(0, 0))));
     };
     match place(alloc, parts, base) {
-        Ok(places) => Ok(Addressed { places, entry }),
+        Ok(places) => Ok(Places { places, entry }),
         Err(PlaceFault::Overflow { .. }) => Err(LinkFault::from(Broken::new(
             ADDRESS_OVERFLOW,
             site_in(0, 0),

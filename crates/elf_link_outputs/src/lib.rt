@@ -1,11 +1,11 @@
 //! The output sections of a link (gABI chapter 4, Sections; placement is this project's profile): which live sections stand in
 //! each, the least places of all parts, and rules 10 and 11. It knows nothing of names.
 //!
-//! [`outputs_of`] groups the live sections, [`addresses`](addresses::addresses) places them, and [`placed_outputs`],
-//! [`placed_commons`] and [`section_addresses`] tell where each stands.
+//! [`Outputs`] groups the live sections, [`Plan`] puts the commons behind them, and [`Addressed`] tells where each stands.
 #![tactic(auto)]
 
 mod address_rows;
+mod addressed;
 pub mod addresses;
 mod common;
 mod output;
@@ -14,10 +14,9 @@ mod parts;
 mod placing;
 mod plan;
 
-pub use address_rows::section_addresses;
+pub use addressed::Addressed;
 pub use common::Common;
 pub use output::{Member, Output};
-pub use outputs::outputs_of;
+pub use outputs::Outputs;
 pub use parts::memory_size;
-pub use placing::{placed_commons, placed_outputs};
-pub use plan::{all_parts, placed};
+pub use plan::Plan;

@@ -1,13 +1,14 @@
 //! Output sections: the live sections of each, in order.
 ghost use Rattle.std.specs.Prelude.{◌≡◌, ◌↔◌, ◌+◌, ◌<◌, [], ◌∷◌, ◌++◌, IfOk, IsTrue, OnOk, get_or, length, map, set};
+ghost use Rattle.std.specs.List.{flat_map};
 ghost use Rattle.elf_link_files.specs.Files.{object_at};
-ghost use Rattle.elf_link_files.specs.Listing.{AreIn, Lists, site_at};
-ghost use Rattle.elf_link_outputs.specs.OutputGroups.{AreGrouped, AreGroups, AreGroupsOfKind, AreInOrder, IsKeyOf};
+ghost use Rattle.elf_link_files.specs.Listing.{Lists, site_at};
+ghost use Rattle.elf_link_outputs.specs.OutputGroups.{AreGrouped, AreGroups, AreGroupsOfKind, IsKeyOf};
 ghost use Rattle.elf_link_outputs.specs.Outputs.{Picks, is_no_bits as is_no_bits_of, live as live_row, of_kind, output_flags as output_flags_of, section_at_site};
-ghost use Rattle.elf_link_outputs.specs.Plan.{AreOutputs, flat};
-ghost use Rattle.elf_link_outputs.specs.Planning.{AreAllIn, AreLive, AreSome};
+ghost use Rattle.elf_link_outputs.specs.Plan.{AreOutputs, flat, output_parts};
 ghost use Rattle.elf_object_type.specs.ObjectView.{body_value};
 
+use crate::parts::push_parts;
 use elf_field::abi::*;
 use elf_link_files::Site;
 use elf_link_files::files::section_of;
@@ -15,6 +16,7 @@ use elf_object_type::{Body, Object};
 use indexmap::IndexSet;
 use std::alloc::{AllocError, Global};
 use std::hash::BuildHasher;
+use std::marker::Model;
 
 /// What the sections of one output section have in common.
 #[derive(Clone, Copy, PartialEq, Eq, Hash)]
@@ -55,52 +57,6 @@ fn key_of<'a>(objects: &[Object<'a>], site: Site) -> OutputKey<'a>
     }
 }
 
-/// Whether the section at position `k` of the list has bits, or takes memory without them, as asked.
-fn is_of_kind(without: bool, objects: &[Object<'_>], live: &[Site], k: usize) -> bool
-    requires k { k < length live.now }
-    requires live { Lists (live_row objects.now) live.now }
-    ensures { IsTrue result ↔ (is_no_bits_of (section_at_site objects.now (site_at live.now k)).body ≡ without) }
-{
-    is_no_bits(&section_of(objects, live[k].file, live[k].index).body) == without
-}
-
-/// Adds the section at position `k` of the list to those of its kind before it, where it is of the kind.
-fn push_kind(
-    without: bool,
-    objects: &[Object<'_>],
-    live: &[Site],
-    k: usize,
-    picked: &mut Vec<Site>,
-) -> Result<(), AllocError>
-    requires k { k < length live.now }
-    requires live { Lists (live_row objects.now) live.now }
-    requires before { Picks live.now k (λ p. is_no_bits_of (section_at_site objects.now p).body ≡ without) picked.old.items }
-    ensures { OnOk result (Picks live.now (k + 1) (λ p. is_no_bits_of (section_at_site objects.now p).body ≡ without) picked.new.items) }
-{
-    if !is_of_kind(without, objects, live, k) {
-        return Ok(());
-    }
-    picked.push(live[k])?;
-    Ok(())
-}
-
-/// The live sections with bits or without, in order.
-fn all_of_kind(
-    alloc: Global,
-    without: bool,
-    objects: &[Object<'_>],
-    live: &[Site],
-) -> Result<Vec<Site>, AllocError>
-    requires live { Lists (live_row objects.now) live.now }
-    ensures { IfOk result (λ picked. Lists (of_kind objects.now without) picked.items) }
-{
-    let mut picked = Vec::new(alloc);
-    for k in 0..live.len() {
-        push_kind(without, objects, live, k, &mut picked)?;
-    }
-    Ok(picked)
-}
-
 /// Adds a site to a group.
 fn add_member(groups: &mut Vec<Vec<Site>>, rank: usize, site: Site) -> Result<(), AllocError>
     requires { rank < length groups.old.items }
@@ -111,81 +67,201 @@ fn add_member(groups: &mut Vec<Vec<Site>>, rank: usize, site: Site) -> Result<()
     Ok(())
 }
 
-/// Puts the section at position `k` of the list into the group of its key, which it opens where no section before it has the
-/// key.
-fn group_section<'a, S: BuildHasher + Drop>(
-    alloc: Global,
-    objects: &[Object<'a>],
-    sites: &[Site],
-    k: usize,
-    seen: &mut IndexSet<OutputKey<'a>, S>,
-    groups: &mut Vec<Vec<Site>>,
-) -> Result<(), AllocError>
-    requires k { k < length sites.now }
-    requires sites { AreIn objects.now sites.now }
-    requires order { AreInOrder sites.now }
-    requires before { AreGrouped objects.now sites.now k seen.old.keys (map (λ ms. ms.items) groups.old.items) }
-    ensures { OnOk result (AreGrouped objects.now sites.now (k + 1) seen.new.keys (map (λ ms. ms.items) groups.new.items)) }
-{
-    let (rank, _) = seen.insert_full(key_of(objects, sites[k]))?;
-    if rank < groups.len() {
-        add_member(groups, rank, sites[k])?;
-        return Ok(());
+/// Sections of some files, in order.
+#[derive(Drop)]
+pub(crate) struct Sections<'l, 'a> {
+    objects: &'l [Object<'a>],
+    sites: &'l [Site],
+}
+
+impl<'l, 'a> Model for Sections<'l, 'a> {
+    ghost use Rattle.elf_link_outputs.specs.Planned.{SectionsValue};
+
+    ghost Value = { SectionsValue };
+
+    ghost use Rattle.elf_link_outputs.specs.SectionsView.{AreSections, sections_value};
+
+    ghost view = { sections_value };
+
+    ghost invariant = { AreSections };
+}
+
+impl<'l, 'a> Sections<'l, 'a> {
+    /// Puts the section at position `k` into the group of its key, which it opens where no section before it has the key.
+    fn group_section<S: BuildHasher + Drop>(
+        &self,
+        alloc: Global,
+        k: usize,
+        seen: &mut IndexSet<OutputKey<'a>, S>,
+        groups: &mut Vec<Vec<Site>>,
+    ) -> Result<(), AllocError>
+        requires k { k < length self.now.sites }
+        requires before { AreGrouped self.now.objects self.now.sites k seen.old.keys (map (λ ms. ms.items) groups.old.items) }
+        ensures { OnOk result (AreGrouped self.now.objects self.now.sites (k + 1) seen.new.keys (map (λ ms. ms.items) groups.new.items)) }
+    {
+        let sites = self.sites;
+        let (rank, _) = seen.insert_full(key_of(self.objects, sites[k]))?;
+        if rank < groups.len() {
+            add_member(groups, rank, sites[k])?;
+            return Ok(());
+        }
+        groups.push(vec![in alloc; sites[k]]?)?;
+        Ok(())
     }
-    groups.push(vec![in alloc; sites[k]]?)?;
-    Ok(())
-}
 
-/// The groups of these sections by key, in the order of the first section of each. What the set had before is forgotten.
-fn groups_of<'a, S: BuildHasher + Drop>(
-    alloc: Global,
-    objects: &[Object<'a>],
-    sites: &[Site],
-    seen: &mut IndexSet<OutputKey<'a>, S>,
-) -> Result<Vec<Vec<Site>>, AllocError>
-    requires sites { AreIn objects.now sites.now }
-    requires order { AreInOrder sites.now }
-    ensures { IfOk result (λ groups. AreGroups objects.now sites.now (map (λ ms. ms.items) groups.items)) }
-{
-    seen.clear();
-    let mut groups = Vec::new(alloc);
-    for k in 0..sites.len() {
-        group_section(alloc, objects, sites, k, seen, &mut groups)?;
+    /// Their groups by key, in the order of the first section of each. What the set had before is forgotten.
+    fn groups<S: BuildHasher + Drop>(
+        &self,
+        alloc: Global,
+        seen: &mut IndexSet<OutputKey<'a>, S>,
+    ) -> Result<Vec<Vec<Site>>, AllocError>
+        ensures { IfOk result (λ groups. AreGroups self.now.objects self.now.sites (map (λ ms. ms.items) groups.items)) }
+    {
+        seen.clear();
+        let mut groups = Vec::new(alloc);
+        for k in 0..self.sites.len() {
+            self.group_section(alloc, k, seen, &mut groups)?;
+        }
+        Ok(groups)
     }
-    Ok(groups)
 }
 
-/// The groups of the live sections with bits or without. What the set had before is forgotten.
-fn groups_of_kind<'a, S: BuildHasher + Drop>(
-    alloc: Global,
-    without: bool,
-    objects: &[Object<'a>],
-    live: &[Site],
-    seen: &mut IndexSet<OutputKey<'a>, S>,
-) -> Result<Vec<Vec<Site>>, AllocError>
-    requires { Lists (live_row objects.now) live.now }
-    ensures { IfOk result (λ groups. AreGroupsOfKind objects.now without (map (λ ms. ms.items) groups.items)) }
-{
-    let sites = all_of_kind(alloc, without, objects, live)?;
-    groups_of(alloc, objects, &sites, seen)
+/// The live sections of some files, in order.
+#[derive(Drop)]
+pub(crate) struct LiveSections<'l, 'a> {
+    objects: &'l [Object<'a>],
+    sites: &'l [Site],
 }
 
-/// The members of each output, in order of placement: of those with bits, and behind them of those without. Fails for want of memory alone.
-pub fn outputs_of<'a, S: BuildHasher + Drop>(
-    alloc: Global,
-    objects: &[Object<'a>],
-    live: &[Site],
-    hasher: S,
-) -> Result<Vec<Vec<Site>>, AllocError>
-    requires live { Lists (live_row objects.now) live.now }
-    ensures outputs { IfOk result (λ outputs. AreOutputs objects.now (map (λ ms. ms.items) outputs.items)) }
-    ensures within { IfOk result (λ outputs. AreAllIn objects.now (map (λ ms. ms.items) outputs.items)) }
-    ensures some { IfOk result (λ outputs. AreSome (map (λ ms. ms.items) outputs.items)) }
-    ensures live { IfOk result (λ outputs. AreLive objects.now (flat (map (λ ms. ms.items) outputs.items))) }
-{
-    let mut seen = IndexSet::with_hasher(alloc, hasher);
-    let mut outputs = groups_of_kind(alloc, false, objects, live, &mut seen)?;
-    let mut behind = groups_of_kind(alloc, true, objects, live, &mut seen)?;
-    outputs.append(&mut behind)?;
-    Ok(outputs)
+impl<'l, 'a> Model for LiveSections<'l, 'a> {
+    ghost use Rattle.elf_link_outputs.specs.Planned.{SectionsValue};
+
+    ghost Value = { SectionsValue };
+
+    ghost use Rattle.elf_link_outputs.specs.LiveView.{AreLiveSections, live_value};
+
+    ghost view = { live_value };
+
+    ghost invariant = { AreLiveSections };
+}
+
+impl<'l, 'a> LiveSections<'l, 'a> {
+    /// Whether the section at position `k` has bits, or takes memory without them, as asked.
+    fn is_of_kind(&self, without: bool, k: usize) -> bool
+        requires { k < length self.now.sites }
+        ensures { IsTrue result ↔ (is_no_bits_of (section_at_site self.now.objects (site_at self.now.sites k)).body ≡ without) }
+    {
+        let sites = self.sites;
+        let site = sites[k];
+        is_no_bits(&section_of(self.objects, site.file, site.index).body) == without
+    }
+
+    /// Adds the section at position `k` to those of its kind before it, where it is of the kind.
+    fn push_kind(&self, without: bool, k: usize, picked: &mut Vec<Site>) -> Result<(), AllocError>
+        requires k { k < length self.now.sites }
+        requires before { Picks self.now.sites k (λ p. is_no_bits_of (section_at_site self.now.objects p).body ≡ without) picked.old.items }
+        ensures { OnOk result (Picks self.now.sites (k + 1) (λ p. is_no_bits_of (section_at_site self.now.objects p).body ≡ without) picked.new.items) }
+    {
+        let sites = self.sites;
+        if !self.is_of_kind(without, k) {
+            return Ok(());
+        }
+        picked.push(sites[k])?;
+        Ok(())
+    }
+
+    /// Those with bits or without, in order.
+    fn all_of_kind(&self, alloc: Global, without: bool) -> Result<Vec<Site>, AllocError>
+        ensures { IfOk result (λ picked. Lists (of_kind self.now.objects without) picked.items) }
+    {
+        let mut picked = Vec::new(alloc);
+        for k in 0..self.sites.len() {
+            self.push_kind(without, k, &mut picked)?;
+        }
+        Ok(picked)
+    }
+
+    /// The groups of those with bits or without. What the set had before is forgotten.
+    fn groups_of_kind<S: BuildHasher + Drop>(
+        &self,
+        alloc: Global,
+        without: bool,
+        seen: &mut IndexSet<OutputKey<'a>, S>,
+    ) -> Result<Vec<Vec<Site>>, AllocError>
+        ensures { IfOk result (λ groups. AreGroupsOfKind self.now.objects without (map (λ ms. ms.items) groups.items)) }
+    {
+        let sites = self.all_of_kind(alloc, without)?;
+        let sections = Sections {
+            objects: self.objects,
+            sites: &sites,
+        };
+        sections.groups(alloc, seen)
+    }
+}
+
+/// The output sections of some files: the members of each, in order of placement. Each live section is a member once.
+#[derive(Drop)]
+pub struct Outputs<'l, 'a> {
+    pub(crate) objects: &'l [Object<'a>],
+    pub(crate) groups: Vec<Vec<Site>>,
+}
+
+impl<'l, 'a> Model for Outputs<'l, 'a> {
+    ghost use Rattle.elf_link_outputs.specs.Planned.{OutputsValue};
+
+    ghost Value = { OutputsValue };
+
+    ghost use Rattle.elf_link_outputs.specs.OutputsView.{AreOutputSections, outputs_value};
+
+    ghost view = { outputs_value };
+
+    ghost invariant = { AreOutputSections };
+}
+
+impl<'l, 'a> Outputs<'l, 'a> {
+    /// The output sections of these files, by the list of their live sections: those with bits, and behind them those without.
+    /// Fails for want of memory alone.
+    pub fn new<S: BuildHasher + Drop>(
+        alloc: Global,
+        objects: &'l [Object<'a>],
+        live: &[Site],
+        hasher: S,
+    ) -> Result<Outputs<'l, 'a>, AllocError>
+        requires { Lists (live_row objects.now) live.now }
+        ensures objects { IfOk result (λ outputs. outputs.objects ≡ objects.entry.now) }
+        ensures groups { IfOk result (λ outputs. AreOutputs objects.entry.now outputs.groups) }
+    {
+        let all = LiveSections {
+            objects,
+            sites: live,
+        };
+        let mut seen = IndexSet::with_hasher(alloc, hasher);
+        let mut groups = all.groups_of_kind(alloc, false, &mut seen)?;
+        let mut behind = all.groups_of_kind(alloc, true, &mut seen)?;
+        groups.append(&mut behind)?;
+        Ok(Outputs { objects, groups })
+    }
+
+    /// The members of all outputs, in order. Fails for want of memory alone.
+    pub(crate) fn sites(&self, alloc: Global) -> Result<Vec<Site>, AllocError>
+        ensures { IfOk result (λ sites. sites.items ≡ flat self.now.groups) }
+    {
+        let mut sites = Vec::new(alloc);
+        for members in &self.groups {
+            sites.extend_from_slice(members)?;
+        }
+        Ok(sites)
+    }
+
+    /// The parts of all outputs for a page, in order: those of each output, the first of them raised. Fails for want of memory alone.
+    pub(crate) fn parts(&self, alloc: Global, page: u64) -> Result<Vec<(u64, u64)>, AllocError>
+        ensures { IfOk result (λ parts. parts.items ≡ flat_map (output_parts self.now.objects page) self.now.groups) }
+    {
+        let objects = self.objects;
+        let mut parts = Vec::new(alloc);
+        for members in &self.groups {
+            push_parts(alloc, page, objects, members, &mut parts)?;
+        }
+        Ok(parts)
+    }
 }

@@ -1,8 +1,9 @@
 //! The parts (size, alignment) of output sections, as they are placed (gABI chapter 4, Sections: sh_addralign).
-ghost use Rattle.std.specs.Prelude.{◌≡◌, ◌<◌, IfOk, fold, length, map, max};
+ghost use Rattle.std.specs.Prelude.{◌≡◌, ◌<◌, ◌++◌, IfOk, OnOk, fold, length, map, max};
 ghost use Rattle.elf_link_files.specs.Files.{object_at};
 ghost use Rattle.elf_link_files.specs.Listing.{AreIn};
 ghost use Rattle.elf_link_outputs.specs.Outputs.{memory_size as memory_size_of, part_of as part_of_site, raised};
+ghost use Rattle.elf_link_outputs.specs.Plan.{output_parts};
 ghost use Rattle.elf_object_type.specs.ObjectView.{body_value};
 
 use elf_link_files::Site;
@@ -54,7 +55,7 @@ pub(crate) fn raise(page: u64, parts: &mut Vec<(u64, u64)>)
 }
 
 /// The parts of these sections, in order.
-pub(crate) fn parts_of(
+fn parts_of(
     alloc: Global,
     objects: &[Object<'_>],
     sites: &[Site],
@@ -67,4 +68,21 @@ pub(crate) fn parts_of(
         parts.push(part_of(objects, sites[k]))?;
     }
     Ok(parts)
+}
+
+/// Adds the parts of an output, the first of them raised.
+pub(crate) fn push_parts(
+    alloc: Global,
+    page: u64,
+    objects: &[Object<'_>],
+    members: &[Site],
+    parts: &mut Vec<(u64, u64)>,
+) -> Result<(), AllocError>
+    requires { AreIn objects.now members.now }
+    ensures { OnOk result (parts.new.items ≡ parts.old.items ++ output_parts objects.now page members.now) }
+{
+    let mut own = parts_of(alloc, objects, members)?;
+    raise(page, &mut own);
+    parts.extend_from_slice(&own)?;
+    Ok(())
 }

@@ -76,7 +76,7 @@ fn placed_output<'a>(
 }
 
 /// All outputs at their places. Fails for want of memory alone.
-pub fn placed_outputs<'a>(
+pub(crate) fn placed_outputs<'a>(
     alloc: Global,
     objects: &[Object<'a>],
     outputs: &[Vec<Site>],
@@ -113,7 +113,7 @@ fn placed_common<'a>(objects: &[Object<'a>], common: Chosen, address: u64) -> Co
 }
 
 /// All commons at their places, which are those from position `first` on. Fails for want of memory alone.
-pub fn placed_commons<'a>(
+pub(crate) fn placed_commons<'a>(
     alloc: Global,
     objects: &[Object<'a>],
     commons: &[Chosen],

@@ -1,41 +1,36 @@
-//! The plan of a link: the sections of each output and the commons, in order, and their parts.
-ghost use Rattle.std.specs.Prelude.{◌≡◌, ◌++◌, IfOk, OnOk, map};
-ghost use Rattle.elf_link_files.specs.Listing.{AreIn};
+//! The plan of a link: what is placed, in order.
+ghost use Rattle.std.specs.Prelude.{◌≡◌, IfOk, map};
+ghost use Rattle.elf_link_files.specs.Commons.{AreSymbols};
 ghost use Rattle.elf_link_outputs.specs.Outputs.{raised};
-ghost use Rattle.elf_link_outputs.specs.Plan.{common_part as common_part_of, flat, output_parts, parts_of as parts_of_plan};
-ghost use Rattle.elf_link_outputs.specs.Planning.{AreAllIn};
+ghost use Rattle.elf_link_outputs.specs.Plan.{common_part as common_part_of, placed};
 
-use crate::parts::{parts_of, raise};
+use crate::outputs::Outputs;
+use crate::parts::raise;
 use elf_link_files::{Chosen, Site};
-use elf_object_type::Object;
 use std::alloc::{AllocError, Global};
+use std::marker::Model;
 
-/// The sections of all outputs, in order. Fails for want of memory alone.
-pub fn placed(alloc: Global, outputs: &[Vec<Site>]) -> Result<Vec<Site>, AllocError>
-    ensures { IfOk result (λ sites. sites.items ≡ flat (map (λ ms. ms.items) outputs.now)) }
-{
-    let mut sites = Vec::new(alloc);
-    for members in outputs {
-        sites.extend_from_slice(members)?;
-    }
-    Ok(sites)
+/// What a link places: its output sections, and behind them its commons. The sites are those of all members, in order, and the parts
+/// are those of all members and commons for the page.
+#[derive(Drop)]
+pub struct Plan<'l, 'a> {
+    pub(crate) outputs: Outputs<'l, 'a>,
+    pub(crate) commons: &'l [Chosen],
+    pub(crate) page: u64,
+    pub(crate) sites: Vec<Site>,
+    pub(crate) parts: Vec<(u64, u64)>,
 }
 
-/// Adds the parts of an output, the first of them raised.
-fn push_output(
-    alloc: Global,
-    page: u64,
-    objects: &[Object<'_>],
-    members: &[Site],
-    parts: &mut Vec<(u64, u64)>,
-) -> Result<(), AllocError>
-    requires { AreIn objects.now members.now }
-    ensures { OnOk result (parts.new.items ≡ parts.old.items ++ output_parts objects.now page members.now) }
-{
-    let mut own = parts_of(alloc, objects, members)?;
-    raise(page, &mut own);
-    parts.extend_from_slice(&own)?;
-    Ok(())
+impl<'l, 'a> Model for Plan<'l, 'a> {
+    ghost use Rattle.elf_link_outputs.specs.Planned.{PlanValue};
+
+    ghost Value = { PlanValue };
+
+    ghost use Rattle.elf_link_outputs.specs.PlanView.{IsPlanned, plan_value};
+
+    ghost view = { plan_value };
+
+    ghost invariant = { IsPlanned };
 }
 
 /// The part of a common.
@@ -57,22 +52,35 @@ fn common_parts(alloc: Global, page: u64, commons: &[Chosen]) -> Result<Vec<(u64
     Ok(parts)
 }
 
-/// The parts of all outputs, and behind them those of the commons. Fails for want of memory alone.
-pub fn all_parts(
-    alloc: Global,
-    page: u64,
-    objects: &[Object<'_>],
-    outputs: &[Vec<Site>],
-    commons: &[Chosen],
-) -> Result<Vec<(u64, u64)>, AllocError>
-    requires { AreAllIn objects.now (map (λ ms. ms.items) outputs.now) }
-    ensures { IfOk result (λ parts. parts.items ≡ parts_of_plan objects.now page (record { outputs = map (λ ms. ms.items) outputs.now; commons = commons.now })) }
-{
-    let mut parts = Vec::new(alloc);
-    for members in outputs {
-        push_output(alloc, page, objects, members, &mut parts)?;
+impl<'l, 'a> Plan<'l, 'a> {
+    /// The plan of these outputs, and behind them these commons, each output and the first common at a page. Fails for want of memory
+    /// alone.
+    pub fn new(
+        alloc: Global,
+        page: u64,
+        outputs: Outputs<'l, 'a>,
+        commons: &'l [Chosen],
+    ) -> Result<Plan<'l, 'a>, AllocError>
+        requires { AreSymbols outputs.objects commons.now }
+        ensures { IfOk result (λ plan. plan ≡ record { objects = outputs.entry.objects; page = page; plan = record { outputs = outputs.entry.groups; commons = commons.entry.now } }) }
+    {
+        let sites = outputs.sites(alloc)?;
+        let mut parts = outputs.parts(alloc, page)?;
+        let own = common_parts(alloc, page, commons)?;
+        parts.extend_from_slice(&own)?;
+        Ok(Plan {
+            outputs,
+            commons,
+            page,
+            sites,
+            parts,
+        })
     }
-    let own = common_parts(alloc, page, commons)?;
-    parts.extend_from_slice(&own)?;
-    Ok(parts)
+
+    /// The sections that are placed, in order.
+    pub fn sites(&self) -> &[Site]
+        ensures { result.now ≡ placed self.now.plan }
+    {
+        &self.sites
+    }
 }

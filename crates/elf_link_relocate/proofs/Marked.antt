@@ -10,7 +10,7 @@ use Rattle.elf_link_relocate.specs.declared.field.Field.{Field}
 use Rattle.elf_link_relocate.specs.Collecting.{field_at}
 use Rattle.elf_link_relocate.specs.Entries.{target_at}
 use Rattle.elf_link_relocate.specs.Fields.{HasOffset, content_in, field_start}
-use Rattle.elf_link_relocate.specs.Grid.{IsSectionIn, item, with}
+use Rattle.elf_link_relocate.specs.Grid.{IsSectionOf, item, with}
 use Rattle.elf_link_relocate.specs.Marking.{AreMarksFor, AreUnmarkedRows, IsCovered, IsFieldIn, SharesBefore}
 use Rattle.elf_link_relocate.proofs.Grids.{grid_with, item_here, item_other}
 
@@ -37,7 +37,7 @@ marks_none fs ds rows are = record {
 -- ---- the next field
 
 module _ (fs : List ObjectValue) (ds : List Field) (n : ℕ) (rows : List (List (List Bool))) (after : List Bool)
-    (there : IsSectionIn fs (field_at ds n).site.file (target_at fs (field_at ds n).site))
+    (there : IsSectionOf fs (field_at ds n).site.file (target_at fs (field_at ds n).site))
     (is : AreMarksFor fs ds n rows)
     (marked : IsMarked (item [] rows (field_at ds n).site.file (target_at fs (field_at ds n).site)) (field_start fs (field_at ds n).site) (size_of (field_at ds n).rule.width) after) where
   abbrev d : Field
@@ -143,7 +143,7 @@ module _ (fs : List ObjectValue) (ds : List Field) (n : ℕ) (rows : List (List 
 -- ---- whether the next field shares a byte
 
 module _ (fs : List ObjectValue) (ds : List Field) (k : ℕ) (rows : List (List (List Bool)))
-    (there : IsSectionIn fs (field_at ds k).site.file (target_at fs (field_at ds k).site)) (is : AreMarksFor fs ds k rows) where
+    (there : IsSectionOf fs (field_at ds k).site.file (target_at fs (field_at ds k).site)) (is : AreMarksFor fs ds k rows) where
   abbrev row : List Bool
   row = item [] rows (field_at ds k).site.file (target_at fs (field_at ds k).site)
 

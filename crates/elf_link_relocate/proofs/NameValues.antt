@@ -17,12 +17,11 @@ use Rattle.elf_link_relocate.specs.NameValues.{AreNameValues}
 use Rattle.elf_link_relocate.specs.Values.{IsSmall, bound_value, name_value}
 
 pub number_stands : (fs : List ObjectValue) (m : LinkMapValue) (rows : List (Vec ℕ)) (row : Vec ℕ) (f i k : ℕ) → f < length fs →
-    i < length (object_at fs f).symbols → binding (symbol_in fs f i) ≢ STB_LOCAL → row ≡ get_or rows f row → k ≡ get_or (get_or rows f row).items i k →
+    i < length (object_at fs f).symbols → binding (symbol_in fs f i) ≢ STB_LOCAL → row ≡ get_or rows f row → k ≡ get_or row.items i k →
     AreBindingNumbers fs m (map (λ (r : Vec ℕ). r.items) rows) → StandsAt m.bindings (symbol_in fs f i).name k
 unfolding AreBindingNumbers
 number_stands fs m rows row f i k f_in i_in not_local row_is k_is are =
-    table_read 0 (IsBindingNumber fs m) (λ g. length (object_at fs g).symbols) (length fs) rows row f i k f_in i_in row_is
-    (k_is ∙ ap (λ (r : Vec ℕ). get_or r.items i k) (sym row_is)) are not_local
+    table_read 0 (IsBindingNumber fs m) (λ g. length (object_at fs g).symbols) (length fs) rows row f i k f_in i_in row_is k_is are not_local
 
 pub value_stands : (fs : List ObjectValue) (m : LinkMapValue) (vs : List (Option ℕ)) (name : List ℕ) (k : ℕ) (v : Option ℕ) → StandsAt m.bindings name k →
     v ≡ get_or vs k v → AreNameValues fs m (length m.bindings) vs → (v ≡ name_value fs m name) × IsSmall v

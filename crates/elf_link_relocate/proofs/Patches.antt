@@ -16,7 +16,7 @@ use Rattle.elf_link_relocate.specs.declared.field.Field.{Field}
 use Rattle.elf_link_relocate.specs.Collecting.{field_at}
 use Rattle.elf_link_relocate.specs.Entries.{target_at}
 use Rattle.elf_link_relocate.specs.Fields.{HasField, HasOffset, IsWithin, content_in, field_start}
-use Rattle.elf_link_relocate.specs.Grid.{IsGrid, IsSectionIn, item, with}
+use Rattle.elf_link_relocate.specs.Grid.{IsGrid, IsSectionOf, item, with}
 use Rattle.elf_link_relocate.specs.Judged.{AreJudged}
 use Rattle.elf_link_relocate.specs.LinkingFacts.{IsRead}
 use Rattle.elf_link_relocate.specs.Marking.{IsCovered, IsFieldIn}
@@ -53,7 +53,7 @@ past_items (x ∷ xs) zero le = absurd (omega arith)
 past_items (x ∷ xs) (suc n) le = past_items xs n (omega arith)
 
 -- a section that is there, or none
-item_or : (fs : List ObjectValue) (rows : List (List (Option (List ℕ)))) (f s : ℕ) → IsGrid fs rows → IsSectionIn fs f s ⊎ (item None rows f s ≡ None)
+item_or : (fs : List ObjectValue) (rows : List (List (Option (List ℕ)))) (f s : ℕ) → IsGrid fs rows → IsSectionOf fs f s ⊎ (item None rows f s ≡ None)
 item_or fs rows f s grid = elim (cases_lt f (length fs)) [
   | inr above ↦ inr (ap (λ (row : List (Option (List ℕ))). get_or row s None) (past_rows rows f (let files = grid.files in omega arith)) ∙ refl)
   | inl f_in ↦ elim (cases_lt s (length (object_at fs f).sections)) [

@@ -11,8 +11,8 @@ abbrev pub with : {A : Type 0} → List (List A) → ℕ → ℕ → A → List 
 with rows f s new = set rows f (set (get_or rows f []) s new)
 
 -- a section of a file
-abbrev pub IsSectionIn : List ObjectValue → ℕ → ℕ → Type 0
-IsSectionIn fs f s = (f < length fs) × (s < length (object_at fs f).sections)
+abbrev pub IsSectionOf : List ObjectValue → ℕ → ℕ → Type 0
+IsSectionOf fs f s = (f < length fs) × (s < length (object_at fs f).sections)
 
 -- a row for each file, with an item for each of its sections
 pub record IsGrid {A : Type 0} (fs : List ObjectValue) (rows : List (List A)) : Type 0 where

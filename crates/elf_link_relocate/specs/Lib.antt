@@ -3,9 +3,14 @@ pub mod Entries
 pub mod Fields
 pub mod Values
 pub mod NameValues
+pub mod ValuesView
+pub mod FieldOfView
+pub mod FieldListView
 pub mod Numbers
 pub mod RelocationRules
 pub mod MapFacts
+pub mod Linking
+pub mod LinkingView
 pub mod LinkingFacts
 pub mod Collecting
 pub mod FieldTests
@@ -18,4 +23,6 @@ pub mod Linked
 pub mod CopyView
 pub mod Patching
 pub mod LinkedView
+pub mod Mapped
+pub mod MappedView
 pub mod Sharing

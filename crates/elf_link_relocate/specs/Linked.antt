@@ -11,13 +11,13 @@ use Rattle.elf_link_map.specs.Apart.{BeginsAt}
 use Rattle.elf_link_map.specs.LinkMap.{LinkMapValue}
 use Rattle.elf_link_relocate.specs.declared.linked.Identity.{Identity}
 use Rattle.elf_link_relocate.specs.Fields.{content_in}
-use Rattle.elf_link_relocate.specs.Grid.{IsGrid, IsSectionIn, item}
+use Rattle.elf_link_relocate.specs.Grid.{IsGrid, IsSectionOf, item}
 use Rattle.elf_link_relocate.specs.Memory.{IsMemory}
 use Rattle.elf_link_relocate.specs.RelocationRules.{applied_entry_rules}
 
 -- a live section with bits
 abbrev pub HasLiveBits : List ObjectValue → ℕ → ℕ → Type 0
-HasLiveBits fs f s = IsSectionIn fs f s × Live fs f s × (is_bits (section_in fs f s).body ≡ true)
+HasLiveBits fs f s = IsSectionOf fs f s × Live fs f s × (is_bits (section_in fs f s).body ≡ true)
 
 pub record LinkedValue : Type 0 where
   pub map : LinkMapValue

@@ -1,36 +1,12 @@
 -- What is known of a link while its fields are looked at.
-use Rattle.std.specs.Prelude.{◌≡◌, ℕ, ◌<◌, Some, ℤ, List, length, map}
+use Rattle.std.specs.Prelude.{◌≡◌, ℕ, ◌<◌, Some, ℤ, List, length}
 use Rattle.elf_object_type.specs.Object.{ObjectValue}
-use Rattle.elf_link_field.specs.declared.rule.RelocRule.{RelocRule}
-use Rattle.elf_link_map.specs.BindingNumbers.{AreBindingNumbers}
 use Rattle.elf_link_map.specs.LinkMap.{LinkMapValue}
 use Rattle.elf_link_relocate.specs.declared.field.Field.{Field}
-use Rattle.elf_link_relocate.specs.declared.linking.Linking.{Linking}
-use Rattle.elf_link_relocate.specs.declared.linking.Values.{Values}
 use Rattle.elf_link_relocate.specs.Collecting.{field_at}
 use Rattle.elf_link_relocate.specs.Entries.{target_at}
 use Rattle.elf_link_relocate.specs.Fields.{IsWithin, field_start}
-use Rattle.elf_link_relocate.specs.MapFacts.{IsSoundMap}
-use Rattle.elf_link_relocate.specs.NameValues.{AreNameValues}
 use Rattle.elf_link_relocate.specs.Numbers.{number_at}
-
-abbrev pub linked_objects : Linking → List ObjectValue
-linked_objects l = l.objects.now
-
-abbrev pub linked_map : Linking → LinkMapValue
-linked_map l = l.map.now
-
-abbrev pub relocation_rules_of : Linking → List RelocRule
-relocation_rules_of l = l.rules.now
-
--- the map is sound for the objects
-abbrev pub IsReady : Linking → Type 0
-IsReady l = IsSoundMap (linked_objects l) (linked_map l)
-
--- each symbol has the number of its name, and each name its value
-pub record AreValues (fs : List ObjectValue) (m : LinkMapValue) (v : Values) : Type 0 where
-  pub numbers : AreBindingNumbers fs m (map (λ row. row.items) v.numbers.now)
-  pub names : AreNameValues fs m (length m.bindings) v.names.items
 
 -- the section that a field carries, and the offset there, are those of its entry
 pub record IsInTarget (fs : List ObjectValue) (d : Field) : Type 0 where

@@ -9,7 +9,7 @@ use Rattle.elf_link_relocate.specs.declared.field.Field.{Field}
 use Rattle.elf_link_relocate.specs.Collecting.{field_at}
 use Rattle.elf_link_relocate.specs.Entries.{target_at}
 use Rattle.elf_link_relocate.specs.Fields.{HasOffset, IsWithin, Share, content_in}
-use Rattle.elf_link_relocate.specs.Grid.{IsGrid, IsSectionIn, item, with}
+use Rattle.elf_link_relocate.specs.Grid.{IsGrid, IsSectionOf, item, with}
 
 -- a grid of lists, as contracts see it
 abbrev pub marks_view : List (Vec (Vec Bool)) → List (List (List Bool))
@@ -36,8 +36,8 @@ IsCovered fs ds n f s x = (j : ℕ) × (j < n) × IsFieldIn fs (field_at ds j) f
 -- the bytes of the first n fields have marks, and no others
 pub record AreMarksFor (fs : List ObjectValue) (ds : List Field) (n : ℕ) (rows : List (List (List Bool))) : Type 0 where
   pub grid : IsGrid fs rows
-  pub long : (f s : ℕ) → IsSectionIn fs f s → length (item [] rows f s) ≡ length (content_in fs f s)
-  pub right : (f s x : ℕ) → IsSectionIn fs f s → (get_or (item [] rows f s) x false ≡ true) ↔ IsCovered fs ds n f s x
+  pub long : (f s : ℕ) → IsSectionOf fs f s → length (item [] rows f s) ≡ length (content_in fs f s)
+  pub right : (f s x : ℕ) → IsSectionOf fs f s → (get_or (item [] rows f s) x false ≡ true) ↔ IsCovered fs ds n f s x
 
 -- field k shares a byte with one before it
 abbrev pub SharesBefore : List ObjectValue → List Field → ℕ → Type 0

@@ -1,21 +1,19 @@
 //! All fields of a link, in order.
-ghost use Rattle.std.specs.Prelude.{◌≡◌, ◌+◌, ◌^◌, ◌<◌, IfErr, IfOk, OnOk, length, map as map_list};
-ghost use Rattle.elf_link_files.specs.Files.{object_at};
-ghost use Rattle.elf_link_map.specs.BindingNumbers.{AreBindingNumbers};
+ghost use Rattle.std.specs.Prelude.{◌≡◌, ◌+◌, ◌^◌, ◌<◌, IfErr, IfOk, OnOk, length};
 ghost use Rattle.elf_link_relocate.specs.Collecting.{AreFields, entry_site};
-ghost use Rattle.elf_link_relocate.specs.Entries.{IsApplied};
+ghost use Rattle.elf_link_relocate.specs.FieldOfView.{IsAppliedEntry};
 ghost use Rattle.elf_link_relocate.specs.FieldTests.{IsRuleFault, NoneUnruled};
 ghost use Rattle.elf_link_relocate.specs.Found.{AreFirsts, AreFoundBefore, IsJudgedField, first_of as first_of_list};
-ghost use Rattle.elf_link_relocate.specs.LinkingFacts.{AreFieldsRead, AreValues, IsReady, linked_map, linked_objects, relocation_rules_of};
+ghost use Rattle.elf_link_relocate.specs.Grid.{IsSectionOf};
+ghost use Rattle.elf_link_relocate.specs.LinkingFacts.{AreFieldsRead};
 
-use crate::entries::{are_applied, entry_of};
-use crate::field::{Fields, Judged};
-use crate::linking::{Linking, Values};
-use crate::numbers::judged_field;
+use crate::entries::are_applied;
+use crate::field::{Entry, Field, Fields, Judged};
+use crate::numbers::FieldOf;
 use crate::rules::NO_RULE;
-use crate::values::name_values;
+use crate::values::Values;
 use elf_link_field::{Form, rule_of};
-use elf_link_map::files::{keeps_rules, section_count, section_of};
+use elf_link_map::files::{prove_rules, section_count, section_of};
 use elf_link_map::{Broken, LinkFault, Site};
 use elf_object_type::Body;
 use std::alloc::Global;
@@ -32,15 +30,15 @@ fn first_of(before: Option<usize>, holds: bool, position: usize) -> Option<usize
 
 /// Adds the field of the entry at a site to those before it.
 fn push_field(
-    linking: &Linking<'_, '_>,
+    _values: &Values<'_, '_, '_>,
     site: Site,
     judged: Judged,
     fields: &mut Fields,
 ) -> Result<(), LinkFault>
-    requires judged { IsJudgedField (linked_objects linking.now) (linked_map linking.now) (relocation_rules_of linking.now) site judged }
-    requires before { AreFoundBefore (linked_objects linking.now) (linked_map linking.now) (relocation_rules_of linking.now) site fields.old }
-    ensures ok { OnOk result (AreFoundBefore (linked_objects linking.now) (linked_map linking.now) (relocation_rules_of linking.now) (entry_site site.file site.index (site.entry + 1)) fields.new) }
-    ensures err { IfErr result (IsRuleFault (linked_objects linking.now) (relocation_rules_of linking.now)) }
+    requires judged { IsJudgedField _values.now.objects _values.now.map _values.now.rules site judged }
+    requires before { AreFoundBefore _values.now.objects _values.now.map _values.now.rules site fields.old }
+    ensures ok { OnOk result (AreFoundBefore _values.now.objects _values.now.map _values.now.rules (entry_site site.file site.index (site.entry + 1)) fields.new) }
+    ensures err { IfErr result (IsRuleFault _values.now.objects _values.now.rules) }
 {
     let position = fields.list.len();
     fields.unplaced = first_of(fields.unplaced, judged.unplaced, position);
@@ -54,111 +52,109 @@ fn push_field(
 
 /// Adds the field of an entry to those before it, where it has one.
 fn push_entry(
-    linking: &Linking<'_, '_>,
-    values: &Values<'_>,
-    site: Site,
+    values: &Values<'_, '_, '_>,
+    entry: Entry,
     fields: &mut Fields,
 ) -> Result<(), LinkFault>
-    requires ready { IsReady linking.now }
-    requires values { AreValues (linked_objects linking.now) (linked_map linking.now) values.now }
-    requires applied { IsApplied (linked_objects linking.now) site }
-    requires before { AreFoundBefore (linked_objects linking.now) (linked_map linking.now) (relocation_rules_of linking.now) site fields.old }
-    requires fits { site.entry + 1 < 2 ^ 64 }
-    ensures ok { OnOk result (AreFoundBefore (linked_objects linking.now) (linked_map linking.now) (relocation_rules_of linking.now) (entry_site site.file site.index (site.entry + 1)) fields.new) }
-    ensures err { IfErr result (IsRuleFault (linked_objects linking.now) (relocation_rules_of linking.now)) }
+    requires entry { IsAppliedEntry values.now.objects entry }
+    requires before { AreFoundBefore values.now.objects values.now.map values.now.rules entry.site fields.old }
+    requires fits { entry.site.entry + 1 < 2 ^ 64 }
+    ensures ok { OnOk result (AreFoundBefore values.now.objects values.now.map values.now.rules (entry_site entry.site.file entry.site.index (entry.site.entry + 1)) fields.new) }
+    ensures err { IfErr result (IsRuleFault values.now.objects values.now.rules) }
 {
-    let Some(rule) = rule_of(linking.rules, entry_of(linking.objects, site).kind) else {
-        return Err(Broken::new(NO_RULE, site).into());
+    let linking = values.linking();
+    let Some(rule) = rule_of(linking.rules, entry.relocation.kind) else {
+        return Err(Broken::new(NO_RULE, entry.site).into());
     };
     if rule.form == Form::None {
         return Ok(());
     }
-    let judged = judged_field(linking, values, site, rule);
-    push_field(linking, site, judged, fields)
+    let field = Field {
+        site: entry.site,
+        rule,
+        target: entry.target,
+        offset: entry.relocation.offset as usize,
+        number: 0,
+    };
+    let field_of = FieldOf {
+        values,
+        entry,
+        field,
+    };
+    push_field(values, entry.site, field_of.judged(), fields)
 }
 
 /// Adds the fields of a section's entries.
 fn push_section(
-    linking: &Linking<'_, '_>,
-    values: &Values<'_>,
+    values: &Values<'_, '_, '_>,
     file: usize,
     index: usize,
     fields: &mut Fields,
 ) -> Result<(), LinkFault>
-    requires ready { IsReady linking.now }
-    requires values { AreValues (linked_objects linking.now) (linked_map linking.now) values.now }
-    requires file { file < length (linked_objects linking.now) }
-    requires index { index < length (object_at (linked_objects linking.now) file).sections }
-    requires before { AreFoundBefore (linked_objects linking.now) (linked_map linking.now) (relocation_rules_of linking.now) (entry_site file index 0) fields.old }
-    ensures ok { OnOk result (AreFoundBefore (linked_objects linking.now) (linked_map linking.now) (relocation_rules_of linking.now) (entry_site file (index + 1) 0) fields.new) }
-    ensures err { IfErr result (IsRuleFault (linked_objects linking.now) (relocation_rules_of linking.now)) }
+    requires section { IsSectionOf values.now.objects file index }
+    requires before { AreFoundBefore values.now.objects values.now.map values.now.rules (entry_site file index 0) fields.old }
+    ensures ok { OnOk result (AreFoundBefore values.now.objects values.now.map values.now.rules (entry_site file (index + 1) 0) fields.new) }
+    ensures err { IfErr result (IsRuleFault values.now.objects values.now.rules) }
 {
-    keeps_rules(linking.objects, file);
+    let linking = values.linking();
+    prove_rules(linking.objects, file);
     let Body::Relocs {
+        rela,
         target,
         entries,
-        ..
     } = &section_of(linking.objects, file, index).body
     else {
         return Ok(());
     };
-    if !are_applied(linking.objects, linking.map, file, index, *target) {
+    if !are_applied(linking, file, index, *target) {
         return Ok(());
     }
     for entry in 0..entries.len() {
-        let site = Site { file, index, entry };
-        push_entry(linking, values, site, fields)?;
+        let read = Entry {
+            site: Site { file, index, entry },
+            rela: *rela,
+            target: *target,
+            relocation: entries[entry],
+        };
+        push_entry(values, read, fields)?;
     }
     Ok(())
 }
 
 /// Adds the fields of a file's entries.
-fn push_file(
-    linking: &Linking<'_, '_>,
-    values: &Values<'_>,
-    file: usize,
-    fields: &mut Fields,
-) -> Result<(), LinkFault>
-    requires ready { IsReady linking.now }
-    requires values { AreValues (linked_objects linking.now) (linked_map linking.now) values.now }
-    requires file { file < length (linked_objects linking.now) }
-    requires before { AreFoundBefore (linked_objects linking.now) (linked_map linking.now) (relocation_rules_of linking.now) (entry_site file 0 0) fields.old }
-    ensures ok { OnOk result (AreFoundBefore (linked_objects linking.now) (linked_map linking.now) (relocation_rules_of linking.now) (entry_site (file + 1) 0 0) fields.new) }
-    ensures err { IfErr result (IsRuleFault (linked_objects linking.now) (relocation_rules_of linking.now)) }
+fn push_file(values: &Values<'_, '_, '_>, file: usize, fields: &mut Fields) -> Result<(), LinkFault>
+    requires file { file < length values.now.objects }
+    requires before { AreFoundBefore values.now.objects values.now.map values.now.rules (entry_site file 0 0) fields.old }
+    ensures ok { OnOk result (AreFoundBefore values.now.objects values.now.map values.now.rules (entry_site (file + 1) 0 0) fields.new) }
+    ensures err { IfErr result (IsRuleFault values.now.objects values.now.rules) }
 {
-    for index in 0..section_count(&linking.objects[file]) {
-        push_section(linking, values, file, index, fields)?;
+    let linking = values.linking();
+    let objects = linking.objects;
+    for index in 0..section_count(&objects[file]) {
+        push_section(values, file, index, fields)?;
     }
     Ok(())
 }
 
 /// The fields of all applied entries, by file, section and entry. Answers rule 12, at the first applied entry whose kind has no
-/// relocation rule. The values of names that it works out are gone behind it, since the fields carry what comes of them.
-pub(crate) fn all_fields(
-    alloc: Global,
-    linking: &Linking<'_, '_>,
-    numbers: &[Vec<usize>],
-) -> Result<Fields, LinkFault>
-    requires ready { IsReady linking.now }
-    requires numbers { AreBindingNumbers (linked_objects linking.now) (linked_map linking.now) (map_list (λ row. row.items) numbers.now) }
-    ensures fields { IfOk result (λ fields. AreFields (linked_objects linking.now) (relocation_rules_of linking.now) fields.list.items) }
-    ensures read { IfOk result (λ fields. AreFieldsRead (linked_objects linking.now) (linked_map linking.now) fields.list.items) }
-    ensures firsts { IfOk result (AreFirsts (linked_objects linking.now) (linked_map linking.now)) }
-    ensures ruled { OnOk result (NoneUnruled (linked_objects linking.now) (relocation_rules_of linking.now)) }
-    ensures err { IfErr result (IsRuleFault (linked_objects linking.now) (relocation_rules_of linking.now)) }
+/// relocation rule.
+pub(crate) fn all_fields(alloc: Global, values: &Values<'_, '_, '_>) -> Result<Fields, LinkFault>
+    ensures fields { IfOk result (λ fields. AreFields values.now.objects values.now.rules fields.list.items) }
+    ensures read { IfOk result (λ fields. AreFieldsRead values.now.objects values.now.map fields.list.items) }
+    ensures firsts { IfOk result (AreFirsts values.now.objects values.now.map) }
+    ensures ruled { OnOk result (NoneUnruled values.now.objects values.now.rules) }
+    ensures err { IfErr result (IsRuleFault values.now.objects values.now.rules) }
 {
-    let values = Values {
-        numbers,
-        names: name_values(alloc, linking.objects, linking.map)?,
-    };
     let mut fields = Fields {
         list: Vec::new(alloc),
         unplaced: None,
         out_of_range: None,
         refused: None,
     };
-    for file in 0..linking.objects.len() {
-        push_file(linking, &values, file, &mut fields)?;
+    let linking = values.linking();
+    let objects = linking.objects;
+    for file in 0..objects.len() {
+        push_file(values, file, &mut fields)?;
     }
     Ok(fields)
 }

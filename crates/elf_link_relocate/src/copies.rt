@@ -2,13 +2,13 @@
 ghost use Rattle.std.specs.Prelude.{◌≡◌, ◌<◌, IfOk, length, map as map_list};
 ghost use Rattle.elf_link_files.specs.Files.{object_at};
 ghost use Rattle.elf_link_relocate.specs.CopyView.{copies_view, copy_view};
-ghost use Rattle.elf_link_relocate.specs.MapFacts.{IsSoundMap};
+ghost use Rattle.elf_link_relocate.specs.Grid.{IsSectionOf};
 ghost use Rattle.elf_link_relocate.specs.Patching.{AreAllCopies, AreCopies, IsCopy};
 
 use crate::entries::is_live;
-use elf_link_map::LinkMap;
+use crate::linking::Linking;
 use elf_link_map::files::{section_count, section_of};
-use elf_object_type::{Body, Object};
+use elf_object_type::Body;
 use std::alloc::{AllocError, Global};
 
 /// The copies of all sections of the files, by file and section.
@@ -17,20 +17,17 @@ pub(crate) type Copies = Vec<Vec<Option<Vec<u8>>>>;
 /// A copy of a section's bytes, where it is live and has bits.
 fn copy_of(
     alloc: Global,
-    objects: &[Object<'_>],
-    map: &LinkMap<'_>,
+    linking: &Linking<'_, '_>,
     file: usize,
     section: usize,
 ) -> Result<Option<Vec<u8>>, AllocError>
-    requires sound { IsSoundMap objects.now map.now }
-    requires file { file < length objects.now }
-    requires section { section < length (object_at objects.now file).sections }
-    ensures { IfOk result (λ copy. IsCopy objects.now file section (copy_view copy)) }
+    requires { IsSectionOf linking.now.objects file section }
+    ensures { IfOk result (λ copy. IsCopy linking.now.objects file section (copy_view copy)) }
 {
-    if !is_live(objects, map, file, section) {
+    if !is_live(linking, file, section) {
         return Ok(None);
     }
-    match &section_of(objects, file, section).body {
+    match &section_of(linking.objects, file, section).body {
         Body::Bits(_, content) => Ok(Some(content.to_vec(alloc)?)),
         _ => Ok(None),
     }
@@ -39,33 +36,27 @@ fn copy_of(
 /// The copies of a file's sections.
 fn file_copies(
     alloc: Global,
-    objects: &[Object<'_>],
-    map: &LinkMap<'_>,
+    linking: &Linking<'_, '_>,
     file: usize,
 ) -> Result<Vec<Option<Vec<u8>>>, AllocError>
-    requires sound { IsSoundMap objects.now map.now }
-    requires file { file < length objects.now }
-    ensures { IfOk result (λ row. AreCopies objects.now file (length (object_at objects.now file).sections) (map_list copy_view row.items)) }
+    requires { file < length linking.now.objects }
+    ensures { IfOk result (λ row. AreCopies linking.now.objects file (length (object_at linking.now.objects file).sections) (map_list copy_view row.items)) }
 {
+    let objects = linking.objects;
     let mut row = Vec::new(alloc);
     for section in 0..section_count(&objects[file]) {
-        row.push(copy_of(alloc, objects, map, file, section)?)?;
+        row.push(copy_of(alloc, linking, file, section)?)?;
     }
     Ok(row)
 }
 
 /// The copies of all live sections with bits.
-pub(crate) fn all_copies(
-    alloc: Global,
-    objects: &[Object<'_>],
-    map: &LinkMap<'_>,
-) -> Result<Copies, AllocError>
-    requires { IsSoundMap objects.now map.now }
-    ensures { IfOk result (λ rows. AreAllCopies objects.now (length objects.now) (copies_view rows.items)) }
+pub(crate) fn all_copies(alloc: Global, linking: &Linking<'_, '_>) -> Result<Copies, AllocError>
+    ensures { IfOk result (λ rows. AreAllCopies linking.now.objects (length linking.now.objects) (copies_view rows.items)) }
 {
     let mut rows = Vec::new(alloc);
-    for file in 0..objects.len() {
-        rows.push(file_copies(alloc, objects, map, file)?)?;
+    for file in 0..linking.objects.len() {
+        rows.push(file_copies(alloc, linking, file)?)?;
     }
     Ok(rows)
 }

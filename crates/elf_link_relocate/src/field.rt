@@ -1,6 +1,20 @@
 //! Fields: the bytes that applied entries change.
 use elf_link_field::RelocRule;
 use elf_link_map::Site;
+use elf_object_type::Relocation;
+
+/// An entry, which is read once.
+#[derive(Clone, Copy)]
+pub(crate) struct Entry {
+    /// Where it stands.
+    pub site: Site,
+    /// Whether it has its addend beside it.
+    pub rela: bool,
+    /// The section that it relocates.
+    pub target: usize,
+    /// What stands there.
+    pub relocation: Relocation,
+}
 
 /// An entry that has a field, the relocation rule of its kind, and what the link needs of it, so that no later pass looks it up anew.
 #[derive(Clone, Copy)]

@@ -16,11 +16,13 @@ mod collecting;
 mod copies;
 mod entries;
 mod field;
+mod field_list;
 mod field_test;
 mod judge;
 mod laws;
 mod linked;
 mod linking;
+mod mapped;
 mod marks;
 mod numbers;
 mod patching;
@@ -34,5 +36,6 @@ pub use laws::{
     some_byte, without_entry,
 };
 pub use linked::{Identity, Linked};
+pub use mapped::Mapped;
 pub use relocating::{relocate, relocate_numbered};
 pub use values::binding_value;

@@ -1,17 +1,14 @@
 //! The first field that shares a byte with one before it.
 ghost use Rattle.std.specs.Prelude.{◌≡◌, ◌↔◌, ◌+◌, ◌<◌, ◌≤◌, [], IfOk, IsTrue, MatchOption, get_or, length};
 ghost use Rattle.elf_link_files.specs.Files.{object_at};
-ghost use Rattle.elf_link_relocate.specs.Collecting.{AreFields};
 ghost use Rattle.elf_link_relocate.specs.Grid.{item};
-ghost use Rattle.elf_link_relocate.specs.LinkingFacts.{AreFieldsRead, linked_map, linked_objects, relocation_rules_of};
-ghost use Rattle.elf_link_relocate.specs.Marking.{AllWithin, AreMarksFor, AreUnmarkedRows, HasNoOverlap, IsFirstOverlappingField, IsMarkedIn, IsUnmarkedRow, SharesBefore, marks_view, row_view};
+ghost use Rattle.elf_link_relocate.specs.Marking.{AreMarksFor, AreUnmarkedRows, HasNoOverlap, IsFirstOverlappingField, IsMarkedIn, IsUnmarkedRow, SharesBefore, marks_view, row_view};
 ghost use Rattle.elf_link_field.specs.Rule.{size_of};
 
 use crate::entries::content;
-use crate::field::Field;
-use crate::linking::Linking;
+use crate::field_list::FieldList;
 use elf_link_field::{Width, mark};
-use elf_link_map::files::{keeps_rules, section_count};
+use elf_link_map::files::{prove_rules, section_count};
 use elf_object_type::Object;
 use std::alloc::{AllocError, Global};
 
@@ -58,49 +55,38 @@ fn mark_in(
     mark(&mut marks[file][section], offset, width)
 }
 
-/// Marks the bytes of field `k`, and answers whether it shares one with a field before it.
-fn mark_field(
-    linking: &Linking<'_, '_>,
-    fields: &[Field],
-    k: usize,
-    marks: &mut Vec<Vec<Vec<bool>>>,
-) -> bool
-    requires fields { AreFields (linked_objects linking.now) (relocation_rules_of linking.now) fields.now }
-    requires read { AreFieldsRead (linked_objects linking.now) (linked_map linking.now) fields.now }
-    requires within { AllWithin (linked_objects linking.now) fields.now }
-    requires below { k < length fields.now }
-    requires before { AreMarksFor (linked_objects linking.now) fields.now k (marks_view marks.old.items) }
-    ensures taken { IsTrue result ↔ SharesBefore (linked_objects linking.now) fields.now k }
-    ensures marks { AreMarksFor (linked_objects linking.now) fields.now (k + 1) (marks_view marks.new.items) }
-{
-    let field = fields[k];
-    keeps_rules(linking.objects, field.site.file);
-    mark_in(
-        marks,
-        field.site.file,
-        field.target,
-        field.offset,
-        field.rule.width,
-    )
-}
-
-/// Rule 15: the first field that shares a byte with one before it. It takes a mark for each byte of all sections, so it is asked only where
-/// two fields may share one.
-pub(crate) fn first_overlap(
-    alloc: Global,
-    linking: &Linking<'_, '_>,
-    fields: &[Field],
-) -> Result<Option<usize>, AllocError>
-    requires fields { AreFields (linked_objects linking.now) (relocation_rules_of linking.now) fields.now }
-    requires read { AreFieldsRead (linked_objects linking.now) (linked_map linking.now) fields.now }
-    requires within { AllWithin (linked_objects linking.now) fields.now }
-    ensures { IfOk result (λ found. MatchOption found (HasNoOverlap (linked_objects linking.now) fields.now) (IsFirstOverlappingField (linked_objects linking.now) fields.now)) }
-{
-    let mut marks = no_marks(alloc, linking.objects)?;
-    for k in 0..fields.len() {
-        if mark_field(linking, fields, k, &mut marks) {
-            return Ok(Some(k));
-        }
+impl<'f, 'v, 'l, 'a> FieldList<'f, 'v, 'l, 'a> {
+    /// Marks the bytes of field `k`, and answers whether it shares one with a field before it.
+    fn mark_field(&self, k: usize, marks: &mut Vec<Vec<Vec<bool>>>) -> bool
+        requires below { k < length self.now.fields }
+        requires before { AreMarksFor self.now.objects self.now.fields k (marks_view marks.old.items) }
+        ensures taken { IsTrue result ↔ SharesBefore self.now.objects self.now.fields k }
+        ensures marks { AreMarksFor self.now.objects self.now.fields (k + 1) (marks_view marks.new.items) }
+    {
+        let field = self.field(k);
+        let linking = self.linking();
+        prove_rules(linking.objects, field.site.file);
+        mark_in(
+            marks,
+            field.site.file,
+            field.target,
+            field.offset,
+            field.rule.width,
+        )
     }
-    Ok(None)
+
+    /// Rule 15: the first field that shares a byte with one before it. It takes a mark for each byte of all sections, so it is asked only
+    /// where two fields may share one.
+    pub(crate) fn first_overlap(&self, alloc: Global) -> Result<Option<usize>, AllocError>
+        ensures { IfOk result (λ found. MatchOption found (HasNoOverlap self.now.objects self.now.fields) (IsFirstOverlappingField self.now.objects self.now.fields)) }
+    {
+        let linking = self.linking();
+        let mut marks = no_marks(alloc, linking.objects)?;
+        for k in 0..self.count() {
+            if self.mark_field(k, &mut marks) {
+                return Ok(Some(k));
+            }
+        }
+        Ok(None)
+    }
 }

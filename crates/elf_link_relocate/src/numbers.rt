@@ -1,81 +1,26 @@
 //! The numbers of fields (gABI chapter 4, Relocation).
-ghost use Rattle.std.specs.Prelude.{◌≡◌, ◌↔◌, ◌^◌, ◌<◌, IfSome, IsTrue, Some, pos, neg_ℤ, ◌<ℤ◌, ◌≤ℤ◌, length};
-ghost use Rattle.elf_link_files.specs.Files.{object_at};
+ghost use Rattle.std.specs.Prelude.{◌≡◌, ◌↔◌, ◌^◌, ◌<◌, IsTrue, Some, pos, neg_ℤ, ◌<ℤ◌, ◌≤ℤ◌};
 ghost use Rattle.elf_link_relocate.specs.Fields.{HasField, IsWithin, content_at};
 ghost use Rattle.elf_link_relocate.specs.Found.{IsJudgedField};
-ghost use Rattle.elf_link_relocate.specs.LinkingFacts.{AreValues, IsInTarget, IsReady, linked_map, linked_objects, relocation_rules_of};
+ghost use Rattle.elf_link_relocate.specs.LinkingFacts.{IsInTarget};
 ghost use Rattle.elf_link_relocate.specs.Numbers.{addend_of as addend_at, field_address as field_address_of, number_at};
 ghost use Rattle.elf_link_relocate.specs.RelocationRules.{IsFieldOutOfRange};
-ghost use Rattle.elf_link_relocate.specs.Values.{IsSmall, reference_value, value_at};
+ghost use Rattle.elf_link_relocate.specs.Values.{IsSmall, value_at};
 
-use crate::entries::{content, entry_of, is_rela, target_of};
-use crate::field::{Field, Judged};
-use crate::linking::{Linking, Values};
-use crate::values::resolved_value;
-use elf_link_field::{RelocRule, addend_in};
-use elf_link_map::Site;
-use elf_link_map::files::keeps_rules;
-
-/// The value of a reference from a file to one of its symbols: 0 where it names none.
-fn reference(
-    linking: &Linking<'_, '_>,
-    values: &Values<'_>,
-    file: usize,
-    symbol: Option<usize>,
-) -> Option<u128>
-    requires values { AreValues (linked_objects linking.now) (linked_map linking.now) values.now }
-    requires file { file < length (linked_objects linking.now) }
-    requires symbol { IfSome symbol (λ i. i < length (object_at (linked_objects linking.now) file).symbols) }
-    ensures value { result ≡ reference_value (linked_objects linking.now) (linked_map linking.now) file symbol }
-    ensures small { IsSmall result }
-{
-    match symbol {
-        Some(index) => resolved_value(linking, values, file, index),
-        None => Some(0),
-    }
-}
-
-/// The value of a field's symbol.
-fn value_of(linking: &Linking<'_, '_>, values: &Values<'_>, field: Field) -> Option<u128>
-    requires values { AreValues (linked_objects linking.now) (linked_map linking.now) values.now }
-    requires field { HasField (linked_objects linking.now) (relocation_rules_of linking.now) field.site field.rule }
-    ensures value { result ≡ value_at (linked_objects linking.now) (linked_map linking.now) field.site }
-    ensures small { IsSmall result }
-{
-    keeps_rules(linking.objects, field.site.file);
-    let symbol = entry_of(linking.objects, field.site).symbol;
-    reference(linking, values, field.site.file, symbol)
-}
-
-/// The bytes of the section that a field is in.
-fn target_content<'a>(linking: &Linking<'_, 'a>, field: Field) -> &'a [u8]
-    requires field { HasField (linked_objects linking.now) (relocation_rules_of linking.now) field.site field.rule }
-    requires place { IsInTarget (linked_objects linking.now) field }
-    ensures { result.now ≡ content_at (linked_objects linking.now) field.site }
-{
-    content(linking.objects, field.site.file, field.target)
-}
-
-/// Rule 14: whether a field passes the end of its target.
-fn is_field_out_of_range(linking: &Linking<'_, '_>, field: Field) -> bool
-    requires field { HasField (linked_objects linking.now) (relocation_rules_of linking.now) field.site field.rule }
-    requires place { IsInTarget (linked_objects linking.now) field }
-    ensures { IsTrue result ↔ IsFieldOutOfRange (linked_objects linking.now) field.site field.rule }
-{
-    let length = target_content(linking, field).len();
-    match length.checked_sub(field.rule.width.size()) {
-        Some(last) => field.offset > last,
-        None => true,
-    }
-}
+use crate::entries::content;
+use crate::field::{Entry, Field, Judged};
+use crate::linking::Linking;
+use crate::values::Values;
+use elf_link_field::addend_in;
+use elf_link_map::files::prove_rules;
+use std::marker::Model;
 
 /// The address of a field that ends within its target.
 pub(crate) fn field_address(linking: &Linking<'_, '_>, field: Field) -> u64
-    requires ready { IsReady linking.now }
-    requires field { HasField (linked_objects linking.now) (relocation_rules_of linking.now) field.site field.rule }
-    requires place { IsInTarget (linked_objects linking.now) field }
-    requires within { IsWithin (linked_objects linking.now) field.site field.rule }
-    ensures { result ≡ field_address_of (linked_objects linking.now) (linked_map linking.now) field.site }
+    requires field { HasField linking.now.objects linking.now.rules field.site field.rule }
+    requires place { IsInTarget linking.now.objects field }
+    requires within { IsWithin linking.now.objects field.site field.rule }
+    ensures { result ≡ field_address_of linking.now.objects linking.now.map field.site }
 {
     let start = linking
         .map
@@ -84,95 +29,123 @@ pub(crate) fn field_address(linking: &Linking<'_, '_>, field: Field) -> u64
     start + field.offset as u64
 }
 
-/// The addend of a field that ends within its target: that of its entry, or the number that stands in it.
-fn addend_of(linking: &Linking<'_, '_>, field: Field) -> i128
-    requires field { HasField (linked_objects linking.now) (relocation_rules_of linking.now) field.site field.rule }
-    requires place { IsInTarget (linked_objects linking.now) field }
-    requires within { IsWithin (linked_objects linking.now) field.site field.rule }
-    ensures value { result ≡ addend_at (linked_objects linking.now) field.site field.rule }
-    ensures low { neg_ℤ (pos (2 ^ 63)) ≤ℤ result }
-    ensures high { result <ℤ pos (2 ^ 64) }
-{
-    if is_rela(linking.objects, field.site) {
-        return entry_of(linking.objects, field.site).addend as i128;
+/// A field with its entry, while its number is worked out: to a contract it is the link, and the field.
+#[derive(Drop)]
+pub(crate) struct FieldOf<'f, 'v, 'l, 'a> {
+    pub(crate) values: &'f Values<'v, 'l, 'a>,
+    pub(crate) entry: Entry,
+    pub(crate) field: Field,
+}
+
+impl<'f, 'v, 'l, 'a> Model for FieldOf<'f, 'v, 'l, 'a> {
+    ghost use Rattle.elf_link_relocate.specs.Linking.{FieldOfValue};
+
+    ghost Value = { FieldOfValue };
+
+    ghost use Rattle.elf_link_relocate.specs.FieldOfView.{HasItsEntry, field_of_value};
+
+    ghost view = { field_of_value };
+
+    ghost invariant = { HasItsEntry };
+}
+
+impl<'f, 'v, 'l, 'a> FieldOf<'f, 'v, 'l, 'a> {
+    /// The value of its symbol.
+    fn value(&self) -> Option<u128>
+        ensures value { result ≡ value_at self.now.objects self.now.map self.now.field.site }
+        ensures small { IsSmall result }
+    {
+        let linking = self.values.linking();
+        prove_rules(linking.objects, self.field.site.file);
+        self.values
+            .reference(self.field.site.file, self.entry.relocation.symbol)
     }
-    addend_in(
-        linking.objects[field.site.file].order(),
-        field.rule.range,
-        field.rule.width,
-        target_content(linking, field),
-        field.offset,
-    )
-}
 
-/// The number of a field that ends within its target, by the value of its symbol.
-fn number_of(linking: &Linking<'_, '_>, field: Field, value: u128) -> i128
-    requires ready { IsReady linking.now }
-    requires field { HasField (linked_objects linking.now) (relocation_rules_of linking.now) field.site field.rule }
-    requires place { IsInTarget (linked_objects linking.now) field }
-    requires within { IsWithin (linked_objects linking.now) field.site field.rule }
-    requires value { value_at (linked_objects linking.now) (linked_map linking.now) field.site ≡ Some value }
-    requires small { value < 2 ^ 65 }
-    ensures { number_at (linked_objects linking.now) (linked_map linking.now) field.site field.rule ≡ Some result }
-{
-    field.rule.form.number(
-        value,
-        addend_of(linking, field),
-        field_address(linking, field),
-    )
-}
-
-/// The field of an entry, without its number.
-fn field_of(linking: &Linking<'_, '_>, site: Site, rule: RelocRule) -> Field
-    requires { HasField (linked_objects linking.now) (relocation_rules_of linking.now) site rule }
-    ensures site { result.site ≡ site }
-    ensures rule { result.rule ≡ rule }
-    ensures place { IsInTarget (linked_objects linking.now) result }
-{
-    Field {
-        site,
-        rule,
-        target: target_of(linking.objects, site),
-        offset: entry_of(linking.objects, site).offset as usize,
-        number: 0,
+    /// The bytes of the section that it is in.
+    fn content(&self) -> &'a [u8]
+        ensures { result.now ≡ content_at self.now.objects self.now.field.site }
+    {
+        let linking = self.values.linking();
+        content(linking.objects, self.field.site.file, self.field.target)
     }
-}
 
-/// The field of an entry, by the first relocation rule of its kind, and which rules it breaks. Here alone its number is worked out.
-pub(crate) fn judged_field(
-    linking: &Linking<'_, '_>,
-    values: &Values<'_>,
-    site: Site,
-    rule: RelocRule,
-) -> Judged
-    requires ready { IsReady linking.now }
-    requires values { AreValues (linked_objects linking.now) (linked_map linking.now) values.now }
-    requires field { HasField (linked_objects linking.now) (relocation_rules_of linking.now) site rule }
-    ensures { IsJudgedField (linked_objects linking.now) (linked_map linking.now) (relocation_rules_of linking.now) site result }
-{
-    let field = field_of(linking, site, rule);
-    let out_of_range = is_field_out_of_range(linking, field);
-    let Some(value) = value_of(linking, values, field) else {
-        return Judged {
-            field,
-            unplaced: true,
-            out_of_range,
-            refused: false,
+    /// Rule 14: whether it passes the end of its target.
+    fn is_out_of_range(&self) -> bool
+        ensures { IsTrue result ↔ IsFieldOutOfRange self.now.objects self.now.field.site self.now.field.rule }
+    {
+        match self
+            .content()
+            .len()
+            .checked_sub(self.field.rule.width.size())
+        {
+            Some(last) => self.field.offset > last,
+            None => true,
+        }
+    }
+
+    /// Its addend, where it ends within its target: that of its entry, or the number that stands in it.
+    fn addend(&self) -> i128
+        requires { IsWithin self.now.objects self.now.field.site self.now.field.rule }
+        ensures value { result ≡ addend_at self.now.objects self.now.field.site self.now.field.rule }
+        ensures low { neg_ℤ (pos (2 ^ 63)) ≤ℤ result }
+        ensures high { result <ℤ pos (2 ^ 64) }
+    {
+        if self.entry.rela {
+            return self.entry.relocation.addend as i128;
+        }
+        let linking = self.values.linking();
+        let objects = linking.objects;
+        addend_in(
+            objects[self.field.site.file].order(),
+            self.field.rule.range,
+            self.field.rule.width,
+            self.content(),
+            self.field.offset,
+        )
+    }
+
+    /// Its number, where it ends within its target, by the value of its symbol.
+    fn number(&self, value: u128) -> i128
+        requires within { IsWithin self.now.objects self.now.field.site self.now.field.rule }
+        requires value { value_at self.now.objects self.now.map self.now.field.site ≡ Some value }
+        requires small { value < 2 ^ 65 }
+        ensures { number_at self.now.objects self.now.map self.now.field.site self.now.field.rule ≡ Some result }
+    {
+        self.field.rule.form.number(
+            value,
+            self.addend(),
+            field_address(self.values.linking(), self.field),
+        )
+    }
+
+    /// It with its number, and which rules it breaks. Here alone its number is worked out.
+    pub(crate) fn judged(&self) -> Judged
+        ensures { IsJudgedField self.now.objects self.now.map self.now.rules self.now.field.site result }
+    {
+        let field = self.field;
+        let out_of_range = self.is_out_of_range();
+        let Some(value) = self.value() else {
+            return Judged {
+                field,
+                unplaced: true,
+                out_of_range,
+                refused: false,
+            };
         };
-    };
-    if out_of_range {
-        return Judged {
-            field,
+        if out_of_range {
+            return Judged {
+                field,
+                unplaced: false,
+                out_of_range,
+                refused: false,
+            };
+        }
+        let number = self.number(value);
+        Judged {
+            field: Field { number, ..field },
             unplaced: false,
             out_of_range,
-            refused: false,
-        };
-    }
-    let number = number_of(linking, field, value);
-    Judged {
-        field: Field { number, ..field },
-        unplaced: false,
-        out_of_range,
-        refused: !field.rule.range.admits(field.rule.width, number),
+            refused: !field.rule.range.admits(field.rule.width, number),
+        }
     }
 }

@@ -2,7 +2,6 @@
 ghost use Rattle.std.specs.Prelude.{◌≡◌, ◌+◌, ◌<◌, [], get_or, length};
 ghost use Rattle.elf_link_relocate.specs.CopyView.{copies_view};
 ghost use Rattle.elf_link_relocate.specs.Judged.{AreJudged};
-ghost use Rattle.elf_link_relocate.specs.LinkingFacts.{IsReady, linked_map, linked_objects, relocation_rules_of};
 ghost use Rattle.elf_link_relocate.specs.Patching.{AreRelocated, HasRoom, IsPatchedIn};
 ghost use Rattle.elf_link_field.specs.Rule.{size_of};
 
@@ -11,7 +10,7 @@ use crate::field::Field;
 use crate::linking::Linking;
 use elf_field::Order;
 use elf_link_field::{Width, patch, patched_field};
-use elf_link_map::files::keeps_rules;
+use elf_link_map::files::prove_rules;
 
 /// Puts a number into the field of this width at an offset of a section's copy.
 fn patch_in(
@@ -36,17 +35,17 @@ fn patch_in(
 
 /// Puts the number of field `k` into it.
 fn patch_field(linking: &Linking<'_, '_>, fields: &[Field], k: usize, copies: &mut Copies)
-    requires ready { IsReady linking.now }
-    requires fields { AreJudged (linked_objects linking.now) (linked_map linking.now) (relocation_rules_of linking.now) fields.now }
+    requires fields { AreJudged linking.now.objects linking.now.map linking.now.rules fields.now }
     requires below { k < length fields.now }
-    requires before { AreRelocated (linked_objects linking.now) (linked_map linking.now) fields.now k (copies_view copies.old.items) }
-    ensures { AreRelocated (linked_objects linking.now) (linked_map linking.now) fields.now (k + 1) (copies_view copies.new.items) }
+    requires before { AreRelocated linking.now.objects linking.now.map fields.now k (copies_view copies.old.items) }
+    ensures { AreRelocated linking.now.objects linking.now.map fields.now (k + 1) (copies_view copies.new.items) }
 {
     let field = fields[k];
     patched_field();
-    keeps_rules(linking.objects, field.site.file);
+    let objects = linking.objects;
+    prove_rules(objects, field.site.file);
     patch_in(
-        linking.objects[field.site.file].order(),
+        objects[field.site.file].order(),
         copies,
         field.site.file,
         field.target,
@@ -58,10 +57,9 @@ fn patch_field(linking: &Linking<'_, '_>, fields: &[Field], k: usize, copies: &m
 
 /// Puts the number of each field into it, in one pass.
 pub(crate) fn patch_all(linking: &Linking<'_, '_>, fields: &[Field], copies: &mut Copies)
-    requires ready { IsReady linking.now }
-    requires fields { AreJudged (linked_objects linking.now) (linked_map linking.now) (relocation_rules_of linking.now) fields.now }
-    requires before { AreRelocated (linked_objects linking.now) (linked_map linking.now) fields.now 0 (copies_view copies.old.items) }
-    ensures { AreRelocated (linked_objects linking.now) (linked_map linking.now) fields.now (length fields.now) (copies_view copies.new.items) }
+    requires fields { AreJudged linking.now.objects linking.now.map linking.now.rules fields.now }
+    requires before { AreRelocated linking.now.objects linking.now.map fields.now 0 (copies_view copies.old.items) }
+    ensures { AreRelocated linking.now.objects linking.now.map fields.now (length fields.now) (copies_view copies.new.items) }
 {
     for k in 0..fields.len() {
         patch_field(linking, fields, k, copies);

@@ -10,6 +10,7 @@ use crate::judge::judged_fields;
 use crate::linked::Linked;
 use crate::linking::Linking;
 use crate::patching::patch_all;
+use crate::values::Values;
 use elf_link_field::RelocRule;
 use elf_link_map::{LinkFault, LinkMap, name_numbers};
 use elf_object_type::Object;
@@ -36,8 +37,9 @@ pub fn relocate_numbered<'m, 'a>(
         map,
         rules,
     };
-    let fields = judged_fields(alloc, &linking, numbers)?;
-    let mut copies = all_copies(alloc, objects, map)?;
+    let values = Values::new(alloc, &linking, numbers)?;
+    let fields = judged_fields(alloc, values)?;
+    let mut copies = all_copies(alloc, &linking)?;
     patch_all(&linking, &fields, &mut copies);
     Ok(Linked {
         map,

@@ -1,20 +1,22 @@
 //! The values of symbols at the addresses of a link map (gABI chapter 4, Symbol Table: `st_value`).
-ghost use Rattle.std.specs.Prelude.{◌≡◌, ◌≢◌, ◌+◌, ◌<◌, IfOk, length};
+ghost use Rattle.std.specs.Prelude.{◌≡◌, ◌≢◌, ◌+◌, ◌<◌, IfOk, IfSome, length, map as map_list};
 ghost use Rattle.elf_field.specs.Abi.{STB_LOCAL};
 ghost use Rattle.elf_link_files.specs.Files.{object_at, symbol_in};
+ghost use Rattle.elf_link_map.specs.BindingNumbers.{AreBindingNumbers};
 ghost use Rattle.elf_link_map.specs.Naming.{StandsAt};
 ghost use Rattle.elf_object_type.specs.Object.{binding as binding_of};
 ghost use Rattle.elf_object_type.specs.declared.symbol.Place.TheVariants.{In as InSection};
-ghost use Rattle.elf_link_relocate.specs.LinkingFacts.{AreValues, linked_map, linked_objects};
 ghost use Rattle.elf_link_relocate.specs.NameValues.{AreNameValues};
-ghost use Rattle.elf_link_relocate.specs.Values.{IsSmall, binding_value as binding_value_of, definition_value as definition_value_of, name_value as name_value_of, place_value as place_value_of, resolved_value as resolved_value_of};
+ghost use Rattle.elf_link_relocate.specs.Values.{IsSmall, binding_value as binding_value_of, definition_value as definition_value_of, name_value as name_value_of, place_value as place_value_of, reference_value, resolved_value as resolved_value_of};
+ghost use Rattle.elf_link_relocate.specs.ValuesView.{IsFileSymbol};
 
-use crate::linking::{Linking, Values};
+use crate::linking::Linking;
 use elf_field::abi::*;
 use elf_link_map::files::symbol_of;
 use elf_link_map::{Binding, LinkMap};
 use elf_object_type::{Object, Place};
 use std::alloc::{AllocError, Global};
+use std::marker::Model;
 
 /// The value so far behind the start of a section of a file.
 fn section_value(map: &LinkMap<'_>, file: usize, section: usize, value: u64) -> Option<u128>
@@ -90,52 +92,96 @@ pub(crate) fn name_values(
     Ok(values)
 }
 
-/// Where the name of the symbol at `index` of a file, which is not local, stands among the names of the map.
-#[tactic(auto, unfolding(elf_link_map::specs::BindingNumbers::AreBindingNumbers))]
-fn name_number(linking: &Linking<'_, '_>, values: &Values<'_>, file: usize, index: usize) -> usize
-    requires values { AreValues (linked_objects linking.now) (linked_map linking.now) values.now }
-    requires file { file < length (linked_objects linking.now) }
-    requires index { index < length (object_at (linked_objects linking.now) file).symbols }
-    requires entry { binding_of (symbol_in (linked_objects linking.now) file index) ≢ STB_LOCAL }
-    ensures { StandsAt (linked_map linking.now).bindings (symbol_in (linked_objects linking.now) file index).name result }
-{
-    values.numbers[file][index]
+/// A link with the number of each symbol's name by file and position, and the value of each name by its number.
+#[derive(Drop)]
+pub(crate) struct Values<'v, 'l, 'a> {
+    pub(crate) linking: &'v Linking<'l, 'a>,
+    pub(crate) numbers: &'v [Vec<usize>],
+    pub(crate) names: Vec<Option<u128>>,
 }
 
-/// The value of the name of the symbol at `index` of a file, which is not local.
-fn name_value(
-    linking: &Linking<'_, '_>,
-    values: &Values<'_>,
-    file: usize,
-    index: usize,
-) -> Option<u128>
-    requires values { AreValues (linked_objects linking.now) (linked_map linking.now) values.now }
-    requires file { file < length (linked_objects linking.now) }
-    requires index { index < length (object_at (linked_objects linking.now) file).symbols }
-    requires entry { binding_of (symbol_in (linked_objects linking.now) file index) ≢ STB_LOCAL }
-    ensures value { result ≡ name_value_of (linked_objects linking.now) (linked_map linking.now) (symbol_in (linked_objects linking.now) file index).name }
-    ensures small { IsSmall result }
-{
-    values.names[name_number(linking, values, file, index)]
+impl<'v, 'l, 'a> Model for Values<'v, 'l, 'a> {
+    ghost use Rattle.elf_link_relocate.specs.Linking.{LinkingValue};
+
+    ghost Value = { LinkingValue };
+
+    ghost use Rattle.elf_link_relocate.specs.ValuesView.{HasValues, values_value};
+
+    ghost view = { values_value };
+
+    ghost invariant = { HasValues };
 }
 
-/// The value of a symbol: its own where it is local, and else that of its name.
-pub(crate) fn resolved_value(
-    linking: &Linking<'_, '_>,
-    values: &Values<'_>,
-    file: usize,
-    index: usize,
-) -> Option<u128>
-    requires values { AreValues (linked_objects linking.now) (linked_map linking.now) values.now }
-    requires file { file < length (linked_objects linking.now) }
-    requires index { index < length (object_at (linked_objects linking.now) file).symbols }
-    ensures value { result ≡ resolved_value_of (linked_objects linking.now) (linked_map linking.now) file index }
-    ensures small { IsSmall result }
-{
-    let symbol = symbol_of(linking.objects, file, index);
-    if symbol.binding() == STB_LOCAL {
-        definition_value(linking.objects, linking.map, file, index)
-    } else {
-        name_value(linking, values, file, index)
+impl<'v, 'l, 'a> Values<'v, 'l, 'a> {
+    /// A link with the values of its names, whose numbers these are.
+    pub(crate) fn new(
+        alloc: Global,
+        linking: &'v Linking<'l, 'a>,
+        numbers: &'v [Vec<usize>],
+    ) -> Result<Values<'v, 'l, 'a>, AllocError>
+        requires { AreBindingNumbers linking.now.objects linking.now.map (map_list (λ row. row.items) numbers.now) }
+        ensures { IfOk result (λ values. values ≡ linking.entry.now) }
+    {
+        let names = name_values(alloc, linking.objects, linking.map)?;
+        Ok(Values {
+            linking,
+            numbers,
+            names,
+        })
+    }
+
+    /// The link.
+    pub(crate) fn linking(&self) -> &'v Linking<'l, 'a>
+        ensures { result.now ≡ self.now }
+    {
+        self.linking
+    }
+
+    /// Where the name of the symbol at `index` of a file, which is not local, stands among the names of the map.
+    #[tactic(auto, unfolding(elf_link_map::specs::BindingNumbers::AreBindingNumbers))]
+    fn name_number(&self, file: usize, index: usize) -> usize
+        requires symbol { IsFileSymbol self.now.objects file index }
+        requires entry { binding_of (symbol_in self.now.objects file index) ≢ STB_LOCAL }
+        ensures { StandsAt self.now.map.bindings (symbol_in self.now.objects file index).name result }
+    {
+        let numbers = self.numbers;
+        numbers[file][index]
+    }
+
+    /// The value of the name of the symbol at `index` of a file, which is not local.
+    fn name_value(&self, file: usize, index: usize) -> Option<u128>
+        requires symbol { IsFileSymbol self.now.objects file index }
+        requires entry { binding_of (symbol_in self.now.objects file index) ≢ STB_LOCAL }
+        ensures value { result ≡ name_value_of self.now.objects self.now.map (symbol_in self.now.objects file index).name }
+        ensures small { IsSmall result }
+    {
+        self.names[self.name_number(file, index)]
+    }
+
+    /// The value of a symbol: its own where it is local, and else that of its name.
+    fn resolved_value(&self, file: usize, index: usize) -> Option<u128>
+        requires symbol { IsFileSymbol self.now.objects file index }
+        ensures value { result ≡ resolved_value_of self.now.objects self.now.map file index }
+        ensures small { IsSmall result }
+    {
+        let linking = self.linking();
+        let symbol = symbol_of(linking.objects, file, index);
+        if symbol.binding() == STB_LOCAL {
+            definition_value(linking.objects, linking.map, file, index)
+        } else {
+            self.name_value(file, index)
+        }
+    }
+
+    /// The value of a reference from a file to one of its symbols: 0 where it names none.
+    pub(crate) fn reference(&self, file: usize, symbol: Option<usize>) -> Option<u128>
+        requires { IfSome symbol (IsFileSymbol self.now.objects file) }
+        ensures value { result ≡ reference_value self.now.objects self.now.map file symbol }
+        ensures small { IsSmall result }
+    {
+        match symbol {
+            Some(index) => self.resolved_value(file, index),
+            None => Some(0),
+        }
     }
 }

@@ -17,7 +17,7 @@ use Rattle.elf_table_base.specs.Sections.{Sections, section, sections_of}
 use Rattle.elf_table_symbols.specs.SymbolRules.{symbol_table_rules}
 use Rattle.elf_table_base.specs.TableKind.{kind_of}
 use Rattle.elf_table_all.specs.TableRules.{rules_of_kind, table_rules}
-use Rattle.elf_table_all.specs.TableVerdicts.{TablesValue}
+use Rattle.elf_table_all.specs.TableVerdicts.{HasSoundTable, TablesValue}
 use Rattle.elf_table_all.proofs.Public.{kind_asked, none_kept}
 use Rattle.elf_table_symbols.proofs.Public.{symbols_kind}
 use Rattle.elf_object_reader.proofs.KeptLists.{symbol_table_there}
@@ -52,13 +52,8 @@ group_kind type is = rw (eqb-true _ _ (group_tested (type == SHT_NOBITS) ((type 
 
 -- ---- what the tables ask before they are handed out
 
-pub record IsReady (tables : TablesValue) (i : ℕ) (kind : TableKind) : Type 0 where
-  pub there : i < length tables.image.sections
-  pub typed : kind_of (section (sections_of tables.image) i).sh_type ≡ Some kind
-  pub sound : get_or tables.verdicts i None ≡ None
-
 pub ready : (image : ImageValue) (tables : TablesValue) (i : ℕ) (kind : TableKind) → AreTablesOf image tables → i < length image.sections →
-    kind_of (section (sections_of image) i).sh_type ≡ Some kind → FirstIn (rules_of_kind (Some kind) (sections_of image) i) None → IsReady tables i kind
+    kind_of (section (sections_of image) i).sh_type ≡ Some kind → FirstIn (rules_of_kind (Some kind) (sections_of image) i) None → HasSoundTable tables i kind
 ready image tables i kind are lt typed sound = record {
   there = subst (λ (v : ImageValue). i < length v.sections) (sym are.same) lt;
   typed = subst (λ (v : ImageValue). kind_of (section (sections_of v) i).sh_type ≡ Some kind) (sym are.same) typed;
@@ -91,13 +86,13 @@ group_told image tables i found are is run =
 
 pub relocs_ready : (image : ImageValue) (tables : TablesValue) (i : ℕ) → AreTablesOf image tables → i < length image.sections →
     body_kind (section (sections_of image) i).sh_type ≡ Relocs → (let f = sections_of image in FirstIn (rules_of_body (body_kind (section f i).sh_type) f i) None) →
-    IsReady tables i RelocationTable
+    HasSoundTable tables i RelocationTable
 relocs_ready image tables i are lt is sound =
     ready image tables i RelocationTable are lt (relocs_kind (section (sections_of image) i).sh_type is) (subst (λ (k : BodyKind). FirstIn (rules_of_body k (sections_of image) i) None) is sound)
 
 pub group_ready : (image : ImageValue) (tables : TablesValue) (i : ℕ) → AreTablesOf image tables → i < length image.sections →
     body_kind (section (sections_of image) i).sh_type ≡ Group → (let f = sections_of image in FirstIn (rules_of_body (body_kind (section f i).sh_type) f i) None) →
-    IsReady tables i SectionGroup
+    HasSoundTable tables i SectionGroup
 group_ready image tables i are lt is sound =
     ready image tables i SectionGroup are lt (group_kind (section (sections_of image) i).sh_type is) (subst (λ (k : BodyKind). FirstIn (rules_of_body k (sections_of image) i) None) is sound)
 
@@ -127,5 +122,5 @@ pub symbols_told : (image : ImageValue) (tables : TablesValue) (t : ℕ) (found 
 symbols_told image tables t found are there run = asked image tables t SymbolTable found are there.kind run
 
 pub symbols_ready : (image : ImageValue) (tables : TablesValue) (t : ℕ) → AreTablesOf image tables → AreSymbolsThere image tables t →
-    FirstIn (symbol_table_rules (sections_of image) t) None → IsReady tables t SymbolTable
+    FirstIn (symbol_table_rules (sections_of image) t) None → HasSoundTable tables t SymbolTable
 symbols_ready image tables t are there sound = ready image tables t SymbolTable are there.here there.kind sound

@@ -84,8 +84,7 @@ fn section_index_offset(image: &Image<'_>, t: usize, j: usize) -> u64
     requires within { SYM_SIZE * j + SYM_SIZE ≤ length (content (sections_of image.now) t) }
     ensures { result ≡ (section (sections_of image.now) t).sh_offset + SYM_SIZE * j + ST_SHNDX_AT }
 {
-    // The symbol lies in the file, so that the sum is a number of 64 bits.
-    let _ = image.content(t);
+    image.prove_content_inside(t);
     image.content_offset(t) + SYM_SIZE * j as u64 + ST_SHNDX_AT
 }
 

@@ -36,7 +36,7 @@ pub fn object_of<'a>(alloc: Global, image: &Image<'a>) -> Result<Object<'a>, Fau
     ensures { let f = sections_of image.now in
         IsJudgedBehind (front_rules f) (file_rules f) (λ o. Denotes f o) result }
 {
-    image.stands();
+    image.prove_stands();
     let parts = parts_of(alloc, image)?;
     Ok(Object::of_kept(parts))
 }

@@ -9,7 +9,7 @@ use crate::object_rules::judge;
 use crate::parts::ObjectParts;
 use crate::section::Section;
 use crate::symbol::Symbol;
-use crate::widths::parts_fit;
+use crate::widths::prove_parts;
 use elf_field::Order;
 use std::alloc::Global;
 use std::marker::Model;
@@ -28,10 +28,11 @@ impl<'a> Model for Object<'a> {
 
     ghost use Rattle.elf_object_type.specs.ObjectRules.{IsObject};
     ghost use Rattle.elf_object_type.specs.ObjectView.{value_of};
+    ghost use Rattle.elf_object_type.specs.Widths.{ObjectFits};
 
     ghost view = { λ a. value_of a.parts };
 
-    ghost invariant = { λ a. IsObject (value_of a.parts) };
+    ghost invariant = { λ a. IsObject (value_of a.parts) × ObjectFits (value_of a.parts) };
 }
 
 impl<'a> Object<'a> {
@@ -47,6 +48,7 @@ impl<'a> Object<'a> {
         ensures err { IfErr result (IsObjectFault (value_of parts.entry)) }
     {
         judge(alloc, &parts)?;
+        prove_parts(&parts);
         Ok(Object { parts })
     }
 
@@ -55,22 +57,17 @@ impl<'a> Object<'a> {
         requires { IsObject (value_of parts) }
         ensures { result ≡ value_of parts.entry }
     {
+        prove_parts(&parts);
         Object { parts }
     }
 
-    /// Promises that none of the object rules is broken. It does nothing.
-    pub fn keeps_rules(&self)
-        ensures { IsObject self.now }
+    /// Proves that no object rule is broken, that each number fits its field in a file, and that names and bits are bytes. A contract does
+    /// not see the invariant of an object in a list: this call shows it. It does nothing.
+    pub fn prove_rules(&self)
+        ensures kept { IsObject self.now }
+        ensures fits { ObjectFits self.now }
     {
         let _ = &self.parts;
-    }
-
-    /// Promises that each number fits its field in a file, and that names and bits are bytes. It only looks, at each section,
-    /// entry and symbol.
-    pub fn fits_fields(&self)
-        ensures { ObjectFits self.now }
-    {
-        parts_fit(&self.parts);
     }
 
     /// The byte order of the file (gABI chapter 4, Data Encoding).

@@ -1,5 +1,5 @@
 //! The numbers of an object fit the fields of a file that hold them, since their types do (gABI chapter 4, Data Representation).
-//! These functions promise that and do nothing else than look.
+//! These functions prove that for [`Object`](crate::Object)'s invariant: a proof has the range of a number once the code reads it.
 ghost use Rattle.std.specs.Prelude.{map};
 ghost use Rattle.std.specs.List.{AllByRecursion};
 ghost use Rattle.elf_field.specs.Bytes.{IsBytes};
@@ -11,38 +11,38 @@ use crate::relocation::Relocation;
 use crate::section::{Body, Info, Section};
 use crate::symbol::Symbol;
 
-pub(crate) fn parts_fit(parts: &ObjectParts<'_>)
+pub(crate) fn prove_parts(parts: &ObjectParts<'_>)
     ensures { ObjectFits (value_of parts.now) }
 {
     let _osabi = parts.osabi;
     let _abi = parts.abi;
     let _machine = parts.machine;
     let _flags = parts.flags;
-    sections_fit(&parts.sections);
-    symbols_fit(&parts.symbols);
+    prove_sections(&parts.sections);
+    prove_symbols(&parts.symbols);
 }
 
-fn sections_fit(sections: &[Section<'_>])
+fn prove_sections(sections: &[Section<'_>])
     ensures { AllByRecursion SectionFits (map section_value sections.now) }
 {
     for section in sections {
-        section_fits(section);
+        prove_section(section);
     }
 }
 
-fn section_fits(section: &Section<'_>)
+fn prove_section(section: &Section<'_>)
     ensures { SectionFits (section_value section.now) }
 {
     let _flags = section.flags;
     let _addr = section.addr;
     let _align = section.align;
     let _entsize = section.entsize;
-    bytes_fit(section.name);
-    info_fits(section.info);
-    body_fits(&section.body);
+    prove_bytes(section.name);
+    prove_info(section.info);
+    prove_body(&section.body);
 }
 
-fn info_fits(info: Info)
+fn prove_info(info: Info)
     ensures { InfoFits info }
 {
     match info {
@@ -51,55 +51,55 @@ fn info_fits(info: Info)
     }
 }
 
-fn body_fits(body: &Body<'_>)
+fn prove_body(body: &Body<'_>)
     ensures { BodyFits (body_value body.now) }
 {
     match body {
         Body::Bits(section_type, content) => {
             let _number = *section_type;
-            bytes_fit(content);
+            prove_bytes(content);
         }
         Body::NoBits(size) => {
             let _number = *size;
         }
-        Body::Relocs { entries, .. } => relocations_fit(entries),
+        Body::Relocs { entries, .. } => prove_relocations(entries),
         Body::Group { .. } => {}
     }
 }
 
-fn relocations_fit(entries: &[Relocation])
+fn prove_relocations(entries: &[Relocation])
     ensures { AllByRecursion RelocationFits entries.now }
 {
     for entry in entries {
-        relocation_fits(*entry);
+        prove_relocation(*entry);
     }
 }
 
-fn relocation_fits(entry: Relocation)
+fn prove_relocation(entry: Relocation)
     ensures { RelocationFits entry }
 {
     let _numbers = (entry.offset, entry.kind, entry.addend);
 }
 
-fn symbols_fit(symbols: &[Symbol<'_>])
+fn prove_symbols(symbols: &[Symbol<'_>])
     ensures { AllByRecursion SymbolFits (map symbol_value symbols.now) }
 {
     for symbol in symbols {
-        symbol_fits(symbol);
+        prove_symbol(symbol);
     }
 }
 
-fn symbol_fits(symbol: &Symbol<'_>)
+fn prove_symbol(symbol: &Symbol<'_>)
     ensures { SymbolFits (symbol_value symbol.now) }
 {
     let _info = symbol.info;
     let _other = symbol.other;
     let _value = symbol.value;
     let _size = symbol.size;
-    bytes_fit(symbol.name);
+    prove_bytes(symbol.name);
 }
 
-fn bytes_fit(bytes: &[u8])
+fn prove_bytes(bytes: &[u8])
     ensures { IsBytes bytes.now }
 {
     let _ = bytes;

@@ -11,7 +11,7 @@ use crate::body_entries::{GroupWords, RelEntries, RelaEntries};
 use crate::layout_parts::content_part;
 use crate::placed_object::PlacedObject;
 use crate::placed_section::PlacedSection;
-use crate::symbol_entries::{IndexWords, SymbolEntries, symbol_count};
+use crate::symbol_entries::{IndexWords, SymbolEntries, prove_few_symbols, symbol_count};
 use elf_field::Order;
 use elf_field::abi::*;
 use elf_image_stream::entries::write_entries;
@@ -30,7 +30,10 @@ pub(crate) fn write_content<W: Write>(
         (plain_section placed.now.object section).content result }
 {
     match section {
-        PlacedSection::Own(position) => write_own_content(placed, position, writer),
+        PlacedSection::Own(position) => {
+            let section = object_section(placed, position);
+            write_body(placed.object().order(), &section.body, writer)
+        }
         PlacedSection::SymbolTable => write_symbols(placed, writer),
         PlacedSection::IndexTable => write_index_table(placed, writer),
         PlacedSection::Strings => write_whole(writer, placed.strings()),
@@ -41,7 +44,7 @@ pub(crate) fn write_content<W: Write>(
 fn write_symbols<W: Write>(placed: &PlacedObject<'_, '_>, writer: &mut W) -> Result<(), WriteFault>
     ensures { Writes (W.contents writer.old) (W.contents writer.new) (symbol_table_section placed.now.object).content result }
 {
-    let _few = symbol_count(placed);
+    prove_few_symbols(placed);
     write_entries(writer, placed.object().order(), &SymbolEntries { placed })
 }
 
@@ -51,7 +54,7 @@ fn write_index_table<W: Write>(
 ) -> Result<(), WriteFault>
     ensures { Writes (W.contents writer.old) (W.contents writer.new) (index_table_section placed.now.object).content result }
 {
-    let _few = symbol_count(placed);
+    prove_few_symbols(placed);
     write_entries(writer, placed.object().order(), &IndexWords { placed })
 }
 
@@ -64,22 +67,8 @@ pub(crate) fn object_section<'o, 'a>(
     ensures value { section_value result.now ≡ section_at placed.now.object position }
     ensures fits { HasShortNumbers placed.now.object (section_value result.now) }
 {
-    placed.is_placed();
+    placed.prove_placed();
     &placed.object().sections()[position]
-}
-
-/// The content of one of the object's own sections.
-fn write_own_content<W: Write>(
-    placed: &PlacedObject<'_, '_>,
-    position: usize,
-    writer: &mut W,
-) -> Result<(), WriteFault>
-    requires { position < length placed.now.object.sections }
-    ensures { let o = placed.now.object in Writes (W.contents writer.old) (W.contents writer.new)
-        (body_bytes o.order (section_at o position).body) result }
-{
-    let section = object_section(placed, position);
-    write_body(placed.object().order(), &section.body, writer)
 }
 
 fn write_body<W: Write>(order: Order, body: &Body<'_>, writer: &mut W) -> Result<(), WriteFault>
@@ -128,17 +117,10 @@ pub(crate) fn content_size(placed: &PlacedObject<'_, '_>, section: PlacedSection
     ensures { result ≡ length (plain_section placed.now.object section).content }
 {
     match section {
-        PlacedSection::Own(position) => own_content_size(placed, position),
+        PlacedSection::Own(position) => content_part(object_section(placed, position)).0,
         PlacedSection::SymbolTable => SYM_SIZE * (symbol_count(placed) as u64 + 1),
         PlacedSection::IndexTable => WORD_SIZE * (symbol_count(placed) as u64 + 1),
         PlacedSection::Strings => placed.strings().len() as u64,
         PlacedSection::Names => placed.names().len() as u64,
     }
-}
-
-fn own_content_size(placed: &PlacedObject<'_, '_>, position: usize) -> u64
-    requires { position < length placed.now.object.sections }
-    ensures { let o = placed.now.object in result ≡ length (own_section o (section_at o position)).content }
-{
-    content_part(object_section(placed, position)).0
 }

@@ -45,7 +45,7 @@ fn own_parts(alloc: Global, object: &Object<'_>) -> Result<Vec<(u64, u64)>, Allo
     ensures { IfOk result (λ parts. parts.items ≡
         map saturated (map content_part (map (own_section object.now) object.now.sections))) }
 {
-    object.keeps_rules();
+    object.prove_rules();
     let mut parts = Vec::new(alloc);
     for section in object.sections() {
         parts.push(content_part(section))?;

@@ -39,7 +39,7 @@ impl<'o, 'a> PlacedObject<'o, 'a> {
         ensures ok { IfOk result (λ placed. placed.object ≡ object.now) }
         ensures err { IfErr result (IsLayoutFault object.now) }
     {
-        object.keeps_rules();
+        object.prove_rules();
         let tables = NameTables::new(alloc, object)?;
         match lay_out_with(alloc, object, &tables) {
             Ok(layout) => Ok(PlacedObject {
@@ -51,8 +51,8 @@ impl<'o, 'a> PlacedObject<'o, 'a> {
         }
     }
 
-    /// Promises that the layout is the object's. It does nothing.
-    pub(crate) fn is_placed(&self)
+    /// Proves that the layout is the object's: a method of another type does not see the invariant of a field.
+    pub(crate) fn prove_placed(&self)
         ensures { IsPlacedObject self.now }
     {
         let _ = &self.layout;
@@ -106,8 +106,15 @@ impl<'o, 'a> PlacedObject<'o, 'a> {
         ensures value { result ≡ length (plain_sections self.now.object) }
         ensures few { result < 2 ^ 24 }
     {
-        self.is_placed();
+        self.prove_placed();
         self.layout.section_count() - 1
+    }
+
+    /// Proves that the section indexes fit 31 bits.
+    fn prove_few_sections(&self)
+        ensures { length (plain_sections self.now.object) < 2 ^ 24 }
+    {
+        let _ = self.section_count();
     }
 
     /// How many section headers there are.
@@ -123,7 +130,7 @@ impl<'o, 'a> PlacedObject<'o, 'a> {
         ensures value { result ≡ symbol_table_at self.now.object }
         ensures few { result < 2 ^ 31 }
     {
-        let _count = self.section_count();
+        self.prove_few_sections();
         self.own_count() + 1
     }
 
@@ -148,7 +155,7 @@ impl<'o, 'a> PlacedObject<'o, 'a> {
         requires { position < length (plain_sections self.now.object) }
         ensures { result ≡ slice_index self.now.layout.places position }
     {
-        let _count = self.section_count();
+        self.prove_few_sections();
         self.layout.offset(position + 1)
     }
 

@@ -28,7 +28,7 @@ pub(crate) fn write_placed<W: Write>(
     ensures { Writes (W.contents writer.old) (W.contents writer.new)
         (layout_bytes placed.now.object placed.now.layout.places) result }
 {
-    placed.is_placed();
+    placed.prove_placed();
     match write_header(placed, writer) {
         Ok(()) => {}
         Err(fault) => return Err(fault),
@@ -66,7 +66,7 @@ fn write_part<W: Write>(
     ensures { let p = placed.now in (d : PlainSection) → WritesBehind out (W.contents writer.old) (W.contents writer.new)
         (replicate (slice_index p.layout.places position - out) 0 ++ (get_or (plain_sections p.object) position d).content) result }
 {
-    placed.is_placed();
+    placed.prove_placed();
     let section = placed.section(position);
     let padding = placed.place(position) - out;
     let size = content_size(placed, section);
@@ -120,7 +120,7 @@ fn table_size(placed: &PlacedObject<'_, '_>) -> u64
     ensures value { result ≡ length (header_table placed.now.object placed.now.layout.places) }
     ensures within { slice_index placed.now.layout.places (length (plain_sections placed.now.object)) + result ≤ MAX_LEN }
 {
-    placed.is_placed();
+    placed.prove_placed();
     SHDR_SIZE * placed.header_count() as u64
 }
 
@@ -151,7 +151,7 @@ fn write_headers<W: Write>(placed: &PlacedObject<'_, '_>, writer: &mut W) -> Res
     ensures { Writes (W.contents writer.old) (W.contents writer.new)
         (header_table placed.now.object placed.now.layout.places) result }
 {
-    placed.is_placed();
+    placed.prove_placed();
     let order = placed.object().order();
     write_entries(writer, order, &SectionHeaders { placed })
 }

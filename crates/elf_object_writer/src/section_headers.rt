@@ -15,7 +15,7 @@ use crate::indexes::{index_of, long_number};
 use crate::layout_parts::RECORD_ALIGNMENT;
 use crate::placed_object::PlacedObject;
 use crate::placed_section::PlacedSection;
-use crate::symbol_entries::symbol_count;
+use crate::symbol_entries::prove_few_symbols;
 use elf_field::Shdr;
 use elf_field::abi::*;
 use elf_image_stream::entries::Entries;
@@ -50,12 +50,12 @@ impl<'p, 'o, 'a> Entries for SectionHeaders<'p, 'o, 'a> {
     ghost fit = { λ _. Unit {0} };
 
     fn count(&self) -> usize {
-        self.placed.is_placed();
+        self.placed.prove_placed();
         self.placed.header_count()
     }
 
     fn entry(&self, index: usize) -> Shdr {
-        self.placed.is_placed();
+        self.placed.prove_placed();
         if index == 0 {
             first_header(self.placed)
         } else {
@@ -132,7 +132,7 @@ fn header_of(
 fn local_info(placed: &PlacedObject<'_, '_>) -> u32
     ensures { result ≡ 1 + length (filter is_local placed.now.object.symbols) }
 {
-    let _count = symbol_count(placed);
+    prove_few_symbols(placed);
     1 + local_count(placed.object().symbols()) as u32
 }
 

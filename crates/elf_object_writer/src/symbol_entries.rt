@@ -71,8 +71,15 @@ pub(crate) fn symbol_count(placed: &PlacedObject<'_, '_>) -> usize
     ensures value { result ≡ length placed.now.object.symbols }
     ensures few { SYM_SIZE * (result + 1) ≤ MAX_LEN }
 {
-    placed.is_placed();
+    placed.prove_placed();
     placed.object().symbols().len()
+}
+
+/// Proves that the symbol table fits a file, so that the number of its symbols fits each field.
+pub(crate) fn prove_few_symbols(placed: &PlacedObject<'_, '_>)
+    ensures { SYM_SIZE * (length placed.now.object.symbols + 1) ≤ MAX_LEN }
+{
+    let _ = symbol_count(placed);
 }
 
 /// The symbol at this position, which is in a section that is there where it is in one.
@@ -81,7 +88,7 @@ fn symbol<'a>(placed: &PlacedObject<'_, 'a>, position: usize) -> Symbol<'a>
     ensures value { symbol_value result ≡ symbol_at placed.now.object position }
     ensures place { index_of (place_position result.place) < 2 ^ 32 }
 {
-    placed.is_placed();
+    placed.prove_placed();
     placed.object().symbols()[position]
 }
 

@@ -1,10 +1,12 @@
 -- The verdicts on all tables of a file, and its index tables.
-use Rattle.std.specs.Prelude.{◌≡◌, ℕ, ◌<◌, Option, None, List, length, get_or}
+use Rattle.std.specs.Prelude.{◌≡◌, ℕ, ◌<◌, Option, None, Some, List, length, get_or}
 use Rattle.elf_image_rules.specs.Rows.{FirstIn}
 use Rattle.elf_image_outline.specs.Image.{ImageValue}
 use Rattle.elf_table_symbols.specs.declared.index_tables.IndexTables.{IndexTables}
 use Rattle.elf_table_symbols.specs.IndexTable.{AreIndexTables}
-use Rattle.elf_table_base.specs.Sections.{Sections, count}
+use Rattle.elf_table_base.specs.Sections.{Sections, count, section, sections_of}
+use Rattle.elf_table_base.specs.TableKind.{kind_of}
+use Rattle.elf_table_base.specs.declared.table_kind.TableKind.{TableKind}
 use Rattle.elf_table_all.specs.TableRules.{table_rules}
 
 abbrev pub no_index_tables : IndexTables
@@ -25,3 +27,9 @@ pub record AreVerdicts (f : Sections) (end : ℕ) (verdicts : List (Option (ℕ 
 pub record TablesValue : Type 0 where
   pub image : ImageValue
   pub verdicts : List (Option (ℕ × ℕ))
+
+-- section i holds a table of this kind, and it breaks no rule
+pub record HasSoundTable (tables : TablesValue) (i : ℕ) (kind : TableKind) : Type 0 where
+  pub there : i < length tables.image.sections
+  pub typed : kind_of (section (sections_of tables.image) i).sh_type ≡ Some kind
+  pub sound : get_or tables.verdicts i None ≡ None

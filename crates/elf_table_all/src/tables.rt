@@ -1,10 +1,9 @@
 //! The tables of an image, each judged once (gABI chapter 4, Sections: sh_type).
-ghost use Rattle.std.specs.Prelude.{◌≡◌, ◌<◌, None, Some, IfOk, get_or, length};
+ghost use Rattle.std.specs.Prelude.{◌≡◌, ◌<◌, None, IfOk, get_or, length};
 ghost use Rattle.elf_image_rules.specs.Broken.{fault_of};
 ghost use Rattle.elf_image_rules.specs.Rows.{FirstIn};
-ghost use Rattle.elf_table_base.specs.Sections.{section, sections_of};
+ghost use Rattle.elf_table_base.specs.Sections.{sections_of};
 ghost use Rattle.elf_table_symbols.specs.Symbols.{symbols_of};
-ghost use Rattle.elf_table_base.specs.TableKind.{kind_of};
 ghost use Rattle.elf_table_base.specs.declared.table_kind.TableKind.TheVariants as kind;
 ghost use Rattle.elf_table_hash.specs.HashView.{hash_of_section};
 ghost use Rattle.elf_table_lists.specs.DynamicArray.{dynamic_array_of};
@@ -14,7 +13,7 @@ ghost use Rattle.elf_table_lists.specs.Relocations.{relocations_of};
 ghost use Rattle.elf_table_all.specs.DynamicStrings.{dynamic_strings};
 ghost use Rattle.elf_table_all.specs.Signature.{signature_name};
 ghost use Rattle.elf_table_all.specs.TableRules.{table_rules};
-ghost use Rattle.elf_table_all.specs.TableVerdicts.{AreAllIndexTables, AreVerdicts};
+ghost use Rattle.elf_table_all.specs.TableVerdicts.{AreAllIndexTables, AreVerdicts, HasSoundTable};
 
 use crate::verdicts::all_verdicts;
 use elf_field::abi::*;
@@ -76,9 +75,7 @@ impl<'i, 'a> Tables<'i, 'a> {
     /// The symbol table that section `i` holds, where `i` is below the image's count of section headers, the section is of the
     /// [kind](crate::TableKind::of) that holds one, and its [`verdict`](Tables::verdict) is `Ok`.
     pub fn symbols(&self, i: usize) -> Symbols<'a>
-        requires there { i < length self.now.image.sections }
-        requires typed { kind_of (section (sections_of self.now.image) i).sh_type ≡ Some kind.SymbolTable }
-        requires sound { get_or self.now.verdicts i None ≡ None }
+        requires { HasSoundTable self.now i kind.SymbolTable }
         ensures { result ≡ symbols_of (sections_of self.now.image) i }
     {
         Symbols::of_sound(self.image, i, self.index_tables[i])
@@ -86,9 +83,7 @@ impl<'i, 'a> Tables<'i, 'a> {
 
     /// The relocation section `i`, under the same conditions.
     pub fn relocs(&self, i: usize) -> Relocs<'a>
-        requires there { i < length self.now.image.sections }
-        requires typed { kind_of (section (sections_of self.now.image) i).sh_type ≡ Some kind.RelocationTable }
-        requires sound { get_or self.now.verdicts i None ≡ None }
+        requires { HasSoundTable self.now i kind.RelocationTable }
         ensures { result ≡ relocations_of (sections_of self.now.image) i }
     {
         Relocs::of_section(self.image, i)
@@ -96,9 +91,7 @@ impl<'i, 'a> Tables<'i, 'a> {
 
     /// The group in section `i`, under the same conditions.
     pub fn group(&self, i: usize) -> Group<'a>
-        requires there { i < length self.now.image.sections }
-        requires typed { kind_of (section (sections_of self.now.image) i).sh_type ≡ Some kind.SectionGroup }
-        requires sound { get_or self.now.verdicts i None ≡ None }
+        requires { HasSoundTable self.now i kind.SectionGroup }
         ensures { result ≡ group_of (sections_of self.now.image) i }
     {
         Group::of_sound(self.image, i)
@@ -106,9 +99,7 @@ impl<'i, 'a> Tables<'i, 'a> {
 
     /// The name of the group in section `i`, under the same conditions: its signature's, in the symbol table that it links to.
     pub fn signature_name(&self, i: usize) -> &'a [u8]
-        requires there { i < length self.now.image.sections }
-        requires typed { kind_of (section (sections_of self.now.image) i).sh_type ≡ Some kind.SectionGroup }
-        requires sound { get_or self.now.verdicts i None ≡ None }
+        requires { HasSoundTable self.now i kind.SectionGroup }
         ensures { result.now ≡ signature_name (sections_of self.now.image) i }
     {
         let section = self.image.section(i);
@@ -118,9 +109,7 @@ impl<'i, 'a> Tables<'i, 'a> {
 
     /// The notes of section `i`, under the same conditions.
     pub fn notes(&self, i: usize) -> Notes<'a>
-        requires there { i < length self.now.image.sections }
-        requires typed { kind_of (section (sections_of self.now.image) i).sh_type ≡ Some kind.NoteSection }
-        requires sound { get_or self.now.verdicts i None ≡ None }
+        requires { HasSoundTable self.now i kind.NoteSection }
         ensures { result ≡ notes_of (sections_of self.now.image) i }
     {
         Notes::of_sound(self.image, i)
@@ -128,9 +117,7 @@ impl<'i, 'a> Tables<'i, 'a> {
 
     /// The dynamic array in section `i`, under the same conditions.
     pub fn dynamic(&self, i: usize) -> Dynamic<'a>
-        requires there { i < length self.now.image.sections }
-        requires typed { kind_of (section (sections_of self.now.image) i).sh_type ≡ Some kind.DynamicArray }
-        requires sound { get_or self.now.verdicts i None ≡ None }
+        requires { HasSoundTable self.now i kind.DynamicArray }
         ensures { result ≡ dynamic_array_of (sections_of self.now.image) i }
     {
         Dynamic::of_sound(self.image, i)
@@ -138,9 +125,7 @@ impl<'i, 'a> Tables<'i, 'a> {
 
     /// The hash table in section `i`, under the same conditions.
     pub fn hash(&self, i: usize) -> Hash<'a>
-        requires there { i < length self.now.image.sections }
-        requires typed { kind_of (section (sections_of self.now.image) i).sh_type ≡ Some kind.HashTable }
-        requires sound { get_or self.now.verdicts i None ≡ None }
+        requires { HasSoundTable self.now i kind.HashTable }
         ensures { result ≡ hash_of_section (sections_of self.now.image) i }
     {
         Hash::of_sound(self.image, i)
@@ -148,9 +133,7 @@ impl<'i, 'a> Tables<'i, 'a> {
 
     /// The string table of the dynamic array in section `i`, under the same conditions: the one that it links to.
     pub fn dynamic_strings(&self, i: usize) -> &'a [u8]
-        requires there { i < length self.now.image.sections }
-        requires typed { kind_of (section (sections_of self.now.image) i).sh_type ≡ Some kind.DynamicArray }
-        requires sound { get_or self.now.verdicts i None ≡ None }
+        requires { HasSoundTable self.now i kind.DynamicArray }
         ensures { result.now ≡ dynamic_strings (sections_of self.now.image) i }
     {
         self.image.content(self.image.section(i).sh_link as usize)

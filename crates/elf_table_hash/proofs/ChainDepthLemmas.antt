@@ -2,7 +2,7 @@
 use Rattle.std.proofs.Common.{◌≡◌, ◌≢◌, ℕ, ◌+◌, ◌<◌, ◌≤◌, ◌⊎◌, Bool, true, false, List, [], ◌∷◌, ◌++◌, length, get_or, set, inl, inr, refl, sym, ap, subst, ◌∙◌, arith, append_assoc, length-append, get_or-set_other, get_or-set_same}
 use Rattle.std.proofs.lemmas.Bool.{cases_eq, cases_lt}
 use Rattle.std.proofs.lemmas.List.{length-set}
-use Rattle.elf_table_hash.specs.ChainDepths.{AreDepths, AreJumps, AreSeen, AreStarts, IsDepthKnown, IsSymbolIn, Leads}
+use Rattle.elf_table_hash.specs.ChainDepths.{AreDepths, AreJumps, AreSeen, AreStarts, IsDepthKnown, IsAmongSymbols, Leads}
 use Rattle.elf_table_hash.specs.Chains.{Ends, IsChain, IsOn, IsPath}
 use Rattle.elf_table_hash.proofs.ChainLemmas.{chain_of_on, chain_short, endless, no_circle, one_chain, path_append, path_at}
 
@@ -172,7 +172,7 @@ leads_join next a b c (xs, front) (ys, back) = (xs ++ ys, path_append next a b c
 -- ---- symbols that were seen
 
 -- the last one of a stack, or one of the others
-pub in_push : (stack : List ℕ) (a t : ℕ) → IsSymbolIn (stack ++ a ∷ []) t → (t ≡ a) ⊎ IsSymbolIn stack t
+pub in_push : (stack : List ℕ) (a t : ℕ) → IsAmongSymbols (stack ++ a ∷ []) t → (t ≡ a) ⊎ IsAmongSymbols stack t
 in_push [] a t ([], after, same) = inl (let head : t ≡ a = cc in head)
 in_push [] a t (b ∷ [], after, same) = absurd (let long = ap (λ (ws : List ℕ). length ws) same in omega arith)
 in_push [] a t (b ∷ (d ∷ before), after, same) = absurd (let long = ap (λ (ws : List ℕ). length ws) same in omega arith)
@@ -210,7 +210,7 @@ seen_twice next m start s depth stack seen are path marked none (xs, chain) =
 
 -- all that waited are known
 pub seen_settled : (m : ℕ) (old depth stack : List ℕ) (seen : List Bool) → AreSeen m old stack seen →
-    ((s : ℕ) → 0 < get_or old s 0 → 0 < get_or depth s 0) → ((s : ℕ) → IsSymbolIn stack s → 0 < get_or depth s 0) → AreSeen m depth [] seen
+    ((s : ℕ) → 0 < get_or old s 0 → 0 < get_or depth s 0) → ((s : ℕ) → IsAmongSymbols stack s → 0 < get_or depth s 0) → AreSeen m depth [] seen
 seen_settled m old depth stack seen are kept settled = record {
   long = are.long;
   waits = λ s marked. elim (are.waits s marked) [ inl deep ↦ inl (kept s deep) | inr waits ↦ inl (settled s waits) ];

@@ -1,7 +1,7 @@
 -- Whether a chain ends, and whether a symbol is on it, is settled one way or the other: chains are short.
 use Rattle.std.proofs.Common.{◌≡◌, ℕ, ◌<◌, ◌⊎◌, zero, suc, List, [], ◌∷◌, ◌++◌, length, inl, inr, refl, ap, subst, arith, length-append}
 use Rattle.std.proofs.lemmas.Bool.{cases_eq}
-use Rattle.elf_table_hash.specs.ChainDepths.{IsSymbolIn}
+use Rattle.elf_table_hash.specs.ChainDepths.{IsAmongSymbols}
 use Rattle.elf_table_hash.specs.Chains.{Ends, IsChain, IsOn, IsPath}
 use Rattle.elf_table_hash.proofs.ChainLemmas.{chain_short, endless, one_chain, path_append}
 
@@ -29,7 +29,7 @@ ends_or_not next m s below within =
           omega arith))
     ]
 
-in_or_not : (xs : List ℕ) (s : ℕ) → IsSymbolIn xs s ⊎ (IsSymbolIn xs s → ⊥)
+in_or_not : (xs : List ℕ) (s : ℕ) → IsAmongSymbols xs s ⊎ (IsAmongSymbols xs s → ⊥)
 in_or_not [] s = inr (λ member. none member.0 member.1 member.2) where
   none : (before after : List ℕ) → [] ≡ before ++ s ∷ after → ⊥
   none [] after same = cc
@@ -42,7 +42,7 @@ in_or_not (x ∷ xs) s =
         | inr out ↦ inr (λ member. later x xs s other out member.0 member.1 member.2)
       ]
     ] where
-      later : (x : ℕ) (xs : List ℕ) (s : ℕ) → (x ≡ s → ⊥) → (IsSymbolIn xs s → ⊥) → (before after : List ℕ) → x ∷ xs ≡ before ++ s ∷ after → ⊥
+      later : (x : ℕ) (xs : List ℕ) (s : ℕ) → (x ≡ s → ⊥) → (IsAmongSymbols xs s → ⊥) → (before after : List ℕ) → x ∷ xs ≡ before ++ s ∷ after → ⊥
       later x xs s other out [] after same = other (let head : x ≡ s = cc in head)
       later x xs s other out (b ∷ before) after same = out (before, after, (let tails : xs ≡ before ++ s ∷ after = cc in tails))
 

@@ -29,10 +29,10 @@ pub record AreStarts (next : ℕ → ℕ) (m : ℕ) (depth starts : List ℕ) : 
   pub right : (s : ℕ) → 0 < get_or depth s 0 → Leads next (get_or starts s 0) s
 
 -- s is among these symbols
-abbrev pub IsSymbolIn : List ℕ → ℕ → Type 0
-IsSymbolIn symbols s = (before after : List ℕ) × (symbols ≡ before ++ s ∷ after)
+abbrev pub IsAmongSymbols : List ℕ → ℕ → Type 0
+IsAmongSymbols symbols s = (before after : List ℕ) × (symbols ≡ before ++ s ∷ after)
 
 -- each symbol that was seen is known, or waits on the stack
 pub record AreSeen (m : ℕ) (depth stack : List ℕ) (seen : List Bool) : Type 0 where
   pub long : length seen ≡ m
-  pub waits : (s : ℕ) → get_or seen s false ≡ true → (0 < get_or depth s 0) ⊎ IsSymbolIn stack s
+  pub waits : (s : ℕ) → get_or seen s false ≡ true → (0 < get_or depth s 0) ⊎ IsAmongSymbols stack s

@@ -7,7 +7,7 @@ ghost use Rattle.std.specs.Prelude.{◌≡◌, ◌≢◌, ◌↔◌, ◌<◌, �
 ghost use Rattle.elf_extent.specs.Least.{IsLowest};
 ghost use Rattle.elf_image_rules.specs.HeaderRules.{MAX_LEN};
 ghost use Rattle.elf_table_symbols.specs.Below.{Below};
-ghost use Rattle.elf_table_hash.specs.ChainDepths.{AreDepths, AreJumps, AreSeen, AreStarts, IsDepthKnown, IsSymbolIn, Leads};
+ghost use Rattle.elf_table_hash.specs.ChainDepths.{AreDepths, AreJumps, AreSeen, AreStarts, IsDepthKnown, IsAmongSymbols, Leads};
 ghost use Rattle.elf_table_hash.specs.Chains.{Ends, IsOn, IsPath};
 ghost use Rattle.elf_table_hash.specs.HashTable.{AreHashWords, bucket, chain, nbucket, nchain};
 
@@ -99,7 +99,7 @@ fn settle(
     ensures jumps { AreJumps (chain words.now) (nchain words.now) jump.new }
     ensures starts { AreStarts (chain words.now) (nchain words.now) depth.new starts.new }
     ensures kept { (s : ℕ) → 0 < get_or depth.old s 0 → 0 < get_or depth.new s 0 }
-    ensures settled { (s : ℕ) → IsSymbolIn stack.old.items s → 0 < get_or depth.new s 0 }
+    ensures settled { (s : ℕ) → IsAmongSymbols stack.old.items s → 0 < get_or depth.new s 0 }
     ensures start { IsDepthKnown depth.new start }
     ensures empty { stack.new.items ≡ [] }
 {

@@ -72,8 +72,7 @@ fn member_offset(image: &Image<'_>, i: usize, j: usize) -> u64
     requires member { j < member_count_of (content (sections_of image.now) i) }
     ensures { result ≡ (section (sections_of image.now) i).sh_offset + WORD_SIZE * (j + 1) }
 {
-    // The word lies in the file, so that the sum is a number of 64 bits.
-    let _ = image.content(i);
+    image.prove_content_inside(i);
     image.section(i).sh_offset + WORD_SIZE * (j as u64 + 1)
 }
 

@@ -1,9 +1,7 @@
 -- What the rules of a symbol table look at, beside its own section header: its content, the string table that it links to, and
 -- its index table.
-use Rattle.std.specs.Prelude.{ℕ, ◌+◌, ◌<◌, ◌≤◌, List, Option, None, Some, length}
-use Rattle.elf_field.specs.Abi.{SHDR_SIZE}
+use Rattle.std.specs.Prelude.{ℕ, List, Option, None, Some}
 use Rattle.elf_field.specs.declared.order.Order.{Order}
-use Rattle.elf_image_rules.specs.HeaderRules.{MAX_LEN}
 use Rattle.elf_table_symbols.specs.declared.symbol_parts.SymbolParts as declared
 use Rattle.elf_table_symbols.specs.IndexTable.{index_table, index_words}
 use Rattle.elf_table_base.specs.Sections.{Sections, content, count, header_at, order, section}
@@ -62,10 +60,3 @@ parts_value p = record {
   words_start = p.words_start;
   sections = p.sections;
 }
-
--- each lies in a file of at most MAX_LEN bytes
-pub record AreInside (p : SymbolPartsValue) : Type 0 where
-  pub header : p.header + SHDR_SIZE ≤ MAX_LEN
-  pub table : 0 < length p.table → p.start + length p.table ≤ MAX_LEN
-  pub names : 0 < length p.names → p.names_start + length p.names ≤ MAX_LEN
-  pub words : 0 < length p.words → p.words_start + length p.words ≤ MAX_LEN

@@ -18,12 +18,13 @@ mod symbol;
 mod symbol_parts;
 mod symbol_rules;
 mod symbol_verdicts;
+mod symbol_words;
 mod symbols;
 
 pub use index_tables::IndexTables;
 pub use strings::{Strings, judge_linked_strings};
 pub use symbol::{Place, Symbol};
-pub use symbol_parts::{entry, word};
 pub use symbol_rules::judge_symbol_table;
 pub use symbol_verdicts::SymbolVerdicts;
+pub use symbol_words::{entry, word};
 pub use symbols::{SymbolIter, Symbols};

@@ -3,7 +3,7 @@ ghost use Rattle.std.specs.Prelude.{◌≡◌, ◌*◌, ◌+◌, ◌≤◌, leng
 ghost use Rattle.elf_table_symbols.specs.SymbolRules.{word as word_of};
 ghost use Rattle.elf_table_symbols.specs.Symbols.{place_of};
 
-use crate::symbol_parts::word;
+use crate::symbol_words::word;
 use elf_field::Order;
 use elf_field::abi::*;
 

@@ -1,17 +1,17 @@
 //! What the rules of a symbol table look at, beside its own section header (gABI chapter 4, Symbol Table).
 ghost use Rattle.std.specs.Prelude.{◌≡◌, ℕ, Some, ◌*◌, ◌/◌, ◌+◌, ◌<◌, ◌≤◌, length};
+ghost use Rattle.elf_field.specs.Abi.{SHDR_SIZE};
 ghost use Rattle.elf_image_rules.specs.HeaderRules.{MAX_LEN};
-ghost use Rattle.elf_table_symbols.specs.IndexTable.{AreIndexTables, index_table, index_words};
 ghost use Rattle.elf_table_base.specs.Sections.{section, sections_of};
-ghost use Rattle.elf_table_symbols.specs.SymbolParts.{AreInside, index_words_start, parts_value, symbol_parts};
-ghost use Rattle.elf_table_symbols.specs.SymbolRules.{entry as entry_of, entry_count, word as word_of};
 
 use crate::index_tables::IndexTables;
+use crate::symbol_words::index_words_in;
+use elf_field::Order;
 use elf_field::abi::*;
-use elf_field::{Order, Sym, get_at};
 use elf_image_type::Image;
 
-/// The content of a symbol table, of the string table that it links to, and of its index table, with their offsets.
+/// The content of a symbol table, of the string table that it links to, and of its index table, with their offsets. All of them lie in one
+/// file of at most 2^30 bytes.
 #[derive(Clone, Copy, Drop)]
 pub(crate) struct SymbolParts<'a> {
     pub order: Order,
@@ -28,16 +28,24 @@ pub(crate) struct SymbolParts<'a> {
     pub words_start: u64,
     /// How many section headers there are.
     pub sections: usize,
+    // The section header and the contents lie in a file of at most MAX_LEN bytes.
+    ghost header_inside: { header + SHDR_SIZE ≤ MAX_LEN },
+    ghost table_inside: { 0 < length table.now → start + length table.now ≤ MAX_LEN },
+    ghost names_inside: { 0 < length names.now → names_start + length names.now ≤ MAX_LEN },
+    ghost words_inside: { 0 < length words.now → words_start + length words.now ≤ MAX_LEN },
 }
 
 impl<'a> SymbolParts<'a> {
+    ghost use Rattle.elf_table_symbols.specs.IndexTable.{AreIndexTables};
+    ghost use Rattle.elf_table_symbols.specs.SymbolParts.{parts_value, symbol_parts};
+    ghost use Rattle.elf_table_symbols.specs.SymbolRules.{entry_count};
+
     /// Those of the symbol table in section `i`, which links to a section.
     pub(crate) fn new(image: &Image<'a>, i: usize, tables: IndexTables) -> SymbolParts<'a>
         requires there { i < length image.now.sections }
         requires linked { (section (sections_of image.now) i).sh_link < length image.now.sections }
         requires tables { AreIndexTables (sections_of image.now) i (length image.now.sections) tables }
         ensures value { parts_value result ≡ symbol_parts (sections_of image.now) i }
-        ensures inside { AreInside (parts_value result) }
         ensures sized { (j : ℕ) → tables.first ≡ Some j → length result.words.now ≡ (section (sections_of image.now) j).sh_size }
     {
         let section = image.section(i);
@@ -64,37 +72,4 @@ impl<'a> SymbolParts<'a> {
     {
         self.table.len() / SYM_SIZE as usize
     }
-}
-
-// The content of an index table, and its offset.
-fn index_words_in<'a>(image: &Image<'a>, table: Option<usize>) -> (&'a [u8], u64)
-    requires there { (j : ℕ) → table ≡ Some j → j < length image.now.sections }
-    requires typed { (j : ℕ) → table ≡ Some j → (section (sections_of image.now) j).sh_type ≡ SHT_SYMTAB_SHNDX }
-    ensures words { result.0.now ≡ index_words (sections_of image.now) table }
-    ensures start { result.1 ≡ index_words_start (sections_of image.now) table }
-    ensures sized { (j : ℕ) → table ≡ Some j → length result.0.now ≡ (section (sections_of image.now) j).sh_size }
-    ensures inside { 0 < length result.0.now → result.1 + length result.0.now ≤ MAX_LEN }
-{
-    match table {
-        Some(j) => (image.content(j), image.section(j).sh_offset),
-        None => (&[], 0),
-    }
-}
-
-/// Entry `j` of a symbol table's content.
-#[tactic(auto, unfolding(crate::specs::SymbolRules::entry))]
-pub fn entry(order: Order, table: &[u8], j: usize) -> Sym
-    requires { j < entry_count table.now }
-    ensures { result ≡ entry_of order table.now j }
-{
-    get_at(order, table, SYM_SIZE as usize * j)
-}
-
-/// Word `j` of the content of an index table, or of another list of words.
-#[tactic(auto, unfolding(crate::specs::SymbolRules::word))]
-pub fn word(order: Order, words: &[u8], j: usize) -> u32
-    requires { WORD_SIZE * j + WORD_SIZE ≤ length words.now }
-    ensures { result ≡ word_of order words.now j }
-{
-    get_at(order, words, WORD_SIZE as usize * j)
 }

@@ -7,12 +7,13 @@ ghost use Rattle.elf_image_rules.specs.Broken.{fault_of};
 ghost use Rattle.elf_image_rules.specs.Rows.{AtEntry, FirstIn};
 ghost use Rattle.elf_table_symbols.specs.IndexTable.{AreIndexTables};
 ghost use Rattle.elf_table_base.specs.Sections.{content, sections_of};
-ghost use Rattle.elf_table_symbols.specs.SymbolParts.{AreInside, parts_value, symbol_parts};
+ghost use Rattle.elf_table_symbols.specs.SymbolParts.{parts_value, symbol_parts};
 ghost use Rattle.elf_table_symbols.specs.SymbolRules.{BreaksSymbolEntry, entry as entry_of, entry_count, symbol_entry_rules, index_table_rules, place_rules, rest_rules, symbol_0_not_null, symbol_field, symbol_table_rules, IsWrongIndexWord, wrong_index_word};
 
 use crate::index_tables::IndexTables;
 use crate::strings::judge_linked_strings;
-use crate::symbol_parts::{SymbolParts, entry, word};
+use crate::symbol_parts::SymbolParts;
+use crate::symbol_words::{entry, word};
 use elf_field::Sym;
 use elf_field::abi::*;
 use elf_image_rules::Broken;
@@ -68,7 +69,6 @@ impl SymbolRule {
 
 /// The lowest offset in the file at which a symbol breaks the rule.
 fn lowest_symbol(parts: &SymbolParts<'_>, rule: SymbolRule) -> Option<u64>
-    requires { AreInside (parts_value parts.now) }
     ensures { let p = parts_value parts.now in
         IsLowest (AtEntry (entry_count p.table) (λ j. BreaksSymbolEntry rule p (entry_of p.order p.table j) j) (λ j. p.start + SYM_SIZE * j + symbol_field rule)) result }
 {
@@ -83,7 +83,6 @@ fn lowest_symbol(parts: &SymbolParts<'_>, rule: SymbolRule) -> Option<u64>
 
 /// Rule 45: where there is no symbol 0, or the first byte of it that isn't 0.
 fn lowest_symbol_0_not_null(parts: &SymbolParts<'_>) -> Option<u64>
-    requires { AreInside (parts_value parts.now) }
     ensures { IsLowest (symbol_0_not_null (parts_value parts.now)) result }
 {
     if parts.len() == 0 {
@@ -100,7 +99,6 @@ fn lowest_symbol_0_not_null(parts: &SymbolParts<'_>) -> Option<u64>
 /// Rules 45 to 48.
 #[tactic(auto, unfolding(crate::specs::SymbolRules::symbol_entry_rules))]
 fn judge_entries(parts: &SymbolParts<'_>) -> Result<(), Broken<u64>>
-    requires { AreInside (parts_value parts.now) }
     ensures { FirstIn (symbol_entry_rules (parts_value parts.now)) (fault_of result) }
 {
     if let Some(at) = lowest_symbol_0_not_null(parts) {
@@ -145,15 +143,13 @@ fn judge_index_table(
     if section.sh_entsize != WORD_SIZE {
         return Err(Broken::new(WRONG_INDEX_TABLE_SIZE, at + SH_ENTSIZE_AT));
     }
-    // For what it promises of the content's length.
-    let _ = image.content(j);
+    image.prove_content_inside(j);
     Ok(())
 }
 
 /// The lowest offset in the file of a wrong word of the index table, which has one for each symbol.
 fn lowest_wrong_index_word(parts: &SymbolParts<'_>) -> Option<u64>
-    requires inside { AreInside (parts_value parts.now) }
-    requires sized { (j : ℕ) → parts.now.index_table ≡ Some j → length parts.now.words.now ≡ WORD_SIZE * entry_count parts.now.table.now }
+    requires { (j : ℕ) → parts.now.index_table ≡ Some j → length parts.now.words.now ≡ WORD_SIZE * entry_count parts.now.table.now }
     ensures { IsLowest (wrong_index_word (parts_value parts.now)) result }
 {
     if parts.index_table.is_none() {
@@ -182,8 +178,7 @@ fn is_wrong_index_word(symbol: &Sym, index: u32, sections: usize) -> bool
 /// Rules 51 and 52.
 #[tactic(auto, unfolding(crate::specs::SymbolRules::place_rules))]
 fn judge_places(parts: &SymbolParts<'_>) -> Result<(), Broken<u64>>
-    requires inside { AreInside (parts_value parts.now) }
-    requires sized { (j : ℕ) → parts.now.index_table ≡ Some j → length parts.now.words.now ≡ WORD_SIZE * entry_count parts.now.table.now }
+    requires { (j : ℕ) → parts.now.index_table ≡ Some j → length parts.now.words.now ≡ WORD_SIZE * entry_count parts.now.table.now }
     ensures { FirstIn (place_rules (parts_value parts.now)) (fault_of result) }
 {
     if let Some(at) = lowest_symbol(parts, SymbolRule::WrongSymbolSection) {
@@ -205,7 +200,6 @@ fn judge_rest(
 ) -> Result<(), Broken<u64>>
     requires tables { AreIndexTables (sections_of image.now) i (length image.now.sections) tables }
     requires parts { parts_value parts.now ≡ symbol_parts (sections_of image.now) i }
-    requires inside { AreInside (parts_value parts.now) }
     ensures { FirstIn (rest_rules (sections_of image.now) i (parts_value parts.now)) (fault_of result) }
 {
     judge_linked_strings(parts.names, parts.names_start)?;

@@ -12,8 +12,9 @@ ghost use Rattle.elf_table_symbols.specs.SymbolsLeft.{symbols_left};
 
 use crate::index_tables::{IndexTables, index_tables_of};
 use crate::symbol::{Symbol, place_at};
-use crate::symbol_parts::{SymbolParts, entry};
+use crate::symbol_parts::SymbolParts;
 use crate::symbol_rules::judge_symbol_table;
+use crate::symbol_words::entry;
 use elf_field::Order;
 use elf_field::abi::*;
 use elf_image_stream::Fault;

@@ -2,7 +2,7 @@
 use Rattle.std.specs.Prelude.{◌≡◌, ℕ, List, length, None, Option, Some, Result}
 use Rattle.elf_image_rules.specs.ImageRules.{IsFault}
 use Rattle.elf_image_rules.specs.Tables.{header, sections, section_header_count, program_header_count}
-use Rattle.elf_tool_text.specs.Engine.{IsAnsweredWithMemory}
+use Rattle.elf_tool_text.specs.Engine.{IsFileCallAllocatingFirst}
 use Rattle.elf_tool_text.specs.Line.{ok_line, refused_line}
 use Rattle.elf_tool_text.specs.declared.fault.Refusal.TheVariants.{File, Link, TooLong}
 use Rattle.elf_tool_text.specs.declared.fault.ToolFault.{ToolFault}
@@ -32,4 +32,4 @@ verdict_of (Some (rule, at)) = Refused (File 0 rule at)
 
 -- a call of `check`
 abbrev pub IsChecked : Option (List ℕ) → Option (List ℕ) → Option (List ℕ) → Option (List ℕ) → Result Verdict ToolFault → Type 0
-IsChecked = IsAnsweredWithMemory CheckSays
+IsChecked = IsFileCallAllocatingFirst CheckSays

@@ -11,7 +11,7 @@ use Rattle.elf_image_rules.specs.Tables.{program_header_count, section_header_co
 use Rattle.elf_image_rules.specs.declared.broken.Broken.{Broken}
 use Rattle.elf_tool_check.specs.Check.{CheckSays, file_sections, file_segments, verdict_of}
 use Rattle.elf_tool_check_source.specs.CheckSource.{IsCheckLine, IsScanned, SourceSays, line_of_scan}
-use Rattle.elf_tool_text.specs.Engine.{IsSaid}
+use Rattle.elf_tool_text.specs.Engine.{Prints}
 use Rattle.elf_tool_text.specs.Line.{ok_line}
 use Rattle.elf_tool_text.specs.declared.fault.ToolFault.TheVariants.{Write}
 use Rattle.elf_tool_text.specs.declared.fault.Verdict.{Verdict}
@@ -46,8 +46,8 @@ source_says content judged told = (is_line judged, λ b same are. check_says b j
 -- what is said when the line is out, and when only its first bytes are
 module _ (content old new : Option (List ℕ)) (judged : Result OutlineValue (Broken ℕ)) (bytes : List ℕ) (is : bytes ≡ line_of_scan judged)
     (told : (b : List ℕ) → content ≡ Some b → IsBytes b → IsScanned b judged) where
-  pub said_whole : (verdict : Verdict) → verdict ≡ verdict_of (fault_of judged) → Appends old new bytes → IsSaid (SourceSays content) old new (Ok verdict)
+  pub said_whole : (verdict : Verdict) → verdict ≡ verdict_of (fault_of judged) → Appends old new bytes → Prints (SourceSays content) old new (Ok verdict)
   said_whole verdict same out = (bytes, rw (same, is) (source_says content judged told), out)
 
-  pub said_in_part : (written : ℕ) → written < length bytes → Appends old new (take written bytes) → IsSaid (SourceSays content) old new (Err (Write written))
+  pub said_in_part : (written : ℕ) → written < length bytes → Appends old new (take written bytes) → Prints (SourceSays content) old new (Err (Write written))
   said_in_part written short out = (verdict_of (fault_of judged), bytes, rw is (source_says content judged told), short, out)

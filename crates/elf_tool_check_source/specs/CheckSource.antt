@@ -8,7 +8,7 @@ use Rattle.elf_image_rules.specs.ImageRules.{IsFault}
 use Rattle.elf_image_rules.specs.declared.broken.Broken.{Broken}
 use Rattle.elf_tool_base.specs.Ending.{Call}
 use Rattle.elf_tool_check.specs.Check.{CheckSays}
-use Rattle.elf_tool_text.specs.Engine.{IsSaid}
+use Rattle.elf_tool_text.specs.Engine.{Prints}
 use Rattle.elf_tool_text.specs.Line.{ok_line, refused_line}
 use Rattle.elf_tool_text.specs.declared.fault.Refusal.TheVariants.{File, Link, TooLong}
 use Rattle.elf_tool_text.specs.declared.fault.ToolFault.{ToolFault}
@@ -29,9 +29,9 @@ SourceSays content verdict text = IsCheckLine verdict text × ((b : List ℕ) �
 
 -- what is said is written, or exactly the first `written` bytes of it, or for want of memory and where a read failed nothing
 abbrev pub IsSourceSaid : Option (List ℕ) → Option (List ℕ) → Option (List ℕ) → Result Verdict ToolFault → Type 0
-IsSourceSaid content old new (Ok verdict) = IsSaid (SourceSays content) old new (Ok verdict)
+IsSourceSaid content old new (Ok verdict) = Prints (SourceSays content) old new (Ok verdict)
 IsSourceSaid content old new (Err (Read at)) = Keeps old new
-IsSourceSaid content old new (Err (Write written)) = IsSaid (SourceSays content) old new (Err (Write written))
+IsSourceSaid content old new (Err (Write written)) = Prints (SourceSays content) old new (Err (Write written))
 IsSourceSaid content old new (Err OutOfMemory) = Keeps old new
 
 -- the offset of a failed read that is answered; None of any other answer

@@ -1,5 +1,5 @@
 -- What `link` makes of files: the executable of their link.
-use Rattle.std.specs.Prelude.{◌≡◌, ◌⊎◌, ◌<◌, ◌≤◌, ℕ, List, [], length, None, Option, Some, Result}
+use Rattle.std.specs.Prelude.{◌≡◌, ◌⊎◌, ◌<◌, ◌≤◌, ℕ, List, [], length, None, Option, Some, Result, Ok, Err}
 use Rattle.elf_image_rules.specs.HeaderRules.{MAX_LEN}
 use Rattle.elf_object_type.specs.Object.{ObjectValue}
 use Rattle.elf_link_files.specs.declared.options.Options.{Options}
@@ -14,10 +14,13 @@ use Rattle.elf_exec.specs.ExecWriting.{IsExec, IsTooLong}
 use Rattle.elf_exec.specs.Loads.{loads}
 use Rattle.elf_field.specs.Abi.{PN_XNUM}
 use Rattle.elf_tool_objects.specs.ObjectFiles.{AreObjectFiles, IsFirstRefused}
-use Rattle.elf_tool_text.specs.Engine.{IsSaid}
+use Rattle.elf_tool_objects.specs.declared.mapped.Unlinked.{Unlinked}
+use Rattle.elf_tool_objects.specs.declared.mapped.Unlinked.TheVariants as unlinked
+use Rattle.elf_tool_text.specs.Engine.{Prints}
 use Rattle.elf_tool_text.specs.Inputs.{AreRead, FailsReading}
 use Rattle.elf_tool_text.specs.declared.fault.Refusal.TheVariants.{File, Link, TooLong}
 use Rattle.elf_tool_text.specs.declared.fault.ToolFault.{ToolFault}
+use Rattle.elf_tool_text.specs.declared.fault.ToolFault.TheVariants.{OutOfMemory}
 use Rattle.elf_tool_text.specs.declared.fault.Verdict.{Verdict}
 use Rattle.elf_tool_text.specs.declared.fault.Verdict.TheVariants.{Done, Refused}
 
@@ -59,8 +62,13 @@ abbrev pub FilesLink : Options → List RelocRule → List (List ℕ) → Verdic
 FilesLink opt rules files verdict text =
     ((fs : List ObjectValue) × AreObjectFiles files fs × ObjectsLink opt rules fs verdict text) ⊎ FileRefuses files verdict text
 
+-- the verdict of what is refused
+abbrev pub unlinked_verdict : Unlinked → Result Verdict ToolFault
+unlinked_verdict (unlinked.Refused refusal) = Ok (Refused refusal)
+unlinked_verdict unlinked.OutOfMemory = Err OutOfMemory
+
 -- a call of `link`: its readers, which had `inputs` left and have `rests`; and its writer, which held `old` and holds `new`
 abbrev pub IsLinkCall : Options → List RelocRule → List (Option (List ℕ)) → List (Option (List ℕ)) → Option (List ℕ) → Option (List ℕ) → Result Verdict ToolFault → Type 0
 IsLinkCall opt rules inputs rests old new result =
     FailsReading inputs rests old new result
-    ⊎ ((files : List (List ℕ)) × AreRead inputs rests files × IsSaid (FilesLink opt rules files) old new result)
+    ⊎ ((files : List (List ℕ)) × AreRead inputs rests files × Prints (FilesLink opt rules files) old new result)

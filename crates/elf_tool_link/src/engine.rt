@@ -1,20 +1,16 @@
 //! `link`: the executable of files.
 ghost use Rattle.std.specs.Prelude.{◌≡◌, map as map_list};
-ghost use Rattle.elf_tool_text.specs.Engine.{IsSaid};
-ghost use Rattle.elf_tool_link.specs.Link.{ExecSays, FilesLink, IsLinkCall, MapLinks, ObjectsLink};
+ghost use Rattle.elf_tool_text.specs.Engine.{Prints};
+ghost use Rattle.elf_tool_link.specs.Link.{ExecSays, FilesLink, IsLinkCall, MapLinks, unlinked_verdict};
 ghost use Rattle.elf_exec.specs.ExecWriting.{IsReadyLink};
-ghost use Rattle.elf_link_map.specs.BindingNumbers.{AreBindingNumbers};
-ghost use Rattle.elf_link_relocate.specs.MapFacts.{IsMapOfSome};
 
 use elf_exec::{ExecFault, write_exec};
 use elf_link_field::RelocRule;
-use elf_link_map::{LinkFault, LinkMap, Options, map_numbered};
-use elf_link_relocate::{Linked, relocate_numbered};
-use elf_object_type::Object;
-use elf_tool_objects::{FileFault, objects_of, slices_of};
+use elf_link_map::Options;
+use elf_link_relocate::{Linked, Mapped};
+use elf_tool_objects::{Unlinked, mapped_files, slices_of};
 use elf_tool_text::{Refusal, ToolFault, Verdict, read_inputs};
 use std::alloc::Global;
-use std::hash::{BuildHasherDefault, FoldHasher};
 use std::io::{Read, Write};
 
 /// Reads files whole, in order, links the objects that they denote, and writes the executable of the link: a file whose segments of type
@@ -54,64 +50,25 @@ pub fn link_files<W: Write>(
     rules: &[RelocRule],
     writer: &mut W,
 ) -> Result<Verdict, ToolFault>
-    ensures { IsSaid (FilesLink options.now rules.now (map_list (λ f. f.now) files.now)) (W.contents writer.old) (W.contents writer.new) result }
+    ensures { Prints (FilesLink options.now rules.now (map_list (λ f. f.now) files.now)) (W.contents writer.old) (W.contents writer.new) result }
 {
-    match objects_of(alloc, files) {
-        Ok(objects) => link_objects(alloc, &objects, options, rules, writer),
-        Err(FileFault::Refused { file, rule, at }) => {
-            Ok(Verdict::Refused(Refusal::File { file, rule, at }))
-        }
-        Err(FileFault::OutOfMemory) => Err(ToolFault::OutOfMemory),
+    match mapped_files(alloc, files, options) {
+        Ok(mapped) => link_mapped(alloc, &mapped, rules, writer),
+        Err(unlinked) => verdict_of(unlinked),
     }
 }
 
-fn link_objects<W: Write>(
+fn link_mapped<W: Write>(
     alloc: Global,
-    objects: &[Object<'_>],
-    options: &Options<'_>,
+    mapped: &Mapped<'_>,
     rules: &[RelocRule],
     writer: &mut W,
 ) -> Result<Verdict, ToolFault>
-    ensures { IsSaid (ObjectsLink options.now rules.now objects.now) (W.contents writer.old) (W.contents writer.new) result }
+    ensures { Prints (MapLinks rules.now mapped.now.objects mapped.now.map) (W.contents writer.old) (W.contents writer.new) result }
 {
-    let hasher: BuildHasherDefault<FoldHasher> = BuildHasherDefault::new();
-    match map_numbered(alloc, objects, options, hasher) {
-        Ok(link) => link_map(alloc, objects, &link.map, &link.numbers, rules, writer),
-        Err(
-            LinkFault::Rule {
-                rule,
-                file,
-                index,
-                entry,
-            },
-        ) => Ok(refused(rule, file, index, entry)),
-        Err(LinkFault::OutOfMemory) => Err(ToolFault::OutOfMemory),
-    }
-}
-
-fn link_map<'a, W: Write>(
-    alloc: Global,
-    objects: &[Object<'a>],
-    link: &LinkMap<'a>,
-    numbers: &[Vec<usize>],
-    rules: &[RelocRule],
-    writer: &mut W,
-) -> Result<Verdict, ToolFault>
-    requires map { IsMapOfSome objects.now link.now }
-    requires numbers { AreBindingNumbers objects.now link.now (map_list (λ row. row.items) numbers.now) }
-    ensures { IsSaid (MapLinks rules.now objects.now link.now) (W.contents writer.old) (W.contents writer.new) result }
-{
-    match relocate_numbered(alloc, link, objects, rules, numbers) {
+    match mapped.relocated(alloc, rules) {
         Ok(linked) => link_relocated(alloc, &linked, writer),
-        Err(
-            LinkFault::Rule {
-                rule,
-                file,
-                index,
-                entry,
-            },
-        ) => Ok(refused(rule, file, index, entry)),
-        Err(LinkFault::OutOfMemory) => Err(ToolFault::OutOfMemory),
+        Err(fault) => verdict_of(fault.into()),
     }
 }
 
@@ -121,7 +78,7 @@ fn link_relocated<W: Write>(
     writer: &mut W,
 ) -> Result<Verdict, ToolFault>
     requires { IsReadyLink linked.now }
-    ensures { IsSaid (ExecSays linked.now) (W.contents writer.old) (W.contents writer.new) result }
+    ensures { Prints (ExecSays linked.now) (W.contents writer.old) (W.contents writer.new) result }
 {
     match write_exec(alloc, linked, writer) {
         Ok(()) => Ok(Verdict::Done),
@@ -131,14 +88,12 @@ fn link_relocated<W: Write>(
     }
 }
 
-// The verdict of a rule of the link.
-fn refused(rule: u16, file: usize, index: usize, entry: usize) -> Verdict
-    ensures { result ≡ Verdict.Refused (Refusal.Link rule file index entry) }
+// The verdict of what is refused.
+fn verdict_of(unlinked: Unlinked) -> Result<Verdict, ToolFault>
+    ensures { result ≡ unlinked_verdict unlinked }
 {
-    Verdict::Refused(Refusal::Link {
-        rule,
-        file,
-        index,
-        entry,
-    })
+    match unlinked {
+        Unlinked::Refused(refusal) => Ok(Verdict::Refused(refusal)),
+        Unlinked::OutOfMemory => Err(ToolFault::OutOfMemory),
+    }
 }

@@ -1,3 +1,4 @@
--- Lemmas on texts of the items of a list, and on bytes as digits.
+-- Lemmas on texts of the items of a list, on bytes as digits, and on what is refused.
 pub mod BytesText
 pub mod Items
+mod Refusals

@@ -8,9 +8,11 @@ use Rattle.elf_link_map.specs.LinkMap.{IsLinkMap, LinkMapValue}
 use Rattle.elf_link_relocate.specs.Linked.{IsLinked, LinkedValue}
 use Rattle.elf_link_relocate.specs.RelocationRules.{applied_entry_rules}
 use Rattle.elf_link_field.specs.declared.rule.RelocRule.{RelocRule}
-use Rattle.elf_tool_text.specs.Engine.{IsSaid}
+use Rattle.elf_tool_text.specs.Engine.{Prints}
 use Rattle.elf_tool_text.specs.Inputs.{AreRead, FailsReading}
-use Rattle.elf_tool_map.specs.MapLines.{bytes_lines, file_refused_line, link_refused_line, map_text}
+use Rattle.elf_tool_map.specs.MapLines.{bytes_lines, file_refused_line, link_refused_line, map_text, refusal_line}
+use Rattle.elf_tool_objects.specs.declared.mapped.Unlinked.{Unlinked}
+use Rattle.elf_tool_objects.specs.declared.mapped.Unlinked.TheVariants as unlinked
 use Rattle.elf_tool_objects.specs.ObjectFiles.{AreObjectFiles, IsFirstRefused}
 use Rattle.elf_tool_text.specs.declared.fault.Refusal.TheVariants.{File, Link, TooLong}
 use Rattle.elf_tool_text.specs.declared.fault.ToolFault.{ToolFault}
@@ -56,8 +58,13 @@ MapSays opt rules files verdict text =
 abbrev pub IsThis : Verdict → List ℕ → Verdict → List ℕ → Type 0
 IsThis verdict text said lines = (said ≡ verdict) × (lines ≡ text)
 
+-- what is refused is said by its line, and the verdict carries it
+abbrev pub TellsUnlinked : Unlinked → Verdict → List ℕ → Type 0
+TellsUnlinked (unlinked.Refused refusal) = IsThis (Refused refusal) (refusal_line refusal)
+TellsUnlinked unlinked.OutOfMemory = λ said text. ⊥
+
 -- a call of `map`: its readers, which had `inputs` left and have `rests`; and its writer, which held `old` and holds `new`
 abbrev pub IsMapped : Options → Option (List RelocRule) → List (Option (List ℕ)) → List (Option (List ℕ)) → Option (List ℕ) → Option (List ℕ) → Result Verdict ToolFault → Type 0
 IsMapped opt rules inputs rests old new result =
     FailsReading inputs rests old new result
-    ⊎ ((files : List (List ℕ)) × AreRead inputs rests files × IsSaid (MapSays opt rules files) old new result)
+    ⊎ ((files : List (List ℕ)) × AreRead inputs rests files × Prints (MapSays opt rules files) old new result)

@@ -13,6 +13,8 @@ use Rattle.elf_link_map.specs.Apart.{size_in}
 use Rattle.elf_link_map.specs.LinkMap.{LinkMapValue}
 use Rattle.elf_link_relocate.specs.Linked.{LinkedValue, bytes_at}
 use Rattle.elf_link_relocate.specs.Values.{binding_value}
+use Rattle.elf_tool_text.specs.declared.fault.Refusal.{Refusal}
+use Rattle.elf_tool_text.specs.declared.fault.Refusal.TheVariants.{File, Link, TooLong}
 use Rattle.elf_tool_text.specs.Line.{bytes_text, hexadecimal, line, name_text}
 
 abbrev pub bits_text : Bool → List ℕ
@@ -59,6 +61,12 @@ file_refused_line f rule at = line (codes "file" ∷ decimal f ∷ codes "refuse
 unfoldable pub link_refused_line : ℕ → ℕ → ℕ → ℕ → List ℕ
 link_refused_line rule file index entry =
     line (codes "refused" ∷ decimal rule ∷ decimal file ∷ decimal index ∷ decimal entry ∷ [])
+
+-- what is refused; `map` writes no file that could be too long
+abbrev pub refusal_line : Refusal → List ℕ
+refusal_line (File file rule at) = file_refused_line file rule at
+refusal_line (Link rule file index entry) = link_refused_line rule file index entry
+refusal_line TooLong = []
 
 -- `bytes FILE SECTION HEX`
 unfoldable pub bytes_line : Member → List ℕ → List ℕ

@@ -1,10 +1,11 @@
 //! The lines of `map`: each function appends one to the text that is to go out.
 ghost use Rattle.std.specs.Prelude.{◌≡◌, ◌++◌, ◌∷◌, OnOk};
 ghost use Rattle.elf_tool_text.specs.Line.{blank};
-ghost use Rattle.elf_tool_map.specs.MapLines.{binding_text, bits_text, common_line, discarded_line, file_refused_line, link_refused_line, member_line, name_line, output_line, value_text};
+ghost use Rattle.elf_tool_map.specs.MapLines.{binding_text, bits_text, common_line, discarded_line, file_refused_line, link_refused_line, member_line, name_line, output_line, refusal_line, value_text};
 ghost use Rattle.elf_link_outputs.specs.PlacedView.{common_value, output_value};
 
 use elf_link_map::{Binding, Common, Member, Named, Output};
+use elf_tool_text::Refusal;
 use elf_tool_text::line::{
     begin_line, end_line, push_decimal, push_hexadecimal, push_name, push_wide_hexadecimal,
     push_word,
@@ -117,8 +118,24 @@ fn push_value(text: &mut Vec<u8>, value: Option<u128>) -> Result<(), AllocError>
     }
 }
 
-/// `file F refused R A`: the first rule that the file breaks, at this offset.
-pub(crate) fn push_file_refused_line(
+/// What is refused: `file F refused R A`, the first rule that the file breaks, at this offset; or `refused RULE FILE INDEX ENTRY`, the
+/// first rule of the link that stands, and where. Of a file that would be too long nothing, since `map` writes none.
+pub(crate) fn push_refusal_line(text: &mut Vec<u8>, refusal: Refusal) -> Result<(), AllocError>
+    ensures { OnOk result (text.new.items ≡ text.old.items ++ refusal_line refusal) }
+{
+    match refusal {
+        Refusal::File { file, rule, at } => push_file_refused_line(text, file, rule, at),
+        Refusal::Link {
+            rule,
+            file,
+            index,
+            entry,
+        } => push_link_refused_line(text, rule, file, index, entry),
+        Refusal::TooLong => Ok(()),
+    }
+}
+
+fn push_file_refused_line(
     text: &mut Vec<u8>,
     file: usize,
     rule: u16,
@@ -134,8 +151,7 @@ pub(crate) fn push_file_refused_line(
     end_line(text)
 }
 
-/// `refused RULE FILE INDEX ENTRY`: the first rule of the link that stands, and where.
-pub(crate) fn push_link_refused_line(
+fn push_link_refused_line(
     text: &mut Vec<u8>,
     rule: u16,
     file: usize,

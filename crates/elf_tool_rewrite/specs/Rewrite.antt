@@ -9,7 +9,7 @@ use Rattle.elf_image_rules.specs.HeaderRules.{MAX_LEN}
 use Rattle.elf_image_rules.specs.ImageRules.{IsFault}
 use Rattle.elf_image_rules.specs.Rows.{FirstIn}
 use Rattle.elf_table_base.specs.Sections.{Sections, sections_of}
-use Rattle.elf_tool_text.specs.Engine.{IsAnsweredWithMemory}
+use Rattle.elf_tool_text.specs.Engine.{IsFileCallAllocatingFirst}
 use Rattle.elf_tool_text.specs.declared.fault.Refusal.TheVariants.{File, Link, TooLong}
 use Rattle.elf_tool_text.specs.declared.fault.ToolFault.{ToolFault}
 use Rattle.elf_tool_text.specs.declared.fault.Verdict.{Verdict}
@@ -44,4 +44,4 @@ RewriteSays b verdict text =
 
 -- a call of `rewrite`
 abbrev pub IsRewritten : Option (List ℕ) → Option (List ℕ) → Option (List ℕ) → Option (List ℕ) → Result Verdict ToolFault → Type 0
-IsRewritten = IsAnsweredWithMemory RewriteSays
+IsRewritten = IsFileCallAllocatingFirst RewriteSays

@@ -1,6 +1,6 @@
 //! `rewrite`: the object of a file, in canonical layout.
 ghost use Rattle.std.specs.Prelude.{◌≡◌};
-ghost use Rattle.elf_tool_text.specs.Engine.{IsSaid};
+ghost use Rattle.elf_tool_text.specs.Engine.{Prints};
 ghost use Rattle.elf_tool_rewrite.specs.Rewrite.{IsRewritten, ObjectSays, RewriteSays, SectionsSay};
 ghost use Rattle.elf_table_base.specs.Sections.{sections_of};
 
@@ -42,7 +42,7 @@ pub fn rewrite_bytes<W: Write>(
     bytes: &[u8],
     writer: &mut W,
 ) -> Result<Verdict, ToolFault>
-    ensures { IsSaid (RewriteSays bytes.now) (W.contents writer.old) (W.contents writer.new) result }
+    ensures { Prints (RewriteSays bytes.now) (W.contents writer.old) (W.contents writer.new) result }
 {
     match parse(alloc, bytes) {
         Ok(image) => rewrite_image(alloc, &image, writer),
@@ -59,7 +59,7 @@ fn rewrite_image<W: Write>(
     image: &Image<'_>,
     writer: &mut W,
 ) -> Result<Verdict, ToolFault>
-    ensures { IsSaid (SectionsSay (sections_of image.now)) (W.contents writer.old) (W.contents writer.new) result }
+    ensures { Prints (SectionsSay (sections_of image.now)) (W.contents writer.old) (W.contents writer.new) result }
 {
     match object_of(alloc, image) {
         Ok(object) => rewrite_object(alloc, &object, writer),
@@ -75,7 +75,7 @@ fn rewrite_object<W: Write>(
     object: &Object<'_>,
     writer: &mut W,
 ) -> Result<Verdict, ToolFault>
-    ensures { IsSaid (ObjectSays object.now) (W.contents writer.old) (W.contents writer.new) result }
+    ensures { Prints (ObjectSays object.now) (W.contents writer.old) (W.contents writer.new) result }
 {
     match write_object(alloc, object, writer) {
         Ok(()) => Ok(Verdict::Done),

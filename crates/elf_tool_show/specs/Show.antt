@@ -7,7 +7,7 @@ use Rattle.elf_image_outline.specs.Image.{ImageValue, IsImage, program_header_of
 use Rattle.elf_image_type.specs.Strings.{section_name}
 use Rattle.elf_table_base.specs.Sections.{sections_of}
 use Rattle.elf_table_all.specs.TableVerdicts.{AreVerdicts, TablesValue}
-use Rattle.elf_tool_text.specs.Engine.{IsAnswered, IsReported}
+use Rattle.elf_tool_text.specs.Engine.{IsFileCall, WritesReport}
 use Rattle.elf_tool_text.specs.Line.{refused_line}
 use Rattle.elf_tool_show.specs.ShowLines.{file_line, part_line, section_line, segment_line}
 use Rattle.elf_tool_show.specs.TableLines.{all_table_lines}
@@ -55,8 +55,8 @@ ShowSays b (Refused TooLong) text = ⊥
 
 -- a call of `show`
 abbrev pub IsShown : Option (List ℕ) → Option (List ℕ) → Option (List ℕ) → Option (List ℕ) → Result Verdict ToolFault → Type 0
-IsShown = IsAnswered ShowSays
+IsShown = IsFileCall ShowSays
 
 -- a call of `show_bytes`: for want of memory nothing is written, or the report of the bytes is
 abbrev pub IsShownOf : List ℕ → Option (List ℕ) → Option (List ℕ) → Result Verdict ToolFault → Type 0
-IsShownOf b old new result = ((result ≡ Err OutOfMemory) × Keeps old new) ⊎ IsReported (ShowSays b) old new result
+IsShownOf b old new result = ((result ≡ Err OutOfMemory) × Keeps old new) ⊎ WritesReport (ShowSays b) old new result

@@ -6,7 +6,7 @@ use Rattle.std.proofs.KnownBytes.{Appends-nil, Appends-trans}
 use Rattle.std.proofs.Math.Seq.{take-append-add}
 use Rattle.std.proofs.lemmas.List.{append-nil, take-append-drop, take-append-le, take_more}
 use Rattle.std.proofs.lemmas.List.Concat.{flat_map-append}
-use Rattle.elf_tool_text.specs.Engine.{IsBegun, IsWritten}
+use Rattle.elf_tool_text.specs.Engine.{WritesPrefix, WritesText}
 use Rattle.elf_tool_text.specs.Output.{Buffers, IsBuffered, IsCutShort}
 use Rattle.elf_tool_text.specs.declared.output.Output.{Output}
 use Rattle.elf_tool_text.specs.declared.fault.ToolFault.{ToolFault}
@@ -102,7 +102,7 @@ all_written a c o q text empty done sent =
     subst (Appends a c) out sent.went
 
 pub all_cut : (a c : Option (List ℕ)) (o : Output) (text : List ℕ) (fault : ToolFault) → o.pending.items ≡ [] → o.written ≡ 0 → IsCutShort a c o text fault
-    → IsBegun text a c fault
+    → WritesPrefix text a c fault
 all_cut a c o text (Write written) empty none (n, count, below, went) =
     let same : written ≡ n = omega arith in
     let whole : o.pending.items ++ text ≡ text = ap (λ (s : List ℕ). s ++ text) empty in
@@ -114,7 +114,7 @@ all_cut a c o text (Read at) empty none stop = absurd stop
 
 -- a last flush lets all of it out, or only its first bytes
 pub all_out : {T : Type 0} (a b c : Option (List ℕ)) (o p q : Output) (text : List ℕ) (result : Result T ToolFault) → o.pending.items ≡ [] → o.written ≡ 0
-    → Buffers a b o p text → IsBuffered b c p q [] result → OnOk result (q.pending.items ≡ []) → IsWritten text a c result
+    → Buffers a b o p text → IsBuffered b c p q [] result → OnOk result (q.pending.items ≡ []) → WritesText text a c result
 all_out a b c o p q text (Ok done) empty none sent flushed gone = all_written a c o q text empty gone (buffers_flushed a b c o p q text sent flushed)
 all_out a b c o p q text (Err fault) empty none sent flushed gone =
     all_cut a c o text fault empty none (cut_flushed a b c o p text fault sent flushed)

@@ -2,7 +2,7 @@
 use Rattle.std.proofs.Common.{◌≡◌, ◌∙◌, ℕ, ◌+◌, ◌^◌, ◌≤◌, ◌⊎◌, List, Option, Result, Ok, Err, inl, inr, length, refl, sym}
 use Rattle.std.specs.Io.KnownBytes.{Consumes, IsAtEnd, Keeps}
 use Rattle.std.proofs.KnownBytes.{Keeps-refl}
-use Rattle.elf_tool_text.specs.Engine.{IsAnswered, IsAnsweredWithMemory, IsBegun, IsReadFaultAfter, IsSaid, Report}
+use Rattle.elf_tool_text.specs.Engine.{IsFileCall, IsFileCallAllocatingFirst, WritesPrefix, IsReadFaultAfter, Prints, Report}
 use Rattle.elf_tool_text.specs.declared.fault.ToolFault.{ToolFault}
 use Rattle.elf_tool_text.specs.declared.fault.ToolFault.TheVariants.{Read, Write, OutOfMemory}
 use Rattle.elf_tool_text.specs.declared.fault.Verdict.{Verdict}
@@ -11,14 +11,14 @@ use Rattle.elf_tool_text.specs.declared.fault.Verdict.{Verdict}
 
 module _ (report : Report) (input rest old : Option (List ℕ)) (read items : List ℕ) (count : ℕ) (same : read ≡ items) (long : length read ≡ count)
     (taken : Consumes input rest items) (limit : count ≤ 2 ^ 30 + 1) where
-  pub given_up : (fault : ToolFault) → IsReadFaultAfter fault count → IsAnswered report input rest old old (Err fault)
+  pub given_up : (fault : ToolFault) → IsReadFaultAfter fault count → IsFileCall report input rest old old (Err fault)
   given_up (Read at) is = record { bytes = read; taken = rw same taken; limit = rw long limit; answered = inl (is ∙ sym long, Keeps-refl old) }
   given_up OutOfMemory is = record { bytes = read; taken = rw same taken; limit = rw long limit; answered = inl (Keeps-refl old) }
   given_up (Write written) is = absurd is
 
 -- so what is out is kept for want of memory too
-pub kept_early : {report : Report} {input rest old : Option (List ℕ)} {fault : ToolFault} → IsAnswered report input rest old old (Err fault)
-    → IsAnsweredWithMemory report input rest old old (Err fault)
+pub kept_early : {report : Report} {input rest old : Option (List ℕ)} {fault : ToolFault} → IsFileCall report input rest old old (Err fault)
+    → IsFileCallAllocatingFirst report input rest old old (Err fault)
 kept_early {old = old} answered = record { answered = answered; memory = λ refused. Keeps-refl old }
 
 -- ---- a fault while the text is written
@@ -26,7 +26,7 @@ kept_early {old = old} answered = record { answered = answered; memory = λ refu
 -- a file was read, whole, and a fault came with the first bytes of its text out
 pub stopped : (report : Report) (input rest old new : Option (List ℕ)) (read items : List ℕ) (count : ℕ) (verdict : Verdict) (text : List ℕ)
     (fault : ToolFault) → read ≡ items → length read ≡ count → Consumes input rest items → count ≤ 2 ^ 30 + 1 → IsAtEnd rest ⊎ (count ≡ 2 ^ 30 + 1)
-    → report read verdict text → IsBegun text old new fault → IsAnswered report input rest old new (Err fault)
+    → report read verdict text → WritesPrefix text old new fault → IsFileCall report input rest old new (Err fault)
 stopped report input rest old new read items count verdict text fault same long taken limit whole is cut = record {
   bytes = read;
   taken = rw same taken;
@@ -37,7 +37,7 @@ stopped report input rest old new read items count verdict text fault same long 
 -- ---- what is said of a file that was read
 
 pub said_more : (Says More : Verdict → List ℕ → Type 0) (old new : Option (List ℕ)) → ((verdict : Verdict) (text : List ℕ) → Says verdict text → More verdict text)
-    → (result : Result Verdict ToolFault) → IsSaid Says old new result → IsSaid More old new result
+    → (result : Result Verdict ToolFault) → Prints Says old new result → Prints More old new result
 said_more Says More old new more (Ok verdict) (text, says, out) = (text, more verdict text says, out)
 said_more Says More old new more (Err (Read at)) said = said
 said_more Says More old new more (Err (Write written)) (verdict, text, says, short, cut) = (verdict, text, more verdict text says, short, cut)
@@ -45,7 +45,7 @@ said_more Says More old new more (Err OutOfMemory) said = said
 
 module _ (report : Report) (input rest old new : Option (List ℕ)) (read items : List ℕ) (count : ℕ) (same : read ≡ items) (long : length read ≡ count)
     (taken : Consumes input rest items) (limit : count ≤ 2 ^ 30 + 1) (whole : IsAtEnd rest ⊎ (count ≡ 2 ^ 30 + 1)) where
-  answered_with : (result : Result Verdict ToolFault) → IsSaid (report read) old new result → IsAnswered report input rest old new result
+  answered_with : (result : Result Verdict ToolFault) → Prints (report read) old new result → IsFileCall report input rest old new result
   answered_with (Ok verdict) (text, says, out) = record {
     bytes = read;
     taken = rw same taken;
@@ -61,11 +61,11 @@ module _ (report : Report) (input rest old new : Option (List ℕ)) (read items 
   }
   answered_with (Err OutOfMemory) kept = record { bytes = read; taken = rw same taken; limit = rw long limit; answered = inl kept }
 
-  kept_with : (result : Result Verdict ToolFault) → IsSaid (report read) old new result → result ≡ Err OutOfMemory → Keeps old new
+  kept_with : (result : Result Verdict ToolFault) → Prints (report read) old new result → result ≡ Err OutOfMemory → Keeps old new
   kept_with (Ok verdict) said refused = cc
   kept_with (Err (Read at)) said refused = cc
   kept_with (Err (Write written)) said refused = cc
   kept_with (Err OutOfMemory) kept refused = kept
 
-  pub said : (result : Result Verdict ToolFault) → IsSaid (report read) old new result → IsAnsweredWithMemory report input rest old new result
+  pub said : (result : Result Verdict ToolFault) → Prints (report read) old new result → IsFileCallAllocatingFirst report input rest old new result
   said result says = record { answered = answered_with result says; memory = kept_with result says }

@@ -4,7 +4,7 @@ use Rattle.std.proofs.Math.Seq.{take-add}
 use Rattle.std.proofs.lemmas.List.{take-append-drop}
 use Rattle.hex.specs.Hex.{encode_lower, encode_with, lower_digits}
 use Rattle.elf_image_stream.specs.declared.fault.WriteFault.{WriteFault}
-use Rattle.elf_tool_text.specs.Engine.{IsSaid}
+use Rattle.elf_tool_text.specs.Engine.{Prints}
 use Rattle.elf_tool_text.specs.declared.fault.ToolFault.{ToolFault}
 use Rattle.elf_tool_text.specs.declared.fault.ToolFault.TheVariants.{Read, Write, OutOfMemory}
 use Rattle.elf_tool_text.specs.declared.fault.Verdict.{Verdict}
@@ -54,7 +54,7 @@ module _ (bytes : List ℕ) (next end : ℕ) (a b c : Option (List ℕ)) (out mi
 -- ---- what is said of other words
 
 pub said_as : (P Q : Verdict → List ℕ → Type 0) (old new : Option (List ℕ)) (result : Result Verdict ToolFault) →
-    ((v : Verdict) (t : List ℕ) → P v t → Q v t) → IsSaid P old new result → IsSaid Q old new result
+    ((v : Verdict) (t : List ℕ) → P v t → Q v t) → Prints P old new result → Prints Q old new result
 said_as P Q old new (Ok v) into (t, says, went) = (t, into v t says, went)
 said_as P Q old new (Err (Read at)) into says = absurd says
 said_as P Q old new (Err (Write written)) into (v, t, says, below, went) = (v, t, into v t says, below, went)

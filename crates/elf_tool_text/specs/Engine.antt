@@ -18,51 +18,51 @@ IsReadWhole rest bytes = IsAtEnd rest ⊎ (length bytes ≡ MAX_LEN + 1)
 
 -- a writer that held `old` holds `new`, with a beginning of a text behind it: after a failed write just its first
 -- `written` bytes
-abbrev pub IsBegun : List ℕ → Option (List ℕ) → Option (List ℕ) → ToolFault → Type 0
-IsBegun text old new (Write written) = (written < length text) × Appends old new (take written text)
-IsBegun text old new OutOfMemory = (count : ℕ) × (count ≤ length text) × Appends old new (take count text)
-IsBegun text old new (Read at) = ⊥
+abbrev pub WritesPrefix : List ℕ → Option (List ℕ) → Option (List ℕ) → ToolFault → Type 0
+WritesPrefix text old new (Write written) = (written < length text) × Appends old new (take written text)
+WritesPrefix text old new OutOfMemory = (count : ℕ) × (count ≤ length text) × Appends old new (take count text)
+WritesPrefix text old new (Read at) = ⊥
 
 -- with all of a text behind it, or at a fault a beginning
-abbrev pub IsWritten : {T : Type 0} → List ℕ → Option (List ℕ) → Option (List ℕ) → Result T ToolFault → Type 0
-IsWritten text old new result = MatchResult result (λ _. Appends old new text) (IsBegun text old new)
+abbrev pub WritesText : {T : Type 0} → List ℕ → Option (List ℕ) → Option (List ℕ) → Result T ToolFault → Type 0
+WritesText text old new result = MatchResult result (λ _. Appends old new text) (WritesPrefix text old new)
 
 -- what a command reports of the bytes of a file: a verdict and a text
 abbrev pub Report : Type 1
 Report = List ℕ → Verdict → List ℕ → Type 0
 
 -- the text of a report is written, and where all of it is, its verdict is answered
-pub record IsReported (report : Verdict → List ℕ → Type 0) (old new : Option (List ℕ)) (result : Result Verdict ToolFault) : Type 0 where
+pub record WritesReport (report : Verdict → List ℕ → Type 0) (old new : Option (List ℕ)) (result : Result Verdict ToolFault) : Type 0 where
   pub verdict : Verdict
   pub text : List ℕ
   pub is : report verdict text
   pub answer : IfOk result (λ answered. answered ≡ verdict)
-  pub written : IsWritten text old new result
+  pub written : WritesText text old new result
 
 -- nothing is written: a read failed, after just these bytes, or memory was refused
-abbrev pub IsGivenUp : List ℕ → Option (List ℕ) → Option (List ℕ) → Result Verdict ToolFault → Type 0
-IsGivenUp bytes old new (Ok verdict) = ⊥
-IsGivenUp bytes old new (Err (Write written)) = ⊥
-IsGivenUp bytes old new (Err (Read at)) = (at ≡ length bytes) × Keeps old new
-IsGivenUp bytes old new (Err OutOfMemory) = Keeps old new
+abbrev pub WritesNothing : List ℕ → Option (List ℕ) → Option (List ℕ) → Result Verdict ToolFault → Type 0
+WritesNothing bytes old new (Ok verdict) = ⊥
+WritesNothing bytes old new (Err (Write written)) = ⊥
+WritesNothing bytes old new (Err (Read at)) = (at ≡ length bytes) × Keeps old new
+WritesNothing bytes old new (Err OutOfMemory) = Keeps old new
 
 -- a call of an engine: its reader, which had `input` left and has `rest`, gave some bytes; then the engine gave up, or
 -- they are the whole file and their report is written
-pub record IsAnswered (report : Report) (input rest old new : Option (List ℕ)) (result : Result Verdict ToolFault) : Type 0 where
+pub record IsFileCall (report : Report) (input rest old new : Option (List ℕ)) (result : Result Verdict ToolFault) : Type 0 where
   pub bytes : List ℕ
   pub taken : Consumes input rest bytes
   pub limit : length bytes ≤ MAX_LEN + 1
-  pub answered : IsGivenUp bytes old new result ⊎ (IsReadWhole rest bytes × IsReported (report bytes) old new result)
+  pub answered : WritesNothing bytes old new result ⊎ (IsReadWhole rest bytes × WritesReport (report bytes) old new result)
 
 -- what is said is written, or exactly the first `written` bytes of it, or for want of memory nothing
-abbrev pub IsSaid : (Verdict → List ℕ → Type 0) → Option (List ℕ) → Option (List ℕ) → Result Verdict ToolFault → Type 0
-IsSaid Says old new (Ok verdict) = (text : List ℕ) × Says verdict text × Appends old new text
-IsSaid Says old new (Err (Read at)) = ⊥
-IsSaid Says old new (Err (Write written)) =
+abbrev pub Prints : (Verdict → List ℕ → Type 0) → Option (List ℕ) → Option (List ℕ) → Result Verdict ToolFault → Type 0
+Prints Says old new (Ok verdict) = (text : List ℕ) × Says verdict text × Appends old new text
+Prints Says old new (Err (Read at)) = ⊥
+Prints Says old new (Err (Write written)) =
     (verdict : Verdict) × (text : List ℕ) × Says verdict text × (written < length text) × Appends old new (take written text)
-IsSaid Says old new (Err OutOfMemory) = Keeps old new
+Prints Says old new (Err OutOfMemory) = Keeps old new
 
 -- a call of an engine that takes all its memory before it writes: for want of memory nothing is written
-pub record IsAnsweredWithMemory (report : Report) (input rest old new : Option (List ℕ)) (result : Result Verdict ToolFault) : Type 0 where
-  pub answered : IsAnswered report input rest old new result
+pub record IsFileCallAllocatingFirst (report : Report) (input rest old new : Option (List ℕ)) (result : Result Verdict ToolFault) : Type 0 where
+  pub answered : IsFileCall report input rest old new result
   pub memory : result ≡ Err OutOfMemory → Keeps old new

@@ -11,7 +11,7 @@ use Rattle.elf_tool_check.specs.Check.{CheckSays}
 use Rattle.elf_tool_check_source.specs.CheckSource.{IsSourceChecked}
 use Rattle.elf_tool_base.specs.Ending.{code_of, ending_of}
 use Rattle.elf_tool_base.specs.declared.ending.Status.{Status}
-use Rattle.elf_tool_text.specs.Engine.{IsAnswered, IsReadWhole, Report}
+use Rattle.elf_tool_text.specs.Engine.{IsFileCall, IsReadWhole, Report}
 use Rattle.elf_tool_show.specs.Show.{ShowSays}
 use Rattle.elf_tool_text.specs.declared.fault.Refusal.TheVariants.{File, Link, TooLong}
 use Rattle.elf_tool_text.specs.declared.fault.ToolFault.{ToolFault}
@@ -68,7 +68,7 @@ show_says b (Refused TooLong) text says = absurd says
 -- an engine that answers a verdict says it of the bytes
 module _ (report : Report) (means : (b : List ℕ) (verdict : Verdict) (text : List ℕ) → report b verdict text → Says verdict b) where
   answered_says : (bytes : List ℕ) (input rest old new : Option (List ℕ)) (verdict : Verdict) → length bytes ≤ 2 ^ 30 → input ≡ Some bytes
-      → IsAnswered report input rest old new (Ok verdict) → Says verdict bytes
+      → IsFileCall report input rest old new (Ok verdict) → Says verdict bytes
   answered_says bytes input rest old new verdict short known call = elim call.answered [
     | inl given_up ↦ absurd given_up
     | inr (whole, reported) ↦
@@ -78,7 +78,7 @@ module _ (report : Report) (means : (b : List ℕ) (verdict : Verdict) (text : L
 
   -- the statuses 0 and 1 say it
   status_says : (bytes : List ℕ) (input rest old new : Option (List ℕ)) (answer : Result Verdict ToolFault) (status : Status) → length bytes ≤ 2 ^ 30
-      → input ≡ Some bytes → IsAnswered report input rest old new answer → status ≡ ending_of answer → Tells status bytes
+      → input ≡ Some bytes → IsFileCall report input rest old new answer → status ≡ ending_of answer → Tells status bytes
   status_says bytes input rest old new (Ok Done) status short known call is = record {
     done = λ zero. answered_says bytes input rest old new Done short known call;
     refused = λ one. let e : 0 ≡ 1 = sym (ap code_of is) ∙ one in absurd (omega arith);

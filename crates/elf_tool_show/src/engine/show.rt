@@ -1,7 +1,7 @@
 //! `show`: the header, the parts, the sections, the segments and the tables of a file.
 ghost use Rattle.std.specs.Prelude.{◌≡◌, List, length, map};
 ghost use Rattle.std.specs.List.{flat_map};
-ghost use Rattle.elf_tool_text.specs.Engine.{IsWritten};
+ghost use Rattle.elf_tool_text.specs.Engine.{WritesText};
 ghost use Rattle.elf_tool_text.specs.Line.{refused_line as refused_line_of};
 ghost use Rattle.elf_tool_text.specs.Output.{IsBuffered};
 ghost use Rattle.elf_tool_show.specs.Show.{IsShown, IsShownOf, section_lines, segment_lines, show_text};
@@ -78,7 +78,7 @@ fn show_refusal<W: Write>(
     at: u64,
     writer: &mut W,
 ) -> Result<(), ToolFault>
-    ensures { IsWritten (refused_line_of rule at) (W.contents writer.old) (W.contents writer.new) result }
+    ensures { WritesText (refused_line_of rule at) (W.contents writer.old) (W.contents writer.new) result }
 {
     let line = refused_line(alloc, rule, at)?;
     write_whole(writer, line.as_bytes())?;
@@ -94,7 +94,7 @@ fn show_image<W: Write>(
     writer: &mut W,
 ) -> Result<(), ToolFault>
     requires { tables.now.image ≡ image.now }
-    ensures { IsWritten (show_text bytes.now (record { image = image.now; verdicts = tables.now.verdicts })) (W.contents writer.old) (W.contents writer.new) result }
+    ensures { WritesText (show_text bytes.now (record { image = image.now; verdicts = tables.now.verdicts })) (W.contents writer.old) (W.contents writer.new) result }
 {
     let mut output = Output::new(alloc);
     push_file_line(&mut output.pending, &image.header())?;

@@ -1,10 +1,10 @@
 //! The lines of `show` on the tables that a file holds.
-ghost use Rattle.std.specs.Prelude.{◌≡◌, ◌<◌, None, Some, get_or, length};
+ghost use Rattle.std.specs.Prelude.{◌≡◌, ◌<◌, length};
 ghost use Rattle.elf_tool_text.specs.Output.{IsBuffered};
 ghost use Rattle.elf_tool_show.specs.TableLines.{all_table_lines, group_line, hash_line, note_lines, table_refused_line, table_text};
 ghost use Rattle.elf_table_base.specs.declared.table_kind.TableKind.TheVariants as kind;
-ghost use Rattle.elf_table_base.specs.Sections.{section, sections_of};
-ghost use Rattle.elf_table_base.specs.TableKind.{kind_of};
+ghost use Rattle.elf_table_base.specs.Sections.{sections_of};
+ghost use Rattle.elf_table_all.specs.TableVerdicts.{HasSoundTable};
 ghost use Rattle.elf_table_lists.specs.Groups.{group_of};
 ghost use Rattle.elf_table_all.specs.Signature.{signature_name};
 
@@ -108,9 +108,7 @@ fn show_group<W: Write>(
     output: &mut Output,
     writer: &mut W,
 ) -> Result<(), ToolFault>
-    requires there { i < length tables.now.image.sections }
-    requires typed { kind_of (section (sections_of tables.now.image) i).sh_type ≡ Some kind.SectionGroup }
-    requires sound { get_or tables.now.verdicts i None ≡ None }
+    requires { HasSoundTable tables.now i kind.SectionGroup }
     ensures { let f = sections_of tables.now.image in
         IsBuffered (W.contents writer.old) (W.contents writer.new) output.old output.new
         (group_line i (signature_name f i) (group_of f i)) result }

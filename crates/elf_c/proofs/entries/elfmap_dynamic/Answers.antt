@@ -1,3 +1,5 @@
+-- The numbers of the table lead to the same bytes as the section, so entry and count are those of the dynamic array there. A refusal has
+-- two causes: another kind of table, or an index at or after the first DT_NULL.
 use Rattle.std.proofs.Common.{◌<◌, ℕ, false, ap, arith, length, refl, subst, sym, ◌∙◌}
 use Rattle.std.specs.Prelude.{IsTrue}
 use Rattle.elf_table_base.specs.Sections.{sections_in}

@@ -1,3 +1,5 @@
+-- The numbers of the table lead to the same bytes as the section, so entry and count are those of its relocations. A refusal has two
+-- causes: another kind of table, or an index past the last entry.
 use Rattle.std.proofs.Common.{◌≡◌, ◌<◌, ℕ, List, false, ap, arith, get_or, refl, ◌∙◌}
 use Rattle.std.specs.Prelude.{IsTrue}
 use Rattle.elf_field.specs.declared.order.Order.{Order}

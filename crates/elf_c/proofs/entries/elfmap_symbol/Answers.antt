@@ -1,3 +1,4 @@
+-- What `symbol_of` reads by the numbers of the table is the symbol of the section there; `put` passes it on, or its absence.
 use Rattle.std.proofs.Common.{ℕ, List, ap, ◌∙◌}
 use Rattle.elf_field.specs.declared.order.Order.{Order}
 use Rattle.elf_table_base.specs.declared.table_kind.TableKind.TheVariants.{SymbolTable}

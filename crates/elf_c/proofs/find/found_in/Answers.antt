@@ -1,3 +1,4 @@
+-- The hash table that the numbers lead to is the one of the section, and a sound one: what `find_in` says of its words holds of it.
 use Rattle.std.proofs.Common.{◌↔◌, ℕ, subst}
 use Rattle.std.specs.Prelude.{IsSome}
 use Rattle.elf_table_base.specs.declared.table_kind.TableKind.TheVariants.{HashTable}

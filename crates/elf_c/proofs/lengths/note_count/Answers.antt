@@ -1,3 +1,5 @@
+-- Invariant: after n notes the place is where note n begins, and all n begin inside the content. The place grows by each note, so the loop
+-- ends.
 use Rattle.std.proofs.Common.{◌≡◌, ◌<◌, ◌+◌, ℕ, List, arith, below_more, length, subst, sym, ◌∙◌}
 use Rattle.elf_field.specs.declared.order.Order.{Order}
 use Rattle.elf_table_lists.specs.Notes.{note_offset}

@@ -1,3 +1,4 @@
+-- Invariant: no segment before this index has the address. Each segment that is read is the one that the file lists at this index.
 use Rattle.std.proofs.Common.{◌≡◌, ◌<◌, ℕ, ap, arith, below_more, subst, sym, ◌∙◌}
 use Rattle.elf_field.specs.declared.phdr.Phdr.{Phdr}
 use Rattle.elf_image_rules.specs.Tables.{program_header_of}

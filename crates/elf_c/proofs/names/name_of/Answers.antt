@@ -1,3 +1,5 @@
+-- Three cases: a NULL section header or no name table, where the name is empty; no section of this index; else the string in the name
+-- table. The section headers that are read are those of the file.
 use Rattle.std.proofs.Common.{◌≢◌, ap, subst, sym, ◌∙◌}
 use Rattle.elf_extent.specs.declared.extent.Extent.{Extent}
 use Rattle.elf_field.specs.declared.shdr.Shdr.{Shdr}

@@ -1,3 +1,5 @@
+-- The note's end lies in the content, which lies in the file, so no sum overflows; the note that is read in the content is the one in the
+-- file.
 use Rattle.std.proofs.Common.{◌≡◌, ◌≤◌, ℕ, List, ap, arith, length, subst, sym, ◌∙◌}
 use Rattle.elf_field.specs.declared.order.Order.{Order}
 use Rattle.elf_table_lists.specs.Notes.{note_at, note_end}

@@ -1,3 +1,4 @@
+-- The offset that is found is where the note of this index begins; where none is found there are fewer notes.
 use Rattle.std.proofs.Common.{◌≡◌, ◌<◌, ◌≤◌, ◌+◌, ◌↔◌, ℕ, List, ap, length, subst, sym, ◌∙◌}
 use Rattle.elf_field.specs.declared.order.Order.{Order}
 use Rattle.elf_table_base.specs.declared.table_kind.TableKind.TheVariants.{NoteSection}

@@ -1,12 +1,12 @@
 use Rattle.std.proofs.Common.{◌≡◌, ℕ, List, [], Bor, Ok, Some, map, refl}
 use Rattle.elf_link_files.specs.declared.options.Options.{Options}
 use Rattle.elf_tool_link.specs.Link.{FilesLink}
-use Rattle.elf_tool_text.specs.Engine.{IsSaid}
+use Rattle.elf_tool_text.specs.Engine.{Prints}
 use Rattle.elf_tool_text.specs.declared.fault.Verdict.{Verdict}
 use Rattle.elf_c_engines.proofs.links.link_by.Goals as goal
 
 -- what is said into an empty text is all that this holds
-said_text : (Says : Verdict → List ℕ → Type 0) (old new : List ℕ) (verdict : Verdict) → old ≡ [] → IsSaid Says (Some old) (Some new) (Ok verdict) → Says verdict new
+said_text : (Says : Verdict → List ℕ → Type 0) (old new : List ℕ) (verdict : Verdict) → old ≡ [] → Prints Says (Some old) (Some new) (Ok verdict) → Says verdict new
 said_text Says old new verdict empty (text, says, all) = rw (all, empty) says
 
 pub returns-in-Ok : goal.returns-in-Ok

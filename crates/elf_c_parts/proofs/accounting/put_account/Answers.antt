@@ -1,3 +1,5 @@
+-- Invariant: the slots so far account for all bytes before the end of the last extent. Each further extent adds a gap, if there is one,
+-- and its own part.
 use Rattle.std.proofs.Common.{◌<◌, ◌≤◌, ◌+◌, ◌∷◌, ◌++◌, ℕ, List, [], ap, arith, get_or, length, map, subst, sym, take, ◌∙◌}
 use Rattle.std.specs.Prelude.{slice_set}
 use Rattle.std.proofs.lemmas.List.{length-map}

@@ -1,3 +1,4 @@
+-- Invariant: the first slots hold the extents of lower index that hold a byte, each with its index.
 use Rattle.std.proofs.Common.{◌≤◌, ◌<◌, ◌≡◌, ◌+◌, ℕ, ap, arith, filter, length, map, refl, subst, sym, take, ◌∙◌}
 use Rattle.std.proofs.lemmas.List.{take_all}
 use Rattle.elf_extent.specs.Extent.{holds_any}

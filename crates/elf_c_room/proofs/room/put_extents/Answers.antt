@@ -1,3 +1,4 @@
+-- Invariant: the first slots hold the extents of lower index that hold a byte.
 use Rattle.std.proofs.Common.{◌≤◌, ◌<◌, ap, arith, filter, length, refl, sym, ◌∙◌}
 use Rattle.std.proofs.lemmas.List.{take_all}
 use Rattle.elf_extent.specs.Extent.{holds_any}

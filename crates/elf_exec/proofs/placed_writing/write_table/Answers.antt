@@ -7,6 +7,6 @@ pub write_entries-requires-clause-short : goal.write_entries-requires-clause-sho
 write_entries-requires-clause-short g c =
     let p = c.args.placed.now in
     let m = p.linked.map in
-    let few = c.is_placed.ensures.few in
-    let all = length-program_headers m.page (loads m) p.places (many_places m p.places c.is_placed.ensures.least) in
+    let few = c.linked.ensures.placed.few in
+    let all = length-program_headers m.page (loads m) p.places (many_places m p.places c.linked.ensures.placed.least) in
     omega arith

@@ -1,3 +1,5 @@
+-- Invariant: all parts so far have their least places and end at the cursor. The first part without a place, or whose end does not fit, is
+-- the answer.
 use Rattle.std.proofs.Common.{◌+◌, ◌++◌, [], ◌∷◌, sym, subst, arith}
 use Rattle.elf_extent.proofs.PlaceLemmas.{ArePlaced, placed_more, overflow_at, no_place_at, placed_all}
 use Rattle.elf_extent.proofs.placement.first_overflow.Goals as goal

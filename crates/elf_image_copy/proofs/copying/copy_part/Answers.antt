@@ -1,3 +1,5 @@
+-- By the owner of the part: a record's bytes, or zeros of a gap, come from the outline; any other byte is copied from the source. In each
+-- case they are the part's bytes.
 use Rattle.std.proofs.Common.{[], ◌∷◌, ◌∙◌, sym, true}
 use Rattle.std.specs.Prelude.{replicate}
 use Rattle.std.specs.List.{flat_map}

@@ -1,3 +1,4 @@
+-- The header and section header 0 are the file's, so what is judged by them is judged of the file; the tables are those that they lead to.
 use Rattle.std.proofs.Common.{◌≡◌, ◌≤◌, ◌∙◌, length, ap}
 use Rattle.elf_image_rules.specs.declared.tables.Counts.{Counts}
 use Rattle.elf_image_rules.specs.Tables.{sections, shdr_offset}

@@ -1,3 +1,4 @@
+-- The stages read the file's header, tables and name table ends, so the verdict on what was read is the verdict on the file.
 use Rattle.std.proofs.Common.{◌∙◌, subst, sym}
 use Rattle.elf_image_outline.specs.Image.{IsImage}
 use Rattle.elf_image_outline.specs.Outline.{OutlineValue, image_in}

@@ -1,3 +1,4 @@
+-- The runs of rules are judged in their order: each that is kept is passed over, and the first that is broken is the file's fault.
 use Rattle.std.proofs.Common.{arith, refl}
 use Rattle.elf_image_rules.proofs.Rows.{FirstIn-handed, FirstIn-stop}
 use Rattle.elf_image_rules.proofs.ImageRules.{judged_broken, judged_unkept, from_length, from_ident, from_header, from_tables}

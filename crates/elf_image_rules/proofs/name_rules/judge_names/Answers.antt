@@ -1,3 +1,4 @@
+-- One rule after the other: the first that is broken is the answer, and those before it are kept.
 use Rattle.std.proofs.Common.{ℕ, inl, inr, refl, rules, subst}
 use Rattle.elf_field.specs.declared.shdr.Shdr.{Shdr}
 use Rattle.elf_extent.specs.Least.{Never, IsLeast}

@@ -1,3 +1,4 @@
+-- A table of one byte has it as both ends. Of a longer one the two bytes are read apart, and some table has them whatever they are.
 use Rattle.std.proofs.Common.{rules, ◌≡◌, ◌<◌, ◌+◌, ◌-◌, ◌∙◌, ℕ, List, ap, drop, refl, subst, sym, take, arith}
 use Rattle.elf_image_rules.specs.StringTable.{AreEnds}
 use Rattle.elf_field.specs.Bytes.{IsBytes}

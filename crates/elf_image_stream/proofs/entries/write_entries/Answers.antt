@@ -1,3 +1,4 @@
+-- Invariant: the entries before `next` are out. A block that fails leaves out a beginning of its bytes, so of all.
 use Rattle.std.proofs.Common.{◌*◌, take, arith, ap, ◌∙◌}
 use Rattle.std.proofs.lemmas.List.{length-take-le}
 use Rattle.elf_field.proofs.RecordTableLaws.{length-table}

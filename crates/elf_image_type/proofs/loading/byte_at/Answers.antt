@@ -1,3 +1,4 @@
+-- Invariant: the offset is not before the part in hand. The parts are an account of all bytes, so one of them has the offset.
 use Rattle.std.proofs.Common.{◌≤◌, ap, arith, length, map, take_all, ◌∙◌}
 use Rattle.std.specs.List.{flat_map}
 use Rattle.elf_image_outline.proofs.Written.{bytes_in_parts}

@@ -16,11 +16,11 @@ index_mut-requires c =
     let k = c.loop-member.member-index in
     let body = ap (λ (b : Body). members_of (body_value b)) c.in-Group.is in
     let section = ap (λ (s : SectionValue). members_of s.body) c.section_of.ensures in
-    let same : members_of (section_in fs c.args.file c.args.index).body ≡ ms = sym section ∙ body ∙ sym c.deref-member-items.ensures.value in
-    let below : k < length (members_of (section_in fs c.args.file c.args.index).body) = rw same c.loop-member-test.true in
-    let there : get_or ms k 0 < length (object_at fs c.args.file).sections =
-    subst (λ (xs : List ℕ). get_or xs k 0 < length (object_at fs c.args.file).sections) same
-    (member_there (object_at fs c.args.file) c.args.index k c.keeps_rules.ensures c.requires.index below) in
+    let same : members_of (section_in fs c.args.id.file c.args.id.index).body ≡ ms = sym section ∙ body ∙ sym c.deref-member-items.ensures.value in
+    let below : k < length (members_of (section_in fs c.args.id.file c.args.id.index).body) = rw same c.loop-member-test.true in
+    let there : get_or ms k 0 < length (object_at fs c.args.id.file).sections =
+    subst (λ (xs : List ℕ). get_or xs k 0 < length (object_at fs c.args.id.file).sections) same
+    (member_there (object_at fs c.args.id.file) c.args.id.index k c.prove_rules.ensures c.requires.section.1 below) in
     let wide : length c.loop-member.marks.items ≡ vec_len c.loop-member.marks = search rules in
     let long = c.loop-member.invariant.long in
     let rows = c.requires.marks in
@@ -36,11 +36,11 @@ loop-member-preserved c =
     let k = c.loop-member.member-index in
     let body = ap (λ (b : Body). members_of (body_value b)) c.in-Group.is in
     let section = ap (λ (s : SectionValue). members_of s.body) c.section_of.ensures in
-    let same : members_of (section_in fs c.args.file c.args.index).body ≡ ms = sym section ∙ body ∙ sym c.deref-member-items.ensures.value in
-    let below : k < length (members_of (section_in fs c.args.file c.args.index).body) = rw same c.loop-member-test.true in
-    let there : get_or ms k 0 < length (object_at fs c.args.file).sections =
-    subst (λ (xs : List ℕ). get_or xs k 0 < length (object_at fs c.args.file).sections) same
-    (member_there (object_at fs c.args.file) c.args.index k c.keeps_rules.ensures c.requires.index below) in
+    let same : members_of (section_in fs c.args.id.file c.args.id.index).body ≡ ms = sym section ∙ body ∙ sym c.deref-member-items.ensures.value in
+    let below : k < length (members_of (section_in fs c.args.id.file c.args.id.index).body) = rw same c.loop-member-test.true in
+    let there : get_or ms k 0 < length (object_at fs c.args.id.file).sections =
+    subst (λ (xs : List ℕ). get_or xs k 0 < length (object_at fs c.args.id.file).sections) same
+    (member_there (object_at fs c.args.id.file) c.args.id.index k c.prove_rules.ensures c.requires.section.1 below) in
     let long = c.loop-member.invariant.long in
     let rows = c.requires.marks in
     marked_next c.args.marks.now.items ms k c.loop-member.marks.items c.loop-member.invariant (omega arith)
@@ -50,7 +50,7 @@ returns c =
     let ms = c.deref-member-items.result.now in
     let body = ap (λ (b : Body). members_of (body_value b)) c.in-Group.is in
     let section = ap (λ (s : SectionValue). members_of s.body) c.section_of.ensures in
-    let same : ms ≡ members_of (section_in c.args.objects.now c.args.file c.args.index).body = c.deref-member-items.ensures.value ∙ sym body ∙ section in
+    let same : ms ≡ members_of (section_in c.args.objects.now c.args.id.file c.args.id.index).body = c.deref-member-items.ensures.value ∙ sym body ∙ section in
     let end : c.loop-member.member-index ≡ length ms = omega arith in
     subst (λ (xs : List ℕ). AreMembersMarked c.args.marks.now.items xs (length xs) c.loop-member.marks.items) same
     (subst (λ (n : ℕ). AreMembersMarked c.args.marks.now.items ms n c.loop-member.marks.items) end c.loop-member.invariant)

@@ -8,9 +8,9 @@ use Rattle.elf_link_files.proofs.section_tests.comdat_signature.Goals as goal
 pub symbol_of-symbol-requires-clause-index : goal.symbol_of-symbol-requires-clause-index
 symbol_of-symbol-requires-clause-index c =
     let fs = c.args.objects.now in
-    let o = object_at fs c.args.file in
+    let o = object_at fs c.args.id.file in
     let body = ap (λ (s : SectionValue). s.body) c.section_of-section.ensures in
-    let comdat : is_comdat (section_in fs c.args.file c.args.index).body ≡ true =
+    let comdat : is_comdat (section_in fs c.args.id.file c.args.id.index).body ≡ true =
     ap is_comdat (sym body) ∙ (sym c.is_comdat.ensures ∙ c.if-not-is_comdat.false) in
     subst (λ (n : ℕ). n < length o.symbols) (sym (c.signature_position.ensures ∙ ap signature_position body))
-    (signature_there o c.args.index c.keeps_rules.ensures c.requires.index comdat)
+    (signature_there o c.args.id.index c.prove_rules.ensures c.requires.1 comdat)

@@ -11,7 +11,7 @@ use Rattle.elf_link_names.proofs.known_names.known_names.Goals as goal
 
 pub loop-file-preserved : goal.loop-file-preserved
 loop-file-preserved c =
-    let fs = c.args.objects.now in
+    let fs = c.args.inputs.now in
     let n = c.loop-file.file in
     let old = name_position c.loop-file.names.positions in
     let now = name_position c.pass_file.new.names.positions in
@@ -26,6 +26,6 @@ loop-file-preserved c =
 
 pub returns-clause-names : goal.returns-clause-names
 returns-clause-names c =
-    let fs = c.args.objects.now in
+    let fs = c.args.inputs.now in
     let end : c.loop-file.file ≡ length fs = omega arith in
     subst (λ (n : ℕ). AreKnownBefore fs n 0 (name_position c.loop-file.names.positions) c.loop-file.names.known.items) end c.loop-file.invariant.names

@@ -6,6 +6,6 @@ use Rattle.elf_link_names.proofs.known_names.not_weak_past.Goals as goal
 
 pub returns-then-is_not_weak : goal.returns-then-is_not_weak
 returns-then-is_not_weak c =
-    let fs = c.args.objects.now in
-    let name = (symbol_in fs c.args.file c.args.index).name in
-    found_here fs (IsNotWeak fs name) c.args.file c.args.index c.requires.file c.requires.index (c.if-is_not_weak.ensures.0 refl)
+    let fs = c.args.inputs.now in
+    let name = (symbol_in fs c.args.id.file c.args.id.index).name in
+    found_here fs (IsNotWeak fs name) c.args.id.file c.args.id.index c.requires.symbol.0 c.requires.symbol.1 (c.if-is_not_weak.ensures.0 refl)

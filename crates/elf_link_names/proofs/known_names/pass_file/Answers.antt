@@ -1,7 +1,6 @@
-use Rattle.std.proofs.Common.{◌≡◌, ℕ, length, ap, subst, arith}
-use Rattle.elf_object_type.specs.Object.{ObjectValue}
+use Rattle.std.proofs.Common.{◌≡◌, ℕ, length, subst, arith}
 use Rattle.elf_link_files.specs.Files.{object_at}
-use Rattle.elf_link_files.proofs.Public.{each_more, object_is}
+use Rattle.elf_link_files.proofs.Public.{each_more}
 use Rattle.elf_link_names.specs.KnownNames.{AreKnownBefore}
 use Rattle.elf_link_names.specs.NameNumbers.{IsNameNumber}
 use Rattle.elf_link_positions.specs.Slots.{name_position}
@@ -10,7 +9,7 @@ use Rattle.elf_link_names.proofs.known_names.pass_file.Goals as goal
 
 pub loop-index-preserved : goal.loop-index-preserved
 loop-index-preserved c =
-    let fs = c.args.objects.now in
+    let fs = c.args.inputs.now in
     let f = c.args.file in
     let first = name_position c.args.names.now.positions in
     let old = name_position c.loop-index.names.positions in
@@ -27,9 +26,8 @@ loop-index-preserved c =
 
 pub returns-clause-names : goal.returns-clause-names
 returns-clause-names c =
-    let fs = c.args.objects.now in
+    let fs = c.args.inputs.now in
     let count = c.symbol_count-count.ensures in
-    let same = ap (λ (o : ObjectValue). length o.symbols) (object_is fs c.args.file c.index-objects-file.result c.requires.file c.index-objects-file.is) in
     let past = c.loop-index-test.false in
     let end : c.loop-index.index ≡ length (object_at fs c.args.file).symbols = omega arith in
     subst (λ (n : ℕ). AreKnownBefore fs c.args.file n (name_position c.loop-index.names.positions) c.loop-index.names.known.items) end c.loop-index.invariant.names

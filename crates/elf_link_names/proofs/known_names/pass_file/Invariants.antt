@@ -5,7 +5,7 @@ use Rattle.elf_link_names.proofs.known_names.pass_file.Given as goal
 
 abbrev pub invariant-loop-index : goal.invariant-loop-index
 invariant-loop-index l = record {
-  names : AreKnownBefore l.objects l.file l.index (name_position l.names.positions) l.names.known.items;
-  numbers : IsNumberRow l.objects (name_position l.names.positions) l.file l.index l.row.items;
+  names : AreKnownBefore l.inputs l.file l.index (name_position l.names.positions) l.names.known.items;
+  numbers : IsNumberRow l.inputs (name_position l.names.positions) l.file l.index l.row.items;
   kept : KeepsPositions (name_position l.fn.names.positions) (name_position l.names.positions);
 }

@@ -1,5 +1,6 @@
-use Rattle.std.proofs.Common.{refl, rules}
-use Rattle.elf_link_relocate.specs.LinkingFacts.{linked_map, linked_objects, relocation_rules_of}
+use Rattle.std.proofs.Common.{◌∙◌, refl, rules, ◌≡◌, ap}
+use Rattle.elf_object_type.specs.declared.relocation.Relocation.{Relocation}
+use Rattle.elf_link_relocate.specs.Linking.{LinkingValue}
 use Rattle.elf_link_relocate.proofs.Collected.{fields_past, first_unruled}
 use Rattle.elf_link_relocate.proofs.Found.{found_on}
 use Rattle.elf_link_relocate.proofs.Sites.{before_more, before_next}
@@ -7,23 +8,31 @@ use Rattle.elf_link_relocate.proofs.collecting.push_entry.Goals as goal
 
 pub returns-in_default-clause-err : goal.returns-in_default-clause-err
 returns-in_default-clause-err c =
-    let l = c.args.linking.now in
-    let p = c.args.site in
-    let none = rw c.entry_of.ensures at c.in_default.ensures in
+    let same_rules : c.linking.inside.rules.now ≡ c.args.values.now.rules = ap (λ (l : LinkingValue). l.rules) (c.linking.view_is ∙ c.linking-linking.ensures) in
+    let l = c.args.values.now in
+    let p = c.args.entry.site in
+    let none = rw same_rules at (rw c.requires.entry.relocation at c.in_default.ensures) in
     rw (c.into.ensures, c.new.ensures)
-    (refl, first_unruled (linked_objects l) (relocation_rules_of l) p c.args.fields.now.list.items c.requires.applied none c.requires.before.before)
+    (refl, first_unruled l.objects l.rules p c.args.fields.now.list.items c.requires.entry.applied none c.requires.before.before)
 
 pub returns-then-eq-clause-ok : goal.returns-then-eq-clause-ok
 returns-then-eq-clause-ok c =
-    let l = c.args.linking.now in
-    let p = c.args.site in
-    let first = rw c.entry_of.ensures at c.in-Some.ensures in
-    found_on (linked_objects l) (linked_map l) (relocation_rules_of l) _ _ c.args.fields.now
-    (λ is. fields_past (linked_objects l) (relocation_rules_of l) p _ c.in-Some.rule c.args.fields.now.list.items
+    let same_rules : c.linking.inside.rules.now ≡ c.args.values.now.rules = ap (λ (l : LinkingValue). l.rules) (c.linking.view_is ∙ c.linking-linking.ensures) in
+    let l = c.args.values.now in
+    let p = c.args.entry.site in
+    let first = rw same_rules at (rw c.requires.entry.relocation at c.in-Some.ensures) in
+    found_on l.objects l.map l.rules _ _ c.args.fields.now
+    (λ is. fields_past l.objects l.rules p _ c.in-Some.rule c.args.fields.now.list.items
     (λ q. before_more q p.file p.index p.entry) (λ q. before_next q p.file p.index p.entry) first is (search rules))
     c.requires.before
 
-pub judged_field-judged-requires-clause-field : goal.judged_field-judged-requires-clause-field
-judged_field-judged-requires-clause-field c =
-    let first = rw c.entry_of.ensures at c.in-Some.ensures in
-    record { applied = c.requires.applied; rule = first; form = search rules }
+pub invariant_of-field_of : goal.invariant_of-field_of
+invariant_of-field_of c =
+    let same_rules : c.linking.inside.rules.now ≡ c.args.values.now.rules = ap (λ (l : LinkingValue). l.rules) (c.linking.view_is ∙ c.linking-linking.ensures) in
+    let first = rw same_rules at (rw c.requires.entry.relocation at c.in-Some.ensures) in
+    record {
+      site = refl;
+      entry = c.requires.entry;
+      has = record { applied = c.requires.entry.applied; rule = first; form = search rules };
+      place = record { target = c.requires.entry.target; offset = ap (λ (r : Relocation). r.offset) c.requires.entry.relocation };
+    }

@@ -1,7 +1,6 @@
 use Rattle.elf_link_relocate.specs.Collecting.{entry_site}
 use Rattle.elf_link_relocate.specs.Found.{AreFoundBefore}
-use Rattle.elf_link_relocate.specs.LinkingFacts.{linked_map, linked_objects, relocation_rules_of}
 use Rattle.elf_link_relocate.proofs.collecting.push_section.Given as goal
 
 abbrev pub invariant-loop-entry : goal.invariant-loop-entry
-invariant-loop-entry l = AreFoundBefore (linked_objects l.linking) (linked_map l.linking) (relocation_rules_of l.linking) (entry_site l.file l.index l.entry) l.fields
+invariant-loop-entry l = AreFoundBefore l.values.objects l.values.map l.values.rules (entry_site l.file l.index l.entry) l.fields

@@ -3,4 +3,4 @@ use Rattle.elf_link_relocate.specs.Patching.{AreAllCopies}
 use Rattle.elf_link_relocate.proofs.copies.all_copies.Given as goal
 
 abbrev pub invariant-loop-file : goal.invariant-loop-file
-invariant-loop-file l = AreAllCopies l.objects l.file (copies_view l.rows.items)
+invariant-loop-file l = AreAllCopies l.linking.objects l.file (copies_view l.rows.items)

@@ -4,4 +4,4 @@ use Rattle.elf_link_relocate.specs.Patching.{AreCopies}
 use Rattle.elf_link_relocate.proofs.copies.file_copies.Given as goal
 
 abbrev pub invariant-loop-section : goal.invariant-loop-section
-invariant-loop-section l = AreCopies l.objects l.file l.section (map copy_view l.row.items)
+invariant-loop-section l = AreCopies l.linking.objects l.file l.section (map copy_view l.row.items)

@@ -1,4 +1,4 @@
-use Rattle.std.proofs.Common.{◌≡◌, ◌↔◌, ℕ, ◌<◌, List, length, refl, sym, ◌∙◌, subst}
+use Rattle.std.proofs.Common.{◌≡◌, ◌↔◌, ℕ, ◌<◌, List, length, ap, refl, sym, ◌∙◌, subst}
 use Rattle.std.specs.Bool.{IsTrue}
 use Rattle.std.specs.Option.{is_some}
 use Rattle.std.specs.Prelude.{Bool, Option, None, Some}
@@ -7,6 +7,7 @@ use Rattle.elf_link_files.specs.Live.{Live}
 use Rattle.elf_link_outputs.specs.Placed.{cell}
 use Rattle.elf_link_map.specs.Apart.{StandApart}
 use Rattle.elf_link_map.specs.LinkMap.{LinkMapValue}
+use Rattle.elf_link_relocate.specs.Linking.{LinkingValue}
 use Rattle.elf_link_relocate.proofs.Memories.{live_in}
 use Rattle.elf_link_relocate.proofs.entries.is_live.Goals as goal
 
@@ -26,5 +27,7 @@ live_by_cell fs m f s o stand file same = (
 
 pub returns : goal.returns
 returns c =
-    subst (λ (b : Bool). IsTrue b ↔ Live c.args.objects.now c.args.file c.args.section) (sym c.is_some.ensures)
-    (live_by_cell c.args.objects.now c.args.map.now c.args.file c.args.section c.address.result c.requires.sound.places c.requires.file c.address.ensures)
+    let fs = c.args.linking.now.objects in
+    let objects : c.linking.inside.objects.now ≡ fs = ap (λ (l : LinkingValue). l.objects) c.linking.view_is in
+    subst (λ (b : Bool). IsTrue b ↔ Live fs c.args.file c.args.section) (sym c.is_some.ensures)
+    (live_by_cell fs c.linking.inside.map.now c.args.file c.args.section c.address.result (rw objects at c.linking.invariant.places) c.requires.0 c.address.ensures)

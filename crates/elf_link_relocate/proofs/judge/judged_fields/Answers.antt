@@ -1,20 +1,37 @@
-use Rattle.std.proofs.Common.{List, subst}
+use Rattle.std.proofs.Common.{◌≡◌, List, subst, sym}
 use Rattle.elf_link_relocate.specs.declared.field.Field.{Field}
+use Rattle.elf_link_relocate.specs.declared.field_test.FieldTest.TheVariants.{ValueOutOfRange}
 use Rattle.elf_link_relocate.specs.FieldTests.{HasNone}
-use Rattle.elf_link_relocate.specs.LinkingFacts.{linked_map, linked_objects}
+use Rattle.elf_link_relocate.specs.Found.{IsFirstBroken}
 use Rattle.elf_link_relocate.specs.Marking.{HasNoOverlap}
 use Rattle.elf_link_relocate.specs.RelocationRules.{IsFieldOutOfRange, IsUnplaced}
 use Rattle.elf_link_relocate.proofs.AtFields.{all_within}
 use Rattle.elf_link_relocate.proofs.judge.judged_fields.Goals as goal
 
+pub invariant_of-list : goal.invariant_of-list
+invariant_of-list c =
+    let l = c.args.values in
+    let found = c.in_ok-fields.ensures in
+    let ds = c.in_ok-fields.fields.list.items in
+    let same : c.deref-3.result.now ≡ ds = c.deref-3.ensures.value in
+    let none = subst (λ (now : List Field). HasNone (IsFieldOutOfRange l.objects) now) c.deref-2.ensures.value c.in_ok-refuse_first-2.ensures.ok in
+    rw same (record { fields = found.fields; read = found.read; within = all_within l.objects ds none })
+
+pub refuse_first-requires-3-clause-first : goal.refuse_first-requires-3-clause-first
+refuse_first-requires-3-clause-first c =
+    let l = c.args.values in
+    let found = c.in_ok-fields in
+    subst (λ (now : List Field). IsFirstBroken l.objects l.map now ValueOutOfRange found.fields.refused) (sym c.deref-4.ensures.value) found.ensures.firsts.refused
+
 pub returns-clause-fields : goal.returns-clause-fields
 returns-clause-fields c =
-    let fs = linked_objects c.args.linking.now in
-    let m = linked_map c.args.linking.now in
+    let l = c.args.values in
+    let found = c.in_ok-fields.ensures in
+    let ds = c.in_ok-fields.fields.list.items in
     record {
-      fields = c.in_ok-fields.ensures.fields;
-      read = c.in_ok-fields.ensures.read;
-      placed = subst (λ (ds : List Field). HasNone (IsUnplaced fs m) ds) c.deref.ensures.value c.in_ok-refuse_first.ensures.ok;
-      within = all_within fs c.in_ok-fields.fields.list.items (subst (λ (ds : List Field). HasNone (IsFieldOutOfRange fs) ds) c.deref-2.ensures.value c.in_ok-refuse_first-2.ensures.ok);
-      apart = subst (λ (ds : List Field). HasNoOverlap fs ds) c.deref-3.ensures.value c.in_ok-refuse_overlap.ensures.ok;
+      fields = found.fields;
+      read = found.read;
+      placed = subst (λ (now : List Field). HasNone (IsUnplaced l.objects l.map) now) c.deref.ensures.value c.in_ok-refuse_first.ensures.ok;
+      within = all_within l.objects ds (subst (λ (now : List Field). HasNone (IsFieldOutOfRange l.objects) now) c.deref-2.ensures.value c.in_ok-refuse_first-2.ensures.ok);
+      apart = subst (λ (now : List Field). HasNoOverlap l.objects now) c.deref-3.ensures.value c.in_ok-refuse_overlap.ensures.ok;
     }

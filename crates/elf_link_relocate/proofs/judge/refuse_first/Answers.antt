@@ -1,15 +1,14 @@
 use Rattle.elf_link_relocate.specs.FieldTests.{BreaksFieldTest}
-use Rattle.elf_link_relocate.specs.LinkingFacts.{linked_map, linked_objects, relocation_rules_of}
 use Rattle.elf_link_relocate.proofs.AtFields.{first_at_field, none_at_field}
 use Rattle.elf_link_relocate.proofs.judge.refuse_first.Goals as goal
 
 pub returns-in-Some-clause-err : goal.returns-in-Some-clause-err
 returns-in-Some-clause-err c =
-    let l = c.args._linking.now in
+    let l = c.args._values.now in
     rw c.new.ensures
-    (c.rule.ensures, first_at_field (linked_objects l) (relocation_rules_of l) c.args.fields.now c.requires.fields (BreaksFieldTest (linked_objects l) (linked_map l) c.args.test) c.in-Some.k (rw c.in-Some.is at c.requires.first))
+    (c.rule.ensures, first_at_field l.objects l.rules c.args.fields.now c.requires.fields (BreaksFieldTest l.objects l.map c.args.test) c.in-Some.k (rw c.in-Some.is at c.requires.first))
 
 pub returns-in-None-clause-nowhere : goal.returns-in-None-clause-nowhere
 returns-in-None-clause-nowhere c =
-    let l = c.args._linking.now in
-    none_at_field (linked_objects l) (relocation_rules_of l) c.args.fields.now c.requires.fields (BreaksFieldTest (linked_objects l) (linked_map l) c.args.test) (rw c.in-None.is at c.requires.first)
+    let l = c.args._values.now in
+    none_at_field l.objects l.rules c.args.fields.now c.requires.fields (BreaksFieldTest l.objects l.map c.args.test) (rw c.in-None.is at c.requires.first)

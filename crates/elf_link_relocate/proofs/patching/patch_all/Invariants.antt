@@ -1,7 +1,6 @@
 use Rattle.elf_link_relocate.specs.CopyView.{copies_view}
-use Rattle.elf_link_relocate.specs.LinkingFacts.{linked_map, linked_objects}
 use Rattle.elf_link_relocate.specs.Patching.{AreRelocated}
 use Rattle.elf_link_relocate.proofs.patching.patch_all.Given as goal
 
 abbrev pub invariant-loop-k : goal.invariant-loop-k
-invariant-loop-k l = AreRelocated (linked_objects l.linking) (linked_map l.linking) l.fields l.k (copies_view l.copies.items)
+invariant-loop-k l = AreRelocated l.linking.objects l.linking.map l.fields l.k (copies_view l.copies.items)

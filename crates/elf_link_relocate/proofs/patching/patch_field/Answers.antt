@@ -1,12 +1,12 @@
-use Rattle.std.proofs.Common.{FitsSigned, ap, sym, ◌∙◌, arith, rules}
+use Rattle.std.proofs.Common.{FitsSigned, ap, sym, ◌∙◌, arith, rules, ◌≡◌}
 use Rattle.std.specs.Int.{w128}
 use Rattle.std.proofs.Math.Facts.{to_z-of_z}
 use Rattle.std.proofs.lemmas.List.{length-map}
 use Rattle.elf_object_type.specs.Object.{ObjectValue}
 use Rattle.elf_link_files.specs.Files.{object_at}
 use Rattle.elf_link_files.proofs.Public.{object_is}
+use Rattle.elf_link_relocate.specs.Linking.{LinkingValue}
 use Rattle.elf_link_relocate.specs.CopyView.{copies_view}
-use Rattle.elf_link_relocate.specs.LinkingFacts.{linked_map, linked_objects, relocation_rules_of}
 use Rattle.elf_link_relocate.specs.Collecting.{field_at}
 use Rattle.elf_link_field.specs.Rule.{size_of}
 use Rattle.elf_link_relocate.specs.Entries.{target_at}
@@ -22,17 +22,19 @@ patch_in-requires-clause-file c =
 
 pub patch_in-requires-clause-section : goal.patch_in-requires-clause-section
 patch_in-requires-clause-section c =
-    let fs = linked_objects c.args.linking.now in
+    let objects : c.linking.inside.objects.now ≡ c.args.linking.now.objects = ap (λ (l : LinkingValue). l.objects) c.linking.view_is in
+    let fs = c.args.linking.now.objects in
     let d = field_at c.args.fields.now c.args.k in
-    let live = target_live fs (relocation_rules_of c.args.linking.now) d.site d.rule (c.requires.fields.fields.each c.args.k c.requires.below) c.keeps_rules.ensures in
+    let live = target_live fs c.args.linking.now.rules d.site d.rule (c.requires.fields.fields.each c.args.k c.requires.below) (rw objects at c.prove_rules.ensures) in
     rw ((c.requires.fields.read c.args.k c.requires.below).place.target, c.requires.before.grid.sections d.site.file live.0.0) live.0.1
 
 pub patch_in-requires-clause-room : goal.patch_in-requires-clause-room
 patch_in-requires-clause-room c =
-    let fs = linked_objects c.args.linking.now in
+    let objects : c.linking.inside.objects.now ≡ c.args.linking.now.objects = ap (λ (l : LinkingValue). l.objects) c.linking.view_is in
+    let fs = c.args.linking.now.objects in
     let k = c.args.k in
     let d = field_at c.args.fields.now k in
-    let live = target_live fs (relocation_rules_of c.args.linking.now) d.site d.rule (c.requires.fields.fields.each k c.requires.below) c.keeps_rules.ensures in
+    let live = target_live fs c.args.linking.now.rules d.site d.rule (c.requires.fields.fields.each k c.requires.below) (rw objects at c.prove_rules.ensures) in
     let (after, at, relocated) = c.requires.before.each _ _ live in
     let long = relocated.long in
     let within = c.requires.fields.within k c.requires.below in
@@ -40,14 +42,15 @@ patch_in-requires-clause-room c =
 
 pub returns : goal.returns
 returns c =
-    let fs = linked_objects c.args.linking.now in
-    let m = linked_map c.args.linking.now in
+    let objects : c.linking.inside.objects.now ≡ c.args.linking.now.objects = ap (λ (l : LinkingValue). l.objects) c.linking.view_is in
+    let fs = c.args.linking.now.objects in
+    let m = c.args.linking.now.map in
     let k = c.args.k in
     let d = field_at c.args.fields.now k in
     let has = c.requires.fields.fields.each k c.requires.below in
     let read = c.requires.fields.read k c.requires.below in
-    let live = target_live fs (relocation_rules_of c.args.linking.now) d.site d.rule has c.keeps_rules.ensures in
-    let object = sym (object_is fs d.site.file c.index-linking-field.result has.applied.0.file c.index-linking-field.is ∙ c.index-linking-field.is) in
+    let live = target_live fs c.args.linking.now.rules d.site d.rule has (rw objects at c.prove_rules.ensures) in
+    let object = sym (object_is fs d.site.file c.index-objects-field.result has.applied.0.file (rw objects at c.index-objects-field.is)) in
     let order = c.order.ensures ∙ ap (λ (o : ObjectValue). o.order) object in
     let fits : FitsSigned w128 d.number = search rules in
     let (copy, at, new) = simp (read.place.target, read.place.offset, order, to_z-of_z, fits) at c.patch_in.ensures in
@@ -57,5 +60,5 @@ returns c =
     let o = (object_at fs d.site.file).order in
     let put = c.patched_field.ensures o copy (field_start fs d.site) (size_of d.rule.width) d.number (omega arith) in
     rw new
-    (relocated_more fs m (relocation_rules_of c.args.linking.now) c.args.fields.now k d.number c.requires.fields c.requires.below number
+    (relocated_more fs m c.args.linking.now.rules c.args.fields.now k d.number c.requires.fields c.requires.below number
     (copies_view c.args.copies.now.items) copy _ live at put c.requires.before)

@@ -1,4 +1,8 @@
 use Rattle.std.proofs.Common.{List, subst, sym}
+use Rattle.std.specs.Prelude.{None}
+use Rattle.elf_link_files.specs.Rows.{FirstAmong}
+use Rattle.elf_link_relocate.specs.Linking.{LinkingValue}
+use Rattle.elf_link_relocate.specs.RelocationRules.{applied_entry_rules}
 use Rattle.elf_link_relocate.specs.CopyView.{copies_view}
 use Rattle.elf_link_relocate.specs.declared.field.Field.{Field}
 use Rattle.elf_link_relocate.specs.Judged.{AreJudged}
@@ -7,14 +11,14 @@ use Rattle.elf_link_relocate.proofs.Memories.{linked_of}
 use Rattle.elf_link_relocate.proofs.Patches.{relocated_none}
 use Rattle.elf_link_relocate.proofs.relocating.relocate_numbered.Goals as goal
 
-pub judged_fields-requires-clause-ready : goal.judged_fields-requires-clause-ready
-judged_fields-requires-clause-ready c = sound_of c.args.objects.now c.args.map.now c.requires.map
+pub invariant_of-linking : goal.invariant_of-linking
+invariant_of-linking c = sound_of c.args.objects.now c.args.map.now c.requires.map
 
-pub all_copies-requires : goal.all_copies-requires
-all_copies-requires c = sound_of c.args.objects.now c.args.map.now c.requires.map
-
-pub patch_all-requires-clause-ready : goal.patch_all-requires-clause-ready
-patch_all-requires-clause-ready c = sound_of c.args.objects.now c.args.map.now c.requires.map
+pub patch_all-requires-clause-fields : goal.patch_all-requires-clause-fields
+patch_all-requires-clause-fields c =
+    let l = c.args in
+    subst (λ (ds : List Field). AreJudged l.objects.now l.map.now l.rules.now ds) (sym c.deref.ensures.value)
+    (subst (λ (v : LinkingValue). AreJudged v.objects v.map v.rules c.in_ok-fields.fields.items) c.in_ok-values.ensures c.in_ok-fields.ensures.fields)
 
 pub patch_all-requires-clause-before : goal.patch_all-requires-clause-before
 patch_all-requires-clause-before c =
@@ -25,5 +29,8 @@ returns-clause-linked c =
     let fs = c.args.objects.now in
     let m = c.args.map.now in
     let sound = sound_of fs m c.requires.map in
-    let judged = subst (λ (ds : List Field). AreJudged fs m c.args.rules.now ds) (sym c.deref.ensures.value) c.in_ok-fields.ensures.fields in
-    linked_of fs m c.args.rules.now c.deref.result.now judged sound.places (copies_view c.patch_all.new.copies.items) c.patch_all.ensures c.in_ok-fields.ensures.sound
+    let values = c.in_ok-values.ensures in
+    let judged = subst (λ (ds : List Field). AreJudged fs m c.args.rules.now ds) (sym c.deref.ensures.value)
+    (subst (λ (v : LinkingValue). AreJudged v.objects v.map v.rules c.in_ok-fields.fields.items) values c.in_ok-fields.ensures.fields) in
+    let none = subst (λ (v : LinkingValue). FirstAmong (applied_entry_rules v.objects v.map v.rules) None) values c.in_ok-fields.ensures.sound in
+    linked_of fs m c.args.rules.now c.deref.result.now judged sound.places (copies_view c.patch_all.new.copies.items) c.patch_all.ensures none

@@ -1,6 +1,7 @@
+-- The symbol table that is left out is one of the image, so its verdict is that of rules 45 to 52; rule 75 is asked where they are kept.
 use Rattle.elf_image_rules.proofs.Public.{FirstIn-handed}
 use Rattle.elf_table_base.specs.Sections.{sections_of}
-use Rattle.elf_object_reader.proofs.JudgedTables.{symbols_there, symbols_told}
+use Rattle.elf_object_reader.proofs.JudgedTables.{symbols_ready, symbols_there, symbols_told}
 use Rattle.elf_object_reader.proofs.SymbolRuns.{no_symbols_kept, outside_found, symbols_fault, symbols_kept}
 use Rattle.elf_object_reader.proofs.file_rules.judge_symbols.Goals as goal
 
@@ -18,11 +19,11 @@ returns-in_err-verdict c =
     let told = symbols_told c.args.image.now c.args.tables.now c.in-Some.t _ c.requires.tables there c.in_err-verdict.ensures.fault in
     FirstIn-handed _ _ _ (symbols_fault left f left.symbol_table c.in-Some.t _ c.in-Some.is told) c.from_residual.ensures.1
 
-pub symbols-requires-clause-there : goal.symbols-requires-clause-there
-symbols-requires-clause-there c = (symbols_there c.args.image.now c.args.tables.now c.args.left.now c.in-Some.t c.requires.tables c.requires.left c.in-Some.is).there
-
-pub symbols-requires-clause-typed : goal.symbols-requires-clause-typed
-symbols-requires-clause-typed c = (symbols_there c.args.image.now c.args.tables.now c.args.left.now c.in-Some.t c.requires.tables c.requires.left c.in-Some.is).typed
+pub symbols-requires : goal.symbols-requires
+symbols-requires c =
+    let there = symbols_there c.args.image.now c.args.tables.now c.args.left.now c.in-Some.t c.requires.tables c.requires.left c.in-Some.is in
+    let sound = symbols_told c.args.image.now c.args.tables.now c.in-Some.t _ c.requires.tables there c.in_ok-verdict.ensures.fault in
+    symbols_ready c.args.image.now c.args.tables.now c.in-Some.t c.requires.tables there sound
 
 pub lowest_symbol_outside-requires-clause-there : goal.lowest_symbol_outside-requires-clause-there
 lowest_symbol_outside-requires-clause-there c =

@@ -1,3 +1,4 @@
+-- Invariant: the kept sections so far are read, and the tables of those that are left break no rule.
 use Rattle.std.proofs.Common.{List, ap, ◌∙◌, map, arith}
 use Rattle.elf_object_reader.specs.Denotes.{section_denoted}
 use Rattle.elf_object_reader.specs.Kept.{is_kept}

@@ -1,3 +1,4 @@
+-- The symbol lies in the content, so the entry that is read again for its `st_info` is the same one.
 use Rattle.std.proofs.Common.{◌≡◌, ℕ, ◌+◌, ◌*◌, List, get_or, length, ap, ◌∙◌, sym, arith}
 use Rattle.elf_object_reader.specs.Denotes.{place_denoted, symbol_denoted}
 use Rattle.elf_field.specs.Sym.{sym_at}

@@ -5,19 +5,11 @@ use Rattle.elf_table_base.specs.Sections.{sections_of}
 use Rattle.elf_object_reader.proofs.JudgedTables.{symbols_ready, symbols_there}
 use Rattle.elf_object_reader.proofs.read_symbols.read_symbols.Goals as goal
 
-pub symbols-symbols-requires-clause-there : goal.symbols-symbols-requires-clause-there
-symbols-symbols-requires-clause-there c =
-    (symbols_there c.args.image.now c.args.tables.now c.args.left.now c.in-Some.t c.requires.tables c.requires.left c.in-Some.is).there
-
-pub symbols-symbols-requires-clause-typed : goal.symbols-symbols-requires-clause-typed
-symbols-symbols-requires-clause-typed c =
-    (symbols_there c.args.image.now c.args.tables.now c.args.left.now c.in-Some.t c.requires.tables c.requires.left c.in-Some.is).typed
-
-pub symbols-symbols-requires-clause-sound : goal.symbols-symbols-requires-clause-sound
-symbols-symbols-requires-clause-sound c =
+pub symbols-symbols-requires : goal.symbols-symbols-requires
+symbols-symbols-requires c =
     let there = symbols_there c.args.image.now c.args.tables.now c.args.left.now c.in-Some.t c.requires.tables c.requires.left c.in-Some.is in
     let sound = subst (λ (o : Option ℕ). FirstIn (rules_of_symbols (sections_of c.args.image.now) o) None) c.in-Some.is c.requires.sound in
-    (symbols_ready c.args.image.now c.args.tables.now c.in-Some.t c.requires.tables there sound).sound
+    symbols_ready c.args.image.now c.args.tables.now c.in-Some.t c.requires.tables there sound
 
 pub read_symbol-requires-clause-there : goal.read_symbol-requires-clause-there
 read_symbol-requires-clause-there c =

@@ -6,5 +6,5 @@ use Rattle.elf_object_reader.proofs.reading.object_of.Goals as goal
 pub of_kept-requires : goal.of_kept-requires
 of_kept-requires c =
     let v = c.args.image.now in
-    let sound = image_is_sound v c.stands.ensures.0 c.stands.ensures.1 in
+    let sound = image_is_sound v c.prove_stands.ensures.0 c.prove_stands.ensures.1 in
     object_kept v (value_of c.in_ok-parts.parts) sound c.in_ok-parts.ensures.0 c.in_ok-parts.ensures.1

@@ -1,3 +1,4 @@
+-- Invariant: the names so far have their offsets. A name's owner ends with it, and is written with a zero after it.
 use Rattle.std.proofs.Common.{◌≡◌, ◌<◌, ◌++◌, ◌∙◌, Bor, List, [], ◌∷◌, ap, arith, get_or, length, map, subst, sym, take, ℕ}
 use Rattle.std.proofs.lemmas.List.{get_or-map, length-map, map_more}
 use Rattle.elf_object_strings.specs.Owners.{IsOwner}

@@ -1,3 +1,4 @@
+-- Invariant: the members so far are not wrong. The marks are those of earlier groups, and a group without a wrong member adds its own.
 use Rattle.std.proofs.Common.{◌≡◌, ◌<◌, inl, inr, List, length, refl, ap, sym, ◌∙◌, subst, arith}
 use Rattle.std.proofs.lemmas.Bool.{cases_lt}
 use Rattle.elf_object_type.specs.GroupRule.{IsWrongMembership}

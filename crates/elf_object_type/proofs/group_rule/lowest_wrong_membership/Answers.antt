@@ -1,3 +1,4 @@
+-- Invariant: no group so far has a wrong member, and their members are marked. The first that has one is the least.
 use Rattle.std.proofs.Common.{◌≡◌, length, refl, inl, inr, subst, arith, rules, vec_len}
 use Rattle.std.proofs.lemmas.Bool.{cases_lt}
 use Rattle.std.proofs.lemmas.List.{length-map}

@@ -1,3 +1,5 @@
+-- The last part is the section header table: its end is the length of the file. A length above the limit means that some part has no
+-- place.
 use Rattle.std.proofs.Common.{◌≡◌, ◌-◌, length, rules, arith}
 use Rattle.std.specs.Prelude.{vec_len}
 use Rattle.elf_extent.proofs.Public.{fits_length}

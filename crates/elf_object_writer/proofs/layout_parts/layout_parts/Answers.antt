@@ -1,3 +1,4 @@
+-- The parts are pushed in the order of the definition, with the index table or without it.
 use Rattle.std.proofs.Common.{◌≡◌, length, rules, sym, ap, ◌∙◌, arith}
 use Rattle.std.specs.Prelude.{vec_len}
 use Rattle.std.proofs.lemmas.List.{length-map}

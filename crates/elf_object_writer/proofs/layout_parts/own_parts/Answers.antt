@@ -15,7 +15,7 @@ content_part-requires c = λ wrong.
     let o = c.args.object.now in
     let read =
     section_read o c.sections-section-items.result.now c.loop-section.section-index c.section-item.result c.sections-section-items.ensures c.loop-section-test.true c.section-item.is in
-    no_wrong_bits_type o c.keeps_rules.ensures c.loop-section.section-index read.1 (subst (λ (s : SectionValue). IsWrongBitsType s.body) read.0 wrong)
+    no_wrong_bits_type o c.prove_rules.ensures.kept c.loop-section.section-index read.1 (subst (λ (s : SectionValue). IsWrongBitsType s.body) read.0 wrong)
 
 pub returns : goal.returns
 returns c =

@@ -6,7 +6,7 @@ use Rattle.elf_object_writer.proofs.placed_writing.table_size.Goals as goal
 pub returns : goal.returns
 returns c =
     let p = c.args.placed.now in
-    let end = table_end p.object p.layout c.is_placed.ensures.layout in
-    let size = length-header_table p c.is_placed.ensures in
+    let end = table_end p.object p.layout c.prove_placed.ensures.layout in
+    let size = length-header_table p c.prove_placed.ensures in
     let count = c.header_count.ensures.value in
     record { value = omega arith; within = omega arith }

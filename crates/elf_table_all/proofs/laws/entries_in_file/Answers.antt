@@ -1,3 +1,5 @@
+-- Each clause is the same fact of another record: its content lies in the file at the section's offset, and a record is read there by
+-- itself.
 use Rattle.std.proofs.Common.{◌*◌}
 use Rattle.elf_field.specs.Abi.{DYN_SIZE, RELA_SIZE, REL_SIZE, SYM_SIZE, WORD_SIZE}
 use Rattle.elf_field.specs.DynLaws.{dyn_laws}

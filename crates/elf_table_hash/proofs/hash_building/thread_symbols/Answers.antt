@@ -1,3 +1,4 @@
+-- Invariant: the symbols from the last one down to here are threaded. The next one goes before the others of its bucket.
 use Rattle.std.proofs.Common.{◌≡◌, ◌≢◌, ℕ, ◌+◌, ◌-◌, ◌<◌, List, [], length, get_or, map, subst, sym, ap, ◌∙◌, arith, refl, Bor}
 use Rattle.std.proofs.Math.Nat.{mod-lt}
 use Rattle.std.proofs.lemmas.List.{get_or-map, length-map}

@@ -1,3 +1,4 @@
+-- Jumps of known length lead from the deeper one up to the depth of the other: both are on one chain exactly if they then meet.
 use Rattle.std.proofs.Common.{◌≢◌, get_or, ap, eq-eqb, subst, arith, ◌<◌, inr, refl}
 use Rattle.std.proofs.lemmas.Bool.{eqb-true, false≢true}
 use Rattle.elf_table_hash.specs.ChainDepths.{Leads}

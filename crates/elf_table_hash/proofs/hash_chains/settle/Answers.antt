@@ -1,5 +1,6 @@
+-- Invariant: the chain from the top of the stack is known. Each symbol below it has a chain that is one longer.
 use Rattle.std.proofs.Common.{◌≡◌, ◌≢◌, ℕ, ◌+◌, ◌<◌, ◌⊎◌, List, [], ◌∷◌, ◌++◌, length, get_or, set, inl, inr, refl, subst, arith, get_or-set_same}
-use Rattle.elf_table_hash.specs.ChainDepths.{IsSymbolIn}
+use Rattle.elf_table_hash.specs.ChainDepths.{IsAmongSymbols}
 use Rattle.elf_table_hash.specs.Chains.{IsPath}
 use Rattle.elf_table_hash.specs.HashTable.{chain}
 use Rattle.elf_table_hash.proofs.ChainLemmas.{end_below, path_last}
@@ -12,8 +13,8 @@ last_of : (next : ℕ → ℕ) (start s above : ℕ) (stack rest : List ℕ) →
 last_of next start s above stack rest is path = path_last next start s above rest (subst (λ ws. IsPath next start ws s) is path)
 
 -- the symbols that waited still do, or it is the one popped
-waiting : (stack rest : List ℕ) (above t : ℕ) → stack ≡ rest ++ above ∷ [] → IsSymbolIn stack t → (t ≡ above) ⊎ IsSymbolIn rest t
-waiting stack rest above t is waits = in_push rest above t (subst (λ ws. IsSymbolIn ws t) is waits)
+waiting : (stack rest : List ℕ) (above t : ℕ) → stack ≡ rest ++ above ∷ [] → IsAmongSymbols stack t → (t ≡ above) ⊎ IsAmongSymbols rest t
+waiting stack rest above t is waits = in_push rest above t (subst (λ ws. IsAmongSymbols ws t) is waits)
 
 -- its depth is noted
 noted : (depth : List ℕ) (a d t : ℕ) → a < length depth → t ≡ a → 0 < get_or (set depth a (d + 1)) t 0

@@ -1,5 +1,5 @@
 use Rattle.std.proofs.Common.{ℕ, ◌<◌, ◌⊎◌, get_or, vec_len}
-use Rattle.elf_table_hash.specs.ChainDepths.{AreDepths, AreJumps, AreStarts, IsDepthKnown, IsSymbolIn}
+use Rattle.elf_table_hash.specs.ChainDepths.{AreDepths, AreJumps, AreStarts, IsDepthKnown, IsAmongSymbols}
 use Rattle.elf_table_hash.specs.Chains.{IsPath}
 use Rattle.elf_table_hash.specs.HashTable.{chain, nchain}
 use Rattle.elf_table_hash.proofs.hash_chains.settle.Given as goal
@@ -13,7 +13,7 @@ invariant-steps l = record {
   known : IsDepthKnown l.depth l.s;
   inside : l.s < nchain l.words;
   kept : (s : ℕ) → 0 < get_or l.fn.depth s 0 → 0 < get_or l.depth s 0;
-  settled : (s : ℕ) → IsSymbolIn l.fn.stack.items s → IsSymbolIn l.stack.items s ⊎ (0 < get_or l.depth s 0);
+  settled : (s : ℕ) → IsAmongSymbols l.fn.stack.items s → IsAmongSymbols l.stack.items s ⊎ (0 < get_or l.depth s 0);
 }
 
 abbrev pub decreases-steps : goal.decreases-steps

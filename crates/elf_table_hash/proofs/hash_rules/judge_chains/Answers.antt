@@ -1,3 +1,4 @@
+-- Rule 68 first, then rule 69, which asks for chains that end.
 use Rattle.std.proofs.Common.{ℕ, inl, inr, refl, arith}
 use Rattle.elf_extent.specs.Least.{IsLeast, Never}
 use Rattle.elf_table_symbols.specs.Below.{Below}

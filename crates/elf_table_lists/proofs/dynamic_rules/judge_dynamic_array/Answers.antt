@@ -1,3 +1,4 @@
+-- The array ends at the first DT_NULL: rule 63 where there is none, else rule 64 of the entries before it.
 use Rattle.std.proofs.Common.{◌≡◌, ℕ, ◌+◌, ◌*◌, ◌<◌, ◌≤◌, List, Option, None, Some, length, inl, inr, refl, arith}
 use Rattle.elf_extent.specs.Least.{IsLowest, Never}
 use Rattle.elf_field.specs.Abi.{D_UN_AT, DYN_SIZE}

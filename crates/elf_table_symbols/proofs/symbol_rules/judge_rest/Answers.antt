@@ -1,3 +1,4 @@
+-- One run of rules after the other. The index tables that are handed in are the first two of this symbol table.
 use Rattle.std.proofs.Common.{◌≡◌, ℕ, Option, Some, length, ap, sym, ◌∙◌}
 use Rattle.elf_image_rules.proofs.Public.{FirstIn-later, FirstIn-stop}
 use Rattle.elf_table_symbols.specs.IndexTable.{AreIndexTables, index_table, index_words}
@@ -38,8 +39,8 @@ returns-in_err-judge_index_table c =
     (FirstIn-later _ _ _ c.in_ok-judge_entries.ensures
     (FirstIn-stop _ _ _ _ run c.from_residual-in_err-judge_index_table.ensures.1))
 
-pub judge_places-requires-clause-sized : goal.judge_places-requires-clause-sized
-judge_places-requires-clause-sized c = λ j is.
+pub judge_places-requires : goal.judge_places-requires
+judge_places-requires c = λ j is.
     (let same = found _ c.args.i c.args.tables _ c.requires.tables c.requires.parts in
     let sized = rw c.len.ensures at c.in_ok-judge_index_table.ensures.sized in
     words _ c.args.i j _ c.requires.parts is ∙ sized j (same ∙ is))

@@ -1,3 +1,4 @@
+-- The files' objects and their map are those of the link, so the law of executables (`executable`) holds of the text.
 use Rattle.std.proofs.Common.{◌<◌, List, inl, inr, length, subst}
 use Rattle.elf_object_type.specs.Object.{ObjectValue}
 use Rattle.elf_link_field.specs.declared.rule.RelocRule.{RelocRule}

@@ -1,3 +1,4 @@
+-- A line is a rule exactly if it is cut into four words at its blanks, and each word is one of its kind: each refusal says which is not.
 use Rattle.elf_tool_rule_file.proofs.Cuts.{no_cut}
 use Rattle.elf_tool_rule_file.proofs.Words.{behind_form, form_is, kind_is, last_is, range_is, rest_is, width_is}
 use Rattle.elf_tool_rule_file.specs.RuleLine.{form_word, range_word, width_word}

@@ -1,3 +1,4 @@
+-- Invariant: the files so far are read whole, and no reader after them was called.
 use Rattle.std.proofs.Common.{◌≡◌, ◌∙◌, ◌≤◌, [], ◌∷◌, ◌++◌, List, ℕ, Vec, Global, ap, arith, length, map, rules, subst, vec_len}
 use Rattle.std.proofs.lemmas.List.{length-map, length-set, map-append}
 use Rattle.std.proofs.lemmas.Result.{err_from_is_err_and}

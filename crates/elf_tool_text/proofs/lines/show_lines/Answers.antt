@@ -1,3 +1,4 @@
+-- Invariant: the lines so far are buffered or sent, in order.
 use Rattle.std.proofs.Common.{refl}
 use Rattle.std.specs.List.{range_with_len}
 use Rattle.std.proofs.lemmas.Result.{err_from_is_err_and}

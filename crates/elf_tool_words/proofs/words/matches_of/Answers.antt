@@ -1,3 +1,4 @@
+-- What clap's walk over the words takes is what the definition of the command takes.
 use Rattle.std.proofs.Common.{◌≡◌, ◌∙◌, ap, inl, inr, sym, refl, subst, true, map, List}
 use Rattle.std.proofs.lemmas.Result.{err_from_is_err_and}
 use Rattle.clap.specs.Faults.{fault_of, is_simple_and_free}

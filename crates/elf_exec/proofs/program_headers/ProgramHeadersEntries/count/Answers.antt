@@ -7,4 +7,4 @@ pub returns : goal.returns
 returns c =
     let p = c.args.self.now.placed.now in
     let m = p.linked.map in
-    c.count.ensures.value ∙ sym (length-program_headers m.page (loads m) p.places (many_places m p.places c.is_placed.ensures.least))
+    c.count.ensures.value ∙ sym (length-program_headers m.page (loads m) p.places (many_places m p.places c.count.ensures.placed.least))

@@ -12,7 +12,7 @@ load-requires c =
     let p = c.args.self.now.placed.now in
     let m = p.linked.map in
     let within = c.requires.within in
-    let all = length-program_headers m.page (loads m) p.places (many_places m p.places c.is_placed.ensures.least) in
+    let all = length-program_headers m.page (loads m) p.places (many_places m p.places c.linked.ensures.placed.least) in
     omega arith
 
 pub place-requires : goal.place-requires
@@ -20,7 +20,7 @@ place-requires c =
     let p = c.args.self.now.placed.now in
     let m = p.linked.map in
     let within = c.requires.within in
-    let all = length-program_headers m.page (loads m) p.places (many_places m p.places c.is_placed.ensures.least) in
+    let all = length-program_headers m.page (loads m) p.places (many_places m p.places c.linked.ensures.placed.least) in
     omega arith
 
 pub returns : goal.returns
@@ -28,9 +28,9 @@ returns c =
     let p = c.args.self.now.placed.now in
     let m = p.linked.map in
     let within = c.requires.within in
-    let many = many_places m p.places c.is_placed.ensures.least in
+    let many = many_places m p.places c.linked.ensures.placed.least in
     let all = length-program_headers m.page (loads m) p.places many in
-    let page = c.page-page.ensures ∙ ap (λ (n : LinkMapValue). n.page) c.map.ensures ∙ ap (λ (l : LinkedValue). l.map.page) c.linked.ensures in
+    let page = c.page-page.ensures ∙ ap (λ (n : LinkMapValue). n.page) c.map.ensures ∙ ap (λ (l : LinkedValue). l.map.page) c.linked.ensures.value in
     c.program_header.ensures
     ∙ ap₂ (λ (n : ℕ) (load : Load). program_header n load c.place.result) page c.load.ensures
     ∙ ap (λ (x : ℕ). program_header m.page (load_in m c.args.index) x) c.place.ensures

@@ -1,3 +1,5 @@
+-- Invariant: the contents so far ascend, and `lowest` is the lowest byte that two of the extents so far hold. A content after the last one
+-- shares bytes with the header and the tables alone.
 use Rattle.std.proofs.Common.{◌+◌, ◌≡◌, ℕ, Option, length, arith, inl, inr, subst, sym}
 use Rattle.std.proofs.lemmas.Bool.{cases_lt, iff_false}
 use Rattle.elf_extent.specs.declared.extent.Extent.{Extent}

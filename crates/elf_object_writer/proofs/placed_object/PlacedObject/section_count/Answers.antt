@@ -6,8 +6,8 @@ use Rattle.elf_object_writer.proofs.placed_object.PlacedObject.section_count.Goa
 pub returns-clause-few : goal.returns-clause-few
 returns-clause-few c =
     let p = c.args.self.now in
-    let few = few_sections p.object p.layout c.is_placed.ensures.layout in
-    let count = c.is_placed.ensures.layout.count in
+    let few = few_sections p.object p.layout c.prove_placed.ensures.layout in
+    let count = c.prove_placed.ensures.layout.count in
     let same = ap (λ (q : PlacedValue). length q.layout.places) c.self.view_is in
     let is = c.section_count.ensures in
     omega arith

@@ -1,3 +1,4 @@
+-- The name table has an offset for each section, and lies in a file of at most 2^30 bytes, so the offset fits 32 bits.
 use Rattle.std.proofs.Common.{◌≡◌, length, rules, subst, arith}
 use Rattle.std.specs.Prelude.{vec_len}
 use Rattle.elf_object_writer.specs.PlacedObject.{IsPlacedWith}

@@ -5,11 +5,11 @@ use Rattle.elf_object_writer.proofs.placed_object.PlacedObject.symbol_table_inde
 pub overflow_add-result : goal.overflow_add-result
 overflow_add-result c =
     let below = own_below c.args.self.now.object in
-    let count = c.section_count-count.ensures in
+    let count = c.prove_few_sections.ensures in
     omega arith
 
 pub returns-clause-few : goal.returns-clause-few
 returns-clause-few c =
     let below = own_below c.args.self.now.object in
-    let count = c.section_count-count.ensures in
+    let count = c.prove_few_sections.ensures in
     omega arith

@@ -1,3 +1,4 @@
+-- Section header 0 is the first of the list; the one at any other index is that of the section before it.
 use Rattle.std.proofs.Common.{◌+◌, ◌-◌, ℕ, ap, arith, sym, ◌∙◌}
 use Rattle.elf_image_type.specs.RelocatableFile.{first_header}
 use Rattle.elf_object_strings.specs.StringTable.{name_offset}
@@ -10,7 +11,7 @@ use Rattle.elf_object_writer.proofs.section_headers.SectionHeadersEntries.entry.
 pub header_at-requires : goal.header_at-requires
 header_at-requires c =
     let p = c.args.self.now.placed.now in
-    let all = length-headers (name_offset (section_names p.object)) (plain_sections p.object) p.layout.places c.is_placed.ensures.layout.count in
+    let all = length-headers (name_offset (section_names p.object)) (plain_sections p.object) p.layout.places c.prove_placed.ensures.layout.count in
     let within = c.requires.within in
     omega arith
 
@@ -18,17 +19,17 @@ pub returns-then-index-eq0 : goal.returns-then-index-eq0
 returns-then-index-eq0 c =
     let p = c.args.self.now.placed.now in
     let o = p.object in
-    let all = length-headers (name_offset (section_names o)) (plain_sections o) p.layout.places c.is_placed.ensures.layout.count in
+    let all = length-headers (name_offset (section_names o)) (plain_sections o) p.layout.places c.prove_placed.ensures.layout.count in
     c.first_header.ensures ∙ ap (λ (n : ℕ). first_header (n + 1) (name_table_at o)) (sym all) ∙ sym (first_one _ _ c.args.index c.first_header.result c.if-index-eq0.true)
 
 pub returns-else-index-eq0 : goal.returns-else-index-eq0
 returns-else-index-eq0 c =
     let p = c.args.self.now.placed.now in
     let o = p.object in
-    let all = length-headers (name_offset (section_names o)) (plain_sections o) p.layout.places c.is_placed.ensures.layout.count in
+    let all = length-headers (name_offset (section_names o)) (plain_sections o) p.layout.places c.prove_placed.ensures.layout.count in
     let within = c.requires.within in
     let d = plain_section o Names in
     let some = c.if-index-eq0.false in
     c.header_at.ensures d
     ∙ sym (behind_first _ _ c.args.index c.header_at.result (omega arith)
-    ∙ header_found (name_offset (section_names o)) (plain_sections o) p.layout.places (c.args.index - 1) c.header_at.result d c.is_placed.ensures.layout.count (omega arith))
+    ∙ header_found (name_offset (section_names o)) (plain_sections o) p.layout.places (c.args.index - 1) c.header_at.result d c.prove_placed.ensures.layout.count (omega arith))

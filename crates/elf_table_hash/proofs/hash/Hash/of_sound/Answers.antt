@@ -1,3 +1,4 @@
+-- Of a table that breaks no rule, rules 65 to 69 say what its invariant asks.
 use Rattle.std.proofs.Common.{None, sym, subst}
 use Rattle.elf_image_rules.proofs.Public.{FirstIn-behind, FirstIn-front}
 use Rattle.elf_image_rules.specs.Rows.{FirstIn}

@@ -1,3 +1,4 @@
+-- The section's own rules give the size of the table, those of the symbol table its names; all lie in the file.
 use Rattle.std.proofs.Common.{inl, inr, ℕ, ◌+◌, ◌/◌, ◌<◌, ◌≤◌, List, length, refl, ap, ◌∙◌, arith}
 use Rattle.std.proofs.lemmas.Bool.{cases_lt}
 use Rattle.elf_field.specs.Abi.{WORD_SIZE}

@@ -1,3 +1,4 @@
+-- Either the bytes are an image and its lines are sent, or its refusal is.
 use Rattle.std.proofs.Common.{inr, refl}
 use Rattle.std.proofs.lemmas.Result.{err_from_is_err_and}
 use Rattle.elf_table_all.specs.TableVerdicts.{TablesValue}

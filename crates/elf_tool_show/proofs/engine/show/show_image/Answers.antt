@@ -1,3 +1,4 @@
+-- The lines are sent kind by kind, each after those before it; a failure leaves out a beginning of all of them.
 use Rattle.std.proofs.Common.{◌≡◌, ◌∙◌, List, ℕ, [], ◌++◌, Option, ap, map, refl, subst}
 use Rattle.std.specs.List.{flat_map}
 use Rattle.std.proofs.lemmas.List.Folds.{flat_map-map}

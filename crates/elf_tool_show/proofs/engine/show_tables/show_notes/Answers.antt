@@ -1,3 +1,4 @@
+-- Invariant: the lines of the notes so far are sent, and the rest of the notes is left.
 use Rattle.std.proofs.Common.{◌+◌, ◌∙◌, ap, refl, sym}
 use Rattle.std.proofs.lemmas.Result.{err_from_is_err_and}
 use Rattle.elf_table_lists.specs.NoteView.{note_value}

@@ -1,3 +1,4 @@
+-- Invariant: the lines of the tables of the sections so far are sent.
 use Rattle.std.proofs.Common.{◌∙◌, List, ℕ, ap, length, refl, subst, sym}
 use Rattle.std.specs.List.{range_with_len}
 use Rattle.std.proofs.lemmas.Result.{err_from_is_err_and}

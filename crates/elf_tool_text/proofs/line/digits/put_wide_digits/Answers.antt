@@ -1,3 +1,4 @@
+-- Invariant: the digits so far are the last ones of the number, and `rest` has the others.
 use Rattle.std.proofs.Common.{◌≡◌, ◌∙◌, ◌-◌, ◌/◌, ℕ, ◌∷◌, false, ap, arith, drop, rules, set, sym}
 use Rattle.std.proofs.lemmas.List.{drop_all, length-set}
 use Rattle.std.specs.Fmt.{digits, digits_onto}

@@ -1,7 +1,0 @@
-use Rattle.std.proofs.Common.{ℕ, ◌<◌}
-use Rattle.elf_link_files.specs.Files.{object_at}
-use Rattle.elf_link_files.specs.SiteTests.{BreaksSiteTest, counted}
-use Rattle.elf_link_files.proofs.site_test.first_site.Given as goal
-
-abbrev pub invariant-loop-file : goal.invariant-loop-file
-invariant-loop-file l = (e k : ℕ) → e < l.file → k < counted l.test (object_at l.objects e) → BreaksSiteTest l.objects l.test e k → ⊥

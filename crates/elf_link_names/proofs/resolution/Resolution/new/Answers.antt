@@ -1,0 +1,27 @@
+use Rattle.std.proofs.Common.{List, map, length, subst}
+use Rattle.elf_link_files.specs.declared.chosen.Chosen.{Chosen}
+use Rattle.elf_link_positions.specs.Slots.{name_position}
+use Rattle.elf_link_names.specs.KnownNames.{first_site}
+use Rattle.elf_link_names.specs.Numbers.{AreRanks}
+use Rattle.elf_link_names.proofs.ChosenCommons.{chosen_symbols, have_chosen}
+use Rattle.elf_link_names.proofs.Tabled.{whole_firsts}
+use Rattle.elf_link_names.proofs.resolution.Resolution.new.Goals as goal
+
+pub invariant_of-result : goal.invariant_of-result
+invariant_of-result c =
+    let t = c.table.inside in
+    let fs = t.inputs in
+    let cs = c.in_ok-commons.commons.items in
+    let firsts = map first_site t.names.known.items in
+    let chosen = rw (← c.table.view_is) at c.in_ok-commons.ensures in
+    let ranks = rw (← c.table.view_is) at c.in_ok-ranks.ensures in
+    record {
+      names = c.table.invariant.names;
+      numbers = c.table.invariant.numbers;
+      bound = rw (← c.table.view_is) at c.requires;
+      chosen = chosen;
+      symbols = chosen_symbols fs cs chosen;
+      all = have_chosen fs cs chosen;
+      ranks = subst (λ (xs : List Chosen). AreRanks fs firsts xs (length xs) c.in_ok-ranks.ranks.items) c.deref.ensures.value
+          (ranks firsts (whole_firsts fs (name_position t.names.positions) t.names.known.items c.table.invariant.names));
+    }

@@ -1,0 +1,11 @@
+use Rattle.std.proofs.Common.{◌≡◌, rules}
+use Rattle.elf_link_positions.specs.Slots.{name_position}
+use Rattle.elf_link_names.proofs.Numbers.{number_found}
+use Rattle.elf_link_names.proofs.resolution.Resolution.number.Goals as goal
+
+pub returns : goal.returns
+returns c =
+    let r = c.self.inside in
+    let position = name_position r.names.positions in
+    let at : c.get.result ≡ position c.args.name.now = search rules in
+    rw (← c.self.view_is, at) (number_found r.inputs position r.names.known.items c.args.name.now c.self.invariant.names)

@@ -1,0 +1,85 @@
+//! The names of the files of a link, before rules 8 and 9 are asked.
+ghost use Rattle.std.specs.Prelude.{◌≡◌, IfOk, MatchOption};
+ghost use Rattle.elf_extent.specs.Least.{Never};
+ghost use Rattle.elf_link_files.specs.Ids.{symbol_with};
+ghost use Rattle.elf_link_names.specs.NameNumbers.{IsEntryIn};
+ghost use Rattle.elf_link_files.specs.Rows.{IsFirstAt};
+ghost use Rattle.elf_link_names.specs.Binds.{strong};
+ghost use Rattle.elf_link_names.specs.KnownNames.{IsKnownWhole};
+ghost use Rattle.elf_link_names.specs.Numbers.{IsNameCount, IsNumberOf};
+
+use crate::bind::site_of;
+use crate::known_names::{Known, KnownNames, known_item, known_names};
+use elf_link_files::{Inputs, Site, SymbolId};
+use std::alloc::{AllocError, Global};
+use std::marker::Model;
+
+/// The files of a link with what is known of each of their names. To a contract it is the files.
+#[derive(Drop)]
+pub(crate) struct NameTable<'l, 'a> {
+    pub(crate) inputs: Inputs<'l, 'a>,
+    pub(crate) names: KnownNames<'a>,
+    pub(crate) numbers: Vec<Vec<usize>>,
+}
+
+impl<'l, 'a> Model for NameTable<'l, 'a> {
+    ghost use Rattle.std.specs.Prelude.{List};
+    ghost use Rattle.elf_object_type.specs.Object.{ObjectValue};
+
+    ghost Value = { List ObjectValue };
+
+    ghost use Rattle.elf_link_names.specs.NameTable.{IsTableOfNames, objects_of_table};
+
+    ghost view = { objects_of_table };
+
+    ghost invariant = { IsTableOfNames };
+}
+
+impl<'l, 'a> NameTable<'l, 'a> {
+    /// The names of these files, from one pass over all symbols.
+    pub(crate) fn new(
+        alloc: Global,
+        inputs: Inputs<'l, 'a>,
+    ) -> Result<NameTable<'l, 'a>, AllocError>
+        ensures { IfOk result (λ table. table ≡ inputs.entry) }
+    {
+        let (names, numbers) = known_names(alloc, &inputs)?;
+        Ok(NameTable {
+            inputs,
+            names,
+            numbers,
+        })
+    }
+
+    /// How many names there are.
+    pub(crate) fn name_count(&self) -> usize
+        ensures { IsNameCount self.now result }
+    {
+        self.names.known.len()
+    }
+
+    /// The number of the name of a symbol, which is not local.
+    #[tactic(auto, unfolding(crate::specs::NameNumbers::AreNameNumbers))]
+    pub(crate) fn number_of(&self, id: SymbolId) -> usize
+        requires { IsEntryIn self.now id }
+        ensures { IsNumberOf self.now (symbol_with self.now id).name result }
+    {
+        self.numbers[id.file][id.index]
+    }
+
+    /// What is known of the name of a symbol, which is not local.
+    pub(crate) fn known_of(&self, id: SymbolId) -> Known
+        requires { IsEntryIn self.now id }
+        ensures { IsKnownWhole self.now (symbol_with self.now id).name result }
+    {
+        known_item(&self.names.known, self.number_of(id))
+    }
+
+    /// The first global definition of the name of a symbol, which is not local.
+    pub(crate) fn first_strong(&self, id: SymbolId) -> Option<Site>
+        requires { IsEntryIn self.now id }
+        ensures { MatchOption result (Never (strong self.now (symbol_with self.now id).name)) (IsFirstAt (strong self.now (symbol_with self.now id).name)) }
+    {
+        site_of(self.known_of(id).strong)
+    }
+}

@@ -1,0 +1,171 @@
+//! The names of a link in which each is bound: what every name is bound to, and which commons are placed (gABI chapter 4, Symbol
+//! Table).
+ghost use Rattle.std.specs.Prelude.{◌≡◌, ◌<◌, ℕ, IfOk, MatchOption, length, map};
+ghost use Rattle.elf_extent.specs.Least.{Never};
+ghost use Rattle.elf_link_files.specs.Commons.{AreSymbols};
+ghost use Rattle.elf_link_files.specs.Discarded.{AreDiscardMarks};
+ghost use Rattle.elf_link_files.specs.Ids.{IsSymbolIn, symbol_with};
+ghost use Rattle.elf_link_files.specs.Listing.{Lists};
+ghost use Rattle.elf_object_type.specs.ObjectView.{symbol_value};
+ghost use Rattle.elf_link_positions.specs.Slots.{name_position};
+ghost use Rattle.elf_link_names.specs.declared.choice.Choice.TheVariants.{Common};
+ghost use Rattle.elf_link_names.specs.Binds.{AllBound, Binds, entries};
+ghost use Rattle.elf_link_names.specs.ChosenCommons.{AreChosen, IsCommonOf};
+ghost use Rattle.elf_link_names.specs.Listing.{first_entries, live_sections as live_row};
+ghost use Rattle.elf_link_names.specs.NameNumbers.{AreNameNumbers};
+ghost use Rattle.elf_link_names.specs.Naming.{ArePositionsOf};
+ghost use Rattle.elf_link_names.specs.Resolved.{IsNumberIn, name_in};
+
+use crate::bind::choice_of;
+use crate::choice::Choice;
+use crate::known_names::{KnownNames, known_item};
+use crate::listing::live_sections;
+use crate::name_table::NameTable;
+use elf_link_files::{Chosen, Inputs, Site, SymbolId};
+use elf_link_positions::NamePositions;
+use elf_object_type::{Object, Symbol};
+use std::alloc::{AllocError, Global};
+use std::marker::Model;
+
+/// The files of a link in which each name is bound, with the commons that are placed. A name is told by its number: its position
+/// among all names that are not local, in the order of the first entry of each. To a contract it is the files, these first entries and
+/// these commons.
+#[derive(Drop)]
+pub struct Resolution<'l, 'a> {
+    inputs: Inputs<'l, 'a>,
+    names: KnownNames<'a>,
+    numbers: Vec<Vec<usize>>,
+    commons: Vec<Chosen>,
+    ranks: Vec<usize>,
+}
+
+impl<'l, 'a> Model for Resolution<'l, 'a> {
+    ghost use Rattle.elf_link_names.specs.Resolved.{ResolutionValue};
+
+    ghost Value = { ResolutionValue };
+
+    ghost use Rattle.elf_link_names.specs.Resolution.{IsResolution, resolution_value};
+
+    ghost view = { resolution_value };
+
+    ghost invariant = { IsResolution };
+}
+
+/// What outlives a resolution.
+#[derive(Drop)]
+pub struct ResolutionParts<'a> {
+    /// A mark for each section of each file, whether it is discarded.
+    pub marks: Vec<Vec<bool>>,
+    /// The number of each name.
+    pub positions: NamePositions<'a>,
+    /// For each symbol of each file that is not local the number of its name.
+    pub numbers: Vec<Vec<usize>>,
+}
+
+impl<'l, 'a> Resolution<'l, 'a> {
+    /// These names, each of which is bound. Fails only when out of memory.
+    pub(crate) fn new(
+        alloc: Global,
+        table: NameTable<'l, 'a>,
+    ) -> Result<Resolution<'l, 'a>, AllocError>
+        requires { AllBound table }
+        ensures { IfOk result (λ resolution. resolution.objects ≡ table.entry) }
+    {
+        let commons = table.chosen_commons(alloc)?;
+        let ranks = table.ranks(alloc, &commons)?;
+        Ok(Resolution {
+            inputs: table.inputs,
+            names: table.names,
+            numbers: table.numbers,
+            commons,
+            ranks,
+        })
+    }
+
+    /// A symbol of a file.
+    pub fn symbol(&self, id: SymbolId) -> Symbol<'a>
+        requires { IsSymbolIn self.now.objects id }
+        ensures { symbol_value result ≡ symbol_with self.now.objects id }
+    {
+        self.inputs.symbol(id)
+    }
+
+    /// The files.
+    pub fn objects(&self) -> &'l [Object<'a>]
+        ensures { result.now ≡ self.now.objects }
+    {
+        self.inputs.objects()
+    }
+
+    /// The commons that are placed, in the order of the first one of each name.
+    pub fn commons(&self) -> &[Chosen]
+        ensures commons { result.now ≡ self.now.commons }
+        ensures chosen { AreChosen self.now.objects result.now }
+        ensures symbols { AreSymbols self.now.objects result.now }
+    {
+        &self.commons
+    }
+
+    /// All live sections, by file and position. Fails only when out of memory.
+    pub fn live_sections(&self, alloc: Global) -> Result<Vec<Site>, AllocError>
+        ensures { IfOk result (λ sites. Lists (live_row self.now.objects) sites.items) }
+    {
+        live_sections(alloc, &self.inputs)
+    }
+
+    /// How many names there are.
+    pub fn name_count(&self) -> usize
+        ensures { result ≡ length self.now.firsts }
+    {
+        self.names.known.len()
+    }
+
+    /// The number of a name; None where no symbol that is not local has it.
+    pub fn number(&self, name: &[u8]) -> Option<usize>
+        ensures { MatchOption result (Never (entries self.now.objects name.now)) (IsNumberIn self.now name.now) }
+    {
+        self.names.positions.get(name)
+    }
+
+    /// The name of number `k`.
+    pub fn name(&self, k: usize) -> &'a [u8]
+        requires { k < length self.now.firsts }
+        ensures { result.now ≡ name_in self.now k }
+    {
+        self.inputs
+            .symbol(known_item(&self.names.known, k).first)
+            .name
+    }
+
+    /// What the name of number `k` is bound to.
+    pub fn choice(&self, k: usize) -> Choice
+        requires { k < length self.now.firsts }
+        ensures { Binds self.now.objects (name_in self.now k) result }
+    {
+        choice_of(known_item(&self.names.known, k))
+    }
+
+    /// The position of the common of name `k` among those that are placed.
+    pub fn common_position(&self, k: usize) -> usize
+        requires name { k < length self.now.firsts }
+        requires common { (size : ℕ) × (align : ℕ) × Binds self.now.objects (name_in self.now k) (Common size align) }
+        ensures { IsCommonOf self.now.objects self.now.commons (name_in self.now k) result }
+    {
+        self.ranks[k]
+    }
+
+    /// Its parts, for what outlives it.
+    pub fn into_parts(self) -> ResolutionParts<'a>
+        ensures marks { AreDiscardMarks self.entry.objects (map (λ row. row.items) result.marks.items) }
+        ensures firsts { Lists (first_entries self.entry.objects) self.entry.firsts }
+        ensures positions { ArePositionsOf self.entry.objects self.entry.firsts (length self.entry.firsts) (name_position result.positions) }
+        ensures numbers { AreNameNumbers self.entry.objects (name_position result.positions) (map (λ row. row.items) result.numbers.items) }
+    {
+        let names = self.names;
+        ResolutionParts {
+            marks: self.inputs.into_marks(),
+            positions: names.positions,
+            numbers: self.numbers,
+        }
+    }
+}
