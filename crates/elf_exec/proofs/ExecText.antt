@@ -1,8 +1,7 @@
 -- The executable as it goes out: the header, the program header table and the bytes of the segments, each behind the zeros before it; these
 -- are memory's, and so it is the executable of the definition.
-use Rattle.std.proofs.Common.{◌≡◌, ◌<◌, ◌+◌, ◌-◌, ◌*◌, ◌⊎◌, ℕ, zero, suc, Bool, true, false, Option, Ok, Err, List, [], ◌∷◌, ◌++◌, length, map, get_or, replicate, refl, sym, ap, subst, ◌∙◌, inl, inr, arith, length-append}
+use Rattle.std.proofs.Common.{◌≡◌, ◌<◌, ◌+◌, ◌-◌, ◌*◌, ◌⊎◌, ℕ, zero, suc, Bool, true, false, List, [], ◌∷◌, ◌++◌, length, map, get_or, replicate, refl, sym, ap, subst, ◌∙◌, inl, inr, arith, length-append}
 use Rattle.std.specs.Prelude.{slice_index}
-use Rattle.std.specs.Io.KnownBytes.{Appends}
 use Rattle.std.specs.List.{flat_map, range_with_len}
 use Rattle.std.proofs.lemmas.Bool.{cases_lt}
 use Rattle.std.proofs.lemmas.List.{get_or-map, length-map}
@@ -12,8 +11,6 @@ use Rattle.elf_field.specs.declared.phdr.Phdr.{Phdr}
 use Rattle.elf_field.proofs.RecordTableLaws.{length-table}
 use Rattle.elf_extent.specs.Place.{Fits, Least}
 use Rattle.elf_extent.proofs.Public.{fits_length}
-use Rattle.elf_image_sending.specs.Sending.{StoppedIn, WentOut}
-use Rattle.elf_image_sending.proofs.Public.{stopped_whole}
 use Rattle.elf_image_type.specs.FileParts.{spread, unaligned}
 use Rattle.elf_image_type.proofs.Public.{length-spread}
 use Rattle.elf_object_type.specs.Object.{ObjectValue}
@@ -23,7 +20,8 @@ use Rattle.elf_link_map.specs.Standing.{output_at}
 use Rattle.elf_link_relocate.specs.Linked.{LinkedValue, identity_of}
 use Rattle.elf_exec.specs.declared.load.Load.{Load}
 use Rattle.elf_exec.specs.ExecLaid.{AreLoadBytes, bytes_from, exec_bytes, exec_header, file_size, header_bytes, load_part, load_parts, program_header, program_headers, table_bytes}
-use Rattle.elf_exec.specs.ExecWriting.{IsExec, IsReadyLink, IsTooLong, WritesExec}
+use Rattle.elf_exec.specs.ExecWriting.{IsExec, IsTooLong}
+use Rattle.elf_link_relocate.specs.ReadyLink.{IsReadyLink}
 use Rattle.elf_exec.specs.Loads.{commons_load, load_in, loads, no_load, output_load}
 use Rattle.elf_exec.specs.Pieces.{exec_text, load_content, load_contents, loads_text, output_content, piece, placed_header, placed_table}
 use Rattle.elf_exec.specs.PlacedExec.{EndTooFar, IsPlacedExec, PlacedExecValue, exec_end}
@@ -236,28 +234,10 @@ text_is p placed =
     exec_is l.objects l.map p.places (load_contents l) (many_places l.map p.places placed.least)
     ∙ ap (λ (s : List ℕ). placed_header p ++ (placed_table p ++ s)) (loads_are p placed)
 
--- ---- what the calls of writing promise
+-- ---- what goes out, and what does not
 
-abbrev sent_text : PlacedExecValue → List ℕ
+abbrev pub sent_text : PlacedExecValue → List ℕ
 sent_text p = placed_header p ++ (placed_table p ++ loads_text p)
-
-pub exec_sent : (p : PlacedExecValue) (a b : Option (List ℕ)) (all : ℕ) → IsPlacedExec p → WentOut a b 0 (sent_text p) all → WritesExec p.linked a b (Ok tt)
-exec_sent p a b all placed went =
-    let long = length-exec p.linked p.places placed.ready placed.least in
-    let short = placed.short in
-    (exec_text p, exec_laid p.linked p.places placed.ready placed.least, placed.few, omega arith, subst (Appends a b) (sym (text_is p placed)) went.1)
-
-pub exec_cut : (p : PlacedExecValue) (a b : Option (List ℕ)) (written : ℕ) → IsPlacedExec p → StoppedIn a b 0 (sent_text p) written →
-    WritesExec p.linked a b (Err (record { written = written }))
-exec_cut p a b written placed stopped =
-    let long = length-exec p.linked p.places placed.ready placed.least in
-    let short = placed.short in (
-      exec_text p,
-      exec_laid p.linked p.places placed.ready placed.least,
-      placed.few,
-      omega arith,
-      stopped_whole a b (exec_text p) written (subst (λ (s : List ℕ). StoppedIn a b 0 s written) (sym (text_is p placed)) stopped),
-    )
 
 -- parts that end too far make the executable too long
 pub too_long : (l : LinkedValue) → IsReadyLink l → EndTooFar (load_parts l.map) (bytes_from l.map) → IsTooLong l

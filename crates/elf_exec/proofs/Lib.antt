@@ -7,3 +7,12 @@ mod OutputBytes
 mod ExecText
 mod Sent
 mod OneExec
+-- That it is an image, and loads the memory of the link.
+mod Widths
+mod Records
+mod Places
+mod ExecFile
+mod LoadLists
+mod LoadedMemory
+mod ExecLaws
+mod ExecWritten

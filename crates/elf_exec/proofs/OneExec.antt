@@ -8,24 +8,16 @@ use Rattle.elf_link_field.specs.declared.rule.RelocRule.{RelocRule}
 use Rattle.elf_link_map.specs.LinkMap.{LinkMapValue}
 use Rattle.elf_link_files.specs.Rows.{FirstAmong}
 use Rattle.elf_link_relocate.specs.RelocationRules.{applied_entry_rules}
-use Rattle.elf_link_relocate.specs.Linked.{IsLinked, LinkedValue}
+use Rattle.elf_link_relocate.specs.Linked.{LinkedValue}
 use Rattle.elf_link_relocate.specs.MapFacts.{IsMapOfSome}
 use Rattle.elf_link_relocate.proofs.Public.{any_options, one_byte}
 use Rattle.elf_exec.specs.declared.load.Load.{Load}
 use Rattle.elf_exec.specs.ExecLaid.{AreLoadBytes, ExecLaid, bytes_from, exec_bytes, load_parts}
-use Rattle.elf_exec.specs.ExecWriting.{IsExec, IsReadyLink}
+use Rattle.elf_exec.specs.ExecWriting.{IsExec}
+use Rattle.elf_link_relocate.specs.ReadyLink.{IsReadyLink}
 use Rattle.elf_exec.specs.Loads.{load_in}
 use Rattle.elf_exec.specs.Pieces.{load_contents}
 use Rattle.elf_exec.proofs.ExecText.{exec_laid}
-
-pub ready_of : (fs : List ObjectValue) (m : LinkMapValue) (rules : List RelocRule) (l : LinkedValue) → IsMapOfSome fs m → IsLinked fs m rules l → IsReadyLink l
-ready_of fs m rules l is linked = record {
-  map = subst (λ (n : LinkMapValue). IsMapOfSome l.objects n) (sym linked.same_map) (subst (λ (gs : List ObjectValue). IsMapOfSome gs m) (sym linked.same_objects) is);
-  linked =
-      subst (λ (rs : List RelocRule). IsLinked l.objects l.map rs l) (sym linked.same_rules)
-      (subst (λ (n : LinkMapValue). IsLinked l.objects n rules l) (sym linked.same_map)
-      (subst (λ (gs : List ObjectValue). IsLinked gs m rules l) (sym linked.same_objects) linked));
-}
 
 pub some_exec : (l : LinkedValue) → IsReadyLink l → (b : List ℕ) × IsExec l b
 some_exec l ready =

@@ -22,7 +22,7 @@ use Rattle.elf_link_relocate.specs.Fields.{content_of}
 use Rattle.elf_link_relocate.specs.Linked.{AreBytesOf, HasLiveBits, LinkedValue, bytes_at}
 use Rattle.elf_link_relocate.specs.Memory.{IsInNoMember, IsMemory}
 use Rattle.elf_link_relocate.proofs.Public.{any_options, memory_zero}
-use Rattle.elf_exec.specs.ExecWriting.{IsReadyLink}
+use Rattle.elf_link_relocate.specs.ReadyLink.{IsReadyLink}
 use Rattle.elf_exec.specs.Pieces.{member_content, output_content}
 use Rattle.elf_exec.proofs.Rows.{IsInPart, byte_of_spread, same_map, size_at}
 

@@ -15,7 +15,7 @@ use Rattle.elf_exec.specs.declared.fault.ExecFault.{ExecFault}
 use Rattle.elf_exec.specs.declared.fault.ExecFault.TheVariants.{TooLong, OutOfMemory, Io}
 use Rattle.elf_exec.specs.declared.load.Load.{Load}
 use Rattle.elf_exec.specs.ExecLaid.{bytes_from, load_part, load_parts}
-use Rattle.elf_exec.specs.ExecWriting.{IsReadyLink}
+use Rattle.elf_link_relocate.specs.ReadyLink.{IsReadyLink}
 use Rattle.elf_exec.specs.Loads.{EndInTime, loads}
 use Rattle.elf_exec.specs.Pieces.{member_content, member_piece, output_content, piece}
 use Rattle.elf_exec.specs.PlacedExec.{IsPartsFault, IsPlacingFault}

@@ -4,30 +4,34 @@ use Rattle.elf_field.specs.Abi.{PN_XNUM}
 use Rattle.elf_image_rules.specs.HeaderRules.{MAX_LEN}
 use Rattle.elf_image_stream.specs.declared.fault.WriteFault.{WriteFault}
 use Rattle.elf_image_stream.specs.Output.{Writes}
-use Rattle.elf_link_relocate.specs.Linked.{IsLinked, LinkedValue}
-use Rattle.elf_link_relocate.specs.MapFacts.{IsMapOfSome}
+use Rattle.elf_link_field.specs.declared.rule.RelocRule.{RelocRule}
+use Rattle.elf_link_map.specs.LinkMap.{LinkMapValue}
+use Rattle.elf_link_relocate.specs.Linked.{LinkedValue}
+use Rattle.elf_object_type.specs.Object.{ObjectValue}
 use Rattle.elf_exec.specs.declared.fault.ExecFault.{ExecFault}
 use Rattle.elf_exec.specs.declared.fault.ExecFault.TheVariants.{TooLong, OutOfMemory, Io}
 use Rattle.elf_exec.specs.ExecLaid.{ExecLaid}
+use Rattle.elf_exec.specs.Executable.{IsExecFile, IsExecutable}
 use Rattle.elf_exec.specs.Loads.{loads}
-
--- the map and the relocated bytes are those of these objects, for some options, and no rule of the link stands
-pub record IsReadyLink (l : LinkedValue) : Type 0 where
-  pub map : IsMapOfSome l.objects l.map
-  pub linked : IsLinked l.objects l.map l.rules l
 
 -- b is the executable of relocated bytes
 abbrev pub IsExec : LinkedValue → List ℕ → Type 0
 IsExec l b = ExecLaid l.objects l.map l.rules b
 
 -- there are more segments than e_phnum can tell (gABI chapter 5: PN_XNUM), or the executable is longer than the longest file
-abbrev pub IsTooLong : LinkedValue → Type 0
-IsTooLong l = (PN_XNUM ≤ length (loads l.map)) ⊎ ((b : List ℕ) × IsExec l b × (MAX_LEN < length b))
+abbrev pub IsTooLongFor : List ObjectValue → LinkMapValue → List RelocRule → Type 0
+IsTooLongFor fs m rules = (PN_XNUM ≤ length (loads m)) ⊎ ((b : List ℕ) × ExecLaid fs m rules b × (MAX_LEN < length b))
 
--- the bytes of the executable go out, or exactly the first of them and then the writer fails; it is not too long
+abbrev pub IsTooLong : LinkedValue → Type 0
+IsTooLong l = IsTooLongFor l.objects l.map l.rules
+
+-- b is the executable of relocated bytes, not too long, and as a file an image that loads the memory of the link
+abbrev pub IsLoadable : LinkedValue → List ℕ → Type 0
+IsLoadable l b = IsExecFile l.objects l.map l.rules b × IsExecutable l.objects l.map l.rules b
+
+-- the bytes of the executable go out, or exactly the first of them and then the writer fails
 abbrev pub WritesExec : LinkedValue → Option (List ℕ) → Option (List ℕ) → Result Unit WriteFault → Type 0
-WritesExec l before after result =
-    (b : List ℕ) × IsExec l b × (length (loads l.map) < PN_XNUM) × (length b ≤ MAX_LEN) × Writes before after b result
+WritesExec l before after result = (b : List ℕ) × IsLoadable l b × Writes before after b result
 
 -- each fault with when it comes, and what it leaves; want of memory says nothing else
 abbrev pub IsExecFault : LinkedValue → Option (List ℕ) → Option (List ℕ) → ExecFault → Type 0

@@ -9,7 +9,8 @@ use Rattle.elf_exec.specs.declared.fault.ExecFault.{ExecFault}
 use Rattle.elf_exec.specs.declared.fault.ExecFault.TheVariants.{TooLong, OutOfMemory, Io}
 use Rattle.elf_exec.specs.declared.load.Load.{Load}
 use Rattle.elf_exec.specs.ExecLaid.{bytes_from, load_parts}
-use Rattle.elf_exec.specs.ExecWriting.{IsReadyLink, IsTooLong}
+use Rattle.elf_exec.specs.ExecWriting.{IsTooLong}
+use Rattle.elf_link_relocate.specs.ReadyLink.{IsReadyLink}
 use Rattle.elf_exec.specs.Loads.{loads}
 
 -- where the last of some parts ends; without parts, where the first might begin

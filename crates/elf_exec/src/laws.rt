@@ -3,35 +3,22 @@ ghost use Rattle.std.specs.Prelude.{◌≡◌, ℕ, List, None};
 ghost use Rattle.elf_link_files.specs.Rows.{FirstAmong};
 ghost use Rattle.elf_link_map.specs.LinkMap.{LinkMapValue};
 ghost use Rattle.elf_link_field.specs.declared.rule.RelocRule.{RelocRule};
-ghost use Rattle.elf_link_relocate.specs.Linked.{IsLinked, LinkedValue};
+ghost use Rattle.elf_link_relocate.specs.Linked.{LinkedValue};
 ghost use Rattle.elf_link_relocate.specs.MapFacts.{IsMapOfSome};
 ghost use Rattle.elf_link_relocate.specs.RelocationRules.{applied_entry_rules};
 ghost use Rattle.elf_object_type.specs.Object.{ObjectValue};
 ghost use Rattle.elf_exec.specs.ExecLaid.{ExecLaid};
-ghost use Rattle.elf_exec.specs.ExecWriting.{IsExec, IsReadyLink};
+ghost use Rattle.elf_exec.specs.Executable.{IsExecFile, IsExecutable, IsSoundLink};
+ghost use Rattle.elf_exec.specs.ExecWriting.{IsExec};
+ghost use Rattle.elf_link_relocate.specs.ReadyLink.{IsReadyLink};
 
-use elf_link_field::RelocRule;
-use elf_link_map::LinkMap;
-use elf_link_relocate::Linked;
-use elf_object_type::Object;
-
-/// Relocated bytes that `relocate` answered of these, where the map is one that `map` answered, are ready to be written, as
-/// [`write_exec`](crate::write_exec) asks. It does nothing.
-pub fn is_ready(
-    linked: &Linked<'_, '_>,
-    objects: &[Object<'_>],
-    map: &LinkMap<'_>,
-    rules: &[RelocRule],
-)
-    requires map { IsMapOfSome objects.now map.now }
-    requires linked { IsLinked objects.now map.now rules.now linked.now }
-    ensures { IsReadyLink linked.now }
-{
-    let _ = linked;
-    let _ = objects;
-    let _ = map;
-    let _ = rules;
-}
+/// Of objects, their map and relocation rules, wherever they came from, where no rule of the link stands: their executable is an image; it
+/// enters at the value of the entry symbol, or at 0 where none is named, and its loadable segments give an address a byte exactly where the
+/// memory of the link has that byte there. It is their only executable.
+pub fn executable()
+    ensures { (fs : List ObjectValue) (m : LinkMapValue) (rules : List RelocRule) (b : List ℕ) →
+        IsSoundLink fs m rules → IsExecFile fs m rules b → IsExecutable fs m rules b }
+{}
 
 /// Relocated bytes have an executable, however long it is.
 pub fn some_exec()

@@ -6,7 +6,6 @@
 //! ```
 //! let map = map(alloc, &objects, &options, hasher)?;
 //! let linked = relocate(alloc, &map, &objects, &rules)?;
-//! is_ready(&linked, &objects, &map, &rules);
 //! let mut text = Vec::new(alloc);
 //! write_exec(alloc, &linked, &mut text)?;
 //! assert_eq!(rt; text.len(), 64);
@@ -27,5 +26,5 @@ mod program_headers;
 
 pub use exec_writing::write_exec;
 pub use fault::ExecFault;
-pub use laws::{is_ready, one_exec, some_exec};
+pub use laws::{executable, one_exec, some_exec};
 pub use load::Load;

@@ -1,7 +1,7 @@
 //! Relocated bytes with all that their executable takes memory for (gABI chapter 5, Program Header).
 ghost use Rattle.std.specs.Prelude.{◌≡◌, ◌<◌, IfErr, IfOk, length, slice_index};
 ghost use Rattle.elf_field.specs.Abi.{PN_XNUM};
-ghost use Rattle.elf_exec.specs.ExecWriting.{IsReadyLink};
+ghost use Rattle.elf_link_relocate.specs.ReadyLink.{IsReadyLink};
 ghost use Rattle.elf_exec.specs.Loads.{load_in, loads};
 ghost use Rattle.elf_exec.specs.PlacedExec.{IsPlacedExec, IsPlacingFault};
 

@@ -4,7 +4,7 @@ ghost use Rattle.elf_extent.specs.Place.{EndsFit, Least};
 ghost use Rattle.elf_field.specs.Abi.{EHDR_SIZE, PHDR_SIZE, PN_XNUM};
 ghost use Rattle.elf_image_rules.specs.HeaderRules.{MAX_LEN};
 ghost use Rattle.elf_exec.specs.ExecLaid.{bytes_from, load_part, load_parts};
-ghost use Rattle.elf_exec.specs.ExecWriting.{IsReadyLink};
+ghost use Rattle.elf_link_relocate.specs.ReadyLink.{IsReadyLink};
 ghost use Rattle.elf_exec.specs.Loads.{loads as all_loads};
 ghost use Rattle.elf_exec.specs.PlacedExec.{IsPartsFault, IsPlacingFault, exec_end, file_end};
 

@@ -30,5 +30,6 @@ pub use Rattle.elf_link_relocate.specs.LinkedView
 pub use Rattle.elf_link_relocate.specs.MapFacts
 pub use Rattle.elf_link_relocate.specs.Memory
 pub use Rattle.elf_link_relocate.specs.Numbers
+pub use Rattle.elf_link_relocate.specs.ReadyLink
 pub use Rattle.elf_link_relocate.specs.RelocationRules
 pub use Rattle.elf_link_relocate.specs.Values

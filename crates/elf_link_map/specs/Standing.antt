@@ -5,6 +5,7 @@ use Rattle.std.specs.Int.{IsPowerOfTwo}
 use Rattle.elf_extent.specs.Place.{Fits, end_of}
 use Rattle.elf_object_type.specs.Object.{ObjectValue}
 use Rattle.elf_object_type.specs.ObjectRules.{IsObject}
+use Rattle.elf_object_type.specs.Widths.{ObjectFits}
 use Rattle.elf_link_files.specs.Files.{object_at, section_in}
 use Rattle.elf_link_files.specs.Listing.{site}
 use Rattle.elf_link_outputs.specs.declared.output.Member.{Member}
@@ -78,3 +79,7 @@ pub record ArePaged (m : LinkMapValue) : Type 0 where
 -- each file breaks none of the object rules
 abbrev pub AreObjects : List ObjectValue → Type 0
 AreObjects fs = (f : ℕ) → f < length fs → IsObject (object_at fs f)
+
+-- the numbers of each file fit the fields of a file, and its names and bits are bytes
+abbrev pub ObjectsFit : List ObjectValue → Type 0
+ObjectsFit fs = (f : ℕ) → f < length fs → ObjectFits (object_at fs f)

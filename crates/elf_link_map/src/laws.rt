@@ -5,10 +5,9 @@ ghost use Rattle.elf_link_files.specs.declared.site.Site.{Site};
 ghost use Rattle.elf_link_map.specs.Apart.{StandApart};
 ghost use Rattle.elf_link_map.specs.LinkFaults.{FirstOfLink};
 ghost use Rattle.elf_link_map.specs.LinkMap.{IsLinkMap, LinkMapValue};
-ghost use Rattle.elf_link_map.specs.Standing.{AreObjects, ArePaged, OutputsStand};
+ghost use Rattle.elf_link_map.specs.Standing.{AreObjects, ArePaged, ObjectsFit, OutputsStand};
 ghost use Rattle.elf_object_type.specs.Object.{ObjectValue};
 
-use elf_link_files::files::prove_rules;
 use elf_object_type::Object;
 
 /// In the link map of some objects a section has an address exactly where it is live, the commons stand behind all sections, each
@@ -29,12 +28,14 @@ pub fn are_paged()
     ensures { (opt : Options) (fs : List ObjectValue) (m : LinkMapValue) → IsLinkMap opt fs m → FirstOfLink opt fs None → AreObjects fs → ArePaged m }
 {}
 
-/// Each of these objects breaks none of the object rules, as [`are_paged`] asks of them.
-pub fn are_objects(objects: &[Object<'_>])
-    ensures { AreObjects objects.now }
+/// Proves that each of these objects breaks none of the object rules and fits the fields of a file: a contract does not see the invariant of
+/// an object in a list. It does nothing.
+pub fn prove_objects(objects: &[Object<'_>])
+    ensures kept { AreObjects objects.now }
+    ensures fit { ObjectsFit objects.now }
 {
     for file in 0..objects.len() {
-        prove_rules(objects, file);
+        objects[file].prove_rules();
     }
 }
 

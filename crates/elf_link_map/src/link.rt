@@ -2,10 +2,13 @@
 ghost use Rattle.std.specs.Prelude.{◌≡◌, IfErr, IfOk, None, OnOk, map as map_list};
 ghost use Rattle.elf_link_map.specs.LinkFaults.{FirstOfLink, IsLinkFault};
 ghost use Rattle.elf_link_map.specs.BindingNumbers.{AreBindingNumbers};
+ghost use Rattle.elf_link_map.specs.Apart.{StandApart};
 ghost use Rattle.elf_link_map.specs.LinkMap.{IsLinkMap};
 ghost use Rattle.elf_link_map.specs.PlacedFor.{IsAddressedFor, IsAddressingFault};
+ghost use Rattle.elf_link_map.specs.Standing.{ArePaged, OutputsStand};
 
 use crate::bindings::all_bindings;
+use crate::laws::prove_objects;
 use crate::link_map::LinkMap;
 use crate::numbers::NumberedMap;
 use crate::target::entry_target;
@@ -77,6 +80,9 @@ pub fn map_numbered<'a, S: BuildHasher + Drop>(
 
 /// The link map of these objects: where each live section and each common stands, and what each name is bound to.
 ///
+/// No address lies in two sections, in a section and a common, or in two commons; the outputs are disjoint and in order, each begins at a
+/// multiple of the page, and each live section is a member of just one, once.
+///
 /// The hasher spreads the keys of the outputs; whichever it is, the map is the same.
 ///
 /// [`LinkFault::Rule`] is the first of the link's rules ([`rules`](crate::rules)) that stands, at its first site;
@@ -91,7 +97,11 @@ pub fn map<'a, S: BuildHasher + Drop>(
 ) -> Result<LinkMap<'a>, LinkFault>
     ensures sound { OnOk result (FirstOfLink options.now objects.now None) }
     ensures map { IfOk result (λ m. IsLinkMap options.now objects.now m) }
+    ensures apart { IfOk result (StandApart objects.now) }
+    ensures outputs { IfOk result (OutputsStand objects.now) }
+    ensures paged { IfOk result ArePaged }
     ensures err { IfErr result (IsLinkFault options.now objects.now) }
 {
+    prove_objects(objects);
     Ok(map_numbered(alloc, objects, options, hasher)?.map)
 }

@@ -13,6 +13,7 @@ mod AtFields
 mod Patches
 mod Memories
 mod AnyOptions
+mod Ready
 mod OneByte
 mod SomeByte
 mod MemoryLaws

@@ -1,4 +1,6 @@
--- What the proofs of the crates above may cite: the laws of src/laws.rt, each under its name there.
+-- What the proofs of the crates above may cite: the laws of src/laws.rt, each under its name there, and when relocated
+-- bytes are ready to be written.
 pub use Rattle.elf_link_relocate.proofs.AnyOptions.{any_options, without_entry}
 pub use Rattle.elf_link_relocate.proofs.MemoryLaws.{field_in_content, memory_bytes, memory_in, memory_there, memory_zero, some_byte}
 pub use Rattle.elf_link_relocate.proofs.OneByte.{one_byte}
+pub use Rattle.elf_link_relocate.proofs.Ready.{ready_of}

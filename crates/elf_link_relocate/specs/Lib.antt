@@ -23,6 +23,7 @@ pub mod Linked
 pub mod CopyView
 pub mod Patching
 pub mod LinkedView
+pub mod ReadyLink
 pub mod Mapped
 pub mod MappedView
 pub mod Sharing

@@ -1,5 +1,6 @@
 //! The relocated bytes of a link.
-ghost use Rattle.std.specs.Prelude.{◌≡◌, option_map};
+ghost use Rattle.std.specs.Prelude.{◌≡◌, ◌<◌, ◌^◌, option_map};
+ghost use Rattle.elf_link_map.specs.Standing.{AreObjects, ObjectsFit};
 ghost use Rattle.elf_link_relocate.specs.Linked.{bytes_at, identity_of};
 
 use crate::copies::Copies;
@@ -38,9 +39,11 @@ impl<'m, 'a> Model for Linked<'m, 'a> {
 
     ghost Value = { LinkedValue };
 
-    ghost use Rattle.elf_link_relocate.specs.LinkedView.{linked_value};
+    ghost use Rattle.elf_link_relocate.specs.LinkedView.{HasSoundObjects, linked_value};
 
     ghost view = { linked_value };
+
+    ghost invariant = { HasSoundObjects };
 }
 
 impl<'m, 'a> Linked<'m, 'a> {
@@ -53,6 +56,16 @@ impl<'m, 'a> Linked<'m, 'a> {
             Some(copy) => Some(copy),
             None => None,
         }
+    }
+
+    /// Proves that each object breaks none of the object rules and fits the fields of a file, and that the page is a number of 64 bits.
+    /// A contract of another crate does not see what always holds of relocated bytes: this call shows it. It does nothing.
+    pub fn prove_objects(&self)
+        ensures kept { AreObjects self.now.objects }
+        ensures fit { ObjectsFit self.now.objects }
+        ensures page { self.now.map.page < 2 ^ 64 }
+    {
+        let _ = &self.objects;
     }
 
     /// The map that the sections stand by.

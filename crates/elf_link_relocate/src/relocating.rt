@@ -2,7 +2,8 @@
 ghost use Rattle.std.specs.Prelude.{IfErr, IfOk, map as map_list};
 ghost use Rattle.elf_link_map.specs.BindingNumbers.{AreBindingNumbers};
 ghost use Rattle.elf_link_relocate.specs.Linked.{IsLinked};
-ghost use Rattle.elf_link_relocate.specs.MapFacts.{IsMapButOptions};
+ghost use Rattle.elf_link_relocate.specs.MapFacts.{IsMapButOptions, IsMapOfSome};
+ghost use Rattle.elf_link_relocate.specs.ReadyLink.{IsReadyLink};
 ghost use Rattle.elf_link_relocate.specs.RelocationRules.{IsRelocationFault};
 
 use crate::copies::all_copies;
@@ -12,7 +13,7 @@ use crate::linking::Linking;
 use crate::patching::patch_all;
 use crate::values::Values;
 use elf_link_field::RelocRule;
-use elf_link_map::{LinkFault, LinkMap, name_numbers};
+use elf_link_map::{LinkFault, LinkMap, name_numbers, prove_objects};
 use elf_object_type::Object;
 use std::alloc::Global;
 
@@ -41,6 +42,8 @@ pub fn relocate_numbered<'m, 'a>(
     let fields = judged_fields(alloc, values)?;
     let mut copies = all_copies(alloc, &linking)?;
     patch_all(&linking, &fields, &mut copies);
+    prove_objects(objects);
+    let _page = map.page();
     Ok(Linked {
         map,
         objects,
@@ -53,7 +56,8 @@ pub fn relocate_numbered<'m, 'a>(
 /// relocation rule of its kind.
 ///
 /// Its condition is kept by a map that [`map`](elf_link_map::map) answered of these objects: `match map(..) { Ok(link) => .. }`. It asks
-/// nothing of the map's base, page and entry, nor that there is an entry symbol.
+/// nothing of the map's base, page and entry, nor that there is an entry symbol. Of a map that `map` answered the relocated bytes are ready
+/// to be written by `write_exec` of `elf_exec`.
 ///
 /// [`LinkFault::Rule`] is the first of rules 12 to 16 ([`rules`](crate::rules)) that stands, at its first entry by file, section and
 /// position. [`LinkFault::OutOfMemory`] comes only where memory is refused: a number for each symbol, a value for each name, a field for
@@ -68,6 +72,7 @@ pub fn relocate<'m, 'a>(
 ) -> Result<Linked<'m, 'a>, LinkFault>
     requires { IsMapButOptions objects.now map.now }
     ensures linked { IfOk result (λ linked. IsLinked objects.now map.now rules.now linked) }
+    ensures ready { IfOk result (λ linked. IsMapOfSome objects.now map.now → IsReadyLink linked) }
     ensures err { IfErr result (IsRelocationFault objects.now map.now rules.now) }
 {
     let numbers = name_numbers(alloc, objects, map)?;

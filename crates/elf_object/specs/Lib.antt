@@ -1,4 +1,5 @@
 -- The words of the contracts that this door shows, for the contracts of those who stand on it.
+pub use Rattle.elf_object_file.specs.ObjectFile
 pub use Rattle.elf_object_reader.specs.Denotes
 pub use Rattle.elf_object_reader.specs.FileRules
 pub use Rattle.elf_object_reader.specs.Kept
@@ -16,5 +17,4 @@ pub use Rattle.elf_object_type.specs.Widths
 pub use Rattle.elf_object_writer.specs.Laid
 pub use Rattle.elf_object_writer.specs.LayoutView
 pub use Rattle.elf_object_writer.specs.NameTables
-pub use Rattle.elf_object_writer.specs.ObjectWriting
 pub use Rattle.elf_object_writer.specs.PlainSections

@@ -2,7 +2,8 @@
 //! between them a position in a list.
 //!
 //! An [`Object`] is made from its [`ObjectParts`], or read from an image by [`object_of`]; it keeps the [`rules`] of objects from then
-//! on. [`lay_out`] tells its canonical layout, and [`write_object`] writes it. One without sections or symbols is written so:
+//! on. [`lay_out`] tells its canonical layout, and [`write_object`] writes it: what is written is read back as the object. One without
+//! sections or symbols is written so:
 //!
 //! ```
 //! let parts = ObjectParts {
@@ -21,9 +22,10 @@
 
 pub mod rules;
 
+pub use elf_object_file::write_object;
 pub use elf_object_reader::object_of;
 pub use elf_object_strings::{Shared, shared_table};
 pub use elf_object_type::{
     Body, Info, Object, ObjectFault, ObjectParts, Place, Relocation, Section, Symbol,
 };
-pub use elf_object_writer::{Layout, LayoutFault, ObjectWriteFault, lay_out, write_object};
+pub use elf_object_writer::{Layout, LayoutFault, ObjectWriteFault, lay_out};

@@ -4,7 +4,7 @@ use Rattle.std.specs.Prelude.{not}
 use Rattle.std.specs.List.{AllByRecursion, flat_map, list_any}
 use Rattle.std.proofs.lemmas.Bool.{and_parts, true≢false}
 use Rattle.std.proofs.lemmas.List.{get_or-map, length-map, take-append-drop}
-use Rattle.elf_object_strings.specs.Shared.{AreZeroFree, HoldsEach, IsShortest, IsLowestAt, Shares, StandsClosedAt}
+use Rattle.elf_object_strings.specs.Shared.{AreZeroFree, HoldsEach, IsShortest, IsLowestAt, Shares, SharesTails, StandsClosedAt}
 use Rattle.elf_object_strings.specs.StringTable.{closed, end_from, held, is_named, is_proper_suffix, is_suffix, name_offset, string_table}
 use Rattle.elf_object_strings.proofs.Kept.{all_both, all_held, all_weaker, apart_held}
 use Rattle.elf_object_strings.proofs.Climb.{ends_held}
@@ -43,8 +43,8 @@ lowest_of names (c ∷ n) true is free one any =
     (lowest_in (held names) (c ∷ n) (zero_free_held names free) one (any is)))
 lowest_of names (c ∷ n) false is free one any = absurd (true≢false is)
 
-pub shares_tails : (names : List (List ℕ)) → AreZeroFree names → Shares names (string_table names) (map (name_offset names) names)
-shares_tails names free = record {
+pub shares_each : (names : List (List ℕ)) → AreZeroFree names → Shares names (string_table names) (map (name_offset names) names)
+shares_each names free = record {
   bytes = refl;
   as_many = length-map names (name_offset names);
   each = λ i lt.
@@ -97,11 +97,14 @@ least_table names free other holds =
     let mine = ap (λ (s : List ℕ). length s) (begins_with_zero names) in
     omega arith
 
+pub shares_tails : (names : List (List ℕ)) → AreZeroFree names → SharesTails names
+shares_tails names free = record { shares = shares_each names free; holds = holds_each names; shortest = least_table names free }
+
 -- ---- whatever has these bytes and offsets
 
 pub shares_of : (names : List (List ℕ)) (table offsets : List ℕ) → table ≡ string_table names → offsets ≡ map (name_offset names) names →
     AreZeroFree names → Shares names table offsets
-shares_of names table offsets bytes places free = rw (bytes, places) (shares_tails names free)
+shares_of names table offsets bytes places free = rw (bytes, places) (shares_each names free)
 
 pub holds_of : (names : List (List ℕ)) (table : List ℕ) → table ≡ string_table names → HoldsEach table names
 holds_of names table bytes = rw bytes (holds_each names)

@@ -1,2 +1,3 @@
--- What the proofs of the crates above may cite: the law of src/laws.rt, under its name there.
+-- What the proofs of the crates above may cite: the laws of src/laws.rt, under their names there.
+pub use Rattle.elf_object_strings.proofs.Joined.{shares_tails}
 pub use Rattle.elf_object_strings.proofs.Names.{holds_names}

@@ -2,7 +2,7 @@
 use Rattle.std.specs.Prelude.{◌≡◌, ◌<◌, ◌≤◌, ℕ, List, [], ◌∷◌, ◌++◌, drop, get_or, length, map}
 use Rattle.std.specs.Borrow.{Bor}
 use Rattle.std.specs.List.{AllByRecursion}
-use Rattle.elf_object_strings.specs.StringTable.{string_table}
+use Rattle.elf_object_strings.specs.StringTable.{name_offset, string_table}
 
 -- the bytes of the names of a slice
 abbrev pub texts : List (Bor (List ℕ)) → List (List ℕ)
@@ -36,3 +36,9 @@ pub record Shares (names : List (List ℕ)) (table : List ℕ) (offsets : List �
 -- no table that holds these names is shorter
 abbrev pub IsShortest : List (List ℕ) → List ℕ → Type 0
 IsShortest names table = (other : List ℕ) → HoldsEach other names → length table ≤ length other
+
+-- the string table of some names as a whole: each name at its lowest offset, and no table that holds them is shorter
+pub record SharesTails (names : List (List ℕ)) : Type 0 where
+  pub shares : Shares names (string_table names) (map (name_offset names) names)
+  pub holds : HoldsEach (string_table names) names
+  pub shortest : IsShortest names (string_table names)

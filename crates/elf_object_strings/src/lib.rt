@@ -14,5 +14,5 @@ mod owners;
 mod sorting;
 mod table;
 
-pub use laws::holds_names;
+pub use laws::{holds_names, shares_tails};
 pub use table::{Shared, shared_table};

@@ -2,6 +2,7 @@
 pub mod CanonicalLayout
 pub mod LayoutParts
 pub mod NamesOf
+pub mod SharedNames
 pub mod PartSizes
 pub mod AllParts
 pub mod PlacedSections

@@ -21,13 +21,13 @@ abbrev pub WritesLayout : ObjectValue → Option (List ℕ) → Option (List ℕ
 WritesLayout o before after result = (b : List ℕ) × Laid o b × (length b ≤ MAX_LEN) × Writes before after b result
 
 -- each fault with when it comes, and what it leaves; want of memory says nothing else
-abbrev pub IsObjectWriteFault : ObjectValue → Option (List ℕ) → Option (List ℕ) → ObjectWriteFault → Type 0
-IsObjectWriteFault o before after TooLong = (after ≡ before) × IsLayoutFault o layout.TooLong
-IsObjectWriteFault o before after OutOfMemory = after ≡ before
-IsObjectWriteFault o before after (Io written) = WritesLayout o before after (Err (record { written = written }))
+abbrev pub IsLayoutWriteFault : ObjectValue → Option (List ℕ) → Option (List ℕ) → ObjectWriteFault → Type 0
+IsLayoutWriteFault o before after TooLong = (after ≡ before) × IsLayoutFault o layout.TooLong
+IsLayoutWriteFault o before after OutOfMemory = after ≡ before
+IsLayoutWriteFault o before after (Io written) = WritesLayout o before after (Err (record { written = written }))
 
-abbrev pub IsObjectWritten : {T : Type 0} → ObjectValue → Option (List ℕ) → Option (List ℕ) → Result T ObjectWriteFault → Type 0
-IsObjectWritten o before after result = MatchResult result (λ _. WritesLayout o before after (Ok tt)) (IsObjectWriteFault o before after)
+abbrev pub IsLayoutWritten : {T : Type 0} → ObjectValue → Option (List ℕ) → Option (List ℕ) → Result T ObjectWriteFault → Type 0
+IsLayoutWritten o before after result = MatchResult result (λ _. WritesLayout o before after (Ok tt)) (IsLayoutWriteFault o before after)
 
 -- ---- part by part
 

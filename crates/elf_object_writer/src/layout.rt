@@ -2,7 +2,7 @@
 ghost use Rattle.std.specs.Prelude.{◌≡◌, ◌<◌, ℕ, ◌-◌, ◌∷◌, IfErr, IfOk, length, slice_index};
 ghost use Rattle.elf_extent.specs.Place.{EndsFit, Least};
 ghost use Rattle.elf_object_writer.specs.LayoutView.{ArePartsFault, ArePlacedParts, IsLayoutFault, IsLayoutOf};
-ghost use Rattle.elf_object_writer.specs.NameTables.{AreNameTables};
+ghost use Rattle.elf_object_writer.specs.NameTables.{AreNameTables, HasSharedNames};
 
 use crate::layout_parts::layout_parts;
 use crate::name_tables::NameTables;
@@ -98,15 +98,18 @@ impl Layout {
     }
 }
 
-/// The canonical layout of an object.
+/// The canonical layout of an object. Its two string tables share tails: each name begins at the lowest offset at which it stands, and no
+/// table that holds the names is shorter.
 ///
 /// [`LayoutFault::TooLong`] comes exactly where it is longer than the longest file, 2^30 bytes, and
 /// [`LayoutFault::OutOfMemory`] only where memory is refused. It takes the time and the memory of the two string tables, as
 /// `shared_table` of `elf_object_strings` makes them; all else is linear in the sections and the symbols.
 pub fn lay_out(alloc: Global, object: &Object<'_>) -> Result<Layout, LayoutFault>
     ensures ok { IfOk result (IsLayoutOf object.now) }
+    ensures names { HasSharedNames object.now }
     ensures err { IfErr result (IsLayoutFault object.now) }
 {
+    object.prove_rules();
     let tables = NameTables::new(alloc, object)?;
     lay_out_with(alloc, object, &tables)
 }

@@ -1,5 +1,5 @@
 //! An object onto a writer.
-ghost use Rattle.elf_object_writer.specs.ObjectWriting.{IsObjectWritten};
+ghost use Rattle.elf_object_writer.specs.ObjectWriting.{IsLayoutWritten};
 
 use crate::layout::LayoutFault;
 use crate::placed_object::PlacedObject;
@@ -32,12 +32,12 @@ pub enum ObjectWriteFault {
 /// Memory is taken for the string tables and the places of the parts alone. Contents are offered as they stand in the object,
 /// and the entries of tables are made as they go out. It takes the time of [`lay_out`](crate::lay_out), and is linear in the bytes
 /// that go out.
-pub fn write_object<W: Write>(
+pub fn write_layout<W: Write>(
     alloc: Global,
     object: &Object<'_>,
     writer: &mut W,
 ) -> Result<(), ObjectWriteFault>
-    ensures { IsObjectWritten object.now (W.contents writer.old) (W.contents writer.new) result }
+    ensures { IsLayoutWritten object.now (W.contents writer.old) (W.contents writer.new) result }
 {
     let placed = match PlacedObject::new(alloc, object) {
         Ok(placed) => placed,

@@ -1,6 +1,8 @@
 -- The lemmas of this crate.
 mod CheckReport
 mod Faults
+mod FileLinks
+mod FilesObjects
 mod LinkFaults
 mod LinkReport
 mod MapReport

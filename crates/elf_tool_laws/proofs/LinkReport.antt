@@ -1,8 +1,6 @@
 -- `link` says one thing of files.
-use Rattle.std.proofs.Common.{◌≡◌, ◌∙◌, ◌⊎◌, ◌<◌, ◌≤◌, ℕ, List, [], ap, arith, inl, inr, length, refl, sym}
+use Rattle.std.proofs.Common.{◌≡◌, ◌∙◌, ◌⊎◌, ℕ, List, [], ap, arith, inl, inr, length, refl, sym}
 use Rattle.std.specs.Prelude.{None, Some}
-use Rattle.elf_field.specs.Abi.{PN_XNUM}
-use Rattle.elf_image_rules.specs.HeaderRules.{MAX_LEN}
 use Rattle.elf_object_type.specs.Object.{ObjectValue}
 use Rattle.elf_link_field.specs.declared.rule.RelocRule.{RelocRule}
 use Rattle.elf_link_files.specs.declared.options.Options.{Options}
@@ -11,11 +9,12 @@ use Rattle.elf_link_files.specs.Rows.{FirstAmong}
 use Rattle.elf_link_map.specs.LinkFaults.{FirstOfLink}
 use Rattle.elf_link_map.specs.LinkMap.{IsLinkMap, LinkMapValue}
 use Rattle.elf_link_map.proofs.Public.{one_link_map}
-use Rattle.elf_link_relocate.specs.Linked.{IsLinked, LinkedValue}
 use Rattle.elf_link_relocate.specs.MapFacts.{IsMapOfSome}
 use Rattle.elf_link_relocate.specs.RelocationRules.{applied_entry_rules}
-use Rattle.elf_exec.specs.ExecWriting.{IsExec, IsTooLong}
-use Rattle.elf_exec.specs.Loads.{loads}
+use Rattle.elf_exec.specs.ExecLaid.{ExecLaid}
+use Rattle.elf_exec.specs.Executable.{IsExecFile}
+use Rattle.elf_exec.specs.ExecWriting.{IsTooLongFor}
+use Rattle.elf_exec.proofs.Public.{one_exec}
 use Rattle.elf_tool_text.specs.declared.fault.Refusal.TheVariants.{File, Link, TooLong}
 use Rattle.elf_tool_text.specs.declared.fault.Verdict.{Verdict}
 use Rattle.elf_tool_text.specs.declared.fault.Verdict.TheVariants.{Done, Refused}
@@ -24,21 +23,23 @@ use Rattle.elf_tool_link.specs.Link.{ExecSays, FileRefuses, FilesLink, MapLinks,
 use Rattle.elf_tool_laws.specs.SaysOne.{SaysOne}
 use Rattle.elf_tool_laws.proofs.LinkFaults.{none_among, none_of_link, one_among, one_of_link}
 use Rattle.elf_tool_laws.proofs.ObjectFiles.{objects_not_refused, one_objects, one_refused}
-use Rattle.elf_tool_laws.proofs.OneLinked.{one_executable, one_linked}
 use Rattle.elf_tool_laws.proofs.SaysOne.{of_holding, of_one, or_refused}
 
 -- ---- the executable
 
-module _ (l : LinkedValue) (one : (a b : List ℕ) → IsExec l a → IsExec l b → a ≡ b) where
+module _ (fs : List ObjectValue) (m : LinkMapValue) (rules : List RelocRule) (one : (a b : List ℕ) → ExecLaid fs m rules a → ExecLaid fs m rules b → a ≡ b) where
   -- what is written is not too long
-  not_long : (s : List ℕ) → IsExec l s → length (loads l.map) < PN_XNUM → length s ≤ MAX_LEN → IsTooLong l → ⊥
-  not_long s exec few short (inl many) = omega arith
-  not_long s exec few short (inr (b, also, long)) = (let same : length b ≡ length s = ap (λ (c : List ℕ). length c) (one b s also exec) in omega arith)
+  not_long : (s : List ℕ) → IsExecFile fs m rules s → IsTooLongFor fs m rules → ⊥
+  not_long s exec (inl many) = (let few = exec.few in omega arith)
+  not_long s exec (inr (b, also, long)) =
+      let same : length b ≡ length s = ap (λ (c : List ℕ). length c) (one b s also exec.laid) in
+      let short = exec.short in
+      omega arith
 
-  of_linked : SaysOne (ExecSays l)
-  of_linked Done Done s t here there = (refl, one s t here.0 there.0)
-  of_linked Done (Refused TooLong) s t (exec, few, short) there = absurd (not_long s exec few short there.0)
-  of_linked (Refused TooLong) Done s t here (exec, few, short) = absurd (not_long t exec few short here.0)
+  of_linked : SaysOne (ExecSays fs m rules)
+  of_linked Done Done s t here there = (refl, one s t here.0.laid there.0.laid)
+  of_linked Done (Refused TooLong) s t here there = absurd (not_long s here.0 there.0)
+  of_linked (Refused TooLong) Done s t here there = absurd (not_long t there.0 here.0)
   of_linked (Refused TooLong) (Refused TooLong) s t here there = (refl, here.1 ∙ sym there.1)
   of_linked (Refused (File file rule at)) w s t here there = absurd here
   of_linked (Refused (Link rule file index entry)) w s t here there = absurd here
@@ -67,9 +68,9 @@ or_rule IsFirst Says says one = or_refused IsFirst verdict_at (λ x. []) Says (R
 of_map : (rules : List RelocRule) (fs : List ObjectValue) (m : LinkMapValue) → IsMapOfSome fs m → SaysOne (MapLinks rules fs m)
 of_map rules fs m is =
     let entries = applied_entry_rules fs m rules in
-    or_rule (λ x. FirstAmong entries (Some x)) (λ v s. (l : LinkedValue) × IsLinked fs m rules l × ExecSays l v s)
-    (of_one (IsLinked fs m rules) ExecSays (one_linked fs m rules is) (λ l linked. of_linked l (λ a b. one_executable fs m rules is l a b linked)))
-    (one_among entries) (λ v s x (l, linked, says). none_among entries x linked.sound)
+    or_rule (λ x. FirstAmong entries (Some x)) (λ v s. FirstAmong entries None × ExecSays fs m rules v s)
+    (of_holding (FirstAmong entries None) (ExecSays fs m rules) (λ sound. of_linked fs m rules (λ a b. one_exec fs m rules a b is sound)))
+    (one_among entries) (λ v s x (sound, says). none_among entries x sound)
 
 of_objects : (opt : Options) (rules : List RelocRule) (fs : List ObjectValue) → SaysOne (ObjectsLink opt rules fs)
 of_objects opt rules fs =

@@ -1,4 +1,4 @@
--- Objects, their link map and relocation rules have at most one value of relocated bytes, and it has one executable.
+-- Objects, their link map and relocation rules have at most one value of relocated bytes.
 use Rattle.std.proofs.Common.{◌≡◌, ◌∙◌, ℕ, ◌+◌, ◌<◌, List, [], ap, arith, get_or, length, refl, subst, sym}
 use Rattle.std.specs.Prelude.{Option, None, Some, MatchOption}
 use Rattle.std.proofs.lemmas.List.{ext_get_or}
@@ -9,8 +9,6 @@ use Rattle.elf_link_relocate.specs.Linked.{AreBytesOf, HasLiveBits, IsLinked, Li
 use Rattle.elf_link_relocate.specs.MapFacts.{IsMapOfSome}
 use Rattle.elf_link_relocate.specs.Memory.{IsMemory}
 use Rattle.elf_link_relocate.proofs.Public.{any_options, one_byte}
-use Rattle.elf_exec.specs.ExecWriting.{IsExec}
-use Rattle.elf_exec.proofs.Public.{one_exec, ready_of}
 use Rattle.elf_tool_laws.proofs.Faults.{same_some}
 
 module _ (fs : List ObjectValue) (m : LinkMapValue) (rules : List RelocRule) (is : IsMapOfSome fs m) where
@@ -43,8 +41,3 @@ module _ (fs : List ObjectValue) (m : LinkMapValue) (rules : List RelocRule) (is
       ∙ ap (λ (x : List ObjectValue). record { map = n.map; objects = x; rules = l.rules; copies = l.copies }) (one.same_objects ∙ sym other.same_objects)
       ∙ ap (λ (x : List RelocRule). record { map = n.map; objects = n.objects; rules = x; copies = l.copies }) (one.same_rules ∙ sym other.same_rules)
       ∙ ap (λ (x : List (List (Option (List ℕ)))). record { map = n.map; objects = n.objects; rules = n.rules; copies = x }) (one_copies l n one other)
-
-  pub one_executable : (l : LinkedValue) (a b : List ℕ) → IsLinked fs m rules l → IsExec l a → IsExec l b → a ≡ b
-  one_executable l a b linked =
-      let ready = ready_of fs m rules l is linked in
-      one_exec l.objects l.map l.rules a b ready.map ready.linked.sound

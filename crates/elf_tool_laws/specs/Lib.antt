@@ -1,2 +1,3 @@
 -- The words of this crate's contracts.
+pub mod FileLink
 pub mod SaysOne

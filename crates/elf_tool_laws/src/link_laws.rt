@@ -1,21 +1,16 @@
-//! What holds of the command `link`.
-ghost use Rattle.std.specs.Prelude.{◌<◌, ◌^◌, ℕ, List};
-ghost use Rattle.elf_exec_laws.specs.Executable.{IsExecutable, IsSoundFileLink};
+//! What holds of the link of files.
+ghost use Rattle.std.specs.Prelude.{ℕ, List};
+ghost use Rattle.elf_exec.specs.Executable.{IsExecFile, IsExecutable};
 ghost use Rattle.elf_link_field.specs.declared.rule.RelocRule.{RelocRule};
 ghost use Rattle.elf_link_files.specs.declared.options.Options.{Options};
 ghost use Rattle.elf_link_map.specs.LinkMap.{LinkMapValue};
 ghost use Rattle.elf_object_type.specs.Object.{ObjectValue};
-ghost use Rattle.elf_tool_link.specs.Link.{FilesLink};
-ghost use Rattle.elf_tool_text.specs.declared.fault.Verdict.TheVariants.{Done};
+ghost use Rattle.elf_tool_laws.specs.FileLink.{IsSoundFileLink};
 
-use elf_exec_laws::executable;
-
-/// What `link` wrote of files, where it refuses nothing, is an image that loads the memory of their link: the files are images that denote
-/// objects, no rule of the link stands, and the text is its executable.
-pub fn linked_executable()
-    ensures { (opt : Options) (rules : List RelocRule) (files : List (List ℕ)) (text : List ℕ) → opt.page < 2 ^ 64 →
-        FilesLink opt rules files Done text →
-        (fs : List ObjectValue) × (m : LinkMapValue) × IsSoundFileLink opt rules files fs m × IsExecutable fs m rules text }
-{
-    executable();
-}
+/// From the bytes of the input files to memory: for files that are images denoting objects, options and relocation rules, where no rule of
+/// the link stands, the executable of the link is an image; it enters at the value of the entry symbol, or at 0 where none is named, and
+/// its loadable segments give an address a byte exactly where the memory of the link has that byte there. It is their only executable.
+pub fn executable()
+    ensures { (opt : Options) (rules : List RelocRule) (files : List (List ℕ)) (fs : List ObjectValue) (m : LinkMapValue) (b : List ℕ) →
+        IsSoundFileLink opt rules files fs m → IsExecFile fs m rules b → IsExecutable fs m rules b }
+{}

@@ -1,18 +1,15 @@
 -- What `link` makes of files: the executable of their link.
 use Rattle.std.specs.Prelude.{◌≡◌, ◌⊎◌, ◌<◌, ◌≤◌, ℕ, List, [], length, None, Option, Some, Result, Ok, Err}
-use Rattle.elf_image_rules.specs.HeaderRules.{MAX_LEN}
 use Rattle.elf_object_type.specs.Object.{ObjectValue}
 use Rattle.elf_link_files.specs.declared.options.Options.{Options}
 use Rattle.elf_link_files.specs.declared.site.Site.{Site}
 use Rattle.elf_link_files.specs.Rows.{FirstAmong}
 use Rattle.elf_link_map.specs.LinkFaults.{FirstOfLink}
 use Rattle.elf_link_map.specs.LinkMap.{IsLinkMap, LinkMapValue}
-use Rattle.elf_link_relocate.specs.Linked.{IsLinked, LinkedValue}
 use Rattle.elf_link_relocate.specs.RelocationRules.{applied_entry_rules}
 use Rattle.elf_link_field.specs.declared.rule.RelocRule.{RelocRule}
-use Rattle.elf_exec.specs.ExecWriting.{IsExec, IsTooLong}
-use Rattle.elf_exec.specs.Loads.{loads}
-use Rattle.elf_field.specs.Abi.{PN_XNUM}
+use Rattle.elf_exec.specs.Executable.{IsExecFile, IsExecutable}
+use Rattle.elf_exec.specs.ExecWriting.{IsTooLongFor}
 use Rattle.elf_tool_objects.specs.ObjectFiles.{AreObjectFiles, IsFirstRefused}
 use Rattle.elf_tool_objects.specs.declared.mapped.Unlinked.{Unlinked}
 use Rattle.elf_tool_objects.specs.declared.mapped.Unlinked.TheVariants as unlinked
@@ -24,12 +21,13 @@ use Rattle.elf_tool_text.specs.declared.fault.ToolFault.TheVariants.{OutOfMemory
 use Rattle.elf_tool_text.specs.declared.fault.Verdict.{Verdict}
 use Rattle.elf_tool_text.specs.declared.fault.Verdict.TheVariants.{Done, Refused}
 
--- of relocated bytes: their executable, or that it has too many segments or is too long for a file
-abbrev pub ExecSays : LinkedValue → Verdict → List ℕ → Type 0
-ExecSays l Done text = IsExec l text × (length (loads l.map) < PN_XNUM) × (length text ≤ MAX_LEN)
-ExecSays l (Refused (File file rule at)) text = ⊥
-ExecSays l (Refused (Link rule file index entry)) text = ⊥
-ExecSays l (Refused TooLong) text = IsTooLong l × (text ≡ [])
+-- of objects, their map and relocation rules: their executable, which is an image that loads the memory of the link; or that it has too
+-- many segments or is too long for a file
+abbrev pub ExecSays : List ObjectValue → LinkMapValue → List RelocRule → Verdict → List ℕ → Type 0
+ExecSays fs m rules Done text = IsExecFile fs m rules text × IsExecutable fs m rules text
+ExecSays fs m rules (Refused (File file rule at)) text = ⊥
+ExecSays fs m rules (Refused (Link rule file index entry)) text = ⊥
+ExecSays fs m rules (Refused TooLong) text = IsTooLongFor fs m rules × (text ≡ [])
 
 -- a rule of the link stands first, and at this site; nothing is written
 abbrev pub RuleRefuses : (ℕ → Site → Type 0) → Verdict → List ℕ → Type 0
@@ -38,10 +36,10 @@ RuleRefuses IsFirst (Refused (File file rule at)) text = ⊥
 RuleRefuses IsFirst (Refused (Link rule file index entry)) text = IsFirst rule (record { file = file; index = index; entry = entry }) × (text ≡ [])
 RuleRefuses IsFirst (Refused TooLong) text = ⊥
 
--- of objects and their link map: what is said of their relocated bytes; or the first of rules 12 to 16 that stands
+-- of objects and their link map: none of rules 12 to 16 stands, and what is said of their executable; or the first one that stands
 abbrev pub MapLinks : List RelocRule → List ObjectValue → LinkMapValue → Verdict → List ℕ → Type 0
 MapLinks rules fs m verdict text =
-    ((l : LinkedValue) × IsLinked fs m rules l × ExecSays l verdict text)
+    (FirstAmong (applied_entry_rules fs m rules) None × ExecSays fs m rules verdict text)
     ⊎ RuleRefuses (λ rule site. FirstAmong (applied_entry_rules fs m rules) (Some (rule, site))) verdict text
 
 -- of objects: no rule of the link stands, and what is said of their link map; or the first one that does

@@ -1,8 +1,8 @@
 //! `link`: the executable of files.
 ghost use Rattle.std.specs.Prelude.{◌≡◌, map as map_list};
 ghost use Rattle.elf_tool_text.specs.Engine.{Prints};
+ghost use Rattle.elf_link_relocate.specs.ReadyLink.{IsReadyLink};
 ghost use Rattle.elf_tool_link.specs.Link.{ExecSays, FilesLink, IsLinkCall, MapLinks, unlinked_verdict};
-ghost use Rattle.elf_exec.specs.ExecWriting.{IsReadyLink};
 
 use elf_exec::{ExecFault, write_exec};
 use elf_link_field::RelocRule;
@@ -13,8 +13,8 @@ use elf_tool_text::{Refusal, ToolFault, Verdict, read_inputs};
 use std::alloc::Global;
 use std::io::{Read, Write};
 
-/// Reads files whole, in order, links the objects that they denote, and writes the executable of the link: a file whose segments of type
-/// `PT_LOAD` are the memory of the link (gABI chapter 5, Program Header).
+/// Reads files whole, in order, links the objects that they denote, and writes the executable of the link: an image whose segments of type
+/// `PT_LOAD` give an address a byte exactly where the memory of the link has that byte there (gABI chapter 5, Program Header).
 ///
 /// Where something is refused nothing is written. The verdict carries the first file that is no object, with the first rule that it
 /// breaks, as an image or, with a number from 40 on, as an object, and its lowest offset; or the first of the link's rules that stands,
@@ -78,7 +78,7 @@ fn link_relocated<W: Write>(
     writer: &mut W,
 ) -> Result<Verdict, ToolFault>
     requires { IsReadyLink linked.now }
-    ensures { Prints (ExecSays linked.now) (W.contents writer.old) (W.contents writer.new) result }
+    ensures { Prints (ExecSays linked.now.objects linked.now.map linked.now.rules) (W.contents writer.old) (W.contents writer.new) result }
 {
     match write_exec(alloc, linked, writer) {
         Ok(()) => Ok(Verdict::Done),

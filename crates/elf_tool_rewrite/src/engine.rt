@@ -1,19 +1,22 @@
 //! `rewrite`: the object of a file, in canonical layout.
-ghost use Rattle.std.specs.Prelude.{◌≡◌};
+ghost use Rattle.std.specs.Prelude.{◌≡◌, ℕ, List};
 ghost use Rattle.elf_tool_text.specs.Engine.{Prints};
 ghost use Rattle.elf_tool_rewrite.specs.Rewrite.{IsRewritten, ObjectSays, RewriteSays, SectionsSay};
 ghost use Rattle.elf_table_base.specs.Sections.{sections_of};
+ghost use Rattle.elf_tool_text.specs.declared.fault.Verdict.TheVariants.{Done};
 
 use elf_image_stream::Fault;
 use elf_image_type::{Image, parse};
+use elf_object_file::write_object;
 use elf_object_reader::object_of;
 use elf_object_type::Object;
-use elf_object_writer::{ObjectWriteFault, write_object};
+use elf_object_writer::ObjectWriteFault;
 use elf_tool_text::{Refusal, ToolFault, Verdict, read_input};
 use std::alloc::Global;
 use std::io::{Read, Write};
 
-/// Reads a whole file and writes the canonical layout of the object that it denotes.
+/// Reads a whole file and writes the file of the object that it denotes, in canonical layout: it is read back as that object, and of it
+/// `rewrite` writes the same again.
 ///
 /// Where the file is refused nothing is written: the verdict carries the first rule that it breaks, as an image or, with a number
 /// from 40 on, as an object, and its lowest offset; or that the canonical layout is longer than 2^30 bytes. Nothing is out after
@@ -24,8 +27,9 @@ pub fn rewrite<R: Read, W: Write>(
     reader: &mut R,
     writer: &mut W,
 ) -> Result<Verdict, ToolFault>
-    ensures { IsRewritten (R.remaining reader.old) (R.remaining reader.new)
+    ensures written { IsRewritten (R.remaining reader.old) (R.remaining reader.new)
         (W.contents writer.old) (W.contents writer.new) result }
+    ensures again { (b text : List ℕ) → RewriteSays b Done text → RewriteSays text Done text }
 {
     let mut buf = Vec::new(alloc);
     read_input(reader, &mut buf)?;
@@ -42,7 +46,8 @@ pub fn rewrite_bytes<W: Write>(
     bytes: &[u8],
     writer: &mut W,
 ) -> Result<Verdict, ToolFault>
-    ensures { Prints (RewriteSays bytes.now) (W.contents writer.old) (W.contents writer.new) result }
+    ensures written { Prints (RewriteSays bytes.now) (W.contents writer.old) (W.contents writer.new) result }
+    ensures again { (b text : List ℕ) → RewriteSays b Done text → RewriteSays text Done text }
 {
     match parse(alloc, bytes) {
         Ok(image) => rewrite_image(alloc, &image, writer),

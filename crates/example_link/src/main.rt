@@ -3,11 +3,11 @@
 
 ghost use Rattle.std.specs.Prelude.{ℕ, List, OnOk};
 ghost use Rattle.std.specs.Io.KnownBytes.{Appends};
-ghost use Rattle.elf_exec.specs.ExecLaid.{ExecLaid};
+ghost use Rattle.elf_exec.specs.Executable.{IsExecutable};
 ghost use Rattle.elf_link.specs.LinkMap.{LinkMapValue};
 ghost use Rattle.elf_link.specs.MapFacts.{IsMapOfSome};
 
-use elf_exec::{is_ready, write_exec};
+use elf_exec::write_exec;
 use elf_link::{Form, Options, Range, RelocRule, Width, map, relocate};
 use elf_object::{Object, object_of};
 use std::alloc::Global;
@@ -54,9 +54,9 @@ fn object_in(alloc: Global, bytes: &[u8]) -> Result<Object<'_>, &'static str> {
 }
 
 fn link<W: io::Write>(alloc: Global, files: &[Object<'_>], to: &mut W) -> Result<(), &'static str>
-    // What is out is the executable of a link of these objects.
+    // What is out is the executable of a link of these objects: an image that loads the memory of the link.
     ensures { OnOk result ((map : LinkMapValue) × IsMapOfSome files.now map × ((executable : List ℕ) ×
-        ExecLaid files.now map RULES executable × Appends (W.contents to.old) (W.contents to.new) executable)) }
+        IsExecutable files.now map RULES executable × Appends (W.contents to.old) (W.contents to.new) executable)) }
 {
     let hasher = std::hash::BuildHasherDefault::<std::hash::FoldHasher>::new();
     let Ok(map) = map(alloc, files, &OPTIONS, hasher) else {
@@ -65,6 +65,5 @@ fn link<W: io::Write>(alloc: Global, files: &[Object<'_>], to: &mut W) -> Result
     let Ok(linked) = relocate(alloc, &map, files, &RULES) else {
         return Err("a relocation can't be applied");
     };
-    is_ready(&linked, files, &map, &RULES);
     write_exec(alloc, &linked, to).map_err(|_| "the executable can't be written")
 }

@@ -8,7 +8,8 @@ use elf_image_source::Source;
 use elf_image_stream::{Fault, WriteFault};
 use elf_image_type::{parse, write};
 use elf_object_reader::object_of;
-use elf_object_writer::{ObjectWriteFault, write_object};
+use elf_object_file::write_object;
+use elf_object_writer::ObjectWriteFault;
 use std::alloc::Global;
 use std::io::Write;
 

@@ -51,7 +51,7 @@ pub mod link {
 
 /// The executable.
 pub mod exec {
-    pub use elf::exec::{ExecFault, Load, is_ready, write_exec};
+    pub use elf::exec::{ExecFault, Load, write_exec};
 }
 
 /// The program.

@@ -2,7 +2,7 @@
 ghost use Rattle.std.specs.Prelude.{IfOk};
 ghost use Rattle.elf_link_relocate.specs.MapFacts.{IsMapOfSome};
 
-use elf_exec::{ExecFault, is_ready, write_exec};
+use elf_exec::{ExecFault, write_exec};
 use elf_field::Order;
 use elf_link_field::{Form, Range, RelocRule, Width};
 use elf_link_map::{LinkFault, LinkMap, Options, map};
@@ -108,6 +108,5 @@ pub(crate) fn write_linked<W: Write>(
     let map = mapped(alloc, objects, options)?;
     let rules = [CALL];
     let linked = relocate(alloc, &map, objects, &rules)?;
-    is_ready(&linked, objects, &map, &rules);
     Ok(write_exec(alloc, &linked, writer))
 }

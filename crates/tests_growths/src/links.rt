@@ -1,10 +1,10 @@
 //! The link of files, their relocated bytes, and their executable.
 ghost use Rattle.std.specs.Prelude.{IfOk};
-ghost use Rattle.elf_exec.specs.ExecWriting.{IsReadyLink};
+ghost use Rattle.elf_link_relocate.specs.ReadyLink.{IsReadyLink};
 ghost use Rattle.elf_link_relocate.specs.MapFacts.{IsMapOfSome};
 
 use crate::said::{Said, of_fault, say};
-use elf_exec::{ExecFault, is_ready, write_exec};
+use elf_exec::{ExecFault, write_exec};
 use elf_image_stream::Fault;
 use elf_image_type::parse;
 use elf_link_field::RelocRule;
@@ -69,7 +69,6 @@ fn on_objects<W: Write>(alloc: Global, objects: &[Object<'_>], rules: &[RelocRul
     say(out, "map", Said::Done(map.outputs().len() as u64));
     match relocate(alloc, &map, objects, rules) {
         Ok(linked) => {
-            is_ready(&linked, objects, &map, rules);
             on_linked(alloc, &linked, out);
         }
         Err(LinkFault::OutOfMemory) => say(out, "relocate", Said::Memory),

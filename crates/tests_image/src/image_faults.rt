@@ -192,8 +192,7 @@ fn read_all_or_as_many_as_fit(rt: &impl Abort, alloc: Global, whole: usize) {
     assert_eq!(rt; (ended, given, kept), (true, Some(whole), true));
 }
 
-// The tests are also run with the Nth growth refused (`rt try --test --fail-alloc N`): then this
-// one sees `OutOfMemory` in place of an answer, and still no byte that was given is lost.
+// Where a growth is refused, the answer is `OutOfMemory`, and no byte that was given is lost.
 #[test]
 fn a_refused_growth_loses_no_byte(rt: HostRuntime) {
     // Of the longer file capacity is asked for well ahead.

@@ -232,8 +232,7 @@ fn both_have_the_call(alloc: Global) -> Result<Result<bool, LinkFault>, ObjectFa
     Ok(has_the_call(alloc, &objects))
 }
 
-// The tests are also run with each growth refused in turn (`rt try --test --fail-alloc N`): then this one sees want of memory, and
-// no other answer in its place.
+// Where a growth is refused, the answer is want of memory and no other.
 #[test]
 fn a_refused_growth_of_a_link_is_told(rt: HostRuntime) -> Result<(), Fail> {
     let answer = both_have_the_call(rt.alloc())?;

@@ -5,7 +5,7 @@ ghost use Rattle.elf_link_map.specs.LinkMap.{IsLinkMap};
 
 use crate::parts::{list, mapped_by, object, section};
 use elf_field::Order;
-use elf_link_map::{LinkFault, LinkMap, Options, are_objects, are_paged, outputs_stand};
+use elf_link_map::{LinkFault, LinkMap, Options, are_paged, outputs_stand, prove_objects};
 use elf_object_type::{Body, Object, ObjectFault};
 use std::alloc::{AllocError, Global};
 use std::test::Fail;
@@ -40,7 +40,7 @@ fn pages_below(
     requires map { IsLinkMap options.now objects.now link.now }
     requires sound { FirstOfLink options.now objects.now None }
 {
-    are_objects(objects);
+    prove_objects(objects);
     are_paged();
     let outputs = link.outputs();
     let page = link.page();

@@ -3,7 +3,8 @@ use crate::writers::{Counter, Shelf, taking};
 use crate::written::{object, one_section, one_section_file, section};
 use elf_field::Order;
 use elf_object_type::{Body, Object};
-use elf_object_writer::{ObjectWriteFault, write_object};
+use elf_object_file::write_object;
+use elf_object_writer::ObjectWriteFault;
 use std::alloc::Global;
 use std::io::ErrorKind;
 use std::process::Abort;
@@ -72,8 +73,7 @@ fn outcome(alloc: Global, align: u64) -> Result<(Result<(), ObjectWriteFault>, u
     Ok((answer, writer.taken))
 }
 
-// An object that is too long is not written, nor is one that memory is refused for. The tests are also run with the Nth growth
-// refused (`rt try --test --fail-alloc N`): then an answer here may be want of memory.
+// An object that is too long is not written, nor is one that memory is refused for.
 #[test]
 fn nothing_is_written_of_what_is_refused(rt: HostRuntime) -> Result<(), Fail> {
     let rows = [

@@ -2,7 +2,7 @@
 use crate::written::{function, object, section};
 use elf_field::Order;
 use elf_object_type::{Body, Place, Symbol};
-use elf_object_writer::write_object;
+use elf_object_file::write_object;
 use std::alloc::Global;
 use std::test::Fail;
 

@@ -2,7 +2,7 @@
 use crate::written::{function, object};
 use elf_field::Order;
 use elf_object_type::{Place, Symbol};
-use elf_object_writer::write_object;
+use elf_object_file::write_object;
 use std::alloc::{AllocError, Global};
 use std::fmt::Write;
 use std::test::Fail;

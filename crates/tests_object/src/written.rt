@@ -2,7 +2,7 @@
 //! stand in `cases/worked.txt`.
 use elf_field::Order;
 use elf_object_type::{Body, Info, Object, ObjectParts, Place, Relocation, Section, Symbol};
-use elf_object_writer::write_object;
+use elf_object_file::write_object;
 use std::alloc::{AllocError, Global};
 use std::test::Fail;
 use tests_files::{Field, set, set_header};

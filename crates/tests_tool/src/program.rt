@@ -221,8 +221,7 @@ fn words_that_the_machine_does_not_give(rt: HostRuntime) {
     assert_refused(&rt, ErrorKind::Other, 3, "other error\n");
 }
 
-// The tests are also run with the Nth growth refused (`rt try --test --fail-alloc N`): then this
-// one sees want of memory in place of the answer, and nothing else changes.
+// Where a growth is refused, the answer is want of memory, and nothing is out.
 #[test]
 fn a_refused_growth_leaves_nothing_out(rt: HostRuntime) {
     let mut files = Folder {

@@ -212,8 +212,7 @@ fn a_write_that_fails_is_told_with_what_is_out(rt: HostRuntime) {
     assert_written(&rt, rt.alloc(), 100, Ok(Verdict::Done), line);
 }
 
-// Run with the Nth growth refused too (`rt try --test --fail-alloc N`), this one sees want of memory in place of the answer, and nothing
-// else changes.
+// Where a growth is refused, the answer is want of memory, and nothing is out.
 #[test]
 fn a_refused_growth_leaves_nothing_out(rt: HostRuntime) {
     let file = one_section(Order::Little);

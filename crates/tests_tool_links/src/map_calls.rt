@@ -111,8 +111,7 @@ fn a_failed_write_of_bytes_is_told_with_what_is_out(rt: HostRuntime) {
     }
 }
 
-// The tests are also run with the Nth growth refused (`rt try --test --fail-alloc N`): then this one sees want of memory with
-// nothing out.
+// Where a growth is refused, the answer is want of memory with nothing out.
 #[test]
 fn a_refused_growth_leaves_nothing_out(rt: HostRuntime) {
     let (first, second) = (caller(), callee());

@@ -5,13 +5,13 @@ use Rattle.elf_tool_rewrite.specs.Rewrite.{RewriteSays, SectionsSay}
 use Rattle.elf_tool_text.proofs.Public.{said_more}
 use Rattle.elf_tool_rewrite.proofs.engine.rewrite_bytes.Goals as goal
 
-pub returns-in-Ok : goal.returns-in-Ok
-returns-in-Ok g c =
+pub returns-in-Ok-clause-written : goal.returns-in-Ok-clause-written
+returns-in-Ok-clause-written g c =
     let b = c.args.bytes.now in
     said_more (SectionsSay (sections_of c.in-Ok.image)) (RewriteSays b) (g.W.Write.contents c.args.writer.now) (g.W.Write.contents c.rewrite_image.new.writer)
     (λ verdict text says. inl (c.in-Ok.image, c.in-Ok.ensures.ok, says)) c.rewrite_image.result c.rewrite_image.ensures
 
-pub returns-in-Err-Rule : goal.returns-in-Err-Rule
-returns-in-Err-Rule g c =
+pub returns-in-Err-Rule-clause-written : goal.returns-in-Err-Rule-clause-written
+returns-in-Err-Rule-clause-written g c =
     let broken = rw c.in-Err-Rule.field-0-is at c.in-Err-Rule.ensures.err in
     rw (c.refused.ensures, c.in-Err-Rule.rule-is, c.in-Err-Rule.at-is) ([], (inr (broken, refl, refl)), Appends-nil (g.W.Write.contents c.args.writer.now))

@@ -1,0 +1,264 @@
+-- The symbol table of an object as it is written breaks none of the rules on its entries. (gABI chapter 4, Symbol Table; Sections: sh_info,
+-- SHT_SYMTAB_SHNDX.)
+use Rattle.std.proofs.Common.{◌≡◌, ◌≢◌, ◌<◌, ◌≤◌, ◌+◌, ◌^◌, ◌⊎◌, ℕ, zero, suc, Bool, true, false, Option, None, Some, List, [], ◌∷◌, length, map, get_or, replicate, inl, inr, refl, sym, ap, ap₂, subst, ◌∙◌, arith}
+use Rattle.std.specs.Prelude.{◌*◌, ◌-◌, filter, slice_index}
+use Rattle.std.specs.List.{flat_map}
+use Rattle.std.proofs.lemmas.Bool.{cases_Bool, cases_lt, eq-eqb, eqb-true, le-leb, le-ltb, lt-ltb, true≢false}
+use Rattle.std.proofs.lemmas.List.{get_or-replicate, get_or_append_left}
+use Rattle.std.proofs.lemmas.List.Folds.{list_any_at}
+use Rattle.elf_extent.specs.Least.{Never}
+use Rattle.elf_field.specs.Abi.{SHN_LORESERVE, SHN_XINDEX, WORD_SIZE}
+use Rattle.elf_field.specs.declared.order.Order.{Order}
+use Rattle.elf_field.specs.declared.order.Order.TheVariants.{Little, Big}
+use Rattle.elf_field.specs.declared.sym.Sym.{Sym}
+use Rattle.elf_field.specs.Bytes.{bytes_of}
+use Rattle.elf_field.specs.Sym.{sym_bytes}
+use Rattle.elf_image_type.specs.RelocatableFile.{long_number, short_index}
+use Rattle.elf_image_rules.specs.Rows.{AtEntry, FirstIn, OfSome}
+use Rattle.elf_object_strings.specs.StringTable.{string_table}
+use Rattle.elf_object_strings.proofs.Public.{holds_names}
+use Rattle.elf_table_symbols.specs.StringRules.{linked_string_rules, unclosed_string_table}
+use Rattle.elf_table_symbols.specs.SymbolParts.{SymbolPartsValue}
+use Rattle.elf_table_symbols.specs.SymbolRules.{IsMisplacedBinding, IsSymbolNamePastEnd, IsWrongSymbolSection, IsWrongIndexWord, entry, entry_count, symbol_entry_rules, misplaced_binding, place_rules, symbol_0_not_null, symbol_name_past_end, word, wrong_local_count, wrong_symbol_section}
+use Rattle.elf_object_type.specs.declared.symbol.Place.{Place}
+use Rattle.elf_object_type.specs.declared.symbol.Place.TheVariants.{Undef, Abs, Common, In}
+use Rattle.elf_object_type.specs.Object.{ObjectValue, SymbolValue, no_symbol, symbol_at}
+use Rattle.elf_object_writer.specs.PlainSections.{has_index_table, index_table_section, index_word, is_far, is_local, null_symbol, shndx, symbol_entry, symbol_names, symbol_table_section}
+use Rattle.elf_object_type.specs.Positions.{IsPast}
+use Rattle.elf_object_type.specs.SymbolRules.{place_position}
+use Rattle.elf_object_file.specs.WrittenObject.{IsWrittenAt}
+use Rattle.elf_object_type.proofs.Public.{no_misplaced_local, no_wrong_place}
+use Rattle.elf_object_file.proofs.WrittenEntries.{name_within, null_entry, null_word, symbol_entry_count, symbol_entry_read, symbol_word}
+use Rattle.elf_object_file.proofs.WrittenLengths.{own_short, strings_short}
+
+-- ---- local symbols come first
+
+count_none : {A : Type 0} (test : A → Bool) (xs : List A) (d : A) → ((k : ℕ) → k < length xs → test (get_or xs k d) ≡ false) → length (filter test xs) ≡ 0
+count_none test [] d none = refl
+count_none test (x ∷ xs) d none = rw (none 0 (omega arith)) (count_none test xs d (λ k lt. none (suc k) (omega arith)))
+
+count_at_most : {A : Type 0} (test : A → Bool) (xs : List A) → length (filter test xs) ≤ length xs
+count_at_most test [] = omega arith
+count_at_most test (x ∷ xs) =
+    let rest = count_at_most test xs in
+    elim (cases_Bool (test x)) [ inl passes ↦ rw passes (omega arith) | inr fails ↦ rw fails (omega arith) ]
+
+-- the elements that pass a test stand before those that do not
+abbrev ArePassingFirst : {A : Type 0} → (A → Bool) → List A → A → Type 0
+ArePassingFirst test xs d = (i k : ℕ) → k < i → i < length xs → test (get_or xs i d) ≡ true → test (get_or xs k d) ≡ true
+
+none_behind : {A : Type 0} (test : A → Bool) (x : A) (xs : List A) (d : A) → ArePassingFirst test (x ∷ xs) d → test x ≡ false → (k : ℕ) → k < length xs → test (get_or xs k d) ≡ false
+none_behind test x xs d first fails k lt = elim (cases_Bool (test (get_or xs k d))) [
+  | inl passes ↦ absurd (true≢false (sym (first (suc k) 0 (omega arith) (omega arith) passes) ∙ fails))
+  | inr other ↦ other
+]
+
+-- so the first so many pass, as many as pass at all
+passing_first : {A : Type 0} (test : A → Bool) (xs : List A) (d : A) → ArePassingFirst test xs d → (k : ℕ) → k < length xs →
+    (k < length (filter test xs) → test (get_or xs k d) ≡ true) × (length (filter test xs) ≤ k → test (get_or xs k d) ≡ false)
+passing_first test [] d first k lt = absurd (omega arith)
+passing_first test (x ∷ xs) d first zero lt = elim (cases_Bool (test x)) [
+  | inl passes ↦ (let more : length (filter test (x ∷ xs)) ≡ suc (length (filter test xs)) = rw passes refl in ((λ below. passes), (λ past. absurd (omega arith))))
+  | inr fails ↦ (
+      let none : length (filter test (x ∷ xs)) ≡ 0 = rw fails (count_none test xs d (none_behind test x xs d first fails)) in
+      ((λ below. absurd (omega arith)), (λ past. fails)))
+]
+passing_first test (x ∷ xs) d first (suc k) lt = elim (cases_Bool (test x)) [
+  | inl passes ↦ (
+      let more : length (filter test (x ∷ xs)) ≡ suc (length (filter test xs)) = rw passes refl in
+      let rest = passing_first test xs d (λ i j below within is. first (suc i) (suc j) (omega arith) (omega arith) is) k (omega arith) in
+      ((λ below. rest.0 (omega arith)), (λ past. rest.1 (omega arith))))
+  | inr fails ↦ (
+      let none : length (filter test (x ∷ xs)) ≡ 0 = rw fails (count_none test xs d (none_behind test x xs d first fails)) in
+      ((λ below. absurd (omega arith)), (λ past. none_behind test x xs d first fails k (omega arith))))
+]
+
+locals_first : (o : ObjectValue) (places : List ℕ) → IsWrittenAt o places → ArePassingFirst is_local o.symbols no_symbol
+locals_first o places written i k lt within is = elim (cases_Bool (is_local (symbol_at o k))) [
+  | inl local ↦ local
+  | inr other ↦ absurd (no_misplaced_local o written.object i within (eqb-true _ _ is, (k, lt, (λ bound. true≢false (sym (eq-eqb _ _ bound) ∙ other)))))
+]
+
+-- ---- places in sections, of which there are more than n
+
+module _ (n count : ℕ) (there : n < count) where
+  -- rule 51
+  section_right : (table : Option ℕ) (place : Place) → (IsPast n (place_position place) → ⊥) → (is_far place ≡ true → table ≡ None → ⊥) →
+      ((shndx place ≡ SHN_XINDEX) × (table ≡ None)) ⊎ ((shndx place < SHN_LORESERVE) × (count ≤ shndx place)) → ⊥
+  section_right table Undef right far (inl (is, none)) = absurd (omega arith)
+  section_right table Undef right far (inr (low, past)) = omega arith
+  section_right table Abs right far (inl (is, none)) = absurd (omega arith)
+  section_right table Abs right far (inr (low, past)) = omega arith
+  section_right table Common right far (inl (is, none)) = absurd (omega arith)
+  section_right table Common right far (inr (low, past)) = omega arith
+  section_right table (In position) right far (inl (is, none)) = elim (cases_lt (position + 1) SHN_LORESERVE) [
+    | inl low ↦ (let same : short_index (position + 1) ≡ position + 1 = rw (lt-ltb (position + 1) SHN_LORESERVE low) refl in absurd (omega arith))
+    | inr high ↦ far (le-leb SHN_LORESERVE (position + 1) high) none
+  ]
+  section_right table (In position) right far (inr (low, past)) = elim (cases_lt (position + 1) SHN_LORESERVE) [
+    | inl below ↦ (let same : short_index (position + 1) ≡ position + 1 = rw (lt-ltb (position + 1) SHN_LORESERVE below) refl in right (omega arith))
+    | inr high ↦ (let same : short_index (position + 1) ≡ SHN_XINDEX = rw (le-ltb (position + 1) SHN_LORESERVE high) refl in absurd (omega arith))
+  ]
+
+  -- rule 52
+  word_right : (place : Place) → (IsPast n (place_position place) → ⊥) →
+      ((shndx place ≢ SHN_XINDEX) × (index_word place ≢ 0)) ⊎ ((shndx place ≡ SHN_XINDEX) × ((index_word place < SHN_LORESERVE) ⊎ (count ≤ index_word place))) → ⊥
+  word_right Undef right (inl (other, some)) = some refl
+  word_right Undef right (inr (is, wrong)) = absurd (omega arith)
+  word_right Abs right (inl (other, some)) = some refl
+  word_right Abs right (inr (is, wrong)) = absurd (omega arith)
+  word_right Common right (inl (other, some)) = some refl
+  word_right Common right (inr (is, wrong)) = absurd (omega arith)
+  word_right (In position) right (inl (other, some)) = elim (cases_lt (position + 1) SHN_LORESERVE) [
+    | inl low ↦ some (rw (lt-ltb (position + 1) SHN_LORESERVE low) refl)
+    | inr high ↦ other (rw (le-ltb (position + 1) SHN_LORESERVE high) refl)
+  ]
+  word_right (In position) right (inr (is, wrong)) = elim (cases_lt (position + 1) SHN_LORESERVE) [
+    | inl low ↦ (let same : short_index (position + 1) ≡ position + 1 = rw (lt-ltb (position + 1) SHN_LORESERVE low) refl in absurd (omega arith))
+    | inr high ↦ (
+        let same : long_number (position + 1) ≡ position + 1 = rw (le-ltb (position + 1) SHN_LORESERVE high) refl in
+        elim wrong [ inl low ↦ absurd (omega arith) | inr past ↦ right (omega arith) ])
+  ]
+
+-- ---- the parts that the rules look at
+
+pub record AreSymbolParts (o : ObjectValue) (p : SymbolPartsValue) : Type 0 where
+  pub order_is : p.order ≡ o.order
+  pub info_is : p.info ≡ 1 + length (filter is_local o.symbols)
+  pub table_is : p.table ≡ (symbol_table_section o).content
+  pub names_are : p.names ≡ string_table (symbol_names o)
+  pub sections_there : length o.sections < p.sections
+  -- there is an index table exactly where a symbol needs one
+  pub index_there : has_index_table o ≡ true → p.index_table ≡ None → ⊥
+  pub words_are : (j : ℕ) → p.index_table ≡ Some j → p.words ≡ (index_table_section o).content
+
+zero_bytes : (order : Order) → sym_bytes order null_symbol ≡ replicate 24 0
+unfolding bytes_of
+zero_bytes Little = refl
+zero_bytes Big = refl
+
+null_bytes : (o : ObjectValue) (k : ℕ) → k < 24 → slice_index (symbol_table_section o).content k ≡ 0
+null_bytes o k lt =
+    let zeros = zero_bytes o.order in
+    let long : length (sym_bytes o.order null_symbol) ≡ 24 = ap length zeros in
+    get_or_append_left (sym_bytes o.order null_symbol) (flat_map (sym_bytes o.order) (map (symbol_entry o) o.symbols)) 0 k (omega arith)
+    ∙ ap (λ (b : List ℕ). get_or b k 0) zeros ∙ get_or-replicate 24 k 0 0 lt
+
+module _ (o : ObjectValue) (places : List ℕ) (written : IsWrittenAt o places) (p : SymbolPartsValue) (are : AreSymbolParts o p) where
+  strings_below : length (string_table (symbol_names o)) < 2 ^ 32
+  strings_below = let short = strings_short o places written in omega arith
+
+  sections_below : length o.sections < 2 ^ 30
+  sections_below = let short = own_short o places written in omega arith
+
+  count_is : entry_count p.table ≡ length o.symbols + 1
+  count_is = ap (λ (table : List ℕ). entry_count table) are.table_is ∙ symbol_entry_count o
+
+  first_is : entry p.order p.table 0 ≡ null_symbol
+  first_is = ap₂ (λ (b : Order) (table : List ℕ). entry b table 0) are.order_is are.table_is ∙ null_entry o written.widths strings_below
+
+  symbol_is : (k : ℕ) → k < length o.symbols → entry p.order p.table (suc k) ≡ symbol_entry o (symbol_at o k)
+  symbol_is k lt = ap₂ (λ (b : Order) (table : List ℕ). entry b table (suc k)) are.order_is are.table_is ∙ symbol_entry_read o written.widths strings_below k lt
+
+  -- what holds of the null symbol and of each symbol's entry holds of each entry
+  pub by_entry : (P : ℕ → Sym → Type 0) → P 0 null_symbol → ((k : ℕ) → k < length o.symbols → P (suc k) (symbol_entry o (symbol_at o k))) →
+      (j : ℕ) → j < entry_count p.table → P j (entry p.order p.table j)
+  by_entry P first others zero lt = subst (P 0) (sym first_is) first
+  by_entry P first others (suc k) lt =
+      let many = count_is in
+      let below : k < length o.symbols = omega arith in
+      subst (P (suc k)) (sym (symbol_is k below)) (others k below)
+
+  -- rule 41
+  pub strings_closed : (start : ℕ) → FirstIn (linked_string_rules p.names start) None
+  unfolding linked_string_rules
+  strings_closed start = (no_unclosed_string_table p.names are.names_are, tt) where
+    no_unclosed_string_table : (names : List ℕ) → names ≡ string_table (symbol_names o) → Never (unclosed_string_table names start)
+    no_unclosed_string_table names is x (inl ((some, other), here)) = other (ap (λ (t : List ℕ). slice_index t 0) is ∙ (holds_names (symbol_names o)).first)
+    no_unclosed_string_table names is x (inr (inl ((some, other), here))) = other (ap (λ (t : List ℕ). slice_index t (length t - 1)) is ∙ (holds_names (symbol_names o)).last)
+    no_unclosed_string_table names is x (inr (inr broken)) = broken
+
+  -- rule 45
+  no_symbol_0_not_null : Never (symbol_0_not_null p)
+  no_symbol_0_not_null x (inl (none, here)) = let many = count_is in omega arith
+  no_symbol_0_not_null x (inr (inl (k, below, (some, other), here))) = other (ap (λ (table : List ℕ). slice_index table k) are.table_is ∙ null_bytes o k below)
+  no_symbol_0_not_null x (inr (inr broken)) = broken
+
+  -- rule 46
+  no_wrong_local_count : Never (wrong_local_count p)
+  no_wrong_local_count x (inl none, here) = let info = are.info_is in omega arith
+  no_wrong_local_count x (inr past, here) =
+      let info = are.info_is in
+      let many = count_is in
+      let locals = count_at_most is_local o.symbols in
+      omega arith
+
+  -- rule 47
+  no_misplaced_binding : Never (misplaced_binding p)
+  no_misplaced_binding x (j, below, broken, here) = by_entry (λ j symbol. IsMisplacedBinding p.info symbol j → ⊥) null_right symbol_right j below broken where
+    null_right : IsMisplacedBinding p.info null_symbol 0 → ⊥
+    null_right (inl (lt, other)) = other refl
+    null_right (inr (le, is)) = let info = are.info_is in omega arith
+
+    symbol_right : (k : ℕ) → k < length o.symbols → IsMisplacedBinding p.info (symbol_entry o (symbol_at o k)) (suc k) → ⊥
+    symbol_right k lt (inl (before, other)) =
+        let info = are.info_is in
+        other (eqb-true _ _ ((passing_first is_local o.symbols no_symbol (locals_first o places written) k lt).0 (omega arith)))
+    symbol_right k lt (inr (behind, is)) =
+        let info = are.info_is in
+        true≢false (sym (eq-eqb _ _ is) ∙ (passing_first is_local o.symbols no_symbol (locals_first o places written) k lt).1 (omega arith))
+
+  -- rule 48
+  no_symbol_name_past_end : Never (symbol_name_past_end p)
+  no_symbol_name_past_end x (j, below, broken, here) = by_entry (λ j symbol. IsSymbolNamePastEnd (length p.names) symbol → ⊥) (λ wrong. wrong.0 refl) symbol_right j below broken where
+    symbol_right : (k : ℕ) → k < length o.symbols → IsSymbolNamePastEnd (length p.names) (symbol_entry o (symbol_at o k)) → ⊥
+    symbol_right k lt (some, past) =
+        let within = name_within o k lt in
+        let long = ap (λ (names : List ℕ). length names) are.names_are in
+        omega arith
+
+  pub entries_kept : FirstIn (symbol_entry_rules p) None
+  unfolding symbol_entry_rules
+  entries_kept = (no_symbol_0_not_null, (no_wrong_local_count, (no_misplaced_binding, (no_symbol_name_past_end, tt))))
+
+  -- rule 51
+  no_wrong_symbol_section : Never (wrong_symbol_section p)
+  no_wrong_symbol_section x (j, below, broken, here) =
+      by_entry (λ j symbol. IsWrongSymbolSection p.index_table p.sections symbol → ⊥) null_right symbol_right j below broken where
+        null_right : IsWrongSymbolSection p.index_table p.sections null_symbol → ⊥
+        null_right = section_right (length o.sections) p.sections are.sections_there p.index_table Undef (λ past. past) (λ far. absurd (true≢false (sym far)))
+
+        symbol_right : (k : ℕ) → k < length o.symbols → IsWrongSymbolSection p.index_table p.sections (symbol_entry o (symbol_at o k)) → ⊥
+        symbol_right k lt =
+            section_right (length o.sections) p.sections are.sections_there p.index_table (symbol_at o k).place (no_wrong_place o written.object k lt)
+            (λ far none. are.index_there (list_any_at (λ (s : SymbolValue). is_far s.place) o.symbols k no_symbol lt far) none)
+
+  -- rule 52
+  word_in : (t j : ℕ) → p.index_table ≡ Some t → word p.order p.words j ≡ word o.order (index_table_section o).content j
+  word_in t j is = ap₂ (λ (b : Order) (words : List ℕ). word b words j) are.order_is (are.words_are t is)
+
+  no_wrong_index_word : (table : Option ℕ) → p.index_table ≡ table → Never (OfSome table (λ _. AtEntry (entry_count p.table)
+      (λ j. IsWrongIndexWord p.sections (entry p.order p.table j) (word p.order p.words j)) (λ j. p.words_start + WORD_SIZE * j)))
+  no_wrong_index_word None is x broken = broken
+  no_wrong_index_word (Some t) is x (j, below, broken, here) =
+      by_entry (λ j symbol. IsWrongIndexWord p.sections symbol (word p.order p.words j) → ⊥) null_right symbol_right j below broken where
+        null_right : IsWrongIndexWord p.sections null_symbol (word p.order p.words 0) → ⊥
+        null_right wrong =
+            word_right (length o.sections) p.sections are.sections_there Undef (λ past. past)
+            (subst (λ (w : ℕ). IsWrongIndexWord p.sections null_symbol w) (word_in t 0 is ∙ null_word o written.object sections_below) wrong)
+
+        symbol_right : (k : ℕ) → k < length o.symbols → IsWrongIndexWord p.sections (symbol_entry o (symbol_at o k)) (word p.order p.words (suc k)) → ⊥
+        symbol_right k lt wrong =
+            word_right (length o.sections) p.sections are.sections_there (symbol_at o k).place (no_wrong_place o written.object k lt)
+            (subst (λ (w : ℕ). IsWrongIndexWord p.sections (symbol_entry o (symbol_at o k)) w) (word_in t (suc k) is ∙ symbol_word o written.object sections_below k lt) wrong)
+
+  pub places_kept : FirstIn (place_rules p) None
+  unfolding place_rules
+  places_kept = (no_wrong_symbol_section, (no_wrong_index_word p.index_table refl, tt))
+
+  -- the word of a symbol whose index its st_shndx can't hold
+  pub far_word : (k : ℕ) → k < length o.symbols → is_far (symbol_at o k).place ≡ true → word p.order p.words (suc k) ≡ index_word (symbol_at o k).place
+  far_word k lt far = found p.index_table refl where
+    found : (table : Option ℕ) → p.index_table ≡ table → word p.order p.words (suc k) ≡ index_word (symbol_at o k).place
+    found None is = absurd (are.index_there (list_any_at (λ (s : SymbolValue). is_far s.place) o.symbols k no_symbol lt far) is)
+    found (Some t) is = word_in t (suc k) is ∙ symbol_word o written.object sections_below k lt

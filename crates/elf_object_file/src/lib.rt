@@ -1,0 +1,14 @@
+//! The file that stands for an object: [`write_object`] writes it, and its contract says that what is written is accepted and read back as
+//! the object.
+//!
+//! The laws behind it are contracts of functions that do nothing: [`one_layout`] and [`laid_objects`] speak of layouts, [`written_object`]
+//! of what an object is written as and what that denotes, [`denoted_object`] and [`sound_object`] of the object that a file denotes.
+#![tactic(auto)]
+
+mod layout_laws;
+mod object_file;
+mod written_laws;
+
+pub use layout_laws::{laid_objects, one_layout};
+pub use object_file::write_object;
+pub use written_laws::{denoted_object, sound_object, written_object};

@@ -1,0 +1,2 @@
+-- For the proofs of this crate.
+pub mod Again
