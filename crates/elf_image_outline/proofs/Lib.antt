@@ -14,3 +14,4 @@ pub mod ScanRules
 pub mod TableRules
 pub mod Blank
 pub mod JudgedFile
+pub mod ReadMore

@@ -13,6 +13,7 @@
 //! ```
 #![tactic(auto)]
 
+mod bytes_field;
 mod laws;
 mod marking;
 mod number;

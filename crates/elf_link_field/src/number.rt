@@ -5,6 +5,7 @@ ghost use Rattle.elf_field.specs.Bytes.{from};
 ghost use Rattle.elf_link_field.specs.Number.{Admits, addend_at, addend_from, modulo as modulo_of, relocation_number};
 ghost use Rattle.elf_link_field.specs.Rule.{size_of};
 
+use crate::bytes_field::BytesField;
 use crate::rule::{Form, Range, Width};
 use byteorder::{BigEndian, ByteOrder, LittleEndian};
 use elf_field::Order;
@@ -61,33 +62,35 @@ impl Range {
     }
 }
 
-fn unsigned_in<O: ByteOrder>(width: Width, bytes: &[u8], offset: usize) -> i128
-    requires { offset + size_of width ≤ length bytes.now }
-    ensures value { result ≡ pos (from O.number_of bytes.now offset (size_of width)) }
-    ensures low { neg_ℤ (pos (2 ^ 63)) ≤ℤ result }
-    ensures high { result <ℤ pos (2 ^ 64) }
-{
-    O::read_uint(&bytes[offset..], width.size()) as i128
-}
+impl<'b> BytesField<'b> {
+    /// The number in it, from 0 on.
+    fn unsigned<O: ByteOrder>(&self) -> i128
+        ensures value { result ≡ pos (from O.number_of self.now.bytes.now self.now.offset (size_of self.now.width)) }
+        ensures low { neg_ℤ (pos (2 ^ 63)) ≤ℤ result }
+        ensures high { result <ℤ pos (2 ^ 64) }
+    {
+        O::read_uint(&self.bytes[self.offset..], self.width.size()) as i128
+    }
 
-fn signed_in<O: ByteOrder>(width: Width, bytes: &[u8], offset: usize) -> i128
-    requires { offset + size_of width ≤ length bytes.now }
-    ensures value { result ≡ twos_complement (size_of width) (from O.number_of bytes.now offset (size_of width)) }
-    ensures low { neg_ℤ (pos (2 ^ 63)) ≤ℤ result }
-    ensures high { result <ℤ pos (2 ^ 64) }
-{
-    O::read_int(&bytes[offset..], width.size()) as i128
-}
+    /// The number in it, as two's complement.
+    fn signed<O: ByteOrder>(&self) -> i128
+        ensures value { result ≡ twos_complement (size_of self.now.width) (from O.number_of self.now.bytes.now self.now.offset (size_of self.now.width)) }
+        ensures low { neg_ℤ (pos (2 ^ 63)) ≤ℤ result }
+        ensures high { result <ℤ pos (2 ^ 64) }
+    {
+        O::read_int(&self.bytes[self.offset..], self.width.size()) as i128
+    }
 
-fn addend_by<O: ByteOrder>(range: Range, width: Width, bytes: &[u8], offset: usize) -> i128
-    requires { offset + size_of width ≤ length bytes.now }
-    ensures value { result ≡ addend_from O.number_of range bytes.now offset (size_of width) }
-    ensures low { neg_ℤ (pos (2 ^ 63)) ≤ℤ result }
-    ensures high { result <ℤ pos (2 ^ 64) }
-{
-    match range {
-        Range::Unsigned => unsigned_in::<O>(width, bytes, offset),
-        Range::Signed | Range::Wrap => signed_in::<O>(width, bytes, offset),
+    /// The addend in it, where it is of this range.
+    fn addend<O: ByteOrder>(&self, range: Range) -> i128
+        ensures value { result ≡ addend_from O.number_of range self.now.bytes.now self.now.offset (size_of self.now.width) }
+        ensures low { neg_ℤ (pos (2 ^ 63)) ≤ℤ result }
+        ensures high { result <ℤ pos (2 ^ 64) }
+    {
+        match range {
+            Range::Unsigned => self.unsigned::<O>(),
+            Range::Signed | Range::Wrap => self.signed::<O>(),
+        }
     }
 }
 
@@ -100,8 +103,13 @@ pub fn addend_in(order: Order, range: Range, width: Width, bytes: &[u8], offset:
     ensures low { neg_ℤ (pos (2 ^ 63)) ≤ℤ result }
     ensures high { result <ℤ pos (2 ^ 64) }
 {
+    let field = BytesField {
+        bytes,
+        offset,
+        width,
+    };
     match order {
-        Order::Little => addend_by::<LittleEndian>(range, width, bytes, offset),
-        Order::Big => addend_by::<BigEndian>(range, width, bytes, offset),
+        Order::Little => field.addend::<LittleEndian>(range),
+        Order::Big => field.addend::<BigEndian>(range),
     }
 }

@@ -1,5 +1,5 @@
 -- The sections and symbols of the files, by file and position.
-use Rattle.std.specs.Prelude.{ℕ, ◌<◌, List, length}
+use Rattle.std.specs.Prelude.{◌<◌, List, length}
 use Rattle.elf_object_type.specs.Object.{ObjectValue, SectionValue, SymbolValue}
 use Rattle.elf_link_files.specs.Files.{object_at, section_in, symbol_in}
 use Rattle.elf_link_files.specs.declared.ids.SectionId.{SectionId}

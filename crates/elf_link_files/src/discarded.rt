@@ -4,11 +4,12 @@ ghost use Rattle.std.specs.Prelude.{◌≡◌, ℕ, ◌+◌, ◌<◌, List, IfOk
 ghost use Rattle.std.specs.Str.{bytes_eq};
 ghost use Rattle.elf_link_files.specs.Discarded.{AreDiscardMarks};
 ghost use Rattle.elf_link_files.specs.Files.{object_at};
-ghost use Rattle.elf_link_files.specs.Ids.{IsSectionIn, section_with};
+ghost use Rattle.elf_link_files.specs.Ids.{IsSectionIn};
 ghost use Rattle.elf_link_files.specs.Marking.{AreMarksBefore, AreMembersMarked, HasSeen, has_name};
+ghost use Rattle.elf_object_type.specs.Object.{section_at as section};
 ghost use Rattle.elf_object_type.specs.Positions.{members_of};
 
-use crate::files::{prove_rules, section_count, section_of};
+use crate::files::{section_at, section_count};
 use crate::ids::SectionId;
 use crate::section_tests::comdat_signature;
 use elf_object_type::{Body, Object};
@@ -24,13 +25,13 @@ fn add_name<'a>(seen: &mut BTreeSet<&'a [u8]>, name: &'a [u8]) -> Result<bool, A
 }
 
 /// Marks the members of a group.
-fn mark_members(objects: &[Object<'_>], id: SectionId, marks: &mut Vec<bool>)
-    requires section { IsSectionIn objects.now id }
-    requires marks { length marks.old.items ≡ length (object_at objects.now id.file).sections }
-    ensures { AreMembersMarked marks.old.items (members_of (section_with objects.now id).body) (length (members_of (section_with objects.now id).body)) marks.new.items }
+fn mark_members(object: &Object<'_>, index: usize, marks: &mut Vec<bool>)
+    requires section { index < length object.now.sections }
+    requires marks { length marks.old.items ≡ length object.now.sections }
+    ensures { AreMembersMarked marks.old.items (members_of (section object.now index).body) (length (members_of (section object.now index).body)) marks.new.items }
 {
-    prove_rules(objects, id.file);
-    let Body::Group { members, .. } = &section_of(objects, id.file, id.index).body else {
+    object.prove_rules();
+    let Body::Group { members, .. } = &section_at(object, index).body else {
         return;
     };
     for member in members {
@@ -56,7 +57,7 @@ fn pass_section<'a>(
         return Ok(());
     };
     if !add_name(seen, signature)? {
-        mark_members(objects, id, marks);
+        mark_members(&objects[id.file], id.index, marks);
     }
     Ok(())
 }

@@ -2,14 +2,13 @@
 ghost use Rattle.std.specs.Prelude.{◌≡◌, ◌↔◌, ◌<◌, IfOk, IsTrue, length, map};
 ghost use Rattle.elf_link_files.specs.Discarded.{AreDiscardMarks, Discarded};
 ghost use Rattle.elf_link_files.specs.Files.{object_at};
-ghost use Rattle.elf_link_files.specs.Ids.{IsSectionIn, IsSymbolIn, section_with, symbol_with};
-ghost use Rattle.elf_object_type.specs.ObjectRules.{IsObject};
-ghost use Rattle.elf_object_type.specs.ObjectView.{section_value, symbol_value};
+ghost use Rattle.elf_link_files.specs.Ids.{IsSectionIn, IsSymbolIn};
 
 use crate::discarded::discarded;
-use crate::files::{prove_rules, section_of, symbol_of};
 use crate::ids::{SectionId, SymbolId};
-use elf_object_type::{Object, Section, Symbol};
+use crate::input_section::InputSection;
+use crate::input_symbol::InputSymbol;
+use elf_object_type::Object;
 use std::alloc::{AllocError, Global};
 use std::marker::Model;
 
@@ -65,46 +64,31 @@ impl<'l, 'a> Inputs<'l, 'a> {
         self.objects.len()
     }
 
-    /// How many sections a file has.
-    pub fn section_count(&self, file: usize) -> usize
+    /// A file.
+    pub fn object(&self, file: usize) -> &'l Object<'a>
         requires { file < length self.now }
-        ensures { result ≡ length (object_at self.now file).sections }
+        ensures { result.now ≡ object_at self.now file }
     {
         let objects = self.objects;
-        objects[file].sections().len()
-    }
-
-    /// How many symbols a file has.
-    pub fn symbol_count(&self, file: usize) -> usize
-        requires { file < length self.now }
-        ensures { result ≡ length (object_at self.now file).symbols }
-    {
-        let objects = self.objects;
-        objects[file].symbols().len()
+        &objects[file]
     }
 
     /// A section of a file.
-    pub fn section(&self, id: SectionId) -> &'l Section<'a>
+    pub fn section(&self, id: SectionId) -> InputSection<'_, 'l, 'a>
         requires { IsSectionIn self.now id }
-        ensures { section_value result.now ≡ section_with self.now id }
+        ensures inputs { result.inputs.now ≡ self.now }
+        ensures id { result.id ≡ id }
     {
-        section_of(self.objects, id.file, id.index)
+        InputSection { inputs: self, id }
     }
 
     /// A symbol of a file.
-    pub fn symbol(&self, id: SymbolId) -> Symbol<'a>
+    pub fn symbol(&self, id: SymbolId) -> InputSymbol<'_, 'l, 'a>
         requires { IsSymbolIn self.now id }
-        ensures { symbol_value result ≡ symbol_with self.now id }
+        ensures inputs { result.inputs.now ≡ self.now }
+        ensures id { result.id ≡ id }
     {
-        symbol_of(self.objects, id.file, id.index)
-    }
-
-    /// Promises that a file breaks none of the object rules. It does nothing.
-    pub fn prove_rules(&self, file: usize)
-        requires { file < length self.now }
-        ensures { IsObject (object_at self.now file) }
-    {
-        prove_rules(self.objects, file);
+        InputSymbol { inputs: self, id }
     }
 
     /// Whether a section is discarded: it is a member of a COMDAT group, and an earlier one has the same signature.

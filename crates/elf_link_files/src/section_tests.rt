@@ -2,15 +2,15 @@
 ghost use Rattle.std.specs.Prelude.{◌≡◌, ◌↔◌, IsTrue, MatchOption};
 ghost use Rattle.elf_link_files.specs.Discarded.{IsComdat, is_comdat as is_comdat_of, signature, signature_position as signature_position_of};
 ghost use Rattle.elf_link_files.specs.FileRules.{HasEmptySignature, IsLiveWith};
-ghost use Rattle.elf_link_files.specs.Ids.{IsSectionIn};
+ghost use Rattle.elf_link_files.specs.Ids.{IsSectionIn, section_with};
 ghost use Rattle.elf_link_files.specs.Live.{Live, is_loadable as is_loadable_of};
-ghost use Rattle.elf_object_type.specs.ObjectView.{body_value};
+ghost use Rattle.elf_object_type.specs.ObjectView.{body_value, section_value};
 
 use crate::files::{prove_rules, section_of, symbol_of};
-use crate::ids::SectionId;
-use crate::inputs::Inputs;
+use crate::ids::{SectionId, SymbolId};
+use crate::input_section::InputSection;
 use elf_field::abi::*;
-use elf_object_type::{Body, Object};
+use elf_object_type::{Body, Object, Section};
 
 /// Whether a body is bits, or takes memory without them.
 fn is_loadable(body: &Body<'_>) -> bool
@@ -49,36 +49,43 @@ pub(crate) fn comdat_signature<'a>(objects: &[Object<'a>], id: SectionId) -> Opt
         return None;
     }
     prove_rules(objects, id.file);
-    let symbol = symbol_of(objects, id.file, signature_position(&section.body));
-    Some(symbol.name)
+    let signature = SymbolId {
+        file: id.file,
+        index: signature_position(&section.body),
+    };
+    Some(symbol_of(objects, signature).name)
 }
 
-impl<'l, 'a> Inputs<'l, 'a> {
-    /// Whether a section is live.
-    pub fn is_live(&self, id: SectionId) -> bool
-        requires { IsSectionIn self.now id }
-        ensures { IsTrue result ↔ Live self.now id.file id.index }
+impl<'i, 'l, 'a> InputSection<'i, 'l, 'a> {
+    /// What its file says of it.
+    pub fn section(&self) -> &'l Section<'a>
+        ensures { section_value result.now ≡ section_with self.now.inputs.now self.now.id }
     {
-        let section = self.section(id);
+        section_of(self.inputs.objects(), self.id.file, self.id.index)
+    }
+
+    /// Whether it is live.
+    pub fn is_live(&self) -> bool
+        ensures { IsTrue result ↔ Live self.now.inputs.now self.now.id.file self.now.id.index }
+    {
+        let section = self.section();
         let alloc = section.flags & SHF_ALLOC != 0;
-        alloc && is_loadable(&section.body) && !self.is_discarded(id)
+        alloc && is_loadable(&section.body) && !self.inputs.is_discarded(self.id)
     }
 
-    /// Rules 3 and 4: whether a section is live and has the flag.
-    pub(crate) fn is_live_with(&self, flag: u64, id: SectionId) -> bool
-        requires { IsSectionIn self.now id }
-        ensures { IsTrue result ↔ IsLiveWith flag self.now id.file id.index }
+    /// Rules 3 and 4: whether it is live and has the flag.
+    pub(crate) fn is_live_with(&self, flag: u64) -> bool
+        ensures { IsTrue result ↔ IsLiveWith flag self.now.inputs.now self.now.id.file self.now.id.index }
     {
-        let flagged = self.section(id).flags & flag != 0;
-        flagged && self.is_live(id)
+        let flagged = self.section().flags & flag != 0;
+        flagged && self.is_live()
     }
 
-    /// Rule 5: whether a section is a COMDAT group with an empty signature.
-    pub(crate) fn has_empty_signature(&self, id: SectionId) -> bool
-        requires { IsSectionIn self.now id }
-        ensures { IsTrue result ↔ HasEmptySignature self.now id.file id.index }
+    /// Rule 5: whether it is a COMDAT group with an empty signature.
+    pub(crate) fn has_empty_signature(&self) -> bool
+        ensures { IsTrue result ↔ HasEmptySignature self.now.inputs.now self.now.id.file self.now.id.index }
     {
-        match comdat_signature(self.objects(), id) {
+        match comdat_signature(self.inputs.objects(), self.id) {
             Some(name) => name.is_empty(),
             None => false,
         }

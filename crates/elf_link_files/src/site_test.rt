@@ -5,10 +5,12 @@ ghost use Rattle.elf_extent.specs.Least.{Never};
 ghost use Rattle.elf_link_files.specs.Rows.{IsFirstAt};
 ghost use Rattle.elf_link_files.specs.SiteTests.{BreaksSiteTest, HasNoneIn, IsFirstIn, counted, row_of};
 
+use crate::files::{section_count, symbol_count};
 use crate::ids::{SectionId, SymbolId};
 use crate::inputs::Inputs;
 use crate::site::{Site, site_in};
 use elf_field::abi::*;
+use elf_object_type::Object;
 
 /// A rule of the link that looks at one section or one symbol by itself.
 #[derive(Clone, Copy)]
@@ -25,20 +27,17 @@ pub enum SiteTest {
     BadCommon,
 }
 
-impl<'l, 'a> Inputs<'l, 'a> {
-    /// How many sections or symbols of a file are tested.
-    fn tested_count(&self, test: SiteTest, file: usize) -> usize
-        requires { file < length self.now }
-        ensures { result ≡ counted test (object_at self.now file) }
-    {
-        match test {
-            SiteTest::Tls | SiteTest::LinkOrder | SiteTest::EmptySignature => {
-                self.section_count(file)
-            }
-            _ => self.symbol_count(file),
-        }
+/// How many sections or symbols of a file are tested.
+fn tested_count(test: SiteTest, object: &Object<'_>) -> usize
+    ensures { result ≡ counted test object.now }
+{
+    match test {
+        SiteTest::Tls | SiteTest::LinkOrder | SiteTest::EmptySignature => section_count(object),
+        _ => symbol_count(object),
     }
+}
 
+impl<'l, 'a> Inputs<'l, 'a> {
     /// Whether the section or symbol at `index` of a file breaks the rule.
     fn breaks(&self, test: SiteTest, file: usize, index: usize) -> bool
         requires file { file < length self.now }
@@ -46,11 +45,20 @@ impl<'l, 'a> Inputs<'l, 'a> {
         ensures { IsTrue result ↔ BreaksSiteTest self.now test file index }
     {
         match test {
-            SiteTest::Tls => self.is_live_with(SHF_TLS, SectionId { file, index }),
-            SiteTest::LinkOrder => self.is_live_with(SHF_LINK_ORDER, SectionId { file, index }),
-            SiteTest::EmptySignature => self.has_empty_signature(SectionId { file, index }),
-            SiteTest::BadSymbol => self.is_bad_symbol(SymbolId { file, index }),
-            SiteTest::BadCommon => self.is_bad_common(SymbolId { file, index }),
+            SiteTest::Tls => {
+                let section = self.section(SectionId { file, index });
+                section.is_live_with(SHF_TLS)
+            }
+            SiteTest::LinkOrder => {
+                let section = self.section(SectionId { file, index });
+                section.is_live_with(SHF_LINK_ORDER)
+            }
+            SiteTest::EmptySignature => {
+                let section = self.section(SectionId { file, index });
+                section.has_empty_signature()
+            }
+            SiteTest::BadSymbol => self.symbol(SymbolId { file, index }).is_bad(),
+            SiteTest::BadCommon => self.symbol(SymbolId { file, index }).is_bad_common(),
         }
     }
 
@@ -59,7 +67,7 @@ impl<'l, 'a> Inputs<'l, 'a> {
         requires { file < length self.now }
         ensures { MatchOption result (HasNoneIn self.now test file) (IsFirstIn self.now test file) }
     {
-        for index in 0..self.tested_count(test, file) {
+        for index in 0..tested_count(test, self.object(file)) {
             if self.breaks(test, file, index) {
                 return Some(index);
             }

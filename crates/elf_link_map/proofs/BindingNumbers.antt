@@ -1,6 +1,6 @@
 -- The number of each symbol's name, from that among the known names, or by a search.
 use Rattle.std.proofs.Common.{◌≡◌, ◌≢◌, ℕ, ◌<◌, List, [], get_or, length, refl, sym, subst}
-use Rattle.std.specs.Prelude.{None, Option, MatchOption}
+use Rattle.std.specs.Prelude.{None, Option, Some, MatchOption, unwrap_or}
 use Rattle.elf_field.specs.Abi.{STB_LOCAL}
 use Rattle.elf_object_type.specs.Object.{ObjectValue, binding}
 use Rattle.elf_extent.specs.Least.{Never}
@@ -11,7 +11,7 @@ use Rattle.elf_link_names.specs.NameNumbers.{AreNameNumbers}
 use Rattle.elf_link_map.specs.declared.bindings.Binding.{Binding}
 use Rattle.elf_link_map.specs.BindingNumbers.{AreBindingNumbers, AreNumbersIn}
 use Rattle.elf_link_map.specs.LinkMap.{IsBinding, IsSomeLinkMap, LinkMapValue, bound_in}
-use Rattle.elf_link_map.specs.Naming.{AreBindingPositions}
+use Rattle.elf_link_map.specs.Naming.{AreBindingPositions, StandsAt}
 use Rattle.elf_link_map.proofs.Naming.{position_found}
 
 pub numbers_bound : (fs : List ObjectValue) (m : LinkMapValue) (position : List ℕ → Option ℕ) (rows : List (List ℕ)) → AreNameNumbers fs position rows →
@@ -31,9 +31,17 @@ numbers_in fs bindings position rows are at m same =
     numbers_bound fs m position rows are (subst (λ (bs : List (List ℕ × Binding)). AreBindingPositions bs position) (sym same) at)
 
 -- the name of a symbol that is not local stands in the link map
-pub entry_bound : (fs : List ObjectValue) (m : LinkMapValue) (f i : ℕ) → IsSomeLinkMap fs m → f < length fs →
+entry_bound : (fs : List ObjectValue) (m : LinkMapValue) (f i : ℕ) → IsSomeLinkMap fs m → f < length fs →
     i < length (object_at fs f).symbols → binding (symbol_in fs f i) ≢ STB_LOCAL → bound_in m.bindings (symbol_in fs f i).name ≡ None → ⊥
 entry_bound fs m f i (opt, base, page, entry, (l, plan, is)) f_in i_in not_local none =
     let name = (symbol_in fs f i).name in
     let never = subst (λ (o : Option Binding). MatchOption o (Never (entries fs name)) (IsBinding fs m.commons name)) none (is.bindings name) in
     never (site f i) (f_in, i_in, (not_local, refl), refl)
+
+-- so its position is found
+pub entry_number : (fs : List ObjectValue) (m : LinkMapValue) (f i : ℕ) (found : Option ℕ) → IsSomeLinkMap fs m → f < length fs →
+    i < length (object_at fs f).symbols → binding (symbol_in fs f i) ≢ STB_LOCAL →
+    MatchOption found (bound_in m.bindings (symbol_in fs f i).name ≡ None) (StandsAt m.bindings (symbol_in fs f i).name) →
+    StandsAt m.bindings (symbol_in fs f i).name (unwrap_or found 0)
+entry_number fs m f i None is f_in i_in not_local none = absurd (entry_bound fs m f i is f_in i_in not_local none)
+entry_number fs m f i (Some k) is f_in i_in not_local here = here

@@ -1,5 +1,5 @@
 -- A plan at the addresses that a link gives it.
-use Rattle.std.specs.Prelude.{◌≡◌, ℕ, List, None, Some, length}
+use Rattle.std.specs.Prelude.{◌≡◌, List, None, Some, length}
 use Rattle.elf_extent.specs.Place.{EndsFit}
 use Rattle.elf_object_type.specs.Object.{ObjectValue}
 use Rattle.elf_link_files.specs.declared.fault.LinkFault.{LinkFault}

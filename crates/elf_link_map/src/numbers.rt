@@ -1,11 +1,13 @@
 //! The number of each symbol's name: the position of its binding in a link map (gABI chapter 4, Symbol Table).
 ghost use Rattle.std.specs.Prelude.{◌<◌, IfOk, length, map as map_list};
 ghost use Rattle.elf_link_files.specs.Files.{object_at};
+ghost use Rattle.elf_link_files.specs.Ids.{IsSymbolIn};
 ghost use Rattle.elf_link_map.specs.BindingNumbers.{AreBindingNumbers, IsBindingNumber, IsBindingRow};
 ghost use Rattle.elf_link_map.specs.LinkMap.{IsSomeLinkMap};
 
 use crate::link_map::LinkMap;
 use elf_field::abi::*;
+use elf_link_files::SymbolId;
 use elf_link_files::files::{symbol_count, symbol_of};
 use elf_object_type::Object;
 use std::alloc::{AllocError, Global};
@@ -19,21 +21,18 @@ pub struct NumberedMap<'a> {
     pub numbers: Vec<Vec<usize>>,
 }
 
-/// Where the name of the symbol at `index` of a file stands; 0 for a local symbol.
-fn name_number(objects: &[Object<'_>], map: &LinkMap<'_>, file: usize, index: usize) -> usize
+/// Where the name of a symbol stands; 0 for a local symbol.
+fn name_number(objects: &[Object<'_>], map: &LinkMap<'_>, id: SymbolId) -> usize
     requires map { IsSomeLinkMap objects.now map.now }
-    requires file { file < length objects.now }
-    requires index { index < length (object_at objects.now file).symbols }
-    ensures { IsBindingNumber objects.now map.now file index result }
+    requires symbol { IsSymbolIn objects.now id }
+    ensures { IsBindingNumber objects.now map.now id.file id.index result }
 {
-    let symbol = symbol_of(objects, file, index);
+    let symbol = symbol_of(objects, id);
     if symbol.binding() == STB_LOCAL {
         return 0;
     }
-    let Some(k) = map.position(symbol.name) else {
-        unreachable!();
-    };
-    k
+    // Each name of a symbol that is not local stands there.
+    map.position(symbol.name).unwrap_or(0)
 }
 
 /// The numbers of the names of a file's symbols.
@@ -50,7 +49,7 @@ fn file_numbers(
     let count = symbol_count(&objects[file]);
     let mut row = Vec::with_capacity(alloc, count)?;
     for index in 0..count {
-        row.push(name_number(objects, map, file, index))?;
+        row.push(name_number(objects, map, SymbolId { file, index }))?;
     }
     Ok(row)
 }

@@ -1,7 +1,6 @@
 -- What is known of each name, symbol by symbol and file by file.
 use Rattle.std.proofs.Common.{◌≡◌, ◌≢◌, ◌↔◌, ℕ, ◌+◌, ◌<◌, ◌≤◌, ◌⊎◌, Bool, true, false, List, [], ◌∷◌, ◌++◌, length, map, set, inl, inr, refl, sym, ◌∙◌, ap, subst, arith, length-append}
 use Rattle.std.specs.Prelude.{if◌then◌else◌, Option, None, Some, MatchOption}
-use Rattle.std.specs.Option.{option_map}
 use Rattle.std.specs.Str.{bytes_eq}
 use Rattle.std.proofs.lemmas.Bool.{cases_eq, cases_lt}
 use Rattle.std.proofs.lemmas.List.{get_or_push, get_or-set_other, get_or-set_same, length-map, length-set, map-append}
@@ -449,7 +448,3 @@ common_known fs name k b at is = subst (λ o. MatchOption o (Never (commons fs n
 
 pub common_unknown : (fs : List ObjectValue) (name : List ℕ) (k : Known) → k.common ≡ None → IsKnownWhole fs name k → Never (commons fs name)
 common_unknown fs name k at is = subst (λ o. MatchOption o (Never (commons fs name)) (IsWholeBlock fs name)) at is.common
-
-pub strong_site : (row : Row Site) (best : Option SymbolId) → IsWholeBest row best → MatchOption (option_map id_site best) (Never row) (IsFirstAt row)
-strong_site row None none = none
-strong_site row (Some s) is = is

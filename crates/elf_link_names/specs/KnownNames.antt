@@ -14,6 +14,7 @@ use Rattle.elf_link_names.specs.declared.known_names.Known.{Known}
 use Rattle.elf_link_files.specs.declared.ids.SymbolId.{SymbolId}
 use Rattle.elf_link_names.specs.Binds.{Binds, IsLargest, IsUnbound, align_at, commons, entries, not_weak, size_at, strong, weak}
 use Rattle.elf_link_names.specs.Listing.{first_entries}
+use Rattle.elf_link_names.specs.NameRules.{HasEarlier}
 use Rattle.elf_link_names.specs.Naming.{ArePositionsOf}
 
 abbrev pub id_in : ℕ → ℕ → SymbolId
@@ -99,6 +100,11 @@ pub record IsKnownWhole (fs : List ObjectValue) (name : List ℕ) (k : Known) : 
 -- whether a name is bound to nothing, by what is known of it
 abbrev pub TellsUnbound : Known → Bool → Type 0
 TellsUnbound known unbound = (fs : List ObjectValue) (name : List ℕ) → IsKnownWhole fs name known → (unbound ≡ true) ↔ IsUnbound fs name
+
+-- whether a GLOBAL definition of the name comes before a symbol, by what is known of the name
+abbrev pub TellsEarlier : Known → SymbolId → Bool → Type 0
+TellsEarlier known id earlier =
+    (fs : List ObjectValue) (name : List ℕ) → IsKnownWhole fs name known → (earlier ≡ true) ↔ HasEarlier fs name id.file id.index
 
 -- what a bound name makes of what is known of it
 abbrev pub Makes : Known → Choice → Type 0

@@ -1,21 +1,8 @@
 //! What a name is bound to, by what is known of it (gABI chapter 4, Symbol Table).
-ghost use Rattle.std.specs.Prelude.{◌≡◌};
-ghost use Rattle.std.specs.Option.{option_map};
-ghost use Rattle.elf_link_names.specs.KnownNames.{Makes, TellsUnbound, id_site};
+ghost use Rattle.elf_link_names.specs.KnownNames.{Makes, TellsUnbound};
 
 use crate::choice::Choice;
 use crate::known_names::Known;
-use elf_link_files::{Site, SymbolId, site_in};
-
-/// A symbol as a site.
-pub(crate) fn site_of(id: Option<SymbolId>) -> Option<Site>
-    ensures { result ≡ option_map id_site id }
-{
-    match id {
-        Some(id) => Some(site_in(id.file, id.index)),
-        None => None,
-    }
-}
 
 /// Whether a name is bound to nothing: it has no definition and no common, and an entry that is not weak.
 pub(crate) fn is_unbound(known: Known) -> bool

@@ -1,13 +1,13 @@
 //! The commons that are placed: of each name without a global definition one, of the largest size and the largest alignment
 //! (gABI chapter 4, Symbol Table: `SHN_COMMON`).
 ghost use Rattle.std.specs.Prelude.{◌≡◌, ◌↔◌, ◌+◌, ◌<◌, IfOk, IsTrue, MatchOption, OnOk, length};
-ghost use Rattle.elf_link_files.specs.Ids.{IsSymbolIn};
 ghost use Rattle.elf_link_files.specs.Listing.{UpTo};
 ghost use Rattle.elf_link_names.specs.ChosenCommons.{AreChosen, AreChosenIn, IsBlockOf, IsChosenOf, IsPlacedFor};
 ghost use Rattle.elf_link_names.specs.Listing.{IsChosen, chosen_commons as chosen_row};
 
 use crate::known_names::{Block, Known};
 use crate::name_table::NameTable;
+use crate::named_symbol::NamedSymbol;
 use elf_link_files::{Chosen, SymbolId, site_in};
 use std::alloc::{AllocError, Global};
 
@@ -46,39 +46,41 @@ fn chosen_of(known: Known, id: SymbolId) -> Option<Chosen>
     }
 }
 
-impl<'l, 'a> NameTable<'l, 'a> {
-    /// The common that is placed for a symbol; None where there is none.
-    fn chosen(&self, id: SymbolId) -> Option<Chosen>
-        requires { IsSymbolIn self.now id }
-        ensures { MatchOption result (IsChosen self.now id.file id.index → ⊥) (IsPlacedFor self.now id) }
+impl<'t, 'l, 'a> NamedSymbol<'t, 'l, 'a> {
+    /// The common that is placed for it; None where there is none.
+    fn chosen(&self) -> Option<Chosen>
+        ensures { MatchOption result (IsChosen self.now.table.now self.now.id.file self.now.id.index → ⊥) (IsPlacedFor self.now.table.now self.now.id) }
     {
-        if !self.inputs.is_common_entry(id) {
+        if !self.input().is_common() {
             return None;
         }
-        chosen_of(self.known_of(id), id)
+        chosen_of(self.table.known_of(self.id), self.id)
     }
 
-    /// Adds the common that is placed for a symbol to those for the symbols before it.
-    fn push_chosen(&self, id: SymbolId, commons: &mut Vec<Chosen>) -> Result<(), AllocError>
-        requires symbol { IsSymbolIn self.now id }
-        requires before { AreChosenIn (UpTo (chosen_row self.now) id.file id.index) self.now commons.old.items }
-        ensures { OnOk result (AreChosenIn (UpTo (chosen_row self.now) id.file (id.index + 1)) self.now commons.new.items) }
+    /// Adds the common that is placed for it to those for the symbols before it.
+    fn push_chosen(&self, commons: &mut Vec<Chosen>) -> Result<(), AllocError>
+        requires { AreChosenIn (UpTo (chosen_row self.now.table.now) self.now.id.file self.now.id.index) self.now.table.now commons.old.items }
+        ensures { OnOk result (AreChosenIn (UpTo (chosen_row self.now.table.now) self.now.id.file (self.now.id.index + 1)) self.now.table.now commons.new.items) }
     {
-        let Some(chosen) = self.chosen(id) else {
+        let Some(chosen) = self.chosen() else {
             return Ok(());
         };
         commons.push(chosen)?;
         Ok(())
     }
+}
 
+impl<'l, 'a> NameTable<'l, 'a> {
     /// Adds the commons that are placed for the symbols of a file to those of the files before it.
     fn push_chosen_of(&self, file: usize, commons: &mut Vec<Chosen>) -> Result<(), AllocError>
         requires file { file < length self.now }
         requires before { AreChosenIn (UpTo (chosen_row self.now) file 0) self.now commons.old.items }
         ensures { OnOk result (AreChosenIn (UpTo (chosen_row self.now) (file + 1) 0) self.now commons.new.items) }
     {
-        for index in 0..self.inputs.symbol_count(file) {
-            self.push_chosen(SymbolId { file, index }, commons)?;
+        for index in 0..self.symbol_count(file) {
+            let id = SymbolId { file, index };
+            let symbol = NamedSymbol { table: self, id };
+            symbol.push_chosen(commons)?;
         }
         Ok(())
     }
@@ -88,7 +90,7 @@ impl<'l, 'a> NameTable<'l, 'a> {
         ensures { IfOk result (λ commons. AreChosen self.now commons.items) }
     {
         let mut commons = Vec::new(alloc);
-        for file in 0..self.inputs.file_count() {
+        for file in 0..self.file_count() {
             self.push_chosen_of(file, &mut commons)?;
         }
         Ok(commons)

@@ -3,7 +3,7 @@
 ghost use Rattle.std.specs.Prelude.{◌≡◌, ◌↔◌, ◌+◌, ◌<◌, None, Some, false, IfOk, IsTrue, OnOk, length, map};
 ghost use Rattle.elf_object_type.specs.ObjectView.{symbol_value};
 ghost use Rattle.elf_link_files.specs.Files.{object_at};
-ghost use Rattle.elf_link_files.specs.Ids.{IsSymbolIn, symbol_with};
+ghost use Rattle.elf_link_files.specs.Ids.{symbol_with};
 ghost use Rattle.elf_link_names.specs.Binds.{not_weak as not_weak_row};
 ghost use Rattle.elf_link_names.specs.KnownNames.{AreAllKnown, AreKnownBefore, IsBlock, IsCommonBest, IsKnownBefore, IsLargerOf, SomeBefore, first_or, known_at};
 ghost use Rattle.elf_link_names.specs.NameNumbers.{AreNameNumbers, IsNameNumber, IsNumberRow, KeepsPositions};
@@ -13,7 +13,8 @@ ghost use Rattle.elf_link_files.specs.Symbols.{IsCommon};
 ghost use Rattle.elf_object_type.specs.Object.{binding as binding_of};
 
 use elf_field::abi::*;
-use elf_link_files::{Inputs, SymbolId};
+use elf_link_files::files::symbol_count;
+use elf_link_files::{InputSymbol, Inputs, SymbolId};
 use elf_link_positions::NamePositions;
 use elf_object_type::Symbol;
 use std::alloc::{AllocError, Global};
@@ -80,66 +81,62 @@ fn larger(most: u64, other: u64) -> u64
 }
 
 /// The commons of a name, where this symbol is one more.
-fn joined(inputs: &Inputs<'_, '_>, id: SymbolId, block: Option<Block>) -> Block
-    requires symbol { IsSymbolIn inputs.now id }
-    requires common { IsCommon inputs.now (symbol_with inputs.now id).name id.file id.index }
-    requires before { IsCommonBest inputs.now (symbol_with inputs.now id).name id.file id.index block }
-    ensures { IsBlock inputs.now (symbol_with inputs.now id).name id.file (id.index + 1) result }
+fn joined(symbol: &InputSymbol<'_, '_, '_>, block: Option<Block>) -> Block
+    requires common { IsCommon symbol.now.inputs.now (symbol_with symbol.now.inputs.now symbol.now.id).name symbol.now.id.file symbol.now.id.index }
+    requires before { IsCommonBest symbol.now.inputs.now (symbol_with symbol.now.inputs.now symbol.now.id).name symbol.now.id.file symbol.now.id.index block }
+    ensures { IsBlock symbol.now.inputs.now (symbol_with symbol.now.inputs.now symbol.now.id).name symbol.now.id.file (symbol.now.id.index + 1) result }
 {
-    let symbol = inputs.symbol(id);
+    let own = symbol.symbol();
     match block {
         Some(block) => Block {
             first: block.first,
-            size: larger(block.size, symbol.size),
-            align: larger(block.align, symbol.value),
+            size: larger(block.size, own.size),
+            align: larger(block.align, own.value),
         },
         None => Block {
-            first: id,
-            size: symbol.size,
-            align: symbol.value,
+            first: symbol.id,
+            size: own.size,
+            align: own.value,
         },
     }
 }
 
 /// The commons of a symbol's name, past the symbol.
-fn common_past(inputs: &Inputs<'_, '_>, id: SymbolId, block: Option<Block>) -> Option<Block>
-    requires symbol { IsSymbolIn inputs.now id }
-    requires before { IsCommonBest inputs.now (symbol_with inputs.now id).name id.file id.index block }
-    ensures { IsCommonBest inputs.now (symbol_with inputs.now id).name id.file (id.index + 1) result }
+fn common_past(symbol: &InputSymbol<'_, '_, '_>, block: Option<Block>) -> Option<Block>
+    requires { IsCommonBest symbol.now.inputs.now (symbol_with symbol.now.inputs.now symbol.now.id).name symbol.now.id.file symbol.now.id.index block }
+    ensures { IsCommonBest symbol.now.inputs.now (symbol_with symbol.now.inputs.now symbol.now.id).name symbol.now.id.file (symbol.now.id.index + 1) result }
 {
-    if !inputs.is_common_entry(id) {
+    if !symbol.is_common() {
         return block;
     }
-    Some(joined(inputs, id, block))
+    Some(joined(symbol, block))
 }
 
 /// Whether a symbol's name has an entry that is not weak, past the symbol.
-fn not_weak_past(inputs: &Inputs<'_, '_>, id: SymbolId, found: bool) -> bool
-    requires symbol { IsSymbolIn inputs.now id }
-    requires before { IsTrue found ↔ SomeBefore (not_weak_row inputs.now (symbol_with inputs.now id).name) id.file id.index }
-    ensures { IsTrue result ↔ SomeBefore (not_weak_row inputs.now (symbol_with inputs.now id).name) id.file (id.index + 1) }
+fn not_weak_past(symbol: &InputSymbol<'_, '_, '_>, found: bool) -> bool
+    requires { IsTrue found ↔ SomeBefore (not_weak_row symbol.now.inputs.now (symbol_with symbol.now.inputs.now symbol.now.id).name) symbol.now.id.file symbol.now.id.index }
+    ensures { IsTrue result ↔ SomeBefore (not_weak_row symbol.now.inputs.now (symbol_with symbol.now.inputs.now symbol.now.id).name) symbol.now.id.file (symbol.now.id.index + 1) }
 {
-    if inputs.is_not_weak(id) {
+    if symbol.is_not_weak() {
         return true;
     }
     found
 }
 
 /// What is known of a symbol's name, past the symbol.
-fn known_past(inputs: &Inputs<'_, '_>, id: SymbolId, known: Known) -> Known
-    requires symbol { IsSymbolIn inputs.now id }
-    requires before { IsKnownBefore inputs.now (symbol_with inputs.now id).name id.file id.index known }
-    ensures known { IsKnownBefore inputs.now (symbol_with inputs.now id).name id.file (id.index + 1) result }
+fn known_past(symbol: &InputSymbol<'_, '_, '_>, known: Known) -> Known
+    requires { IsKnownBefore symbol.now.inputs.now (symbol_with symbol.now.inputs.now symbol.now.id).name symbol.now.id.file symbol.now.id.index known }
+    ensures known { IsKnownBefore symbol.now.inputs.now (symbol_with symbol.now.inputs.now symbol.now.id).name symbol.now.id.file (symbol.now.id.index + 1) result }
     ensures first { result.first ≡ known.first }
 {
-    let strong = inputs.is_definition(STB_GLOBAL, id);
-    let weak = inputs.is_definition(STB_WEAK, id);
+    let strong = symbol.is_definition(STB_GLOBAL);
+    let weak = symbol.is_definition(STB_WEAK);
     Known {
         first: known.first,
-        strong: first_of(known.strong, strong, id),
-        weak: first_of(known.weak, weak, id),
-        common: common_past(inputs, id, known.common),
-        not_weak: not_weak_past(inputs, id, known.not_weak),
+        strong: first_of(known.strong, strong, symbol.id),
+        weak: first_of(known.weak, weak, symbol.id),
+        common: common_past(symbol, known.common),
+        not_weak: not_weak_past(symbol, known.not_weak),
     }
 }
 
@@ -165,19 +162,17 @@ fn is_local(symbol: &Symbol<'_>) -> bool
 
 /// Goes past a symbol, and returns the number of its name; 0 for a local one.
 fn pass_symbol<'a>(
-    inputs: &Inputs<'_, 'a>,
-    id: SymbolId,
+    symbol: &InputSymbol<'_, '_, 'a>,
     names: &mut KnownNames<'a>,
 ) -> Result<usize, AllocError>
-    requires symbol { IsSymbolIn inputs.now id }
-    requires before { AreKnownBefore inputs.now id.file id.index (name_position names.old.positions) names.old.known.items }
-    ensures names { OnOk result (AreKnownBefore inputs.now id.file (id.index + 1) (name_position names.new.positions) names.new.known.items) }
-    ensures number { IfOk result (IsNameNumber inputs.now (name_position names.new.positions) id.file id.index) }
+    requires { AreKnownBefore symbol.now.inputs.now symbol.now.id.file symbol.now.id.index (name_position names.old.positions) names.old.known.items }
+    ensures names { OnOk result (AreKnownBefore symbol.now.inputs.now symbol.now.id.file (symbol.now.id.index + 1) (name_position names.new.positions) names.new.known.items) }
+    ensures number { IfOk result (IsNameNumber symbol.now.inputs.now (name_position names.new.positions) symbol.now.id.file symbol.now.id.index) }
     ensures kept { OnOk result (KeepsPositions (name_position names.old.positions) (name_position names.new.positions)) }
 {
-    let symbol = inputs.symbol(id);
-    let name = symbol.name;
-    if is_local(&symbol) {
+    let own = symbol.symbol();
+    let name = own.name;
+    if is_local(&own) {
         return Ok(0);
     }
     let next = names.known.len();
@@ -185,12 +180,12 @@ fn pass_symbol<'a>(
     match place {
         Some(k) => {
             let known = known_item(&names.known, k);
-            names.known[k] = known_past(inputs, id, known);
+            names.known[k] = known_past(symbol, known);
             Ok(k)
         }
         None => {
-            let known = unknown(id);
-            names.known.push(known_past(inputs, id, known))?;
+            let known = unknown(symbol.id);
+            names.known.push(known_past(symbol, known))?;
             Ok(next)
         }
     }
@@ -209,10 +204,12 @@ fn pass_file<'a>(
     ensures numbers { IfOk result (λ row. IsNumberRow inputs.now (name_position names.new.positions) file (length (object_at inputs.now file).symbols) row.items) }
     ensures kept { OnOk result (KeepsPositions (name_position names.old.positions) (name_position names.new.positions)) }
 {
-    let count = inputs.symbol_count(file);
+    let count = symbol_count(inputs.object(file));
     let mut row = Vec::with_capacity(alloc, count)?;
     for index in 0..count {
-        row.push(pass_symbol(inputs, SymbolId { file, index }, names)?)?;
+        let id = SymbolId { file, index };
+        let symbol = InputSymbol { inputs, id };
+        row.push(pass_symbol(&symbol, names)?)?;
     }
     Ok(row)
 }
@@ -221,7 +218,7 @@ fn pass_file<'a>(
 fn all_symbol_count(inputs: &Inputs<'_, '_>) -> usize {
     let mut count: usize = 0;
     for file in 0..inputs.file_count() {
-        count = count.saturating_add(inputs.symbol_count(file));
+        count = count.saturating_add(symbol_count(inputs.object(file)));
     }
     count
 }

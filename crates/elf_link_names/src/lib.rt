@@ -14,6 +14,7 @@ mod known_names;
 mod listing;
 mod name_rules;
 mod name_table;
+mod named_symbol;
 mod ranks;
 mod resolution;
 

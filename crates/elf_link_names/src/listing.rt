@@ -1,26 +1,21 @@
 //! The live sections of the files, in order.
 ghost use Rattle.std.specs.Prelude.{◌+◌, ◌<◌, IfOk, OnOk, length};
-ghost use Rattle.elf_link_files.specs.Ids.{IsSectionIn};
 ghost use Rattle.elf_link_files.specs.Listing.{Lists, UpTo};
 ghost use Rattle.elf_link_names.specs.Listing.{live_sections as live_row};
 
-use elf_link_files::{Inputs, SectionId, Site, site_in};
+use elf_link_files::files::section_count;
+use elf_link_files::{InputSection, Inputs, SectionId, Site, site_in};
 use std::alloc::{AllocError, Global};
 
 /// Adds a section to the live ones before it, where it is live.
-fn push_live(
-    inputs: &Inputs<'_, '_>,
-    id: SectionId,
-    sites: &mut Vec<Site>,
-) -> Result<(), AllocError>
-    requires section { IsSectionIn inputs.now id }
-    requires before { Lists (UpTo (live_row inputs.now) id.file id.index) sites.old.items }
-    ensures { OnOk result (Lists (UpTo (live_row inputs.now) id.file (id.index + 1)) sites.new.items) }
+fn push_live(section: &InputSection<'_, '_, '_>, sites: &mut Vec<Site>) -> Result<(), AllocError>
+    requires { Lists (UpTo (live_row section.now.inputs.now) section.now.id.file section.now.id.index) sites.old.items }
+    ensures { OnOk result (Lists (UpTo (live_row section.now.inputs.now) section.now.id.file (section.now.id.index + 1)) sites.new.items) }
 {
-    if !inputs.is_live(id) {
+    if !section.is_live() {
         return Ok(());
     }
-    sites.push(site_in(id.file, id.index))?;
+    sites.push(site_in(section.id.file, section.id.index))?;
     Ok(())
 }
 
@@ -34,8 +29,8 @@ fn push_live_of(
     requires before { Lists (UpTo (live_row inputs.now) file 0) sites.old.items }
     ensures { OnOk result (Lists (UpTo (live_row inputs.now) (file + 1) 0) sites.new.items) }
 {
-    for index in 0..inputs.section_count(file) {
-        push_live(inputs, SectionId { file, index }, sites)?;
+    for index in 0..section_count(inputs.object(file)) {
+        push_live(&inputs.section(SectionId { file, index }), sites)?;
     }
     Ok(())
 }

@@ -1,21 +1,19 @@
 //! Rules 8 and 9: the definitions of a name.
-ghost use Rattle.std.specs.Prelude.{◌≢◌, ◌↔◌, ◌<◌, IsTrue, MatchOption, length};
-ghost use Rattle.elf_link_files.specs.Files.{IsEarlier, object_at};
-ghost use Rattle.elf_link_files.specs.Ids.{IsSymbolIn, symbol_with};
+ghost use Rattle.std.specs.Prelude.{◌↔◌, ◌<◌, IsTrue, MatchOption, length};
+ghost use Rattle.elf_link_files.specs.Files.{IsEarlier};
 ghost use Rattle.elf_extent.specs.Least.{Never};
 ghost use Rattle.elf_image_rules.specs.Broken.{fault_of};
 ghost use Rattle.elf_link_files.specs.Rows.{AtSymbol, FirstAmong, IsFirstAt};
-ghost use Rattle.elf_link_files.specs.Symbols.{IsPlaceIn, IsUndefinedAt};
-ghost use Rattle.elf_link_names.specs.Binds.{IsUnbound};
-ghost use Rattle.elf_link_names.specs.NameNumbers.{IsEntryIn};
-ghost use Rattle.elf_link_names.specs.NameRules.{BreaksName, HasEarlier, HasNoName, HasTwoDefinitions, IsFirstName, IsUndefinedName, link_name_rules};
+ghost use Rattle.elf_link_names.specs.KnownNames.{TellsEarlier};
+ghost use Rattle.elf_link_names.specs.NameRules.{BreaksName, HasNoName, HasTwoDefinitions, IsFirstName, IsUndefinedName, link_name_rules};
 
 use crate::bind::is_unbound;
+use crate::known_names::Known;
 use crate::name_table::NameTable;
+use crate::named_symbol::NamedSymbol;
 use elf_field::abi::*;
 use elf_link_files::rules::*;
-use elf_link_files::{Broken, SectionId, Site, SymbolId, site_in};
-use elf_object_type::Place;
+use elf_link_files::{Broken, Site, SymbolId, site_in};
 
 /// A rule on the entries of a name.
 #[derive(Clone, Copy)]
@@ -26,84 +24,60 @@ enum NameRule {
     UndefinedName,
 }
 
-/// Whether a site comes before a symbol.
-fn is_earlier(site: Site, id: SymbolId) -> bool
-    ensures { IsTrue result ↔ IsEarlier site.file site.index id.file id.index }
+/// Whether a symbol comes before another.
+fn is_earlier(first: SymbolId, id: SymbolId) -> bool
+    ensures { IsTrue result ↔ IsEarlier first.file first.index id.file id.index }
 {
-    site.file < id.file || (site.file == id.file && site.index < id.index)
+    first.file < id.file || (first.file == id.file && first.index < id.index)
+}
+
+/// Whether a global definition of a name comes before a symbol, by what is known of the name.
+fn has_earlier(known: Known, id: SymbolId) -> bool
+    ensures { TellsEarlier known id result }
+{
+    match known.strong {
+        Some(first) => is_earlier(first, id),
+        None => false,
+    }
+}
+
+impl<'t, 'l, 'a> NamedSymbol<'t, 'l, 'a> {
+    /// Rule 8: whether it is a global definition, and one before it is of its name.
+    fn has_two_definitions(&self) -> bool
+        ensures { IsTrue result ↔ HasTwoDefinitions self.now.table.now self.now.id.file self.now.id.index }
+    {
+        self.input().is_definition(STB_GLOBAL) && has_earlier(self.table.known_of(self.id), self.id)
+    }
+
+    /// Rule 9: whether it is global, counts as undefined, and its name is bound to nothing.
+    fn is_undefined_name(&self) -> bool
+        ensures { IsTrue result ↔ IsUndefinedName self.now.table.now self.now.id.file self.now.id.index }
+    {
+        let symbol = self.input();
+        symbol.symbol().binding() == STB_GLOBAL
+            && symbol.is_undefined()
+            && is_unbound(self.table.known_of(self.id))
+    }
+
+    /// Whether it breaks the rule.
+    fn breaks(&self, rule: NameRule) -> bool
+        ensures { IsTrue result ↔ BreaksName self.now.table.now rule self.now.id.file self.now.id.index }
+    {
+        match rule {
+            NameRule::TwoDefinitions => self.has_two_definitions(),
+            NameRule::UndefinedName => self.is_undefined_name(),
+        }
+    }
 }
 
 impl<'l, 'a> NameTable<'l, 'a> {
-    /// Whether a global definition of its name comes before the symbol at `index` of a file, which is not local.
-    fn has_earlier(&self, id: SymbolId) -> bool
-        requires { IsEntryIn self.now id }
-        ensures { IsTrue result ↔ HasEarlier self.now (symbol_with self.now id).name id.file id.index }
-    {
-        match self.first_strong(id) {
-            Some(site) => is_earlier(site, id),
-            None => false,
-        }
-    }
-
-    /// Rule 8: whether a symbol is a global definition, and one before it is of its name.
-    fn has_two_definitions(&self, id: SymbolId) -> bool
-        requires symbol { IsSymbolIn self.now id }
-        ensures { IsTrue result ↔ HasTwoDefinitions self.now id.file id.index }
-    {
-        self.inputs.is_definition(STB_GLOBAL, id) && self.has_earlier(id)
-    }
-
-    /// Whether a place counts as undefined: nowhere, or in a section that is discarded.
-    fn is_undefined_at(&self, file: usize, place: Place) -> bool
-        requires file { file < length self.now }
-        requires place { IsPlaceIn (object_at self.now file) place }
-        ensures { IsTrue result ↔ IsUndefinedAt self.now file place }
-    {
-        match place {
-            Place::Abs | Place::Common => false,
-            Place::Undef => true,
-            Place::In(index) => self.inputs.is_discarded(SectionId { file, index }),
-        }
-    }
-
-    /// Whether the name of the symbol at `index` of a file, which is not local, is bound to nothing.
-    fn is_unbound(&self, id: SymbolId) -> bool
-        requires { IsEntryIn self.now id }
-        ensures { IsTrue result ↔ IsUnbound self.now (symbol_with self.now id).name }
-    {
-        is_unbound(self.known_of(id))
-    }
-
-    /// Rule 9: whether a symbol is global, counts as undefined, and its name is bound to nothing.
-    fn is_undefined_name(&self, id: SymbolId) -> bool
-        requires symbol { IsSymbolIn self.now id }
-        ensures { IsTrue result ↔ IsUndefinedName self.now id.file id.index }
-    {
-        self.inputs.prove_rules(id.file);
-        let symbol = self.inputs.symbol(id);
-        symbol.binding() == STB_GLOBAL
-            && self.is_undefined_at(id.file, symbol.place)
-            && self.is_unbound(id)
-    }
-
-    /// Whether the symbol at `index` of a file breaks the rule.
-    fn breaks(&self, rule: NameRule, id: SymbolId) -> bool
-        requires symbol { IsSymbolIn self.now id }
-        ensures { IsTrue result ↔ BreaksName self.now rule id.file id.index }
-    {
-        match rule {
-            NameRule::TwoDefinitions => self.has_two_definitions(id),
-            NameRule::UndefinedName => self.is_undefined_name(id),
-        }
-    }
-
     /// The first symbol of a file that breaks the rule.
     fn first_name_in(&self, rule: NameRule, file: usize) -> Option<usize>
         requires { file < length self.now }
         ensures { MatchOption result (HasNoName self.now rule file) (IsFirstName self.now rule file) }
     {
-        for index in 0..self.inputs.symbol_count(file) {
-            if self.breaks(rule, SymbolId { file, index }) {
+        for index in 0..self.symbol_count(file) {
+            if self.symbol(SymbolId { file, index }).breaks(rule) {
                 return Some(index);
             }
         }
@@ -114,7 +88,7 @@ impl<'l, 'a> NameTable<'l, 'a> {
     fn first_name(&self, rule: NameRule) -> Option<Site>
         ensures { MatchOption result (Never (AtSymbol self.now (BreaksName self.now rule))) (IsFirstAt (AtSymbol self.now (BreaksName self.now rule))) }
     {
-        for file in 0..self.inputs.file_count() {
+        for file in 0..self.file_count() {
             if let Some(index) = self.first_name_in(rule, file) {
                 return Some(site_in(file, index));
             }

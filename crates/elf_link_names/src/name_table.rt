@@ -1,16 +1,15 @@
 //! The names of the files of a link, before rules 8 and 9 are asked.
-ghost use Rattle.std.specs.Prelude.{◌≡◌, IfOk, MatchOption};
-ghost use Rattle.elf_extent.specs.Least.{Never};
-ghost use Rattle.elf_link_files.specs.Ids.{symbol_with};
+ghost use Rattle.std.specs.Prelude.{◌≡◌, ◌<◌, IfOk, length};
+ghost use Rattle.elf_link_files.specs.Files.{object_at};
+ghost use Rattle.elf_link_files.specs.Ids.{IsSymbolIn, symbol_with};
 ghost use Rattle.elf_link_names.specs.NameNumbers.{IsEntryIn};
-ghost use Rattle.elf_link_files.specs.Rows.{IsFirstAt};
-ghost use Rattle.elf_link_names.specs.Binds.{strong};
 ghost use Rattle.elf_link_names.specs.KnownNames.{IsKnownWhole};
 ghost use Rattle.elf_link_names.specs.Numbers.{IsNameCount, IsNumberOf};
 
-use crate::bind::site_of;
 use crate::known_names::{Known, KnownNames, known_item, known_names};
-use elf_link_files::{Inputs, Site, SymbolId};
+use crate::named_symbol::NamedSymbol;
+use elf_link_files::files::symbol_count;
+use elf_link_files::{InputSymbol, Inputs, SymbolId};
 use std::alloc::{AllocError, Global};
 use std::marker::Model;
 
@@ -51,6 +50,21 @@ impl<'l, 'a> NameTable<'l, 'a> {
         })
     }
 
+    /// How many files there are.
+    pub(crate) fn file_count(&self) -> usize
+        ensures { result ≡ length self.now }
+    {
+        self.inputs.file_count()
+    }
+
+    /// How many symbols a file has.
+    pub(crate) fn symbol_count(&self, file: usize) -> usize
+        requires { file < length self.now }
+        ensures { result ≡ length (object_at self.now file).symbols }
+    {
+        symbol_count(self.inputs.object(file))
+    }
+
     /// How many names there are.
     pub(crate) fn name_count(&self) -> usize
         ensures { IsNameCount self.now result }
@@ -75,11 +89,21 @@ impl<'l, 'a> NameTable<'l, 'a> {
         known_item(&self.names.known, self.number_of(id))
     }
 
-    /// The first global definition of the name of a symbol, which is not local.
-    pub(crate) fn first_strong(&self, id: SymbolId) -> Option<Site>
-        requires { IsEntryIn self.now id }
-        ensures { MatchOption result (Never (strong self.now (symbol_with self.now id).name)) (IsFirstAt (strong self.now (symbol_with self.now id).name)) }
+    /// A symbol of a file.
+    pub(crate) fn symbol(&self, id: SymbolId) -> NamedSymbol<'_, 'l, 'a>
+        requires { IsSymbolIn self.now id }
+        ensures table { result.table.now ≡ self.now }
+        ensures id { result.id ≡ id }
     {
-        site_of(self.known_of(id).strong)
+        NamedSymbol { table: self, id }
+    }
+
+    /// A symbol of a file, by itself.
+    pub(crate) fn input(&self, id: SymbolId) -> InputSymbol<'_, 'l, 'a>
+        requires { IsSymbolIn self.now id }
+        ensures inputs { result.inputs.now ≡ self.now }
+        ensures id { result.id ≡ id }
+    {
+        self.inputs.symbol(id)
     }
 }

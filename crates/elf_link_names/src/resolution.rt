@@ -87,7 +87,7 @@ impl<'l, 'a> Resolution<'l, 'a> {
         requires { IsSymbolIn self.now.objects id }
         ensures { symbol_value result ≡ symbol_with self.now.objects id }
     {
-        self.inputs.symbol(id)
+        self.inputs.symbol(id).symbol()
     }
 
     /// The files.
@@ -134,6 +134,7 @@ impl<'l, 'a> Resolution<'l, 'a> {
     {
         self.inputs
             .symbol(known_item(&self.names.known, k).first)
+            .symbol()
             .name
     }
 

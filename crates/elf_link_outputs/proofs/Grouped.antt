@@ -18,7 +18,7 @@ use Rattle.elf_link_files.specs.Items.{AreEach}
 use Rattle.elf_link_files.specs.Rows.{Before}
 use Rattle.elf_link_files.proofs.Public.{lists_more, lists_same, not_true, same_bool, one_before, each_more}
 use Rattle.elf_link_outputs.specs.declared.outputs.OutputKey.{OutputKey}
-use Rattle.elf_link_outputs.specs.OutputGroups.{AreGrouped, AreGroups, AreGroupsOfKind, AreHeaded, AreInOrder, IsHead, IsKeyOf, no_key}
+use Rattle.elf_link_outputs.specs.OutputGroups.{AreGrouped, AreGroups, AreGroupsOfKind, AreHeaded, AreInOrder, IsHead, IsKeyOf, IsMemberAdded, no_key}
 use Rattle.elf_link_outputs.specs.Outputs.{HaveOneKey, Picks, members, of_kind, openers}
 use Rattle.elf_link_outputs.specs.Plan.{AreOpeners, AreOutputMembers}
 use Rattle.elf_link_outputs.proofs.Openers.{key_join, key_swap}
@@ -226,7 +226,7 @@ of_one fs p q a b (name, flags, kind) (name_2, flags_2, kind_2) (one, two, three
     rw ((bytes_eq-Decides a.name.now b.name.now).1 (name ∙ one ∙ sym name_2), eq-eqb a.flags b.flags (flags ∙ two ∙ sym flags_2), beq_of a.no_bits b.no_bits (kind ∙ three ∙ sym kind_2)) refl
 
 -- the section's key is that of the group at its rank
-pub grouped_again : (fs : List ObjectValue) (ps : List Site) (k rank : ℕ) (key : OutputKey) (keys now : List OutputKey) (groups : List (List Site)) →
+grouped_again : (fs : List ObjectValue) (ps : List Site) (k rank : ℕ) (key : OutputKey) (keys now : List OutputKey) (groups : List (List Site)) →
     AreInOrder ps → k < length ps → IsKeyOf fs (site_at ps k) key → rank ≡ position_or_len (same_key key) keys →
     now ≡ (if list_any (same_key key) keys then keys else keys ++ key ∷ []) → rank < length groups → AreGrouped fs ps k keys groups →
     AreGrouped fs ps (k + 1) now (set groups rank (get_or groups rank [] ++ site_at ps k ∷ []))
@@ -245,7 +245,7 @@ grouped_again fs ps k rank key keys now groups order lt is at inserted within (h
     )
 
 -- no group has the section's key
-pub grouped_new : (fs : List ObjectValue) (ps : List Site) (k rank : ℕ) (key : OutputKey) (keys now : List OutputKey) (groups : List (List Site)) →
+grouped_new : (fs : List ObjectValue) (ps : List Site) (k rank : ℕ) (key : OutputKey) (keys now : List OutputKey) (groups : List (List Site)) →
     AreInOrder ps → k < length ps → IsKeyOf fs (site_at ps k) key → rank ≡ position_or_len (same_key key) keys →
     now ≡ (if list_any (same_key key) keys then keys else keys ++ key ∷ []) → (rank < length groups → ⊥) → AreGrouped fs ps k keys groups →
     AreGrouped fs ps (k + 1) now (groups ++ (site_at ps k ∷ []) ∷ [])
@@ -270,6 +270,18 @@ grouped_new fs ps k rank key keys now groups order lt is at inserted past (heads
             (λ r r_in one. true≢false (sym (of_one fs s (site_at heads r) key (get_or keys r no_key) is (held.each r r_in) one) ∙
             fails_before_first (same_key key) keys r no_key (omega arith))) are,
       ))
+]
+
+-- so a section is passed
+pub grouped_next : (fs : List ObjectValue) (ps : List Site) (k rank : ℕ) (key : OutputKey) (keys now : List OutputKey) (groups after : List (List Site)) →
+    AreInOrder ps → k < length ps → IsKeyOf fs (site_at ps k) key → rank ≡ position_or_len (same_key key) keys →
+    now ≡ (if list_any (same_key key) keys then keys else keys ++ key ∷ []) → IsMemberAdded groups rank (site_at ps k) after →
+    AreGrouped fs ps k keys groups → AreGrouped fs ps (k + 1) now after
+grouped_next fs ps k rank key keys now groups after order lt is at inserted added are = elim (cases_lt rank (length groups)) [
+  | inl within ↦ subst (AreGrouped fs ps (k + 1) now) (sym (added.joined within)) (grouped_again fs ps k rank key keys now groups order lt is at inserted within are)
+  | inr past ↦ (
+      let never : rank < length groups → ⊥ = λ within. omega arith in
+      subst (AreGrouped fs ps (k + 1) now) (sym (added.opened never)) (grouped_new fs ps k rank key keys now groups order lt is at inserted never are))
 ]
 
 pub grouped_all : (fs : List ObjectValue) (ps : List Site) (keys : List OutputKey) (groups : List (List Site)) → AreGrouped fs ps (length ps) keys groups →

@@ -1,5 +1,5 @@
 -- Objects have at most one list of outputs.
-use Rattle.std.proofs.Common.{◌≡◌, ◌+◌, true, false, List, [], ◌++◌, length, sym, ◌∙◌, ap₂, subst}
+use Rattle.std.proofs.Common.{◌≡◌, true, false, List, [], ◌++◌, length, sym, ◌∙◌, ap₂, subst}
 use Rattle.elf_object_type.specs.Object.{ObjectValue}
 use Rattle.elf_link_files.specs.declared.site.Site.{Site}
 use Rattle.elf_link_files.specs.Listing.{Lists, site_at}

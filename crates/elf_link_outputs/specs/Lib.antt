@@ -12,5 +12,3 @@ pub mod OutputsView
 pub mod PlanView
 pub mod AddressedView
 pub mod AddressedFrom
-pub mod LiveView
-pub mod SectionsView

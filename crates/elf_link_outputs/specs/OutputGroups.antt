@@ -1,5 +1,5 @@
 -- Sections grouped by the output that they go to, in the order of the first one of each.
-use Rattle.std.specs.Prelude.{◌≡◌, ℕ, ◌<◌, Bool, false, List, [], length}
+use Rattle.std.specs.Prelude.{◌≡◌, ℕ, ◌<◌, Bool, false, List, [], ◌∷◌, ◌++◌, get_or, length, set}
 use Rattle.elf_object_type.specs.Object.{ObjectValue}
 use Rattle.elf_link_files.specs.declared.site.Site.{Site}
 use Rattle.elf_link_files.specs.Listing.{Lists, site_at}
@@ -37,6 +37,11 @@ AreGrouped fs ps k keys groups =
 
 abbrev pub AreGroups : List ObjectValue → List Site → List (List Site) → Type 0
 AreGroups fs ps groups = (heads : List Site) × AreHeaded fs ps (length ps) heads groups
+
+-- a site is added to the group of this rank, or opens one where there is none
+pub record IsMemberAdded (groups : List (List Site)) (rank : ℕ) (s : Site) (now : List (List Site)) : Type 0 where
+  pub joined : rank < length groups → now ≡ set groups rank (get_or groups rank [] ++ s ∷ [])
+  pub opened : (rank < length groups → ⊥) → now ≡ groups ++ (s ∷ []) ∷ []
 
 -- the groups of the live sections with bits, or without
 abbrev pub AreGroupsOfKind : List ObjectValue → Bool → List (List Site) → Type 0

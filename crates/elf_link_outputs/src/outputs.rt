@@ -1,9 +1,9 @@
 //! Output sections: the live sections of each, in order.
-ghost use Rattle.std.specs.Prelude.{◌≡◌, ◌↔◌, ◌+◌, ◌<◌, [], ◌∷◌, ◌++◌, IfOk, IsTrue, OnOk, get_or, length, map, set};
+ghost use Rattle.std.specs.Prelude.{◌≡◌, ◌↔◌, ◌+◌, ◌<◌, IfOk, IsTrue, OnOk, length, map};
 ghost use Rattle.std.specs.List.{flat_map};
 ghost use Rattle.elf_link_files.specs.Files.{object_at};
 ghost use Rattle.elf_link_files.specs.Listing.{Lists, site_at};
-ghost use Rattle.elf_link_outputs.specs.OutputGroups.{AreGrouped, AreGroups, AreGroupsOfKind, IsKeyOf};
+ghost use Rattle.elf_link_outputs.specs.OutputGroups.{AreGrouped, AreGroups, AreGroupsOfKind, IsKeyOf, IsMemberAdded};
 ghost use Rattle.elf_link_outputs.specs.Outputs.{Picks, is_no_bits as is_no_bits_of, live as live_row, of_kind, output_flags as output_flags_of, section_at_site};
 ghost use Rattle.elf_link_outputs.specs.Plan.{AreOutputs, flat, output_parts};
 ghost use Rattle.elf_object_type.specs.ObjectView.{body_value};
@@ -57,13 +57,20 @@ fn key_of<'a>(objects: &[Object<'a>], site: Site) -> OutputKey<'a>
     }
 }
 
-/// Adds a site to a group.
-fn add_member(groups: &mut Vec<Vec<Site>>, rank: usize, site: Site) -> Result<(), AllocError>
-    requires { rank < length groups.old.items }
-    ensures { OnOk result (map (λ ms. ms.items) groups.new.items ≡
-        set (map (λ ms. ms.items) groups.old.items) rank (get_or (map (λ ms. ms.items) groups.old.items) rank [] ++ site ∷ [])) }
+/// Adds a site to the group of this rank, or opens a group with it where there is none.
+fn add_member(
+    alloc: Global,
+    groups: &mut Vec<Vec<Site>>,
+    rank: usize,
+    site: Site,
+) -> Result<(), AllocError>
+    ensures { OnOk result (IsMemberAdded (map (λ ms. ms.items) groups.old.items) rank site (map (λ ms. ms.items) groups.new.items)) }
 {
-    groups[rank].push(site)?;
+    if rank < groups.len() {
+        groups[rank].push(site)?;
+        return Ok(());
+    }
+    groups.push(vec![in alloc; site]?)?;
     Ok(())
 }
 
@@ -79,7 +86,7 @@ impl<'l, 'a> Model for Sections<'l, 'a> {
 
     ghost Value = { SectionsValue };
 
-    ghost use Rattle.elf_link_outputs.specs.SectionsView.{AreSections, sections_value};
+    ghost use Rattle.elf_link_outputs.specs.OutputsView.{AreSections, sections_value};
 
     ghost view = { sections_value };
 
@@ -101,11 +108,7 @@ impl<'l, 'a> Sections<'l, 'a> {
     {
         let sites = self.sites;
         let (rank, _) = seen.insert_full(key_of(self.objects, sites[k]))?;
-        if rank < groups.len() {
-            add_member(groups, rank, sites[k])?;
-            return Ok(());
-        }
-        groups.push(vec![in alloc; sites[k]]?)?;
+        add_member(alloc, groups, rank, sites[k])?;
         Ok(())
     }
 
@@ -138,7 +141,7 @@ impl<'l, 'a> Model for LiveSections<'l, 'a> {
 
     ghost Value = { SectionsValue };
 
-    ghost use Rattle.elf_link_outputs.specs.LiveView.{AreLiveSections, live_value};
+    ghost use Rattle.elf_link_outputs.specs.OutputsView.{AreLiveSections, live_value};
 
     ghost view = { live_value };
 

@@ -14,7 +14,7 @@ use crate::common::Common;
 use crate::output::{Member, Output};
 use crate::outputs::{is_no_bits, output_flags};
 use elf_link_files::files::{section_of, symbol_of};
-use elf_link_files::{Chosen, Site};
+use elf_link_files::{Chosen, Site, SymbolId};
 use elf_object_type::Object;
 use std::alloc::{AllocError, Global};
 
@@ -104,8 +104,12 @@ fn placed_common<'a>(objects: &[Object<'a>], common: Chosen, address: u64) -> Co
     requires index { common.site.index < length (object_at objects.now common.site.file).symbols }
     ensures { common_value result ≡ record { name = name_at objects.now common.site; address = address; size = common.size; align = common.align } }
 {
+    let id = SymbolId {
+        file: common.site.file,
+        index: common.site.index,
+    };
     Common {
-        name: symbol_of(objects, common.site.file, common.site.index).name,
+        name: symbol_of(objects, id).name,
         address,
         size: common.size,
         align: common.align,

@@ -5,4 +5,5 @@ pub mod LayoutParts
 pub mod LayoutView
 pub mod NameTables
 pub mod PlacedObject
+pub mod There
 pub mod ObjectWriting

@@ -3,11 +3,12 @@ ghost use Rattle.std.specs.Prelude.{◌≡◌, ◌<◌, ◌≤◌, ◌^◌, All,
 ghost use Rattle.elf_image_stream.specs.Output.{Writes};
 ghost use Rattle.elf_object_type.specs.Object.{section_at};
 ghost use Rattle.elf_object_type.specs.ObjectView.{body_value, section_value};
-ghost use Rattle.elf_object_writer.specs.PlacedObject.{HasShortIndexes, HasShortNumbers, IsThere, plain_section};
+ghost use Rattle.elf_object_writer.specs.PlacedObject.{HasShortIndexes, HasShortNumbers, plain_section};
 ghost use Rattle.elf_object_writer.specs.PlainSections.{body_bytes, index_of, index_table_section, own_section, relocation_bytes, symbol_table_section};
 ghost use Rattle.elf_image_rules.specs.HeaderRules.{MAX_LEN};
 
 use crate::body_entries::{GroupWords, RelEntries, RelaEntries};
+use crate::laid_section::LaidSection;
 use crate::layout_parts::content_part;
 use crate::placed_object::PlacedObject;
 use crate::placed_section::PlacedSection;
@@ -19,25 +20,37 @@ use elf_image_stream::{WriteFault, write_whole};
 use elf_object_type::{Body, Relocation, Section};
 use std::io::Write;
 
-/// Writes the content of a section, or exactly the first `written` bytes of it, fewer than all, and a fault.
-pub(crate) fn write_content<W: Write>(
-    placed: &PlacedObject<'_, '_>,
-    section: PlacedSection,
-    writer: &mut W,
-) -> Result<(), WriteFault>
-    requires { IsThere placed.now.object section }
-    ensures { Writes (W.contents writer.old) (W.contents writer.new)
-        (plain_section placed.now.object section).content result }
-{
-    match section {
-        PlacedSection::Own(position) => {
-            let section = object_section(placed, position);
-            write_body(placed.object().order(), &section.body, writer)
+impl<'p, 'o, 'a> LaidSection<'p, 'o, 'a> {
+    /// Writes its content, or exactly the first `written` bytes of it, fewer than all, and a fault.
+    pub(crate) fn write_content<W: Write>(&self, writer: &mut W) -> Result<(), WriteFault>
+        ensures { Writes (W.contents writer.old) (W.contents writer.new)
+            (plain_section self.now.placed.now.object self.now.section).content result }
+    {
+        let placed = self.placed;
+        match self.section {
+            PlacedSection::Own(position) => {
+                let section = object_section(placed, position);
+                write_body(placed.object().order(), &section.body, writer)
+            }
+            PlacedSection::SymbolTable => write_symbols(placed, writer),
+            PlacedSection::IndexTable => write_index_table(placed, writer),
+            PlacedSection::Strings => write_whole(writer, placed.strings()),
+            PlacedSection::Names => write_whole(writer, placed.names()),
         }
-        PlacedSection::SymbolTable => write_symbols(placed, writer),
-        PlacedSection::IndexTable => write_index_table(placed, writer),
-        PlacedSection::Strings => write_whole(writer, placed.strings()),
-        PlacedSection::Names => write_whole(writer, placed.names()),
+    }
+
+    /// The size of its content in the file.
+    pub(crate) fn content_size(&self) -> u64
+        ensures { result ≡ length (plain_section self.now.placed.now.object self.now.section).content }
+    {
+        let placed = self.placed;
+        match self.section {
+            PlacedSection::Own(position) => content_part(object_section(placed, position)).0,
+            PlacedSection::SymbolTable => SYM_SIZE * (symbol_count(placed) as u64 + 1),
+            PlacedSection::IndexTable => WORD_SIZE * (symbol_count(placed) as u64 + 1),
+            PlacedSection::Strings => placed.strings().len() as u64,
+            PlacedSection::Names => placed.names().len() as u64,
+        }
     }
 }
 
@@ -108,19 +121,5 @@ fn write_relocations<W: Write>(
         write_entries(writer, order, &RelaEntries { entries })
     } else {
         write_entries(writer, order, &RelEntries { entries })
-    }
-}
-
-/// The size of a section's content in the file.
-pub(crate) fn content_size(placed: &PlacedObject<'_, '_>, section: PlacedSection) -> u64
-    requires { IsThere placed.now.object section }
-    ensures { result ≡ length (plain_section placed.now.object section).content }
-{
-    match section {
-        PlacedSection::Own(position) => content_part(object_section(placed, position)).0,
-        PlacedSection::SymbolTable => SYM_SIZE * (symbol_count(placed) as u64 + 1),
-        PlacedSection::IndexTable => WORD_SIZE * (symbol_count(placed) as u64 + 1),
-        PlacedSection::Strings => placed.strings().len() as u64,
-        PlacedSection::Names => placed.names().len() as u64,
     }
 }

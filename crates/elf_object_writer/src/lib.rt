@@ -11,6 +11,7 @@ mod body_entries;
 mod contents;
 mod file_header;
 mod indexes;
+mod laid_section;
 mod layout;
 mod layout_parts;
 mod name_tables;

@@ -5,14 +5,13 @@ ghost use Rattle.elf_field.specs.Ehdr.{ehdr_bytes};
 ghost use Rattle.elf_image_stream.specs.Output.{Writes};
 ghost use Rattle.elf_object_writer.specs.Laid.{file_header, layout_bytes};
 ghost use Rattle.elf_object_writer.specs.ObjectWriting.{WritesBehind, header_table};
-ghost use Rattle.elf_object_writer.specs.PlacedObject.{IsThere, plain_section};
+ghost use Rattle.elf_object_writer.specs.PlacedObject.{plain_section};
 ghost use Rattle.elf_object_writer.specs.PlainSections.{PlainSection, plain_sections};
 ghost use Rattle.elf_image_rules.specs.HeaderRules.{MAX_LEN};
 
-use crate::contents::{content_size, write_content};
 use crate::file_header::file_header;
+use crate::laid_section::LaidSection;
 use crate::placed_object::PlacedObject;
-use crate::placed_section::PlacedSection;
 use crate::section_headers::SectionHeaders;
 use elf_field::abi::*;
 use elf_image_stream::WriteFault;
@@ -68,33 +67,30 @@ fn write_part<W: Write>(
 {
     placed.prove_placed();
     let section = placed.section(position);
+    let laid = LaidSection { placed, section };
     let padding = placed.place(position) - out;
-    let size = content_size(placed, section);
-    let sent = write_padded_content(placed, section, padding, writer);
+    let size = laid.content_size();
+    let sent = laid.write_padded(padding, writer);
     behind(out, padding + size, sent)
 }
 
-/// Zeros, and the content of a section.
-fn write_padded_content<W: Write>(
-    placed: &PlacedObject<'_, '_>,
-    section: PlacedSection,
-    padding: u64,
-    writer: &mut W,
-) -> Result<(), WriteFault>
-    requires there { IsThere placed.now.object section }
-    requires short { padding + length (plain_section placed.now.object section).content < 2 ^ 64 }
-    ensures { Writes (W.contents writer.old) (W.contents writer.new)
-        (replicate padding 0 ++ (plain_section placed.now.object section).content) result }
-{
-    match write_zeros(writer, padding) {
-        Ok(()) => {}
-        Err(fault) => return Err(fault),
-    }
-    match write_content(placed, section, writer) {
-        Ok(()) => Ok(()),
-        Err(fault) => Err(WriteFault {
-            written: padding + fault.written,
-        }),
+impl<'p, 'o, 'a> LaidSection<'p, 'o, 'a> {
+    /// Writes zeros, and its content.
+    fn write_padded<W: Write>(&self, padding: u64, writer: &mut W) -> Result<(), WriteFault>
+        requires { padding + length (plain_section self.now.placed.now.object self.now.section).content < 2 ^ 64 }
+        ensures { Writes (W.contents writer.old) (W.contents writer.new)
+            (replicate padding 0 ++ (plain_section self.now.placed.now.object self.now.section).content) result }
+    {
+        match write_zeros(writer, padding) {
+            Ok(()) => {}
+            Err(fault) => return Err(fault),
+        }
+        match self.write_content(writer) {
+            Ok(()) => Ok(()),
+            Err(fault) => Err(WriteFault {
+                written: padding + fault.written,
+            }),
+        }
     }
 }
 

@@ -5,13 +5,14 @@ ghost use Rattle.elf_object_strings.specs.StringTable.{name_offset};
 ghost use Rattle.elf_object_writer.specs.Laid.{section_header, section_headers};
 ghost use Rattle.elf_object_type.specs.Object.{section_at};
 ghost use Rattle.elf_object_type.specs.ObjectView.{body_value, symbol_value};
-ghost use Rattle.elf_object_writer.specs.PlacedObject.{IsThere, plain_section};
+ghost use Rattle.elf_object_writer.specs.PlacedObject.{plain_section};
 ghost use Rattle.elf_object_writer.specs.PlainSections.{PlainSection, body_type, index_of, is_local, name_table_at, own_info, own_section, plain_sections, section_names};
 ghost use Rattle.elf_object_type.specs.Positions.{info_position};
 ghost use Rattle.elf_image_rules.specs.Tables.{no_section_header};
 
-use crate::contents::{content_size, object_section};
+use crate::contents::object_section;
 use crate::indexes::{index_of, long_number};
+use crate::laid_section::LaidSection;
 use crate::layout_parts::RECORD_ALIGNMENT;
 use crate::placed_object::PlacedObject;
 use crate::placed_section::PlacedSection;
@@ -82,49 +83,46 @@ fn header_at(placed: &PlacedObject<'_, '_>, position: usize) -> Shdr
         (get_or (plain_sections o) position d) (slice_index placed.now.layout.places position) }
 {
     let section = placed.section(position);
-    let sh_name = placed.section_name(position);
-    header_of(placed, section, sh_name, placed.place(position))
+    let laid = LaidSection { placed, section };
+    laid.header(placed.section_name(position), placed.place(position))
 }
 
-/// The header of a section with this name, whose content begins at this offset.
-fn header_of(
-    placed: &PlacedObject<'_, '_>,
-    section: PlacedSection,
-    sh_name: u32,
-    sh_offset: u64,
-) -> Shdr
-    requires { IsThere placed.now.object section }
-    ensures { let s = plain_section placed.now.object section in
-        (name_at : List ℕ → ℕ) → sh_name ≡ name_at s.name → result ≡ section_header name_at s sh_offset }
-{
-    let header = Shdr {
-        sh_name,
-        sh_offset,
-        sh_size: content_size(placed, section),
-        ..NO_HEADER
-    };
-    match section {
-        PlacedSection::Own(position) => own_header(placed, position, header),
-        PlacedSection::SymbolTable => Shdr {
-            sh_type: SHT_SYMTAB,
-            sh_link: placed.strings_index() as u32,
-            sh_info: local_info(placed),
-            sh_addralign: RECORD_ALIGNMENT,
-            sh_entsize: SYM_SIZE,
-            ..header
-        },
-        PlacedSection::IndexTable => Shdr {
-            sh_type: SHT_SYMTAB_SHNDX,
-            sh_link: placed.symbol_table_index() as u32,
-            sh_addralign: WORD_SIZE,
-            sh_entsize: WORD_SIZE,
-            ..header
-        },
-        PlacedSection::Strings | PlacedSection::Names => Shdr {
-            sh_type: SHT_STRTAB,
-            sh_addralign: 1,
-            ..header
-        },
+impl<'p, 'o, 'a> LaidSection<'p, 'o, 'a> {
+    /// Its header, with this name, where its content begins at this offset.
+    fn header(&self, sh_name: u32, sh_offset: u64) -> Shdr
+        ensures { let s = plain_section self.now.placed.now.object self.now.section in
+            (name_at : List ℕ → ℕ) → sh_name ≡ name_at s.name → result ≡ section_header name_at s sh_offset }
+    {
+        let placed = self.placed;
+        let header = Shdr {
+            sh_name,
+            sh_offset,
+            sh_size: self.content_size(),
+            ..NO_HEADER
+        };
+        match self.section {
+            PlacedSection::Own(position) => own_header(placed, position, header),
+            PlacedSection::SymbolTable => Shdr {
+                sh_type: SHT_SYMTAB,
+                sh_link: placed.strings_index() as u32,
+                sh_info: local_info(placed),
+                sh_addralign: RECORD_ALIGNMENT,
+                sh_entsize: SYM_SIZE,
+                ..header
+            },
+            PlacedSection::IndexTable => Shdr {
+                sh_type: SHT_SYMTAB_SHNDX,
+                sh_link: placed.symbol_table_index() as u32,
+                sh_addralign: WORD_SIZE,
+                sh_entsize: WORD_SIZE,
+                ..header
+            },
+            PlacedSection::Strings | PlacedSection::Names => Shdr {
+                sh_type: SHT_STRTAB,
+                sh_addralign: 1,
+                ..header
+            },
+        }
     }
 }
 

@@ -1,9 +1,8 @@
 use Rattle.std.proofs.Common.{◌≡◌, ℕ, ◌<◌, List, length, get_or, ap, sym, subst, ◌∙◌, arith, rules, vec_len}
-use Rattle.elf_object_type.specs.Object.{SectionValue}
+use Rattle.elf_object_type.specs.Object.{SectionValue, section_at}
 use Rattle.elf_object_type.specs.ObjectView.{body_value}
 use Rattle.elf_object_type.specs.Positions.{members_of}
 use Rattle.elf_object_type.specs.declared.section.Body.{Body}
-use Rattle.elf_link_files.specs.Files.{object_at, section_in}
 use Rattle.elf_link_files.specs.Marking.{AreMembersMarked}
 use Rattle.elf_object_type.proofs.Public.{member_there}
 use Rattle.elf_link_files.proofs.Marked.{marked_none, marked_next}
@@ -11,16 +10,16 @@ use Rattle.elf_link_files.proofs.discarded.mark_members.Goals as goal
 
 pub index_mut-requires : goal.index_mut-requires
 index_mut-requires c =
-    let fs = c.args.objects.now in
+    let o = c.args.object.now in
     let ms = c.deref-member-items.result.now in
     let k = c.loop-member.member-index in
     let body = ap (λ (b : Body). members_of (body_value b)) c.in-Group.is in
-    let section = ap (λ (s : SectionValue). members_of s.body) c.section_of.ensures in
-    let same : members_of (section_in fs c.args.id.file c.args.id.index).body ≡ ms = sym section ∙ body ∙ sym c.deref-member-items.ensures.value in
-    let below : k < length (members_of (section_in fs c.args.id.file c.args.id.index).body) = rw same c.loop-member-test.true in
-    let there : get_or ms k 0 < length (object_at fs c.args.id.file).sections =
-    subst (λ (xs : List ℕ). get_or xs k 0 < length (object_at fs c.args.id.file).sections) same
-    (member_there (object_at fs c.args.id.file) c.args.id.index k c.prove_rules.ensures c.requires.section.1 below) in
+    let section = ap (λ (s : SectionValue). members_of s.body) c.section_at.ensures in
+    let same : members_of (section_at o c.args.index).body ≡ ms = sym section ∙ body ∙ sym c.deref-member-items.ensures.value in
+    let below : k < length (members_of (section_at o c.args.index).body) = rw same c.loop-member-test.true in
+    let there : get_or ms k 0 < length o.sections =
+    subst (λ (xs : List ℕ). get_or xs k 0 < length o.sections) same
+    (member_there o c.args.index k c.prove_rules.ensures.kept c.requires.section below) in
     let wide : length c.loop-member.marks.items ≡ vec_len c.loop-member.marks = search rules in
     let long = c.loop-member.invariant.long in
     let rows = c.requires.marks in
@@ -31,16 +30,16 @@ loop-member-init c = marked_none c.args.marks.now.items c.deref-member-items.res
 
 pub loop-member-preserved : goal.loop-member-preserved
 loop-member-preserved c =
-    let fs = c.args.objects.now in
+    let o = c.args.object.now in
     let ms = c.deref-member-items.result.now in
     let k = c.loop-member.member-index in
     let body = ap (λ (b : Body). members_of (body_value b)) c.in-Group.is in
-    let section = ap (λ (s : SectionValue). members_of s.body) c.section_of.ensures in
-    let same : members_of (section_in fs c.args.id.file c.args.id.index).body ≡ ms = sym section ∙ body ∙ sym c.deref-member-items.ensures.value in
-    let below : k < length (members_of (section_in fs c.args.id.file c.args.id.index).body) = rw same c.loop-member-test.true in
-    let there : get_or ms k 0 < length (object_at fs c.args.id.file).sections =
-    subst (λ (xs : List ℕ). get_or xs k 0 < length (object_at fs c.args.id.file).sections) same
-    (member_there (object_at fs c.args.id.file) c.args.id.index k c.prove_rules.ensures c.requires.section.1 below) in
+    let section = ap (λ (s : SectionValue). members_of s.body) c.section_at.ensures in
+    let same : members_of (section_at o c.args.index).body ≡ ms = sym section ∙ body ∙ sym c.deref-member-items.ensures.value in
+    let below : k < length (members_of (section_at o c.args.index).body) = rw same c.loop-member-test.true in
+    let there : get_or ms k 0 < length o.sections =
+    subst (λ (xs : List ℕ). get_or xs k 0 < length o.sections) same
+    (member_there o c.args.index k c.prove_rules.ensures.kept c.requires.section below) in
     let long = c.loop-member.invariant.long in
     let rows = c.requires.marks in
     marked_next c.args.marks.now.items ms k c.loop-member.marks.items c.loop-member.invariant (omega arith)
@@ -49,8 +48,8 @@ pub returns : goal.returns
 returns c =
     let ms = c.deref-member-items.result.now in
     let body = ap (λ (b : Body). members_of (body_value b)) c.in-Group.is in
-    let section = ap (λ (s : SectionValue). members_of s.body) c.section_of.ensures in
-    let same : ms ≡ members_of (section_in c.args.objects.now c.args.id.file c.args.id.index).body = c.deref-member-items.ensures.value ∙ sym body ∙ section in
+    let section = ap (λ (s : SectionValue). members_of s.body) c.section_at.ensures in
+    let same : ms ≡ members_of (section_at c.args.object.now c.args.index).body = c.deref-member-items.ensures.value ∙ sym body ∙ section in
     let end : c.loop-member.member-index ≡ length ms = omega arith in
     subst (λ (xs : List ℕ). AreMembersMarked c.args.marks.now.items xs (length xs) c.loop-member.marks.items) same
     (subst (λ (n : ℕ). AreMembersMarked c.args.marks.now.items ms n c.loop-member.marks.items) end c.loop-member.invariant)

@@ -1,5 +1,5 @@
 -- The plan is of the resolution's files and commons, so the addresses of the plan are those of the link.
-use Rattle.std.proofs.Common.{◌≡◌, List, refl, rules, sym, ◌∙◌}
+use Rattle.std.proofs.Common.{refl, rules, ◌∙◌}
 use Rattle.std.proofs.lemmas.Result.{IfOk-weaker}
 use Rattle.elf_link_outputs.specs.Plan.{Plan}
 use Rattle.elf_link_map.specs.PlacedFor.{IsAddressingFault}

@@ -27,7 +27,7 @@ loop-index-preserved c =
 pub returns-clause-names : goal.returns-clause-names
 returns-clause-names c =
     let fs = c.args.inputs.now in
-    let count = c.symbol_count-count.ensures in
+    let count = rw c.object.ensures at c.symbol_count-count.ensures in
     let past = c.loop-index-test.false in
     let end : c.loop-index.index ≡ length (object_at fs c.args.file).symbols = omega arith in
     subst (λ (n : ℕ). AreKnownBefore fs c.args.file n (name_position c.loop-index.names.positions) c.loop-index.names.known.items) end c.loop-index.invariant.names

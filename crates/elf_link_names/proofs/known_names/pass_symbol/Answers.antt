@@ -13,50 +13,50 @@ use Rattle.elf_link_names.proofs.known_names.pass_symbol.Goals as goal
 
 pub returns-then-is_local-clause-names : goal.returns-then-is_local-clause-names
 returns-then-is_local-clause-names c =
-    names_local c.args.inputs.now c.args.id.file c.args.id.index (name_position c.args.names.now.positions) c.args.names.now.known.items
-    (subst (λ (s : SymbolValue). binding s ≡ STB_LOCAL) c.symbol-symbol.ensures (c.if-is_local.ensures.0 refl)) c.requires.before
+    names_local c.args.symbol.now.inputs.now c.args.symbol.now.id.file c.args.symbol.now.id.index (name_position c.args.names.now.positions) c.args.names.now.known.items
+    (subst (λ (s : SymbolValue). binding s ≡ STB_LOCAL) c.symbol-own.ensures (c.if-is_local.ensures.0 refl)) c.requires
 
-pub known_past-requires-in-None-clause-before : goal.known_past-requires-in-None-clause-before
-known_past-requires-in-None-clause-before c =
-    let fs = c.args.inputs.now in
-    let same = ap (λ (s : SymbolValue). s.name) c.symbol-symbol.ensures in
-    let name = (symbol_in fs c.args.id.file c.args.id.index).name in
+pub known_past-requires-in-None : goal.known_past-requires-in-None
+known_past-requires-in-None c =
+    let fs = c.args.symbol.now.inputs.now in
+    let same = ap (λ (s : SymbolValue). s.name) c.symbol-own.ensures in
+    let name = (symbol_in fs c.args.symbol.now.id.file c.args.symbol.now.id.index).name in
     let old = name_position c.args.names.now.positions in
-    subst (IsKnownBefore fs name c.args.id.file c.args.id.index) (sym c.unknown-known.ensures)
-    (known_none fs name c.args.id.file c.args.id.index
-    (none_placed fs c.args.id.file c.args.id.index old c.args.names.now.known.items name
-    (subst (λ (n : List ℕ). old n ≡ None) same (sym c.in_ok-place.ensures.old ∙ c.in-None.is)) c.requires.before))
+    subst (IsKnownBefore fs name c.args.symbol.now.id.file c.args.symbol.now.id.index) (sym c.unknown-known.ensures)
+    (known_none fs name c.args.symbol.now.id.file c.args.symbol.now.id.index
+    (none_placed fs c.args.symbol.now.id.file c.args.symbol.now.id.index old c.args.names.now.known.items name
+    (subst (λ (n : List ℕ). old n ≡ None) same (sym c.in_ok-place.ensures.old ∙ c.in-None.is)) c.requires))
 
 pub returns-in-Some-clause-names : goal.returns-in-Some-clause-names
 returns-in-Some-clause-names c =
-    let fs = c.args.inputs.now in
-    let same = ap (λ (s : SymbolValue). s.name) c.symbol-symbol.ensures in
+    let fs = c.args.symbol.now.inputs.now in
+    let same = ap (λ (s : SymbolValue). s.name) c.symbol-own.ensures in
     let old = name_position c.args.names.now.positions in
-    names_again fs c.args.id.file c.args.id.index old (name_position c.place.new.self) c.args.names.now.known.items c.in-Some.k c.known_past.result
+    names_again fs c.args.symbol.now.id.file c.args.symbol.now.id.index old (name_position c.place.new.self) c.args.names.now.known.items c.in-Some.k c.known_past.result
     (λ q. rw c.in-Some.is at (c.in_ok-place.ensures.placed q))
     (subst (λ (n : List ℕ). old n ≡ Some c.in-Some.k) same (sym c.in_ok-place.ensures.old ∙ c.in-Some.is))
     (c.known_past.ensures.first ∙ ap (λ (k : Known). k.first) (c.known_item-known.ensures ∙ ap (λ (ks : List Known). known_at ks c.in-Some.k) c.deref.ensures.value))
-    c.known_past.ensures.known c.requires.before
+    c.known_past.ensures.known c.requires
 
 pub returns-in_ok-push-in-None-clause-names : goal.returns-in_ok-push-in-None-clause-names
 returns-in_ok-push-in-None-clause-names c =
-    let fs = c.args.inputs.now in
+    let fs = c.args.symbol.now.inputs.now in
     let ks = c.args.names.now.known.items in
-    let name = c.symbol-symbol.result.name.now in
-    let same = ap (λ (s : SymbolValue). s.name) c.symbol-symbol.ensures in
+    let name = c.symbol-own.result.name.now in
+    let same = ap (λ (s : SymbolValue). s.name) c.symbol-own.ensures in
     let old = name_position c.args.names.now.positions in
     let now = name_position c.place.new.self in
     let long : c.len-next.result ≡ length ks = search rules in
     rw c.in_ok-push-in-None.ensures.items
-    (names_new fs c.args.id.file c.args.id.index old now ks c.known_past-in-None.result c.requires.symbol.0 c.requires.symbol.1
-    (λ local. (let never : false ≡ true = c.if-is_local.ensures.1 (subst (λ (s : SymbolValue). binding s ≡ STB_LOCAL) (sym c.symbol-symbol.ensures) local) in cc))
+    (names_new fs c.args.symbol.now.id.file c.args.symbol.now.id.index old now ks c.known_past-in-None.result c.args.symbol.now.there.0 c.args.symbol.now.there.1
+    (λ local. (let never : false ≡ true = c.if-is_local.ensures.1 (subst (λ (s : SymbolValue). binding s ≡ STB_LOCAL) (sym c.symbol-own.ensures) local) in cc))
     (subst (λ (n : List ℕ). (q : List ℕ) → now q ≡ cond (bytes_eq n q) (Some (length ks)) (old q)) same
     (subst (λ (m : ℕ). (q : List ℕ) → now q ≡ cond (bytes_eq name q) (Some m) (old q)) long (λ q. rw c.in-None.is at (c.in_ok-place.ensures.placed q))))
     (subst (λ (n : List ℕ). old n ≡ None) same (sym c.in_ok-place.ensures.old ∙ c.in-None.is))
     (c.known_past-in-None.ensures.first ∙ ap (λ (k : Known). k.first) c.unknown-known.ensures)
-    c.known_past-in-None.ensures.known c.requires.before)
+    c.known_past-in-None.ensures.known c.requires)
 
 pub returns-in_ok-push-in-None-clause-kept : goal.returns-in_ok-push-in-None-clause-kept
 returns-in_ok-push-in-None-clause-kept c =
-    keeps_new (name_position c.args.names.now.positions) (name_position c.place.new.self) c.symbol-symbol.result.name.now c.len-next.result
+    keeps_new (name_position c.args.names.now.positions) (name_position c.place.new.self) c.symbol-own.result.name.now c.len-next.result
     (sym c.in_ok-place.ensures.old ∙ c.in-None.is) (λ q. rw c.in-None.is at (c.in_ok-place.ensures.placed q))

@@ -10,7 +10,7 @@ use Rattle.elf_link_names.proofs.listing.push_live_of.Goals as goal
 pub returns : goal.returns
 returns c =
     let fs = c.args.inputs.now in
-    let count = c.section_count-index-end.ensures in
+    let count = rw c.object.ensures at c.section_count-index-end.ensures in
     let past = c.loop-index-test.false in
     let end : c.loop-index.index ≡ length (object_at fs c.args.file).sections = omega arith in
     listed_file section_count fs (Live fs) c.args.file c.loop-index.sites.items

@@ -2,8 +2,8 @@ use Rattle.std.proofs.Common.{arith}
 use Rattle.elf_object_writer.proofs.Going.{part_end}
 use Rattle.elf_object_writer.proofs.placed_writing.write_part.Goals as goal
 
-pub write_padded_content-sent-requires-clause-short : goal.write_padded_content-sent-requires-clause-short
-write_padded_content-sent-requires-clause-short g c =
+pub write_padded-sent-requires : goal.write_padded-sent-requires
+write_padded-sent-requires g c =
     let end = part_end c.args.placed.now c.args.position c.section-section.result c.prove_placed.ensures c.requires.there c.section-section.ensures in
     let place = c.place.ensures in
     omega arith

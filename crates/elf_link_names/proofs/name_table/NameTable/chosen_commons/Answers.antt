@@ -14,7 +14,7 @@ loop-file-init c =
 pub returns : goal.returns
 returns c =
     let fs = c.args.self.now in
-    let count = rw c.self.view_is at c.file_count-file-end.ensures in
+    let count = c.file_count-file-end.ensures in
     let past = c.loop-file-test.false in
     let end : c.loop-file.file ≡ length fs = omega arith in
     chosen_all fs c.loop-file.commons.items

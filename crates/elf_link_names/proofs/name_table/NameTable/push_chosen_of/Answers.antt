@@ -11,7 +11,6 @@ returns c =
     let fs = c.args.self.now in
     let count = c.symbol_count-index-end.ensures in
     let past = c.loop-index-test.false in
-    let many = rw c.self.view_is at count in
     let end : c.loop-index.index ≡ length (object_at fs c.args.file).symbols = omega arith in
     chosen_file fs c.args.file c.loop-index.commons.items
     (subst (λ (n : ℕ). AreChosenIn (UpTo (chosen_commons fs) c.args.file n) fs c.loop-index.commons.items) end c.loop-index.invariant)
