@@ -12,21 +12,20 @@ use crate::note::{desc_start, namesz, note_end};
 use elf_field::Order;
 use elf_field::abi::*;
 use elf_image_rules::Broken;
-use elf_image_type::Image;
+use elf_table_base::TableSection;
 use elf_table_base::rules::*;
 
-/// Rules 40 and 59 to 62 of the note section `i`. [`Broken`] is the first of them that is broken, at its lowest offset.
+/// Rules 40 and 59 to 62 of a note section. [`Broken`] is the first of them that is broken, at its lowest offset.
 #[tactic(auto, unfolding(crate::specs::NoteRules::note_section_rules))]
-pub fn judge_note_section(image: &Image<'_>, i: usize) -> Result<(), Broken<u64>>
-    requires { i < length image.now.sections }
-    ensures { FirstIn (note_section_rules (sections_of image.now) i) (fault_of result) }
+pub fn judge_note_section(table: TableSection<'_, '_>) -> Result<(), Broken<u64>>
+    ensures { FirstIn (note_section_rules (sections_of table.entry.image.now) table.entry.index) (fault_of result) }
 {
-    let section = image.section(i);
+    let section = table.header();
     if section.sh_type != SHT_NOTE {
-        let at = image.header_offset(i) + SH_TYPE_AT;
+        let at = table.header_offset() + SH_TYPE_AT;
         return Err(Broken::new(WRONG_TABLE_TYPE, at));
     }
-    judge_notes(image.order(), image.content(i), section.sh_offset)
+    judge_notes(table.order(), table.content(), section.sh_offset)
 }
 
 /// Rules 59 to 62, of the notes of a content at `start` in the file. A name that is not closed is answered only once all notes are

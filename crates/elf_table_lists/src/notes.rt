@@ -11,6 +11,7 @@ use crate::note_rules::judge_note_section;
 use elf_field::Order;
 use elf_image_stream::Fault;
 use elf_image_type::Image;
+use elf_table_base::TableSection;
 use std::marker::Model;
 
 /// A note section: the list of its notes. It borrows from the bytes of the file.
@@ -40,7 +41,7 @@ impl<'a> Notes<'a> {
         requires { i < length image.now.sections }
         ensures { IsJudged (note_section_rules (sections_of image.now) i) (λ notes. notes ≡ notes_of (sections_of image.now) i) result }
     {
-        judge_note_section(image, i)?;
+        judge_note_section(TableSection { image, index: i })?;
         Ok(Notes::of_sound(image, i))
     }
 
@@ -50,9 +51,10 @@ impl<'a> Notes<'a> {
         requires sound { FirstIn (note_section_rules (sections_of image.now) i) None }
         ensures { result ≡ notes_of (sections_of image.now) i }
     {
+        let section = TableSection { image, index: i };
         Notes {
-            order: image.order(),
-            table: image.content(i),
+            order: section.order(),
+            table: section.content(),
         }
     }
 
