@@ -8,7 +8,7 @@ ghost use Rattle.elf_table_lists.specs.NoteRules.{IsUnclosedNoteName, name_last,
 ghost use Rattle.elf_table_lists.specs.Notes.{note_end as note_end_of};
 ghost use Rattle.elf_table_lists.specs.NoteCut.{IsCut};
 
-use crate::note::{desc_start, namesz, note_end};
+use crate::note::NoteHeader;
 use elf_field::Order;
 use elf_field::abi::*;
 use elf_image_rules::Broken;
@@ -59,10 +59,11 @@ fn judge_end(order: Order, table: &[u8], start: u64, at: usize) -> Result<usize,
     if table.len() - at < NHDR_SIZE as usize {
         return Err(Broken::new(PARTIAL_NOTE, place));
     }
-    if desc_start(order, table, at) > table.len() {
+    let header = NoteHeader { order, table, at };
+    if header.desc_start() > table.len() {
         return Err(Broken::new(NOTE_NAME_PAST_END, place + N_NAMESZ_AT));
     }
-    let end = note_end(order, table, at);
+    let end = header.note_end();
     if end > table.len() {
         return Err(Broken::new(NOTE_DESC_PAST_END, place + N_DESCSZ_AT));
     }
@@ -77,7 +78,7 @@ fn unclosed_note_name(order: Order, table: &[u8], at: usize) -> Option<usize>
         (IsUnclosedNoteName order table.now at → ⊥)
         (λ last. IsUnclosedNoteName order table.now at × (last ≡ name_last order table.now at) × (last < length table.now)) }
 {
-    let size = namesz(order, table, at);
+    let size = NoteHeader { order, table, at }.namesz();
     if size == 0 {
         return None;
     }

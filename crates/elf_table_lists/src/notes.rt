@@ -6,7 +6,7 @@ ghost use Rattle.elf_table_base.specs.Sections.{sections_of};
 ghost use Rattle.elf_table_lists.specs.NoteRules.{note_section_rules};
 ghost use Rattle.elf_table_lists.specs.Notes.{notes_of};
 
-use crate::note::{Note, note_at, note_end};
+use crate::note::{Note, NoteHeader, note_at};
 use crate::note_rules::judge_note_section;
 use elf_field::Order;
 use elf_image_stream::Fault;
@@ -107,7 +107,12 @@ impl<'a> Iterator for NoteIter<'a> {
             return None;
         }
         let note = note_at(self.order, self.table, self.at);
-        self.at = note_end(self.order, self.table, self.at);
+        let header = NoteHeader {
+            order: self.order,
+            table: self.table,
+            at: self.at,
+        };
+        self.at = header.note_end();
         Some(note)
     }
 }
