@@ -6,7 +6,7 @@ ghost use Rattle.elf_c.specs.Lengths.{length_in};
 use elf_field::Order;
 use elf_field::abi::{NHDR_SIZE, SHT_RELA, SYM_SIZE, WORD_SIZE};
 use elf_table_base::TableKind;
-use elf_table_lists::{first_null_entry, note_end, relocation_count};
+use elf_table_lists::{NoteHeader, first_null_entry, relocation_count};
 
 /// How many entries a table of this kind has in a section of this type: of a dynamic array those before the first of tag `DT_NULL`, of a
 /// hash table its words.
@@ -34,7 +34,12 @@ fn note_count(order: Order, content: &[u8]) -> usize
         if content.len() - at < NHDR_SIZE as usize {
             return count + 1;
         }
-        at = note_end(order, content, at);
+        let header = NoteHeader {
+            order,
+            table: content,
+            at,
+        };
+        at = header.note_end();
         count += 1;
     }
     count

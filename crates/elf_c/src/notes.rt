@@ -16,7 +16,7 @@ use elf_c_room::Slot;
 use elf_field::abi::{N_TYPE_AT, NHDR_SIZE};
 use elf_field::{Order, get_at};
 use elf_table_base::TableKind;
-use elf_table_lists::{desc_start, descsz, namesz, note_end};
+use elf_table_lists::NoteHeader;
 
 /// Note `index` of a note section; false where there is none of this index, or it or one before it is cut, and for a table of another kind.
 /// It goes over the notes before it.
@@ -100,7 +100,12 @@ fn end_of_note(order: Order, content: &[u8], offset: u64) -> Option<usize>
     if offset >= len || len - offset < NHDR_SIZE {
         return None;
     }
-    let end = note_end(order, content, offset as usize);
+    let header = NoteHeader {
+        order,
+        table: content,
+        at: offset as usize,
+    };
+    let end = header.note_end();
     if end <= content.len() {
         Some(end)
     } else {
@@ -117,14 +122,19 @@ fn note_in(order: Order, bytes: &[u8], at: usize, next: usize) -> Note
     ensures stands { NoteStandsAt result order bytes.now 0 at }
     ensures inside { LiesInFile result (length bytes.now) }
 {
+    let header = NoteHeader {
+        order,
+        table: bytes,
+        at,
+    };
     Note {
         name: Slot {
             start: at as u64 + NHDR_SIZE,
-            len: namesz(order, bytes, at).saturating_sub(1) as u64,
+            len: header.namesz().saturating_sub(1) as u64,
         },
         desc: Slot {
-            start: desc_start(order, bytes, at) as u64,
-            len: descsz(order, bytes, at) as u64,
+            start: header.desc_start() as u64,
+            len: header.descsz() as u64,
         },
         next: next as u64,
         n_type: get_at(order, bytes, at + N_TYPE_AT as usize),

@@ -15,7 +15,7 @@ ghost use Rattle.elf_table_all.specs.Verdict.{IsUnread, IsVerdictOf};
 use elf_image_rules::Broken;
 use elf_image_stream::Fault;
 use elf_image_type::Image;
-use elf_table_base::TableKind;
+use elf_table_base::{TableKind, TableSection};
 use elf_table_hash::judge_hash_table;
 use elf_table_lists::{
     judge_dynamic_section, judge_group_section, judge_note_section, judge_relocation_section,
@@ -36,7 +36,7 @@ pub(crate) fn all_verdicts(
     let symbols = symbol_verdicts(alloc, image, index_tables)?;
     let mut verdicts = Vec::with_capacity(alloc, image.section_count())?;
     for i in 0..image.section_count() {
-        verdicts.push(table_verdict(alloc, image, i, &symbols)?)?;
+        verdicts.push(table_verdict(alloc, TableSection { image, index: i }, &symbols)?)?;
     }
     Ok(verdicts)
 }
@@ -53,44 +53,41 @@ fn symbol_verdicts(
 {
     let mut verdicts = Vec::with_capacity(alloc, image.section_count())?;
     for (i, tables) in index_tables.iter().enumerate() {
-        verdicts.push(symbol_verdict(image, i, *tables))?;
+        verdicts.push(symbol_verdict(TableSection { image, index: i }, *tables))?;
     }
     Ok(verdicts)
 }
 
-// The verdict on the symbol table in section `i`, which has these index tables; `Ok` where it holds none.
-fn symbol_verdict(image: &Image<'_>, i: usize, tables: IndexTables) -> Result<(), Broken<u64>>
-    requires there { i < length image.now.sections }
-    requires tables { AreIndexTables (sections_of image.now) i (length image.now.sections) tables }
-    ensures { kind_of (section (sections_of image.now) i).sh_type ≡ Some kind.SymbolTable →
-        FirstIn (symbol_table_rules (sections_of image.now) i) (fault_of result) }
+// The verdict on the symbol table in this section, which has these index tables; `Ok` where it holds none.
+fn symbol_verdict(table: TableSection<'_, '_>, tables: IndexTables) -> Result<(), Broken<u64>>
+    requires { AreIndexTables (sections_of table.image.now) table.index (length table.image.now.sections) tables }
+    ensures { let f = sections_of table.entry.image.now in
+        kind_of (section f table.entry.index).sh_type ≡ Some kind.SymbolTable → FirstIn (symbol_table_rules f table.entry.index) (fault_of result) }
 {
-    match TableKind::of(image.section(i).sh_type) {
-        Some(TableKind::SymbolTable) => judge_symbol_table(image, i, tables),
+    match TableKind::of(table.header().sh_type) {
+        Some(TableKind::SymbolTable) => judge_symbol_table(table, tables),
         _ => Ok(()),
     }
 }
 
-// The verdict on the table in section `i`, by those on the symbol tables; `Ok` where it holds none.
+// The verdict on the table in this section, by those on the symbol tables; `Ok` where it holds none.
 #[tactic(auto, unfolding(crate::specs::TableRules::table_rules))]
 fn table_verdict(
     alloc: Global,
-    image: &Image<'_>,
-    i: usize,
+    table: TableSection<'_, '_>,
     symbols: &[Result<(), Broken<u64>>],
 ) -> Result<Result<(), Broken<u64>>, AllocError>
-    requires there { i < length image.now.sections }
-    requires symbols { AreSymbolVerdicts (sections_of image.now) (length image.now.sections) (map fault_of symbols.now) }
-    ensures { IfOk result (λ verdict. FirstIn (table_rules (sections_of image.now) i) (fault_of verdict)) }
+    requires { AreSymbolVerdicts (sections_of table.image.now) (length table.image.now.sections) (map fault_of symbols.now) }
+    ensures { IfOk result (λ verdict. FirstIn (table_rules (sections_of table.entry.image.now) table.entry.index) (fault_of verdict)) }
 {
     let known = SymbolVerdicts::All(symbols);
-    match TableKind::of(image.section(i).sh_type) {
-        Some(TableKind::SymbolTable) => Ok(symbols[i]),
-        Some(TableKind::RelocationTable) => Ok(judge_relocation_section(image, i, known)),
-        Some(TableKind::SectionGroup) => verdict_of(judge_group_section(alloc, image, i, known)),
-        Some(TableKind::NoteSection) => Ok(judge_note_section(image, i)),
-        Some(TableKind::DynamicArray) => Ok(judge_dynamic_section(image, i)),
-        Some(TableKind::HashTable) => verdict_of(judge_hash_table(alloc, image, i, known)),
+    match TableKind::of(table.header().sh_type) {
+        Some(TableKind::SymbolTable) => Ok(symbols[table.index]),
+        Some(TableKind::RelocationTable) => Ok(judge_relocation_section(table, known)),
+        Some(TableKind::SectionGroup) => verdict_of(judge_group_section(alloc, table, known)),
+        Some(TableKind::NoteSection) => Ok(judge_note_section(table)),
+        Some(TableKind::DynamicArray) => Ok(judge_dynamic_section(table)),
+        Some(TableKind::HashTable) => verdict_of(judge_hash_table(alloc, table, known)),
         None => Ok(Ok(())),
     }
 }

@@ -9,6 +9,8 @@
 mod own_rules;
 pub mod rules;
 mod table_kind;
+mod table_section;
 
 pub use own_rules::judge_own_rules;
 pub use table_kind::TableKind;
+pub use table_section::{LinkedTable, TableSection};

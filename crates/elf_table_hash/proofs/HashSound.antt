@@ -15,8 +15,7 @@ use Rattle.elf_table_symbols.specs.Symbols.{symbols_of}
 use Rattle.elf_table_symbols.specs.SymbolRules.{symbol_table_rules}
 use Rattle.elf_table_symbols.specs.SymbolParts.{symbol_parts}
 use Rattle.elf_table_symbols.proofs.Public.{type_of_hash}
-use Rattle.elf_table_hash.specs.declared.hash_parts.HashParts.{HashParts}
-use Rattle.elf_table_hash.specs.HashParts.{hash_parts}
+use Rattle.elf_table_hash.specs.HashParts.{HashPartsValue, hash_parts}
 use Rattle.elf_table_hash.specs.HashRules.{chain_rules, hash_rules, hash_table_rules, hash_word_past_end, word_rules}
 use Rattle.elf_table_hash.specs.HashView.{hash_of_section}
 use Rattle.elf_table_hash.specs.HashTable.{AreHashWords, Valid, bucket, bucket_of, chain, name_of, nbucket, nchain}
@@ -44,7 +43,7 @@ unfolding symbol_names_of symbols_of
 names_of_section f i = sym (names_are _ _ _ (symbol_parts f i).words)
 
 -- a table as long as its buckets and chains, each word of which is that of a symbol
-pub linked_words : (p : HashParts) → length p.words ≡ p.size / WORD_SIZE → p.size ≡ WORD_SIZE * (2 + nbucket p.words + nchain p.words) → Never (hash_word_past_end p) →
+pub linked_words : (p : HashPartsValue) → length p.words ≡ p.size / WORD_SIZE → p.size ≡ WORD_SIZE * (2 + nbucket p.words + nchain p.words) → Never (hash_word_past_end p) →
     AreHashWords p.words
 unfolding bucket chain
 linked_words p sized whole never = record {
@@ -64,7 +63,7 @@ above_zero : (n : ℕ) → n ≢ 0 → 0 < n
 above_zero n some = omega arith
 
 -- a table of which rules 65 to 69 hold is one for its names
-pub valid_when : (p : HashParts) → length p.words ≡ p.size / WORD_SIZE → FirstIn (word_rules p) None → FirstIn (chain_rules p) None → Valid p.words p.names
+pub valid_when : (p : HashPartsValue) → length p.words ≡ p.size / WORD_SIZE → FirstIn (word_rules p) None → FirstIn (chain_rules p) None → Valid p.words p.names
 unfolding word_rules chain_rules
 valid_when p sized words chains = record {
   some_bucket = some;

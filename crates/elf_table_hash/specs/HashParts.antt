@@ -1,14 +1,21 @@
 -- What the rules of a hash table look at, beside its own section header: its words, and the names of the symbols of the symbol
 -- table that it links to. (gABI chapter 5, Hash Table.)
-use Rattle.std.specs.Prelude.{◌≡◌, ℕ, ◌+◌, ◌/◌, ◌<◌, ◌≤◌, length}
-use Rattle.elf_field.specs.Abi.{SHDR_SIZE, WORD_SIZE}
-use Rattle.elf_image_rules.specs.HeaderRules.{MAX_LEN}
+use Rattle.std.specs.Prelude.{ℕ, List}
 use Rattle.elf_table_base.specs.Sections.{Sections, content, header_at, order, section}
-use Rattle.elf_table_hash.specs.declared.hash_parts.HashParts.{HashParts}
+use Rattle.elf_table_hash.specs.declared.hash_parts.HashParts as declared
 use Rattle.elf_table_hash.specs.WordLists.{symbol_names_of, words_in}
 
+pub record HashPartsValue : Type 0 where
+  -- the offset of the section header, and its sh_size
+  pub header : ℕ
+  pub size : ℕ
+  pub words : List ℕ
+  -- the offset of the words
+  pub start : ℕ
+  pub names : List (List ℕ)
+
 -- those of the hash table in section i
-abbrev pub hash_parts : Sections → ℕ → HashParts
+abbrev pub hash_parts : Sections → ℕ → HashPartsValue
 hash_parts f i =
     let s = section f i in
     record {
@@ -19,9 +26,6 @@ hash_parts f i =
       names = symbol_names_of f s.sh_link;
     }
 
--- the table has the words of its size, and lies in a file of at most MAX_LEN bytes, as its symbols do
-pub record IsInside (p : HashParts) : Type 0 where
-  pub sized : length p.words ≡ p.size / WORD_SIZE
-  pub header : p.header + SHDR_SIZE ≤ MAX_LEN
-  pub table : 0 < p.size → p.start + p.size ≤ MAX_LEN
-  pub names : length p.names ≤ MAX_LEN
+-- those that the code has gathered
+abbrev pub parts_value : declared.HashParts → HashPartsValue
+parts_value p = record { header = p.header; size = p.size; words = p.words; start = p.start; names = p.names }

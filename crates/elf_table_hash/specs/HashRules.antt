@@ -6,42 +6,41 @@ use Rattle.elf_table_base.specs.declared.table_kind.TableKind.TheVariants.{HashT
 use Rattle.elf_table_base.specs.OwnRules.{own_rules}
 use Rattle.elf_table_base.specs.Sections.{Sections, section}
 use Rattle.elf_table_symbols.specs.SymbolRules.{symbol_table_rules}
-use Rattle.elf_table_hash.specs.declared.hash_parts.HashParts.{HashParts}
 use Rattle.elf_table_hash.specs.Chains.{Ends, IsOn}
-use Rattle.elf_table_hash.specs.HashParts.{hash_parts}
+use Rattle.elf_table_hash.specs.HashParts.{HashPartsValue, hash_parts}
 use Rattle.elf_table_hash.specs.HashTable.{bucket, bucket_of, chain, name_of, nbucket, nchain}
 
 -- the offset in the file of the word of bucket b, and of the chain word of symbol s
-abbrev pub bucket_at : HashParts → ℕ → ℕ
+abbrev pub bucket_at : HashPartsValue → ℕ → ℕ
 bucket_at p b = p.start + WORD_SIZE * (2 + b)
 
-abbrev pub chain_at : HashParts → ℕ → ℕ
+abbrev pub chain_at : HashPartsValue → ℕ → ℕ
 chain_at p s = p.start + WORD_SIZE * (2 + nbucket p.words + s)
 
 -- rule 65: the table is not as long as its buckets and chains are
-abbrev pub wrong_hash_size : HashParts → Row ℕ
+abbrev pub wrong_hash_size : HashPartsValue → Row ℕ
 wrong_hash_size p =
     When ((p.size < WORD_SIZE * 2) ⊎ (p.size ≢ WORD_SIZE * (2 + nbucket p.words + nchain p.words))) (p.header + SH_SIZE_AT)
 
 -- rule 66: it has no bucket, or not one chain word for each symbol
-abbrev pub wrong_hash_count : HashParts → Row ℕ
+abbrev pub wrong_hash_count : HashPartsValue → Row ℕ
 wrong_hash_count p = Either (
     When (nbucket p.words ≡ 0) p.start ∷
     When (nchain p.words ≢ length p.names) (p.start + WORD_SIZE) ∷ [])
 
 -- rule 67: the word of a bucket, or a chain word, is none of a symbol
-abbrev pub hash_word_past_end : HashParts → Row ℕ
+abbrev pub hash_word_past_end : HashPartsValue → Row ℕ
 hash_word_past_end p =
     AtEntry (nbucket p.words + nchain p.words)
     (λ k. nchain p.words ≤ get_or p.words (2 + k) 0)
     (λ k. p.start + WORD_SIZE * (2 + k))
 
 -- rule 68: the chain of a bucket does not end
-abbrev pub endless_chain : HashParts → Row ℕ
+abbrev pub endless_chain : HashPartsValue → Row ℕ
 endless_chain p = AtEntry (nbucket p.words) (λ b. ¬ Ends (chain p.words) (bucket p.words b)) (bucket_at p)
 
 -- rule 69: a symbol from 1 on is not on the chain of its name's bucket
-abbrev pub symbol_off_chain : HashParts → Row ℕ
+abbrev pub symbol_off_chain : HashPartsValue → Row ℕ
 symbol_off_chain p =
     AtEntry (nchain p.words)
     (λ s. (0 < s) × ¬ IsOn (chain p.words) (bucket_of p.words (name_of p.names s)) s)
@@ -50,11 +49,11 @@ symbol_off_chain p =
 -- ---- the runs of rules
 
 -- rules 65 to 67
-unfoldable pub word_rules : HashParts → List {1} (Ruled ℕ)
+unfoldable pub word_rules : HashPartsValue → List {1} (Ruled ℕ)
 word_rules p = rule 65 (wrong_hash_size p) ∷ rule 66 (wrong_hash_count p) ∷ rule 67 (hash_word_past_end p) ∷ []
 
 -- rules 68 and 69
-unfoldable pub chain_rules : HashParts → List {1} (Ruled ℕ)
+unfoldable pub chain_rules : HashPartsValue → List {1} (Ruled ℕ)
 chain_rules p = rule 68 (endless_chain p) ∷ rule 69 (symbol_off_chain p) ∷ []
 
 -- those behind the rules of the section header, and of the symbol table

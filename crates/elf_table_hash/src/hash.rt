@@ -15,6 +15,7 @@ use crate::hash_rules::judge_hash_table;
 use crate::hash_words::{HashWords, SymbolNames};
 use elf_image_stream::Fault;
 use elf_image_type::Image;
+use elf_table_base::{LinkedTable, TableSection};
 use elf_table_symbols::SymbolVerdicts;
 use std::alloc::Global;
 use std::marker::Model;
@@ -51,7 +52,8 @@ impl<'a> Hash<'a> {
         ensures { let f = sections_of image.now in
             IsJudgedBehind (hash_table_front f i) (hash_table_rules f i) (λ hash. hash ≡ hash_of_section f i) result }
     {
-        judge_hash_table(alloc, image, i, SymbolVerdicts::Unknown)?;
+        let table = TableSection { image, index: i };
+        judge_hash_table(alloc, table, SymbolVerdicts::Unknown)?;
         Ok(Hash::of_sound(image, i))
     }
 
@@ -61,7 +63,8 @@ impl<'a> Hash<'a> {
         requires sound { FirstIn (hash_table_rules (sections_of image.now) i) None }
         ensures { result ≡ hash_of_section (sections_of image.now) i }
     {
-        let parts = HashParts::new(image, i);
+        let table = TableSection { image, index: i };
+        let parts = HashParts::new(LinkedTable { table });
         Hash {
             words: parts.words,
             names: parts.names,

@@ -1,14 +1,10 @@
 //! What the rules of a hash table look at (gABI chapter 5, Hash Table).
-ghost use Rattle.std.specs.Prelude.{◌≡◌, ◌<◌, None, length};
-ghost use Rattle.elf_image_rules.specs.Rows.{FirstIn};
-ghost use Rattle.elf_table_base.specs.OwnRules.{own_rules};
-ghost use Rattle.elf_table_base.specs.Sections.{section, sections_of};
-ghost use Rattle.elf_table_symbols.specs.SymbolRules.{symbol_table_rules};
-ghost use Rattle.elf_table_hash.specs.HashParts.{IsInside, hash_parts};
+ghost use Rattle.std.specs.Prelude.{◌≡◌, ◌+◌, ◌/◌, ◌<◌, ◌≤◌, length};
+ghost use Rattle.elf_field.specs.Abi.{SHDR_SIZE, WORD_SIZE};
+ghost use Rattle.elf_image_rules.specs.HeaderRules.{MAX_LEN};
 
 use crate::hash_words::{HashWords, SymbolNames};
-use elf_image_type::Image;
-use elf_table_base::TableKind;
+use elf_table_base::{LinkedTable, TableKind};
 
 /// The words of a hash table, the names of the symbols that it is for, and where the table stands.
 #[derive(Drop)]
@@ -19,27 +15,39 @@ pub(crate) struct HashParts<'a> {
     pub words: HashWords<'a>,
     pub start: u64,
     pub names: SymbolNames<'a>,
+    // The table has the words of its size, and lies in a file of at most MAX_LEN bytes, as its symbols do.
+    ghost sized: { length words ≡ size / WORD_SIZE },
+    ghost header_inside: { header + SHDR_SIZE ≤ MAX_LEN },
+    ghost table_inside: { 0 < size → start + size ≤ MAX_LEN },
+    ghost names_inside: { length names ≤ MAX_LEN },
 }
 
 impl<'a> HashParts<'a> {
-    /// Those of the hash table in section `i`, whose section header breaks no rule, as the symbol table that it links to.
-    pub(crate) fn new(image: &Image<'a>, i: usize) -> HashParts<'a>
-        requires there { i < length image.now.sections }
-        requires own { FirstIn (own_rules TableKind.HashTable (sections_of image.now) i) None }
-        requires linked { let f = sections_of image.now in FirstIn (symbol_table_rules f (section f i).sh_link) None }
-        ensures value { result ≡ hash_parts (sections_of image.now) i }
-        ensures inside { IsInside result }
+    ghost use Rattle.std.specs.Prelude.{None};
+    ghost use Rattle.elf_image_rules.specs.Rows.{FirstIn};
+    ghost use Rattle.elf_table_base.specs.OwnRules.{own_rules};
+    ghost use Rattle.elf_table_base.specs.Sections.{section, sections_of};
+    ghost use Rattle.elf_table_symbols.specs.SymbolRules.{symbol_table_rules};
+    ghost use Rattle.elf_table_hash.specs.HashParts.{hash_parts, parts_value};
+
+    /// Those of a hash table whose section header breaks no rule, as the symbol table that it links to.
+    pub(crate) fn new(linked: LinkedTable<'_, 'a>) -> HashParts<'a>
+        requires own { FirstIn (own_rules TableKind.HashTable (sections_of linked.table.image.now) linked.table.index) None }
+        requires symbols { let f = sections_of linked.table.image.now in
+            FirstIn (symbol_table_rules f (section f linked.table.index).sh_link) None }
+        ensures { parts_value result ≡ hash_parts (sections_of linked.entry.table.image.now) linked.entry.table.index }
     {
-        let section = image.section(i);
-        let link = section.sh_link as usize;
-        let order = image.order();
-        let strings = image.section(link).sh_link as usize;
+        let table = linked.table;
+        let section = table.header();
+        let order = table.order();
+        let symbols = linked.linked_content();
+        let strings = table.image.content(linked.linked_header().sh_link as usize);
         HashParts {
-            header: image.header_offset(i),
+            header: table.header_offset(),
             size: section.sh_size,
-            words: HashWords::new(order, image.content(i)),
+            words: HashWords::new(order, table.content()),
             start: section.sh_offset,
-            names: SymbolNames::new(order, image.content(link), image.content(strings)),
+            names: SymbolNames::new(order, symbols, strings),
         }
     }
 }

@@ -9,52 +9,51 @@ ghost use Rattle.elf_table_base.specs.OwnRules.{own_rules};
 ghost use Rattle.elf_table_base.specs.Sections.{section, sections_of};
 ghost use Rattle.elf_table_symbols.specs.SymbolRules.{symbol_table_rules};
 ghost use Rattle.elf_table_hash.specs.ChainDepths.{AreDepths, AreJumps, AreStarts, IsDepthKnown};
-ghost use Rattle.elf_table_hash.specs.HashParts.{IsInside, hash_parts};
+ghost use Rattle.elf_table_hash.specs.HashParts.{hash_parts, parts_value};
 ghost use Rattle.elf_table_hash.specs.HashRules.{chain_rules, hash_rules, hash_table_front, hash_table_rules, symbol_off_chain, word_rules};
 ghost use Rattle.elf_table_hash.specs.HashTable.{AreHashWords, bucket, chain, nbucket, nchain};
 
+use crate::chain_words::HashChains;
 use crate::hash_chains::{is_on, lowest_endless_chain};
 use crate::hash_parts::HashParts;
 use crate::hash_word_rules::judge_words;
 use elf_field::abi::*;
 use elf_image_rules::Broken;
 use elf_image_stream::Fault;
-use elf_image_type::Image;
 use elf_table_base::rules::*;
-use elf_table_base::{TableKind, judge_own_rules};
+use elf_table_base::{LinkedTable, TableKind, TableSection, judge_own_rules};
 use elf_table_symbols::SymbolVerdicts;
 use std::alloc::{AllocError, Global};
 
-/// All rules of the hash table in section `i`, by these verdicts on the symbol tables. [`Fault::OutOfMemory`] comes only where no rule
+/// All rules of a hash table, by these verdicts on the symbol tables. [`Fault::OutOfMemory`] comes only where no rule
 /// from 40 to 67 is broken.
 #[tactic(auto, unfolding(crate::specs::HashRules::hash_table_rules, crate::specs::HashRules::hash_table_front))]
 pub fn judge_hash_table(
     alloc: Global,
-    image: &Image<'_>,
-    i: usize,
+    table: TableSection<'_, '_>,
     symbols: SymbolVerdicts<'_>,
 ) -> Result<(), Fault>
-    requires there { i < length image.now.sections }
-    requires known { AreKnown (sections_of image.now) symbols }
-    ensures { let f = sections_of image.now in
-        IsJudgedBehind (hash_table_front f i) (hash_table_rules f i) (λ _. ⊤) result }
+    requires { AreKnown (sections_of table.image.now) symbols }
+    ensures { let f = sections_of table.entry.image.now in
+        IsJudgedBehind (hash_table_front f table.entry.index) (hash_table_rules f table.entry.index) (λ _. ⊤) result }
 {
-    judge_own_rules(image, i, TableKind::HashTable)?;
-    symbols.of(image, image.section(i).sh_link as usize)?;
-    judge_hash(alloc, image, i)
+    judge_own_rules(table, TableKind::HashTable)?;
+    let linked = LinkedTable { table };
+    symbols.of(linked)?;
+    judge_hash(alloc, linked)
 }
 
-/// Rules 65 to 69 of the hash table in section `i`, whose section header breaks no rule, as the symbol table that it links to.
+/// Rules 65 to 69 of a hash table whose section header breaks no rule, as the symbol table that it links to.
 /// [`Fault::OutOfMemory`] comes only where none of 65 to 67 is broken.
 #[tactic(auto, unfolding(crate::specs::HashRules::hash_rules))]
-fn judge_hash(alloc: Global, image: &Image<'_>, i: usize) -> Result<(), Fault>
-    requires there { i < length image.now.sections }
-    requires own { FirstIn (own_rules TableKind.HashTable (sections_of image.now) i) None }
-    requires linked { let f = sections_of image.now in FirstIn (symbol_table_rules f (section f i).sh_link) None }
-    ensures { let f = sections_of image.now in
+fn judge_hash(alloc: Global, linked: LinkedTable<'_, '_>) -> Result<(), Fault>
+    requires own { FirstIn (own_rules TableKind.HashTable (sections_of linked.table.image.now) linked.table.index) None }
+    requires symbols { let f = sections_of linked.table.image.now in
+        FirstIn (symbol_table_rules f (section f linked.table.index).sh_link) None }
+    ensures { let f = sections_of linked.entry.table.image.now in let i = linked.entry.table.index in
         IsJudgedBehind (word_rules (hash_parts f i)) (hash_rules f i) (λ _. ⊤) result }
 {
-    let parts = HashParts::new(image, i);
+    let parts = HashParts::new(linked);
     judge_words(&parts)?;
     let verdict = judge_chains(alloc, &parts)?;
     Ok(verdict?)
@@ -63,14 +62,15 @@ fn judge_hash(alloc: Global, image: &Image<'_>, i: usize) -> Result<(), Fault>
 // Rules 68 and 69.
 #[tactic(auto, unfolding(crate::specs::HashRules::chain_rules))]
 fn judge_chains(alloc: Global, parts: &HashParts<'_>) -> Result<Result<(), Broken<u64>>, AllocError>
-    requires inside { IsInside parts.now }
     requires some_bucket { nbucket parts.now.words ≢ 0 }
     requires one_each { nchain parts.now.words ≡ length parts.now.names }
     requires linked { AreHashWords parts.now.words }
-    ensures { IfOk result (λ verdict. FirstIn (chain_rules parts.now) (fault_of verdict)) }
+    ensures { IfOk result (λ verdict. FirstIn (chain_rules (parts_value parts.now)) (fault_of verdict)) }
 {
-    let words = &parts.words;
-    let symbols = words.nchain();
+    let chains = HashChains {
+        words: &parts.words,
+    };
+    let symbols = chains.nchain();
     let mut depth = Vec::new(alloc);
     depth.resize(symbols as usize, 0)?;
     let mut jump = numbers(alloc, symbols)?;
@@ -80,7 +80,7 @@ fn judge_chains(alloc: Global, parts: &HashParts<'_>) -> Result<Result<(), Broke
     seen.resize(symbols as usize, false)?;
     let mut stack = Vec::new(alloc);
     if let Some(b) = lowest_endless_chain(
-        words,
+        chains,
         &mut depth,
         &mut jump,
         &mut starts,
@@ -115,7 +115,6 @@ fn lowest_symbol_off_chain(
     jump: &[u32],
     starts: &[u32],
 ) -> Option<u64>
-    requires inside { IsInside parts.now }
     requires some_bucket { nbucket parts.now.words ≢ 0 }
     requires one_each { nchain parts.now.words ≡ length parts.now.names }
     requires linked { AreHashWords parts.now.words }
@@ -123,13 +122,15 @@ fn lowest_symbol_off_chain(
     requires jumps { AreJumps (chain parts.now.words) (nchain parts.now.words) jump.now }
     requires starts { AreStarts (chain parts.now.words) (nchain parts.now.words) depth.now starts.now }
     requires known { (b : ℕ) → b < nbucket parts.now.words → IsDepthKnown depth.now (bucket parts.now.words b) }
-    ensures { IsLowest (symbol_off_chain parts.now) result }
+    ensures { IsLowest (symbol_off_chain (parts_value parts.now)) result }
 {
-    let words = &parts.words;
-    for s in 1..words.nchain() {
-        let start = words.bucket_of(parts.names.get(s));
-        if !is_on(words, depth, jump, starts, start, s) {
-            let before = 2 + words.nbucket() as u64 + s as u64;
+    let chains = HashChains {
+        words: &parts.words,
+    };
+    for s in 1..chains.nchain() {
+        let start = parts.words.bucket_of(parts.names.get(s));
+        if !is_on(chains, depth, jump, starts, start, s) {
+            let before = 2 + chains.nbucket() as u64 + s as u64;
             return Some(parts.start + WORD_SIZE * before);
         }
     }

@@ -8,6 +8,7 @@
 //! ```
 #![tactic(auto)]
 
+mod chain_words;
 mod hash;
 mod hash_building;
 mod hash_chains;

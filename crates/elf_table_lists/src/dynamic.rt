@@ -12,6 +12,7 @@ use crate::dynamic_rules::judge_dynamic_section;
 use elf_field::{Dyn, Order};
 use elf_image_stream::Fault;
 use elf_image_type::Image;
+use elf_table_base::TableSection;
 use std::marker::Model;
 
 /// The dynamic array of a dynamic section: the list of its entries, which end before the first of tag `DT_NULL`. It borrows
@@ -45,7 +46,7 @@ impl<'a> Dynamic<'a> {
         requires { i < length image.now.sections }
         ensures { IsJudged (dynamic_section_rules (sections_of image.now) i) (λ dynamic. dynamic ≡ dynamic_array_of (sections_of image.now) i) result }
     {
-        judge_dynamic_section(image, i)?;
+        judge_dynamic_section(TableSection { image, index: i })?;
         Ok(Dynamic::of_sound(image, i))
     }
 
@@ -55,8 +56,9 @@ impl<'a> Dynamic<'a> {
         requires sound { FirstIn (dynamic_section_rules (sections_of image.now) i) None }
         ensures { result ≡ dynamic_array_of (sections_of image.now) i }
     {
-        let order = image.order();
-        let table = image.content(i);
+        let section = TableSection { image, index: i };
+        let order = section.order();
+        let table = section.content();
         let end = first_null_entry(order, table);
         Dynamic { order, table, end }
     }

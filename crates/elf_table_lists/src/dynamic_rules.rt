@@ -4,7 +4,7 @@ ghost use Rattle.elf_extent.specs.Least.{IsLowest};
 ghost use Rattle.elf_image_rules.specs.Broken.{fault_of};
 ghost use Rattle.elf_image_rules.specs.HeaderRules.{MAX_LEN};
 ghost use Rattle.elf_image_rules.specs.Rows.{AtEntry, FirstIn};
-ghost use Rattle.elf_table_base.specs.Sections.{section, sections_of};
+ghost use Rattle.elf_table_base.specs.Sections.{sections_of};
 ghost use Rattle.elf_table_lists.specs.DynamicArray.{dynamic_entry as dynamic_entry_of, dynamic_entry_count as dynamic_entry_count_of};
 ghost use Rattle.elf_table_lists.specs.DynamicRules.{IsDynamicStringPastEnd, dynamic_rules, dynamic_section_rules};
 
@@ -12,41 +12,37 @@ use crate::dynamic_entries::{dynamic_entry, dynamic_entry_count, first_null_entr
 use elf_field::Order;
 use elf_field::abi::*;
 use elf_image_rules::Broken;
-use elf_image_type::Image;
 use elf_table_base::rules::*;
-use elf_table_base::{TableKind, judge_own_rules};
+use elf_table_base::{LinkedTable, TableKind, TableSection, judge_own_rules};
 use elf_table_symbols::judge_linked_strings;
 
-/// All rules of the dynamic section `i`. [`Broken`] is the first that is broken, at its lowest offset: 40, 42, 43, 44, then 41 of the
+/// All rules of a dynamic section. [`Broken`] is the first that is broken, at its lowest offset: 40, 42, 43, 44, then 41 of the
 /// string table that the section links to, then 63 and 64.
 #[tactic(auto, unfolding(crate::specs::DynamicRules::dynamic_section_rules))]
-pub fn judge_dynamic_section(image: &Image<'_>, i: usize) -> Result<(), Broken<u64>>
-    requires { i < length image.now.sections }
-    ensures { FirstIn (dynamic_section_rules (sections_of image.now) i) (fault_of result) }
+pub fn judge_dynamic_section(table: TableSection<'_, '_>) -> Result<(), Broken<u64>>
+    ensures { FirstIn (dynamic_section_rules (sections_of table.entry.image.now) table.entry.index) (fault_of result) }
 {
-    judge_own_rules(image, i, TableKind::DynamicArray)?;
-    let link = image.section(i).sh_link as usize;
-    judge_linked_strings(image.content(link), image.section(link).sh_offset)?;
-    judge_dynamic_array(image, i)
+    judge_own_rules(table, TableKind::DynamicArray)?;
+    let linked = LinkedTable { table };
+    judge_linked_strings(linked.linked_content(), linked.linked_header().sh_offset)?;
+    judge_dynamic_array(linked)
 }
 
-/// Rules 63 and 64 of the dynamic section `i`, which links to a section.
+/// Rules 63 and 64 of a dynamic section.
 #[tactic(auto, unfolding(crate::specs::DynamicRules::dynamic_rules))]
-fn judge_dynamic_array(image: &Image<'_>, i: usize) -> Result<(), Broken<u64>>
-    requires there { i < length image.now.sections }
-    requires linked { (section (sections_of image.now) i).sh_link < length image.now.sections }
-    ensures { FirstIn (dynamic_rules (sections_of image.now) i) (fault_of result) }
+fn judge_dynamic_array(linked: LinkedTable<'_, '_>) -> Result<(), Broken<u64>>
+    ensures { FirstIn (dynamic_rules (sections_of linked.entry.table.image.now) linked.entry.table.index) (fault_of result) }
 {
-    let section = image.section(i);
-    let order = image.order();
-    let table = image.content(i);
-    let end = first_null_entry(order, table);
-    if end == dynamic_entry_count(table) {
-        let at = image.header_offset(i) + SH_SIZE_AT;
+    let order = linked.table.order();
+    let content = linked.table.content();
+    let end = first_null_entry(order, content);
+    if end == dynamic_entry_count(content) {
+        let at = linked.table.header_offset() + SH_SIZE_AT;
         return Err(Broken::new(NO_NULL_ENTRY, at));
     }
-    let size = image.content(section.sh_link as usize).len();
-    match lowest_dynamic_string_past_end(order, table, section.sh_offset, end, size) {
+    let start = linked.table.header().sh_offset;
+    let size = linked.linked_content().len();
+    match lowest_dynamic_string_past_end(order, content, start, end, size) {
         Some(at) => Err(Broken::new(DYNAMIC_STRING_PAST_END, at)),
         None => Ok(()),
     }

@@ -12,6 +12,7 @@ use crate::group_rules::{judge_group_section, member, member_count};
 use elf_field::Order;
 use elf_image_stream::Fault;
 use elf_image_type::Image;
+use elf_table_base::TableSection;
 use elf_table_symbols::{SymbolVerdicts, word};
 use std::alloc::Global;
 use std::marker::Model;
@@ -51,7 +52,8 @@ impl<'a> Group<'a> {
         ensures memory { let f = sections_of image.now in
             IfErr result (λ fault. fault ≡ OutOfMemory → ¬ MembersAscend (order f) (content f i)) }
     {
-        judge_group_section(alloc, image, i, SymbolVerdicts::Unknown)?;
+        let section = TableSection { image, index: i };
+        judge_group_section(alloc, section, SymbolVerdicts::Unknown)?;
         Ok(Group::of_sound(image, i))
     }
 
@@ -61,10 +63,11 @@ impl<'a> Group<'a> {
         requires sound { FirstIn (group_section_rules (sections_of image.now) i) None }
         ensures { result ≡ group_of (sections_of image.now) i }
     {
+        let section = TableSection { image, index: i };
         Group {
-            order: image.order(),
-            signature: image.section(i).sh_info,
-            words: image.content(i),
+            order: section.order(),
+            signature: section.header().sh_info,
+            words: section.content(),
         }
     }
 

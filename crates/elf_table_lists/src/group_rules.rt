@@ -16,14 +16,13 @@ use elf_field::Order;
 use elf_field::abi::*;
 use elf_image_rules::Broken;
 use elf_image_stream::Fault;
-use elf_image_type::Image;
 use elf_table_base::rules::*;
-use elf_table_base::{TableKind, judge_own_rules};
+use elf_table_base::{LinkedTable, TableKind, TableSection, judge_own_rules};
 use elf_table_symbols::{SymbolVerdicts, word};
 use std::alloc::{AllocError, Global};
 use std::collections::BTreeSet;
 
-/// All rules of the group in section `i`, by these verdicts on the symbol tables.
+/// All rules of a section group, by these verdicts on the symbol tables.
 ///
 /// [`Fault::Rule`] is the first that is broken, at its lowest offset: 40, 42, 43, 44, then all rules of the symbol table that the section
 /// links to, then 55 to 58. [`Fault::OutOfMemory`] comes only where memory is refused, which is asked for only where the members don't
@@ -31,141 +30,132 @@ use std::collections::BTreeSet;
 #[tactic(auto, unfolding(crate::specs::GroupRules::group_section_rules))]
 pub fn judge_group_section(
     alloc: Global,
-    image: &Image<'_>,
-    i: usize,
+    table: TableSection<'_, '_>,
     symbols: SymbolVerdicts<'_>,
 ) -> Result<(), Fault>
-    requires there { i < length image.now.sections }
-    requires known { AreKnown (sections_of image.now) symbols }
-    ensures judged { let f = sections_of image.now in
-        IsJudgedBehind (group_section_front f i) (group_section_rules f i) (λ _. Unit {0}) result }
-    ensures memory { let f = sections_of image.now in
-        IfErr result (λ fault. fault ≡ OutOfMemory → ¬ MembersAscend (order f) (content f i)) }
+    requires { AreKnown (sections_of table.image.now) symbols }
+    ensures judged { let f = sections_of table.entry.image.now in
+        IsJudgedBehind (group_section_front f table.entry.index) (group_section_rules f table.entry.index) (λ _. Unit {0}) result }
+    ensures memory { let f = sections_of table.entry.image.now in
+        IfErr result (λ fault. fault ≡ OutOfMemory → ¬ MembersAscend (order f) (content f table.entry.index)) }
 {
-    judge_own_rules(image, i, TableKind::SectionGroup)?;
-    symbols.of(image, image.section(i).sh_link as usize)?;
-    judge_group(alloc, image, i)
+    judge_own_rules(table, TableKind::SectionGroup)?;
+    let linked = LinkedTable { table };
+    symbols.of(linked)?;
+    judge_group(alloc, linked)
 }
 
-/// Rules 55 to 58 of the group in section `i`, whose own rules are kept.
-fn judge_group(alloc: Global, image: &Image<'_>, i: usize) -> Result<(), Fault>
-    requires there { i < length image.now.sections }
-    requires typed { (section (sections_of image.now) i).sh_type ≡ SHT_GROUP }
-    requires sized { (section (sections_of image.now) i).sh_size % WORD_SIZE ≡ 0 }
-    requires linked { (section (sections_of image.now) i).sh_link < length image.now.sections }
-    ensures judged { let f = sections_of image.now in
-        IsJudgedBehind (group_front_rules f i) (group_rules f i) (λ _. Unit {0}) result }
-    ensures memory { let f = sections_of image.now in
-        IfErr result (λ fault. fault ≡ OutOfMemory → ¬ MembersAscend (order f) (content f i)) }
+/// Rules 55 to 58 of a group whose own rules are kept.
+fn judge_group(alloc: Global, linked: LinkedTable<'_, '_>) -> Result<(), Fault>
+    requires typed { (section (sections_of linked.table.image.now) linked.table.index).sh_type ≡ SHT_GROUP }
+    requires sized { (section (sections_of linked.table.image.now) linked.table.index).sh_size % WORD_SIZE ≡ 0 }
+    ensures judged { let f = sections_of linked.entry.table.image.now in
+        IsJudgedBehind (group_front_rules f linked.entry.table.index) (group_rules f linked.entry.table.index) (λ _. Unit {0}) result }
+    ensures memory { let f = sections_of linked.entry.table.image.now in
+        IfErr result (λ fault. fault ≡ OutOfMemory → ¬ MembersAscend (order f) (content f linked.entry.table.index)) }
 {
-    judge_group_front(image, i)?;
-    let wrong = lowest_wrong_member(alloc, image, i)?;
+    judge_group_front(linked)?;
+    let wrong = lowest_wrong_member(alloc, linked.table)?;
     match wrong {
-        Some(j) => Err(Fault::from(Broken::new(WRONG_MEMBER, member_offset(image, i, j)))),
+        Some(j) => Err(Fault::from(Broken::new(WRONG_MEMBER, member_offset(linked.table, j)))),
         None => Ok(()),
     }
 }
 
-/// The offset in the file of member `j` of the group in section `i`.
-fn member_offset(image: &Image<'_>, i: usize, j: usize) -> u64
-    requires there { i < length image.now.sections }
-    requires member { j < member_count_of (content (sections_of image.now) i) }
-    ensures { result ≡ (section (sections_of image.now) i).sh_offset + WORD_SIZE * (j + 1) }
+/// The offset in the file of member `j` of a group.
+fn member_offset(table: TableSection<'_, '_>, j: usize) -> u64
+    requires { j < member_count_of (content (sections_of table.image.now) table.index) }
+    ensures { result ≡ (section (sections_of table.entry.image.now) table.entry.index).sh_offset + WORD_SIZE * (j + 1) }
 {
-    image.prove_content_inside(i);
-    image.section(i).sh_offset + WORD_SIZE * (j as u64 + 1)
+    table.image.prove_content_inside(table.index);
+    table.header().sh_offset + WORD_SIZE * (j as u64 + 1)
 }
 
-/// Rules 55 to 57 of the group in section `i`.
+/// Rules 55 to 57 of a group.
 #[tactic(auto, unfolding(crate::specs::GroupRules::group_front_rules))]
-fn judge_group_front(image: &Image<'_>, i: usize) -> Result<(), Broken<u64>>
-    requires there { i < length image.now.sections }
-    requires typed { (section (sections_of image.now) i).sh_type ≡ SHT_GROUP }
-    requires sized { (section (sections_of image.now) i).sh_size % WORD_SIZE ≡ 0 }
-    requires linked { (section (sections_of image.now) i).sh_link < length image.now.sections }
-    ensures { FirstIn (group_front_rules (sections_of image.now) i) (fault_of result) }
+fn judge_group_front(linked: LinkedTable<'_, '_>) -> Result<(), Broken<u64>>
+    requires typed { (section (sections_of linked.table.image.now) linked.table.index).sh_type ≡ SHT_GROUP }
+    requires sized { (section (sections_of linked.table.image.now) linked.table.index).sh_size % WORD_SIZE ≡ 0 }
+    ensures { FirstIn (group_front_rules (sections_of linked.entry.table.image.now) linked.entry.table.index) (fault_of result) }
 {
-    let section = image.section(i);
-    let words = image.content(i);
-    let at = image.header_offset(i);
+    let table = linked.table;
+    let section = table.header();
+    let words = table.content();
+    let at = table.header_offset();
     if section.sh_size == 0 {
         return Err(Broken::new(EMPTY_GROUP, at + SH_SIZE_AT));
     }
-    let flags = word(image.order(), words, 0);
+    let flags = word(table.order(), words, 0);
     if flags != 0 && flags != GRP_COMDAT {
         return Err(Broken::new(WRONG_GROUP_FLAGS, section.sh_offset));
     }
-    let symbols = image.content(section.sh_link as usize).len() / SYM_SIZE as usize;
+    let symbols = linked.linked_content().len() / SYM_SIZE as usize;
     if section.sh_info == 0 || section.sh_info as usize >= symbols {
         return Err(Broken::new(WRONG_SIGNATURE, at + SH_INFO_AT));
     }
     Ok(())
 }
 
-/// Rule 58: the lowest member of the group in section `i` that can't be in it, or is in it twice. A group whose members ascend
+/// Rule 58: the lowest member of a group that can't be in it, or is in it twice. A group whose members ascend
 /// names none twice; for another one memory is taken for each member, and no more, so that many groups do not take the time of
 /// many groups of all sections.
 fn lowest_wrong_member(
     alloc: Global,
-    image: &Image<'_>,
-    i: usize,
+    table: TableSection<'_, '_>,
 ) -> Result<Option<usize>, AllocError>
-    requires { i < length image.now.sections }
-    ensures found { let f = sections_of image.now in
-        IfOk result (λ found. IsLowest (Below (member_count_of (content f i)) (IsWrongMember f i)) found) }
-    ensures memory { OnErr result (¬ MembersAscend (order (sections_of image.now)) (content (sections_of image.now) i)) }
+    ensures found { let f = sections_of table.entry.image.now in
+        IfOk result (λ found. IsLowest (Below (member_count_of (content f table.entry.index)) (IsWrongMember f table.entry.index)) found) }
+    ensures memory { let f = sections_of table.entry.image.now in OnErr result (¬ MembersAscend (order f) (content f table.entry.index)) }
 {
-    let words = image.content(i);
-    if is_ascending(image.order(), words) {
-        return Ok(lowest_unfit(image, i));
+    let words = table.content();
+    if is_ascending(table.order(), words) {
+        return Ok(lowest_unfit(table));
     }
-    lowest_unfit_or_repeated(alloc, image, i)
+    lowest_unfit_or_repeated(alloc, table)
 }
 
-/// The lowest member of the group in section `i` that can't be in it.
-fn lowest_unfit(image: &Image<'_>, i: usize) -> Option<usize>
-    requires { i < length image.now.sections }
-    ensures { let f = sections_of image.now in
-        IsLowest (Below (member_count_of (content f i)) (λ j. IsUnfit f i (member_of (order f) (content f i) j))) result }
+/// The lowest member of a group that can't be in it.
+fn lowest_unfit(table: TableSection<'_, '_>) -> Option<usize>
+    ensures { let f = sections_of table.entry.image.now in let words = content f table.entry.index in
+        IsLowest (Below (member_count_of words) (λ j. IsUnfit f table.entry.index (member_of (order f) words j))) result }
 {
-    let order = image.order();
-    let words = image.content(i);
+    let order = table.order();
+    let words = table.content();
     for j in 0..member_count(words) {
-        if is_unfit(image, i, member(order, words, j)) {
+        if is_unfit(table, member(order, words, j)) {
             return Some(j);
         }
     }
     None
 }
 
-/// The lowest member of the group in section `i` that can't be in it, or is in it twice.
+/// The lowest member of a group that can't be in it, or is in it twice.
 fn lowest_unfit_or_repeated(
     alloc: Global,
-    image: &Image<'_>,
-    i: usize,
+    table: TableSection<'_, '_>,
 ) -> Result<Option<usize>, AllocError>
-    requires { i < length image.now.sections }
-    ensures { let f = sections_of image.now in
-        IfOk result (λ found. IsLowest (Below (member_count_of (content f i)) (IsWrongMember f i)) found) }
+    ensures { let f = sections_of table.entry.image.now in
+        IfOk result (λ found. IsLowest (Below (member_count_of (content f table.entry.index)) (IsWrongMember f table.entry.index)) found) }
 {
-    let order = image.order();
-    let words = image.content(i);
+    let order = table.order();
+    let words = table.content();
     let mut seen = BTreeSet::new(alloc);
     for j in 0..member_count(words) {
         let member = member(order, words, j);
-        if is_unfit(image, i, member) || !seen.insert(member)? {
+        if is_unfit(table, member) || !seen.insert(member)? {
             return Ok(Some(j));
         }
     }
     Ok(None)
 }
 
-/// Whether section `member` can't be in the group of section `i`.
-fn is_unfit(image: &Image<'_>, i: usize, member: u32) -> bool
-    ensures { IsTrue result ↔ IsUnfit (sections_of image.now) i member }
+/// Whether section `member` can't be in this group.
+fn is_unfit(table: TableSection<'_, '_>, member: u32) -> bool
+    ensures { IsTrue result ↔ IsUnfit (sections_of table.entry.image.now) table.entry.index member }
 {
+    let image = table.image;
     let m = member as usize;
-    m <= i || m >= image.section_count() || image.section(m).sh_flags & SHF_GROUP == 0
+    m <= table.index || m >= image.section_count() || image.section(m).sh_flags & SHF_GROUP == 0
 }
 
 /// Whether each member of a group of this content is above the one before it.

@@ -27,7 +27,7 @@ pub use dynamic_entries::{dynamic_entry, dynamic_entry_count, first_null_entry, 
 pub use dynamic_rules::judge_dynamic_section;
 pub use group::{Group, GroupIter};
 pub use group_rules::{judge_group_section, member, member_count};
-pub use note::{Note, desc_start, descsz, namesz, note_at, note_end};
+pub use note::{Note, NoteHeader, note_at};
 pub use note_rules::judge_note_section;
 pub use notes::{NoteIter, Notes};
 pub use relocation::{Relocation, relocation_at, relocation_count};

@@ -8,25 +8,24 @@ ghost use Rattle.elf_table_lists.specs.NoteRules.{IsUnclosedNoteName, name_last,
 ghost use Rattle.elf_table_lists.specs.Notes.{note_end as note_end_of};
 ghost use Rattle.elf_table_lists.specs.NoteCut.{IsCut};
 
-use crate::note::{desc_start, namesz, note_end};
+use crate::note::NoteHeader;
 use elf_field::Order;
 use elf_field::abi::*;
 use elf_image_rules::Broken;
-use elf_image_type::Image;
+use elf_table_base::TableSection;
 use elf_table_base::rules::*;
 
-/// Rules 40 and 59 to 62 of the note section `i`. [`Broken`] is the first of them that is broken, at its lowest offset.
+/// Rules 40 and 59 to 62 of a note section. [`Broken`] is the first of them that is broken, at its lowest offset.
 #[tactic(auto, unfolding(crate::specs::NoteRules::note_section_rules))]
-pub fn judge_note_section(image: &Image<'_>, i: usize) -> Result<(), Broken<u64>>
-    requires { i < length image.now.sections }
-    ensures { FirstIn (note_section_rules (sections_of image.now) i) (fault_of result) }
+pub fn judge_note_section(table: TableSection<'_, '_>) -> Result<(), Broken<u64>>
+    ensures { FirstIn (note_section_rules (sections_of table.entry.image.now) table.entry.index) (fault_of result) }
 {
-    let section = image.section(i);
+    let section = table.header();
     if section.sh_type != SHT_NOTE {
-        let at = image.header_offset(i) + SH_TYPE_AT;
+        let at = table.header_offset() + SH_TYPE_AT;
         return Err(Broken::new(WRONG_TABLE_TYPE, at));
     }
-    judge_notes(image.order(), image.content(i), section.sh_offset)
+    judge_notes(table.order(), table.content(), section.sh_offset)
 }
 
 /// Rules 59 to 62, of the notes of a content at `start` in the file. A name that is not closed is answered only once all notes are
@@ -60,10 +59,11 @@ fn judge_end(order: Order, table: &[u8], start: u64, at: usize) -> Result<usize,
     if table.len() - at < NHDR_SIZE as usize {
         return Err(Broken::new(PARTIAL_NOTE, place));
     }
-    if desc_start(order, table, at) > table.len() {
+    let header = NoteHeader { order, table, at };
+    if header.desc_start() > table.len() {
         return Err(Broken::new(NOTE_NAME_PAST_END, place + N_NAMESZ_AT));
     }
-    let end = note_end(order, table, at);
+    let end = header.note_end();
     if end > table.len() {
         return Err(Broken::new(NOTE_DESC_PAST_END, place + N_DESCSZ_AT));
     }
@@ -78,7 +78,7 @@ fn unclosed_note_name(order: Order, table: &[u8], at: usize) -> Option<usize>
         (IsUnclosedNoteName order table.now at → ⊥)
         (λ last. IsUnclosedNoteName order table.now at × (last ≡ name_last order table.now at) × (last < length table.now)) }
 {
-    let size = namesz(order, table, at);
+    let size = NoteHeader { order, table, at }.namesz();
     if size == 0 {
         return None;
     }

@@ -6,11 +6,12 @@ ghost use Rattle.elf_table_base.specs.Sections.{sections_of};
 ghost use Rattle.elf_table_lists.specs.NoteRules.{note_section_rules};
 ghost use Rattle.elf_table_lists.specs.Notes.{notes_of};
 
-use crate::note::{Note, note_at, note_end};
+use crate::note::{Note, NoteHeader, note_at};
 use crate::note_rules::judge_note_section;
 use elf_field::Order;
 use elf_image_stream::Fault;
 use elf_image_type::Image;
+use elf_table_base::TableSection;
 use std::marker::Model;
 
 /// A note section: the list of its notes. It borrows from the bytes of the file.
@@ -40,7 +41,7 @@ impl<'a> Notes<'a> {
         requires { i < length image.now.sections }
         ensures { IsJudged (note_section_rules (sections_of image.now) i) (λ notes. notes ≡ notes_of (sections_of image.now) i) result }
     {
-        judge_note_section(image, i)?;
+        judge_note_section(TableSection { image, index: i })?;
         Ok(Notes::of_sound(image, i))
     }
 
@@ -50,9 +51,10 @@ impl<'a> Notes<'a> {
         requires sound { FirstIn (note_section_rules (sections_of image.now) i) None }
         ensures { result ≡ notes_of (sections_of image.now) i }
     {
+        let section = TableSection { image, index: i };
         Notes {
-            order: image.order(),
-            table: image.content(i),
+            order: section.order(),
+            table: section.content(),
         }
     }
 
@@ -105,7 +107,12 @@ impl<'a> Iterator for NoteIter<'a> {
             return None;
         }
         let note = note_at(self.order, self.table, self.at);
-        self.at = note_end(self.order, self.table, self.at);
+        let header = NoteHeader {
+            order: self.order,
+            table: self.table,
+            at: self.at,
+        };
+        self.at = header.note_end();
         Some(note)
     }
 }

@@ -6,7 +6,7 @@ ghost use Rattle.elf_image_rules.specs.Broken.{fault_of};
 ghost use Rattle.elf_image_rules.specs.HeaderRules.{MAX_LEN};
 ghost use Rattle.elf_image_rules.specs.Rows.{AtEntry, FirstIn};
 ghost use Rattle.elf_table_symbols.specs.LinkedVerdicts.{AreKnown};
-ghost use Rattle.elf_table_base.specs.Sections.{section, sections_of};
+ghost use Rattle.elf_table_base.specs.Sections.{sections_of};
 ghost use Rattle.elf_table_lists.specs.RelocationRules.{relocation_entry_rules, relocation_section_rules};
 ghost use Rattle.elf_table_lists.specs.Relocations.{relocation_count as relocation_count_of, relocation_in};
 
@@ -14,47 +14,44 @@ use crate::relocation::{relocation_at, relocation_count, relocation_offset};
 use elf_field::Order;
 use elf_field::abi::*;
 use elf_image_rules::Broken;
-use elf_image_type::Image;
 use elf_table_base::rules::*;
-use elf_table_base::{TableKind, judge_own_rules};
+use elf_table_base::{LinkedTable, TableKind, TableSection, judge_own_rules};
 use elf_table_symbols::SymbolVerdicts;
 
-/// All rules of the relocation section `i`, by these verdicts on the symbol tables. [`Broken`] is the first that is broken, at its lowest
+/// All rules of a relocation section, by these verdicts on the symbol tables. [`Broken`] is the first that is broken, at its lowest
 /// offset: 40, 42, 43, 44, then all rules of the symbol table that the section links to, then 53 and 54.
 #[tactic(auto, unfolding(crate::specs::RelocationRules::relocation_section_rules))]
 pub fn judge_relocation_section(
-    image: &Image<'_>,
-    i: usize,
+    table: TableSection<'_, '_>,
     symbols: SymbolVerdicts<'_>,
 ) -> Result<(), Broken<u64>>
-    requires there { i < length image.now.sections }
-    requires known { AreKnown (sections_of image.now) symbols }
-    ensures { FirstIn (relocation_section_rules (sections_of image.now) i) (fault_of result) }
+    requires { AreKnown (sections_of table.image.now) symbols }
+    ensures { FirstIn (relocation_section_rules (sections_of table.entry.image.now) table.entry.index) (fault_of result) }
 {
-    judge_own_rules(image, i, TableKind::RelocationTable)?;
-    symbols.of(image, image.section(i).sh_link as usize)?;
-    judge_relocations(image, i)
+    judge_own_rules(table, TableKind::RelocationTable)?;
+    let linked = LinkedTable { table };
+    symbols.of(linked)?;
+    judge_relocations(linked)
 }
 
-/// Rules 53 and 54 of the relocation section `i`, which links to a section.
+/// Rules 53 and 54 of a relocation section.
 #[tactic(auto, unfolding(crate::specs::RelocationRules::relocation_entry_rules))]
-fn judge_relocations(image: &Image<'_>, i: usize) -> Result<(), Broken<u64>>
-    requires there { i < length image.now.sections }
-    requires linked { (section (sections_of image.now) i).sh_link < length image.now.sections }
-    ensures { FirstIn (relocation_entry_rules (sections_of image.now) i) (fault_of result) }
+fn judge_relocations(linked: LinkedTable<'_, '_>) -> Result<(), Broken<u64>>
+    ensures { FirstIn (relocation_entry_rules (sections_of linked.entry.table.image.now) linked.entry.table.index) (fault_of result) }
 {
-    let section = image.section(i);
-    if section.sh_info as usize >= image.section_count() {
-        let at = image.header_offset(i) + SH_INFO_AT;
+    let table = linked.table;
+    let section = table.header();
+    if section.sh_info as usize >= table.image.section_count() {
+        let at = table.header_offset() + SH_INFO_AT;
         return Err(Broken::new(WRONG_TARGET, at));
     }
-    let symbols = image.content(section.sh_link as usize).len() / SYM_SIZE as usize;
+    let symbols = linked.linked_content().len() / SYM_SIZE as usize;
     let addends = section.sh_type == SHT_RELA;
-    let table = image.content(i);
+    let content = table.content();
     match lowest_wrong_relocation_symbol(
-        image.order(),
+        table.order(),
         addends,
-        table,
+        content,
         section.sh_offset,
         symbols,
     ) {

@@ -12,6 +12,7 @@ use elf_field::Order;
 use elf_field::abi::*;
 use elf_image_stream::Fault;
 use elf_image_type::Image;
+use elf_table_base::TableSection;
 use elf_table_symbols::SymbolVerdicts;
 use std::marker::Model;
 
@@ -44,7 +45,7 @@ impl<'a> Relocs<'a> {
         requires { i < length image.now.sections }
         ensures { IsJudged (relocation_section_rules (sections_of image.now) i) (λ relocs. relocs ≡ relocations_of (sections_of image.now) i) result }
     {
-        judge_relocation_section(image, i, SymbolVerdicts::Unknown)?;
+        judge_relocation_section(TableSection { image, index: i }, SymbolVerdicts::Unknown)?;
         Ok(Relocs::of_section(image, i))
     }
 
@@ -53,10 +54,11 @@ impl<'a> Relocs<'a> {
         requires { i < length image.now.sections }
         ensures { result ≡ relocations_of (sections_of image.now) i }
     {
+        let section = TableSection { image, index: i };
         Relocs {
-            order: image.order(),
-            addends: image.section(i).sh_type == SHT_RELA,
-            table: image.content(i),
+            order: section.order(),
+            addends: section.header().sh_type == SHT_RELA,
+            table: section.content(),
         }
     }
 

@@ -13,6 +13,7 @@ use elf_image_rules::{Broken, unclosed_at};
 use elf_image_stream::Fault;
 use elf_image_type::Image;
 use elf_image_type::strings::string_at;
+use elf_table_base::TableSection;
 use elf_table_base::rules::*;
 use std::marker::Model;
 
@@ -40,9 +41,10 @@ impl<'a> Strings<'a> {
         requires { i < length image.now.sections }
         ensures { IsJudged (string_table_rules (sections_of image.now) i) (λ strings. strings ≡ content (sections_of image.now) i) result }
     {
-        judge_string_table(image, i)?;
+        let table = TableSection { image, index: i };
+        judge_string_table(table)?;
         Ok(Strings {
-            table: image.content(i),
+            table: table.content(),
         })
     }
 
@@ -60,18 +62,17 @@ impl<'a> Strings<'a> {
     }
 }
 
-/// Rules 40 and 41 of a string table in section `i`.
+/// Rules 40 and 41 of a string table.
 #[tactic(auto, unfolding(crate::specs::StringRules::string_table_rules))]
-fn judge_string_table(image: &Image<'_>, i: usize) -> Result<(), Broken<u64>>
-    requires { i < length image.now.sections }
-    ensures { FirstIn (string_table_rules (sections_of image.now) i) (fault_of result) }
+fn judge_string_table(table: TableSection<'_, '_>) -> Result<(), Broken<u64>>
+    ensures { FirstIn (string_table_rules (sections_of table.entry.image.now) table.entry.index) (fault_of result) }
 {
-    let section = image.section(i);
-    let at = image.header_offset(i);
+    let section = table.header();
+    let at = table.header_offset();
     if section.sh_type != SHT_STRTAB {
         return Err(Broken::new(WRONG_TABLE_TYPE, at + SH_TYPE_AT));
     }
-    judge_linked_strings(image.content(i), section.sh_offset)
+    judge_linked_strings(table.content(), section.sh_offset)
 }
 
 /// Rule 41 of a string table at this offset in the file, which another table links to. [`Broken`] has the lowest offset where the rule is

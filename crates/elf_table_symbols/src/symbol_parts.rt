@@ -8,7 +8,7 @@ use crate::index_tables::IndexTables;
 use crate::symbol_words::index_words_in;
 use elf_field::Order;
 use elf_field::abi::*;
-use elf_image_type::Image;
+use elf_table_base::LinkedTable;
 
 /// The content of a symbol table, of the string table that it links to, and of its index table, with their offsets. All of them lie in one
 /// file of at most 2^30 bytes.
@@ -40,29 +40,27 @@ impl<'a> SymbolParts<'a> {
     ghost use Rattle.elf_table_symbols.specs.SymbolParts.{parts_value, symbol_parts};
     ghost use Rattle.elf_table_symbols.specs.SymbolRules.{entry_count};
 
-    /// Those of the symbol table in section `i`, which links to a section.
-    pub(crate) fn new(image: &Image<'a>, i: usize, tables: IndexTables) -> SymbolParts<'a>
-        requires there { i < length image.now.sections }
-        requires linked { (section (sections_of image.now) i).sh_link < length image.now.sections }
-        requires tables { AreIndexTables (sections_of image.now) i (length image.now.sections) tables }
-        ensures value { parts_value result ≡ symbol_parts (sections_of image.now) i }
-        ensures sized { (j : ℕ) → tables.first ≡ Some j → length result.words.now ≡ (section (sections_of image.now) j).sh_size }
+    /// Those of this symbol table, with its index tables.
+    pub(crate) fn new(linked: LinkedTable<'_, 'a>, tables: IndexTables) -> SymbolParts<'a>
+        requires { let t = linked.table in AreIndexTables (sections_of t.image.now) t.index (length t.image.now.sections) tables }
+        ensures value { parts_value result ≡ symbol_parts (sections_of linked.entry.table.image.now) linked.entry.table.index }
+        ensures sized { (j : ℕ) → tables.first ≡ Some j → length result.words.now ≡ (section (sections_of linked.entry.table.image.now) j).sh_size }
     {
-        let section = image.section(i);
-        let link = section.sh_link as usize;
-        let (words, words_start) = index_words_in(image, tables.first);
+        let table = linked.table;
+        let section = table.header();
+        let (words, words_start) = index_words_in(table.image, tables.first);
         SymbolParts {
-            order: image.order(),
-            header: image.header_offset(i),
+            order: table.order(),
+            header: table.header_offset(),
             info: section.sh_info,
-            table: image.content(i),
+            table: table.content(),
             start: section.sh_offset,
-            names: image.content(link),
-            names_start: image.section(link).sh_offset,
+            names: linked.linked_content(),
+            names_start: linked.linked_header().sh_offset,
             index_table: tables.first,
             words,
             words_start,
-            sections: image.section_count(),
+            sections: table.image.section_count(),
         }
     }
 

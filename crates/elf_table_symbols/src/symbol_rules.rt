@@ -17,9 +17,8 @@ use crate::symbol_words::{entry, word};
 use elf_field::Sym;
 use elf_field::abi::*;
 use elf_image_rules::Broken;
-use elf_image_type::Image;
 use elf_table_base::rules::*;
-use elf_table_base::{TableKind, judge_own_rules};
+use elf_table_base::{LinkedTable, TableKind, TableSection, judge_own_rules};
 
 /// A rule on one symbol by itself.
 #[derive(Clone, Copy, Debug, PartialEq, Eq)]
@@ -116,19 +115,19 @@ fn judge_entries(parts: &SymbolParts<'_>) -> Result<(), Broken<u64>>
     Ok(())
 }
 
-/// Rules 49 and 50, of the index tables of a table of so many symbols in section `i`.
+/// Rules 49 and 50, of the index tables of a table of so many symbols.
 #[tactic(auto, unfolding(crate::specs::SymbolRules::index_table_rules))]
 fn judge_index_table(
-    image: &Image<'_>,
-    i: usize,
+    table: TableSection<'_, '_>,
     tables: IndexTables,
     symbols: usize,
 ) -> Result<(), Broken<u64>>
-    requires tables { AreIndexTables (sections_of image.now) i (length image.now.sections) tables }
+    requires tables { AreIndexTables (sections_of table.image.now) table.index (length table.image.now.sections) tables }
     requires few { symbols ≤ MAX_LEN }
-    ensures fault { FirstIn (index_table_rules (sections_of image.now) i tables.first symbols) (fault_of result) }
-    ensures sized { OnOk result ((j : ℕ) → tables.first ≡ Some j → length (content (sections_of image.now) j) ≡ WORD_SIZE * symbols) }
+    ensures fault { FirstIn (index_table_rules (sections_of table.entry.image.now) table.entry.index tables.first symbols) (fault_of result) }
+    ensures sized { OnOk result ((j : ℕ) → tables.first ≡ Some j → length (content (sections_of table.entry.image.now) j) ≡ WORD_SIZE * symbols) }
 {
+    let image = table.image;
     if let Some(j) = tables.second {
         return Err(Broken::new(SECOND_INDEX_TABLE, image.header_offset(j) + SH_LINK_AT));
     }
@@ -190,37 +189,34 @@ fn judge_places(parts: &SymbolParts<'_>) -> Result<(), Broken<u64>>
     Ok(())
 }
 
-/// All rules of a symbol table behind its own, of the table in section `i` with these parts.
+/// All rules of a symbol table behind its own, of the table with these parts.
 #[tactic(auto, unfolding(crate::specs::SymbolRules::rest_rules))]
 fn judge_rest(
-    image: &Image<'_>,
-    i: usize,
+    table: TableSection<'_, '_>,
     tables: IndexTables,
     parts: &SymbolParts<'_>,
 ) -> Result<(), Broken<u64>>
-    requires tables { AreIndexTables (sections_of image.now) i (length image.now.sections) tables }
-    requires parts { parts_value parts.now ≡ symbol_parts (sections_of image.now) i }
-    ensures { FirstIn (rest_rules (sections_of image.now) i (parts_value parts.now)) (fault_of result) }
+    requires tables { AreIndexTables (sections_of table.image.now) table.index (length table.image.now.sections) tables }
+    requires parts { parts_value parts.now ≡ symbol_parts (sections_of table.image.now) table.index }
+    ensures { FirstIn (rest_rules (sections_of table.entry.image.now) table.entry.index (parts_value parts.now)) (fault_of result) }
 {
     judge_linked_strings(parts.names, parts.names_start)?;
     judge_entries(parts)?;
-    judge_index_table(image, i, tables, parts.len())?;
+    judge_index_table(table, tables, parts.len())?;
     judge_places(parts)
 }
 
-/// All rules of the symbol table in section `i`, which has these index tables. [`Broken`] is the first that is broken, at its lowest
+/// All rules of a symbol table, which has these index tables. [`Broken`] is the first that is broken, at its lowest
 /// offset: 40, 42, 43, 44, then 41 of the string table that the section links to, then 45 to 52.
 #[tactic(auto, unfolding(crate::specs::SymbolRules::symbol_table_rules))]
 pub fn judge_symbol_table(
-    image: &Image<'_>,
-    i: usize,
+    table: TableSection<'_, '_>,
     tables: IndexTables,
 ) -> Result<(), Broken<u64>>
-    requires there { i < length image.now.sections }
-    requires tables { AreIndexTables (sections_of image.now) i (length image.now.sections) tables }
-    ensures { FirstIn (symbol_table_rules (sections_of image.now) i) (fault_of result) }
+    requires { AreIndexTables (sections_of table.image.now) table.index (length table.image.now.sections) tables }
+    ensures { FirstIn (symbol_table_rules (sections_of table.entry.image.now) table.entry.index) (fault_of result) }
 {
-    judge_own_rules(image, i, TableKind::SymbolTable)?;
-    let parts = SymbolParts::new(image, i, tables);
-    judge_rest(image, i, tables, &parts)
+    judge_own_rules(table, TableKind::SymbolTable)?;
+    let parts = SymbolParts::new(LinkedTable { table }, tables);
+    judge_rest(table, tables, &parts)
 }

@@ -1,5 +1,4 @@
 //! The verdict on the symbol table that a table links to.
-ghost use Rattle.std.specs.Prelude.{◌<◌, length};
 ghost use Rattle.elf_image_rules.specs.Broken.{fault_of};
 ghost use Rattle.elf_image_rules.specs.Rows.{FirstIn};
 ghost use Rattle.elf_table_symbols.specs.LinkedVerdicts.{AreKnown};
@@ -10,7 +9,7 @@ ghost use Rattle.elf_table_base.specs.TableKind.{IsSymbolType};
 use crate::index_tables::index_tables_of;
 use crate::symbol_rules::judge_symbol_table;
 use elf_image_rules::Broken;
-use elf_image_type::Image;
+use elf_table_base::{LinkedTable, TableSection};
 
 /// Which verdicts on symbol tables are known.
 #[derive(Clone, Copy, Drop)]
@@ -22,17 +21,20 @@ pub enum SymbolVerdicts<'a> {
 }
 
 impl SymbolVerdicts<'_> {
-    /// The verdict on the symbol table in section `link`.
-    pub fn of(self, image: &Image<'_>, link: usize) -> Result<(), Broken<u64>>
-        requires there { link < length image.now.sections }
-        requires typed { IsSymbolType (section (sections_of image.now) link).sh_type }
-        requires known { AreKnown (sections_of image.now) self }
-        ensures { FirstIn (symbol_table_rules (sections_of image.now) link) (fault_of result) }
+    /// The verdict on the symbol table that this table links to.
+    pub fn of(self, linked: LinkedTable<'_, '_>) -> Result<(), Broken<u64>>
+        requires typed { let f = sections_of linked.table.image.now in IsSymbolType (section f (section f linked.table.index).sh_link).sh_type }
+        requires known { AreKnown (sections_of linked.table.image.now) self }
+        ensures { let f = sections_of linked.entry.table.image.now in
+            FirstIn (symbol_table_rules f (section f linked.entry.table.index).sh_link) (fault_of result) }
     {
+        let index = linked.link();
         match self {
-            SymbolVerdicts::All(symbols) => symbols[link],
+            SymbolVerdicts::All(symbols) => symbols[index],
             SymbolVerdicts::Unknown => {
-                judge_symbol_table(image, link, index_tables_of(image, link))
+                let image = linked.table.image;
+                let table = TableSection { image, index };
+                judge_symbol_table(table, index_tables_of(image, index))
             }
         }
     }

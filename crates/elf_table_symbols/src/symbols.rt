@@ -20,6 +20,7 @@ use elf_field::abi::*;
 use elf_image_stream::Fault;
 use elf_image_type::Image;
 use elf_image_type::strings::string_at;
+use elf_table_base::{LinkedTable, TableSection};
 use std::marker::Model;
 
 /// A symbol table: the list of its symbols, symbol 0 among them. It borrows from the bytes of the file, as the names of its
@@ -53,8 +54,9 @@ impl<'a> Symbols<'a> {
         requires { i < length image.now.sections }
         ensures { IsJudged (symbol_table_rules (sections_of image.now) i) (λ symbols. symbols ≡ symbols_of (sections_of image.now) i) result }
     {
+        let table = TableSection { image, index: i };
         let tables = index_tables_of(image, i);
-        judge_symbol_table(image, i, tables)?;
+        judge_symbol_table(table, tables)?;
         Ok(Symbols::of_sound(image, i, tables))
     }
 
@@ -65,7 +67,8 @@ impl<'a> Symbols<'a> {
         requires sound { FirstIn (symbol_table_rules (sections_of image.now) i) None }
         ensures { result ≡ symbols_of (sections_of image.now) i }
     {
-        let parts = SymbolParts::new(image, i, tables);
+        let table = TableSection { image, index: i };
+        let parts = SymbolParts::new(LinkedTable { table }, tables);
         Symbols {
             order: parts.order,
             table: parts.table,

@@ -9,8 +9,8 @@ returns-then-seen-s-clause-endless c =
 pub steps-preserved : goal.steps-preserved
 steps-preserved c =
     let was = c.steps.invariant in
-    rw (c.in_ok-push.ensures.items, c.chain-s.ensures) (record {
+    rw (c.in_ok-push.ensures.items, c.next-s.ensures.value) (record {
       seen = seen_more _ _ _ _ c.steps.s was.seen was.inside;
       path = path_push _ c.args.start c.steps.s _ was.path c.steps-test.true;
-      inside = c.requires.linked.chains c.steps.s was.inside;
+      inside = c.args.chains.linked.chains c.steps.s was.inside;
     })

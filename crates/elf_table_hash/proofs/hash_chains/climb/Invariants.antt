@@ -7,9 +7,9 @@ use Rattle.elf_table_hash.proofs.hash_chains.climb.Given as goal
 
 abbrev pub invariant-steps : goal.invariant-steps
 invariant-steps l = record {
-  seen : AreSeen (nchain l.words) l.depth l.stack.items l.seen;
-  path : IsPath (chain l.words) l.start l.stack.items l.s;
-  inside : l.s < nchain l.words;
+  seen : AreSeen (nchain l.chains.words.now) l.depth l.stack.items l.seen;
+  path : IsPath (chain l.chains.words.now) l.start l.stack.items l.s;
+  inside : l.s < nchain l.chains.words.now;
 }
 
 -- the symbols that were not seen yet

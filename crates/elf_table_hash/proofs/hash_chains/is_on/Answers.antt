@@ -22,7 +22,7 @@ returns-then-starts-s c =
     let above : 0 < get_or c.args.depth.now c.args.s 0 = omega arith in
     let none = zero_depth _ _ _ c.requires.depths in
     let some : c.args.s ≢ 0 = λ is. (let depth = ap (λ k. get_or c.args.depth.now k 0) is in omega arith) in
-    let leads = subst (λ k. Leads (chain c.args.words.now) k c.args.s) c.if-starts-s.true (c.requires.starts.right c.args.s above) in
+    let leads = subst (λ k. Leads (chain c.args.chains.words.now) k c.args.s) c.if-starts-s.true (c.requires.starts.right c.args.s above) in
     ((λ _. on_from_path _ c.args.start c.args.s leads.0 leads.1 some (known_ends _ _ _ c.args.s c.requires.depths (inr above))), λ _. refl)
 
 pub steps-preserved : goal.steps-preserved
@@ -46,7 +46,7 @@ returns c =
     let some : c.args.s ≢ 0 = λ is. (let depth = ap (λ k. get_or c.args.depth.now k 0) is in omega arith) in (
       (λ test. (
           let same = eqb-true c.steps.here c.args.s test in
-          let leads = subst (Leads (chain c.args.words.now) c.args.start) same was.leads in
-          on_from_path _ c.args.start c.args.s leads.0 leads.1 some (subst (Ends (chain c.args.words.now)) same (known_ends _ _ _ c.steps.here c.requires.depths was.known)))),
+          let leads = subst (Leads (chain c.args.chains.words.now) c.args.start) same was.leads in
+          on_from_path _ c.args.start c.args.s leads.0 leads.1 some (subst (Ends (chain c.args.chains.words.now)) same (known_ends _ _ _ c.steps.here c.requires.depths was.known)))),
       λ on. eq-eqb c.steps.here c.args.s (on_same _ _ _ c.steps.here c.args.s c.requires.depths was.known (was.on on) (omega arith)),
     )

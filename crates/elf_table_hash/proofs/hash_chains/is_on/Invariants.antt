@@ -6,10 +6,10 @@ use Rattle.elf_table_hash.proofs.hash_chains.is_on.Given as goal
 
 abbrev pub invariant-steps : goal.invariant-steps
 invariant-steps l = record {
-  leads : Leads (chain l.words) l.start l.here;
-  on : IsOn (chain l.words) l.start l.s → IsOn (chain l.words) l.here l.s;
+  leads : Leads (chain l.chains.words.now) l.start l.here;
+  on : IsOn (chain l.chains.words.now) l.start l.s → IsOn (chain l.chains.words.now) l.here l.s;
   known : IsDepthKnown l.depth l.here;
-  inside : l.here < nchain l.words;
+  inside : l.here < nchain l.chains.words.now;
 }
 
 abbrev pub decreases-steps : goal.decreases-steps

@@ -7,16 +7,16 @@ returns-clause-leads c =
     let none = zero_depth _ _ _ c.requires.depths in
     let above = c.requires.above in
     let some : c.args.s ≢ 0 = λ is. (let depth = ap (λ k. get_or c.args.depth.now k 0) is in omega arith) in
-    rw c.chain.ensures (c.args.s ∷ [], (some, refl, refl))
+    rw c.next.ensures.value (c.args.s ∷ [], (some, refl, refl))
 
 pub returns-clause-nearer : goal.returns-clause-nearer
 returns-clause-nearer c =
     let above = c.requires.above in
     let less = next_depth _ _ _ c.args.s c.requires.depths (omega arith) in
-    rw c.chain.ensures (omega arith)
+    rw c.next.ensures.value (omega arith)
 
 pub returns-clause-above : goal.returns-clause-above
 returns-clause-above c =
     let above = c.requires.above in
     let less = next_depth _ _ _ c.args.s c.requires.depths (omega arith) in
-    rw c.chain.ensures (omega arith)
+    rw c.next.ensures.value (omega arith)

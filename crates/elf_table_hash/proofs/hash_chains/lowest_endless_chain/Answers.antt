@@ -6,7 +6,7 @@ use Rattle.elf_table_hash.proofs.hash_chains.lowest_endless_chain.Goals as goal
 pub returns-in-None-clause-lowest : goal.returns-in-None-clause-lowest
 returns-in-None-clause-lowest c =
     let was = c.loop-b.invariant in
-    let endless = rw (c.in-None.is, c.bucket-start.ensures) at c.in_ok-top.ensures.endless in
+    let endless = rw (c.in-None.is, c.bucket-start.ensures.value) at c.in_ok-top.ensures.endless in
     let within = rw c.nbucket-b-end.ensures at c.loop-b-test.true in
     record {
       holds = (within, endless);

@@ -24,7 +24,7 @@ pub bounds-depth-above : goal.bounds-depth-above
 bounds-depth-above c =
     let was = c.steps.invariant in
     let last = last_of _ c.args.start c.steps.s c.in-Some.above _ c.pop.new.self.items c.in-Some.ensures.items was.path in
-    let below = end_below (chain c.args.words.now) _ c.args.start c.in-Some.above _ c.requires.linked.chains c.requires.start last.1 in
+    let below = end_below (chain c.args.chains.words.now) _ c.args.start c.in-Some.above _ c.args.chains.linked.chains c.requires.start last.1 in
     let long = was.depths.long in
     omega arith
 
@@ -32,7 +32,7 @@ pub bounds-jump-above : goal.bounds-jump-above
 bounds-jump-above c =
     let was = c.steps.invariant in
     let last = last_of _ c.args.start c.steps.s c.in-Some.above _ c.pop.new.self.items c.in-Some.ensures.items was.path in
-    let below = end_below (chain c.args.words.now) _ c.args.start c.in-Some.above _ c.requires.linked.chains c.requires.start last.1 in
+    let below = end_below (chain c.args.chains.words.now) _ c.args.start c.in-Some.above _ c.args.chains.linked.chains c.requires.start last.1 in
     let long = was.jumps.long in
     omega arith
 
@@ -40,7 +40,7 @@ pub bounds-starts-above : goal.bounds-starts-above
 bounds-starts-above c =
     let was = c.steps.invariant in
     let last = last_of _ c.args.start c.steps.s c.in-Some.above _ c.pop.new.self.items c.in-Some.ensures.items was.path in
-    let below = end_below (chain c.args.words.now) _ c.args.start c.in-Some.above _ c.requires.linked.chains c.requires.start last.1 in
+    let below = end_below (chain c.args.chains.words.now) _ c.args.start c.in-Some.above _ c.args.chains.linked.chains c.requires.start last.1 in
     let long = was.starts.long in
     omega arith
 
@@ -48,7 +48,7 @@ pub steps-preserved : goal.steps-preserved
 steps-preserved c =
     let was = c.steps.invariant in
     let last = last_of _ c.args.start c.steps.s c.in-Some.above _ c.pop.new.self.items c.in-Some.ensures.items was.path in
-    let below = end_below (chain c.args.words.now) _ c.args.start c.in-Some.above _ c.requires.linked.chains c.requires.start last.1 in
+    let below = end_below (chain c.args.chains.words.now) _ c.args.start c.in-Some.above _ c.args.chains.linked.chains c.requires.start last.1 in
     let long = was.depths.long in
     let inside : c.in-Some.above < length c.steps.depth = omega arith in
     rw c.one_more.ensures (record {

@@ -2,37 +2,37 @@
 use Rattle.std.proofs.Common.{ℕ, inl, inr, refl, arith}
 use Rattle.elf_extent.specs.Least.{IsLeast, Never}
 use Rattle.elf_table_symbols.specs.Below.{Below}
-use Rattle.elf_table_hash.specs.declared.hash_parts.HashParts.{HashParts}
 use Rattle.elf_table_hash.specs.Chains.{Ends}
+use Rattle.elf_table_hash.specs.HashParts.{HashPartsValue, parts_value}
 use Rattle.elf_table_hash.specs.HashRules.{bucket_at, chain_rules, endless_chain}
 use Rattle.elf_table_hash.specs.HashTable.{bucket, chain, nbucket}
 use Rattle.elf_table_hash.proofs.hash_rules.judge_chains.Goals as goal
 
 -- the first bucket whose chain does not end has the lowest offset
-endless_at : (p : HashParts) (b : ℕ) → IsLeast (Below (nbucket p.words) (λ b. ¬ Ends (chain p.words) (bucket p.words b))) b →
+endless_at : (p : HashPartsValue) (b : ℕ) → IsLeast (Below (nbucket p.words) (λ b. ¬ Ends (chain p.words) (bucket p.words b))) b →
     IsLeast (endless_chain p) (bucket_at p b)
 endless_at p b least = record {
   holds = (b, least.holds.0, least.holds.1, refl);
   lowest = λ x here. (let (k, lt, endless, at) = here in let le = least.lowest k (lt, endless) in omega arith);
 }
 
-no_endless_chain : (p : HashParts) → Never (Below (nbucket p.words) (λ b. ¬ Ends (chain p.words) (bucket p.words b))) → Never (endless_chain p)
+no_endless_chain : (p : HashPartsValue) → Never (Below (nbucket p.words) (λ b. ¬ Ends (chain p.words) (bucket p.words b))) → Never (endless_chain p)
 no_endless_chain p never x here = never here.0 (here.1, here.2)
 
 pub returns-in-Some : goal.returns-in-Some
 unfolding chain_rules
 returns-in-Some c =
     let least = rw c.in-Some.is at c.in_ok-b.ensures.lowest in
-    rw c.new.ensures (inl (refl, endless_at c.args.parts.now c.in-Some.b least))
+    rw c.new.ensures (inl (refl, endless_at (parts_value c.args.parts.now) c.in-Some.b least))
 
 pub returns-in-Some-lowest_symbol_off_chain : goal.returns-in-Some-lowest_symbol_off_chain
 unfolding chain_rules
 returns-in-Some-lowest_symbol_off_chain c =
     let never = rw c.in_default.is at c.in_ok-b.ensures.lowest in
-    rw c.new-in-Some-lowest_symbol_off_chain.ensures (inr (no_endless_chain c.args.parts.now never, inl (refl, c.in-Some-lowest_symbol_off_chain.ensures)))
+    rw c.new-in-Some-lowest_symbol_off_chain.ensures (inr (no_endless_chain (parts_value c.args.parts.now) never, inl (refl, c.in-Some-lowest_symbol_off_chain.ensures)))
 
 pub returns : goal.returns
 unfolding chain_rules
 returns c =
     let never = rw c.in_default.is at c.in_ok-b.ensures.lowest in
-    (no_endless_chain c.args.parts.now never, (c.in-None.ensures, tt))
+    (no_endless_chain (parts_value c.args.parts.now) never, (c.in-None.ensures, tt))

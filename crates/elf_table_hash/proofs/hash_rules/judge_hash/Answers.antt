@@ -6,19 +6,19 @@ use Rattle.elf_table_hash.proofs.hash_rules.judge_hash.Goals as goal
 pub returns-in_err-judge_words : goal.returns-in_err-judge_words
 unfolding hash_rules
 returns-in_err-judge_words c =
-    let run = rw c.new-parts.ensures.value at c.in_err-judge_words.ensures.fault in
+    let run = rw c.new-parts.ensures at c.in_err-judge_words.ensures.fault in
     judged_stop _ _ _ _ _ _ run c.from_residual.ensures.1
 
 pub returns-in_err-verdict-2 : goal.returns-in_err-verdict-2
 unfolding hash_rules
 returns-in_err-verdict-2 c =
-    let words = rw c.new-parts.ensures.value at c.in_ok-judge_words.ensures.fault in
-    let chains = rw (c.in_err-verdict-2.was, c.new-parts.ensures.value) at c.in_ok-verdict.ensures in
+    let words = rw c.new-parts.ensures at c.in_ok-judge_words.ensures.fault in
+    let chains = rw (c.in_err-verdict-2.was, c.new-parts.ensures) at c.in_ok-verdict.ensures in
     judged_handed _ _ _ _ _ (FirstIn-later _ _ _ words chains) c.from_residual-in_err-verdict-2.ensures.1
 
 pub returns : goal.returns
 unfolding hash_rules
 returns c =
-    let words = rw c.new-parts.ensures.value at c.in_ok-judge_words.ensures.fault in
-    let chains = rw (c.in_ok-verdict-2.was, c.new-parts.ensures.value) at c.in_ok-verdict.ensures in
+    let words = rw c.new-parts.ensures at c.in_ok-judge_words.ensures.fault in
+    let chains = rw (c.in_ok-verdict-2.was, c.new-parts.ensures) at c.in_ok-verdict.ensures in
     (FirstIn-later _ _ _ words chains, tt)

@@ -9,11 +9,9 @@ returns-in_err-judge_own_rules c = judged_stop _ _ _ _ _ _ c.in_err-judge_own_ru
 pub returns-in_err-of : goal.returns-in_err-of
 unfolding hash_table_front hash_table_rules
 returns-in_err-of c =
-    let run = rw c.section.ensures.value at c.in_err-of.ensures in
-    judged_later _ _ _ _ _ c.in_ok-judge_own_rules.ensures.fault (judged_stop _ _ _ _ _ _ run c.from_residual-in_err-of.ensures.1)
+    judged_later _ _ _ _ _ c.in_ok-judge_own_rules.ensures.fault (judged_stop _ _ _ _ _ _ c.in_err-of.ensures c.from_residual-in_err-of.ensures.1)
 
 pub returns : goal.returns
 unfolding hash_table_front hash_table_rules
 returns c =
-    let run = rw c.section.ensures.value at c.in_ok-of.ensures in
-    judged_later _ _ _ _ _ c.in_ok-judge_own_rules.ensures.fault (judged_later _ _ _ _ _ run c.judge_hash.ensures)
+    judged_later _ _ _ _ _ c.in_ok-judge_own_rules.ensures.fault (judged_later _ _ _ _ _ c.in_ok-of.ensures c.judge_hash.ensures)

@@ -31,15 +31,15 @@ strings f i end found is lowest =
 pub returns-in-Some : goal.returns-in-Some
 unfolding dynamic_rules
 returns-in-Some c =
-    let is = rw (c.order-order.ensures, c.content-table.ensures.bytes) at (ended _ _ _ c.first_null_entry-end.ensures.within c.first_null_entry-end.ensures.before c.first_null_entry-end.ensures.found) in
-    let other = rw (c.dynamic_entry_count.ensures, c.content-table.ensures.bytes) at c.if-end-dynamic_entry_count.false in
-    let lowest = rw (c.order-order.ensures, c.content-table.ensures.bytes, c.content-size.ensures.bytes, c.section-section.ensures.value) at c.in-Some.ensures in
-    rw c.new-in-Some.ensures (inr (has_null_entry (sections_of c.args.image.now) c.args.i _ is other, inl (refl, strings (sections_of c.args.image.now) c.args.i _ (Some c.in-Some.at) is lowest)))
+    let is = rw (c.order-order.ensures, c.content-content.ensures.bytes) at (ended _ _ _ c.first_null_entry-end.ensures.within c.first_null_entry-end.ensures.before c.first_null_entry-end.ensures.found) in
+    let other = rw (c.dynamic_entry_count.ensures, c.content-content.ensures.bytes) at c.if-end-dynamic_entry_count.false in
+    let lowest = rw (c.order-order.ensures, c.content-content.ensures.bytes, c.linked_content-size.ensures.bytes, c.header-start.ensures) at c.in-Some.ensures in
+    rw c.new-in-Some.ensures (inr (has_null_entry (sections_of c.args.linked.table.image.now) c.args.linked.table.index _ is other, inl (refl, strings (sections_of c.args.linked.table.image.now) c.args.linked.table.index _ (Some c.in-Some.at) is lowest)))
 
 pub returns-in-None : goal.returns-in-None
 unfolding dynamic_rules
 returns-in-None c =
-    let is = rw (c.order-order.ensures, c.content-table.ensures.bytes) at (ended _ _ _ c.first_null_entry-end.ensures.within c.first_null_entry-end.ensures.before c.first_null_entry-end.ensures.found) in
-    let other = rw (c.dynamic_entry_count.ensures, c.content-table.ensures.bytes) at c.if-end-dynamic_entry_count.false in
-    let never = rw (c.order-order.ensures, c.content-table.ensures.bytes, c.content-size.ensures.bytes, c.section-section.ensures.value) at c.in-None.ensures in
-    (has_null_entry (sections_of c.args.image.now) c.args.i _ is other, (strings (sections_of c.args.image.now) c.args.i _ None is never, tt))
+    let is = rw (c.order-order.ensures, c.content-content.ensures.bytes) at (ended _ _ _ c.first_null_entry-end.ensures.within c.first_null_entry-end.ensures.before c.first_null_entry-end.ensures.found) in
+    let other = rw (c.dynamic_entry_count.ensures, c.content-content.ensures.bytes) at c.if-end-dynamic_entry_count.false in
+    let never = rw (c.order-order.ensures, c.content-content.ensures.bytes, c.linked_content-size.ensures.bytes, c.header-start.ensures) at c.in-None.ensures in
+    (has_null_entry (sections_of c.args.linked.table.image.now) c.args.linked.table.index _ is other, (strings (sections_of c.args.linked.table.image.now) c.args.linked.table.index _ None is never, tt))

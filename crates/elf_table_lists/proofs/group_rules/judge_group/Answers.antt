@@ -14,13 +14,13 @@ returns-in_err-judge_group_front-clause-judged c =
 pub returns-in-Some-clause-judged : goal.returns-in-Some-clause-judged
 unfolding group_rules group_member_rules
 returns-in-Some-clause-judged c =
-    let f = sections_of c.args.image.now in
-    let least = wrong_member_row f c.args.i c.in-Some.j (rw c.in-Some.is at c.in_ok-wrong.ensures.found) in
+    let f = sections_of c.args.linked.table.image.now in
+    let least = wrong_member_row f c.args.linked.table.index c.in-Some.j (rw c.in-Some.is at c.in_ok-wrong.ensures.found) in
     rw (c.from.ensures, c.new.ensures, c.member_offset.ensures) (FirstIn-later _ _ _ c.in_ok-judge_group_front.ensures (inl (refl, least)))
 
 pub returns-in-None-clause-judged : goal.returns-in-None-clause-judged
 unfolding group_rules group_member_rules
 returns-in-None-clause-judged c =
-    let f = sections_of c.args.image.now in
-    let never = no_wrong_member f c.args.i (rw c.in-None.is at c.in_ok-wrong.ensures.found) in
+    let f = sections_of c.args.linked.table.image.now in
+    let never = no_wrong_member f c.args.linked.table.index (rw c.in-None.is at c.in_ok-wrong.ensures.found) in
     (FirstIn-later _ _ _ c.in_ok-judge_group_front.ensures (never, tt), tt)

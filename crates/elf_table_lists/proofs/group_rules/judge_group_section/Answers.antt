@@ -11,12 +11,10 @@ returns-in_err-judge_own_rules-clause-judged c =
 pub returns-in_err-of-clause-judged : goal.returns-in_err-of-clause-judged
 unfolding group_section_rules
 returns-in_err-of-clause-judged c =
-    let run = rw c.section.ensures.value at c.in_err-of.ensures in
-    judged_handed _ _ _ _ _ (FirstIn-later _ _ _ c.in_ok-judge_own_rules.ensures.fault (FirstIn-sooner _ _ _ run))
+    judged_handed _ _ _ _ _ (FirstIn-later _ _ _ c.in_ok-judge_own_rules.ensures.fault (FirstIn-sooner _ _ _ c.in_err-of.ensures))
     c.from_residual-in_err-of.ensures.1
 
 pub returns-clause-judged : goal.returns-clause-judged
 unfolding group_section_front group_section_rules
 returns-clause-judged c =
-    let run = rw c.section.ensures.value at c.in_ok-of.ensures in
-    judged_later _ _ _ _ _ c.in_ok-judge_own_rules.ensures.fault (judged_later _ _ _ _ _ run c.judge_group.ensures.judged)
+    judged_later _ _ _ _ _ c.in_ok-judge_own_rules.ensures.fault (judged_later _ _ _ _ _ c.in_ok-of.ensures c.judge_group.ensures.judged)

@@ -5,4 +5,4 @@ use Rattle.elf_table_lists.specs.Groups.{member}
 use Rattle.elf_table_lists.proofs.group_rules.lowest_unfit.Given as goal
 
 abbrev pub invariant-loop-j : goal.invariant-loop-j
-invariant-loop-j l = (k : ℕ) → k < l.j → IsUnfit (sections_of l.image) l.i (member l.order l.words k) → ⊥
+invariant-loop-j l = (k : ℕ) → k < l.j → IsUnfit (sections_of l.table.image.now) l.table.index (member l.order l.words k) → ⊥

@@ -3,4 +3,4 @@ use Rattle.elf_table_lists.proofs.GroupMembers.{AreRight}
 use Rattle.elf_table_lists.proofs.group_rules.lowest_unfit_or_repeated.Given as goal
 
 abbrev pub invariant-loop-j : goal.invariant-loop-j
-invariant-loop-j l = AreRight (sections_of l.image) l.i l.j l.seen
+invariant-loop-j l = AreRight (sections_of l.table.image.now) l.table.index l.j l.seen

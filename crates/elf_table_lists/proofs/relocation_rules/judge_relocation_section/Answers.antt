@@ -9,11 +9,9 @@ returns-in_err-judge_own_rules c = FirstIn-stop _ _ _ _ c.in_err-judge_own_rules
 pub returns-in_err-of : goal.returns-in_err-of
 unfolding relocation_section_rules
 returns-in_err-of c =
-    let run = rw c.section.ensures.value at c.in_err-of.ensures in
-    FirstIn-later _ _ _ c.in_ok-judge_own_rules.ensures.fault (FirstIn-stop _ _ _ _ run c.from_residual-in_err-of.ensures.1)
+    FirstIn-later _ _ _ c.in_ok-judge_own_rules.ensures.fault (FirstIn-stop _ _ _ _ c.in_err-of.ensures c.from_residual-in_err-of.ensures.1)
 
 pub returns : goal.returns
 unfolding relocation_section_rules
 returns c =
-    let run = rw c.section.ensures.value at c.in_ok-of.ensures in
-    FirstIn-later _ _ _ c.in_ok-judge_own_rules.ensures.fault (FirstIn-later _ _ _ run c.judge_relocations.ensures)
+    FirstIn-later _ _ _ c.in_ok-judge_own_rules.ensures.fault (FirstIn-later _ _ _ c.in_ok-of.ensures c.judge_relocations.ensures)

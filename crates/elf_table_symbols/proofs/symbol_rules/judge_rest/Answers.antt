@@ -33,7 +33,7 @@ returns-in_err-judge_entries c =
 pub returns-in_err-judge_index_table : goal.returns-in_err-judge_index_table
 unfolding rest_rules
 returns-in_err-judge_index_table c =
-    let same = found _ c.args.i c.args.tables _ c.requires.tables c.requires.parts in
+    let same = found _ c.args.table.index c.args.tables _ c.requires.tables c.requires.parts in
     let run = rw (c.len.ensures, same) at c.in_err-judge_index_table.ensures.fault in
     FirstIn-later _ _ _ c.in_ok-judge_linked_strings.ensures
     (FirstIn-later _ _ _ c.in_ok-judge_entries.ensures
@@ -41,14 +41,14 @@ returns-in_err-judge_index_table c =
 
 pub judge_places-requires : goal.judge_places-requires
 judge_places-requires c = λ j is.
-    (let same = found _ c.args.i c.args.tables _ c.requires.tables c.requires.parts in
+    (let same = found _ c.args.table.index c.args.tables _ c.requires.tables c.requires.parts in
     let sized = rw c.len.ensures at c.in_ok-judge_index_table.ensures.sized in
-    words _ c.args.i j _ c.requires.parts is ∙ sized j (same ∙ is))
+    words _ c.args.table.index j _ c.requires.parts is ∙ sized j (same ∙ is))
 
 pub returns : goal.returns
 unfolding rest_rules
 returns c =
-    let same = found _ c.args.i c.args.tables _ c.requires.tables c.requires.parts in
+    let same = found _ c.args.table.index c.args.tables _ c.requires.tables c.requires.parts in
     let run = rw (c.len.ensures, same) at c.in_ok-judge_index_table.ensures.fault in
     FirstIn-later _ _ _ c.in_ok-judge_linked_strings.ensures
     (FirstIn-later _ _ _ c.in_ok-judge_entries.ensures

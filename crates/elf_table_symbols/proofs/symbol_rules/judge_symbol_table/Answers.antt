@@ -14,6 +14,6 @@ returns-in_err-judge_own_rules c = FirstIn-stop _ _ _ _ c.in_err-judge_own_rules
 pub returns : goal.returns
 unfolding symbol_table_rules
 returns c =
-    let run = subst (λ (p : SymbolPartsValue). FirstIn (rest_rules (sections_of c.args.image.now) c.args.i p) (fault_of c.judge_rest.result))
+    let run = subst (λ (p : SymbolPartsValue). FirstIn (rest_rules (sections_of c.args.table.image.now) c.args.table.index p) (fault_of c.judge_rest.result))
     c.new-parts.ensures.value c.judge_rest.ensures in
     FirstIn-later _ _ _ c.in_ok-judge_own_rules.ensures.fault run

@@ -5,20 +5,26 @@ use Rattle.elf_image_rules.specs.Rows.{FirstIn}
 use Rattle.elf_table_base.specs.declared.table_kind.TableKind.TheVariants.{HashTable}
 use Rattle.elf_table_base.specs.OwnRules.{own_rules}
 use Rattle.elf_table_base.specs.Sections.{section, sections_of}
+use Rattle.elf_table_symbols.proofs.Public.{link_there}
 use Rattle.elf_table_symbols.specs.SymbolRules.{symbol_table_rules}
-use Rattle.elf_table_hash.specs.declared.hash_parts.HashParts.{HashParts}
-use Rattle.elf_table_hash.specs.HashParts.{hash_parts}
+use Rattle.elf_table_hash.specs.HashParts.{HashPartsValue, hash_parts, parts_value}
 use Rattle.elf_table_hash.specs.HashRules.{chain_rules, hash_rules, hash_table_rules, word_rules}
 use Rattle.elf_table_hash.proofs.HashSound.{valid_when}
 use Rattle.elf_table_hash.proofs.hash.Hash.of_sound.Goals as goal
+
+pub invariant_of-new : goal.invariant_of-new
+unfolding hash_table_rules
+invariant_of-new c =
+    let f = sections_of c.args.image.now in
+    record { linked = link_there HashTable f c.args.i (FirstIn-front (own_rules HashTable f c.args.i) _ c.requires.sound) }
 
 pub new-parts-requires-clause-own : goal.new-parts-requires-clause-own
 unfolding hash_table_rules
 new-parts-requires-clause-own c = FirstIn-front (own_rules HashTable (sections_of c.args.image.now) c.args.i) _ c.requires.sound
 
-pub new-parts-requires-clause-linked : goal.new-parts-requires-clause-linked
+pub new-parts-requires-clause-symbols : goal.new-parts-requires-clause-symbols
 unfolding hash_table_rules
-new-parts-requires-clause-linked c =
+new-parts-requires-clause-symbols c =
     let f = sections_of c.args.image.now in
     FirstIn-front (symbol_table_rules f (section f c.args.i).sh_link) _ (FirstIn-behind (own_rules HashTable f c.args.i) _ c.requires.sound)
 
@@ -29,7 +35,7 @@ invariant_of-result c =
     let rest = FirstIn-behind (symbol_table_rules f (section f c.args.i).sh_link) _ (FirstIn-behind (own_rules HashTable f c.args.i) _ c.requires.sound) in
     let words = FirstIn-front (word_rules (hash_parts f c.args.i)) _ rest in
     let chains = FirstIn-behind (word_rules (hash_parts f c.args.i)) _ rest in
-    let same = sym c.new-parts.ensures.value in
-    valid_when c.new-parts.result c.new-parts.ensures.inside.sized
-    (subst (λ (p : HashParts). FirstIn (word_rules p) None) same words)
-    (subst (λ (p : HashParts). FirstIn (chain_rules p) None) same chains)
+    let same = sym c.new-parts.ensures in
+    valid_when (parts_value c.new-parts.result) c.new-parts.result.sized
+    (subst (λ (p : HashPartsValue). FirstIn (word_rules p) None) same words)
+    (subst (λ (p : HashPartsValue). FirstIn (chain_rules p) None) same chains)

@@ -12,4 +12,4 @@ invariant_of-result c =
 
 pub returns : goal.returns
 unfolding group_of
-returns c = rw (c.order.ensures, c.section.ensures.value, c.content.ensures.bytes) refl
+returns c = rw (c.order.ensures, c.header.ensures, c.content.ensures.bytes) refl

@@ -10,11 +10,11 @@ returns-then-self-clause-steps c =
 pub note_at-note-requires : goal.note_at-note-requires
 note_at-note-requires c = first_whole _ _ _ c.self.invariant c.if-self.false
 
-pub note_end-self-inside-requires : goal.note_end-self-inside-requires
-note_end-self-inside-requires c =
+pub invariant_of-header : goal.invariant_of-header
+invariant_of-header c =
     let whole = first_whole _ _ _ c.self.invariant c.if-self.false in
     let above = end_above c.self.inside.order c.self.inside.table.now c.self.inside.at in
-    omega arith
+    record { inside = omega arith }
 
 pub invariant_of-self : goal.invariant_of-self
 invariant_of-self c = rw c.note_end-self-inside.ensures (rest_whole _ _ _ c.self.invariant)

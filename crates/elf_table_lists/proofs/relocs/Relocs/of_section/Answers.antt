@@ -4,4 +4,4 @@ use Rattle.elf_table_lists.proofs.relocs.Relocs.of_section.Goals as goal
 
 pub returns : goal.returns
 unfolding relocations_of
-returns c = rw (c.order.ensures, c.section.ensures.value, c.content.ensures.bytes) refl
+returns c = rw (c.order.ensures, c.header.ensures, c.content.ensures.bytes) refl

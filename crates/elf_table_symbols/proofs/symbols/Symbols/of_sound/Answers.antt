@@ -5,8 +5,8 @@ use Rattle.elf_table_symbols.proofs.IndexTableLemmas.{first_index_table}
 use Rattle.elf_table_symbols.proofs.SymbolLists.{readable, sound_link}
 use Rattle.elf_table_symbols.proofs.symbols.Symbols.of_sound.Goals as goal
 
-pub new-parts-requires-clause-linked : goal.new-parts-requires-clause-linked
-new-parts-requires-clause-linked c = sound_link _ c.args.i c.requires.sound
+pub invariant_of-new : goal.invariant_of-new
+invariant_of-new c = record { linked = sound_link _ c.args.i c.requires.sound }
 
 pub returns : goal.returns
 unfolding symbols_of
