@@ -9,16 +9,16 @@ ghost use Rattle.elf_image_rules.specs.Broken.{fault_of};
 ghost use Rattle.elf_image_rules.specs.Rows.{FirstIn};
 ghost use Rattle.elf_table_base.specs.Judged.{IsJudgedBehind};
 ghost use Rattle.elf_table_base.specs.Sections.{content, section};
-ghost use Rattle.elf_table_symbols.specs.Symbols.{symbols_of};
 
 use crate::body_kind::BodyKind;
+use crate::file_symbols::FileSymbols;
 use crate::object_file::ObjectFile;
 use crate::reference_rules::ReferenceRule;
 use crate::rules::*;
 use elf_field::abi::*;
 use elf_image_rules::Broken;
 use elf_image_stream::Fault;
-use elf_table_all::{Place, Symbols};
+use elf_table_all::Place;
 use std::alloc::Global;
 
 impl<'i, 'a> ObjectFile<'i, 'a> {
@@ -39,34 +39,15 @@ impl<'i, 'a> ObjectFile<'i, 'a> {
             return Ok(());
         };
         self.tables.verdict(t)?;
-        match self.lowest_symbol_outside(t, &self.tables.symbols(t)) {
+        let symbols = FileSymbols {
+            file: self,
+            index: t,
+            entries: self.tables.symbols(t),
+        };
+        match symbols.lowest_outside() {
             Some(at) => Err(Broken::new(SYMBOL_OUTSIDE, at)),
             None => Ok(()),
         }
-    }
-
-    /// The lowest offset of the section index of a symbol in the table in section `t` that an object can't have.
-    fn lowest_symbol_outside(&self, t: usize, symbols: &Symbols<'_>) -> Option<u64>
-        requires there { t < length self.now.image.now.sections }
-        requires symbols { symbols.now ≡ symbols_of (file_sections self.now) t }
-        ensures { IsLowest (symbol_outside self.now.left (file_sections self.now) t) result }
-    {
-        for j in 0..symbols.len() {
-            if self.is_symbol_outside(symbols.entry(j).place) {
-                return Some(self.section_index_offset(t, j));
-            }
-        }
-        None
-    }
-
-    /// The offset in the file of the section index of symbol `j` in the table in section `t`.
-    fn section_index_offset(&self, t: usize, j: usize) -> u64
-        requires there { t < length self.now.image.now.sections }
-        requires within { SYM_SIZE * j + SYM_SIZE ≤ length (content (file_sections self.now) t) }
-        ensures { result ≡ (section (file_sections self.now) t).sh_offset + SYM_SIZE * j + ST_SHNDX_AT }
-    {
-        self.image.prove_content_inside(t);
-        self.image.content_offset(t) + SYM_SIZE * j as u64 + ST_SHNDX_AT
     }
 
     /// Whether no symbol of an object can be defined at this place: in a section that is left out, or at a reserved index that has
@@ -122,5 +103,29 @@ impl<'i, 'a> ObjectFile<'i, 'a> {
             return Err(Fault::from(Broken::new(WRONG_KEPT_INFO, at)));
         }
         Ok(())
+    }
+}
+
+impl<'f, 'i, 'a> FileSymbols<'f, 'i, 'a> {
+    /// The lowest offset of the section index of a symbol that an object can't have.
+    fn lowest_outside(&self) -> Option<u64>
+        ensures { let file = self.now.file.now in IsLowest (symbol_outside file.left (file_sections file) self.now.index) result }
+    {
+        for j in 0..self.entries.len() {
+            if self.file.is_symbol_outside(self.entries.entry(j).place) {
+                return Some(self.section_index_offset(j));
+            }
+        }
+        None
+    }
+
+    /// The offset in the file of the section index of symbol `j`.
+    fn section_index_offset(&self, j: usize) -> u64
+        requires { SYM_SIZE * j + SYM_SIZE ≤ length (content (file_sections self.now.file.now) self.now.index) }
+        ensures { result ≡ (section (file_sections self.now.file.now) self.now.index).sh_offset + SYM_SIZE * j + ST_SHNDX_AT }
+    {
+        let file = self.file;
+        file.image.prove_content_inside(self.index);
+        file.image.content_offset(self.index) + SYM_SIZE * j as u64 + ST_SHNDX_AT
     }
 }

@@ -10,6 +10,7 @@
 mod body_kind;
 mod file_rules;
 mod file_section;
+mod file_symbols;
 mod front_rules;
 mod kept_section;
 mod laws;

@@ -1,16 +1,15 @@
 //! The symbols of a file as those of an object (gABI chapter 4, Symbol Table).
-ghost use Rattle.std.specs.Prelude.{◌≡◌, ◌<◌, IfOk, get_or, length, map};
+ghost use Rattle.std.specs.Prelude.{◌≡◌, ◌<◌, ◌+◌, ◌*◌, IfOk, drop, get_or, length, map};
 ghost use Rattle.elf_object_reader.specs.Denotes.{place_denoted, symbol_denoted, symbols_denoted};
 ghost use Rattle.elf_object_reader.specs.ObjectFile.{file_sections};
 ghost use Rattle.elf_object_type.specs.ObjectView.{symbol_value};
-ghost use Rattle.elf_table_symbols.specs.Symbols.{symbols_of};
 ghost use Rattle.elf_table_symbols.specs.SymbolView.{no_symbol_entry};
 
+use crate::file_symbols::FileSymbols;
 use crate::object_reader::ObjectReader;
 use elf_field::abi::*;
 use elf_field::{Sym, get_at};
 use elf_object_type::{Place, Symbol};
-use elf_table_all::Symbols;
 use std::alloc::{AllocError, Global};
 
 impl<'i, 'a> ObjectReader<'i, 'a> {
@@ -26,20 +25,16 @@ impl<'i, 'a> ObjectReader<'i, 'a> {
         }
     }
 
-    /// Symbol `j` of the symbol table in section `t`.
-    fn read_symbol(&self, t: usize, symbols: &Symbols<'a>, j: usize) -> Symbol<'a>
-        requires there { t < length self.now.file.image.now.sections }
-        requires symbols { symbols.now ≡ symbols_of (file_sections self.now.file) t }
-        requires within { j < length symbols.now }
+    /// Symbol `j` of the symbol table.
+    fn read_symbol(&self, symbols: &FileSymbols<'_, 'i, 'a>, j: usize) -> Symbol<'a>
+        requires { j < length symbols.now.entries }
         ensures { let file = self.now.file in
-            symbol_value result ≡ symbol_denoted file.left (file_sections file) (get_or symbols.now j no_symbol_entry) }
+            symbol_value result ≡ symbol_denoted file.left (file_sections file) (get_or symbols.now.entries j no_symbol_entry) }
     {
-        let symbol = symbols.entry(j);
-        let image = self.file.image;
-        let entry: Sym = get_at(image.order(), image.content(t), SYM_SIZE as usize * j);
+        let symbol = symbols.entries.entry(j);
         Symbol {
             name: symbol.name,
-            info: entry.st_info,
+            info: symbols.info(j),
             other: symbol.other,
             place: self.read_place(symbol.place),
             value: symbol.value,
@@ -47,19 +42,53 @@ impl<'i, 'a> ObjectReader<'i, 'a> {
         }
     }
 
+    /// The symbols of the symbol table from symbol 1 on.
+    fn read_table(
+        &self,
+        alloc: Global,
+        symbols: &FileSymbols<'_, 'i, 'a>,
+    ) -> Result<Vec<Symbol<'a>>, AllocError>
+        ensures { let file = self.now.file in
+            IfOk result (λ read. map symbol_value read.items ≡ map (symbol_denoted file.left (file_sections file)) (drop 1 symbols.now.entries)) }
+    {
+        let mut read = Vec::new(alloc);
+        for j in 0..symbols.entries.len().saturating_sub(1) {
+            read.push(self.read_symbol(symbols, j + 1))?;
+        }
+        Ok(read)
+    }
+
     /// The symbols from symbol 1 on; none where there is no symbol table.
     pub(crate) fn read_symbols(&self, alloc: Global) -> Result<Vec<Symbol<'a>>, AllocError>
         ensures { let file = self.now.file in
             IfOk result (λ symbols. map symbol_value symbols.items ≡ symbols_denoted file.left (file_sections file) file.left.symbol_table) }
     {
-        let mut read = Vec::new(alloc);
-        let Some(t) = self.file.left.symbol_table else {
-            return Ok(read);
-        };
-        let symbols = self.file.tables.symbols(t);
-        for j in 0..symbols.len().saturating_sub(1) {
-            read.push(self.read_symbol(t, &symbols, j + 1))?;
+        match self.file.left.symbol_table {
+            Some(t) => {
+                let symbols = FileSymbols {
+                    file: &self.file,
+                    index: t,
+                    entries: self.file.tables.symbols(t),
+                };
+                self.read_table(alloc, &symbols)
+            }
+            None => Ok(Vec::new(alloc)),
         }
-        Ok(read)
+    }
+}
+
+impl<'f, 'i, 'a> FileSymbols<'f, 'i, 'a> {
+    /// The binding and the type of symbol `j`, as its entry has them: `st_info`.
+    fn info(&self, j: usize) -> u8
+        requires { j < length self.now.entries }
+        ensures { let s = get_or self.now.entries j no_symbol_entry in result ≡ 16 * s.binding + s.symbol_type }
+    {
+        let image = self.file.image;
+        let entry: Sym = get_at(
+            image.order(),
+            image.content(self.index),
+            SYM_SIZE as usize * j,
+        );
+        entry.st_info
     }
 }

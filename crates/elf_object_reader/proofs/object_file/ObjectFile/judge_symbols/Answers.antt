@@ -24,14 +24,14 @@ symbols-requires c =
     let file = c.args.self.now in
     symbols_ready file c.in-Some.t c.in-Some.is (symbols_told file c.in-Some.t _ c.in-Some.is c.in_ok-verdict.ensures.fault)
 
-pub lowest_symbol_outside-requires-clause-there : goal.lowest_symbol_outside-requires-clause-there
-lowest_symbol_outside-requires-clause-there c = (symbols_there c.args.self.now c.in-Some.t c.in-Some.is).here
+pub invariant_of-symbols-clause-there : goal.invariant_of-symbols-clause-there
+invariant_of-symbols-clause-there c = (symbols_there c.args.self.now c.in-Some.t c.in-Some.is).here
 
-pub returns-in-Some-lowest_symbol_outside : goal.returns-in-Some-lowest_symbol_outside
-returns-in-Some-lowest_symbol_outside c =
+pub returns-in-Some-lowest_outside : goal.returns-in-Some-lowest_outside
+returns-in-Some-lowest_outside c =
     let file = c.args.self.now in
     let sound = symbols_told file c.in-Some.t _ c.in-Some.is c.in_ok-verdict.ensures.fault in
-    rw c.new.ensures (outside_found file.left (file_sections file) file.left.symbol_table c.in-Some.t _ c.in-Some.is sound c.in-Some-lowest_symbol_outside.ensures)
+    rw c.new.ensures (outside_found file.left (file_sections file) file.left.symbol_table c.in-Some.t _ c.in-Some.is sound c.in-Some-lowest_outside.ensures)
 
 pub returns-in-None : goal.returns-in-None
 returns-in-None c =
