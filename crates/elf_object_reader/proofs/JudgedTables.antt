@@ -13,13 +13,14 @@ use Rattle.elf_object_reader.specs.Kept.{body_kind, is_kept}
 use Rattle.elf_object_reader.specs.ObjectFile.{file_sections}
 use Rattle.elf_object_reader.specs.declared.body_kind.BodyKind.{BodyKind}
 use Rattle.elf_object_reader.specs.declared.body_kind.BodyKind.TheVariants.{Bits, NoBits, Relocs, Group}
+use Rattle.elf_object_reader.specs.declared.file_section.FileSection.{FileSection}
 use Rattle.elf_object_reader.specs.declared.kept_section.KeptSection.{KeptSection}
 use Rattle.elf_object_reader.specs.declared.left_out.LeftOut.{LeftOut}
 use Rattle.elf_object_reader.specs.declared.object_file.ObjectFile.{ObjectFile}
 use Rattle.elf_object_reader.specs.declared.object_reader.ObjectReader.{ObjectReader}
 use Rattle.elf_table_base.specs.declared.table_kind.TableKind.{TableKind}
 use Rattle.elf_table_base.specs.declared.table_kind.TableKind.TheVariants.{RelocationTable, SectionGroup, SymbolTable}
-use Rattle.elf_table_base.specs.Sections.{Sections, count, section, sections_of}
+use Rattle.elf_table_base.specs.Sections.{count, section, sections_of}
 use Rattle.elf_table_symbols.specs.SymbolRules.{symbol_table_rules}
 use Rattle.elf_table_base.specs.TableKind.{kind_of}
 use Rattle.elf_table_all.specs.TableRules.{rules_of_kind, table_rules}
@@ -74,24 +75,25 @@ asked : (file : ObjectFile) (i : ℕ) (kind : TableKind) (found : Option (ℕ ×
 asked file i kind found typed run =
     kind_asked (file_sections file) i (Some kind) found typed (subst (λ (v : ImageValue). FirstIn (table_rules (sections_of v) i) found) file.own_tables run)
 
--- by the kind of the body
-body_rules : (f : Sections) (i : ℕ) (kind : BodyKind) (found : Option (ℕ × ℕ)) → body_kind (section f i).sh_type ≡ kind → FirstIn (rules_of_body kind f i) found →
-    FirstIn (rules_of_body (body_kind (section f i).sh_type) f i) found
-body_rules f i kind found is run = subst (λ (k : BodyKind). FirstIn (rules_of_body k f i) found) (sym is) run
+-- so are the rules of a section, by the kind of its body
+body_told : (s : FileSection) (body : BodyKind) (kind : TableKind) (found : Option (ℕ × ℕ)) → body_kind s.header.sh_type ≡ body → kind_of s.header.sh_type ≡ Some kind →
+    (FirstIn (rules_of_kind (Some kind) (file_sections s.file.now) s.index) found → FirstIn (rules_of_body body (file_sections s.file.now) s.index) found) →
+    FirstIn (table_rules (sections_of s.file.now.tables.image) s.index) found →
+    (let f = file_sections s.file.now in FirstIn (rules_of_body (body_kind (section f s.index).sh_type) f s.index) found)
+body_told s body kind found is typed same run =
+    let own = subst (λ (h : Shdr). kind_of h.sh_type ≡ Some kind) s.own_header typed in
+    let here = subst (λ (h : Shdr). body_kind h.sh_type ≡ body) s.own_header is in
+    subst (λ (k : BodyKind). FirstIn (rules_of_body k (file_sections s.file.now) s.index) found) (sym here) (same (asked s.file.now s.index kind found own run))
 
-pub relocs_told : (file : ObjectFile) (i : ℕ) (found : Option (ℕ × ℕ)) → body_kind (section (file_sections file) i).sh_type ≡ Relocs →
-    FirstIn (table_rules (sections_of file.tables.image) i) found →
-    (let f = file_sections file in FirstIn (rules_of_body (body_kind (section f i).sh_type) f i) found)
-relocs_told file i found is run =
-    let f = file_sections file in
-    body_rules f i Relocs found is (asked file i RelocationTable found (relocs_kind (section f i).sh_type is) run)
+pub relocs_told : (s : FileSection) (found : Option (ℕ × ℕ)) → body_kind s.header.sh_type ≡ Relocs →
+    FirstIn (table_rules (sections_of s.file.now.tables.image) s.index) found →
+    (let f = file_sections s.file.now in FirstIn (rules_of_body (body_kind (section f s.index).sh_type) f s.index) found)
+relocs_told s found is run = body_told s Relocs RelocationTable found is (relocs_kind s.header.sh_type is) (λ told. told) run
 
-pub group_told : (file : ObjectFile) (i : ℕ) (found : Option (ℕ × ℕ)) → body_kind (section (file_sections file) i).sh_type ≡ Group →
-    FirstIn (table_rules (sections_of file.tables.image) i) found →
-    (let f = file_sections file in FirstIn (rules_of_body (body_kind (section f i).sh_type) f i) found)
-group_told file i found is run =
-    let f = file_sections file in
-    body_rules f i Group found is (asked file i SectionGroup found (group_kind (section f i).sh_type is) run)
+pub group_told : (s : FileSection) (found : Option (ℕ × ℕ)) → body_kind s.header.sh_type ≡ Group →
+    FirstIn (table_rules (sections_of s.file.now.tables.image) s.index) found →
+    (let f = file_sections s.file.now in FirstIn (rules_of_body (body_kind (section f s.index).sh_type) f s.index) found)
+group_told s found is run = body_told s Group SectionGroup found is (group_kind s.header.sh_type is) (λ told. told) run
 
 -- ---- of a section that is kept
 

@@ -1,6 +1,6 @@
 //! The rules of a file that is read as an object behind 70 to 74, in their order: those of the symbol table and 75, those of each
 //! relocation section and group that is kept, and 76 to 79.
-ghost use Rattle.std.specs.Prelude.{◌≡◌, ◌↔◌, ◌<◌, ◌≤◌, ◌+◌, ◌*◌, [], IsTrue, length};
+ghost use Rattle.std.specs.Prelude.{◌≡◌, ◌↔◌, ◌≤◌, ◌+◌, ◌*◌, [], IsTrue, length};
 ghost use Rattle.elf_extent.specs.Least.{IsLowest};
 ghost use Rattle.elf_object_reader.specs.FileRules.{IsSymbolOutside, reference_rules, rules_behind, rules_of_bodies, rules_of_body, symbol_outside, symbol_rules_in};
 ghost use Rattle.elf_object_reader.specs.Kept.{body_kind, kept};
@@ -11,6 +11,7 @@ ghost use Rattle.elf_table_base.specs.Judged.{IsJudgedBehind};
 ghost use Rattle.elf_table_base.specs.Sections.{content, section};
 
 use crate::body_kind::BodyKind;
+use crate::file_section::FileSection;
 use crate::file_symbols::FileSymbols;
 use crate::object_file::ObjectFile;
 use crate::reference_rules::ReferenceRule;
@@ -68,21 +69,10 @@ impl<'i, 'a> ObjectFile<'i, 'a> {
     {
         for i in 0..self.image.section_count() {
             if self.is_kept(i) {
-                self.judge_body(i)?;
+                self.section(i).judge_body()?;
             }
         }
         Ok(())
-    }
-
-    /// The rules of the relocation section or the group in section `i`; none where it is neither.
-    fn judge_body(&self, i: usize) -> Result<(), Broken<u64>>
-        requires { i < length self.now.image.now.sections }
-        ensures { let f = file_sections self.now in FirstIn (rules_of_body (body_kind (section f i).sh_type) f i) (fault_of result) }
-    {
-        match BodyKind::of(self.image.section(i).sh_type) {
-            BodyKind::Relocs | BodyKind::Group => self.tables.verdict(i),
-            BodyKind::Bits | BodyKind::NoBits => Ok(()),
-        }
     }
 
     /// Rules 76 to 79.
@@ -103,6 +93,19 @@ impl<'i, 'a> ObjectFile<'i, 'a> {
             return Err(Fault::from(Broken::new(WRONG_KEPT_INFO, at)));
         }
         Ok(())
+    }
+}
+
+impl<'f, 'i, 'a> FileSection<'f, 'i, 'a> {
+    /// The rules of its relocations or its group; none where it has neither.
+    fn judge_body(&self) -> Result<(), Broken<u64>>
+        ensures { let f = file_sections self.now.file.now in let i = self.now.index in
+            FirstIn (rules_of_body (body_kind (section f i).sh_type) f i) (fault_of result) }
+    {
+        match BodyKind::of(self.header.sh_type) {
+            BodyKind::Relocs | BodyKind::Group => self.file.tables.verdict(self.index),
+            BodyKind::Bits | BodyKind::NoBits => Ok(()),
+        }
     }
 }
 

@@ -5,6 +5,7 @@ ghost use Rattle.elf_object_reader.specs.Kept.{is_kept as is_kept_of, left_out};
 ghost use Rattle.elf_table_all.specs.TableVerdicts.{AreVerdicts};
 ghost use Rattle.elf_table_base.specs.Sections.{sections_of};
 
+use crate::file_section::FileSection;
 use crate::left_out::LeftOut;
 use elf_image_type::Image;
 use elf_table_all::Tables;
@@ -32,5 +33,18 @@ impl<'i, 'a> ObjectFile<'i, 'a> {
         ensures there { OnTrue result (i < length self.now.image.now.sections) }
     {
         self.left.is_kept(self.image, i)
+    }
+
+    /// Section `i`.
+    pub(crate) fn section<'f>(&'f self, i: usize) -> FileSection<'f, 'i, 'a>
+        requires { i < length self.now.image.now.sections }
+        ensures file { result.file.now ≡ self.now }
+        ensures index { result.index ≡ i }
+    {
+        FileSection {
+            file: self,
+            index: i,
+            header: self.image.section(i),
+        }
     }
 }

@@ -1,5 +1,5 @@
 //! Rules 76, 78 and 79: the references from one section of a file to another (gABI chapter 4, Sections: sh_link, sh_info).
-ghost use Rattle.std.specs.Prelude.{◌≡◌, ◌↔◌, ◌<◌, ◌+◌, IsTrue, length};
+ghost use Rattle.std.specs.Prelude.{◌≡◌, ◌↔◌, ◌<◌, ◌+◌, IsTrue};
 ghost use Rattle.elf_extent.specs.Least.{IsLowest};
 ghost use Rattle.elf_object_reader.specs.FileRules.{BreaksReference, HasWrongKeptInfo, HasWrongKeptLink, HasWrongRelocationTarget, IsPlain, SomeReference, reference_field};
 ghost use Rattle.elf_object_reader.specs.ObjectFile.{file_sections};
@@ -86,22 +86,10 @@ impl<'i, 'a> ObjectFile<'i, 'a> {
         ensures { IsLowest (SomeReference rule self.now.left (file_sections self.now)) result }
     {
         for i in 0..self.image.section_count() {
-            if self.breaks(rule, i) {
+            if rule.is_broken_by(&self.section(i)) {
                 return Some(self.image.header_offset(i) + rule.field());
             }
         }
         None
-    }
-
-    /// Whether section `i` breaks the rule.
-    fn breaks(&self, rule: ReferenceRule, i: usize) -> bool
-        requires { i < length self.now.image.now.sections }
-        ensures { IsTrue result ↔ BreaksReference rule self.now.left (file_sections self.now) i }
-    {
-        rule.is_broken_by(&FileSection {
-            file: self,
-            index: i,
-            header: self.image.section(i),
-        })
     }
 }

@@ -8,15 +8,18 @@ pub loop-i-preserved : goal.loop-i-preserved
 loop-i-preserved c =
     let f = file_sections c.args.self.now in
     let n = length c.args.self.now.image.now.sections in
+    let own = c.section-section.ensures in
+    let header = rw (own.file, own.index) at c.section-section.result.own_header in
     elim c.if-section-eq-SHT_GROUP.branch [
       | then-section-eq-SHT_GROUP w ↦ (
-          let typed = rw c.section.ensures.value at w.if-section-eq-SHT_GROUP.true in
+          let typed = rw header at w.if-section-eq-SHT_GROUP.true in
           record {
-            marked = rw w.marks-is w.mark_members.ensures;
-            lowest = rw w.lowest-is (rw w.lower-lowest.ensures (wrong_next c.args.self.now.left f c.loop-i.i _ _ typed c.loop-i.invariant.lowest w.lowest_in_group.ensures));
+            marked = rw w.marks-is (rw (own.file, own.index) at w.mark_members.ensures);
+            lowest = rw w.lowest-is (rw w.lower-lowest.ensures (wrong_next c.args.self.now.left f c.loop-i.i _ _ typed c.loop-i.invariant.lowest
+                (rw (own.file, own.index) at w.lowest_wrong_member.ensures)));
           })
       | else-section-eq-SHT_GROUP w ↦ (
-          let other = rw c.section.ensures.value at w.if-section-eq-SHT_GROUP.false in
+          let other = rw header at w.if-section-eq-SHT_GROUP.false in
           record {
             marked = rw w.marks-is (marks_passed f n c.loop-i.i c.loop-i.marks.items other c.loop-i.invariant.marked);
             lowest = rw w.lowest-is (wrong_passed c.args.self.now.left f c.loop-i.i c.loop-i.lowest other c.loop-i.invariant.lowest);
