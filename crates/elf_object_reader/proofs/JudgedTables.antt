@@ -10,7 +10,7 @@ use Rattle.elf_image_outline.specs.Image.{ImageValue}
 use Rattle.elf_image_rules.specs.Rows.{FirstIn}
 use Rattle.elf_object_reader.specs.FileRules.{rules_of_body}
 use Rattle.elf_object_reader.specs.Kept.{body_kind, is_kept}
-use Rattle.elf_object_reader.specs.ObjectFile.{file_sections}
+use Rattle.elf_object_reader.specs.ObjectFile.{sections_of_file}
 use Rattle.elf_object_reader.specs.declared.body_kind.BodyKind.{BodyKind}
 use Rattle.elf_object_reader.specs.declared.body_kind.BodyKind.TheVariants.{Bits, NoBits, Relocs, Group}
 use Rattle.elf_object_reader.specs.declared.file_section.FileSection.{FileSection}
@@ -60,48 +60,48 @@ group_kind type is = rw (eqb-true _ _ (group_tested (type == SHT_NOBITS) ((type 
 
 -- ---- what the tables ask before they are handed out
 
-ready : (file : ObjectFile) (i : ℕ) (kind : TableKind) → i < count (file_sections file) → kind_of (section (file_sections file) i).sh_type ≡ Some kind →
-    FirstIn (rules_of_kind (Some kind) (file_sections file) i) None → HasSoundTable file.tables i kind
+ready : (file : ObjectFile) (i : ℕ) (kind : TableKind) → i < count (sections_of_file file) → kind_of (section (sections_of_file file) i).sh_type ≡ Some kind →
+    FirstIn (rules_of_kind (Some kind) (sections_of_file file) i) None → HasSoundTable file.tables i kind
 ready file i kind lt typed sound = record {
   there = subst (λ (v : ImageValue). i < length v.sections) (sym file.own_tables) lt;
   typed = subst (λ (v : ImageValue). kind_of (section (sections_of v) i).sh_type ≡ Some kind) (sym file.own_tables) typed;
   sound = ∥∥₁_elim file.judged (Coded-set (coded_option (coded× coded_ℕ coded_ℕ)) _ _)
-      (λ are. none_kept (file_sections file) i (Some kind) file.tables.verdicts are lt typed sound);
+      (λ are. none_kept (sections_of_file file) i (Some kind) file.tables.verdicts are lt typed sound);
 }
 
 -- the verdict on a table is that of its kind's rules
-asked : (file : ObjectFile) (i : ℕ) (kind : TableKind) (found : Option (ℕ × ℕ)) → kind_of (section (file_sections file) i).sh_type ≡ Some kind →
-    FirstIn (table_rules (sections_of file.tables.image) i) found → FirstIn (rules_of_kind (Some kind) (file_sections file) i) found
+asked : (file : ObjectFile) (i : ℕ) (kind : TableKind) (found : Option (ℕ × ℕ)) → kind_of (section (sections_of_file file) i).sh_type ≡ Some kind →
+    FirstIn (table_rules (sections_of file.tables.image) i) found → FirstIn (rules_of_kind (Some kind) (sections_of_file file) i) found
 asked file i kind found typed run =
-    kind_asked (file_sections file) i (Some kind) found typed (subst (λ (v : ImageValue). FirstIn (table_rules (sections_of v) i) found) file.own_tables run)
+    kind_asked (sections_of_file file) i (Some kind) found typed (subst (λ (v : ImageValue). FirstIn (table_rules (sections_of v) i) found) file.own_tables run)
 
 -- so are the rules of a section, by the kind of its body
 body_told : (s : FileSection) (body : BodyKind) (kind : TableKind) (found : Option (ℕ × ℕ)) → body_kind s.header.sh_type ≡ body → kind_of s.header.sh_type ≡ Some kind →
-    (FirstIn (rules_of_kind (Some kind) (file_sections s.file.now) s.index) found → FirstIn (rules_of_body body (file_sections s.file.now) s.index) found) →
+    (FirstIn (rules_of_kind (Some kind) (sections_of_file s.file.now) s.index) found → FirstIn (rules_of_body body (sections_of_file s.file.now) s.index) found) →
     FirstIn (table_rules (sections_of s.file.now.tables.image) s.index) found →
-    (let f = file_sections s.file.now in FirstIn (rules_of_body (body_kind (section f s.index).sh_type) f s.index) found)
+    (let f = sections_of_file s.file.now in FirstIn (rules_of_body (body_kind (section f s.index).sh_type) f s.index) found)
 body_told s body kind found is typed same run =
     let own = subst (λ (h : Shdr). kind_of h.sh_type ≡ Some kind) s.own_header typed in
     let here = subst (λ (h : Shdr). body_kind h.sh_type ≡ body) s.own_header is in
-    subst (λ (k : BodyKind). FirstIn (rules_of_body k (file_sections s.file.now) s.index) found) (sym here) (same (asked s.file.now s.index kind found own run))
+    subst (λ (k : BodyKind). FirstIn (rules_of_body k (sections_of_file s.file.now) s.index) found) (sym here) (same (asked s.file.now s.index kind found own run))
 
 pub relocs_told : (s : FileSection) (found : Option (ℕ × ℕ)) → body_kind s.header.sh_type ≡ Relocs →
     FirstIn (table_rules (sections_of s.file.now.tables.image) s.index) found →
-    (let f = file_sections s.file.now in FirstIn (rules_of_body (body_kind (section f s.index).sh_type) f s.index) found)
+    (let f = sections_of_file s.file.now in FirstIn (rules_of_body (body_kind (section f s.index).sh_type) f s.index) found)
 relocs_told s found is run = body_told s Relocs RelocationTable found is (relocs_kind s.header.sh_type is) (λ told. told) run
 
 pub group_told : (s : FileSection) (found : Option (ℕ × ℕ)) → body_kind s.header.sh_type ≡ Group →
     FirstIn (table_rules (sections_of s.file.now.tables.image) s.index) found →
-    (let f = file_sections s.file.now in FirstIn (rules_of_body (body_kind (section f s.index).sh_type) f s.index) found)
+    (let f = sections_of_file s.file.now in FirstIn (rules_of_body (body_kind (section f s.index).sh_type) f s.index) found)
 group_told s found is run = body_told s Group SectionGroup found is (group_kind s.header.sh_type is) (λ told. told) run
 
 -- ---- of a section that is kept
 
 -- its table breaks no rule
 kept_table : (s : KeptSection) (kind : BodyKind) → body_kind s.header.sh_type ≡ kind →
-    (let f = file_sections s.reader.now.file in (body_kind (section f s.index).sh_type ≡ kind) × FirstIn (rules_of_body kind f s.index) None)
+    (let f = sections_of_file s.reader.now.file in (body_kind (section f s.index).sh_type ≡ kind) × FirstIn (rules_of_body kind f s.index) None)
 kept_table s kind is =
-    let f = file_sections s.reader.now.file in
+    let f = sections_of_file s.reader.now.file in
     let typed = subst (λ (h : Shdr). body_kind h.sh_type ≡ kind) s.own_header is in
     let kept = subst (λ (left : LeftOut). is_kept left f s.index ≡ true) s.reader.now.file.own_left s.kept in
     (typed, subst (λ (k : BodyKind). FirstIn (rules_of_body k f s.index) None) typed (table_sound f s.index s.reader.now.sound s.there kept))
@@ -109,39 +109,39 @@ kept_table s kind is =
 pub relocs_ready : (s : KeptSection) → body_kind s.header.sh_type ≡ Relocs → HasSoundTable s.reader.now.file.tables s.index RelocationTable
 relocs_ready s is =
     let (typed, sound) = kept_table s Relocs is in
-    ready s.reader.now.file s.index RelocationTable s.there (relocs_kind (section (file_sections s.reader.now.file) s.index).sh_type typed) sound
+    ready s.reader.now.file s.index RelocationTable s.there (relocs_kind (section (sections_of_file s.reader.now.file) s.index).sh_type typed) sound
 
 pub group_ready : (s : KeptSection) → body_kind s.header.sh_type ≡ Group → HasSoundTable s.reader.now.file.tables s.index SectionGroup
 group_ready s is =
     let (typed, sound) = kept_table s Group is in
-    ready s.reader.now.file s.index SectionGroup s.there (group_kind (section (file_sections s.reader.now.file) s.index).sh_type typed) sound
+    ready s.reader.now.file s.index SectionGroup s.there (group_kind (section (sections_of_file s.reader.now.file) s.index).sh_type typed) sound
 
 -- ---- the symbol table
 
 pub record AreSymbolsThere (file : ObjectFile) (t : ℕ) : Type 0 where
-  pub here : t < count (file_sections file)
-  pub kind : kind_of (section (file_sections file) t).sh_type ≡ Some SymbolTable
+  pub here : t < count (sections_of_file file)
+  pub kind : kind_of (section (sections_of_file file) t).sh_type ≡ Some SymbolTable
   pub there : t < length file.tables.image.sections
 
 pub symbols_there : (file : ObjectFile) (t : ℕ) → file.left.symbol_table ≡ Some t → AreSymbolsThere file t
 symbols_there file t is =
-    let (here, typed) = symbol_table_there (file_sections file) t (sym (ap (λ (l : LeftOut). l.symbol_table) file.own_left) ∙ is) in
+    let (here, typed) = symbol_table_there (sections_of_file file) t (sym (ap (λ (l : LeftOut). l.symbol_table) file.own_left) ∙ is) in
     record {
       here = here;
-      kind = symbols_kind (section (file_sections file) t).sh_type (inl typed);
+      kind = symbols_kind (section (sections_of_file file) t).sh_type (inl typed);
       there = subst (λ (v : ImageValue). t < length v.sections) (sym file.own_tables) here;
     }
 
 -- the verdict on it
 pub symbols_told : (file : ObjectFile) (t : ℕ) (found : Option (ℕ × ℕ)) → file.left.symbol_table ≡ Some t →
-    FirstIn (table_rules (sections_of file.tables.image) t) found → FirstIn (symbol_table_rules (file_sections file) t) found
+    FirstIn (table_rules (sections_of file.tables.image) t) found → FirstIn (symbol_table_rules (sections_of_file file) t) found
 symbols_told file t found is run = asked file t SymbolTable found (symbols_there file t is).kind run
 
-pub symbols_ready : (file : ObjectFile) (t : ℕ) → file.left.symbol_table ≡ Some t → FirstIn (symbol_table_rules (file_sections file) t) None →
+pub symbols_ready : (file : ObjectFile) (t : ℕ) → file.left.symbol_table ≡ Some t → FirstIn (symbol_table_rules (sections_of_file file) t) None →
     HasSoundTable file.tables t SymbolTable
 symbols_ready file t is sound = (let there = symbols_there file t is in ready file t SymbolTable there.here there.kind sound)
 
 pub sound_symbols : (reader : ObjectReader) (t : ℕ) → reader.file.left.symbol_table ≡ Some t → HasSoundTable reader.file.tables t SymbolTable
 sound_symbols reader t is =
     let own = sym (ap (λ (l : LeftOut). l.symbol_table) reader.file.own_left) in
-    symbols_ready reader.file t is (symbols_of_table (file_sections reader.file) t reader.sound (own ∙ is))
+    symbols_ready reader.file t is (symbols_of_table (sections_of_file reader.file) t reader.sound (own ∙ is))

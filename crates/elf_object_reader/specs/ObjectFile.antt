@@ -3,5 +3,5 @@ use Rattle.elf_object_reader.specs.declared.object_file.ObjectFile.{ObjectFile}
 use Rattle.elf_table_base.specs.Sections.{Sections, sections_of}
 
 -- its header, its section headers and the content of each section
-abbrev pub file_sections : ObjectFile → Sections
-file_sections file = sections_of file.image.now
+abbrev pub sections_of_file : ObjectFile → Sections
+sections_of_file file = sections_of file.image.now

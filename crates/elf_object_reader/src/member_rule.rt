@@ -3,7 +3,7 @@ ghost use Rattle.std.specs.Prelude.{◌≡◌, ◌↔◌, ◌+◌, IfOk, IsTrue}
 ghost use Rattle.elf_extent.specs.Least.{IsLowest, lower_of};
 ghost use Rattle.elf_object_reader.specs.FileRules.{IsMemberBefore, IsWrongGroupMember, wrong_group_member, wrong_group_member_of};
 ghost use Rattle.elf_object_reader.specs.MemberMarks.{AreMarks};
-ghost use Rattle.elf_object_reader.specs.ObjectFile.{file_sections};
+ghost use Rattle.elf_object_reader.specs.ObjectFile.{sections_of_file};
 ghost use Rattle.elf_table_base.specs.Sections.{count};
 
 use crate::file_section::FileSection;
@@ -16,7 +16,7 @@ impl<'i, 'a> ObjectFile<'i, 'a> {
     /// The lowest offset of a member that is left out, or a group itself, or a member of a group before. It takes a mark for each
     /// section, and the time of one pass over all members.
     pub(crate) fn lowest_wrong_group_member(&self, alloc: Global) -> Result<Option<u64>, AllocError>
-        ensures { IfOk result (IsLowest (wrong_group_member self.now.left (file_sections self.now))) }
+        ensures { IfOk result (IsLowest (wrong_group_member self.now.left (sections_of_file self.now))) }
     {
         let mut marks = vec![in alloc; false; self.image.section_count()]?;
         let mut lowest = None;
@@ -35,8 +35,9 @@ impl<'f, 'i, 'a> FileSection<'f, 'i, 'a> {
     /// The lowest offset of such a member of the group that it holds; those of the groups before are marked.
     fn lowest_wrong_member(&self, marks: &Vec<bool>) -> Option<u64>
         requires typed { self.now.header.sh_type ≡ SHT_GROUP }
-        requires marked { let f = file_sections self.now.file.now in AreMarks (count f) (IsMemberBefore f self.now.index) marks.now.items }
-        ensures { let file = self.now.file.now in IsLowest (wrong_group_member_of file.left (file_sections file) self.now.index) result }
+        requires marked { let f = sections_of_file self.now.file.now in
+            AreMarks (count f) (IsMemberBefore f self.now.index) marks.now.items }
+        ensures { let file = self.now.file.now in IsLowest (wrong_group_member_of file.left (sections_of_file file) self.now.index) result }
     {
         let image = self.file.image;
         let words = image.content(self.index);
@@ -51,8 +52,8 @@ impl<'f, 'i, 'a> FileSection<'f, 'i, 'a> {
 
     /// Whether section `m` can't be a member of the group that it holds; the members of the groups before are marked.
     fn is_wrong_member(&self, m: usize, marks: &Vec<bool>) -> bool
-        requires { let f = file_sections self.now.file.now in AreMarks (count f) (IsMemberBefore f self.now.index) marks.now.items }
-        ensures { let file = self.now.file.now in IsTrue result ↔ IsWrongGroupMember file.left (file_sections file) self.now.index m }
+        requires { let f = sections_of_file self.now.file.now in AreMarks (count f) (IsMemberBefore f self.now.index) marks.now.items }
+        ensures { let file = self.now.file.now in IsTrue result ↔ IsWrongGroupMember file.left (sections_of_file file) self.now.index m }
     {
         let file = self.file;
         if !file.is_kept(m) {
@@ -64,8 +65,9 @@ impl<'f, 'i, 'a> FileSection<'f, 'i, 'a> {
     /// Marks the members of the group that it holds, beside those of the groups before.
     fn mark_members(&self, marks: &mut Vec<bool>)
         requires typed { self.now.header.sh_type ≡ SHT_GROUP }
-        requires marked { let f = file_sections self.now.file.now in AreMarks (count f) (IsMemberBefore f self.now.index) marks.old.items }
-        ensures { let f = file_sections self.now.file.now in AreMarks (count f) (IsMemberBefore f (self.now.index + 1)) marks.new.items }
+        requires marked { let f = sections_of_file self.now.file.now in
+            AreMarks (count f) (IsMemberBefore f self.now.index) marks.old.items }
+        ensures { let f = sections_of_file self.now.file.now in AreMarks (count f) (IsMemberBefore f (self.now.index + 1)) marks.new.items }
     {
         let image = self.file.image;
         let words = image.content(self.index);

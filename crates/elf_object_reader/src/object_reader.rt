@@ -22,18 +22,18 @@ pub(crate) struct ObjectReader<'i, 'a> {
 }
 
 impl<'i, 'a> ObjectReader<'i, 'a> {
-    ghost use Rattle.elf_object_reader.specs.ObjectFile.{file_sections};
+    ghost use Rattle.elf_object_reader.specs.ObjectFile.{sections_of_file};
 
     /// The position of section `k`.
     pub(crate) fn position_at(&self, k: usize) -> usize
-        ensures { result ≡ position_of self.now.file.left (file_sections self.now.file) k }
+        ensures { result ≡ position_of self.now.file.left (sections_of_file self.now.file) k }
     {
         self.positions[k.min(self.file.image.section_count())]
     }
 
     /// Section `k` as a position; 0 is none.
     pub(crate) fn reference_at(&self, k: usize) -> Option<usize>
-        ensures { result ≡ section_reference self.now.file.left (file_sections self.now.file) k }
+        ensures { result ≡ section_reference self.now.file.left (sections_of_file self.now.file) k }
     {
         if k == 0 {
             None

@@ -3,7 +3,7 @@ ghost use Rattle.std.specs.Prelude.{◌≡◌, ◌<◌, IfOk, length, map, true}
 ghost use Rattle.elf_object_reader.specs.declared.body_kind.BodyKind.TheVariants as kind;
 ghost use Rattle.elf_object_reader.specs.Denotes.{body_denoted, info_denoted, link_denoted, plain_info as plain_info_of, relocation_denoted, section_denoted};
 ghost use Rattle.elf_object_reader.specs.Kept.{body_kind, is_kept, kept, position_of};
-ghost use Rattle.elf_object_reader.specs.ObjectFile.{file_sections};
+ghost use Rattle.elf_object_reader.specs.ObjectFile.{sections_of_file};
 ghost use Rattle.elf_object_type.specs.ObjectView.{body_value, section_value};
 ghost use Rattle.elf_table_lists.specs.Groups.{group_of};
 ghost use Rattle.elf_table_lists.specs.Relocations.{relocations_of};
@@ -46,7 +46,7 @@ fn read_entries(alloc: Global, relocs: &Relocs<'_>) -> Result<Vec<Relocation>, A
 impl<'r, 'i, 'a> KeptSection<'r, 'i, 'a> {
     /// What it links to.
     fn link(&self, kind: BodyKind) -> Option<usize>
-        ensures { let file = self.now.reader.now.file in result ≡ link_denoted file.left (file_sections file) self.now.header kind }
+        ensures { let file = self.now.reader.now.file in result ≡ link_denoted file.left (sections_of_file file) self.now.header kind }
     {
         match kind {
             BodyKind::Bits | BodyKind::NoBits => {
@@ -58,7 +58,7 @@ impl<'r, 'i, 'a> KeptSection<'r, 'i, 'a> {
 
     /// Its info, where it has neither relocations nor members.
     fn plain_info(&self) -> Info
-        ensures { let file = self.now.reader.now.file in result ≡ plain_info_of file.left (file_sections file) self.now.header }
+        ensures { let file = self.now.reader.now.file in result ≡ plain_info_of file.left (sections_of_file file) self.now.header }
     {
         if self.header.sh_flags & SHF_INFO_LINK == 0 {
             Info::Number(self.header.sh_info)
@@ -69,7 +69,7 @@ impl<'r, 'i, 'a> KeptSection<'r, 'i, 'a> {
 
     /// Its info.
     fn info(&self, kind: BodyKind) -> Info
-        ensures { let file = self.now.reader.now.file in result ≡ info_denoted file.left (file_sections file) self.now.header kind }
+        ensures { let file = self.now.reader.now.file in result ≡ info_denoted file.left (sections_of_file file) self.now.header kind }
     {
         match kind {
             BodyKind::Bits | BodyKind::NoBits => self.plain_info(),
@@ -80,7 +80,7 @@ impl<'r, 'i, 'a> KeptSection<'r, 'i, 'a> {
     /// Its relocations.
     fn relocs(&self) -> Relocs<'a>
         requires { body_kind self.now.header.sh_type ≡ kind.Relocs }
-        ensures { result ≡ relocations_of (file_sections self.now.reader.now.file) self.now.index }
+        ensures { result ≡ relocations_of (sections_of_file self.now.reader.now.file) self.now.index }
     {
         self.reader.file.tables.relocs(self.index)
     }
@@ -88,7 +88,7 @@ impl<'r, 'i, 'a> KeptSection<'r, 'i, 'a> {
     /// The group that it holds.
     fn group(&self) -> Group<'a>
         requires { body_kind self.now.header.sh_type ≡ kind.Group }
-        ensures { result ≡ group_of (file_sections self.now.reader.now.file) self.now.index }
+        ensures { result ≡ group_of (sections_of_file self.now.reader.now.file) self.now.index }
     {
         self.reader.file.tables.group(self.index)
     }
@@ -96,7 +96,8 @@ impl<'r, 'i, 'a> KeptSection<'r, 'i, 'a> {
     /// What it holds.
     fn read_body(&self, alloc: Global) -> Result<Body<'a>, AllocError>
         ensures { let file = self.now.reader.now.file in
-            IfOk result (λ body. body_value body ≡ body_denoted file.left (file_sections file) self.now.index (body_kind self.now.header.sh_type)) }
+            let kind = body_kind self.now.header.sh_type in
+            IfOk result (λ body. body_value body ≡ body_denoted file.left (sections_of_file file) self.now.index kind) }
     {
         match BodyKind::of(self.header.sh_type) {
             BodyKind::Bits => {
@@ -124,7 +125,7 @@ impl<'r, 'i, 'a> KeptSection<'r, 'i, 'a> {
     #[tactic(auto, unfolding(crate::specs::Denotes::section_denoted))]
     fn read(&self, alloc: Global) -> Result<Section<'a>, AllocError>
         ensures { let file = self.now.reader.now.file in
-            IfOk result (λ s. section_value s ≡ section_denoted file.left (file_sections file) self.now.index) }
+            IfOk result (λ s. section_value s ≡ section_denoted file.left (sections_of_file file) self.now.index) }
     {
         let reader = self.reader;
         let header = self.header;
@@ -146,7 +147,8 @@ impl<'r, 'i, 'a> KeptSection<'r, 'i, 'a> {
 impl<'i, 'a> ObjectReader<'i, 'a> {
     /// The positions of the members of a group.
     fn read_members(&self, alloc: Global, group: &Group<'_>) -> Result<Vec<usize>, AllocError>
-        ensures { IfOk result (λ members. members.items ≡ map (position_of self.now.file.left (file_sections self.now.file)) group.now.members) }
+        ensures { let file = self.now.file in
+            IfOk result (λ members. members.items ≡ map (position_of file.left (sections_of_file file)) group.now.members) }
     {
         let mut members = Vec::with_capacity(alloc, group.len())?;
         for j in 0..group.len() {
@@ -158,8 +160,8 @@ impl<'i, 'a> ObjectReader<'i, 'a> {
     /// Section `i`, which is kept.
     fn read_section(&self, alloc: Global, i: usize) -> Result<Section<'a>, AllocError>
         requires there { i < length self.now.file.image.now.sections }
-        requires kept { is_kept self.now.file.left (file_sections self.now.file) i ≡ true }
-        ensures { IfOk result (λ s. section_value s ≡ section_denoted self.now.file.left (file_sections self.now.file) i) }
+        requires kept { is_kept self.now.file.left (sections_of_file self.now.file) i ≡ true }
+        ensures { IfOk result (λ s. section_value s ≡ section_denoted self.now.file.left (sections_of_file self.now.file) i) }
     {
         let section = KeptSection {
             reader: self,
@@ -171,7 +173,7 @@ impl<'i, 'a> ObjectReader<'i, 'a> {
 
     /// The sections that are kept.
     pub(crate) fn read_sections(&self, alloc: Global) -> Result<Vec<Section<'a>>, AllocError>
-        ensures { let f = file_sections self.now.file in let left = self.now.file.left in
+        ensures { let f = sections_of_file self.now.file in let left = self.now.file.left in
             IfOk result (λ sections. map section_value sections.items ≡ map (section_denoted left f) (kept left f)) }
     {
         let mut sections = Vec::new(alloc);

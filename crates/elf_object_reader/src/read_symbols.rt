@@ -1,7 +1,7 @@
 //! The symbols of a file as those of an object (gABI chapter 4, Symbol Table).
 ghost use Rattle.std.specs.Prelude.{◌≡◌, ◌<◌, ◌+◌, ◌*◌, IfOk, drop, get_or, length, map};
 ghost use Rattle.elf_object_reader.specs.Denotes.{place_denoted, symbol_denoted, symbols_denoted};
-ghost use Rattle.elf_object_reader.specs.ObjectFile.{file_sections};
+ghost use Rattle.elf_object_reader.specs.ObjectFile.{sections_of_file};
 ghost use Rattle.elf_object_type.specs.ObjectView.{symbol_value};
 ghost use Rattle.elf_table_symbols.specs.SymbolView.{no_symbol_entry};
 
@@ -15,7 +15,7 @@ use std::alloc::{AllocError, Global};
 impl<'i, 'a> ObjectReader<'i, 'a> {
     /// Where a symbol is defined; a reserved index that is neither absolute nor common has been refused.
     fn read_place(&self, place: elf_table_all::Place) -> Place
-        ensures { result ≡ place_denoted self.now.file.left (file_sections self.now.file) place }
+        ensures { result ≡ place_denoted self.now.file.left (sections_of_file self.now.file) place }
     {
         match place {
             elf_table_all::Place::Undefined | elf_table_all::Place::Reserved(_) => Place::Undef,
@@ -29,7 +29,7 @@ impl<'i, 'a> ObjectReader<'i, 'a> {
     fn read_symbol(&self, symbols: &FileSymbols<'_, 'i, 'a>, j: usize) -> Symbol<'a>
         requires { j < length symbols.now.entries }
         ensures { let file = self.now.file in
-            symbol_value result ≡ symbol_denoted file.left (file_sections file) (get_or symbols.now.entries j no_symbol_entry) }
+            symbol_value result ≡ symbol_denoted file.left (sections_of_file file) (get_or symbols.now.entries j no_symbol_entry) }
     {
         let symbol = symbols.entries.entry(j);
         Symbol {
@@ -48,8 +48,8 @@ impl<'i, 'a> ObjectReader<'i, 'a> {
         alloc: Global,
         symbols: &FileSymbols<'_, 'i, 'a>,
     ) -> Result<Vec<Symbol<'a>>, AllocError>
-        ensures { let file = self.now.file in
-            IfOk result (λ read. map symbol_value read.items ≡ map (symbol_denoted file.left (file_sections file)) (drop 1 symbols.now.entries)) }
+        ensures { let file = self.now.file in IfOk result (λ read.
+            map symbol_value read.items ≡ map (symbol_denoted file.left (sections_of_file file)) (drop 1 symbols.now.entries)) }
     {
         let mut read = Vec::new(alloc);
         for j in 0..symbols.entries.len().saturating_sub(1) {
@@ -60,8 +60,8 @@ impl<'i, 'a> ObjectReader<'i, 'a> {
 
     /// The symbols from symbol 1 on; none where there is no symbol table.
     pub(crate) fn read_symbols(&self, alloc: Global) -> Result<Vec<Symbol<'a>>, AllocError>
-        ensures { let file = self.now.file in
-            IfOk result (λ symbols. map symbol_value symbols.items ≡ symbols_denoted file.left (file_sections file) file.left.symbol_table) }
+        ensures { let file = self.now.file in IfOk result (λ read.
+            map symbol_value read.items ≡ symbols_denoted file.left (sections_of_file file) file.left.symbol_table) }
     {
         match self.file.left.symbol_table {
             Some(t) => {

@@ -3,7 +3,7 @@ ghost use Rattle.std.specs.Prelude.{◌≡◌, IfErr, IfOk, None};
 ghost use Rattle.elf_image_stream.specs.declared.fault.Fault.TheVariants.{OutOfMemory};
 ghost use Rattle.elf_object_reader.specs.Denotes.{Denotes};
 ghost use Rattle.elf_object_reader.specs.FileRules.{file_rules, front_rules};
-ghost use Rattle.elf_object_reader.specs.ObjectFile.{file_sections};
+ghost use Rattle.elf_object_reader.specs.ObjectFile.{sections_of_file};
 ghost use Rattle.elf_object_type.specs.ObjectView.{value_of};
 ghost use Rattle.elf_image_rules.specs.Rows.{FirstIn};
 ghost use Rattle.elf_table_base.specs.Judged.{IsJudgedBehind};
@@ -57,8 +57,8 @@ fn parts_of<'a>(alloc: Global, image: &Image<'a>) -> Result<ObjectParts<'a>, Fau
 
 /// The parts of the object that a file denotes which breaks no rule. [`Fault::OutOfMemory`] is the only error.
 fn read_parts<'a>(alloc: Global, file: ObjectFile<'_, 'a>) -> Result<ObjectParts<'a>, Fault>
-    requires { FirstIn (file_rules (file_sections file)) None }
-    ensures ok { IfOk result (λ parts. Denotes (file_sections file.entry) (value_of parts)) }
+    requires { FirstIn (file_rules (sections_of_file file)) None }
+    ensures ok { IfOk result (λ parts. Denotes (sections_of_file file.entry) (value_of parts)) }
     ensures err { IfErr result (λ fault. fault ≡ OutOfMemory) }
 {
     let positions = file.positions(alloc)?;

@@ -2,7 +2,7 @@
 ghost use Rattle.std.specs.Prelude.{◌≡◌, ◌↔◌, ◌<◌, ◌+◌, IsTrue};
 ghost use Rattle.elf_extent.specs.Least.{IsLowest};
 ghost use Rattle.elf_object_reader.specs.FileRules.{BreaksReference, HasWrongKeptInfo, HasWrongKeptLink, HasWrongRelocationTarget, IsPlain, SomeReference, reference_field};
-ghost use Rattle.elf_object_reader.specs.ObjectFile.{file_sections};
+ghost use Rattle.elf_object_reader.specs.ObjectFile.{sections_of_file};
 
 use crate::body_kind::BodyKind;
 use crate::file_section::FileSection;
@@ -23,7 +23,8 @@ pub(crate) enum ReferenceRule {
 impl ReferenceRule {
     /// Whether the section breaks the rule.
     fn is_broken_by(self, section: &FileSection<'_, '_, '_>) -> bool
-        ensures { let file = section.now.file.now in IsTrue result ↔ BreaksReference self file.left (file_sections file) section.now.index }
+        ensures { let file = section.now.file.now in
+            IsTrue result ↔ BreaksReference self file.left (sections_of_file file) section.now.index }
     {
         match self {
             ReferenceRule::WrongRelocationTarget => section.has_wrong_relocation_target(),
@@ -47,7 +48,8 @@ impl ReferenceRule {
 impl<'f, 'i, 'a> FileSection<'f, 'i, 'a> {
     /// Whether it has relocations that apply to no section with bits.
     fn has_wrong_relocation_target(&self) -> bool
-        ensures { let file = self.now.file.now in IsTrue result ↔ HasWrongRelocationTarget file.left (file_sections file) self.now.index }
+        ensures { let file = self.now.file.now in
+            IsTrue result ↔ HasWrongRelocationTarget file.left (sections_of_file file) self.now.index }
     {
         let target = self.header.sh_info as usize;
         BodyKind::of(self.header.sh_type) == BodyKind::Relocs
@@ -57,7 +59,7 @@ impl<'f, 'i, 'a> FileSection<'f, 'i, 'a> {
 
     /// Whether it is kept, and has neither relocations nor members.
     fn is_plain(&self) -> bool
-        ensures { let file = self.now.file.now in IsTrue result ↔ IsPlain file.left (file_sections file) self.now.index }
+        ensures { let file = self.now.file.now in IsTrue result ↔ IsPlain file.left (sections_of_file file) self.now.index }
     {
         let kind = BodyKind::of(self.header.sh_type);
         self.file.is_kept(self.index) && (kind == BodyKind::Bits || kind == BodyKind::NoBits)
@@ -65,7 +67,7 @@ impl<'f, 'i, 'a> FileSection<'f, 'i, 'a> {
 
     /// Whether it is plain and links to one that is left out, or isn't there.
     fn has_wrong_kept_link(&self) -> bool
-        ensures { let file = self.now.file.now in IsTrue result ↔ HasWrongKeptLink file.left (file_sections file) self.now.index }
+        ensures { let file = self.now.file.now in IsTrue result ↔ HasWrongKeptLink file.left (sections_of_file file) self.now.index }
     {
         let link = self.header.sh_link as usize;
         self.is_plain() && (link != 0 && !self.file.is_kept(link))
@@ -73,7 +75,7 @@ impl<'f, 'i, 'a> FileSection<'f, 'i, 'a> {
 
     /// Whether it is plain and has the flag `SHF_INFO_LINK`, and its info is the index of one that is left out, or isn't there.
     fn has_wrong_kept_info(&self) -> bool
-        ensures { let file = self.now.file.now in IsTrue result ↔ HasWrongKeptInfo file.left (file_sections file) self.now.index }
+        ensures { let file = self.now.file.now in IsTrue result ↔ HasWrongKeptInfo file.left (sections_of_file file) self.now.index }
     {
         let info = self.header.sh_info as usize;
         self.is_plain() && (self.header.sh_flags & SHF_INFO_LINK != 0 && !self.file.is_kept(info))
@@ -83,7 +85,7 @@ impl<'f, 'i, 'a> FileSection<'f, 'i, 'a> {
 impl<'i, 'a> ObjectFile<'i, 'a> {
     /// The lowest offset in the file at which a section breaks the rule.
     pub(crate) fn lowest_reference(&self, rule: ReferenceRule) -> Option<u64>
-        ensures { IsLowest (SomeReference rule self.now.left (file_sections self.now)) result }
+        ensures { IsLowest (SomeReference rule self.now.left (sections_of_file self.now)) result }
     {
         for i in 0..self.image.section_count() {
             if rule.is_broken_by(&self.section(i)) {

@@ -3,7 +3,7 @@ use Rattle.std.proofs.Common.{◌≡◌, ℕ, ◌+◌, ◌*◌, List, get_or, le
 use Rattle.elf_field.specs.Sym.{sym_at}
 use Rattle.elf_field.specs.declared.order.Order.{Order}
 use Rattle.elf_field.specs.declared.sym.Sym.{Sym}
-use Rattle.elf_object_reader.specs.ObjectFile.{file_sections}
+use Rattle.elf_object_reader.specs.ObjectFile.{sections_of_file}
 use Rattle.elf_table_base.specs.Sections.{content, order}
 use Rattle.elf_table_symbols.specs.Symbols.{SymbolEntryValue}
 use Rattle.elf_table_symbols.specs.SymbolView.{no_symbol_entry}
@@ -13,24 +13,24 @@ use Rattle.elf_object_reader.proofs.file_symbols.FileSymbols.info.Goals as goal
 pub get_at-entry-requires : goal.get_at-entry-requires
 get_at-entry-requires c =
     let table = c.args.self.now in
-    let within = symbol_within (file_sections table.file.now) table.index c.args.j (rw table.own_entries at c.requires) in
+    let within = symbol_within (sections_of_file table.file.now) table.index c.args.j (rw table.own_entries at c.requires) in
     rw c.content.ensures.bytes within
 
 pub overflow_mul-j : goal.overflow_mul-j
 overflow_mul-j c =
     let table = c.args.self.now in
-    let within = symbol_within (file_sections table.file.now) table.index c.args.j (rw table.own_entries at c.requires) in
+    let within = symbol_within (sections_of_file table.file.now) table.index c.args.j (rw table.own_entries at c.requires) in
     let size = c.content.ensures.size in
     let bytes = c.content.ensures.bytes in
     let inside = c.content.ensures.inside in
     let short = c.content.ensures.short in
-    let long : length c.content.result.now ≡ length (content (file_sections table.file.now) table.index) = ap (λ (b : List _). length b) bytes in
+    let long : length c.content.result.now ≡ length (content (sections_of_file table.file.now) table.index) = ap (λ (b : List _). length b) bytes in
     omega arith
 
 pub returns : goal.returns
 returns c =
     let table = c.args.self.now in
-    let f = file_sections table.file.now in
+    let f = sections_of_file table.file.now in
     let j = c.args.j in
     let lt = rw table.own_entries at c.requires in
     ap (λ (r : Sym). r.st_info) c.get_at-entry.ensures.value ∙ ap (λ (o : Order). (sym_at o c.content.result.now (24 * j)).st_info) c.order.ensures ∙

@@ -1,12 +1,12 @@
 use Rattle.std.proofs.Common.{◌≡◌, length, arith}
-use Rattle.elf_object_reader.specs.ObjectFile.{file_sections}
+use Rattle.elf_object_reader.specs.ObjectFile.{sections_of_file}
 use Rattle.elf_object_reader.proofs.GroupMembers.{marks_passed, wrong_next, wrong_passed}
 use Rattle.elf_object_reader.proofs.object_file.ObjectFile.lowest_wrong_group_member.Goals as goal
 use Rattle.elf_object_reader.proofs.object_file.ObjectFile.lowest_wrong_group_member.Goals.{then-section-eq-SHT_GROUP, else-section-eq-SHT_GROUP}
 
 pub loop-i-preserved : goal.loop-i-preserved
 loop-i-preserved c =
-    let f = file_sections c.args.self.now in
+    let f = sections_of_file c.args.self.now in
     let n = length c.args.self.now.image.now.sections in
     let own = c.section-section.ensures in
     let header = rw (own.file, own.index) at c.section-section.result.own_header in

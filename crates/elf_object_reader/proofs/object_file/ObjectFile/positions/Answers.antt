@@ -4,19 +4,19 @@ use Rattle.std.specs.List.{range_with_len}
 use Rattle.std.proofs.lemmas.List.FromFn.{length-map-range_with_len, map-range_with_len_more}
 use Rattle.elf_object_reader.specs.Kept.{is_kept, position_of}
 use Rattle.elf_table_base.specs.Sections.{count}
-use Rattle.elf_object_reader.specs.ObjectFile.{file_sections}
+use Rattle.elf_object_reader.specs.ObjectFile.{sections_of_file}
 use Rattle.elf_object_reader.proofs.KeptLists.{count_kept, count_other, position_le}
 use Rattle.elf_object_reader.proofs.object_file.ObjectFile.positions.Goals as goal
 use Rattle.elf_object_reader.proofs.object_file.ObjectFile.positions.Goals.{then-is_kept, else-is_kept}
 
 pub overflow_add-kept : goal.overflow_add-kept
 overflow_add-kept c =
-    let few = position_le c.args.self.now.left (file_sections c.args.self.now) c.loop-i.i in
+    let few = position_le c.args.self.now.left (sections_of_file c.args.self.now) c.loop-i.i in
     omega arith
 
 pub loop-i-preserved : goal.loop-i-preserved
 loop-i-preserved c =
-    let f = file_sections c.args.self.now in
+    let f = sections_of_file c.args.self.now in
     let left = c.args.self.now.left in
     let P = position_of left f in
     let i = c.loop-i.i in
@@ -33,7 +33,7 @@ loop-i-preserved c =
 
 pub returns : goal.returns
 returns c =
-    let f = file_sections c.args.self.now in
+    let f = sections_of_file c.args.self.now in
     let left = c.args.self.now.left in
     let P = position_of left f in
     let i = c.loop-i.i in

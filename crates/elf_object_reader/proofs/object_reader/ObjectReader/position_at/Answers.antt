@@ -3,13 +3,13 @@ use Rattle.std.proofs.lemmas.Bool.{cases_lt}
 use Rattle.std.proofs.lemmas.List.{get_or_default}
 use Rattle.elf_object_reader.specs.Kept.{position_of}
 use Rattle.elf_table_base.specs.Sections.{count}
-use Rattle.elf_object_reader.specs.ObjectFile.{file_sections}
+use Rattle.elf_object_reader.specs.ObjectFile.{sections_of_file}
 use Rattle.elf_object_reader.proofs.KeptLists.{position_get, position_past}
 use Rattle.elf_object_reader.proofs.object_reader.ObjectReader.position_at.Goals as goal
 
 pub returns : goal.returns
 returns c =
-    let f = file_sections c.args.self.now.file in
+    let f = sections_of_file c.args.self.now.file in
     let left = c.args.self.now.file.left in
     let m = c.min.result in
     let own = c.args.self.now.own_positions in

@@ -1,7 +1,7 @@
 use Rattle.std.proofs.Common.{List, ap, ◌∙◌, map}
 use Rattle.elf_object_reader.specs.Denotes.{section_denoted}
 use Rattle.elf_object_reader.specs.Kept.{is_kept}
-use Rattle.elf_object_reader.specs.ObjectFile.{file_sections}
+use Rattle.elf_object_reader.specs.ObjectFile.{sections_of_file}
 use Rattle.elf_object_type.specs.ObjectView.{section_value}
 use Rattle.elf_object_type.specs.declared.section.Section.{Section}
 use Rattle.elf_object_reader.proofs.KeptLists.{mapped_next, mapped_passed}
@@ -10,7 +10,7 @@ use Rattle.elf_object_reader.proofs.object_reader.ObjectReader.read_sections.Goa
 
 pub loop-i-preserved : goal.loop-i-preserved
 loop-i-preserved c =
-    let f = file_sections c.args.self.now.file in
+    let f = sections_of_file c.args.self.now.file in
     let left = c.args.self.now.file.left in
     let i = c.loop-i.i in
     elim c.if-is_kept.branch [
