@@ -1,9 +1,9 @@
 -- The rules of the tables in the sections that are kept, section by section.
-use Rattle.std.proofs.Common.{◌≡◌, ℕ, ◌+◌, ◌-◌, ◌<◌, ◌++◌, true, false, Option, None, Some, List, sym, subst}
+use Rattle.std.proofs.Common.{◌≡◌, ℕ, ◌+◌, ◌-◌, ◌<◌, true, false, Option, None, Some, List, sym, subst}
 use Rattle.std.specs.Prelude.{filter}
 use Rattle.std.specs.List.{range_with_len}
 use Rattle.elf_image_rules.specs.Rows.{FirstIn}
-use Rattle.elf_image_rules.proofs.Public.{FirstIn-behind, FirstIn-front, FirstIn-later, FirstIn-sooner}
+use Rattle.elf_image_rules.proofs.Public.{FirstIn-later, FirstIn-sooner}
 use Rattle.elf_object_reader.specs.FileRules.{rules_of_bodies, rules_of_body}
 use Rattle.elf_object_reader.specs.Kept.{body_kind, is_kept, kept}
 use Rattle.elf_object_reader.specs.declared.left_out.LeftOut.{LeftOut}
@@ -35,25 +35,3 @@ pub bodies_fault : (left : LeftOut) (f : Sections) (i : ℕ) (fault : ℕ × ℕ
 bodies_fault left f i fault lt is all found =
     all (Some fault) (subst (λ (is : List ℕ). FirstIn (rules_of_bodies f is) (Some fault)) (sym (filter_from_kept (is_kept left f) (count f) i lt is))
     (FirstIn-sooner (rules_of_body (body_kind (section f i).sh_type) f i) (rules_of_bodies f (kept_from left f (i + 1))) fault found))
-
--- ---- where no rule is broken
-
-pub bodies_sound : (left : LeftOut) (f : Sections) (i : ℕ) → i < count f → is_kept left f i ≡ true → FirstIn (rules_of_bodies f (kept_from left f i)) None →
-    FirstIn (rules_of_body (body_kind (section f i).sh_type) f i ++ rules_of_bodies f (kept_from left f (i + 1))) None
-bodies_sound left f i lt is clean =
-    subst (λ (is : List ℕ). FirstIn (rules_of_bodies f is) None) (filter_from_kept (is_kept left f) (count f) i lt is) clean
-
-pub body_sound : (left : LeftOut) (f : Sections) (i : ℕ) → i < count f → is_kept left f i ≡ true → FirstIn (rules_of_bodies f (kept_from left f i)) None →
-    FirstIn (rules_of_body (body_kind (section f i).sh_type) f i) None
-body_sound left f i lt is clean =
-    FirstIn-front (rules_of_body (body_kind (section f i).sh_type) f i) (rules_of_bodies f (kept_from left f (i + 1))) (bodies_sound left f i lt is clean)
-
-pub rest_sound : (left : LeftOut) (f : Sections) (i : ℕ) → i < count f → is_kept left f i ≡ true → FirstIn (rules_of_bodies f (kept_from left f i)) None →
-    FirstIn (rules_of_bodies f (kept_from left f (i + 1))) None
-rest_sound left f i lt is clean =
-    FirstIn-behind (rules_of_body (body_kind (section f i).sh_type) f i) (rules_of_bodies f (kept_from left f (i + 1))) (bodies_sound left f i lt is clean)
-
-pub passed_sound : (left : LeftOut) (f : Sections) (i : ℕ) → i < count f → is_kept left f i ≡ false → FirstIn (rules_of_bodies f (kept_from left f i)) None →
-    FirstIn (rules_of_bodies f (kept_from left f (i + 1))) None
-passed_sound left f i lt is clean =
-    subst (λ (is : List ℕ). FirstIn (rules_of_bodies f is) None) (filter_from_other (is_kept left f) (count f) i lt is) clean

@@ -1,10 +1,9 @@
 -- The runs of rules of a file that breaks none.
-use Rattle.std.proofs.Common.{◌≡◌, None, sym, subst}
+use Rattle.std.proofs.Common.{None}
 use Rattle.elf_image_rules.specs.Rows.{FirstIn}
 use Rattle.elf_image_rules.proofs.Public.{FirstIn-behind, FirstIn-front}
 use Rattle.elf_object_reader.specs.FileRules.{file_rules, front_rules, reference_rules, rules_behind, rules_of_bodies, rules_of_symbols, symbol_outside_rules, symbol_rules_in}
 use Rattle.elf_object_reader.specs.Kept.{kept, left_out, symbol_table}
-use Rattle.elf_object_reader.specs.declared.left_out.LeftOut.{LeftOut}
 use Rattle.elf_table_base.specs.Sections.{Sections}
 
 pub front_sound : (f : Sections) → FirstIn (file_rules f) None → FirstIn (front_rules f) None
@@ -36,11 +35,3 @@ pub references_sound : (f : Sections) → FirstIn (file_rules f) None → FirstI
 unfolding rules_behind
 references_sound f clean =
     FirstIn-behind (rules_of_bodies f (kept (left_out f) f)) _ (FirstIn-behind (symbol_rules_in (left_out f) f (symbol_table f)) _ (behind_sound f clean))
-
--- ---- by any equal name of what is left out
-
-pub bodies_of_file : (f : Sections) (left : LeftOut) → left ≡ left_out f → FirstIn (file_rules f) None → FirstIn (rules_of_bodies f (kept left f)) None
-bodies_of_file f left same clean = subst (λ (l : LeftOut). FirstIn (rules_of_bodies f (kept l f)) None) (sym same) (all_bodies_sound f clean)
-
-pub symbols_of_file : (f : Sections) (left : LeftOut) → left ≡ left_out f → FirstIn (file_rules f) None → FirstIn (rules_of_symbols f left.symbol_table) None
-symbols_of_file f left same clean = subst (λ (l : LeftOut). FirstIn (rules_of_symbols f l.symbol_table) None) (sym same) (symbols_sound f clean)

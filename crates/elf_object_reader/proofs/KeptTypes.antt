@@ -96,7 +96,7 @@ linked (Some t) link other = elim (cases_eq t link) [
   | inr differs ↦ absurd (other (λ same. (let t_is : t ≡ link = cc in differs t_is)))
 ]
 
-symbols_of_table : (f : Sections) (t : ℕ) → FirstIn (file_rules f) None → symbol_table f ≡ Some t → FirstIn (symbol_table_rules f t) None
+pub symbols_of_table : (f : Sections) (t : ℕ) → FirstIn (file_rules f) None → symbol_table f ≡ Some t → FirstIn (symbol_table_rules f t) None
 symbols_of_table f t clean is = subst (λ (table : Option ℕ). FirstIn (rules_of_symbols f table) None) is (symbols_sound f clean)
 
 no_second_index_table : (f : Sections) (t : ℕ) → FirstIn (symbol_table_rules f t) None → Never (second_index_table f t)

@@ -4,3 +4,4 @@ pub mod Denotes
 pub mod FileRules
 pub mod MemberMarks
 pub mod Reading
+pub mod ObjectFile

@@ -9,10 +9,15 @@
 
 mod body_kind;
 mod file_rules;
+mod file_section;
+mod file_symbols;
 mod front_rules;
+mod kept_section;
 mod laws;
 mod left_out;
 mod member_rule;
+mod object_file;
+mod object_reader;
 mod read_bodies;
 mod read_positions;
 mod read_symbols;

@@ -3,19 +3,16 @@ ghost use Rattle.std.specs.Prelude.{◌≡◌, IfErr, IfOk, None};
 ghost use Rattle.elf_image_stream.specs.declared.fault.Fault.TheVariants.{OutOfMemory};
 ghost use Rattle.elf_object_reader.specs.Denotes.{Denotes};
 ghost use Rattle.elf_object_reader.specs.FileRules.{file_rules, front_rules};
-ghost use Rattle.elf_object_reader.specs.Kept.{left_out};
+ghost use Rattle.elf_object_reader.specs.ObjectFile.{sections_of_file};
 ghost use Rattle.elf_object_type.specs.ObjectView.{value_of};
-ghost use Rattle.elf_object_reader.specs.Reading.{AreTablesOf};
 ghost use Rattle.elf_image_rules.specs.Rows.{FirstIn};
 ghost use Rattle.elf_table_base.specs.Judged.{IsJudgedBehind};
 ghost use Rattle.elf_table_base.specs.Sections.{sections_of};
 
-use crate::file_rules::judge_behind;
 use crate::front_rules::judge_front;
 use crate::left_out::LeftOut;
-use crate::read_bodies::read_sections;
-use crate::read_positions::positions_of;
-use crate::read_symbols::read_symbols;
+use crate::object_file::ObjectFile;
+use crate::object_reader::ObjectReader;
 use elf_field::abi::*;
 use elf_image_stream::Fault;
 use elf_image_type::Image;
@@ -49,26 +46,26 @@ fn parts_of<'a>(alloc: Global, image: &Image<'a>) -> Result<ObjectParts<'a>, Fau
     let left = LeftOut::of(image);
     judge_front(image, left.symbol_table)?;
     let tables = Tables::new(alloc, image)?;
-    judge_behind(alloc, image, &left, &tables)?;
-    read_parts(alloc, image, &left, &tables)
+    let file = ObjectFile {
+        image,
+        left,
+        tables,
+    };
+    file.judge(alloc)?;
+    read_parts(alloc, file)
 }
 
-/// The parts of the object that an image denotes which breaks no rule. [`Fault::OutOfMemory`] is the only error.
-fn read_parts<'a>(
-    alloc: Global,
-    image: &Image<'a>,
-    left: &LeftOut,
-    tables: &Tables<'_, 'a>,
-) -> Result<ObjectParts<'a>, Fault>
-    requires left { left.now ≡ left_out (sections_of image.now) }
-    requires tables { AreTablesOf image.now tables.now }
-    requires sound { FirstIn (file_rules (sections_of image.now)) None }
-    ensures ok { IfOk result (λ parts. Denotes (sections_of image.now) (value_of parts)) }
+/// The parts of the object that a file denotes which breaks no rule. [`Fault::OutOfMemory`] is the only error.
+fn read_parts<'a>(alloc: Global, file: ObjectFile<'_, 'a>) -> Result<ObjectParts<'a>, Fault>
+    requires { FirstIn (file_rules (sections_of_file file)) None }
+    ensures ok { IfOk result (λ parts. Denotes (sections_of_file file.entry) (value_of parts)) }
     ensures err { IfErr result (λ fault. fault ≡ OutOfMemory) }
 {
-    let positions = positions_of(alloc, image, left)?;
-    let sections = read_sections(alloc, image, left, tables, &positions)?;
-    let symbols = read_symbols(alloc, image, left, tables, &positions)?;
+    let positions = file.positions(alloc)?;
+    let reader = ObjectReader { file, positions };
+    let sections = reader.read_sections(alloc)?;
+    let symbols = reader.read_symbols(alloc)?;
+    let image = reader.file.image;
     let header = image.header();
     Ok(ObjectParts {
         order: image.order(),

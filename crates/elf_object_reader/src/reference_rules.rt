@@ -1,13 +1,13 @@
 //! Rules 76, 78 and 79: the references from one section of a file to another (gABI chapter 4, Sections: sh_link, sh_info).
-ghost use Rattle.std.specs.Prelude.{◌≡◌, ◌↔◌, ◌<◌, ◌+◌, IsTrue, length};
+ghost use Rattle.std.specs.Prelude.{◌≡◌, ◌↔◌, ◌<◌, ◌+◌, IsTrue};
 ghost use Rattle.elf_extent.specs.Least.{IsLowest};
 ghost use Rattle.elf_object_reader.specs.FileRules.{BreaksReference, HasWrongKeptInfo, HasWrongKeptLink, HasWrongRelocationTarget, IsPlain, SomeReference, reference_field};
-ghost use Rattle.elf_table_base.specs.Sections.{sections_of};
+ghost use Rattle.elf_object_reader.specs.ObjectFile.{sections_of_file};
 
 use crate::body_kind::BodyKind;
-use crate::left_out::LeftOut;
+use crate::file_section::FileSection;
+use crate::object_file::ObjectFile;
 use elf_field::abi::*;
-use elf_image_type::Image;
 
 /// A rule on the references of one section.
 #[derive(Clone, Copy, Debug, PartialEq, Eq)]
@@ -21,15 +21,15 @@ pub(crate) enum ReferenceRule {
 }
 
 impl ReferenceRule {
-    /// Whether section `i` breaks the rule.
-    fn is_broken_by(self, image: &Image<'_>, left: &LeftOut, i: usize) -> bool
-        requires { i < length image.now.sections }
-        ensures { IsTrue result ↔ BreaksReference self left.now (sections_of image.now) i }
+    /// Whether the section breaks the rule.
+    fn is_broken_by(self, section: &FileSection<'_, '_, '_>) -> bool
+        ensures { let file = section.now.file.now in
+            IsTrue result ↔ BreaksReference self file.left (sections_of_file file) section.now.index }
     {
         match self {
-            ReferenceRule::WrongRelocationTarget => has_wrong_relocation_target(image, left, i),
-            ReferenceRule::WrongKeptLink => has_wrong_kept_link(image, left, i),
-            ReferenceRule::WrongKeptInfo => has_wrong_kept_info(image, left, i),
+            ReferenceRule::WrongRelocationTarget => section.has_wrong_relocation_target(),
+            ReferenceRule::WrongKeptLink => section.has_wrong_kept_link(),
+            ReferenceRule::WrongKeptInfo => section.has_wrong_kept_info(),
         }
     }
 
@@ -45,59 +45,53 @@ impl ReferenceRule {
     }
 }
 
-/// Whether section `i` has relocations that apply to no section with bits.
-fn has_wrong_relocation_target(image: &Image<'_>, left: &LeftOut, i: usize) -> bool
-    requires { i < length image.now.sections }
-    ensures { IsTrue result ↔ HasWrongRelocationTarget left.now (sections_of image.now) i }
-{
-    let section = image.section(i);
-    let target = section.sh_info as usize;
-    BodyKind::of(section.sh_type) == BodyKind::Relocs
-        && !(left.is_kept(image, target)
-            && BodyKind::of(image.section(target).sh_type) == BodyKind::Bits)
-}
-
-/// Whether section `i` is kept, and has neither relocations nor members.
-fn is_plain(image: &Image<'_>, left: &LeftOut, i: usize) -> bool
-    requires { i < length image.now.sections }
-    ensures { IsTrue result ↔ IsPlain left.now (sections_of image.now) i }
-{
-    let kind = BodyKind::of(image.section(i).sh_type);
-    left.is_kept(image, i) && (kind == BodyKind::Bits || kind == BodyKind::NoBits)
-}
-
-/// Whether section `i` is plain and links to one that is left out, or isn't there.
-fn has_wrong_kept_link(image: &Image<'_>, left: &LeftOut, i: usize) -> bool
-    requires { i < length image.now.sections }
-    ensures { IsTrue result ↔ HasWrongKeptLink left.now (sections_of image.now) i }
-{
-    let link = image.section(i).sh_link as usize;
-    is_plain(image, left, i) && (link != 0 && !left.is_kept(image, link))
-}
-
-/// Whether section `i` is plain and has the flag `SHF_INFO_LINK`, and its info is the index of one that is left out,
-/// or isn't there.
-fn has_wrong_kept_info(image: &Image<'_>, left: &LeftOut, i: usize) -> bool
-    requires { i < length image.now.sections }
-    ensures { IsTrue result ↔ HasWrongKeptInfo left.now (sections_of image.now) i }
-{
-    let section = image.section(i);
-    is_plain(image, left, i)
-        && (section.sh_flags & SHF_INFO_LINK != 0 && !left.is_kept(image, section.sh_info as usize))
-}
-
-/// The lowest offset in the file at which a section breaks the rule.
-pub(crate) fn lowest_reference(
-    image: &Image<'_>,
-    left: &LeftOut,
-    rule: ReferenceRule,
-) -> Option<u64>
-    ensures { IsLowest (SomeReference rule left.now (sections_of image.now)) result }
-{
-    for i in 0..image.section_count() {
-        if rule.is_broken_by(image, left, i) {
-            return Some(image.header_offset(i) + rule.field());
-        }
+impl<'f, 'i, 'a> FileSection<'f, 'i, 'a> {
+    /// Whether it has relocations that apply to no section with bits.
+    fn has_wrong_relocation_target(&self) -> bool
+        ensures { let file = self.now.file.now in
+            IsTrue result ↔ HasWrongRelocationTarget file.left (sections_of_file file) self.now.index }
+    {
+        let target = self.header.sh_info as usize;
+        BodyKind::of(self.header.sh_type) == BodyKind::Relocs
+            && !(self.file.is_kept(target)
+                && BodyKind::of(self.file.image.section(target).sh_type) == BodyKind::Bits)
     }
-    None
+
+    /// Whether it is kept, and has neither relocations nor members.
+    fn is_plain(&self) -> bool
+        ensures { let file = self.now.file.now in IsTrue result ↔ IsPlain file.left (sections_of_file file) self.now.index }
+    {
+        let kind = BodyKind::of(self.header.sh_type);
+        self.file.is_kept(self.index) && (kind == BodyKind::Bits || kind == BodyKind::NoBits)
+    }
+
+    /// Whether it is plain and links to one that is left out, or isn't there.
+    fn has_wrong_kept_link(&self) -> bool
+        ensures { let file = self.now.file.now in IsTrue result ↔ HasWrongKeptLink file.left (sections_of_file file) self.now.index }
+    {
+        let link = self.header.sh_link as usize;
+        self.is_plain() && (link != 0 && !self.file.is_kept(link))
+    }
+
+    /// Whether it is plain and has the flag `SHF_INFO_LINK`, and its info is the index of one that is left out, or isn't there.
+    fn has_wrong_kept_info(&self) -> bool
+        ensures { let file = self.now.file.now in IsTrue result ↔ HasWrongKeptInfo file.left (sections_of_file file) self.now.index }
+    {
+        let info = self.header.sh_info as usize;
+        self.is_plain() && (self.header.sh_flags & SHF_INFO_LINK != 0 && !self.file.is_kept(info))
+    }
+}
+
+impl<'i, 'a> ObjectFile<'i, 'a> {
+    /// The lowest offset in the file at which a section breaks the rule.
+    pub(crate) fn lowest_reference(&self, rule: ReferenceRule) -> Option<u64>
+        ensures { IsLowest (SomeReference rule self.now.left (sections_of_file self.now)) result }
+    {
+        for i in 0..self.image.section_count() {
+            if rule.is_broken_by(&self.section(i)) {
+                return Some(self.image.header_offset(i) + rule.field());
+            }
+        }
+        None
+    }
 }

@@ -11,18 +11,18 @@ returns-in_err-judge_front c =
     let f = sections_of c.args.image.now in
     front_fault f (λ (parts : ObjectParts). Denotes f (value_of parts)) _ _ c.from_residual.result c.in_err-judge_front.ensures c.from_residual.ensures.1
 
-pub returns-in_err-judge_behind : goal.returns-in_err-judge_behind
-returns-in_err-judge_behind c =
+pub returns-in_err-judge : goal.returns-in_err-judge
+returns-in_err-judge c =
     let f = sections_of c.args.image.now in
-    fault_behind f c.of-left.result (λ (parts : ObjectParts). Denotes f (value_of parts)) _ c.from_residual-in_err-judge_behind.result c.of-left.ensures
-    c.in_ok-judge_front.ensures c.in_err-judge_behind.ensures c.from_residual-in_err-judge_behind.ensures.1
+    fault_behind f c.of-left.result (λ (parts : ObjectParts). Denotes f (value_of parts)) _ c.from_residual-in_err-judge.result c.of-left.ensures
+    c.in_ok-judge_front.ensures c.in_err-judge.ensures c.from_residual-in_err-judge.ensures.1
 
-pub read_parts-requires-clause-sound : goal.read_parts-requires-clause-sound
-read_parts-requires-clause-sound c =
-    found_behind (sections_of c.args.image.now) c.of-left.result None c.of-left.ensures c.in_ok-judge_front.ensures c.in_ok-judge_behind.ensures.0
+pub read_parts-requires : goal.read_parts-requires
+read_parts-requires c =
+    found_behind (sections_of c.args.image.now) c.of-left.result None c.of-left.ensures c.in_ok-judge_front.ensures c.in_ok-judge.ensures.0
 
 pub returns : goal.returns
 returns c =
     let f = sections_of c.args.image.now in
-    let clean = found_behind f c.of-left.result None c.of-left.ensures c.in_ok-judge_front.ensures c.in_ok-judge_behind.ensures.0 in
+    let clean = found_behind f c.of-left.result None c.of-left.ensures c.in_ok-judge_front.ensures c.in_ok-judge.ensures.0 in
     read_judged f (λ (parts : ObjectParts). Denotes f (value_of parts)) c.read_parts.result clean c.read_parts.ensures.ok c.read_parts.ensures.err

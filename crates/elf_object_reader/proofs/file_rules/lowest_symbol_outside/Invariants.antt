@@ -1,8 +1,0 @@
-use Rattle.std.proofs.Common.{ℕ, ◌<◌, get_or}
-use Rattle.elf_object_reader.specs.FileRules.{IsSymbolOutside}
-use Rattle.elf_table_base.specs.Sections.{sections_of}
-use Rattle.elf_table_symbols.specs.SymbolView.{no_symbol_entry}
-use Rattle.elf_object_reader.proofs.file_rules.lowest_symbol_outside.Given as goal
-
-abbrev pub invariant-loop-j : goal.invariant-loop-j
-invariant-loop-j l = (k : ℕ) → k < l.j → IsSymbolOutside l.left (sections_of l.image) (get_or l.symbols k no_symbol_entry).place → ⊥

@@ -1,8 +1,0 @@
-use Rattle.std.proofs.Common.{◌≡◌, drop, map, take}
-use Rattle.elf_object_reader.specs.Denotes.{symbol_denoted}
-use Rattle.elf_object_type.specs.ObjectView.{symbol_value}
-use Rattle.elf_table_base.specs.Sections.{sections_of}
-use Rattle.elf_object_reader.proofs.read_symbols.read_symbols.Given as goal
-
-abbrev pub invariant-loop-j : goal.invariant-loop-j
-invariant-loop-j l = map symbol_value l.read.items ≡ map (symbol_denoted l.left (sections_of l.image)) (take l.j (drop 1 l.symbols))
