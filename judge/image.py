@@ -1,6 +1,8 @@
 """Rules 1 to 33 of docs/RULES.md, on any file: each is a function of its name there, which gives every offset where the file breaks it. A
 rule is asked only of a file that keeps those before it. This is written from the rules' own words and shares nothing with the crates; it
 may be slow."""
+from functools import lru_cache
+
 from records import *
 
 
@@ -207,9 +209,15 @@ RULES = list(enumerate([
     incongruent_segment, load_out_of_order, wrong_name_table_type, unclosed_name_table, name_past_end, shared_byte], 1))
 
 
+# It is asked of one file a few times in a row.
+@lru_cache(1)
+def verdict_on(content):
+    return first_broken(RULES, File(content))
+
+
 def verdict(content):
     """The first rule that these bytes break, and the lowest offset where they do; None where they are an ELF-64 file."""
-    return first_broken(RULES, File(content))
+    return verdict_on(bytes(content))
 
 
 def check(content):

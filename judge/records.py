@@ -1,5 +1,6 @@
 """The records of an ELF-64 file (System V ABI, generic part, chapters 4 and 5): the offset and the width of each field, in bytes, and its
-name; and a file as what its bytes say at these places. Nothing here judges."""
+name; and a file as what its bytes say at these places, each read once. Nothing here judges."""
+from functools import cached_property
 
 HEADER = {"e_type": (16, 2), "e_machine": (18, 2), "e_version": (20, 4), "e_entry": (24, 8), "e_phoff": (32, 8), "e_shoff": (40, 8),
           "e_flags": (48, 4), "e_ehsize": (52, 2), "e_phentsize": (54, 2), "e_phnum": (56, 2), "e_shentsize": (58, 2), "e_shnum": (60, 2),
@@ -19,14 +20,15 @@ LORESERVE, XINDEX, PN_XNUM = 0xFF00, 0xFFFF, 0xFFFF
 
 
 class Record:
-    """A record at an offset of a file: each field is read where it stands, and `at` tells where that is."""
+    """A record at an offset of a file: each field is read where it stands, when it is first asked for, and `at` tells where that is."""
 
     def __init__(self, file, offset, layout):
         self.file, self.offset, self.layout = file, offset, layout
 
     def __getattr__(self, field):
         place, width = self.layout[field]
-        return self.file.number(self.offset + place, width)
+        value = self.__dict__[field] = self.file.number(self.offset + place, width)
+        return value
 
     def at(self, field):
         return self.offset + self.layout[field][0]
@@ -40,24 +42,27 @@ class File:
         # The data encoding: 1 is least significant byte first.
         self.order = "big" if content[5:6] == b"\2" else "little"
         self.header = Record(self, 0, HEADER)
+        self.known = {}
 
     def number(self, offset, width):
         return int.from_bytes(self.bytes[offset:offset + width], self.order)
 
     def section(self, i):
-        return Record(self, self.header.e_shoff + 64 * i, SECTION_HEADER)
+        if i not in self.known:
+            self.known[i] = Record(self, self.header.e_shoff + 64 * i, SECTION_HEADER)
+        return self.known[i]
 
     def segment(self, j):
         return Record(self, self.header.e_phoff + 56 * j, PROGRAM_HEADER)
 
-    @property
+    @cached_property
     def section_count(self):
         """`e_shnum`, or where that is 0 the size of section header 0; 0 without a section header table."""
         if self.header.e_shoff == 0:
             return 0
         return self.header.e_shnum or self.section(0).sh_size
 
-    @property
+    @cached_property
     def segment_count(self):
         """`e_phnum`, or where that is 0xffff the info of section header 0."""
         if self.header.e_phnum == PN_XNUM and self.header.e_shoff != 0:
@@ -71,9 +76,13 @@ class File:
             return self.section(0).sh_link
         return self.header.e_shstrndx
 
+    @cached_property
+    def all_sections(self):
+        return [(i, self.section(i)) for i in range(self.section_count)]
+
     def sections(self):
         """Each section header, with its index."""
-        return [(i, self.section(i)) for i in range(self.section_count)]
+        return self.all_sections
 
     def segments(self):
         return [self.segment(j) for j in range(self.segment_count)]

@@ -11,7 +11,7 @@ use Rattle.elf_link_files.specs.Files.{no_object, object_at}
 use Rattle.elf_link_relocate.specs.Fields.{content_of}
 use Rattle.elf_link_relocate.specs.Linked.{identity_of}
 use Rattle.elf_link_relocate.specs.Memory.{HaveBytes}
-use Rattle.elf_exec.specs.Executable.{ObjectsFit}
+use Rattle.elf_link_map.specs.Standing.{ObjectsFit}
 use Rattle.elf_exec.proofs.Records.{IdentityFits}
 
 section_fits : (ss : List SectionValue) (s : ℕ) → AllByRecursion SectionFits ss → s < length ss → SectionFits (get_or ss s no_section)

@@ -17,7 +17,7 @@ use Rattle.elf_link_outputs.specs.declared.output.Member.{Member}
 use Rattle.elf_link_outputs.specs.Outputs.{is_no_bits, live, section_at_site}
 use Rattle.elf_link_outputs.specs.Placed.{IsOutput, OutputValue, cell, member_of, members_at, start_of}
 use Rattle.elf_link_outputs.specs.Plan.{flat, placed}
-use Rattle.elf_link_outputs.proofs.Public.{members_live, outputs_some, parts_long, start_next, within_all}
+use Rattle.elf_link_outputs.proofs.Public.{members_live, outputs_some, parts_long, placed_once, start_next, within_all}
 use Rattle.elf_link_map.specs.Apart.{BeginsAt, size_in}
 use Rattle.elf_link_map.specs.LinkMap.{IsLinkMap, IsLinkPlan, IsMapOf, LinkMapValue, LinkPlan, link_parts}
 use Rattle.elf_link_map.specs.Standing.{IsMemberAt, MembersStand, OutputsStand, member_address, member_at, member_part, no_member, or_zero, output_at, output_end}
@@ -223,6 +223,40 @@ module _ (opt : Options) (fs : List ObjectValue) (l : LinkPlan) (m : LinkMapValu
       let found = sym (flat_at outputs k i k_in i_in) ∙ ap (site_at (flat outputs)) (sym split) ∙ here.here in
       (k, i, (lt, (let many = many_members k lt in omega arith), member_is k i lt i_in ∙ ap member_of found))
 
+  -- no two places of the plan have one section, and each place is one of one output
+  one_place : (n p : ℕ) → n < length (flat outputs) → p < length (flat outputs) → site_at (flat outputs) n ≡ site_at (flat outputs) p → n ≡ p
+  one_place n p n_in p_in same =
+      let (ps, openers, mem) = is.plan.outputs in
+      let apart = placed_once fs ps outputs openers mem in
+      elim (cases_lt n p) [
+        | inl below ↦ absurd (apart n p below p_in same)
+        | inr above ↦ elim (cases_lt p n) [ | inl below ↦ absurd (apart p n below n_in (sym same)) | inr equal ↦ omega arith ]
+      ]
+
+  one_output : (k i l j : ℕ) → k < length m.outputs → i < count k → l < length m.outputs → j < count l → start k + i ≡ start l + j → (k ≡ l) × (i ≡ j)
+  one_output k i l j k_in i_in l_in j_in same = elim (cases_lt k l) [
+    | inl below ↦ (let ascend = starts_ascend outputs k l below (output_in l l_in) in absurd (omega arith))
+    | inr above ↦ elim (cases_lt l k) [
+        | inl below ↦ (let ascend = starts_ascend outputs l k below (output_in k k_in) in absurd (omega arith))
+        | inr equal ↦ (let one : k ≡ l = omega arith in (one, (let starts = ap start one in omega arith)))
+      ]
+  ]
+
+  placed_at : (f s k i : ℕ) → IsMemberAt m f s k i → site_at (flat outputs) (start k + i) ≡ site f s
+  placed_at f s k i (k_in, i_in, same) =
+      flat_at outputs k i (output_in k k_in) (let many = many_members k k_in in omega arith) ∙ (stands_in k i k_in i_in).here
+      ∙ ap (λ (p : Member). site p.file p.section) same
+
+  once : (f s k i l j : ℕ) → IsMemberAt m f s k i → IsMemberAt m f s l j → (k ≡ l) × (i ≡ j)
+  once f s k i l j one other =
+      let (k_in, i_in, is_one) = one in
+      let (l_in, j_in, is_other) = other in
+      let same = one_place (start k + i) (start l + j) (stands_in k i k_in i_in).part (stands_in l j l_in j_in).part
+      (placed_at f s k i one ∙ sym (placed_at f s l j other)) in
+      let many = many_members k k_in in
+      let more = many_members l l_in in
+      one_output k i l j k_in (omega arith) l_in (omega arith) same
+
   behind : (k n : ℕ) → k < length m.outputs → last_of k < n → n < length (link_parts fs opt l) → output_end m k ≤ slice_index l.places n
   behind k n lt before within =
       let above = above_earlier (link_parts fs opt l) opt.base l.places (last_of k) n is.least.fits before within in
@@ -233,6 +267,7 @@ module _ (opt : Options) (fs : List ObjectValue) (l : LinkPlan) (m : LinkMapValu
   stand = record {
     members = members_stand;
     holds = holds;
+    once = once;
     within = λ k lt. (let ends = ends_at k lt in let fits = of.fits (last_of k) (last_in k lt) in omega arith);
     apart = λ j k before lt. (
         let some = some_members j (omega arith) in

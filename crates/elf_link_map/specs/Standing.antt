@@ -61,11 +61,12 @@ pub record MembersStand (fs : List ObjectValue) (m : LinkMapValue) (o : OutputVa
 abbrev pub IsMemberAt : LinkMapValue → ℕ → ℕ → ℕ → ℕ → Type 0
 IsMemberAt m f s k i = (k < length m.outputs) × (i < length (output_at m k).members) × (member_at (output_at m k) i ≡ record { file = f; section = s })
 
--- the members of each output stand in it, and each section that has an address is a member of one; each output ends below 2^64, and where
--- each later one and each common begins, or before: so outputs ascend, and no address lies in two of them, or in one and a common
+-- the members of each output stand in it, and each section that has an address is a member of just one, once; each output ends below 2^64,
+-- and where each later one and each common begins, or before: so outputs ascend, and no address lies in two of them, or in one and a common
 pub record OutputsStand (fs : List ObjectValue) (m : LinkMapValue) : Type 0 where
   pub members : (k : ℕ) → k < length m.outputs → MembersStand fs m (output_at m k)
   pub holds : (f s a : ℕ) → BeginsAt m f s a → (k i : ℕ) × IsMemberAt m f s k i
+  pub once : (f s k i l j : ℕ) → IsMemberAt m f s k i → IsMemberAt m f s l j → (k ≡ l) × (i ≡ j)
   pub within : (k : ℕ) → k < length m.outputs → output_end m k < 2 ^ 64
   pub apart : (j k : ℕ) → j < k → k < length m.outputs → output_end m j ≤ (output_at m k).address
   pub commons_behind : (j k : ℕ) → j < length m.outputs → k < length m.commons → output_end m j ≤ (common_at m.commons k).address

@@ -56,6 +56,15 @@ fn read<R: Read, W: Write>(alloc: Global, reader: &mut R, out: &mut W) -> Result
         say(out, "read_to_end", of_fault(fault));
         return Err(fault);
     }
-    say(out, "read_to_end", Said::Done(bytes.len() as u64));
+    say(out, "read_to_end", Said::Done(sum_of(&bytes)));
     Ok(bytes)
+}
+
+/// A number that tells these bytes from others that a reading might give in their place.
+fn sum_of(bytes: &[u8]) -> u64 {
+    let mut sum = bytes.len() as u64;
+    for byte in bytes {
+        sum = sum.wrapping_mul(257).wrapping_add(*byte as u64);
+    }
+    sum
 }
