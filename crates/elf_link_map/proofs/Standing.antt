@@ -230,16 +230,16 @@ module _ (opt : Options) (fs : List ObjectValue) (l : LinkPlan) (m : LinkMapValu
       let apart = placed_once fs ps outputs openers mem in
       elim (cases_lt n p) [
         | inl below ↦ absurd (apart n p below p_in same)
-        | inr above ↦ elim (cases_lt p n) [ | inl below ↦ absurd (apart p n below n_in (sym same)) | inr equal ↦ omega arith ]
+        | inr above ↦ elim (cases_lt p n) [ inl below ↦ absurd (apart p n below n_in (sym same)) | inr equal ↦ omega arith ]
       ]
 
   one_output : (k i l j : ℕ) → k < length m.outputs → i < count k → l < length m.outputs → j < count l → start k + i ≡ start l + j → (k ≡ l) × (i ≡ j)
   one_output k i l j k_in i_in l_in j_in same = elim (cases_lt k l) [
     | inl below ↦ (let ascend = starts_ascend outputs k l below (output_in l l_in) in absurd (omega arith))
     | inr above ↦ elim (cases_lt l k) [
-        | inl below ↦ (let ascend = starts_ascend outputs l k below (output_in k k_in) in absurd (omega arith))
-        | inr equal ↦ (let one : k ≡ l = omega arith in (one, (let starts = ap start one in omega arith)))
-      ]
+      | inl below ↦ (let ascend = starts_ascend outputs l k below (output_in k k_in) in absurd (omega arith))
+      | inr equal ↦ (let one : k ≡ l = omega arith in (one, (let starts = ap start one in omega arith)))
+    ]
   ]
 
   placed_at : (f s k i : ℕ) → IsMemberAt m f s k i → site_at (flat outputs) (start k + i) ≡ site f s

@@ -27,7 +27,9 @@ mod target;
 pub use bindings::Binding;
 pub use elf_link_files::{Broken, LinkFault, Options, Site, files, rules};
 pub use elf_link_outputs::{Common, Member, Output, memory_size};
-pub use laws::{are_paged, one_link_fault, one_link_map, outputs_stand, parts_apart, prove_objects};
+pub use laws::{
+    are_paged, one_link_fault, one_link_map, outputs_stand, parts_apart, prove_objects,
+};
 pub use link::{map, map_numbered};
 pub use link_map::LinkMap;
 pub use names::Named;

@@ -30,11 +30,13 @@ module _ (o : ObjectValue) (object : IsObject o) (widths : ObjectFits o) where
         image = some_image b (written_is_bytes o b written) (written_accepted o b written);
         kept = written_keeps_object_rules o b written;
         denotes = λ v stands p. (
-            (λ other. one_object (sections_of v) p o other (denotes v stands)),
-            (λ same. subst (Denotes (sections_of v)) (sym same) (denotes v stands)));
+          (λ other. one_object (sections_of v) p o other (denotes v stands)),
+          (λ same. subst (Denotes (sections_of v)) (sym same) (denotes v stands)),
+        );
         one = λ p c p_object p_widths p_laid. (
-            (λ same. one_written p o b (record { object = p_object; widths = p_widths; laid = subst (Laid p) same p_laid; short = short }) written),
-            (λ same. one_layout o c b (subst (λ (q : ObjectValue). Laid q c) same p_laid) laid));
+          (λ same. one_written p o b (record { object = p_object; widths = p_widths; laid = subst (Laid p) same p_laid; short = short }) written),
+          (λ same. one_layout o c b (subst (λ (q : ObjectValue). Laid q c) same p_laid) laid),
+        );
       }
 
   pub file_written : {T : Type 0} (before after : Option (List ℕ)) (result : Result T ObjectWriteFault) → IsLayoutWritten o before after result →

@@ -37,10 +37,11 @@ module _ (o : ObjectValue) (object : IsObject o) where
   before_names =
       all_append (λ s. IsZeroFree s.name) (map (own_section o) o.sections) _
       (all_of_map (λ s. IsZeroFree s.name) (own_section o) o.sections no_section (own_section o no_section)
-      (λ p lt. zero_free (section_at o p).name (no_zero_in_section_name o object p lt)))
-      (zero_free (codes ".symtab") (search arith),
-      all_append (λ s. IsZeroFree s.name) (if has_index_table o then index_table_section o ∷ [] else []) _ (behind (has_index_table o))
-      (zero_free (codes ".strtab") (search arith), tt))
+      (λ p lt. zero_free (section_at o p).name (no_zero_in_section_name o object p lt))) (
+        zero_free (codes ".symtab") (search arith),
+        all_append (λ s. IsZeroFree s.name) (if has_index_table o then index_table_section o ∷ [] else []) _ (behind (has_index_table o))
+            (zero_free (codes ".strtab") (search arith), tt),
+      )
 
   section_names_free : AreZeroFree (section_names o)
   unfolding section_names

@@ -3,6 +3,11 @@
 use Rattle.std.specs.Prelude.{◌≡◌, ℕ, ◌<◌, ◌⊎◌, Bool, true, false, List, ◌∷◌, ◌++◌, get_or, length}
 use Rattle.elf_table_hash.specs.Chains.{IsChain, IsPath}
 
+-- the words of a hash table, and for each symbol the length of its chain, 0 where that isn't known
+pub record ChainsValue : Type 0 where
+  pub words : List ℕ
+  pub depth : List ℕ
+
 -- the length of the chain from s on is known: 0 is its end
 abbrev pub IsDepthKnown : List ℕ → ℕ → Type 0
 IsDepthKnown depth s = (s ≡ 0) ⊎ (0 < get_or depth s 0)

@@ -3,6 +3,7 @@ pub mod ElfHash
 pub mod Chains
 pub mod HashTable
 pub mod ChainDepths
+pub mod KnownChains
 pub mod WordLists
 pub mod HashParts
 pub mod HashRules

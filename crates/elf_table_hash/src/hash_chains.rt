@@ -3,190 +3,267 @@
 //! Chains may share their tails, so that walking each of them to its end could take the number of buckets times the number of
 //! symbols. The walks here stop where the chain's length is known, and go back over the symbols that are new: each
 //! symbol is met once. Whether a symbol is on a chain is asked by jumps down it, of which a few lead to any place.
-ghost use Rattle.std.specs.Prelude.{◌≡◌, ◌≢◌, ◌↔◌, ◌<◌, ◌≤◌, ◌+◌, ◌*◌, ℕ, [], None, IfOk, IfNone, IfSome, IsSome, IsTrue, length, get_or};
+ghost use Rattle.std.specs.Prelude.{◌≡◌, ◌≢◌, ◌↔◌, ◌<◌, ◌≤◌, ◌+◌, ◌*◌, ℕ, [], None, IfOk, IfNone, IfSome, IsSome, IsTrue, length, get_or, slice_set};
 ghost use Rattle.elf_extent.specs.Least.{IsLowest};
 ghost use Rattle.elf_image_rules.specs.HeaderRules.{MAX_LEN};
 ghost use Rattle.elf_table_symbols.specs.Below.{Below};
-ghost use Rattle.elf_table_hash.specs.ChainDepths.{AreDepths, AreJumps, AreSeen, AreStarts, IsDepthKnown, IsAmongSymbols, Leads};
+ghost use Rattle.elf_table_hash.specs.ChainDepths.{AreDepths, AreSeen, IsDepthKnown, IsAmongSymbols, Leads};
 ghost use Rattle.elf_table_hash.specs.Chains.{Ends, IsOn, IsPath};
-ghost use Rattle.elf_table_hash.specs.HashTable.{bucket, chain, nbucket, nchain};
+ghost use Rattle.elf_table_hash.specs.HashTable.{AreHashWords, bucket, chain, nbucket, nchain};
 
-use crate::chain_words::HashChains;
-use std::alloc::AllocError;
+use crate::hash_words::HashWords;
+use std::alloc::{AllocError, Global};
+use std::marker::Model;
 
-/// The first bucket whose chain does not end. Where there is none, the lengths of all chains, and the jumps on them.
-pub(crate) fn lowest_endless_chain(
-    chains: HashChains<'_, '_>,
-    depth: &mut [u32],
-    jump: &mut [u32],
-    starts: &mut [u32],
-    seen: &mut [bool],
-    stack: &mut Vec<u32>,
-) -> Result<Option<u32>, AllocError>
-    requires depths { AreDepths (chain chains.words.now) (nchain chains.words.now) depth.old }
-    requires jumps { AreJumps (chain chains.words.now) (nchain chains.words.now) jump.old }
-    requires starts { AreStarts (chain chains.words.now) (nchain chains.words.now) depth.old starts.old }
-    requires seen { AreSeen (nchain chains.words.now) depth.old [] seen.old }
-    requires empty { stack.old.items ≡ [] }
-    ensures lowest { IfOk result (IsLowest (Below (nbucket chains.entry.words.now) (λ b. ¬ Ends (chain chains.entry.words.now) (bucket chains.entry.words.now b)))) }
-    ensures depths { IfOk result (λ found. IfNone found (AreDepths (chain chains.entry.words.now) (nchain chains.entry.words.now) depth.new)) }
-    ensures jumps { IfOk result (λ found. IfNone found (AreJumps (chain chains.entry.words.now) (nchain chains.entry.words.now) jump.new)) }
-    ensures starts { IfOk result (λ found. IfNone found (AreStarts (chain chains.entry.words.now) (nchain chains.entry.words.now) depth.new starts.new)) }
-    ensures known { IfOk result (λ found. IfNone found ((b : ℕ) → b < nbucket chains.entry.words.now → IsDepthKnown depth.new (bucket chains.entry.words.now b))) }
-{
-    for b in 0..chains.nbucket() {
-        let start = chains.bucket(b);
-        match climb(chains, start, depth, seen, stack)? {
-            Some(top) => settle(chains, depth, jump, starts, stack, start, top),
-            None => return Ok(Some(b)),
+// What is known of a symbol's chain.
+#[derive(Clone, Copy)]
+struct Known {
+    // Its chain word.
+    next: u32,
+    // The length of the chain, 0 where it isn't known.
+    depth: u32,
+    // A symbol further down, or itself.
+    jump: u32,
+    // The word that it was first met from.
+    start: u32,
+}
+
+/// The chains of a hash table whose words are those of symbols, as far as they are known.
+#[derive(Drop)]
+pub(crate) struct KnownChains<'w, 'a> {
+    words: &'w HashWords<'a>,
+    // For each symbol the length of its chain, 0 where that isn't known.
+    depth: Vec<u32>,
+    // A symbol that its chain leads to, or itself.
+    jump: Vec<u32>,
+    // The word that it was first met from.
+    starts: Vec<u32>,
+}
+
+impl<'w, 'a> Model for KnownChains<'w, 'a> {
+    ghost use Rattle.elf_table_hash.specs.ChainDepths.{ChainsValue};
+
+    ghost Value = { ChainsValue };
+
+    ghost use Rattle.elf_table_hash.specs.KnownChains.{AreKnownChains, chains_value};
+
+    ghost view = { chains_value };
+
+    ghost invariant = { AreKnownChains };
+}
+
+impl<'w, 'a> KnownChains<'w, 'a> {
+    /// Those of these words: none is known.
+    pub(crate) fn new(
+        alloc: Global,
+        words: &'w HashWords<'a>,
+    ) -> Result<KnownChains<'w, 'a>, AllocError>
+        requires { AreHashWords words.now }
+        ensures { IfOk result (λ chains. chains.words ≡ words.entry.now) }
+    {
+        let symbols = words.nchain();
+        let mut depth = Vec::new(alloc);
+        depth.resize(symbols as usize, 0)?;
+        let jump = numbers(alloc, symbols)?;
+        let mut starts = Vec::new(alloc);
+        starts.resize(symbols as usize, 0)?;
+        Ok(KnownChains {
+            words,
+            depth,
+            jump,
+            starts,
+        })
+    }
+
+    /// The first bucket whose chain does not end. Where there is none, all chains are known.
+    pub(crate) fn lowest_endless(
+        &mut self,
+        seen: &mut [bool],
+        stack: &mut Vec<u32>,
+    ) -> Result<Option<u32>, AllocError>
+        requires seen { AreSeen (nchain self.old.words) self.old.depth [] seen.old }
+        requires empty { stack.old.items ≡ [] }
+        ensures words { IfOk result (λ _. self.new.words ≡ self.old.words) }
+        ensures lowest { let words = self.old.words in
+            IfOk result (IsLowest (Below (nbucket words) (λ b. ¬ Ends (chain words) (bucket words b)))) }
+        ensures known { let words = self.old.words in
+            IfOk result (λ found. IfNone found ((b : ℕ) → b < nbucket words → IsDepthKnown self.new.depth (bucket words b))) }
+    {
+        let words = self.words;
+        for b in 0..words.nbucket() {
+            self.prove_known();
+            let start = words.bucket(b);
+            match self.climb(start, seen, stack)? {
+                Some(top) => self.settle(stack, start, top),
+                None => return Ok(Some(b)),
+            }
+        }
+        self.prove_known();
+        Ok(None)
+    }
+
+    // Down the chain of `start` to the first symbol whose chain is known, or to its end; the symbols before it are put on the
+    // stack. None where the chain comes back to one of them.
+    fn climb(
+        &self,
+        start: u32,
+        seen: &mut [bool],
+        stack: &mut Vec<u32>,
+    ) -> Result<Option<u32>, AllocError>
+        requires start { start < nchain self.now.words }
+        requires seen { AreSeen (nchain self.now.words) self.now.depth [] seen.old }
+        requires empty { stack.old.items ≡ [] }
+        ensures seen { IfOk result (λ found. IsSome found → AreSeen (nchain self.now.words) self.now.depth stack.new.items seen.new) }
+        ensures path { IfOk result (λ found. IfSome found (λ top. IsPath (chain self.now.words) start stack.new.items top)) }
+        ensures known { IfOk result (λ found. IfSome found (λ top. IsDepthKnown self.now.depth top)) }
+        ensures inside { IfOk result (λ found. IfSome found (λ top. top < nchain self.now.words)) }
+        ensures endless { IfOk result (λ found. IfNone found (¬ Ends (chain self.now.words) start)) }
+    {
+        let mut s = start;
+        'steps: while s != 0 && self.at(s).depth == 0 {
+            if seen[s as usize] {
+                return Ok(None);
+            }
+            seen[s as usize] = true;
+            stack.push(s)?;
+            s = self.at(s).next;
+        }
+        Ok(Some(s))
+    }
+
+    // Notes the chains of the symbols on the stack, which lead from `start` to `top`, whose chain is known.
+    fn settle(&mut self, stack: &mut Vec<u32>, start: u32, top: u32)
+        requires start { start < nchain self.old.words }
+        requires path { IsPath (chain self.old.words) start stack.old.items top }
+        requires known { IsDepthKnown self.old.depth top }
+        ensures words { self.new.words ≡ self.old.words }
+        ensures kept { (s : ℕ) → 0 < get_or self.old.depth s 0 → 0 < get_or self.new.depth s 0 }
+        ensures settled { (s : ℕ) → IsAmongSymbols stack.old.items s → 0 < get_or self.new.depth s 0 }
+        ensures start { IsDepthKnown self.new.depth start }
+        ensures empty { stack.new.items ≡ [] }
+    {
+        let mut s = top;
+        'steps: while let Some(above) = stack.pop() {
+            self.note(above, s, start);
+            s = above;
         }
     }
-    Ok(None)
-}
 
-// Down the chain of `start` to the first symbol whose chain is known, or to its end; the symbols before it are put on the
-// stack. None where the chain comes back to one of them.
-fn climb(
-    chains: HashChains<'_, '_>,
-    start: u32,
-    depth: &[u32],
-    seen: &mut [bool],
-    stack: &mut Vec<u32>,
-) -> Result<Option<u32>, AllocError>
-    requires start { start < nchain chains.words.now }
-    requires long { length depth.now ≡ nchain chains.words.now }
-    requires seen { AreSeen (nchain chains.words.now) depth.now [] seen.old }
-    requires empty { stack.old.items ≡ [] }
-    ensures seen { IfOk result (λ found. IsSome found → AreSeen (nchain chains.entry.words.now) depth.now stack.new.items seen.new) }
-    ensures path { IfOk result (λ found. IfSome found (λ top. IsPath (chain chains.entry.words.now) start stack.new.items top)) }
-    ensures known { IfOk result (λ found. IfSome found (λ top. IsDepthKnown depth.now top)) }
-    ensures inside { IfOk result (λ found. IfSome found (λ top. top < nchain chains.entry.words.now)) }
-    ensures endless { IfOk result (λ found. IfNone found (¬ Ends (chain chains.entry.words.now) start)) }
-{
-    let mut s = start;
-    'steps: while s != 0 && depth[s as usize] == 0 {
-        if seen[s as usize] {
-            return Ok(None);
+    // Notes the chain of symbol `above`, which was met from `start`, and whose chain word is `s`, whose chain is known.
+    fn note(&mut self, above: u32, s: u32, start: u32)
+        requires some { above ≢ 0 }
+        requires start { start < nchain self.old.words }
+        requires next { chain self.old.words above ≡ s }
+        requires known { IsDepthKnown self.old.depth s }
+        requires leads { Leads (chain self.old.words) start above }
+        ensures words { self.new.words ≡ self.old.words }
+        ensures depth { self.new.depth ≡ slice_set self.old.depth above (get_or self.old.depth s 0 + 1) }
+        ensures inside { above < length self.old.depth }
+    {
+        let far = self.far_of(s);
+        // A chain has fewer symbols than there are, and their number is one of 32 bits.
+        let _ = self.words.nchain();
+        let depth = self.at(s).depth + 1;
+        self.depth[above as usize] = depth;
+        self.jump[above as usize] = far;
+        self.starts[above as usize] = start;
+    }
+
+    // The jump of a symbol whose chain word is `s`: two jumps of one length from `s` on become one, else it leads to `s` alone.
+    fn far_of(&self, s: u32) -> u32
+        requires { s < nchain self.now.words }
+        ensures leads { Leads (chain self.now.words) s result }
+        ensures inside { result < nchain self.now.words }
+    {
+        let here = self.at(s);
+        let far = self.at(here.jump);
+        let farther = self.at(far.jump);
+        if here.depth as u64 + farther.depth as u64 == 2 * far.depth as u64 {
+            far.jump
+        } else {
+            s
         }
-        seen[s as usize] = true;
-        stack.push(s)?;
-        s = chains.next(s);
     }
-    Ok(Some(s))
+
+    /// Whether symbol `s` is on the chain of `start`, which is known.
+    pub(crate) fn is_on(&self, start: u32, s: u32) -> bool
+        requires start { start < nchain self.now.words }
+        requires known { IsDepthKnown self.now.depth start }
+        requires inside { s < nchain self.now.words }
+        ensures { IsTrue result ↔ IsOn (chain self.now.words) start s }
+    {
+        self.prove_known();
+        let symbol = self.at(s);
+        if symbol.depth == 0 {
+            return false;
+        }
+        // Most symbols were first met from the bucket of their name.
+        if symbol.start == start {
+            return true;
+        }
+        let mut here = start;
+        'steps: while self.at(here).depth > symbol.depth {
+            here = self.leap(here, symbol.depth);
+        }
+        here == s
+    }
+
+    // From `s` down its chain, as far as its jump leads or else to the next symbol, to one whose chain is still this long.
+    fn leap(&self, s: u32, deep: u32) -> u32
+        requires inside { s < nchain self.now.words }
+        requires above { deep < get_or self.now.depth s 0 }
+        ensures leads { Leads (chain self.now.words) s result }
+        ensures nearer { get_or self.now.depth result 0 < get_or self.now.depth s 0 }
+        ensures above { deep ≤ get_or self.now.depth result 0 }
+        ensures inside { result < nchain self.now.words }
+    {
+        self.prove_known();
+        let here = self.at(s);
+        let there = self.at(here.jump).depth;
+        if deep <= there && there < here.depth {
+            return here.jump;
+        }
+        here.next
+    }
+
+    // What is known of the chain of symbol `s`. It is inlined, so that no more of it is read than the caller uses.
+    #[inline(always)]
+    fn at(&self, s: u32) -> Known
+        requires { s < nchain self.now.words }
+        ensures next { result.next ≡ chain self.now.words s }
+        ensures inside { result.next < nchain self.now.words }
+        ensures depth { result.depth ≡ get_or self.now.depth s 0 }
+        ensures short { IsDepthKnown self.now.depth s → result.depth < nchain self.now.words }
+        ensures jump { Leads (chain self.now.words) s result.jump }
+        ensures there { result.jump < nchain self.now.words }
+        ensures start { 0 < result.depth → Leads (chain self.now.words) result.start s }
+    {
+        let at = s as usize;
+        Known {
+            next: self.words.chain(s),
+            depth: self.depth[at],
+            jump: self.jump[at],
+            start: self.starts[at],
+        }
+    }
+
+    // Shows what the words and the depths are. It does nothing.
+    fn prove_known(&self)
+        ensures linked { AreHashWords self.now.words }
+        ensures depths { AreDepths (chain self.now.words) (nchain self.now.words) self.now.depth }
+    {
+        let _ = &self.depth;
+    }
 }
 
-// Notes the lengths of the chains of the symbols on the stack, which lead from `start` to `top`, whose chain is known.
-fn settle(
-    chains: HashChains<'_, '_>,
-    depth: &mut [u32],
-    jump: &mut [u32],
-    starts: &mut [u32],
-    stack: &mut Vec<u32>,
-    start: u32,
-    top: u32,
-)
-    requires start { start < nchain chains.words.now }
-    requires depths { AreDepths (chain chains.words.now) (nchain chains.words.now) depth.old }
-    requires jumps { AreJumps (chain chains.words.now) (nchain chains.words.now) jump.old }
-    requires starts { AreStarts (chain chains.words.now) (nchain chains.words.now) depth.old starts.old }
-    requires path { IsPath (chain chains.words.now) start stack.old.items top }
-    requires known { IsDepthKnown depth.old top }
-    requires inside { top < nchain chains.words.now }
-    ensures depths { AreDepths (chain chains.entry.words.now) (nchain chains.entry.words.now) depth.new }
-    ensures jumps { AreJumps (chain chains.entry.words.now) (nchain chains.entry.words.now) jump.new }
-    ensures starts { AreStarts (chain chains.entry.words.now) (nchain chains.entry.words.now) depth.new starts.new }
-    ensures kept { (s : ℕ) → 0 < get_or depth.old s 0 → 0 < get_or depth.new s 0 }
-    ensures settled { (s : ℕ) → IsAmongSymbols stack.old.items s → 0 < get_or depth.new s 0 }
-    ensures start { IsDepthKnown depth.new start }
-    ensures empty { stack.new.items ≡ [] }
+// The numbers below `n`: a jump of each symbol to itself.
+fn numbers(alloc: Global, n: u32) -> Result<Vec<u32>, AllocError>
+    ensures long { IfOk result (λ all. length all.items ≡ n) }
+    ensures each { IfOk result (λ all. (k : ℕ) → k < n → get_or all.items k 0 ≡ k) }
 {
-    let mut s = top;
-    'steps: while let Some(above) = stack.pop() {
-        let far = far_of(chains, depth, jump, s);
-        depth[above as usize] = one_more(chains, depth, s);
-        jump[above as usize] = far;
-        starts[above as usize] = start;
-        s = above;
+    let mut all = Vec::new(alloc);
+    for k in 0..n {
+        all.push(k)?;
     }
-}
-
-// The length of the chain of a symbol whose chain word is `s`.
-fn one_more(chains: HashChains<'_, '_>, depth: &[u32], s: u32) -> u32
-    requires depths { AreDepths (chain chains.words.now) (nchain chains.words.now) depth.now }
-    requires known { IsDepthKnown depth.now s }
-    requires inside { s < nchain chains.words.now }
-    ensures { result ≡ get_or depth.now s 0 + 1 }
-{
-    // A chain has fewer symbols than there are, and their number is one of 32 bits.
-    let _ = chains.nchain();
-    depth[s as usize] + 1
-}
-
-// The jump of a symbol whose chain word is `s`: two jumps of one length from `s` on become one, else it leads to `s` alone.
-fn far_of(chains: HashChains<'_, '_>, depth: &[u32], jump: &[u32], s: u32) -> u32
-    requires long { length depth.now ≡ nchain chains.words.now }
-    requires jumps { AreJumps (chain chains.words.now) (nchain chains.words.now) jump.now }
-    requires inside { s < nchain chains.words.now }
-    ensures leads { Leads (chain chains.entry.words.now) s result }
-    ensures inside { result < nchain chains.entry.words.now }
-{
-    let _ = chains;
-    let far = jump[s as usize];
-    let farther = jump[far as usize];
-    if depth[s as usize] as u64 + depth[farther as usize] as u64 == 2 * depth[far as usize] as u64 {
-        farther
-    } else {
-        s
-    }
-}
-
-/// Whether symbol `s` is on the chain of `start`, whose length is known.
-pub(crate) fn is_on(
-    chains: HashChains<'_, '_>,
-    depth: &[u32],
-    jump: &[u32],
-    starts: &[u32],
-    start: u32,
-    s: u32,
-) -> bool
-    requires depths { AreDepths (chain chains.words.now) (nchain chains.words.now) depth.now }
-    requires jumps { AreJumps (chain chains.words.now) (nchain chains.words.now) jump.now }
-    requires starts { AreStarts (chain chains.words.now) (nchain chains.words.now) depth.now starts.now }
-    requires start { start < nchain chains.words.now }
-    requires known { IsDepthKnown depth.now start }
-    requires inside { s < nchain chains.words.now }
-    ensures { IsTrue result ↔ IsOn (chain chains.entry.words.now) start s }
-{
-    let deep = depth[s as usize];
-    if deep == 0 {
-        return false;
-    }
-    // Most symbols were first met from the bucket of their name.
-    if starts[s as usize] == start {
-        return true;
-    }
-    let mut here = start;
-    'steps: while depth[here as usize] > deep {
-        here = leap(chains, depth, jump, here, deep);
-    }
-    here == s
-}
-
-// From `s` down its chain, as far as its jump leads or else to the next symbol, to one whose chain is still this long.
-fn leap(chains: HashChains<'_, '_>, depth: &[u32], jump: &[u32], s: u32, deep: u32) -> u32
-    requires depths { AreDepths (chain chains.words.now) (nchain chains.words.now) depth.now }
-    requires jumps { AreJumps (chain chains.words.now) (nchain chains.words.now) jump.now }
-    requires inside { s < nchain chains.words.now }
-    requires above { deep < get_or depth.now s 0 }
-    ensures leads { Leads (chain chains.entry.words.now) s result }
-    ensures nearer { get_or depth.now result 0 < get_or depth.now s 0 }
-    ensures above { deep ≤ get_or depth.now result 0 }
-    ensures inside { result < nchain chains.entry.words.now }
-{
-    let far = jump[s as usize];
-    let there = depth[far as usize];
-    if deep <= there && there < depth[s as usize] {
-        return far;
-    }
-    chains.next(s)
+    Ok(all)
 }

@@ -8,13 +8,12 @@ ghost use Rattle.elf_table_symbols.specs.LinkedVerdicts.{AreKnown};
 ghost use Rattle.elf_table_base.specs.OwnRules.{own_rules};
 ghost use Rattle.elf_table_base.specs.Sections.{section, sections_of};
 ghost use Rattle.elf_table_symbols.specs.SymbolRules.{symbol_table_rules};
-ghost use Rattle.elf_table_hash.specs.ChainDepths.{AreDepths, AreJumps, AreStarts, IsDepthKnown};
+ghost use Rattle.elf_table_hash.specs.ChainDepths.{IsDepthKnown};
 ghost use Rattle.elf_table_hash.specs.HashParts.{hash_parts, parts_value};
 ghost use Rattle.elf_table_hash.specs.HashRules.{chain_rules, hash_rules, hash_table_front, hash_table_rules, symbol_off_chain, word_rules};
-ghost use Rattle.elf_table_hash.specs.HashTable.{AreHashWords, bucket, chain, nbucket, nchain};
+ghost use Rattle.elf_table_hash.specs.HashTable.{AreHashWords, bucket, nbucket, nchain};
 
-use crate::chain_words::HashChains;
-use crate::hash_chains::{is_on, lowest_endless_chain};
+use crate::hash_chains::KnownChains;
 use crate::hash_parts::HashParts;
 use crate::hash_word_rules::judge_words;
 use elf_field::abi::*;
@@ -67,70 +66,35 @@ fn judge_chains(alloc: Global, parts: &HashParts<'_>) -> Result<Result<(), Broke
     requires linked { AreHashWords parts.now.words }
     ensures { IfOk result (λ verdict. FirstIn (chain_rules (parts_value parts.now)) (fault_of verdict)) }
 {
-    let chains = HashChains {
-        words: &parts.words,
-    };
-    let symbols = chains.nchain();
-    let mut depth = Vec::new(alloc);
-    depth.resize(symbols as usize, 0)?;
-    let mut jump = numbers(alloc, symbols)?;
-    let mut starts = Vec::new(alloc);
-    starts.resize(symbols as usize, 0)?;
+    let symbols = parts.words.nchain();
+    let mut chains = KnownChains::new(alloc, &parts.words)?;
     let mut seen = Vec::new(alloc);
     seen.resize(symbols as usize, false)?;
     let mut stack = Vec::new(alloc);
-    if let Some(b) = lowest_endless_chain(
-        chains,
-        &mut depth,
-        &mut jump,
-        &mut starts,
-        &mut seen,
-        &mut stack,
-    )? {
+    if let Some(b) = chains.lowest_endless(&mut seen, &mut stack)? {
         let at = parts.start + WORD_SIZE * (2 + b as u64);
         return Ok(Err(Broken::new(ENDLESS_CHAIN, at)));
     }
-    match lowest_symbol_off_chain(parts, &depth, &jump, &starts) {
+    match lowest_symbol_off_chain(parts, &chains) {
         Some(at) => Ok(Err(Broken::new(SYMBOL_OFF_CHAIN, at))),
         None => Ok(Ok(())),
     }
 }
 
-// The numbers below `n`: a jump of each symbol to itself.
-fn numbers(alloc: Global, n: u32) -> Result<Vec<u32>, AllocError>
-    ensures long { IfOk result (λ all. length all.items ≡ n) }
-    ensures each { IfOk result (λ all. (k : ℕ) → k < n → get_or all.items k 0 ≡ k) }
-{
-    let mut all = Vec::new(alloc);
-    for k in 0..n {
-        all.push(k)?;
-    }
-    Ok(all)
-}
-
 // The lowest offset in the file of the chain word of a symbol from 1 on that is not on the chain of its name's bucket.
-fn lowest_symbol_off_chain(
-    parts: &HashParts<'_>,
-    depth: &[u32],
-    jump: &[u32],
-    starts: &[u32],
-) -> Option<u64>
+fn lowest_symbol_off_chain(parts: &HashParts<'_>, chains: &KnownChains<'_, '_>) -> Option<u64>
     requires some_bucket { nbucket parts.now.words ≢ 0 }
     requires one_each { nchain parts.now.words ≡ length parts.now.names }
     requires linked { AreHashWords parts.now.words }
-    requires depths { AreDepths (chain parts.now.words) (nchain parts.now.words) depth.now }
-    requires jumps { AreJumps (chain parts.now.words) (nchain parts.now.words) jump.now }
-    requires starts { AreStarts (chain parts.now.words) (nchain parts.now.words) depth.now starts.now }
-    requires known { (b : ℕ) → b < nbucket parts.now.words → IsDepthKnown depth.now (bucket parts.now.words b) }
+    requires own { chains.now.words ≡ parts.now.words }
+    requires known { (b : ℕ) → b < nbucket parts.now.words → IsDepthKnown chains.now.depth (bucket parts.now.words b) }
     ensures { IsLowest (symbol_off_chain (parts_value parts.now)) result }
 {
-    let chains = HashChains {
-        words: &parts.words,
-    };
-    for s in 1..chains.nchain() {
-        let start = parts.words.bucket_of(parts.names.get(s));
-        if !is_on(chains, depth, jump, starts, start, s) {
-            let before = 2 + chains.nbucket() as u64 + s as u64;
+    let words = &parts.words;
+    for s in 1..words.nchain() {
+        let start = words.bucket_of(parts.names.get(s));
+        if !chains.is_on(start, s) {
+            let before = 2 + words.nbucket() as u64 + s as u64;
             return Some(parts.start + WORD_SIZE * before);
         }
     }

@@ -8,7 +8,6 @@
 //! ```
 #![tactic(auto)]
 
-mod chain_words;
 mod hash;
 mod hash_building;
 mod hash_chains;

@@ -2,8 +2,8 @@
 use crate::writers::{Counter, Shelf, taking};
 use crate::written::{object, one_section, one_section_file, section};
 use elf_field::Order;
-use elf_object_type::{Body, Object};
 use elf_object_file::write_object;
+use elf_object_type::{Body, Object};
 use elf_object_writer::ObjectWriteFault;
 use std::alloc::Global;
 use std::io::ErrorKind;

@@ -1,8 +1,8 @@
 //! Objects around the first reserved section index, 0xff00, as they are written.
 use crate::written::{function, object, section};
 use elf_field::Order;
-use elf_object_type::{Body, Place, Symbol};
 use elf_object_file::write_object;
+use elf_object_type::{Body, Place, Symbol};
 use std::alloc::Global;
 use std::test::Fail;
 

@@ -1,8 +1,8 @@
 //! An object of a million symbols, each of a name of its own.
 use crate::written::{function, object};
 use elf_field::Order;
-use elf_object_type::{Place, Symbol};
 use elf_object_file::write_object;
+use elf_object_type::{Place, Symbol};
 use std::alloc::{AllocError, Global};
 use std::fmt::Write;
 use std::test::Fail;

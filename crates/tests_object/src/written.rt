@@ -1,8 +1,8 @@
 //! Objects as they are written, byte by byte: what stands in their files is given field by field. An empty object, and one of a group,
 //! stand in `cases/worked.txt`.
 use elf_field::Order;
-use elf_object_type::{Body, Info, Object, ObjectParts, Place, Relocation, Section, Symbol};
 use elf_object_file::write_object;
+use elf_object_type::{Body, Info, Object, ObjectParts, Place, Relocation, Section, Symbol};
 use std::alloc::{AllocError, Global};
 use std::test::Fail;
 use tests_files::{Field, set, set_header};

@@ -22,17 +22,17 @@ no_endless_chain p never x here = never here.0 (here.1, here.2)
 pub returns-in-Some : goal.returns-in-Some
 unfolding chain_rules
 returns-in-Some c =
-    let least = rw c.in-Some.is at c.in_ok-b.ensures.lowest in
-    rw c.new.ensures (inl (refl, endless_at (parts_value c.args.parts.now) c.in-Some.b least))
+    let least = rw (c.in-Some.is, c.in_ok-chains.ensures) at c.in_ok-b.ensures.lowest in
+    rw c.new-in-Some.ensures (inl (refl, endless_at (parts_value c.args.parts.now) c.in-Some.b least))
 
 pub returns-in-Some-lowest_symbol_off_chain : goal.returns-in-Some-lowest_symbol_off_chain
 unfolding chain_rules
 returns-in-Some-lowest_symbol_off_chain c =
-    let never = rw c.in_default.is at c.in_ok-b.ensures.lowest in
+    let never = rw (c.in_default.is, c.in_ok-chains.ensures) at c.in_ok-b.ensures.lowest in
     rw c.new-in-Some-lowest_symbol_off_chain.ensures (inr (no_endless_chain (parts_value c.args.parts.now) never, inl (refl, c.in-Some-lowest_symbol_off_chain.ensures)))
 
 pub returns : goal.returns
 unfolding chain_rules
 returns c =
-    let never = rw c.in_default.is at c.in_ok-b.ensures.lowest in
+    let never = rw (c.in_default.is, c.in_ok-chains.ensures) at c.in_ok-b.ensures.lowest in
     (no_endless_chain (parts_value c.args.parts.now) never, (c.in-None.ensures, tt))

@@ -6,7 +6,7 @@ use Rattle.elf_table_hash.proofs.hash_rules.lowest_symbol_off_chain.Goals as goa
 
 pub loop-s-preserved : goal.loop-s-preserved
 loop-s-preserved c = λ k some lt.
-    (let here = rw (c.bucket_of-start.ensures, c.get.ensures) at (c.is_on.ensures.0 c.if-not-is_on.false) in
+    (let here = rw (c.bucket_of-start.ensures, c.get.ensures, c.requires.own) at (c.is_on.ensures.0 c.if-not-is_on.false) in
     elim (cases_lt k c.loop-s.s) [
       | inl below ↦ c.loop-s.invariant k some below
       | inr above ↦ (

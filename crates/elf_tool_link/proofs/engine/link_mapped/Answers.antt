@@ -18,10 +18,12 @@ returns-in-Ok g c =
     let l = c.in-Ok.linked in
     let mapped = c.args.mapped.now in
     let rules = c.args.rules.now in
-    said_as _ _ _ _ c.link_relocated.result (λ v text says. inl (linked.sound,
-    subst (λ (rs : List RelocRule). ExecSays mapped.objects mapped.map rs v text) linked.same_rules
-    (subst (λ (m : LinkMapValue). ExecSays mapped.objects m l.rules v text) linked.same_map
-    (subst (λ (fs : List ObjectValue). ExecSays fs l.map l.rules v text) linked.same_objects says)))) c.link_relocated.ensures
+    said_as _ _ _ _ c.link_relocated.result (λ v text says. inl (
+      linked.sound,
+      subst (λ (rs : List RelocRule). ExecSays mapped.objects mapped.map rs v text) linked.same_rules
+          (subst (λ (m : LinkMapValue). ExecSays mapped.objects m l.rules v text) linked.same_map
+          (subst (λ (fs : List ObjectValue). ExecSays fs l.map l.rules v text) linked.same_objects says)),
+    )) c.link_relocated.ensures
 
 pub returns-in-Err : goal.returns-in-Err
 returns-in-Err g c =

@@ -1,5 +1,5 @@
 use Rattle.std.proofs.Common.{◌≡◌, ℕ, ◌<◌, get_or, length}
-use Rattle.elf_table_hash.proofs.hash_rules.numbers.Given as goal
+use Rattle.elf_table_hash.proofs.hash_chains.numbers.Given as goal
 
 abbrev pub invariant-loop-k : goal.invariant-loop-k
 invariant-loop-k l = record {

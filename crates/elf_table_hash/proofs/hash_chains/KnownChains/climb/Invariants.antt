@@ -3,13 +3,13 @@ use Rattle.std.specs.List.{sum_by}
 use Rattle.elf_table_hash.specs.ChainDepths.{AreSeen}
 use Rattle.elf_table_hash.specs.Chains.{IsPath}
 use Rattle.elf_table_hash.specs.HashTable.{chain, nchain}
-use Rattle.elf_table_hash.proofs.hash_chains.climb.Given as goal
+use Rattle.elf_table_hash.proofs.hash_chains.KnownChains.climb.Given as goal
 
 abbrev pub invariant-steps : goal.invariant-steps
 invariant-steps l = record {
-  seen : AreSeen (nchain l.chains.words.now) l.depth l.stack.items l.seen;
-  path : IsPath (chain l.chains.words.now) l.start l.stack.items l.s;
-  inside : l.s < nchain l.chains.words.now;
+  seen : AreSeen (nchain l.self.words) l.self.depth l.stack.items l.seen;
+  path : IsPath (chain l.self.words) l.start l.stack.items l.s;
+  inside : l.s < nchain l.self.words;
 }
 
 -- the symbols that were not seen yet
