@@ -21,6 +21,7 @@ pub(crate) struct ObjectFile<'i, 'a> {
     pub(crate) tables: Tables<'i, 'a>,
     ghost own_left: { left ≡ left_out (sections_of image.now) },
     ghost own_tables: { tables.image ≡ image.now },
+    // A broken rule may be shown in more than one way, and a fact of a type in one alone: hence the bars.
     ghost judged: { ∥ AreVerdicts (sections_of image.now) (length image.now.sections) tables.verdicts ∥₁ },
 }
 

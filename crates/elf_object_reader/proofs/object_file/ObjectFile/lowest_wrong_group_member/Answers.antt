@@ -1,3 +1,4 @@
+-- Invariant: the members of the groups so far are marked, and the lowest offset is that of the wrong ones among them.
 use Rattle.std.proofs.Common.{◌≡◌, length, arith}
 use Rattle.elf_object_reader.specs.ObjectFile.{sections_of_file}
 use Rattle.elf_object_reader.proofs.GroupMembers.{marks_passed, wrong_next, wrong_passed}
