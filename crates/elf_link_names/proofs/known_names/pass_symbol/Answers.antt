@@ -1,3 +1,5 @@
+-- A local symbol changes nothing; one whose name has a position changes what is known of that name alone; any other opens one name at
+-- the end, of which nothing was known before.
 use Rattle.std.proofs.Common.{◌≡◌, ℕ, List, true, false, length, refl, rules, sym, ◌∙◌, ap, subst}
 use Rattle.std.specs.Prelude.{cond, None, Some}
 use Rattle.std.specs.Str.{bytes_eq}
