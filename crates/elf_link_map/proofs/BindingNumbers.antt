@@ -1,18 +1,22 @@
 -- The number of each symbol's name, from that among the known names, or by a search.
-use Rattle.std.proofs.Common.{◌≡◌, ◌≢◌, ℕ, ◌<◌, List, [], get_or, length, refl, sym, subst}
+use Rattle.std.proofs.Common.{◌≡◌, ◌≢◌, ℕ, ◌<◌, List, [], get_or, length, refl, sym, ◌∙◌, subst}
 use Rattle.std.specs.Prelude.{None, Option, Some, MatchOption, unwrap_or}
 use Rattle.elf_field.specs.Abi.{STB_LOCAL}
 use Rattle.elf_object_type.specs.Object.{ObjectValue, binding}
 use Rattle.elf_extent.specs.Least.{Never}
+use Rattle.elf_link_files.specs.declared.site.Site.{Site}
 use Rattle.elf_link_files.specs.Files.{object_at, symbol_in}
-use Rattle.elf_link_files.specs.Listing.{site}
+use Rattle.elf_link_files.specs.Listing.{Lists, site}
 use Rattle.elf_link_names.specs.Binds.{entries}
+use Rattle.elf_link_names.specs.Listing.{first_entries}
 use Rattle.elf_link_names.specs.NameNumbers.{AreNameNumbers}
+use Rattle.elf_link_names.specs.Naming.{ArePositionsOf}
+use Rattle.elf_link_outputs.specs.Placed.{CommonValue}
 use Rattle.elf_link_map.specs.declared.bindings.Binding.{Binding}
 use Rattle.elf_link_map.specs.BindingNumbers.{AreBindingNumbers, AreNumbersIn}
 use Rattle.elf_link_map.specs.LinkMap.{IsBinding, IsSomeLinkMap, LinkMapValue, bound_in}
-use Rattle.elf_link_map.specs.Naming.{AreBindingPositions, StandsAt}
-use Rattle.elf_link_map.proofs.Naming.{position_found}
+use Rattle.elf_link_map.specs.Naming.{AreBindingPositions, AreNamedAt, StandsAt}
+use Rattle.elf_link_map.proofs.Naming.{position_found, positions_are}
 
 pub numbers_bound : (fs : List ObjectValue) (m : LinkMapValue) (position : List ℕ → Option ℕ) (rows : List (List ℕ)) → AreNameNumbers fs position rows →
     AreBindingPositions m.bindings position → AreBindingNumbers fs m rows
@@ -25,10 +29,13 @@ numbers_bound fs m position rows are at = record {
   };
 }
 
-pub numbers_in : (fs : List ObjectValue) (bindings : List (List ℕ × Binding)) (position : List ℕ → Option ℕ) (rows : List (List ℕ)) → AreNameNumbers fs position rows →
-    AreBindingPositions bindings position → AreNumbersIn fs bindings rows
-numbers_in fs bindings position rows are at m same =
-    numbers_bound fs m position rows are (subst (λ (bs : List (List ℕ × Binding)). AreBindingPositions bs position) (sym same) at)
+-- the names of a resolution, with what each is bound to, in the order of their first entries
+pub numbers_in : (fs : List ObjectValue) (cs : List CommonValue) (ps : List Site) (bindings names : List (List ℕ × Binding))
+    (position : List ℕ → Option ℕ) (rows : List (List ℕ)) → Lists (first_entries fs) ps → AreNamedAt fs cs ps (length ps) bindings →
+    ArePositionsOf fs ps (length ps) position → AreNameNumbers fs position rows → names ≡ bindings → AreNumbersIn fs names rows
+numbers_in fs cs ps bindings names position rows firsts named positions are is m same =
+    numbers_bound fs m position rows are
+    (subst (λ (bs : List (List ℕ × Binding)). AreBindingPositions bs position) (sym (same ∙ is)) (positions_are fs cs ps bindings position firsts named positions))
 
 -- the name of a symbol that is not local stands in the link map
 entry_bound : (fs : List ObjectValue) (m : LinkMapValue) (f i : ℕ) → IsSomeLinkMap fs m → f < length fs →

@@ -273,15 +273,17 @@ grouped_new fs ps k rank key keys now groups order lt is at inserted past (heads
 ]
 
 -- so a section is passed
-pub grouped_next : (fs : List ObjectValue) (ps : List Site) (k rank : ℕ) (key : OutputKey) (keys now : List OutputKey) (groups after : List (List Site)) →
-    AreInOrder ps → k < length ps → IsKeyOf fs (site_at ps k) key → rank ≡ position_or_len (same_key key) keys →
+pub grouped_next : (fs : List ObjectValue) (ps : List Site) (k rank : ℕ) (key : OutputKey) (keys now : List OutputKey)
+    (groups after : List (List Site)) → AreInOrder ps → k < length ps → IsKeyOf fs (site_at ps k) key → rank ≡ position_or_len (same_key key) keys →
     now ≡ (if list_any (same_key key) keys then keys else keys ++ key ∷ []) → IsMemberAdded groups rank (site_at ps k) after →
     AreGrouped fs ps k keys groups → AreGrouped fs ps (k + 1) now after
 grouped_next fs ps k rank key keys now groups after order lt is at inserted added are = elim (cases_lt rank (length groups)) [
-  | inl within ↦ subst (AreGrouped fs ps (k + 1) now) (sym (added.joined within)) (grouped_again fs ps k rank key keys now groups order lt is at inserted within are)
+  | inl within ↦ subst (AreGrouped fs ps (k + 1) now) (sym (added.joined within))
+      (grouped_again fs ps k rank key keys now groups order lt is at inserted within are)
   | inr past ↦ (
       let never : rank < length groups → ⊥ = λ within. omega arith in
-      subst (AreGrouped fs ps (k + 1) now) (sym (added.opened never)) (grouped_new fs ps k rank key keys now groups order lt is at inserted never are))
+      subst (AreGrouped fs ps (k + 1) now) (sym (added.opened never))
+      (grouped_new fs ps k rank key keys now groups order lt is at inserted never are))
 ]
 
 pub grouped_all : (fs : List ObjectValue) (ps : List Site) (keys : List OutputKey) (groups : List (List Site)) → AreGrouped fs ps (length ps) keys groups →

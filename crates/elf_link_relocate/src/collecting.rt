@@ -3,12 +3,12 @@ ghost use Rattle.std.specs.Prelude.{◌≡◌, ◌+◌, ◌^◌, ◌<◌, IfErr,
 ghost use Rattle.elf_link_relocate.specs.Collecting.{AreFields, entry_site};
 ghost use Rattle.elf_link_relocate.specs.FieldOfView.{IsAppliedEntry};
 ghost use Rattle.elf_link_relocate.specs.FieldTests.{IsRuleFault, NoneUnruled};
-ghost use Rattle.elf_link_relocate.specs.Found.{AreFirsts, AreFoundBefore, IsJudgedField, first_of as first_of_list};
+ghost use Rattle.elf_link_relocate.specs.Found.{AreFirsts, AreFoundBefore, first_of as first_of_list};
 ghost use Rattle.elf_link_relocate.specs.Grid.{IsSectionOf};
 ghost use Rattle.elf_link_relocate.specs.LinkingFacts.{AreFieldsRead};
 
 use crate::entries::are_applied;
-use crate::field::{Entry, Field, Fields, Judged};
+use crate::field::{Entry, Field, Fields};
 use crate::numbers::FieldOf;
 use crate::rules::NO_RULE;
 use crate::values::Values;
@@ -28,25 +28,22 @@ fn first_of(before: Option<usize>, holds: bool, position: usize) -> Option<usize
     }
 }
 
-/// Adds the field of the entry at a site to those before it.
-fn push_field(
-    _values: &Values<'_, '_, '_>,
-    site: Site,
-    judged: Judged,
-    fields: &mut Fields,
-) -> Result<(), LinkFault>
-    requires judged { IsJudgedField _values.now.objects _values.now.map _values.now.rules site judged }
-    requires before { AreFoundBefore _values.now.objects _values.now.map _values.now.rules site fields.old }
-    ensures ok { OnOk result (AreFoundBefore _values.now.objects _values.now.map _values.now.rules (entry_site site.file site.index (site.entry + 1)) fields.new) }
-    ensures err { IfErr result (IsRuleFault _values.now.objects _values.now.rules) }
-{
-    let position = fields.list.len();
-    fields.unplaced = first_of(fields.unplaced, judged.unplaced, position);
-    fields.out_of_range = first_of(fields.out_of_range, judged.out_of_range, position);
-    fields.refused = first_of(fields.refused, judged.refused, position);
-    match fields.list.push(judged.field) {
-        Ok(()) => Ok(()),
-        Err(_) => Err(LinkFault::OutOfMemory),
+impl<'f, 'v, 'l, 'a> FieldOf<'f, 'v, 'l, 'a> {
+    /// Adds it to the fields before it.
+    fn push(&self, fields: &mut Fields) -> Result<(), LinkFault>
+        requires { AreFoundBefore self.now.objects self.now.map self.now.rules self.now.field.site fields.old }
+        ensures ok { OnOk result (AreFoundBefore self.now.objects self.now.map self.now.rules (entry_site self.now.field.site.file self.now.field.site.index (self.now.field.site.entry + 1)) fields.new) }
+        ensures err { IfErr result (IsRuleFault self.now.objects self.now.rules) }
+    {
+        let judged = self.judged();
+        let position = fields.list.len();
+        fields.unplaced = first_of(fields.unplaced, judged.unplaced, position);
+        fields.out_of_range = first_of(fields.out_of_range, judged.out_of_range, position);
+        fields.refused = first_of(fields.refused, judged.refused, position);
+        match fields.list.push(judged.field) {
+            Ok(()) => Ok(()),
+            Err(_) => Err(LinkFault::OutOfMemory),
+        }
     }
 }
 
@@ -81,7 +78,7 @@ fn push_entry(
         entry,
         field,
     };
-    push_field(values, entry.site, field_of.judged(), fields)
+    field_of.push(fields)
 }
 
 /// Adds the fields of a section's entries.

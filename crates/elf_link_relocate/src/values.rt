@@ -12,6 +12,7 @@ ghost use Rattle.elf_link_relocate.specs.ValuesView.{IsFileSymbol};
 
 use crate::linking::Linking;
 use elf_field::abi::*;
+use elf_link_files::SymbolId;
 use elf_link_map::files::symbol_of;
 use elf_link_map::{Binding, LinkMap};
 use elf_object_type::{Object, Place};
@@ -165,7 +166,7 @@ impl<'v, 'l, 'a> Values<'v, 'l, 'a> {
         ensures small { IsSmall result }
     {
         let linking = self.linking();
-        let symbol = symbol_of(linking.objects, file, index);
+        let symbol = symbol_of(linking.objects, SymbolId { file, index });
         if symbol.binding() == STB_LOCAL {
             definition_value(linking.objects, linking.map, file, index)
         } else {

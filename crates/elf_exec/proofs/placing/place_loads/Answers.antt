@@ -1,3 +1,4 @@
+-- The parts and the start that are placed are those of the link's map, so what was answered of the one holds of the other.
 use Rattle.std.proofs.Common.{◌≤◌, ◌∙◌, ℕ, List, length, refl, ap, subst}
 use Rattle.std.specs.Prelude.{IfErr, IfOk}
 use Rattle.elf_extent.specs.Place.{Least}

@@ -1,3 +1,4 @@
+-- The section read is a group, so its members are those that the loop goes over, and each is a position among the object's sections.
 use Rattle.std.proofs.Common.{◌≡◌, ℕ, ◌<◌, List, length, get_or, ap, sym, subst, ◌∙◌, arith, rules, vec_len}
 use Rattle.elf_object_type.specs.Object.{SectionValue, section_at}
 use Rattle.elf_object_type.specs.ObjectView.{body_value}

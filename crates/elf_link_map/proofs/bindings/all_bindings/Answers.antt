@@ -1,9 +1,8 @@
-use Rattle.std.proofs.Common.{ℕ, List, map, sym, subst}
+-- The names stand in the order of their first entries, so the position of each there is where its binding stands, and its number too.
+use Rattle.std.proofs.Common.{map, sym, subst}
 use Rattle.elf_link_positions.specs.Slots.{name_position}
 use Rattle.elf_link_outputs.specs.PlacedView.{common_value}
 use Rattle.elf_link_map.specs.LinkMap.{AreBindings, AreNames}
-use Rattle.elf_link_map.specs.declared.bindings.Binding.{Binding}
-use Rattle.elf_link_map.specs.Naming.{AreBindingPositions}
 use Rattle.elf_link_map.specs.LinkMapView.{named_value}
 use Rattle.elf_link_map.proofs.BindingNumbers.{numbers_in}
 use Rattle.elf_link_map.proofs.Naming.{bindings_are, names_are, positions_are}
@@ -36,7 +35,5 @@ pub returns-clause-numbers : goal.returns-clause-numbers
 returns-clause-numbers c =
     let r = c.args.resolution in
     let parts = c.into_parts-parts in
-    numbers_in r.objects _ (name_position parts.result.positions) _ parts.ensures.numbers
-    (subst (λ (all : List (List ℕ × Binding)). AreBindingPositions all (name_position parts.result.positions)) (sym c.new.ensures)
-    (positions_are r.objects (map common_value c.args.commons.now) r.firsts (map named_value c.in_ok-list.list.items) (name_position parts.result.positions)
-    parts.ensures.firsts c.in_ok-list.ensures parts.ensures.positions))
+    numbers_in r.objects (map common_value c.args.commons.now) r.firsts (map named_value c.in_ok-list.list.items) _ (name_position parts.result.positions) _
+    parts.ensures.firsts c.in_ok-list.ensures parts.ensures.positions parts.ensures.numbers c.new.ensures

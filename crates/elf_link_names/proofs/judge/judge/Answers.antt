@@ -1,3 +1,5 @@
+-- Each judge answers of the files that the inputs and the table have, which are the objects: so the first fault of the parts in their
+-- order is that of the whole list, and where there is none each name is bound.
 use Rattle.std.proofs.Common.{List, Some, inr, rules, subst, ◌∙◌}
 use Rattle.std.proofs.lemmas.Result.{err_from_is_err_and}
 use Rattle.elf_object_type.specs.Object.{ObjectValue}

@@ -1,3 +1,4 @@
+-- File by file: a row of numbers joins those before it, which still hold, since no name loses its position.
 use Rattle.std.proofs.Common.{◌≡◌, ℕ, [], length, map, subst, arith}
 use Rattle.std.proofs.lemmas.List.{map-append}
 use Rattle.elf_link_files.specs.Files.{object_at}

@@ -1,3 +1,4 @@
+-- Symbol by symbol: a number joins the row before it, which still holds, since no name loses its position.
 use Rattle.std.proofs.Common.{◌≡◌, ℕ, length, subst, arith}
 use Rattle.elf_link_files.specs.Files.{object_at}
 use Rattle.elf_link_files.proofs.Public.{each_more}

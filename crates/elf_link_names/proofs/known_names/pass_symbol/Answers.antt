@@ -1,3 +1,5 @@
+-- A local symbol changes nothing; one whose name has a position changes what is known of that name alone; any other opens one name at
+-- the end, of which nothing was known before.
 use Rattle.std.proofs.Common.{◌≡◌, ℕ, List, true, false, length, refl, rules, sym, ◌∙◌, ap, subst}
 use Rattle.std.specs.Prelude.{cond, None, Some}
 use Rattle.std.specs.Str.{bytes_eq}
@@ -13,26 +15,29 @@ use Rattle.elf_link_names.proofs.known_names.pass_symbol.Goals as goal
 
 pub returns-then-is_local-clause-names : goal.returns-then-is_local-clause-names
 returns-then-is_local-clause-names c =
-    names_local c.args.symbol.now.inputs.now c.args.symbol.now.id.file c.args.symbol.now.id.index (name_position c.args.names.now.positions) c.args.names.now.known.items
+    let s = c.args.symbol.now in
+    names_local s.inputs.now s.id.file s.id.index (name_position c.args.names.now.positions) c.args.names.now.known.items
     (subst (λ (s : SymbolValue). binding s ≡ STB_LOCAL) c.symbol-own.ensures (c.if-is_local.ensures.0 refl)) c.requires
 
 pub known_past-requires-in-None : goal.known_past-requires-in-None
 known_past-requires-in-None c =
-    let fs = c.args.symbol.now.inputs.now in
+    let s = c.args.symbol.now in
+    let fs = s.inputs.now in
     let same = ap (λ (s : SymbolValue). s.name) c.symbol-own.ensures in
-    let name = (symbol_in fs c.args.symbol.now.id.file c.args.symbol.now.id.index).name in
+    let name = (symbol_in fs s.id.file s.id.index).name in
     let old = name_position c.args.names.now.positions in
-    subst (IsKnownBefore fs name c.args.symbol.now.id.file c.args.symbol.now.id.index) (sym c.unknown-known.ensures)
-    (known_none fs name c.args.symbol.now.id.file c.args.symbol.now.id.index
-    (none_placed fs c.args.symbol.now.id.file c.args.symbol.now.id.index old c.args.names.now.known.items name
+    subst (IsKnownBefore fs name s.id.file s.id.index) (sym c.unknown-known.ensures)
+    (known_none fs name s.id.file s.id.index
+    (none_placed fs s.id.file s.id.index old c.args.names.now.known.items name
     (subst (λ (n : List ℕ). old n ≡ None) same (sym c.in_ok-place.ensures.old ∙ c.in-None.is)) c.requires))
 
 pub returns-in-Some-clause-names : goal.returns-in-Some-clause-names
 returns-in-Some-clause-names c =
-    let fs = c.args.symbol.now.inputs.now in
+    let s = c.args.symbol.now in
+    let fs = s.inputs.now in
     let same = ap (λ (s : SymbolValue). s.name) c.symbol-own.ensures in
     let old = name_position c.args.names.now.positions in
-    names_again fs c.args.symbol.now.id.file c.args.symbol.now.id.index old (name_position c.place.new.self) c.args.names.now.known.items c.in-Some.k c.known_past.result
+    names_again fs s.id.file s.id.index old (name_position c.place.new.self) c.args.names.now.known.items c.in-Some.k c.known_past.result
     (λ q. rw c.in-Some.is at (c.in_ok-place.ensures.placed q))
     (subst (λ (n : List ℕ). old n ≡ Some c.in-Some.k) same (sym c.in_ok-place.ensures.old ∙ c.in-Some.is))
     (c.known_past.ensures.first ∙ ap (λ (k : Known). k.first) (c.known_item-known.ensures ∙ ap (λ (ks : List Known). known_at ks c.in-Some.k) c.deref.ensures.value))
@@ -40,7 +45,8 @@ returns-in-Some-clause-names c =
 
 pub returns-in_ok-push-in-None-clause-names : goal.returns-in_ok-push-in-None-clause-names
 returns-in_ok-push-in-None-clause-names c =
-    let fs = c.args.symbol.now.inputs.now in
+    let s = c.args.symbol.now in
+    let fs = s.inputs.now in
     let ks = c.args.names.now.known.items in
     let name = c.symbol-own.result.name.now in
     let same = ap (λ (s : SymbolValue). s.name) c.symbol-own.ensures in
@@ -48,7 +54,7 @@ returns-in_ok-push-in-None-clause-names c =
     let now = name_position c.place.new.self in
     let long : c.len-next.result ≡ length ks = search rules in
     rw c.in_ok-push-in-None.ensures.items
-    (names_new fs c.args.symbol.now.id.file c.args.symbol.now.id.index old now ks c.known_past-in-None.result c.args.symbol.now.there.0 c.args.symbol.now.there.1
+    (names_new fs s.id.file s.id.index old now ks c.known_past-in-None.result s.there.0 s.there.1
     (λ local. (let never : false ≡ true = c.if-is_local.ensures.1 (subst (λ (s : SymbolValue). binding s ≡ STB_LOCAL) (sym c.symbol-own.ensures) local) in cc))
     (subst (λ (n : List ℕ). (q : List ℕ) → now q ≡ cond (bytes_eq n q) (Some (length ks)) (old q)) same
     (subst (λ (m : ℕ). (q : List ℕ) → now q ≡ cond (bytes_eq name q) (Some m) (old q)) long (λ q. rw c.in-None.is at (c.in_ok-place.ensures.placed q))))

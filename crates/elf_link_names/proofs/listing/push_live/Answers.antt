@@ -6,13 +6,15 @@ use Rattle.elf_link_names.proofs.listing.push_live.Goals as goal
 
 pub returns-then-not-is_live : goal.returns-then-not-is_live
 returns-then-not-is_live c =
-    let fs = c.args.section.now.inputs.now in
-    listed_past section_count fs (Live fs) c.args.section.now.id.file c.args.section.now.id.index c.args.sites.now.items
+    let s = c.args.section.now in
+    let fs = s.inputs.now in
+    listed_past section_count fs (Live fs) s.id.file s.id.index c.args.sites.now.items
     (λ here. (let never : false ≡ true = c.if-not-is_live.ensures.1 here in absurd (cc))) c.requires
 
 pub returns : goal.returns
 returns c =
-    let fs = c.args.section.now.inputs.now in
+    let s = c.args.section.now in
+    let fs = s.inputs.now in
     rw (c.in_ok-push.ensures.items, c.site_in.ensures)
-    (listed_more section_count fs (Live fs) c.args.section.now.id.file c.args.section.now.id.index c.args.sites.now.items
-    c.args.section.now.there.0 c.args.section.now.there.1 (c.if-not-is_live.ensures.0 refl) c.requires)
+    (listed_more section_count fs (Live fs) s.id.file s.id.index c.args.sites.now.items
+    s.there.0 s.there.1 (c.if-not-is_live.ensures.0 refl) c.requires)

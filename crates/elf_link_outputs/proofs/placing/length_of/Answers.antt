@@ -1,3 +1,4 @@
+-- There is a place for each part, places ascend, and each part ends below 2^64: so both are there, and neither difference nor sum wraps.
 use Rattle.std.proofs.Common.{arith}
 use Rattle.elf_link_outputs.proofs.Placings.{end_fits, place_order, places_long, size_is}
 use Rattle.elf_link_outputs.proofs.placing.length_of.Goals as goal

@@ -1,3 +1,4 @@
+-- Output by output: `start` is the count of all members of the outputs before this one, so its parts lie among those of all outputs.
 use Rattle.std.proofs.Common.{◌≡◌, ℕ, ◌+◌, ◌^◌, ◌<◌, ◌≤◌, List, length, map, sym, ◌∙◌, subst, arith, rules}
 use Rattle.std.proofs.lemmas.List.{length-map, map-append}
 use Rattle.elf_link_files.specs.declared.site.Site.{Site}

@@ -1,8 +1,10 @@
-use Rattle.std.proofs.Common.{◌≡◌, ◌<◌, ap, false, get_or, length, sym, true, ◌∙◌, arith, rules}
+-- A section whose body is no relocations, or is not applied, has no fields; else they are those of its entries, one after the other.
+use Rattle.std.proofs.Common.{◌≡◌, ◌<◌, ℕ, ap, false, get_or, length, refl, subst, sym, true, ◌∙◌, arith, rules}
 use Rattle.std.proofs.lemmas.List.{get_or_default}
 use Rattle.elf_object_type.specs.declared.section.Body.{Body}
-use Rattle.elf_object_type.specs.Object.{BodyValue, SectionValue, no_relocation, relocs}
-use Rattle.elf_object_type.specs.ObjectView.{body_value}
+use Rattle.elf_object_type.specs.declared.section.Section.{Section}
+use Rattle.elf_object_type.specs.Object.{BodyValue, SectionValue, no_relocation}
+use Rattle.elf_object_type.specs.ObjectView.{body_value, section_value}
 use Rattle.elf_link_files.specs.Files.{object_at, section_in}
 use Rattle.elf_link_relocate.specs.Linking.{LinkingValue}
 use Rattle.elf_link_relocate.specs.Entries.{entries_of, is_rela, target_of}
@@ -11,36 +13,39 @@ use Rattle.elf_link_relocate.proofs.Found.{found_on}
 use Rattle.elf_link_relocate.proofs.ObjectFacts.{target_there}
 use Rattle.elf_link_relocate.proofs.collecting.push_section.Goals as goal
 
+-- the body of a section, as read by the link that the values have
+body_read : (l m : LinkingValue) (f s : ℕ) (read : Section) (b : Body) → l ≡ m → section_value read ≡ section_in l.objects f s → read.body ≡ b →
+    (section_in m.objects f s).body ≡ body_value b
+body_read l m f s read b same is has =
+    sym (ap (λ (t : SectionValue). t.body) (subst (λ (k : LinkingValue). section_value read ≡ section_in k.objects f s) same is)) ∙ ap (λ (c : Body). body_value c) has
+
 pub returns-in_default : goal.returns-in_default
 returns-in_default c =
-    let objects : c.linking.inside.objects.now ≡ c.args.values.now.objects = ap (λ (l : LinkingValue). l.objects) (c.linking.view_is ∙ c.linking-linking.ensures) in
+    let linking = c.linking.view_is ∙ c.linking-linking.ensures in
     let fs = c.args.values.now.objects in
     let m = c.args.values.now.map in
     let rules = c.args.values.now.rules in
-    let body = ap (λ (s : SectionValue). s.body) (rw objects at c.section_of.ensures) in
+    let body = body_read _ _ c.args.file c.args.index c.section_of.result.now _ linking c.section_of.ensures refl in
     record {
       ok = found_on fs m rules _ _ c.args.fields.now
-          (no_relocations fs rules c.args.file c.args.index c.args.fields.now.list.items c.section_of.result.now.body body c.in_default.not-Relocs)
+          (no_relocations fs rules c.args.file c.args.index c.args.fields.now.list.items c.section_of.result.now.body (sym body) c.in_default.not-Relocs)
           c.requires.before;
       err = tt;
     }
 
 pub are_applied-requires-clause-target : goal.are_applied-requires-clause-target
 are_applied-requires-clause-target c =
-    let objects : c.linking.inside.objects.now ≡ c.args.values.now.objects = ap (λ (l : LinkingValue). l.objects) (c.linking.view_is ∙ c.linking-linking.ensures) in
     let fs = c.args.values.now.objects in
-    let body = ap (λ (s : SectionValue). s.body) (rw objects at c.section_of.ensures) in
-    let same : (section_in fs c.args.file c.args.index).body ≡ relocs c.in-Relocs.rela c.in-Relocs.target c.in-Relocs.entries.items =
-    sym body ∙ ap (λ (b : Body). body_value b) c.in-Relocs.is in
+    let linking = c.linking.view_is ∙ c.linking-linking.ensures in
+    let objects = ap (λ (l : LinkingValue). l.objects) linking in
+    let same = body_read _ _ c.args.file c.args.index c.section_of.result.now _ linking c.section_of.ensures c.in-Relocs.is in
     rw c.linking-linking.ensures (c.requires.section.0, target_there (object_at fs c.args.file) c.args.index _ _ _ (rw objects at c.prove_rules.ensures) c.requires.section.1 same)
 
 pub returns-then-not-are_applied-clause-ok : goal.returns-then-not-are_applied-clause-ok
 returns-then-not-are_applied-clause-ok c =
-    let objects : c.linking.inside.objects.now ≡ c.args.values.now.objects = ap (λ (l : LinkingValue). l.objects) (c.linking.view_is ∙ c.linking-linking.ensures) in
     let fs = c.args.values.now.objects in
-    let body = ap (λ (s : SectionValue). s.body) (rw objects at c.section_of.ensures) in
-    let same : (section_in fs c.args.file c.args.index).body ≡ relocs c.in-Relocs.rela c.in-Relocs.target c.in-Relocs.entries.items =
-    sym body ∙ ap (λ (b : Body). body_value b) c.in-Relocs.is in
+    let linking = c.linking.view_is ∙ c.linking-linking.ensures in
+    let same = body_read _ _ c.args.file c.args.index c.section_of.result.now _ linking c.section_of.ensures c.in-Relocs.is in
     let rules = c.args.values.now.rules in
     found_on fs c.args.values.now.map rules _ _ c.args.fields.now
     (not_applied fs rules c.args.file c.args.index c.args.fields.now.list.items
@@ -52,11 +57,9 @@ returns-then-not-are_applied-clause-ok c =
 
 pub returns-clause-ok : goal.returns-clause-ok
 returns-clause-ok c =
-    let objects : c.linking.inside.objects.now ≡ c.args.values.now.objects = ap (λ (l : LinkingValue). l.objects) (c.linking.view_is ∙ c.linking-linking.ensures) in
     let fs = c.args.values.now.objects in
-    let body = ap (λ (s : SectionValue). s.body) (rw objects at c.section_of.ensures) in
-    let same : (section_in fs c.args.file c.args.index).body ≡ relocs c.in-Relocs.rela c.in-Relocs.target c.in-Relocs.entries.items =
-    sym body ∙ ap (λ (b : Body). body_value b) c.in-Relocs.is in
+    let linking = c.linking.view_is ∙ c.linking-linking.ensures in
+    let same = body_read _ _ c.args.file c.args.index c.section_of.result.now _ linking c.section_of.ensures c.in-Relocs.is in
     let items = ap (λ (b : BodyValue). length (entries_of b)) same in
     let count = c.len-entry-end.ensures in
     let long = c.in-Relocs.entries.ok.0 in
@@ -68,11 +71,9 @@ returns-clause-ok c =
 
 pub push_entry-requires-clause-entry : goal.push_entry-requires-clause-entry
 push_entry-requires-clause-entry c =
-    let objects : c.linking.inside.objects.now ≡ c.args.values.now.objects = ap (λ (l : LinkingValue). l.objects) (c.linking.view_is ∙ c.linking-linking.ensures) in
     let fs = c.args.values.now.objects in
-    let body = ap (λ (s : SectionValue). s.body) (rw objects at c.section_of.ensures) in
-    let same : (section_in fs c.args.file c.args.index).body ≡ relocs c.in-Relocs.rela c.in-Relocs.target c.in-Relocs.entries.items =
-    sym body ∙ ap (λ (b : Body). body_value b) c.in-Relocs.is in
+    let linking = c.linking.view_is ∙ c.linking-linking.ensures in
+    let same = body_read _ _ c.args.file c.args.index c.section_of.result.now _ linking c.section_of.ensures c.in-Relocs.is in
     let items = ap (λ (b : BodyValue). length (entries_of b)) same in
     let count = c.len-entry-end.ensures in
     let long = c.in-Relocs.entries.ok.0 in

@@ -1,3 +1,5 @@
+-- Each test that found none says so of the whole list: with that of rule 14 each field ends within its target, and all of them together
+-- are what a judged list is.
 use Rattle.std.proofs.Common.{◌≡◌, List, subst, sym}
 use Rattle.elf_link_relocate.specs.declared.field.Field.{Field}
 use Rattle.elf_link_relocate.specs.declared.field_test.FieldTest.TheVariants.{ValueOutOfRange}

@@ -1,3 +1,5 @@
+-- A field lies within a section that is live, whose copy is there and as long as its content: so the field has room in the copy, and
+-- patching it there is one more field relocated.
 use Rattle.std.proofs.Common.{FitsSigned, ap, sym, ◌∙◌, arith, rules, ◌≡◌}
 use Rattle.std.specs.Int.{w128}
 use Rattle.std.proofs.Math.Facts.{to_z-of_z}

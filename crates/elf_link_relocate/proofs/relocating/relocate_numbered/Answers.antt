@@ -1,3 +1,5 @@
+-- The values are those of the link that was asked for, so its fields are judged, and copies in which no field is relocated yet become,
+-- with all of them patched, those of the link.
 use Rattle.std.proofs.Common.{List, subst, sym}
 use Rattle.std.specs.Prelude.{None}
 use Rattle.elf_link_files.specs.Rows.{FirstAmong}

@@ -1,3 +1,4 @@
+-- There are as many places as loads, and one program header for each: so the header at an index is made of the load and the place there.
 use Rattle.std.proofs.Common.{ℕ, ap, ap₂, sym, ◌∙◌, arith}
 use Rattle.elf_link_map.specs.LinkMap.{LinkMapValue}
 use Rattle.elf_link_relocate.specs.Linked.{LinkedValue}

@@ -1,3 +1,4 @@
+-- The number of a name is the position of its first entry among all, and what is known stands in that order.
 use Rattle.std.proofs.Common.{ℕ, ◌<◌, List, length, map, ap, sym, ◌∙◌, subst, arith}
 use Rattle.std.proofs.lemmas.List.{length-map}
 use Rattle.elf_link_files.specs.Files.{symbol_in}

@@ -1,3 +1,4 @@
+-- The parts that the plan holds are those of its value, so what was answered of the one holds of the other.
 use Rattle.std.proofs.Common.{◌≡◌, ℕ, List, IfErr, length, rules, refl, sym, ◌∙◌, ap, subst}
 use Rattle.std.specs.Prelude.{None}
 use Rattle.elf_extent.specs.Place.{EndsFit, Least}

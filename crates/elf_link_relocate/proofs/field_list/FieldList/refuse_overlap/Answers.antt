@@ -1,3 +1,4 @@
+-- The list has all fields, so the first one in it that shares a byte with one before it is the first site of rule 15, and none is none.
 use Rattle.std.proofs.Common.{refl, subst, sym}
 use Rattle.elf_link_files.specs.Rows.{IsFirstAt}
 use Rattle.elf_link_relocate.specs.Collecting.{field_at}
