@@ -3,7 +3,7 @@ use Rattle.std.proofs.Common.{◌≡◌, ◌≤◌, ℕ, List, length, sym, subs
 use Rattle.std.specs.Prelude.{Option, Result, Ok, Err}
 use Rattle.elf_image_type.proofs.Public.{some_image}
 use Rattle.elf_image_rules.specs.HeaderRules.{MAX_LEN}
-use Rattle.elf_object_file.specs.ObjectFile.{IsFileOf, IsObjectWritten}
+use Rattle.elf_object_file.specs.ObjectFile.{IsWrittenFile, IsObjectWritten}
 use Rattle.elf_object_file.specs.WrittenObject.{IsWrittenAs}
 use Rattle.elf_object_file.proofs.WrittenObjects.{one_written, written_accepted, written_denotes_object, written_is_bytes, written_keeps_object_rules}
 use Rattle.elf_object_reader.specs.Denotes.{Denotes}
@@ -19,7 +19,7 @@ use Rattle.elf_object_writer.proofs.Public.{one_layout}
 use Rattle.elf_table_base.specs.Sections.{sections_of}
 
 module _ (o : ObjectValue) (object : IsObject o) (widths : ObjectFits o) where
-  pub file_of : (b : List ℕ) → Laid o b → length b ≤ MAX_LEN → IsFileOf o b
+  pub file_of : (b : List ℕ) → Laid o b → length b ≤ MAX_LEN → IsWrittenFile o b
   file_of b laid short =
       let written : IsWrittenAs o b = record { object = object; widths = widths; laid = laid; short = short } in
       let denotes = written_denotes_object o b written in

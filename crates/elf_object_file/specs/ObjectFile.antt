@@ -21,7 +21,7 @@ use Rattle.elf_table_base.specs.Sections.{sections_of}
 -- b is the file of an object: its canonical layout, no longer than the longest file. It breaks no rule of images, and what stands as it
 -- breaks no rule of files read as objects and denotes this object and no other; and the file of any object is b exactly where the two
 -- objects are equal
-pub record IsFileOf (o : ObjectValue) (b : List ℕ) : Type 0 where
+pub record IsWrittenFile (o : ObjectValue) (b : List ℕ) : Type 0 where
   pub laid : Laid o b
   pub short : length b ≤ MAX_LEN
   pub accepted : IsFault b None
@@ -32,7 +32,7 @@ pub record IsFileOf (o : ObjectValue) (b : List ℕ) : Type 0 where
 
 -- the bytes of the object's file go out, or exactly the first of them and then the writer fails
 abbrev pub WritesFile : ObjectValue → Option (List ℕ) → Option (List ℕ) → Result Unit WriteFault → Type 0
-WritesFile o before after result = (b : List ℕ) × IsFileOf o b × Writes before after b result
+WritesFile o before after result = (b : List ℕ) × IsWrittenFile o b × Writes before after b result
 
 -- each fault with when it comes, and what it leaves; want of memory says nothing else
 abbrev pub IsObjectWriteFault : ObjectValue → Option (List ℕ) → Option (List ℕ) → ObjectWriteFault → Type 0

@@ -27,5 +27,5 @@ hash_parts f i =
     }
 
 -- those that the code has gathered
-abbrev pub parts_value : declared.HashParts → HashPartsValue
-parts_value p = record { header = p.header; size = p.size; words = p.words; start = p.start; names = p.names }
+abbrev pub hash_parts_value : declared.HashParts → HashPartsValue
+hash_parts_value p = record { header = p.header; size = p.size; words = p.words; start = p.start; names = p.names }

@@ -28,14 +28,14 @@ impl<'a> HashParts<'a> {
     ghost use Rattle.elf_table_base.specs.OwnRules.{own_rules};
     ghost use Rattle.elf_table_base.specs.Sections.{section, sections_of};
     ghost use Rattle.elf_table_symbols.specs.SymbolRules.{symbol_table_rules};
-    ghost use Rattle.elf_table_hash.specs.HashParts.{hash_parts, parts_value};
+    ghost use Rattle.elf_table_hash.specs.HashParts.{hash_parts, hash_parts_value};
 
     /// Those of a hash table whose section header breaks no rule, as the symbol table that it links to.
     pub(crate) fn new(linked: LinkedTable<'_, 'a>) -> HashParts<'a>
         requires own { FirstIn (own_rules TableKind.HashTable (sections_of linked.table.image.now) linked.table.index) None }
         requires symbols { let f = sections_of linked.table.image.now in
             FirstIn (symbol_table_rules f (section f linked.table.index).sh_link) None }
-        ensures { parts_value result ≡ hash_parts (sections_of linked.entry.table.image.now) linked.entry.table.index }
+        ensures { hash_parts_value result ≡ hash_parts (sections_of linked.entry.table.image.now) linked.entry.table.index }
     {
         let table = linked.table;
         let section = table.header();

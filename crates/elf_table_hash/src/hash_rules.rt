@@ -9,7 +9,7 @@ ghost use Rattle.elf_table_base.specs.OwnRules.{own_rules};
 ghost use Rattle.elf_table_base.specs.Sections.{section, sections_of};
 ghost use Rattle.elf_table_symbols.specs.SymbolRules.{symbol_table_rules};
 ghost use Rattle.elf_table_hash.specs.ChainDepths.{IsDepthKnown};
-ghost use Rattle.elf_table_hash.specs.HashParts.{hash_parts, parts_value};
+ghost use Rattle.elf_table_hash.specs.HashParts.{hash_parts, hash_parts_value};
 ghost use Rattle.elf_table_hash.specs.HashRules.{chain_rules, hash_rules, hash_table_front, hash_table_rules, symbol_off_chain, word_rules};
 ghost use Rattle.elf_table_hash.specs.HashTable.{AreHashWords, bucket, nbucket, nchain};
 
@@ -64,7 +64,7 @@ fn judge_chains(alloc: Global, parts: &HashParts<'_>) -> Result<Result<(), Broke
     requires some_bucket { nbucket parts.now.words ≢ 0 }
     requires one_each { nchain parts.now.words ≡ length parts.now.names }
     requires linked { AreHashWords parts.now.words }
-    ensures { IfOk result (λ verdict. FirstIn (chain_rules (parts_value parts.now)) (fault_of verdict)) }
+    ensures { IfOk result (λ verdict. FirstIn (chain_rules (hash_parts_value parts.now)) (fault_of verdict)) }
 {
     let symbols = parts.words.nchain();
     let mut chains = KnownChains::new(alloc, &parts.words)?;
@@ -88,7 +88,7 @@ fn lowest_symbol_off_chain(parts: &HashParts<'_>, chains: &KnownChains<'_, '_>) 
     requires linked { AreHashWords parts.now.words }
     requires own { chains.now.words ≡ parts.now.words }
     requires known { (b : ℕ) → b < nbucket parts.now.words → IsDepthKnown chains.now.depth (bucket parts.now.words b) }
-    ensures { IsLowest (symbol_off_chain (parts_value parts.now)) result }
+    ensures { IsLowest (symbol_off_chain (hash_parts_value parts.now)) result }
 {
     let words = &parts.words;
     for s in 1..words.nchain() {

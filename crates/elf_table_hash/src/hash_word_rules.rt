@@ -3,7 +3,7 @@ ghost use Rattle.std.specs.Prelude.{◌≡◌, ◌≢◌, ◌≤◌, ◌<◌, �
 ghost use Rattle.elf_extent.specs.Least.{IsLowest};
 ghost use Rattle.elf_image_rules.specs.Broken.{fault_of};
 ghost use Rattle.elf_image_rules.specs.Rows.{FirstIn};
-ghost use Rattle.elf_table_hash.specs.HashParts.{parts_value};
+ghost use Rattle.elf_table_hash.specs.HashParts.{hash_parts_value};
 ghost use Rattle.elf_table_hash.specs.HashRules.{hash_word_past_end, word_rules};
 ghost use Rattle.elf_table_hash.specs.HashTable.{AreHashWords, nbucket, nchain};
 
@@ -15,7 +15,7 @@ use elf_table_base::rules::*;
 /// Rules 65 to 67 of a hash table.
 #[tactic(auto, unfolding(crate::specs::HashRules::word_rules))]
 pub(crate) fn judge_words(parts: &HashParts<'_>) -> Result<(), Broken<u64>>
-    ensures fault { FirstIn (word_rules (parts_value parts.now)) (fault_of result) }
+    ensures fault { FirstIn (word_rules (hash_parts_value parts.now)) (fault_of result) }
     ensures some_bucket { OnOk result (nbucket parts.now.words ≢ 0) }
     ensures one_each { OnOk result (nchain parts.now.words ≡ length parts.now.names) }
     ensures linked { OnOk result (AreHashWords parts.now.words) }
@@ -43,7 +43,7 @@ pub(crate) fn judge_words(parts: &HashParts<'_>) -> Result<(), Broken<u64>>
 /// The lowest offset in the file of a word, behind the first two, of a table as long as they say, that is none of a symbol.
 fn lowest_hash_word_past_end(parts: &HashParts<'_>) -> Option<u64>
     requires { parts.now.size ≡ WORD_SIZE * (2 + nbucket parts.now.words + nchain parts.now.words) }
-    ensures { IsLowest (hash_word_past_end (parts_value parts.now)) result }
+    ensures { IsLowest (hash_word_past_end (hash_parts_value parts.now)) result }
 {
     let nchain = parts.words.nchain();
     for k in 0..parts.words.len() - 2 {

@@ -3,7 +3,7 @@ use Rattle.std.specs.Prelude.{◌≡◌, ◌⊎◌, ◌<◌, ◌≤◌, ℕ, Lis
 use Rattle.elf_image_outline.specs.Image.{ImageValue, IsImage}
 use Rattle.elf_object_reader.specs.Denotes.{Denotes}
 use Rattle.elf_object_reader.specs.FileRules.{file_rules}
-use Rattle.elf_object_file.specs.ObjectFile.{IsFileOf}
+use Rattle.elf_object_file.specs.ObjectFile.{IsWrittenFile}
 use Rattle.elf_object_writer.specs.Laid.{Laid}
 use Rattle.elf_object_type.specs.Object.{ObjectValue}
 use Rattle.elf_image_rules.specs.HeaderRules.{MAX_LEN}
@@ -18,7 +18,7 @@ use Rattle.elf_tool_text.specs.declared.fault.Verdict.TheVariants.{Done, Refused
 
 -- of an object: its file, or that its canonical layout is too long for one
 abbrev pub ObjectSays : ObjectValue → Verdict → List ℕ → Type 0
-ObjectSays o Done text = IsFileOf o text
+ObjectSays o Done text = IsWrittenFile o text
 ObjectSays o (Refused (File file rule at)) text = ⊥
 ObjectSays o (Refused (Link rule file index entry)) text = ⊥
 ObjectSays o (Refused TooLong) text = ((b : List ℕ) → Laid o b → MAX_LEN < length b) × (text ≡ [])

@@ -3,7 +3,7 @@ use Rattle.std.proofs.Common.{ℕ, inl, inr, refl, arith}
 use Rattle.elf_extent.specs.Least.{IsLeast, Never}
 use Rattle.elf_table_symbols.specs.Below.{Below}
 use Rattle.elf_table_hash.specs.Chains.{Ends}
-use Rattle.elf_table_hash.specs.HashParts.{HashPartsValue, parts_value}
+use Rattle.elf_table_hash.specs.HashParts.{HashPartsValue, hash_parts_value}
 use Rattle.elf_table_hash.specs.HashRules.{bucket_at, chain_rules, endless_chain}
 use Rattle.elf_table_hash.specs.HashTable.{bucket, chain, nbucket}
 use Rattle.elf_table_hash.proofs.hash_rules.judge_chains.Goals as goal
@@ -23,16 +23,16 @@ pub returns-in-Some : goal.returns-in-Some
 unfolding chain_rules
 returns-in-Some c =
     let least = rw (c.in-Some.is, c.in_ok-chains.ensures) at c.in_ok-b.ensures.lowest in
-    rw c.new-in-Some.ensures (inl (refl, endless_at (parts_value c.args.parts.now) c.in-Some.b least))
+    rw c.new-in-Some.ensures (inl (refl, endless_at (hash_parts_value c.args.parts.now) c.in-Some.b least))
 
 pub returns-in-Some-lowest_symbol_off_chain : goal.returns-in-Some-lowest_symbol_off_chain
 unfolding chain_rules
 returns-in-Some-lowest_symbol_off_chain c =
     let never = rw (c.in_default.is, c.in_ok-chains.ensures) at c.in_ok-b.ensures.lowest in
-    rw c.new-in-Some-lowest_symbol_off_chain.ensures (inr (no_endless_chain (parts_value c.args.parts.now) never, inl (refl, c.in-Some-lowest_symbol_off_chain.ensures)))
+    rw c.new-in-Some-lowest_symbol_off_chain.ensures (inr (no_endless_chain (hash_parts_value c.args.parts.now) never, inl (refl, c.in-Some-lowest_symbol_off_chain.ensures)))
 
 pub returns : goal.returns
 unfolding chain_rules
 returns c =
     let never = rw (c.in_default.is, c.in_ok-chains.ensures) at c.in_ok-b.ensures.lowest in
-    (no_endless_chain (parts_value c.args.parts.now) never, (c.in-None.ensures, tt))
+    (no_endless_chain (hash_parts_value c.args.parts.now) never, (c.in-None.ensures, tt))

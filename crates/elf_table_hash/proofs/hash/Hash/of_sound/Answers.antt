@@ -7,7 +7,7 @@ use Rattle.elf_table_base.specs.OwnRules.{own_rules}
 use Rattle.elf_table_base.specs.Sections.{section, sections_of}
 use Rattle.elf_table_symbols.proofs.Public.{link_there}
 use Rattle.elf_table_symbols.specs.SymbolRules.{symbol_table_rules}
-use Rattle.elf_table_hash.specs.HashParts.{HashPartsValue, hash_parts, parts_value}
+use Rattle.elf_table_hash.specs.HashParts.{HashPartsValue, hash_parts, hash_parts_value}
 use Rattle.elf_table_hash.specs.HashRules.{chain_rules, hash_rules, hash_table_rules, word_rules}
 use Rattle.elf_table_hash.proofs.HashSound.{valid_when}
 use Rattle.elf_table_hash.proofs.hash.Hash.of_sound.Goals as goal
@@ -36,6 +36,6 @@ invariant_of-result c =
     let words = FirstIn-front (word_rules (hash_parts f c.args.i)) _ rest in
     let chains = FirstIn-behind (word_rules (hash_parts f c.args.i)) _ rest in
     let same = sym c.new-parts.ensures in
-    valid_when (parts_value c.new-parts.result) c.new-parts.result.sized
+    valid_when (hash_parts_value c.new-parts.result) c.new-parts.result.sized
     (subst (λ (p : HashPartsValue). FirstIn (word_rules p) None) same words)
     (subst (λ (p : HashPartsValue). FirstIn (chain_rules p) None) same chains)
