@@ -214,7 +214,8 @@ impl<'a> Image<'a> {
     /// A segment has `p_memsz` addresses from `p_vaddr` on. The first `p_filesz` of them have the bytes at `p_offset` of the file that
     /// stands for the image, edited or as read; the others are 0. Linear in the segments and the parts.
     pub fn load(&self, address: u64) -> Option<u8>
-        ensures { (b : List ℕ) × IsImage self.now b × LoadsFirst b self.now.segments address result }
+        ensures loads { (b : List ℕ) × IsImage self.now b × LoadsFirst b self.now.segments address result }
+        ensures each { (b : List ℕ) → IsImage self.now b → LoadsFirst b self.now.segments address result }
     {
         load(&self.outline, &self.contents, self.file, address)
     }
