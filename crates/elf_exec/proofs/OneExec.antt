@@ -1,5 +1,5 @@
 -- Relocated bytes have one executable: its places are the least ones, and each of its bytes is that of memory.
-use Rattle.std.proofs.Common.{◌≡◌, ◌+◌, ℕ, List, [], get_or, sym, ap₂, subst, ◌∙◌, arith}
+use Rattle.std.proofs.Common.{◌≡◌, ◌+◌, ℕ, List, [], get_or, sym, ap₂, ◌∙◌, arith}
 use Rattle.std.specs.Prelude.{None, slice_index}
 use Rattle.std.proofs.lemmas.List.{ext_get_or}
 use Rattle.elf_extent.proofs.Public.{least_places, same_least}

@@ -39,6 +39,7 @@ outputs_from : (fs : List ObjectValue) (m : LinkMapValue) (base page entry : ℕ
 outputs_from fs m base page entry is = record {
   members = λ k lt. members_from fs m base page entry _ (is.members k lt);
   holds = is.holds;
+  once = is.once;
   within = is.within;
   apart = is.apart;
   commons_behind = is.commons_behind;

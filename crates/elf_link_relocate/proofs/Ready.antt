@@ -1,5 +1,5 @@
 -- Relocated bytes of some objects, their map and relocation rules are ready to be written, where the map is one that `map` answers.
-use Rattle.std.proofs.Common.{◌≡◌, Result, Ok, Err, List, sym, subst}
+use Rattle.std.proofs.Common.{Result, Ok, Err, List, sym, subst}
 use Rattle.std.specs.Prelude.{IfOk}
 use Rattle.elf_object_type.specs.Object.{ObjectValue}
 use Rattle.elf_link_field.specs.declared.rule.RelocRule.{RelocRule}

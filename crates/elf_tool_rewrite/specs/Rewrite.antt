@@ -1,5 +1,5 @@
 -- What `rewrite` makes of a file: its object, in canonical layout.
-use Rattle.std.specs.Prelude.{◌≡◌, ◌⊎◌, ◌<◌, ◌≤◌, ℕ, List, [], length, None, Option, Some, Result}
+use Rattle.std.specs.Prelude.{◌≡◌, ◌⊎◌, ◌<◌, ℕ, List, [], length, None, Option, Some, Result}
 use Rattle.elf_image_outline.specs.Image.{ImageValue, IsImage}
 use Rattle.elf_object_reader.specs.Denotes.{Denotes}
 use Rattle.elf_object_reader.specs.FileRules.{file_rules}
