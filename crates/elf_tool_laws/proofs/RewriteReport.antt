@@ -20,9 +20,9 @@ use Rattle.elf_tool_laws.proofs.Faults.{none_first, one_first}
 use Rattle.elf_tool_laws.proofs.SaysOne.{of_holding, of_one, or_refused}
 
 of_object : (o : ObjectValue) → SaysOne (ObjectSays o)
-of_object o Done Done s t here there = (refl, one_layout o s t here.0 there.0)
-of_object o Done (Refused TooLong) s t (laid, short) (long, none) = (let more = long s laid in absurd (omega arith))
-of_object o (Refused TooLong) Done s t (long, none) (laid, short) = (let more = long t laid in absurd (omega arith))
+of_object o Done Done s t here there = (refl, one_layout o s t here.laid there.laid)
+of_object o Done (Refused TooLong) s t here (long, none) = (let more = long s here.laid in let short = here.short in absurd (omega arith))
+of_object o (Refused TooLong) Done s t (long, none) there = (let more = long t there.laid in let short = there.short in absurd (omega arith))
 of_object o (Refused TooLong) (Refused TooLong) s t here there = (refl, here.1 ∙ sym there.1)
 of_object o (Refused (File file rule at)) w s t here there = absurd here
 of_object o (Refused (Link rule file index entry)) w s t here there = absurd here

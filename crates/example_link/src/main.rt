@@ -1,14 +1,14 @@
 //! `example_link A B`: links two objects of x86-64, and writes the executable, which begins at `_start`, to standard output.
 #![tactic(auto)]
 
-ghost use Rattle.std.specs.Prelude.{ℕ, List, OnOk};
+ghost use Rattle.std.specs.Prelude.{ℕ, IfOk, List, OnOk};
 ghost use Rattle.std.specs.Io.KnownBytes.{Appends};
 ghost use Rattle.elf_exec.specs.Executable.{IsExecutable};
 ghost use Rattle.elf_link.specs.LinkMap.{LinkMapValue};
 ghost use Rattle.elf_link.specs.MapFacts.{IsMapOfSome};
 
 use elf_exec::write_exec;
-use elf_link::{Form, Options, Range, RelocRule, Width, map, relocate};
+use elf_link::{Form, LinkMap, Options, Range, RelocRule, Width, map, relocate};
 use elf_object::{Object, object_of};
 use std::alloc::Global;
 use std::process::ExitCode;
@@ -53,15 +53,22 @@ fn object_in(alloc: Global, bytes: &[u8]) -> Result<Object<'_>, &'static str> {
     object_of(alloc, &image).map_err(|_| "a file is no object")
 }
 
+fn mapped<'a>(alloc: Global, files: &[Object<'a>]) -> Result<LinkMap<'a>, &'static str>
+    ensures { IfOk result (IsMapOfSome files.now) }
+{
+    let hasher = std::hash::BuildHasherDefault::<std::hash::FoldHasher>::new();
+    match map(alloc, files, &OPTIONS, hasher) {
+        Ok(map) => Ok(map),
+        Err(_) => Err("the objects can't be linked"),
+    }
+}
+
 fn link<W: io::Write>(alloc: Global, files: &[Object<'_>], to: &mut W) -> Result<(), &'static str>
     // What is out is the executable of a link of these objects: an image that loads the memory of the link.
     ensures { OnOk result ((map : LinkMapValue) × IsMapOfSome files.now map × ((executable : List ℕ) ×
         IsExecutable files.now map RULES executable × Appends (W.contents to.old) (W.contents to.new) executable)) }
 {
-    let hasher = std::hash::BuildHasherDefault::<std::hash::FoldHasher>::new();
-    let Ok(map) = map(alloc, files, &OPTIONS, hasher) else {
-        return Err("the objects can't be linked");
-    };
+    let map = mapped(alloc, files)?;
     let Ok(linked) = relocate(alloc, &map, files, &RULES) else {
         return Err("a relocation can't be applied");
     };
