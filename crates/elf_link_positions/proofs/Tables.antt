@@ -1,118 +1,273 @@
--- A name in a table by hash, and the names behind it.
-use Rattle.std.proofs.Common.{◌≡◌, ℕ, ◌<◌, ◌%◌, Bool, true, false, List, length, get_or, set, inl, inr, refl, sym, ◌∙◌, ap, subst, arith, get_or-set_other, get_or-set_same}
-use Rattle.std.specs.Prelude.{cond, if◌then◌else◌, is_some, replicate, zero, suc, Option, None, Some, Result, Ok, Err, IfOk, OnErr}
+-- Names that stand in slots, and behind them in a map. A name whose slots tell that it stands in none has no entry, since an entry's slot is
+-- behind taken ones.
+use Rattle.std.proofs.Common.{◌≡◌, ℕ, zero, suc, ◌<◌, ◌≤◌, ◌+◌, ◌-◌, ◌%◌, ◌⊎◌, Bool, true, false, List, [], ◌∷◌, ◌++◌, length, get_or, set, inl, inr, refl, sym, ◌∙◌, ap, subst, arith, get_or-set_other, get_or-set_same}
+use Rattle.std.specs.Prelude.{◌≢◌, cond, if◌then◌else◌, is_some, Option, None, Some}
 use Rattle.std.specs.Str.{bytes_eq}
-use Rattle.std.proofs.lemmas.Bool.{cases_eq}
-use Rattle.std.proofs.lemmas.List.{length-set}
+use Rattle.std.proofs.lemmas.Bool.{cases_eq, cases_lt}
+use Rattle.std.proofs.Math.Seq.{get_or-append_seam}
+use Rattle.std.proofs.lemmas.List.{get_or_append_left, length-append, length-set}
 use Rattle.std.proofs.lemmas.Slice.Eq.{bytes_eq-Decides}
-use Rattle.elf_link_positions.specs.declared.slots.Seen.{Seen}
+use Rattle.elf_link_positions.specs.declared.slots.Entry.{Entry}
 use Rattle.elf_link_positions.specs.declared.slots.Seen.TheVariants.{Free, Here, Taken}
 use Rattle.elf_link_positions.specs.declared.slots.Slot.{Slot}
+use Rattle.elf_link_positions.specs.declared.slots.TheConstants.{MOST_NAMES, MOST_STEPS}
 use Rattle.elf_link_positions.specs.Ordered.{IsPlaced}
-use Rattle.elf_link_positions.specs.Slots.{IsTable, position_in, position_seen, seen, slot_of}
+use Rattle.elf_link_positions.specs.Slots.{AreTables, AreTaken, IsEnd, IsFound, IsInNone, Tells, entry_of, entry_position, free_slot, home, name_at, name_hash, no_entry, or_else, slot_from, upper_of}
 
-either_way : (t : Bool) (x : Option ℕ) → x ≡ cond t x x
-either_way true x = refl
-either_way false x = refl
+pub is_same : (n q : List ℕ) → n ≡ q → bytes_eq n q ≡ true
+is_same n q same = (bytes_eq-Decides n q).1 same
 
-seen_first : (b : Bool) (k : ℕ) (rest old : Option ℕ) → rest ≡ None → old ≡ None → position_seen (if b then Here k else Taken) rest ≡ cond b (Some k) old
-seen_first true k rest old none was = refl
-seen_first false k rest old none was = none ∙ sym was
-
-not_same : (n q : List ℕ) → (n ≡ q → ⊥) → bytes_eq n q ≡ false
+pub not_same : (n q : List ℕ) → n ≢ q → bytes_eq n q ≡ false
 not_same n q apart = told (bytes_eq n q) refl where
   told : (b : Bool) → bytes_eq n q ≡ b → bytes_eq n q ≡ false
   told true is = absurd (apart ((bytes_eq-Decides n q).0 is))
   told false is = is
 
--- ---- a name that finds its slot free takes it
+-- ---- where the entries say that a name stands
 
-slot_same : (hash : List ℕ → ℕ) (slots : List (Option Slot)) (slot : Slot) (n q : List ℕ) → 0 < length slots → hash q % length slots ≡ hash n % length slots →
-    slot_of hash (set slots (hash n % length slots) (Some slot)) q ≡ Some slot
-slot_same hash slots slot n q some same =
-    let there : hash n % length slots < length slots = omega arith in
-    rw (length-set slots (hash n % length slots) (Some slot), same) (get_or-set_same slots (hash n % length slots) (Some slot) None there)
+pub no_position : (es : List Entry) (q : List ℕ) → ((k : ℕ) → k < length es → name_at es k ≢ q) → entry_position es q ≡ None
+no_position [] q none = refl
+no_position (e ∷ es) q none =
+    rw (not_same e.name.now q (none 0 (omega arith))) (no_position es q (λ k lt. none (suc k) (omega arith)))
 
-slot_other : (hash : List ℕ → ℕ) (slots : List (Option Slot)) (slot : Slot) (n q : List ℕ) → (hash q % length slots ≡ hash n % length slots → ⊥) →
-    slot_of hash (set slots (hash n % length slots) (Some slot)) q ≡ slot_of hash slots q
-slot_other hash slots slot n q other =
-    rw length-set (get_or-set_other slots (hash n % length slots) (hash q % length slots) (Some slot) None other)
+pub first_position : (es : List Entry) (q : List ℕ) (k : ℕ) → k < length es → name_at es k ≡ q → ((j : ℕ) → j < k → name_at es j ≢ q) →
+    entry_position es q ≡ Some (get_or es k no_entry).position
+first_position [] q k lt is first = absurd (omega arith)
+first_position (e ∷ es) q zero lt is first = rw (is_same e.name.now q is) refl
+first_position (e ∷ es) q (suc k) lt is first =
+    rw (not_same e.name.now q (first 0 (omega arith))) (first_position es q k (omega arith) is (λ j below. first (suc j) (omega arith)))
 
-pub filled : (hash : List ℕ → ℕ) (slots : List (Option Slot)) (rest : List ℕ → Option ℕ) (slot : Slot) → slot_of hash slots slot.name.now ≡ None →
-    IsTable hash slots rest →
-    IsPlaced None slot.name.now slot.position (position_in hash slots rest) (position_in hash (set slots (hash slot.name.now % length slots) (Some slot)) rest)
-filled hash slots rest slot free table q =
-    let n = slot.name.now in
-    let now = set slots (hash n % length slots) (Some slot) in
-    elim (cases_eq (hash q % length slots) (hash n % length slots)) [
-      | inl same ↦ (let was : slot_of hash slots q ≡ None = ap (λ k. get_or slots k None) same ∙ free in
-          ap (λ o. position_seen (seen o q) (rest q)) (slot_same hash slots slot n q table.some same) ∙
-          seen_first (bytes_eq n q) slot.position (rest q) (position_in hash slots rest q) (table.free q was) (ap (λ o. position_seen (seen o q) (rest q)) was))
-      | inr other ↦ ap (λ o. position_seen (seen o q) (rest q)) (slot_other hash slots slot n q other) ∙
-          sym (ap (λ t. cond t (Some slot.position) (position_in hash slots rest q)) (not_same n q (λ is. other (ap (λ m. hash m % length slots) (sym is)))))
+by_first : (b : Bool) (p : ℕ) (old now more : Option ℕ) → now ≡ or_else old more → (if b then Some p else now) ≡ or_else (if b then Some p else old) more
+by_first true p old now more is = refl
+by_first false p old now more is = is
+
+pub position_more : (es : List Entry) (e : Entry) (q : List ℕ) →
+    entry_position (es ++ e ∷ []) q ≡ or_else (entry_position es q) (if bytes_eq e.name.now q then Some e.position else None)
+position_more [] e q = refl
+position_more (d ∷ es) e q = by_first (bytes_eq d.name.now q) d.position (entry_position es q) _ _ (position_more es e q)
+
+-- ---- what its slots tell of a name
+
+absent : (slots : List Slot) (es : List Entry) (more : List ℕ → Option ℕ) → AreTables slots es more → (q : List ℕ) (n : ℕ) → IsEnd slots (home slots q) n →
+    IsInNone slots es (home slots q) (upper_of (name_hash q)) q n → (k : ℕ) → k < length es → name_at es k ≢ q
+absent slots es more tables q n end none k lt same =
+    let (s, few, taken, is) = subst (λ (m : List ℕ). IsFound slots m (k + 1)) same (tables.found k lt) in
+    let number : (slot_from slots (home slots q) s).number ≡ k + 1 = ap (λ (x : Slot). x.number) is in
+    elim (cases_lt s n) [
+      | inl below ↦ none s below (ap (λ (x : Slot). x.upper) is, rw number (ap (λ (i : ℕ). name_at es i) (omega arith) ∙ same))
+      | inr from ↦ elim end [
+        | inl last ↦ absurd (omega arith)
+        | inr free ↦ elim (cases_lt n s) [
+          | inl before ↦ (let some = taken n before in absurd (omega arith))
+          | inr at ↦ (let here : n ≡ s = omega arith in let free_here = subst (λ (i : ℕ). (slot_from slots (home slots q) i).number ≡ 0) here free in absurd (omega arith))
+        ]
+      ]
     ]
 
-pub filled_table : (hash : List ℕ → ℕ) (slots : List (Option Slot)) (rest : List ℕ → Option ℕ) (slot : Slot) → IsTable hash slots rest →
-    IsTable hash (set slots (hash slot.name.now % length slots) (Some slot)) rest
-filled_table hash slots rest slot table =
-    let n = slot.name.now in
-    record {
-      some = rw length-set table.some;
-      free = λ q none. elim (cases_eq (hash q % length slots) (hash n % length slots)) [
-        | inl same ↦ (let never : Some slot ≡ None = sym (slot_same hash slots slot n q table.some same) ∙ none in absurd (cc))
-        | inr other ↦ table.free q (sym (slot_other hash slots slot n q other) ∙ none)
-      ];
-    }
+pub absent_free : (slots : List Slot) (es : List Entry) (more : List ℕ → Option ℕ) → AreTables slots es more → (q : List ℕ) (at : ℕ) → Tells slots es q (Free at) →
+    (k : ℕ) → k < length es → name_at es k ≢ q
+absent_free slots es more tables q at (few, (s, below, is, free, taken, none)) = absent slots es more tables q s (inr free) none
 
--- ---- a name that finds its slot taken goes on
+pub absent_taken : (slots : List Slot) (es : List Entry) (more : List ℕ → Option ℕ) → AreTables slots es more → (q : List ℕ) → Tells slots es q Taken →
+    (k : ℕ) → k < length es → name_at es k ≢ q
+absent_taken slots es more tables q (taken, (n, end, none)) = absent slots es more tables q n end none
 
-past_seen : (s : Seen) (there : Option ℕ) (n q : List ℕ) (next : ℕ) (old now : Option ℕ) → (n ≡ q → s ≡ Taken) →
+pub here_position : (slots : List Slot) (es : List Entry) (more : List ℕ → Option ℕ) → AreTables slots es more → (q : List ℕ) (position : ℕ) →
+    Tells slots es q (Here position) → entry_position es q ≡ Some position
+here_position slots es more tables q position (k, lt, is, at) =
+    first_position es q k lt is (λ j below same. (let one = tables.once j k (omega arith) lt (same ∙ sym is) in omega arith)) ∙ ap Some (sym at)
+
+-- where a slot is free and numbers last, the map has no such name
+pub not_behind : (slots : List Slot) (es : List Entry) (more : List ℕ → Option ℕ) → AreTables slots es more → (q : List ℕ) (at : ℕ) → Tells slots es q (Free at) →
+    more q ≡ None
+not_behind slots es more tables q at (few, (s, below, is, free, taken, none)) = told (more q) refl where
+  told : (m : Option ℕ) → more q ≡ m → more q ≡ None
+  told None same = same
+  told (Some p) same = (let some = tables.behind few q p same s below in absurd (omega arith))
+
+-- ---- a name that finds a free slot takes it
+
+-- the slots, where this one is taken by the next number
+abbrev pub with_number : List Slot → List Entry → List ℕ → ℕ → List Slot
+with_number slots es n at = set slots at (record { upper = upper_of (name_hash n); number = length es + 1 })
+
+-- a slot that is taken stays so
+stays_taken : (slots : List Slot) (es : List Entry) (n : List ℕ) (at i : ℕ) → at < length slots → 0 < (get_or slots i free_slot).number →
+    0 < (get_or (with_number slots es n at) i free_slot).number
+stays_taken slots es n at i inside some = elim (cases_eq i at) [
+  | inl same ↦ rw (same, get_or-set_same slots at (record { upper = upper_of (name_hash n); number = length es + 1 }) free_slot inside) (omega arith)
+  | inr other ↦ rw (get_or-set_other slots at i (record { upper = upper_of (name_hash n); number = length es + 1 }) free_slot other) some
+]
+
+-- the place of the free slot is one of the slots
+at_inside : (slots : List Slot) (q : List ℕ) (s : ℕ) → MOST_STEPS < length slots → s < MOST_STEPS → home slots q + s < length slots
+at_inside slots q s room few = omega arith
+
+module _ (slots : List Slot) (es : List Entry) (more : List ℕ → Option ℕ) (tables : AreTables slots es more) (e : Entry) (at : ℕ)
+    (tells : Tells slots es e.name.now (Free at)) where
+  inside : at < length slots
+  inside = (let (last, (s, few, is, free, taken, none)) = tells in rw is (at_inside slots e.name.now s tables.room few))
+
+  has_none : (k : ℕ) → k < length es → name_at es k ≢ e.name.now
+  has_none = absent_free slots es more tables e.name.now at tells
+
+  old_name : (k : ℕ) → k < length es → name_at (es ++ e ∷ []) k ≡ name_at es k
+  old_name k lt = ap (λ (x : Entry). x.name.now) (get_or_append_left es (e ∷ []) no_entry k lt)
+
+  new_name : name_at (es ++ e ∷ []) (length es) ≡ e.name.now
+  new_name = ap (λ (x : Entry). x.name.now) (get_or-append_seam es e [] no_entry)
+
+  -- each of a name's slots that was taken still is
+  still_taken : (q : List ℕ) (m : ℕ) → AreTaken slots (home slots q) m → AreTaken (with_number slots es e.name.now at) (home (with_number slots es e.name.now at) q) m
+  still_taken q m taken s lt =
+      rw (length-set slots at (record { upper = upper_of (name_hash e.name.now); number = length es + 1 }))
+      (stays_taken slots es e.name.now at (home slots q + s) inside (taken s lt))
+
+  -- the slot of an old name is another one, and of the new one this
+  old_found : (k : ℕ) → k < length es → IsFound slots (name_at es k) (k + 1) → IsFound (with_number slots es e.name.now at) (name_at es k) (k + 1)
+  old_found k lt (s, few, taken, is) =
+      let (last, (free_at, below, place, free, before, none)) = tells in
+      let number : (slot_from slots (home slots (name_at es k)) s).number ≡ k + 1 = ap (λ (x : Slot). x.number) is in
+      let other : home slots (name_at es k) + s ≢ at = (λ same.
+      let here : (get_or slots (home slots (name_at es k) + s) free_slot).number ≡ 0 = ap (λ (i : ℕ). (get_or slots i free_slot).number) (same ∙ place) ∙ free in
+      absurd (omega arith)) in (
+        s,
+        few,
+        still_taken (name_at es k) s taken,
+        rw (length-set slots at (record { upper = upper_of (name_hash e.name.now); number = length es + 1 }))
+            (get_or-set_other slots at (home slots (name_at es k) + s) (record { upper = upper_of (name_hash e.name.now); number = length es + 1 }) free_slot other ∙ is),
+      )
+
+  new_found : IsFound (with_number slots es e.name.now at) e.name.now (length es + 1)
+  new_found =
+      let (last, (s, few, place, free, before, none)) = tells in (
+        s,
+        few,
+        still_taken e.name.now s before,
+        rw (length-set slots at (record { upper = upper_of (name_hash e.name.now); number = length es + 1 }), sym place)
+            (get_or-set_same slots at (record { upper = upper_of (name_hash e.name.now); number = length es + 1 }) free_slot inside),
+      )
+
+  -- a number is that of an old entry or of the new one
+  old_or_new : (k : ℕ) → k < length (es ++ e ∷ []) → (k < length es) ⊎ (k ≡ length es)
+  old_or_new k lt =
+      let long = length-append es (e ∷ []) in
+      elim (cases_lt k (length es)) [ inl below ↦ inl below | inr from ↦ inr (omega arith) ]
+
+  all_found : (k : ℕ) → k < length (es ++ e ∷ []) → IsFound (with_number slots es e.name.now at) (name_at (es ++ e ∷ []) k) (k + 1)
+  all_found k lt = elim (old_or_new k lt) [
+    | inl old ↦ subst (λ (m : List ℕ). IsFound (with_number slots es e.name.now at) m (k + 1)) (sym (old_name k old)) (old_found k old (tables.found k old))
+    | inr new ↦ (
+        let named : name_at (es ++ e ∷ []) k ≡ e.name.now = ap (λ (i : ℕ). name_at (es ++ e ∷ []) i) new ∙ new_name in
+        subst (λ (i : ℕ). IsFound (with_number slots es e.name.now at) (name_at (es ++ e ∷ []) k) (i + 1)) (sym new)
+        (subst (λ (m : List ℕ). IsFound (with_number slots es e.name.now at) m (length es + 1)) (sym named) new_found)
+        )
+  ]
+
+  all_once : (j k : ℕ) → j < length (es ++ e ∷ []) → k < length (es ++ e ∷ []) → name_at (es ++ e ∷ []) j ≡ name_at (es ++ e ∷ []) k → j ≡ k
+  all_once j k in_j in_k same = elim (old_or_new j in_j) [
+    | inl old_j ↦ elim (old_or_new k in_k) [
+      | inl old_k ↦ tables.once j k old_j old_k (sym (old_name j old_j) ∙ same ∙ old_name k old_k)
+      | inr new_k ↦ absurd (has_none j old_j (sym (old_name j old_j) ∙ same ∙ ap (λ (i : ℕ). name_at (es ++ e ∷ []) i) new_k ∙ new_name))
+    ]
+    | inr new_j ↦ elim (old_or_new k in_k) [
+      | inl old_k ↦ absurd (has_none k old_k (sym (old_name k old_k) ∙ sym same ∙ ap (λ (i : ℕ). name_at (es ++ e ∷ []) i) new_j ∙ new_name))
+      | inr new_k ↦ new_j ∙ sym new_k
+    ]
+  ]
+
+  pub entered : AreTables (with_number slots es e.name.now at) (es ++ e ∷ []) more
+  entered =
+      let last = tells.0 in
+      let long = length-append es (e ∷ []) in
+      let new : Slot = record { upper = upper_of (name_hash e.name.now); number = length es + 1 } in record {
+        room = rw (length-set slots at new) tables.room;
+        known = λ i. elim (cases_eq i at) [
+          | inl same ↦ rw (same, get_or-set_same slots at new free_slot inside) (omega arith)
+          | inr other ↦ rw (get_or-set_other slots at i new free_slot other) (let old = tables.known i in omega arith)
+        ];
+        found = all_found;
+        once = all_once;
+        apart = λ q p k is lt same. elim (old_or_new k lt) [
+          | inl old ↦ tables.apart q p k is old (sym (old_name k old) ∙ same)
+          | inr k_new ↦ (
+              let named : e.name.now ≡ q = sym new_name ∙ sym (ap (λ (i : ℕ). name_at (es ++ e ∷ []) i) k_new) ∙ same in
+              let none : more e.name.now ≡ None = not_behind slots es more tables e.name.now at tells in
+              let never : None ≡ Some p = sym none ∙ ap more named ∙ is in
+              cc
+              )
+        ];
+        behind = λ few q p is. still_taken q MOST_STEPS (tables.behind last q p is);
+      }
+
+-- ---- where names stand then
+
+pub placed_free : (es : List Entry) (more : List ℕ → Option ℕ) (e : Entry) → ((k : ℕ) → k < length es → name_at es k ≢ e.name.now) →
+    IsPlaced None e.name.now e.position (λ q. or_else (entry_position es q) (more q)) (λ q. or_else (entry_position (es ++ e ∷ []) q) (more q))
+placed_free es more e none q = rw (position_more es e q) (by_name (bytes_eq e.name.now q) refl) where
+  by_name : (b : Bool) → bytes_eq e.name.now q ≡ b →
+      or_else (or_else (entry_position es q) (if b then Some e.position else None)) (more q) ≡ cond b (Some e.position) (or_else (entry_position es q) (more q))
+  by_name true is =
+      let same = (bytes_eq-Decides e.name.now q).0 is in
+      rw (no_position es q (λ k lt named. none k lt (named ∙ sym same))) refl
+  by_name false is = either (entry_position es q) where
+    either : (x : Option ℕ) → or_else (or_else x None) (more q) ≡ or_else x (more q)
+    either None = refl
+    either (Some p) = refl
+
+-- a name that has no entry is placed in the map
+either_way : (t : Bool) (x : Option ℕ) → x ≡ cond t x x
+either_way true x = refl
+either_way false x = refl
+
+by_entry : (found there : Option ℕ) (n q : List ℕ) (next : ℕ) (old now : Option ℕ) → (n ≡ q → found ≡ None) →
     now ≡ cond (is_some there) old (cond (bytes_eq n q) (Some next) old) →
-    position_seen s now ≡ cond (is_some there) (position_seen s old) (cond (bytes_eq n q) (Some next) (position_seen s old))
-past_seen Taken there n q next old now at is = is
-past_seen Free there n q next old now at is =
-    rw (not_same n q (λ same. (let never : Free ≡ Taken = at same in cc))) (either_way (is_some there) None)
-past_seen (Here k) there n q next old now at is =
-    rw (not_same n q (λ same. (let never : Here k ≡ Taken = at same in cc))) (either_way (is_some there) (Some k))
+    or_else found now ≡ cond (is_some there) (or_else found old) (cond (bytes_eq n q) (Some next) (or_else found old))
+by_entry None there n q next old now none is = is
+by_entry (Some p) there n q next old now none is =
+    rw (not_same n q (λ same. (let never : Some p ≡ None = none same in cc))) (either_way (is_some there) (Some p))
 
-pub past : (hash : List ℕ → ℕ) (slots : List (Option Slot)) (old now : List ℕ → Option ℕ) (there : Option ℕ) (n : List ℕ) (next : ℕ) →
-    seen (slot_of hash slots n) n ≡ Taken → IsPlaced there n next old now → IsPlaced there n next (position_in hash slots old) (position_in hash slots now)
-past hash slots old now there n next taken placed q =
-    past_seen (seen (slot_of hash slots q) q) there n q next (old q) (now q) (λ same. subst (λ m. seen (slot_of hash slots m) m ≡ Taken) same taken) (placed q)
+pub placed_behind : (es : List Entry) (old now : List ℕ → Option ℕ) (there : Option ℕ) (n : List ℕ) (next : ℕ) → ((k : ℕ) → k < length es → name_at es k ≢ n) →
+    IsPlaced there n next old now → IsPlaced there n next (λ q. or_else (entry_position es q) (old q)) (λ q. or_else (entry_position es q) (now q))
+placed_behind es old now there n next none placed q =
+    by_entry (entry_position es q) there n q next (old q) (now q) (λ same. no_position es q (λ k lt named. none k lt (named ∙ sym same))) (placed q)
 
-pub past_table : (hash : List ℕ → ℕ) (slots : List (Option Slot)) (old now : List ℕ → Option ℕ) (there : Option ℕ) (n : List ℕ) (next : ℕ) →
-    seen (slot_of hash slots n) n ≡ Taken → IsPlaced there n next old now → IsTable hash slots old → IsTable hash slots now
-past_table hash slots old now there n next taken placed table = record {
-  some = table.some;
-  free = λ q none. (let other = not_same n q (λ same. (let never : Free ≡ Taken =
-      sym (ap (λ o. seen o q) none) ∙ subst (λ m. seen (slot_of hash slots m) m ≡ Taken) same taken in cc)) in
-      placed q ∙ ap (λ t. cond (is_some there) (old q) (cond t (Some next) (old q))) other ∙ sym (either_way (is_some there) (old q)) ∙ table.free q none);
+-- a name of the map is an old one of it, or the one that was placed
+old_or_placed : (old now : List ℕ → Option ℕ) (there : Option ℕ) (n q : List ℕ) (next p : ℕ) → IsPlaced there n next old now → now q ≡ Some p →
+    (old q ≡ Some p) ⊎ (n ≡ q)
+old_or_placed old now there n q next p placed is = by_there there (placed q) where
+  by_name : (b : Bool) → bytes_eq n q ≡ b → now q ≡ cond b (Some next) (old q) → (old q ≡ Some p) ⊎ (n ≡ q)
+  by_name true same at = inr ((bytes_eq-Decides n q).0 same)
+  by_name false other at = inl (sym at ∙ is)
+
+  by_there : (there : Option ℕ) → now q ≡ cond (is_some there) (old q) (cond (bytes_eq n q) (Some next) (old q)) → (old q ≡ Some p) ⊎ (n ≡ q)
+  by_there None at = by_name (bytes_eq n q) refl at
+  by_there (Some k) at = inl (sym at ∙ is)
+
+pub tables_behind : (slots : List Slot) (es : List Entry) (old now : List ℕ → Option ℕ) (there : Option ℕ) (n : List ℕ) (next : ℕ) → AreTables slots es old →
+    ((k : ℕ) → k < length es → name_at es k ≢ n) → (length es < MOST_NAMES → AreTaken slots (home slots n) MOST_STEPS) → IsPlaced there n next old now →
+    AreTables slots es now
+tables_behind slots es old now there n next tables none taken placed = record {
+  room = tables.room;
+  known = tables.known;
+  found = tables.found;
+  once = tables.once;
+  apart = λ q p k is lt named. elim (old_or_placed old now there n q next p placed is) [
+    | inl before ↦ tables.apart q p k before lt named
+    | inr same ↦ none k lt (named ∙ sym same)
+  ];
+  behind = λ few q p is. elim (old_or_placed old now there n q next p placed is) [
+    | inl before ↦ tables.behind few q p before
+    | inr same ↦ subst (λ (m : List ℕ). AreTaken slots (home slots m) MOST_STEPS) same (taken few)
+  ];
 }
 
-pub same_table : (hash : List ℕ → ℕ) (slots : List (Option Slot)) (old now : List ℕ → Option ℕ) → ((q : List ℕ) → now q ≡ old q) →
-    IsTable hash slots old → IsTable hash slots now
-same_table hash slots old now same table = record { some = table.some; free = λ q none. same q ∙ table.free q none }
-
--- whether memory was there or not
-pub past_any : {E : Type 0} (hash : List ℕ → ℕ) (slots : List (Option Slot)) (old now : List ℕ → Option ℕ) (r : Result (Option ℕ) E) (n : List ℕ) (next : ℕ) →
-    seen (slot_of hash slots n) n ≡ Taken → IfOk r (λ there. IsPlaced there n next old now) → OnErr r ((q : List ℕ) → now q ≡ old q) → IsTable hash slots old →
-    IsTable hash slots now
-past_any hash slots old now (Ok there) n next taken placed same table = past_table hash slots old now there n next taken placed table
-past_any hash slots old now (Err e) n next taken placed same table = same_table hash slots old now same table
-
--- ---- a table that holds nothing
-
-all_same : {X : Type 0} (n k : ℕ) (x : X) → get_or (replicate n x) k x ≡ x
-all_same zero k x = refl
-all_same (suc n) zero x = refl
-all_same (suc n) (suc k) x = all_same n k x
-
-pub empty_table : (hash : List ℕ → ℕ) (slots : List (Option Slot)) (rest : List ℕ → Option ℕ) → 0 < length slots → ((q : List ℕ) → rest q ≡ None) →
-    IsTable hash slots rest
-empty_table hash slots rest some none = record { some = some; free = λ q is. none q }
-
-pub empty_position : (hash : List ℕ → ℕ) (slots : List (Option Slot)) (rest : List ℕ → Option ℕ) (n : ℕ) → slots ≡ replicate n None → (q : List ℕ) →
-    position_in hash slots rest q ≡ None
-empty_position hash slots rest n are q =
-    let none : slot_of hash slots q ≡ None = ap (λ os. get_or os (hash q % length slots) None) are ∙ all_same n (hash q % length slots) None in
-    ap (λ o. position_seen (seen o q) (rest q)) none
+pub tables_same : (slots : List Slot) (es : List Entry) (old now : List ℕ → Option ℕ) → AreTables slots es old → ((q : List ℕ) → now q ≡ old q) → AreTables slots es now
+tables_same slots es old now tables same = record {
+  room = tables.room;
+  known = tables.known;
+  found = tables.found;
+  once = tables.once;
+  apart = λ q p k is lt. tables.apart q p k (sym (same q) ∙ is) lt;
+  behind = λ few q p is. tables.behind few q p (sym (same q) ∙ is);
+}

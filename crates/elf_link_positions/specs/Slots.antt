@@ -1,61 +1,116 @@
--- Names by position, in slots by hash.
-use Rattle.std.specs.Prelude.{◌≡◌, ℕ, ◌<◌, ◌/◌, ◌%◌, ◌^◌, if◌then◌else◌, Option, None, Some, List, get_or, length}
+-- Names by position, in slots by hash, with a map behind them.
+use Rattle.std.specs.Prelude.{◌≡◌, ◌≢◌, ◌⊎◌, ℕ, ◌<◌, ◌≤◌, ◌+◌, ◌-◌, ◌/◌, ◌%◌, ◌^◌, if◌then◌else◌, Option, None, Some, List, [], ◌∷◌, get_or, length}
 use Rattle.std.specs.Str.{bytes_eq}
 use Rattle.std.specs.Borrow.{Bor}
 use Rattle.std.specs.Hash.FoldHasher as folding
 use Rattle.elf_link_positions.specs.declared.positions.NamePositions.TheInside.{Inside}
+use Rattle.elf_link_positions.specs.declared.slots.Entry.{Entry}
 use Rattle.elf_link_positions.specs.declared.slots.Seen.{Seen}
 use Rattle.elf_link_positions.specs.declared.slots.Seen.TheVariants.{Free, Here, Taken}
 use Rattle.elf_link_positions.specs.declared.slots.Slot.{Slot}
-use Rattle.elf_link_positions.specs.Ordered.{position_among}
+use Rattle.elf_link_positions.specs.declared.slots.TheConstants.{MOST_NAMES, MOST_STEPS}
+use Rattle.elf_link_positions.specs.Ordered.{position_among, position_by}
 
--- the hash of a name, and what is left of it where the lower half is taken off
+-- the hash of a name, and the upper half of a hash
 unfoldable pub name_hash : List ℕ → ℕ
 name_hash name = folding.finish (folding.write folding.initial name)
 
-unfoldable pub upper_hash : List ℕ → ℕ
-upper_hash name = name_hash name / 2 ^ 32
+abbrev pub upper_of : ℕ → ℕ
+upper_of hash = hash / 2 ^ 32
 
--- what a slot tells of a name
-abbrev pub seen : Option Slot → List ℕ → Seen
-seen None name = Free
-seen (Some slot) name = if bytes_eq slot.name.now name then Here slot.position else Taken
+-- those that stand for a slot and an entry that aren't there
+abbrev pub free_slot : Slot
+free_slot = record { upper = 0; number = 0 }
 
--- the slot of a name by its hash
-abbrev pub slot_of : (List ℕ → ℕ) → List (Option Slot) → List ℕ → Option Slot
-slot_of hash slots name = get_or slots (hash name % length slots) None
+abbrev pub no_entry : Entry
+no_entry = record { name = record { ref_ptr = (0, 0); now = [] }; position = 0 }
 
--- where a name stands by its slot; where another name took that, by the rest
-abbrev pub position_seen : Seen → Option ℕ → Option ℕ
-position_seen Free rest = None
-position_seen (Here k) rest = Some k
-position_seen Taken rest = rest
+-- the entry of a number, which counts from 1
+abbrev pub entry_of : List Entry → ℕ → Entry
+entry_of entries number = get_or entries (number - 1) no_entry
 
-abbrev pub position_in : (List ℕ → ℕ) → List (Option Slot) → (List ℕ → Option ℕ) → List ℕ → Option ℕ
-position_in hash slots rest name = position_seen (seen (slot_of hash slots name) name) (rest name)
+-- slot s from a place on, and that the first n of them are taken
+abbrev pub slot_from : List Slot → ℕ → ℕ → Slot
+slot_from slots place s = get_or slots (place + s) free_slot
 
--- there are slots, and no name whose slot is free stands in the rest
-pub record IsTable (hash : List ℕ → ℕ) (slots : List (Option Slot)) (rest : List ℕ → Option ℕ) : Type 0 where
-  pub some : 0 < length slots
-  pub free : (name : List ℕ) → slot_of hash slots name ≡ None → rest name ≡ None
+abbrev pub AreTaken : List Slot → ℕ → ℕ → Type 0
+AreTaken slots place n = (s : ℕ) → s < n → 0 < (slot_from slots place s).number
+
+-- a slot is the one of this name, whose hash has this upper half
+abbrev pub IsOfName : List Entry → Slot → ℕ → List ℕ → Type 0
+IsOfName entries slot upper name = (slot.upper ≡ upper) × ((entry_of entries slot.number).name.now ≡ name)
+
+-- none of the first n slots from a place on is
+abbrev pub IsInNone : List Slot → List Entry → ℕ → ℕ → List ℕ → ℕ → Type 0
+IsInNone slots entries place upper name n = (s : ℕ) → s < n → ¬ IsOfName entries (slot_from slots place s) upper name
+
+-- each slot that is taken has a number of these entries
+abbrev pub AreKnown : List Slot → ℕ → Type 0
+AreKnown slots count = (i : ℕ) → (get_or slots i free_slot).number ≤ count
+
+-- what the slots from a place on tell of a name: the first of them that is free; or its position; or that all are others'
+abbrev pub Sees : List Slot → List Entry → ℕ → ℕ → List ℕ → Seen → Type 0
+Sees slots entries place upper name (Free at) = (s : ℕ) × (s < MOST_STEPS) × (at ≡ place + s) × ((slot_from slots place s).number ≡ 0)
+    × AreTaken slots place s × IsInNone slots entries place upper name s
+Sees slots entries place upper name (Here position) =
+    (k : ℕ) × (k < length entries) × ((get_or entries k no_entry).name.now ≡ name) × (position ≡ (get_or entries k no_entry).position)
+Sees slots entries place upper name Taken = AreTaken slots place MOST_STEPS × IsInNone slots entries place upper name MOST_STEPS
+
+-- the first slot of a name: the last slots are no name's first one
+abbrev pub home : List Slot → List ℕ → ℕ
+home slots name = name_hash name % (length slots - MOST_STEPS)
+
+-- the slots from a place on end at slot n: it is the last of a name, or free
+abbrev pub IsEnd : List Slot → ℕ → ℕ → Type 0
+IsEnd slots place n = (n ≡ MOST_STEPS) ⊎ ((slot_from slots place n).number ≡ 0)
+
+-- what its slots tell of a name: that it may take a free one; or its position; or that it stands in none, and as long as there are numbers
+-- all of them are taken
+abbrev pub Tells : List Slot → List Entry → List ℕ → Seen → Type 0
+Tells slots entries name (Free at) = (length entries < MOST_NAMES) × Sees slots entries (home slots name) (upper_of (name_hash name)) name (Free at)
+Tells slots entries name (Here position) = Sees slots entries (home slots name) (upper_of (name_hash name)) name (Here position)
+Tells slots entries name Taken = (length entries < MOST_NAMES → AreTaken slots (home slots name) MOST_STEPS)
+    × ((n : ℕ) × IsEnd slots (home slots name) n × IsInNone slots entries (home slots name) (upper_of (name_hash name)) name n)
+
+-- a name stands in one of its slots, by its number, behind slots that are taken
+abbrev pub IsFound : List Slot → List ℕ → ℕ → Type 0
+IsFound slots name number = (s : ℕ) × (s < MOST_STEPS) × AreTaken slots (home slots name) s
+    × (slot_from slots (home slots name) s ≡ record { upper = upper_of (name_hash name); number = number })
+
+-- the name of entry k, from 0 on
+abbrev pub name_at : List Entry → ℕ → List ℕ
+name_at entries k = (get_or entries k no_entry).name.now
+
+-- each entry is found, and no other has its name; a name of the map is none of an entry, and as long as there are numbers all of its slots
+-- are taken
+pub record AreTables (slots : List Slot) (entries : List Entry) (more : List ℕ → Option ℕ) : Type 0 where
+  pub room : MOST_STEPS < length slots
+  pub known : AreKnown slots (length entries)
+  pub found : (k : ℕ) → k < length entries → IsFound slots (name_at entries k) (k + 1)
+  pub once : (j k : ℕ) → j < length entries → k < length entries → name_at entries j ≡ name_at entries k → j ≡ k
+  pub apart : (q : List ℕ) (p k : ℕ) → more q ≡ Some p → k < length entries → name_at entries k ≢ q
+  pub behind : length entries < MOST_NAMES → (q : List ℕ) (p : ℕ) → more q ≡ Some p → AreTaken slots (home slots q) MOST_STEPS
+
+abbrev pub HasTables : Inside → Type 0
+HasTables p = AreTables p.slots.items p.entries.items (position_by p.more)
 
 -- what the positions are read from
 pub record Positions : Type 0 where
-  pub first : List (Option Slot)
-  pub second : List (Option Slot)
+  pub entries : List Entry
   pub more : List (Bor (List ℕ) × ℕ)
 
 abbrev pub positions_value : Inside → Positions
-positions_value p = record { first = p.first.items; second = p.second.items; more = p.more.entries }
+positions_value p = record { entries = p.entries.items; more = p.more.entries }
 
--- where a name stands, if its first slot is another's
-abbrev pub behind : Positions → List ℕ → Option ℕ
-behind p = position_in upper_hash p.second (position_among p.more)
+-- where the entries say that a name stands; and the one or the other of two answers
+abbrev pub entry_position : List Entry → List ℕ → Option ℕ
+entry_position [] q = None
+entry_position (e ∷ es) q = if bytes_eq e.name.now q then Some e.position else entry_position es q
+
+abbrev pub or_else : Option ℕ → Option ℕ → Option ℕ
+or_else None other = other
+or_else (Some p) other = Some p
 
 -- where a name stands
 unfoldable pub name_position : Positions → List ℕ → Option ℕ
-name_position p = position_in name_hash p.first (behind p)
-
-pub record AreTables (p : Positions) : Type 0 where
-  pub first : IsTable name_hash p.first (behind p)
-  pub second : IsTable upper_hash p.second (position_among p.more)
+name_position p q = or_else (entry_position p.entries q) (position_among p.more q)

@@ -1,6 +1,6 @@
 //! The hash of a name, and its place in a table.
 ghost use Rattle.std.specs.Prelude.{◌≡◌, ◌<◌, ◌%◌};
-ghost use Rattle.elf_link_positions.specs.Slots.{name_hash, upper_hash};
+ghost use Rattle.elf_link_positions.specs.Slots.{name_hash, upper_of as upper_of_hash};
 
 use std::hash::{FoldHasher, Hasher};
 
@@ -14,12 +14,11 @@ pub(crate) fn hash_of(name: &[u8]) -> u64
     hasher.finish()
 }
 
-/// The upper half of the hash of a name.
-#[tactic(auto, unfolding(crate::specs::Slots::upper_hash))]
-pub(crate) fn upper_of(name: &[u8]) -> u64
-    ensures { result ≡ upper_hash name.now }
+/// The upper half of a hash.
+pub(crate) fn upper_of(hash: u64) -> u32
+    ensures { result ≡ upper_of_hash hash }
 {
-    hash_of(name) / 0x1_0000_0000
+    (hash / 0x1_0000_0000) as u32
 }
 
 /// The place of a hash among so many.
