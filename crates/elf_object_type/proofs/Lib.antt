@@ -8,3 +8,4 @@ pub mod SoundReferences
 pub mod ObjectDecided
 pub mod Public
 pub mod Elements
+mod Equality

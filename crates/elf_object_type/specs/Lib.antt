@@ -8,3 +8,5 @@ pub mod SymbolRules
 pub mod ObjectRules
 pub mod KeepsObjectRules
 pub mod Widths
+pub mod Equality
+pub mod EqualityLaws

@@ -26,6 +26,7 @@ mod object_rules;
 mod parts;
 mod positions;
 mod relocation;
+mod rule_names;
 pub mod rules;
 mod section;
 mod section_rules;
@@ -35,7 +36,7 @@ mod widths;
 
 pub use fault::ObjectFault;
 pub use laws::{kept_object_rules, one_object_fault};
-pub use object::Object;
+pub use object::{Object, kept_object};
 pub use parts::ObjectParts;
 pub use relocation::Relocation;
 pub use section::{Body, Info, Section};

@@ -1,5 +1,5 @@
 //! The object: parts that break no rule.
-ghost use Rattle.std.specs.Prelude.{◌≡◌, IfErr, IfOk, OnOk, map};
+ghost use Rattle.std.specs.Prelude.{◌≡◌, ◌↔◌, IfErr, IfOk, IsTrue, OnOk, map};
 ghost use Rattle.elf_object_type.specs.ObjectRules.{IsObject, IsObjectFault};
 ghost use Rattle.elf_object_type.specs.ObjectView.{section_value, symbol_value, value_of};
 ghost use Rattle.elf_object_type.specs.Widths.{ObjectFits};
@@ -35,6 +35,29 @@ impl<'a> Model for Object<'a> {
     ghost invariant = { λ a. IsObject (value_of a.parts) × ObjectFits (value_of a.parts) };
 }
 
+impl PartialEq for Object<'_> {
+    ghost use Rattle.elf_object_type.specs.Equality.{is_same_object};
+    ghost use Rattle.elf_object_type.specs.EqualityLaws.{object_partial_equivalence};
+
+    ghost eq = { is_same_object };
+
+    ghost laws = { object_partial_equivalence };
+
+    /// Whether they are the same object, in all parts.
+    fn eq(&self, other: &Self) -> bool
+        ensures parts { result ≡ is_same_object self.now other.now }
+        ensures same { IsTrue result ↔ (self.now ≡ other.now) }
+    {
+        self.parts == other.parts
+    }
+}
+
+impl Eq for Object<'_> {
+    ghost use Rattle.elf_object_type.specs.EqualityLaws.{object_equivalence};
+
+    ghost laws = { object_equivalence };
+}
+
 impl<'a> Object<'a> {
     /// The object of these parts, which are dropped where they break a rule.
     ///
@@ -50,15 +73,6 @@ impl<'a> Object<'a> {
         judge(alloc, &parts)?;
         prove_parts(&parts);
         Ok(Object { parts })
-    }
-
-    /// The object of these parts, of which the caller knows that they break no rule.
-    pub fn of_kept(parts: ObjectParts<'a>) -> Object<'a>
-        requires { IsObject (value_of parts) }
-        ensures { result ≡ value_of parts.entry }
-    {
-        prove_parts(&parts);
-        Object { parts }
     }
 
     /// Proves that no object rule is broken, that each number fits its field in a file, and that names and bits are bytes. A contract does
@@ -118,4 +132,13 @@ impl<'a> Object<'a> {
     {
         &self.parts.symbols
     }
+}
+
+/// The object of these parts, of which the caller knows that they break no rule.
+pub fn kept_object<'a>(parts: ObjectParts<'a>) -> Object<'a>
+    requires { IsObject (value_of parts) }
+    ensures { result ≡ value_of parts.entry }
+{
+    prove_parts(&parts);
+    Object { parts }
 }

@@ -4,7 +4,7 @@ use crate::symbol::Symbol;
 use elf_field::Order;
 
 /// All that an object holds, not yet judged: [`Object::new`](crate::Object::new) makes it one.
-#[derive(Debug, Drop)]
+#[derive(Debug, PartialEq, Eq, Drop)]
 pub struct ObjectParts<'a> {
     /// The byte order of the file.
     pub order: Order,

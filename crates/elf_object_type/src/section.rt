@@ -11,7 +11,7 @@ pub enum Info {
 }
 
 /// What a section holds.
-#[derive(Debug, Drop)]
+#[derive(Debug, PartialEq, Eq, Drop)]
 pub enum Body<'a> {
     /// A section type and bytes that mean nothing here.
     Bits(u32, &'a [u8]),
@@ -38,7 +38,7 @@ pub enum Body<'a> {
 }
 
 /// A section. Its name and bytes borrow from where they were read.
-#[derive(Debug, Drop)]
+#[derive(Debug, PartialEq, Eq, Drop)]
 pub struct Section<'a> {
     /// The name, without a closing zero.
     pub name: &'a [u8],
