@@ -6,9 +6,11 @@ ghost use Rattle.elf_object_reader.specs.FileRules.{file_rules};
 ghost use Rattle.elf_image_rules.specs.Rows.{FirstIn};
 ghost use Rattle.elf_table_base.specs.Sections.{Sections};
 
-/// A file that is read as an object has at most one fault.
+/// A file that is read as an object has one fault or none: no other rule and offset meets the definition, and it can't be that no answer
+/// does.
 pub fn one_file_fault()
-    ensures { (f : Sections) (x y : Option (ℕ × ℕ)) → FirstIn (file_rules f) x → FirstIn (file_rules f) y → x ≡ y }
+    ensures some { (f : Sections) → ((x : Option (ℕ × ℕ)) → FirstIn (file_rules f) x → ⊥) → ⊥ }
+    ensures one { (f : Sections) (x y : Option (ℕ × ℕ)) → FirstIn (file_rules f) x → FirstIn (file_rules f) y → x ≡ y }
 {}
 
 /// A file denotes one object; one without section headers denotes the object without sections and symbols.

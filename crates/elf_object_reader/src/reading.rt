@@ -16,7 +16,7 @@ use crate::object_reader::ObjectReader;
 use elf_field::abi::*;
 use elf_image_stream::Fault;
 use elf_image_type::Image;
-use elf_object_type::{Object, ObjectParts};
+use elf_object_type::{Object, ObjectParts, kept_object};
 use elf_table_all::Tables;
 use std::alloc::Global;
 
@@ -35,7 +35,7 @@ pub fn object_of<'a>(alloc: Global, image: &Image<'a>) -> Result<Object<'a>, Fau
 {
     image.prove_stands();
     let parts = parts_of(alloc, image)?;
-    Ok(Object::of_kept(parts))
+    Ok(kept_object(parts))
 }
 
 /// The parts of the object that the image denotes.

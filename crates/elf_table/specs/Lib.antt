@@ -1,4 +1,5 @@
 -- The words of the contracts that this door shows, for the contracts of those who stand on it.
+pub use Rattle.elf_table_all.specs.TableRules
 pub use Rattle.elf_table_base.specs.Judged
 pub use Rattle.elf_table_base.specs.OwnRules
 pub use Rattle.elf_table_base.specs.Sections

@@ -1,6 +1,8 @@
 -- `Public` is for the proofs of the crates above, the others are for those of this one.
 mod AllIndexTables
 mod AskedRules
+mod EntriesInFile
 mod JudgedVerdicts
+mod SectionsOfBytes
 mod TableLinks
 pub mod Public

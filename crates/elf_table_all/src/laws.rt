@@ -24,11 +24,13 @@ pub fn sections_of_bytes()
     ensures { (v : ImageValue) (b : List ℕ) → IsImage v b → sections_of v ≡ sections_in b }
 {}
 
-/// A table has at most one fault.
+/// A table has one fault or none: no other rule and offset meets the definition, and it can't be that no answer does.
 pub fn one_table_fault()
     ensures strings { (f : Sections) (i : ℕ) (x y : Option (ℕ × ℕ)) → FirstIn (string_table_rules f i) x → FirstIn (string_table_rules f i) y → x ≡ y }
     ensures symbols { (f : Sections) (i : ℕ) (x y : Option (ℕ × ℕ)) → FirstIn (symbol_table_rules f i) x → FirstIn (symbol_table_rules f i) y → x ≡ y }
     ensures table { (f : Sections) (i : ℕ) (x y : Option (ℕ × ℕ)) → FirstIn (table_rules f i) x → FirstIn (table_rules f i) y → x ≡ y }
+    ensures some_strings { (f : Sections) (i : ℕ) → ((x : Option (ℕ × ℕ)) → FirstIn (string_table_rules f i) x → ⊥) → ⊥ }
+    ensures some_table { (f : Sections) (i : ℕ) → ((x : Option (ℕ × ℕ)) → FirstIn (table_rules f i) x → ⊥) → ⊥ }
 {}
 
 /// Entry j of a content is the record at the content's offset in the file and j times its size: of symbols, of the words of index

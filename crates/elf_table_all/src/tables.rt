@@ -19,9 +19,11 @@ use crate::verdicts::all_verdicts;
 use elf_field::abi::*;
 use elf_image_rules::Broken;
 use elf_image_type::Image;
-use elf_table_hash::Hash;
-use elf_table_lists::{Dynamic, Group, Notes, Relocs};
-use elf_table_symbols::{IndexTables, Symbols};
+use elf_table_hash::{Hash, sound_hash};
+use elf_table_lists::{
+    Dynamic, Group, Notes, Relocs, section_relocs, sound_dynamic, sound_group, sound_notes,
+};
+use elf_table_symbols::{IndexTables, Symbols, sound_symbols};
 use std::alloc::{AllocError, Global};
 use std::marker::Model;
 
@@ -78,7 +80,7 @@ impl<'i, 'a> Tables<'i, 'a> {
         requires { HasSoundTable self.now i kind.SymbolTable }
         ensures { result ≡ symbols_of (sections_of self.now.image) i }
     {
-        Symbols::of_sound(self.image, i, self.index_tables[i])
+        sound_symbols(self.image, i, self.index_tables[i])
     }
 
     /// The relocation section `i`, under the same conditions.
@@ -86,7 +88,7 @@ impl<'i, 'a> Tables<'i, 'a> {
         requires { HasSoundTable self.now i kind.RelocationTable }
         ensures { result ≡ relocations_of (sections_of self.now.image) i }
     {
-        Relocs::of_section(self.image, i)
+        section_relocs(self.image, i)
     }
 
     /// The group in section `i`, under the same conditions.
@@ -94,7 +96,7 @@ impl<'i, 'a> Tables<'i, 'a> {
         requires { HasSoundTable self.now i kind.SectionGroup }
         ensures { result ≡ group_of (sections_of self.now.image) i }
     {
-        Group::of_sound(self.image, i)
+        sound_group(self.image, i)
     }
 
     /// The name of the group in section `i`, under the same conditions: its signature's, in the symbol table that it links to.
@@ -112,7 +114,7 @@ impl<'i, 'a> Tables<'i, 'a> {
         requires { HasSoundTable self.now i kind.NoteSection }
         ensures { result ≡ notes_of (sections_of self.now.image) i }
     {
-        Notes::of_sound(self.image, i)
+        sound_notes(self.image, i)
     }
 
     /// The dynamic array in section `i`, under the same conditions.
@@ -120,7 +122,7 @@ impl<'i, 'a> Tables<'i, 'a> {
         requires { HasSoundTable self.now i kind.DynamicArray }
         ensures { result ≡ dynamic_array_of (sections_of self.now.image) i }
     {
-        Dynamic::of_sound(self.image, i)
+        sound_dynamic(self.image, i)
     }
 
     /// The hash table in section `i`, under the same conditions.
@@ -128,7 +130,7 @@ impl<'i, 'a> Tables<'i, 'a> {
         requires { HasSoundTable self.now i kind.HashTable }
         ensures { result ≡ hash_of_section (sections_of self.now.image) i }
     {
-        Hash::of_sound(self.image, i)
+        sound_hash(self.image, i)
     }
 
     /// The string table of the dynamic array in section `i`, under the same conditions: the one that it links to.

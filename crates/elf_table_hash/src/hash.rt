@@ -54,21 +54,7 @@ impl<'a> Hash<'a> {
     {
         let table = TableSection { image, index: i };
         judge_hash_table(alloc, table, SymbolVerdicts::Unknown)?;
-        Ok(Hash::of_sound(image, i))
-    }
-
-    /// The hash table in section `i`, which breaks no rule.
-    pub fn of_sound(image: &Image<'a>, i: usize) -> Hash<'a>
-        requires there { i < length image.now.sections }
-        requires sound { FirstIn (hash_table_rules (sections_of image.now) i) None }
-        ensures { result ≡ hash_of_section (sections_of image.now) i }
-    {
-        let table = TableSection { image, index: i };
-        let parts = HashParts::new(LinkedTable { table });
-        Hash {
-            words: parts.words,
-            names: parts.names,
-        }
+        Ok(sound_hash(image, i))
     }
 
     /// How many buckets there are: word 0.
@@ -127,6 +113,32 @@ impl<'a> Hash<'a> {
         ensures few { result.1 < nchain_of self.now.words }
     {
         probe_in(&self.words, &self.names, name)
+    }
+}
+
+/// The hash table in section `i`, which breaks no rule.
+pub fn sound_hash<'a>(image: &Image<'a>, i: usize) -> Hash<'a>
+    requires there { i < length image.now.sections }
+    requires sound { FirstIn (hash_table_rules (sections_of image.now) i) None }
+    ensures { result ≡ hash_of_section (sections_of image.now) i }
+{
+    let table = TableSection { image, index: i };
+    let parts = HashParts::new(LinkedTable { table });
+    Hash {
+        words: parts.words,
+        names: parts.names,
+    }
+}
+
+impl<'s, 'a> IntoIterator for &'s Hash<'a> {
+    type Item = u32;
+
+    type IntoIter = HashIter<'s, 'a>;
+
+    ghost into_iter_gives = { λ table r. words_left r ≡ table.now.words };
+
+    fn into_iter(self) -> HashIter<'s, 'a> {
+        self.iter()
     }
 }
 

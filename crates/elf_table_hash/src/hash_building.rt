@@ -5,19 +5,23 @@ ghost use Rattle.elf_table_hash.specs.HashTable.{nbucket as nbucket_of, nchain a
 ghost use Rattle.elf_table_hash.specs.HashThreads.{IsThreaded, threaded};
 
 use crate::name_hash::elf_hash;
-use std::alloc::{AllocError, Global};
+use std::alloc::{AllocError, AllocFailed, Global};
+use thiserror::Error;
 
 /// The most names, and the most buckets, of a table that is made.
 const MAX_HASH_SIZE: usize = 1 << 24;
 
 /// Why a hash table can't be made; where several hold, the first of them.
-#[derive(Clone, Copy, Debug, PartialEq, Eq)]
+#[derive(Clone, Copy, Debug, PartialEq, Eq, Error)]
 pub enum HashFault {
     /// There is to be no bucket.
+    #[error("a hash table without buckets")]
     NoBuckets,
     /// More than 2^24 names, or buckets.
+    #[error("more than 2^24 names or buckets")]
     TooMany,
     /// A growth was refused.
+    #[error("out of memory")]
     OutOfMemory,
 }
 
@@ -27,6 +31,16 @@ impl From<AllocError> for HashFault {
     ghost from_gives = { λ _ fault. fault ≡ OutOfMemory };
 
     fn from(_refused: AllocError) -> HashFault {
+        HashFault::OutOfMemory
+    }
+}
+
+impl<T: Drop> From<AllocFailed<T>> for HashFault {
+    ghost use Rattle.elf_table_hash.specs.declared.hash_building.HashFault.TheVariants.{OutOfMemory};
+
+    ghost from_gives = { λ _ fault. fault ≡ OutOfMemory };
+
+    fn from(_refused: AllocFailed<T>) -> HashFault {
         HashFault::OutOfMemory
     }
 }

@@ -18,7 +18,7 @@ mod hash_word_rules;
 mod hash_words;
 mod name_hash;
 
-pub use hash::{Hash, HashIter};
+pub use hash::{Hash, HashIter, sound_hash};
 pub use hash_building::{HashFault, build_hash};
 pub use hash_probe::find_in;
 pub use hash_rules::judge_hash_table;

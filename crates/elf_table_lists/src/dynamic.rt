@@ -47,20 +47,7 @@ impl<'a> Dynamic<'a> {
         ensures { IsJudged (dynamic_section_rules (sections_of image.now) i) (λ dynamic. dynamic ≡ dynamic_array_of (sections_of image.now) i) result }
     {
         judge_dynamic_section(TableSection { image, index: i })?;
-        Ok(Dynamic::of_sound(image, i))
-    }
-
-    /// The dynamic array in section `i`, which breaks no rule. Linear in the entries; it takes no memory.
-    pub fn of_sound(image: &Image<'a>, i: usize) -> Dynamic<'a>
-        requires there { i < length image.now.sections }
-        requires sound { FirstIn (dynamic_section_rules (sections_of image.now) i) None }
-        ensures { result ≡ dynamic_array_of (sections_of image.now) i }
-    {
-        let section = TableSection { image, index: i };
-        let order = section.order();
-        let table = section.content();
-        let end = first_null_entry(order, table);
-        Dynamic { order, table, end }
+        Ok(sound_dynamic(image, i))
     }
 
     /// How many entries there are before the first of tag `DT_NULL`.
@@ -86,6 +73,31 @@ impl<'a> Dynamic<'a> {
             dynamic: self,
             next: 0,
         }
+    }
+}
+
+/// The dynamic array in section `i`, which breaks no rule. Linear in the entries; it takes no memory.
+pub fn sound_dynamic<'a>(image: &Image<'a>, i: usize) -> Dynamic<'a>
+    requires there { i < length image.now.sections }
+    requires sound { FirstIn (dynamic_section_rules (sections_of image.now) i) None }
+    ensures { result ≡ dynamic_array_of (sections_of image.now) i }
+{
+    let section = TableSection { image, index: i };
+    let order = section.order();
+    let table = section.content();
+    let end = first_null_entry(order, table);
+    Dynamic { order, table, end }
+}
+
+impl<'s, 'a> IntoIterator for &'s Dynamic<'a> {
+    type Item = Dyn;
+
+    type IntoIter = DynamicIter<'s, 'a>;
+
+    ghost into_iter_gives = { λ table r. dynamic_left r ≡ table.now };
+
+    fn into_iter(self) -> DynamicIter<'s, 'a> {
+        self.iter()
     }
 }
 

@@ -54,21 +54,7 @@ impl<'a> Group<'a> {
     {
         let section = TableSection { image, index: i };
         judge_group_section(alloc, section, SymbolVerdicts::Unknown)?;
-        Ok(Group::of_sound(image, i))
-    }
-
-    /// The group in section `i`, which breaks no rule.
-    pub fn of_sound(image: &Image<'a>, i: usize) -> Group<'a>
-        requires there { i < length image.now.sections }
-        requires sound { FirstIn (group_section_rules (sections_of image.now) i) None }
-        ensures { result ≡ group_of (sections_of image.now) i }
-    {
-        let section = TableSection { image, index: i };
-        Group {
-            order: section.order(),
-            signature: section.header().sh_info,
-            words: section.content(),
-        }
+        Ok(sound_group(image, i))
     }
 
     /// Its flags: `GRP_COMDAT`, or 0 for none.
@@ -108,6 +94,32 @@ impl<'a> Group<'a> {
             group: self,
             next: 0,
         }
+    }
+}
+
+/// The group in section `i`, which breaks no rule.
+pub fn sound_group<'a>(image: &Image<'a>, i: usize) -> Group<'a>
+    requires there { i < length image.now.sections }
+    requires sound { FirstIn (group_section_rules (sections_of image.now) i) None }
+    ensures { result ≡ group_of (sections_of image.now) i }
+{
+    let section = TableSection { image, index: i };
+    Group {
+        order: section.order(),
+        signature: section.header().sh_info,
+        words: section.content(),
+    }
+}
+
+impl<'s, 'a> IntoIterator for &'s Group<'a> {
+    type Item = u32;
+
+    type IntoIter = GroupIter<'s, 'a>;
+
+    ghost into_iter_gives = { λ table r. members_left r ≡ table.now.members };
+
+    fn into_iter(self) -> GroupIter<'s, 'a> {
+        self.iter()
     }
 }
 

@@ -22,14 +22,14 @@ mod relocation;
 mod relocation_rules;
 mod relocs;
 
-pub use dynamic::{Dynamic, DynamicIter};
+pub use dynamic::{Dynamic, DynamicIter, sound_dynamic};
 pub use dynamic_entries::{dynamic_entry, dynamic_entry_count, first_null_entry, is_string_tag};
 pub use dynamic_rules::judge_dynamic_section;
-pub use group::{Group, GroupIter};
+pub use group::{Group, GroupIter, sound_group};
 pub use group_rules::{judge_group_section, member, member_count};
 pub use note::{Note, NoteHeader, note_at};
 pub use note_rules::judge_note_section;
-pub use notes::{NoteIter, Notes};
+pub use notes::{NoteIter, Notes, sound_notes};
 pub use relocation::{Relocation, relocation_at, relocation_count};
 pub use relocation_rules::judge_relocation_section;
-pub use relocs::{RelocIter, Relocs};
+pub use relocs::{RelocIter, Relocs, section_relocs};

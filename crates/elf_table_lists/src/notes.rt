@@ -42,20 +42,7 @@ impl<'a> Notes<'a> {
         ensures { IsJudged (note_section_rules (sections_of image.now) i) (λ notes. notes ≡ notes_of (sections_of image.now) i) result }
     {
         judge_note_section(TableSection { image, index: i })?;
-        Ok(Notes::of_sound(image, i))
-    }
-
-    /// The notes of section `i`, which breaks no rule.
-    pub fn of_sound(image: &Image<'a>, i: usize) -> Notes<'a>
-        requires there { i < length image.now.sections }
-        requires sound { FirstIn (note_section_rules (sections_of image.now) i) None }
-        ensures { result ≡ notes_of (sections_of image.now) i }
-    {
-        let section = TableSection { image, index: i };
-        Notes {
-            order: section.order(),
-            table: section.content(),
-        }
+        Ok(sound_notes(image, i))
     }
 
     /// The notes in order.
@@ -67,6 +54,31 @@ impl<'a> Notes<'a> {
             table: self.table,
             at: 0,
         }
+    }
+}
+
+/// The notes of section `i`, which breaks no rule.
+pub fn sound_notes<'a>(image: &Image<'a>, i: usize) -> Notes<'a>
+    requires there { i < length image.now.sections }
+    requires sound { FirstIn (note_section_rules (sections_of image.now) i) None }
+    ensures { result ≡ notes_of (sections_of image.now) i }
+{
+    let section = TableSection { image, index: i };
+    Notes {
+        order: section.order(),
+        table: section.content(),
+    }
+}
+
+impl<'s, 'a> IntoIterator for &'s Notes<'a> {
+    type Item = Note<'a>;
+
+    type IntoIter = NoteIter<'a>;
+
+    ghost into_iter_gives = { λ table r. r ≡ table.now };
+
+    fn into_iter(self) -> NoteIter<'a> {
+        self.iter()
     }
 }
 

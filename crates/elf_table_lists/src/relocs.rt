@@ -46,20 +46,7 @@ impl<'a> Relocs<'a> {
         ensures { IsJudged (relocation_section_rules (sections_of image.now) i) (λ relocs. relocs ≡ relocations_of (sections_of image.now) i) result }
     {
         judge_relocation_section(TableSection { image, index: i }, SymbolVerdicts::Unknown)?;
-        Ok(Relocs::of_section(image, i))
-    }
-
-    /// The relocations that section `i` holds.
-    pub fn of_section(image: &Image<'a>, i: usize) -> Relocs<'a>
-        requires { i < length image.now.sections }
-        ensures { result ≡ relocations_of (sections_of image.now) i }
-    {
-        let section = TableSection { image, index: i };
-        Relocs {
-            order: section.order(),
-            addends: section.header().sh_type == SHT_RELA,
-            table: section.content(),
-        }
+        Ok(section_relocs(image, i))
     }
 
     /// How many relocations there are.
@@ -85,6 +72,31 @@ impl<'a> Relocs<'a> {
             relocs: self,
             next: 0,
         }
+    }
+}
+
+/// The relocations that section `i` holds.
+pub fn section_relocs<'a>(image: &Image<'a>, i: usize) -> Relocs<'a>
+    requires { i < length image.now.sections }
+    ensures { result ≡ relocations_of (sections_of image.now) i }
+{
+    let section = TableSection { image, index: i };
+    Relocs {
+        order: section.order(),
+        addends: section.header().sh_type == SHT_RELA,
+        table: section.content(),
+    }
+}
+
+impl<'s, 'a> IntoIterator for &'s Relocs<'a> {
+    type Item = Relocation;
+
+    type IntoIter = RelocIter<'s, 'a>;
+
+    ghost into_iter_gives = { λ table r. relocations_left r ≡ table.now };
+
+    fn into_iter(self) -> RelocIter<'s, 'a> {
+        self.iter()
     }
 }
 

@@ -27,4 +27,4 @@ pub use symbol::{Place, Symbol};
 pub use symbol_rules::judge_symbol_table;
 pub use symbol_verdicts::SymbolVerdicts;
 pub use symbol_words::{entry, word};
-pub use symbols::{SymbolIter, Symbols};
+pub use symbols::{SymbolIter, Symbols, sound_symbols};

@@ -57,24 +57,7 @@ impl<'a> Symbols<'a> {
         let table = TableSection { image, index: i };
         let tables = index_tables_of(image, i);
         judge_symbol_table(table, tables)?;
-        Ok(Symbols::of_sound(image, i, tables))
-    }
-
-    /// The symbol table in section `i`, which breaks no rule and has these index tables.
-    pub fn of_sound(image: &Image<'a>, i: usize, tables: IndexTables) -> Symbols<'a>
-        requires there { i < length image.now.sections }
-        requires tables { AreIndexTables (sections_of image.now) i (length image.now.sections) tables }
-        requires sound { FirstIn (symbol_table_rules (sections_of image.now) i) None }
-        ensures { result ≡ symbols_of (sections_of image.now) i }
-    {
-        let table = TableSection { image, index: i };
-        let parts = SymbolParts::new(LinkedTable { table }, tables);
-        Symbols {
-            order: parts.order,
-            table: parts.table,
-            names: parts.names,
-            words: parts.words,
-        }
+        Ok(sound_symbols(image, i, tables))
     }
 
     /// How many symbols there are.
@@ -109,6 +92,35 @@ impl<'a> Symbols<'a> {
             symbols: self,
             next: 0,
         }
+    }
+}
+
+/// The symbol table in section `i`, which breaks no rule and has these index tables.
+pub fn sound_symbols<'a>(image: &Image<'a>, i: usize, tables: IndexTables) -> Symbols<'a>
+    requires there { i < length image.now.sections }
+    requires tables { AreIndexTables (sections_of image.now) i (length image.now.sections) tables }
+    requires sound { FirstIn (symbol_table_rules (sections_of image.now) i) None }
+    ensures { result ≡ symbols_of (sections_of image.now) i }
+{
+    let table = TableSection { image, index: i };
+    let parts = SymbolParts::new(LinkedTable { table }, tables);
+    Symbols {
+        order: parts.order,
+        table: parts.table,
+        names: parts.names,
+        words: parts.words,
+    }
+}
+
+impl<'s, 'a> IntoIterator for &'s Symbols<'a> {
+    type Item = Symbol<'a>;
+
+    type IntoIter = SymbolIter<'s, 'a>;
+
+    ghost into_iter_gives = { λ table r. symbols_left r ≡ table.now };
+
+    fn into_iter(self) -> SymbolIter<'s, 'a> {
+        self.iter()
     }
 }
 

@@ -3,8 +3,8 @@ use Rattle.elf_object_type.specs.ObjectView.{value_of}
 use Rattle.elf_object_reader.proofs.ObjectKept.{object_kept}
 use Rattle.elf_object_reader.proofs.reading.object_of.Goals as goal
 
-pub of_kept-requires : goal.of_kept-requires
-of_kept-requires c =
+pub kept_object-requires : goal.kept_object-requires
+kept_object-requires c =
     let v = c.args.image.now in
     let sound = image_is_sound v c.prove_stands.ensures.0 c.prove_stands.ensures.1 in
     object_kept v (value_of c.in_ok-parts.parts) sound c.in_ok-parts.ensures.0 c.in_ok-parts.ensures.1

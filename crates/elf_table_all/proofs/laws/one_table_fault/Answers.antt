@@ -1,4 +1,4 @@
-use Rattle.elf_image_rules.proofs.Public.{one_fault}
+use Rattle.elf_image_rules.proofs.Public.{one_fault, some_fault}
 use Rattle.elf_table_symbols.specs.StringRules.{string_table_rules}
 use Rattle.elf_table_symbols.specs.SymbolRules.{symbol_table_rules}
 use Rattle.elf_table_all.specs.TableRules.{table_rules}
@@ -12,3 +12,9 @@ returns-clause-symbols c = λ f i x y. one_fault (symbol_table_rules f i) x y
 
 pub returns-clause-table : goal.returns-clause-table
 returns-clause-table c = λ f i x y. one_fault (table_rules f i) x y
+
+pub returns-clause-some_strings : goal.returns-clause-some_strings
+returns-clause-some_strings c = λ f i. some_fault (string_table_rules f i)
+
+pub returns-clause-some_table : goal.returns-clause-some_table
+returns-clause-some_table c = λ f i. some_fault (table_rules f i)

@@ -1,6 +1,6 @@
 use Rattle.std.proofs.Common.{refl}
 use Rattle.elf_table_lists.specs.Relocations.{relocations_of}
-use Rattle.elf_table_lists.proofs.relocs.Relocs.of_section.Goals as goal
+use Rattle.elf_table_lists.proofs.relocs.section_relocs.Goals as goal
 
 pub returns : goal.returns
 unfolding relocations_of

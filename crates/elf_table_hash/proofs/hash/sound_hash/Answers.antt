@@ -10,7 +10,7 @@ use Rattle.elf_table_symbols.specs.SymbolRules.{symbol_table_rules}
 use Rattle.elf_table_hash.specs.HashParts.{HashPartsValue, hash_parts, hash_parts_value}
 use Rattle.elf_table_hash.specs.HashRules.{chain_rules, hash_rules, hash_table_rules, word_rules}
 use Rattle.elf_table_hash.proofs.HashSound.{valid_when}
-use Rattle.elf_table_hash.proofs.hash.Hash.of_sound.Goals as goal
+use Rattle.elf_table_hash.proofs.hash.sound_hash.Goals as goal
 
 pub invariant_of-new : goal.invariant_of-new
 unfolding hash_table_rules

@@ -3,7 +3,7 @@ use Rattle.elf_table_symbols.specs.SymbolParts.{SymbolPartsValue}
 use Rattle.elf_table_symbols.specs.Symbols.{symbols_in, symbols_of}
 use Rattle.elf_table_symbols.proofs.IndexTableLemmas.{first_index_table}
 use Rattle.elf_table_symbols.proofs.SymbolLists.{readable, sound_link}
-use Rattle.elf_table_symbols.proofs.symbols.Symbols.of_sound.Goals as goal
+use Rattle.elf_table_symbols.proofs.symbols.sound_symbols.Goals as goal
 
 pub invariant_of-new : goal.invariant_of-new
 invariant_of-new c = record { linked = sound_link _ c.args.i c.requires.sound }

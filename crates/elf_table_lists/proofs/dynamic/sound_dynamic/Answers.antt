@@ -1,5 +1,5 @@
 use Rattle.elf_table_lists.proofs.DynamicLists.{dynamic_array_is}
-use Rattle.elf_table_lists.proofs.dynamic.Dynamic.of_sound.Goals as goal
+use Rattle.elf_table_lists.proofs.dynamic.sound_dynamic.Goals as goal
 
 pub returns : goal.returns
 returns c =
