@@ -1,6 +1,6 @@
 -- The member of a byte that a list holds, and extents of which no byte is held twice.
-use Rattle.std.proofs.Common.{◌≡◌, ℕ, ◌<◌, List, length, get_or, None, Some, inl, inr, ap, sym, subst, ◌∙◌, arith}
-use Rattle.std.specs.Prelude.{slice_get}
+use Rattle.std.proofs.Common.{◌≡◌, ℕ, ◌<◌, List, length, get_or, Option, None, Some, inl, inr, ap, sym, subst, ◌∙◌, arith}
+use Rattle.std.specs.Prelude.{slice_get, IfNone}
 use Rattle.std.specs.List.{Contains}
 use Rattle.std.proofs.lemmas.Bool.{cases_lt}
 use Rattle.std.proofs.lemmas.List.{get_or-map, get_or_default, length-map}
@@ -8,7 +8,7 @@ use Rattle.std.proofs.lemmas.Option.{slice_get_cases}
 use Rattle.elf_extent.specs.declared.extent.Extent.{Extent}
 use Rattle.elf_extent.specs.declared.members.Member.{Member}
 use Rattle.elf_extent.specs.Extent.{Has, HasAt, Doubly, AreDisjoint}
-use Rattle.elf_extent.specs.Least.{Never}
+use Rattle.elf_extent.specs.Least.{IsLowest, Never}
 use Rattle.elf_extent.specs.Members.{AreMembers}
 
 -- a position that has an element is below the length
@@ -56,6 +56,11 @@ disjoint_from_never es none i j x at_i at_j = elim (cases_lt i j) [
     | inr same ↦ omega arith
   ]
 ]
+
+-- so are those of which no lowest such byte was found
+pub disjoint_where_none : (es : List Extent) (found : Option ℕ) → IsLowest (Doubly es) found → IfNone found (AreDisjoint es)
+disjoint_where_none es None none = disjoint_from_never es none
+disjoint_where_none es (Some x) least = tt
 
 -- and of disjoint extents no byte is held twice
 pub never_from_disjoint : (es : List Extent) → AreDisjoint es → Never (Doubly es)

@@ -1,6 +1,6 @@
 //! The lowest byte that two members of a list of extents hold.
-ghost use Rattle.std.specs.Prelude.{◌≡◌, filter, IfOk};
-ghost use Rattle.elf_extent.specs.Extent.{Doubly, holds_any};
+ghost use Rattle.std.specs.Prelude.{◌≡◌, filter, IfNone, IfOk};
+ghost use Rattle.elf_extent.specs.Extent.{AreDisjoint, Doubly, holds_any};
 ghost use Rattle.elf_extent.specs.Least.{IsLowest};
 
 use crate::extent::{Extent, OutOfMemory};
@@ -9,12 +9,13 @@ use crate::sweeping::sweep;
 use std::alloc::Global;
 
 /// The lowest offset, in bytes, that two members of the list hold, be they equal or not; None if
-/// there is none. An extent of length 0 holds no byte.
+/// there is none, so that they are disjoint. An extent of length 0 holds no byte.
 ///
 /// Takes n log n comparisons of starts, and memory for the extents that hold a byte. Answers
 /// [`OutOfMemory`] only where that was refused.
 pub fn first_double(alloc: Global, extents: &[Extent]) -> Result<Option<u64>, OutOfMemory>
-    ensures { IfOk result (IsLowest (Doubly extents.now)) }
+    ensures lowest { IfOk result (IsLowest (Doubly extents.now)) }
+    ensures disjoint { IfOk result (λ found. IfNone found (AreDisjoint extents.now)) }
 {
     let mut held = nonempty(alloc, extents)?;
     held.sort_unstable_by_key(|extent| extent.start);

@@ -1,7 +1,10 @@
 //! An extent, a piece of an account, and want of memory.
 
+use thiserror::Error;
+
 /// Memory was refused.
-#[derive(Clone, Copy, PartialEq, Eq, Debug)]
+#[derive(Clone, Copy, PartialEq, Eq, Debug, Error)]
+#[error("out of memory")]
 pub struct OutOfMemory;
 
 /// The bytes at the offsets from `start` to below `start + len`; none where `len` is 0.

@@ -3,14 +3,17 @@ ghost use Rattle.std.specs.Prelude.{length, IfOk, IfErr, MatchOption};
 ghost use Rattle.elf_extent.specs.Place.{AllFit, EndsFit, HasNoPlace, IsLeastPlace, IsPlaceFault, Least};
 
 use std::alloc::Global;
+use thiserror::Error;
 
 /// Why parts have no places.
-#[derive(Clone, Copy, PartialEq, Eq, Debug)]
+#[derive(Clone, Copy, PartialEq, Eq, Debug, Error)]
 pub enum PlaceFault {
     /// At its least place the part at `index` starts or ends past the last offset of a u64; no
     /// part before it does.
+    #[error("part {index} ends past the last offset")]
     Overflow { index: usize },
     /// Memory was refused. Each part has a place.
+    #[error("out of memory")]
     OutOfMemory,
 }
 

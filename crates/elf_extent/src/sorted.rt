@@ -1,7 +1,7 @@
 //! Extents sorted once, for all that is asked of them in the order of their starts.
-ghost use Rattle.std.specs.Prelude.{◌≡◌, length, map, IfOk};
+ghost use Rattle.std.specs.Prelude.{◌≡◌, length, map, IfNone, IfOk};
 ghost use Rattle.std.specs.List.Sorted.{IsNonDecreasingBy};
-ghost use Rattle.elf_extent.specs.Extent.{Doubly};
+ghost use Rattle.elf_extent.specs.Extent.{AreDisjoint, Doubly};
 ghost use Rattle.elf_extent.specs.Least.{IsLowest};
 ghost use Rattle.elf_extent.specs.Members.{AreMembers};
 
@@ -44,7 +44,8 @@ impl<'a> SortedExtents<'a> {
     /// The lowest offset, in bytes, that two of them hold, as [`first_double`](crate::first_double) finds it. Linear in
     /// the extents; takes no memory.
     pub fn first_double(&self) -> Option<u64>
-        ensures { IsLowest (Doubly self.now) result }
+        ensures lowest { IsLowest (Doubly self.now) result }
+        ensures disjoint { IfNone result (AreDisjoint self.now) }
     {
         sweep(&mut MemberRow {
             members: &self.members,

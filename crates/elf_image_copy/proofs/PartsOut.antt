@@ -24,7 +24,8 @@ use Rattle.elf_image_outline.proofs.Standing.{get_or_at, within_list}
 use Rattle.elf_image_outline.proofs.Stands.{content_is}
 use Rattle.elf_image_outline.proofs.Written.{IsPartAt, joined_parts, part_in}
 use Rattle.elf_image_copy.specs.declared.fault.CopyFault.{CopyFault}
-use Rattle.elf_image_copy.specs.Copying.{CopiedOut, Copies, ReadsBehind, bytes_out, later}
+use Rattle.elf_image_copy.specs.declared.fault.CopyFault.TheVariants.{Read, Write}
+use Rattle.elf_image_copy.specs.Copying.{CopiedOut, Copies, IsOfSource, ReadsBehind, ReadsOfSource, ReadsPart, bytes_out, later}
 use Rattle.elf_image_copy.proofs.Out.{behind_after, copies_after, out_count, out_more}
 
 -- the bytes of a part with zeros for contents and gaps, and with those of the source
@@ -179,3 +180,10 @@ parts_behind block o ps k d fault sound same within is =
     let p = get_or ps k d in
     behind_after block 0 p.start p.len o.len fault (part_within o k p sound (at_index o ps k d same within))
     (subst (λ (n : ℕ). ReadsBehind block n p.len (Err fault)) (sym (zero-add p.start)) is)
+
+-- a read that failed in a part whose bytes are the source's failed at a byte of such a part
+pub parts_read : (block : ℕ) (o : OutlineValue) (ps : List Part) (k : ℕ) (d : Part) (fault : CopyFault) → ps ≡ o.parts → k < length ps →
+    ReadsBehind block (get_or ps k d).start (get_or ps k d).len (Err fault) → ReadsPart o.zeroed (get_or ps k d).owner (Err fault) →
+    ReadsOfSource o (Err (later (get_or ps k d).start fault))
+parts_read block o ps k d (Write written) same within behind reads = tt
+parts_read block o ps k d (Read at written) same within behind reads = (k, get_or ps k d, at_index o ps k d same within, reads, omega (arith, behind.0), behind.2)

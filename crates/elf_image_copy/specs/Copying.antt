@@ -1,6 +1,10 @@
 -- What a copy from a source onto a writer answers, and what is out then.
-use Rattle.std.specs.Prelude.{◌≡◌, ◌<◌, ◌≤◌, ◌+◌, ℕ, List, length, take, Option, None, Some, Result, Ok, Err}
+use Rattle.std.specs.Prelude.{◌≡◌, ◌<◌, ◌≤◌, ◌+◌, ℕ, Bool, false, List, length, take, Option, None, Some, Result, Ok, Err, slice_get}
 use Rattle.std.specs.Io.KnownBytes.{Appends}
+use Rattle.elf_image_outline.specs.declared.part.Owner.{Owner}
+use Rattle.elf_image_outline.specs.declared.part.Owner.TheVariants.{Header, ProgramTable, SectionTable, Content, Gap}
+use Rattle.elf_image_outline.specs.declared.part.Part.{Part}
+use Rattle.elf_image_outline.specs.Outline.{OutlineValue}
 use Rattle.elf_image_copy.specs.declared.fault.CopyFault.{CopyFault}
 use Rattle.elf_image_copy.specs.declared.fault.CopyFault.TheVariants.{Read, Write}
 
@@ -37,3 +41,24 @@ abbrev pub ReadsBehind : ℕ → ℕ → ℕ → Result (Unit {0}) CopyFault →
 ReadsBehind block start len (Ok u) = Unit
 ReadsBehind block start len (Err (Write written)) = Unit
 ReadsBehind block start len (Err (Read at written)) = (start + written ≤ at) × (at < start + written + block) × (at < start + len)
+
+-- the bytes of a part are the source's: those of a content, and those of a gap where gaps don't count as zeros
+abbrev pub IsOfSource : Bool → Owner → Type 0
+IsOfSource zeroed Header = ⊥
+IsOfSource zeroed ProgramTable = ⊥
+IsOfSource zeroed SectionTable = ⊥
+IsOfSource zeroed (Content i) = Unit
+IsOfSource zeroed Gap = zeroed ≡ false
+
+-- a read failed only where the part's bytes are the source's
+abbrev pub ReadsPart : Bool → Owner → Result (Unit {0}) CopyFault → Type 0
+ReadsPart zeroed owner (Ok u) = Unit
+ReadsPart zeroed owner (Err (Write written)) = Unit
+ReadsPart zeroed owner (Err (Read at written)) = IsOfSource zeroed owner
+
+-- only at a byte of such a part
+abbrev pub ReadsOfSource : OutlineValue → Result (Unit {0}) CopyFault → Type 0
+ReadsOfSource o (Ok u) = Unit
+ReadsOfSource o (Err (Write written)) = Unit
+ReadsOfSource o (Err (Read at written)) =
+    (k : ℕ) × (p : Part) × (slice_get o.parts k ≡ Some p) × IsOfSource o.zeroed p.owner × (p.start ≤ at) × (at < p.start + p.len)

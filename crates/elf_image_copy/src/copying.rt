@@ -3,7 +3,7 @@ ghost use Rattle.std.specs.Prelude.{◌≡◌, ℕ, List, Some, slice_get};
 ghost use Rattle.elf_image_outline.specs.Image.{IsImage, part_bytes};
 ghost use Rattle.elf_image_outline.specs.Outline.{IsOutlineOf, IsSoundOutline, bytes_of_outline, image_in, placed_part};
 ghost use Rattle.elf_image_source.specs.Source.{Remembers};
-ghost use Rattle.elf_image_copy.specs.Copying.{Copies, ReadsBehind, copy_failure};
+ghost use Rattle.elf_image_copy.specs.Copying.{Copies, ReadsBehind, ReadsOfSource, ReadsPart, copy_failure};
 
 use crate::fault::CopyFault;
 use crate::range::copy_range;
@@ -28,6 +28,7 @@ fn copy_part<S: Source, W: Write>(
     ensures copies { Copies (S.content source.old) (W.contents writer.old) (W.contents writer.new) part.len
         (λ b. part_bytes (image_in outline.now b) (placed_part outline.now.zeroed b part)) result }
     ensures behind { ReadsBehind BLOCK part.start part.len result }
+    ensures reads { ReadsPart outline.now.zeroed part.owner result }
 {
     match part.owner {
         Owner::Header => Ok(write_records(writer, outline.order(), &[outline.header()])?),
@@ -63,6 +64,7 @@ pub fn copy_image<S: Source, W: Write>(
         IsImage (image_in outline.now b) (bytes_of_outline outline.now b) }
     ensures failures { Remembers (copy_failure result) (S.failures source.old) (S.failures source.new) }
     ensures behind { ReadsBehind BLOCK 0 outline.now.len result }
+    ensures reads { ReadsOfSource outline.now result }
 {
     outline.prove_stands();
     for part in outline.parts() {

@@ -4,13 +4,16 @@ ghost use Rattle.elf_image_copy.specs.Copying.{bytes_out, later};
 
 use elf_image_source::ReadFault;
 use elf_image_stream::WriteFault;
+use thiserror::Error;
 
 /// Why an image was not copied whole. Exactly its first `written` bytes are out.
-#[derive(Clone, Copy, Debug, PartialEq, Eq)]
+#[derive(Clone, Copy, Debug, PartialEq, Eq, Error)]
 pub enum CopyFault {
     /// A call of the source failed that was asked for this offset in the file, or gave no byte where more were to come.
+    #[error("read failed at {at} after {written} bytes written")]
     Read { at: u64, written: u64 },
     /// A call of the writer failed, or took none of the bytes that it was offered.
+    #[error("write failed after {written}")]
     Write { written: u64 },
 }
 

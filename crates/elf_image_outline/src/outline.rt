@@ -18,7 +18,7 @@ use std::marker::Model;
 /// its bytes belongs to. It is what [`scan`](crate::scan) reads of a source.
 ///
 /// No accessor and no edit takes memory. Offsets and lengths are in bytes.
-#[derive(Drop)]
+#[derive(Debug, Drop)]
 pub struct Outline {
     len: u64,
     header: Ehdr,

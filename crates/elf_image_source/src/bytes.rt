@@ -1,15 +1,15 @@
 //! Bytes in memory as a source.
-ghost use Rattle.std.specs.Prelude.{◌≡◌, ◌-◌, ◌++◌, drop, length, min, take};
+ghost use Rattle.std.specs.Prelude.{◌≡◌, ◌≤◌, ◌-◌, ◌++◌, IfOk, Ok, drop, length, min, take};
 
 use crate::source::{Failed, Source};
 
-/// Bytes in memory. It tells them, gives all of them that a read asks for, and never fails.
+/// Bytes in memory. It tells them, gives all of them that a read asks for and that are there, and never fails.
 #[derive(Clone, Copy, Debug)]
 pub struct Bytes<'a>(pub &'a [u8]);
 
 impl<'a> Source for Bytes<'a> {
     ghost use Rattle.std.specs.Prelude.{Some};
-    ghost use Rattle.elf_image_source.specs.Source.{no_failures};
+    ghost use Rattle.elf_image_source.specs.Source.{GivesFrom, RemembersRead, no_failures};
 
     ghost content = { λ s. Some s.0.now };
 
@@ -19,7 +19,14 @@ impl<'a> Source for Bytes<'a> {
         Ok(self.0.len() as u64)
     }
 
-    fn read_at(&mut self, at: u64, buf: &mut [u8]) -> Result<usize, Failed> {
+    fn read_at(&mut self, at: u64, buf: &mut [u8]) -> Result<usize, Failed>
+        ensures kept { Some self.new.0.now ≡ Some self.old.0.now }
+        ensures failures { RemembersRead (Some self.old.0.now) at (length buf.old) no_failures no_failures result }
+        ensures bound { IfOk result (λ k. k ≤ length buf.new) }
+        ensures same { length buf.new ≡ length buf.old }
+        ensures bytes { GivesFrom (Some self.old.0.now) at result buf.new }
+        ensures all { result ≡ Ok (min (length self.old.0.now - at) (length buf.old)) }
+    {
         Ok(self.copy_at(at, buf))
     }
 }

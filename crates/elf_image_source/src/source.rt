@@ -2,8 +2,11 @@
 ghost use Rattle.std.specs.Prelude.{◌≡◌, ◌≤◌, length, IfOk};
 ghost use Rattle.elf_image_source.specs.Source.{GivesFrom, RemembersCall, RemembersRead, SaysLength};
 
+use thiserror::Error;
+
 /// A call of a source failed.
-#[derive(Clone, Copy, Debug, PartialEq, Eq)]
+#[derive(Clone, Copy, Debug, PartialEq, Eq, Error)]
+#[error("a call of the source failed")]
 pub struct Failed;
 
 /// Bytes that are read at any place.

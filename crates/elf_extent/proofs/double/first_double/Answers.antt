@@ -2,6 +2,7 @@ use Rattle.std.proofs.Common.{rules}
 use Rattle.std.proofs.lemmas.List.Sorted.{IsNonDecreasingBy-from_sort_by_key}
 use Rattle.elf_extent.specs.declared.extent.Extent.{Extent}
 use Rattle.elf_extent.proofs.Holders.{lowest_sorted, nonempty_sorted}
+use Rattle.elf_extent.proofs.Overlaps.{disjoint_where_none}
 use Rattle.elf_extent.proofs.double.first_double.Goals as goal
 
 pub sweep-requires-clause-ascending : goal.sweep-requires-clause-ascending
@@ -16,8 +17,11 @@ sweep-requires-clause-nonempty c =
     (nonempty_sorted c.args.extents.now _
     (rw c.in_ok-held.ensures at c.sort_unstable_by_key.ensures.permutation)))
 
-pub returns : goal.returns
-returns c =
+pub returns-clause-lowest : goal.returns-clause-lowest
+returns-clause-lowest c =
     lowest_sorted c.args.extents.now _ _
     (rw c.in_ok-held.ensures at c.sort_unstable_by_key.ensures.permutation)
     (rw c.deref.ensures.value at (rw c.new.ensures.shown at c.sweep.ensures.lowest))
+
+pub returns-clause-disjoint : goal.returns-clause-disjoint
+returns-clause-disjoint c = disjoint_where_none c.args.extents.now _ (returns-clause-lowest c)

@@ -1,7 +1,7 @@
 -- Invariant: the parts so far are out. A part that fails leaves out exactly a beginning of its bytes, so of the whole.
 use Rattle.std.proofs.Common.{◌∙◌}
 use Rattle.elf_image_outline.proofs.Theorem.{joined_is_image}
-use Rattle.elf_image_copy.proofs.PartsOut.{failed_fits, parts_all, parts_behind, parts_failed, parts_more}
+use Rattle.elf_image_copy.proofs.PartsOut.{failed_fits, parts_all, parts_behind, parts_failed, parts_more, parts_read}
 use Rattle.elf_image_copy.proofs.copying.copy_image.Goals as goal
 
 pub returns-in-Err-clause-copies : goal.returns-in-Err-clause-copies
@@ -41,3 +41,8 @@ pub returns-clause-copies : goal.returns-clause-copies
 returns-clause-copies g c =
     parts_all c.args.outline.now c.parts-part-items.result.now c.loop-part.part-index _ _ _ c.prove_stands.ensures c.parts-part-items.ensures.value
     c.loop-part-test.false c.loop-part.invariant.out
+
+pub returns-in-Err-clause-reads : goal.returns-in-Err-clause-reads
+returns-in-Err-clause-reads g c =
+    rw c.after.ensures (parts_read _ c.args.outline.now c.parts-part-items.result.now c.loop-part.part-index _ c.in-Err.fault c.parts-part-items.ensures.value
+    c.loop-part-test.true c.in-Err.ensures.behind c.in-Err.ensures.reads)

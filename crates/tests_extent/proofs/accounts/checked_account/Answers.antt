@@ -1,15 +1,7 @@
 use Rattle.std.proofs.Common.{◌+◌, ◌≤◌, rules, subst}
 use Rattle.std.proofs.lemmas.Option.{get_or_from_slice_get, slice_get_within}
 use Rattle.elf_extent.specs.declared.extent.Extent.{Extent}
-use Rattle.elf_extent.specs.Extent.{Doubly}
-use Rattle.elf_extent.specs.Least.{IsLowest}
-use Rattle.elf_extent.proofs.Public.{disjoint_from_never}
 use Rattle.tests_extent.proofs.accounts.checked_account.Goals as goal
-
-pub account-requires-clause-disjoint : goal.account-requires-clause-disjoint
-account-requires-clause-disjoint c =
-    disjoint_from_never c.args.extents.now
-    (subst (IsLowest (Doubly c.args.extents.now)) c.in-None.is c.in_ok-first_double.ensures)
 
 pub account-requires-clause-within : goal.account-requires-clause-within
 account-requires-clause-within c = λ i e here nonempty.
