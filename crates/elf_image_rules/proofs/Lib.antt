@@ -11,3 +11,4 @@ pub mod Public
 mod RowKinds
 mod Rows
 mod Same
+mod SomeFault

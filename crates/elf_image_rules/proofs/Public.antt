@@ -8,4 +8,5 @@ pub use Rattle.elf_image_rules.proofs.ImageRules.{fault_of_extents, fault_of_rec
 pub use Rattle.elf_image_rules.proofs.KeepsRules.{records_kept, records_unbroken, rules_kept, rules_unbroken}
 pub use Rattle.elf_image_rules.proofs.Kept.{kept_sections, kept_segments, kept_short}
 pub use Rattle.elf_image_rules.proofs.Rows.{AreSame, AreSame-append, AreSame-refl, FirstIn-behind, FirstIn-front, FirstIn-handed, FirstIn-later, FirstIn-rest, FirstIn-same, FirstIn-sooner, FirstIn-stop, one_fault, one_fault_by}
+pub use Rattle.elf_image_rules.proofs.SomeFault.{HasFirst, least_or_never, some_fault, some_first}
 pub use Rattle.elf_image_rules.proofs.Same.{Agree, same_clean, same_entries, same_rules}

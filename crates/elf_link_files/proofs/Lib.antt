@@ -8,4 +8,5 @@ pub mod Items
 pub mod Told
 pub mod FirstSite
 pub mod OneSite
+pub mod SomeSite
 pub mod Public

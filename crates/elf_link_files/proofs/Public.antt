@@ -8,4 +8,5 @@ pub use Rattle.elf_link_files.proofs.Listings.{listed_more, listed_past, lists_m
 pub use Rattle.elf_link_files.proofs.ObjectFacts.{object_is, symbol_placed}
 pub use Rattle.elf_link_files.proofs.OneSite.{one_first, one_found, one_site_list}
 pub use Rattle.elf_link_files.proofs.Seen.{earlier_more, earlier_next, file_before}
+pub use Rattle.elf_link_files.proofs.SomeSite.{some_site}
 pub use Rattle.elf_link_files.proofs.Told.{match_map, not_true, same_bool, same_name}

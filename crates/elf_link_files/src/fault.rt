@@ -1,15 +1,18 @@
 //! Why objects can't be linked.
 ghost use Rattle.std.specs.Prelude.{◌≡◌};
 
+use crate::rule_names::rule_name;
 use crate::site::Site;
 use elf_image_rules::Broken;
-use std::alloc::AllocError;
+use std::alloc::{AllocError, AllocFailed};
+use thiserror::Error;
 
 /// The first of the link's rules ([`rules`](crate::rules)) that stands, or want of memory.
-#[derive(Clone, Copy, Debug, PartialEq, Eq)]
+#[derive(Clone, Copy, Debug, PartialEq, Eq, Error)]
 pub enum LinkFault {
     /// The rule of this number stands, and no lower one: at this file, this section or symbol of it, and this entry of a
     /// relocation section; no earlier ones. What the rule does not look at is 0.
+    #[error("rule {rule} ({name}) at entry {entry} of {index} in file {file}", name = rule_name(*.rule))]
     Rule {
         rule: u16,
         file: usize,
@@ -17,6 +20,7 @@ pub enum LinkFault {
         entry: usize,
     },
     /// A growth was refused.
+    #[error("out of memory")]
     OutOfMemory,
 }
 
@@ -26,6 +30,16 @@ impl From<AllocError> for LinkFault {
     ghost from_gives = { λ _ fault. fault ≡ OutOfMemory };
 
     fn from(_refused: AllocError) -> LinkFault {
+        LinkFault::OutOfMemory
+    }
+}
+
+impl<T: Drop> From<AllocFailed<T>> for LinkFault {
+    ghost use Rattle.elf_link_files.specs.declared.fault.LinkFault.TheVariants.{OutOfMemory};
+
+    ghost from_gives = { λ _ fault. fault ≡ OutOfMemory };
+
+    fn from(_refused: AllocFailed<T>) -> LinkFault {
         LinkFault::OutOfMemory
     }
 }

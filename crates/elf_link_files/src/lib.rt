@@ -14,6 +14,7 @@ mod input_section;
 mod input_symbol;
 mod inputs;
 mod options;
+mod rule_names;
 pub mod rules;
 mod section_tests;
 mod site;

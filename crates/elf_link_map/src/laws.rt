@@ -2,6 +2,8 @@
 ghost use Rattle.std.specs.Prelude.{◌≡◌, ℕ, List, None, Option};
 ghost use Rattle.elf_link_files.specs.declared.options.Options.{Options};
 ghost use Rattle.elf_link_files.specs.declared.site.Site.{Site};
+ghost use Rattle.elf_link_files.specs.Rows.{FirstAmong};
+ghost use Rattle.elf_link_names.specs.LinkRules.{input_rules};
 ghost use Rattle.elf_link_map.specs.Apart.{StandApart};
 ghost use Rattle.elf_link_map.specs.LinkFaults.{FirstOfLink};
 ghost use Rattle.elf_link_map.specs.LinkMap.{IsLinkMap, LinkMapValue};
@@ -39,9 +41,11 @@ pub fn prove_objects(objects: &[Object<'_>])
     }
 }
 
-/// Some objects and options have at most one answer: that no rule of the link stands, or the first one that does, at its first site.
+/// Some objects and options have at most one answer: that no rule of the link stands, or the first one that does, at its first site. Of
+/// rules 1 to 9, which are asked of the objects alone, it can't be that no answer meets the definition.
 pub fn one_link_fault()
-    ensures { (opt : Options) (fs : List ObjectValue) (a b : Option (ℕ × Site)) → FirstOfLink opt fs a → FirstOfLink opt fs b → a ≡ b }
+    ensures some { (opt : Options) (fs : List ObjectValue) → ((x : Option (ℕ × Site)) → FirstAmong (input_rules opt fs) x → ⊥) → ⊥ }
+    ensures one { (opt : Options) (fs : List ObjectValue) (a b : Option (ℕ × Site)) → FirstOfLink opt fs a → FirstOfLink opt fs b → a ≡ b }
 {}
 
 /// Some objects and options have at most one link map: no second value meets the definition.

@@ -18,22 +18,24 @@ use crate::values::Values;
 use elf_link_map::{Broken, LinkFault, Site};
 use std::alloc::Global;
 
-/// Answers a rule at the first field that breaks it, whose position this is.
-fn refuse_first(
-    test: FieldTest,
-    _values: &Values<'_, '_, '_>,
-    fields: &[Field],
-    first: Option<usize>,
-) -> Result<(), Broken<Site>>
-    requires fields { AreFields _values.now.objects _values.now.rules fields.now }
-    requires first { IsFirstBroken _values.now.objects _values.now.map fields.now test first }
-    ensures ok { OnOk result (HasNone (BreaksFieldTest _values.now.objects _values.now.map test) fields.now) }
-    ensures nowhere { OnOk result (Never (test_row _values.now.objects _values.now.map _values.now.rules test)) }
-    ensures err { IfErr result (IsTestFault _values.now.objects _values.now.map _values.now.rules test) }
-{
-    match first {
-        Some(k) => Err(Broken::new(test.rule(), fields[k].site)),
-        None => Ok(()),
+impl Values<'_, '_, '_> {
+    /// Answers a rule at the first of these fields that breaks it, whose position this is.
+    fn refuse_first(
+        &self,
+        test: FieldTest,
+        fields: &[Field],
+        first: Option<usize>,
+    ) -> Result<(), Broken<Site>>
+        requires fields { AreFields self.now.objects self.now.rules fields.now }
+        requires first { IsFirstBroken self.now.objects self.now.map fields.now test first }
+        ensures ok { OnOk result (HasNone (BreaksFieldTest self.now.objects self.now.map test) fields.now) }
+        ensures nowhere { OnOk result (Never (test_row self.now.objects self.now.map self.now.rules test)) }
+        ensures err { IfErr result (IsTestFault self.now.objects self.now.map self.now.rules test) }
+    {
+        match first {
+            Some(k) => Err(Broken::new(test.rule(), fields[k].site)),
+            None => Ok(()),
+        }
     }
 }
 
@@ -66,10 +68,9 @@ pub(crate) fn judged_fields(
     ensures err { IfErr result (IsRelocationFault values.entry.objects values.entry.map values.entry.rules) }
 {
     let fields = all_fields(alloc, &values)?;
-    refuse_first(FieldTest::Unplaced, &values, &fields.list, fields.unplaced)?;
-    refuse_first(
+    values.refuse_first(FieldTest::Unplaced, &fields.list, fields.unplaced)?;
+    values.refuse_first(
         FieldTest::FieldOutOfRange,
-        &values,
         &fields.list,
         fields.out_of_range,
     )?;
@@ -78,11 +79,6 @@ pub(crate) fn judged_fields(
         fields: &fields.list,
     };
     list.refuse_overlap(alloc)?;
-    refuse_first(
-        FieldTest::ValueOutOfRange,
-        &values,
-        &fields.list,
-        fields.refused,
-    )?;
+    values.refuse_first(FieldTest::ValueOutOfRange, &fields.list, fields.refused)?;
     Ok(fields.list)
 }

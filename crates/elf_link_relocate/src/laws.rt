@@ -1,7 +1,8 @@
 //! What the layers above may know of relocated bytes. What is said of a map of the files holds whatever its base, page and entry are
 //! (`IsMapButOptions`).
-ghost use Rattle.std.specs.Prelude.{◌≡◌, ◌<◌, ℕ, List, None, length};
+ghost use Rattle.std.specs.Prelude.{◌≡◌, ◌<◌, ℕ, List, None, Option, length};
 ghost use Rattle.elf_link_files.specs.declared.options.Options.{Options};
+ghost use Rattle.elf_link_files.specs.declared.site.Site.{Site};
 ghost use Rattle.elf_link_files.specs.Rows.{FirstAmong};
 ghost use Rattle.elf_link_map.specs.LinkFaults.{FirstOfLink};
 ghost use Rattle.elf_link_map.specs.LinkMap.{IsLinkMap, LinkMapValue, with_options};
@@ -22,6 +23,15 @@ pub fn any_options()
 pub fn without_entry()
     ensures { (fs : List ObjectValue) (m : LinkMapValue) → IsMapButOptions fs m →
         (opt : Options) × (opt.entry ≡ None) × IsLinkMap opt fs (with_options m opt.base opt.page 0) × FirstOfLink opt fs None }
+{}
+
+/// Of rules 12 to 16 some objects, their map and relocation rules have one answer: no other rule and site meets the definition, and it can't
+/// be that no answer does.
+pub fn one_relocation_fault()
+    ensures one { (fs : List ObjectValue) (m : LinkMapValue) (rules : List RelocRule) (x y : Option (ℕ × Site)) →
+        FirstAmong (applied_entry_rules fs m rules) x → FirstAmong (applied_entry_rules fs m rules) y → x ≡ y }
+    ensures some { (fs : List ObjectValue) (m : LinkMapValue) (rules : List RelocRule) →
+        ((x : Option (ℕ × Site)) → FirstAmong (applied_entry_rules fs m rules) x → ⊥) → ⊥ }
 {}
 
 /// In a map of the files, where none of rules 1 to 16 stands, the memory of a link has one byte at each address, or none.

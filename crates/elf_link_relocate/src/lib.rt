@@ -33,7 +33,7 @@ mod values;
 
 pub use laws::{
     any_options, field_in_content, memory_bytes, memory_in, memory_there, memory_zero, one_byte,
-    some_byte, without_entry,
+    one_relocation_fault, some_byte, without_entry,
 };
 pub use linked::{Identity, Linked};
 pub use mapped::Mapped;

@@ -65,7 +65,7 @@ impl<'m, 'a> Linked<'m, 'a> {
         ensures fit { ObjectsFit self.now.objects }
         ensures page { self.now.map.page < 2 ^ 64 }
     {
-        let _ = &self.objects;
+        let _ = self.map.page();
     }
 
     /// The map that the sections stand by.

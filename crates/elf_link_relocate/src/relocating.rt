@@ -43,7 +43,6 @@ pub fn relocate_numbered<'m, 'a>(
     let mut copies = all_copies(alloc, &linking)?;
     patch_all(&linking, &fields, &mut copies);
     prove_objects(objects);
-    let _page = map.page();
     Ok(Linked {
         map,
         objects,

@@ -12,7 +12,7 @@ use Rattle.elf_link_relocate.proofs.field_list.FieldList.may_share.Goals as goal
 
 pub returns-in-Ok-None : goal.returns-in-Ok-None
 returns-in-Ok-None c = λ _.
-    let none : Never (Doubly c.deref.result.now) = subst (IsLowest (Doubly c.deref.result.now)) c.in-Ok-None.field-0-is c.in-Ok-None.ensures in
+    let none : Never (Doubly c.deref.result.now) = subst (IsLowest (Doubly c.deref.result.now)) c.in-Ok-None.field-0-is c.in-Ok-None.ensures.lowest in
     apart_by_address c.args.self.now.objects c.args.self.now.map c.args.self.now.fields
     (subst (λ (es : List Extent). Never (Doubly es)) (c.deref.ensures.value ∙ c.in_ok-extents.ensures) none)
 
