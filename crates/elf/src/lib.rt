@@ -16,10 +16,10 @@
 //! | program | what it shows |
 //! |---|---|
 //! | `example_symbols FILE` | reading a file, judging it, and listing the symbols of its tables |
-//! | `example_make` | making an object from nothing and writing its canonical layout |
+//! | `example_make` | making an object from nothing, reading it back from its file, and writing its canonical layout |
 //! | `example_edit FILE SECTION FLAGS` | zeroing the gaps of a file, setting the flags of a section, and writing the image |
-//! | `example_link A B` | linking two objects, relocating their bytes, and writing the executable |
-//! | `example_copy FILE SECTION FLAGS` | copying a file with an edit by a source, without its contents in memory |
+//! | `example_link A B` | linking two objects, relocating their bytes, writing the executable, and asking it for a byte of memory |
+//! | `example_copy FILE SECTION FLAGS` | copying a file with an edit by a source of its own, without its contents in memory |
 //! | `example_roundtrip FILE` | parsing a file, and writing its image: the same bytes |
 //!
 //! ```
@@ -27,6 +27,72 @@
 //!
 //! assert_eq!(rt; verdict(&bytes), None);
 //! let image = parse(alloc, &bytes)?;
+//! ```
+//!
+//! A source, a row of extents and what opens files can be of one's own: the ghost members of the trait say what the value stands for, and the
+//! check asks of the methods what the trait promises of it. A source that counts the reads of another one, as the crate `example_copy` has it;
+//! a row of two extents; and a shelf with one file:
+//!
+//! ```
+//! use elf::extent::{Extent, Row};
+//! use elf::image::{Bytes, Failed, Source};
+//! use elf::tool::{OpenFault, Opener};
+//!
+//! struct Counting<S> {
+//!     inner: S,
+//!     reads: u64,
+//! }
+//!
+//! impl<S: Source> Source for Counting<S> {
+//!     ghost content = { λ s. S.content s.inner };
+//!     ghost failures = { λ s. S.failures s.inner };
+//!
+//!     fn length(&mut self) -> Result<u64, Failed> {
+//!         self.inner.length()
+//!     }
+//!
+//!     fn read_at(&mut self, at: u64, buf: &mut [u8]) -> Result<usize, Failed> {
+//!         self.reads = self.reads.saturating_add(1);
+//!         self.inner.read_at(at, buf)
+//!     }
+//! }
+//!
+//! struct Two {
+//!     extents: [Extent; 2],
+//!     looks: u64,
+//! }
+//!
+//! impl Row for Two {
+//!     ghost extents = { λ row. row.extents };
+//!     ghost looks = { λ row. row.looks };
+//!
+//!     fn len(&self) -> usize {
+//!         2
+//!     }
+//!
+//!     fn at(&mut self, k: usize) -> Extent {
+//!         self.looks += 1;
+//!         self.extents[k]
+//!     }
+//! }
+//!
+//! struct Shelf<'a> {
+//!     name: &'a str,
+//!     bytes: &'a [u8],
+//! }
+//!
+//! impl<'a> Opener for Shelf<'a> {
+//!     type Input = &'a [u8];
+//!     type Seek = Bytes<'a>;
+//!
+//!     fn reader(&mut self, name: &str) -> Result<&'a [u8], OpenFault> {
+//!         if name == self.name { Ok(self.bytes) } else { Err(OpenFault::Refused) }
+//!     }
+//!
+//!     fn source(&mut self, name: &str) -> Result<Bytes<'a>, OpenFault> {
+//!         Ok(Bytes(self.reader(name)?))
+//!     }
+//! }
 //! ```
 #![tactic(auto)]
 

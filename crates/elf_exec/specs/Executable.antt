@@ -46,3 +46,12 @@ pub record IsExecutable (fs : List ObjectValue) (m : LinkMapValue) (rules : List
   pub load : (v : ImageValue) → Stands v b → (x : ℕ) (found : Option ℕ) → LoadsFirst b v.segments x found →
       MatchOption found ((w : ℕ) → ¬ IsMemory fs m rules x w) (IsMemory fs m rules x)
   pub one : (c : List ℕ) → ExecLaid fs m rules c → c ≡ b
+
+-- b is the executable of a link of these objects, by some options
+abbrev pub IsExecutableOf : List ObjectValue → List RelocRule → List ℕ → Type 0
+IsExecutableOf fs rules b = (m : LinkMapValue) × IsMapOfSome fs m × IsExecutable fs m rules b
+
+-- what is found at an address is the byte that the memory of such a link has there, and nothing where it has none
+abbrev pub IsMemoryOf : List ObjectValue → List RelocRule → ℕ → Option ℕ → Type 0
+IsMemoryOf fs rules x found =
+    (m : LinkMapValue) × IsMapOfSome fs m × MatchOption found ((w : ℕ) → ¬ IsMemory fs m rules x w) (IsMemory fs m rules x)

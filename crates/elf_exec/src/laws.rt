@@ -8,9 +8,15 @@ ghost use Rattle.elf_link_relocate.specs.MapFacts.{IsMapOfSome};
 ghost use Rattle.elf_link_relocate.specs.RelocationRules.{applied_entry_rules};
 ghost use Rattle.elf_object_type.specs.Object.{ObjectValue};
 ghost use Rattle.elf_exec.specs.ExecLaid.{ExecLaid};
-ghost use Rattle.elf_exec.specs.Executable.{IsExecFile, IsExecutable, IsSoundLink};
+ghost use Rattle.elf_exec.specs.Executable.{IsExecFile, IsExecutable, IsExecutableOf, IsMemoryOf, IsSoundLink};
 ghost use Rattle.elf_exec.specs.ExecWriting.{IsExec};
 ghost use Rattle.elf_link_relocate.specs.ReadyLink.{IsReadyLink};
+ghost use Rattle.elf_image_outline.specs.Image.{IsImage};
+ghost use Rattle.elf_image_type.specs.Loads.{LoadsFirst};
+
+use elf_image_type::Image;
+use elf_link_field::RelocRule;
+use elf_object_type::Object;
 
 /// Of objects, their map and relocation rules, wherever they came from, where no rule of the link stands: their executable is an image; it
 /// enters at the value of the entry symbol, or at 0 where none is named, and its loadable segments give an address a byte exactly where the
@@ -29,4 +35,21 @@ pub fn some_exec()
 pub fn one_exec()
     ensures { (fs : List ObjectValue) (m : LinkMapValue) (rules : List RelocRule) (a b : List ℕ) → IsMapOfSome fs m → FirstAmong (applied_entry_rules fs m rules) None →
         ExecLaid fs m rules a → ExecLaid fs m rules b → a ≡ b }
+{}
+
+/// Proves that what [`load`](Image::load) found at an address of an executable's image is the byte that the memory of the link has there:
+/// `file` is the executable of these objects, `image` its image. A contract says so of every image and address, and of these the check has
+/// to be asked. It does nothing.
+pub fn prove_loaded(
+    objects: &[Object<'_>],
+    rules: &[RelocRule],
+    file: &[u8],
+    image: &Image<'_>,
+    address: u64,
+    found: Option<u8>,
+)
+    requires executable { IsExecutableOf objects.now rules.now file.now }
+    requires image { IsImage image.now file.now }
+    requires found { (b : List ℕ) × IsImage image.now b × LoadsFirst b image.now.segments address found }
+    ensures { IsMemoryOf objects.now rules.now address found }
 {}

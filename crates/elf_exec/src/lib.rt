@@ -26,5 +26,5 @@ mod program_headers;
 
 pub use exec_writing::write_exec;
 pub use fault::ExecFault;
-pub use laws::{executable, one_exec, some_exec};
+pub use laws::{executable, one_exec, prove_loaded, some_exec};
 pub use load::Load;

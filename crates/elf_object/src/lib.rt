@@ -22,7 +22,7 @@
 
 pub mod rules;
 
-pub use elf_object_file::write_object;
+pub use elf_object_file::{prove_read_back, write_object};
 pub use elf_object_reader::object_of;
 pub use elf_object_strings::{Shared, shared_table};
 pub use elf_object_type::{

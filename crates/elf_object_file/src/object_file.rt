@@ -1,6 +1,11 @@
 //! The file of an object onto a writer.
-ghost use Rattle.elf_object_file.specs.ObjectFile.{IsObjectWritten};
+ghost use Rattle.std.specs.Prelude.{◌≡◌};
+ghost use Rattle.elf_image_outline.specs.Image.{IsImage};
+ghost use Rattle.elf_object_file.specs.ObjectFile.{IsObjectWritten, IsWrittenFile};
+ghost use Rattle.elf_object_reader.specs.Denotes.{Denotes};
+ghost use Rattle.elf_table_base.specs.Sections.{sections_of};
 
+use elf_image_type::Image;
 use elf_object_type::Object;
 use elf_object_writer::{ObjectWriteFault, write_layout};
 use std::alloc::Global;
@@ -31,3 +36,12 @@ pub fn write_object<W: Write>(
     object.prove_rules();
     write_layout(alloc, object, writer)
 }
+
+/// Proves that what an object's file is read as is the object: `file` is what [`write_object`] wrote, `image` its image, and `read` the object
+/// of that. A contract says so of every image and every object, and of these two the check has to be asked. It does nothing.
+pub fn prove_read_back(object: &Object<'_>, file: &[u8], image: &Image<'_>, read: &Object<'_>)
+    requires written { IsWrittenFile object.now file.now }
+    requires image { IsImage image.now file.now }
+    requires denoted { Denotes (sections_of image.now) read.now }
+    ensures { read.now ≡ object.now }
+{}

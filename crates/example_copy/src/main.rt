@@ -1,6 +1,9 @@
 //! `example_copy FILE SECTION FLAGS`: copies an ELF-64 file to standard output with other flags (`sh_flags`) of a section, whose index and
-//! flags are decimal numbers. It reads the file where it has to, and never holds its contents.
+//! flags are decimal numbers. It reads the file where it has to, and never holds its contents; how many reads that took it says on standard
+//! error.
 #![tactic(auto)]
+
+mod counting;
 
 ghost use Rattle.std.specs.Prelude.{◌≡◌, ℕ, List, Some};
 ghost use Rattle.std.specs.Io.KnownBytes.{Appends};
@@ -9,6 +12,7 @@ ghost use Rattle.elf_image.specs.Edits.{flagged};
 ghost use Rattle.elf_image.specs.Image.{IsImage};
 ghost use Rattle.elf_image.specs.Outline.{OutlineValue, image_in};
 
+use counting::Counting;
 use elf_image::{Fault, Seeking, Source, copy_image, scan};
 use std::alloc::Global;
 use std::io::Write;
@@ -25,8 +29,9 @@ fn main(rt: HostRuntime) -> io::Result<ExitCode> {
         eprintln!(rt; "example_copy: SECTION and FLAGS are decimal numbers")?;
         return Ok(ExitCode::from(2));
     };
-    let mut source = Seeking::new(fs::open(&rt, name.as_str())?);
+    let mut source = Counting::new(Seeking::new(fs::open(&rt, name.as_str())?));
     let status = copy_with_flags(rt.alloc(), &mut source, section, flags, &mut rt.stdout());
+    eprintln!(rt; "{} reads", source.reads())?;
     Ok(ExitCode::from(status))
 }
 

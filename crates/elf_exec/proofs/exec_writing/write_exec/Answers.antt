@@ -1,39 +1,31 @@
 -- The parts that are placed are those of the relocated bytes, of which the link is sound: it has objects that keep their rules.
-use Rattle.std.proofs.Common.{Ok, Err, sym, subst}
+use Rattle.std.proofs.Common.{◌<◌, ◌^◌, Ok, Err, sym, subst}
+use Rattle.elf_link_map.specs.Standing.{AreObjects, ObjectsFit}
 use Rattle.elf_link_relocate.specs.Linked.{LinkedValue}
+use Rattle.elf_link_relocate.specs.ReadyLink.{IsReadyLink}
 use Rattle.elf_exec.specs.Executable.{IsSoundLink}
 use Rattle.elf_exec.specs.ExecWriting.{WritesExec}
 use Rattle.elf_exec.proofs.ExecWritten.{exec_cut, exec_sent}
 use Rattle.elf_exec.proofs.exec_writing.write_exec.Goals as goal
 
+abbrev HasSoundLink : LinkedValue → Type 0
+HasSoundLink l = IsSoundLink l.objects l.map l.rules
+
+sound_link : (l : LinkedValue) → IsReadyLink l → AreObjects l.objects → ObjectsFit l.objects → l.map.page < 2 ^ 64 → HasSoundLink l
+sound_link l ready kept fit page = record { objects = kept; widths = fit; map = ready.map; page = page; relocated = ready.linked.sound }
+
 pub returns-in-Ok : goal.returns-in-Ok
 returns-in-Ok g c =
-    let l = c.args.linked.now in
     let objects = c.prove_objects.ensures in
-    let link : IsSoundLink l.objects l.map l.rules = record {
-      objects = objects.kept;
-      widths = objects.fit;
-      map = c.requires.map;
-      page = objects.page;
-      relocated = c.requires.linked.sound;
-    } in
+    let link = sound_link c.args.linked.now c.requires objects.kept objects.fit objects.page in
     let is = c.in_ok-placed.ensures.ok in
     subst (λ (l : LinkedValue). WritesExec l (g.W.Write.contents c.args.writer.now) (g.W.Write.contents c.send_exec.new.writer) (Ok tt)) is
-    (exec_sent c.in_ok-placed.placed c.in_ok-placed.ensures.placed (subst (λ (l : LinkedValue). IsSoundLink l.objects l.map l.rules) (sym is) link) _ _ _
-    c.in-Ok.ensures)
+    (exec_sent c.in_ok-placed.placed c.in_ok-placed.ensures.placed (subst HasSoundLink (sym is) link) _ _ _ c.in-Ok.ensures)
 
 pub returns : goal.returns
 returns g c =
-    let l = c.args.linked.now in
     let objects = c.prove_objects.ensures in
-    let link : IsSoundLink l.objects l.map l.rules = record {
-      objects = objects.kept;
-      widths = objects.fit;
-      map = c.requires.map;
-      page = objects.page;
-      relocated = c.requires.linked.sound;
-    } in
+    let link = sound_link c.args.linked.now c.requires objects.kept objects.fit objects.page in
     let is = c.in_ok-placed.ensures.ok in
     subst (λ (l : LinkedValue). WritesExec l (g.W.Write.contents c.args.writer.now) (g.W.Write.contents c.send_exec.new.writer) (Err (record { written = c.in-Err.fault.written }))) is
-    (exec_cut c.in_ok-placed.placed c.in_ok-placed.ensures.placed (subst (λ (l : LinkedValue). IsSoundLink l.objects l.map l.rules) (sym is) link) _ _
-    c.in-Err.fault.written c.in-Err.ensures)
+    (exec_cut c.in_ok-placed.placed c.in_ok-placed.ensures.placed (subst HasSoundLink (sym is) link) _ _ c.in-Err.fault.written c.in-Err.ensures)
