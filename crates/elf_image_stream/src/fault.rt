@@ -2,17 +2,21 @@
 ghost use Rattle.std.specs.Prelude.{◌≡◌, ◌+◌, ◌^◌, ◌<◌};
 
 use elf_extent::OutOfMemory;
-use elf_image_rules::Broken;
+use elf_image_rules::{Broken, rule_name};
 use std::alloc::{AllocError, AllocFailed};
+use thiserror::Error;
 
 /// Why there is no answer from a file's bytes.
-#[derive(Clone, Copy, Debug, PartialEq, Eq)]
+#[derive(Clone, Copy, Debug, PartialEq, Eq, Error)]
 pub enum Fault {
     /// A growth was refused.
+    #[error("out of memory")]
     OutOfMemory,
     /// A call of the reader failed, after it had given `at` bytes.
+    #[error("read failed at {at}")]
     Io { at: u64 },
     /// The bytes break the refusal rule of this number, first at this offset in the file.
+    #[error("rule {rule} ({name}) at offset {at}", name = rule_name(*.rule))]
     Rule { rule: u16, at: u64 },
 }
 
@@ -60,7 +64,8 @@ impl From<OutOfMemory> for Fault {
 }
 
 /// A call of the writer failed, or took none of the bytes that it was offered.
-#[derive(Clone, Copy, Debug, PartialEq, Eq)]
+#[derive(Clone, Copy, Debug, PartialEq, Eq, Error)]
+#[error("write failed after {written}")]
 pub struct WriteFault {
     /// How many bytes are out: exactly the first ones of those that were to be written.
     pub written: u64,

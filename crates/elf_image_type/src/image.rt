@@ -20,7 +20,7 @@ use std::marker::Model;
 ///
 /// Any image, edited or as read, stands as exactly one list of bytes, which breaks no rule either.
 /// No accessor and no edit takes memory. Offsets and lengths are in bytes.
-#[derive(Drop)]
+#[derive(Debug, Drop)]
 pub struct Image<'a> {
     pub(crate) outline: Outline,
     // The bytes of the file, for the gaps.

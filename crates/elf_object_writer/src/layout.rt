@@ -10,15 +10,18 @@ use elf_extent::{OutOfMemory, PlaceFault, place};
 use elf_field::abi::*;
 use elf_image_rules::MAX_LEN;
 use elf_object_type::Object;
-use std::alloc::{AllocError, Global};
+use std::alloc::{AllocError, AllocFailed, Global};
 use std::marker::Model;
+use thiserror::Error;
 
 /// Why an object has no layout.
-#[derive(Clone, Copy, Debug, PartialEq, Eq)]
+#[derive(Clone, Copy, Debug, PartialEq, Eq, Error)]
 pub enum LayoutFault {
     /// Its canonical layout is longer than the longest file, 2^30 bytes.
+    #[error("longer than 2^30 bytes")]
     TooLong,
     /// A growth was refused.
+    #[error("out of memory")]
     OutOfMemory,
 }
 
@@ -29,6 +32,17 @@ impl From<AllocError> for LayoutFault {
     ghost from_gives = { λ _ fault. fault ≡ OutOfMemory };
 
     fn from(_refused: AllocError) -> LayoutFault {
+        LayoutFault::OutOfMemory
+    }
+}
+
+impl<T: Drop> From<AllocFailed<T>> for LayoutFault {
+    ghost use Rattle.std.specs.Prelude.{◌≡◌};
+    ghost use Rattle.elf_object_writer.specs.declared.layout.LayoutFault.TheVariants.{OutOfMemory};
+
+    ghost from_gives = { λ _ fault. fault ≡ OutOfMemory };
+
+    fn from(_refused: AllocFailed<T>) -> LayoutFault {
         LayoutFault::OutOfMemory
     }
 }

@@ -7,16 +7,20 @@ use crate::placed_writing::write_placed;
 use elf_object_type::Object;
 use std::alloc::Global;
 use std::io::Write;
+use thiserror::Error;
 
 /// Why an object is not written.
-#[derive(Clone, Copy, Debug, PartialEq, Eq)]
+#[derive(Clone, Copy, Debug, PartialEq, Eq, Error)]
 pub enum ObjectWriteFault {
     /// Its canonical layout is longer than the longest file, 2^30 bytes. Nothing is written.
+    #[error("longer than 2^30 bytes")]
     TooLong,
     /// A growth was refused. Nothing is written.
+    #[error("out of memory")]
     OutOfMemory,
     /// A call of the writer failed, or took none of the bytes that it was offered, after exactly the first `written` bytes
     /// of the canonical layout.
+    #[error("write failed after {written}")]
     Io { written: u64 },
 }
 

@@ -1,19 +1,21 @@
 //! Files by name, of the machine or of a test.
 ghost use Rattle.std.specs.Prelude.{◌≡◌, ℕ, Bool, false, List, None, Option, Some, IfErr, IfOk, IfSome};
-ghost use Rattle.elf_image_source.specs.Source.{no_failures};
 ghost use Rattle.elf_tool_base.specs.Opener.{IsOpenFault};
 
 use elf_image_source::{Seeking, Source};
 use std::fs::{Files, OpenFile};
 use std::io::Read;
 use std::{fs, io};
+use thiserror::Error;
 
 /// Why a file gives no reader and no source.
-#[derive(Clone, Copy, Debug, PartialEq, Eq)]
+#[derive(Clone, Copy, Debug, PartialEq, Eq, Error)]
 pub enum OpenFault {
     /// There is no such file, or it may not be read.
+    #[error("no such file, or it may not be read")]
     Refused,
     /// A growth was refused.
+    #[error("out of memory")]
     OutOfMemory,
 }
 
@@ -41,12 +43,10 @@ pub trait Opener {
         ensures kept { holds self.new ≡ holds self.old }
         ensures still { opens self.new ≡ opens self.old };
 
-    /// A source of the file's bytes, no call of which has failed. It fails as [`reader`](Opener::reader) does, and what is known of the
-    /// files stays.
+    /// A source of the file's bytes. It fails as [`reader`](Opener::reader) does, and what is known of the files stays.
     fn source(&mut self, name: &str) -> Result<Self::Seek, OpenFault>
         ensures bytes { IfSome (holds self.old name.now) (λ bytes.
             IfOk result (λ source. Self.Seek.content source ≡ Some bytes)) }
-        ensures unfailed { IfOk result (λ source. Self.Seek.failures source ≡ no_failures) }
         ensures fault { IfErr result (IsOpenFault (opens self.old name.now)) }
         ensures kept { holds self.new ≡ holds self.old }
         ensures still { opens self.new ≡ opens self.old };

@@ -2,7 +2,7 @@
 ghost use Rattle.std.specs.Prelude.{◌≡◌, Some};
 
 use elf_image_stream::WriteFault;
-use std::alloc::AllocError;
+use std::alloc::{AllocError, AllocFailed};
 use std::error::Error;
 use std::fmt;
 
@@ -90,6 +90,16 @@ impl From<AllocError> for ToolFault {
     ghost from_gives = { λ _ fault. fault ≡ OutOfMemory };
 
     fn from(_refused: AllocError) -> ToolFault {
+        ToolFault::OutOfMemory
+    }
+}
+
+impl<T: Drop> From<AllocFailed<T>> for ToolFault {
+    ghost use Rattle.elf_tool_text.specs.declared.fault.ToolFault.TheVariants.{OutOfMemory};
+
+    ghost from_gives = { λ _ fault. fault ≡ OutOfMemory };
+
+    fn from(_refused: AllocFailed<T>) -> ToolFault {
         ToolFault::OutOfMemory
     }
 }

@@ -4,6 +4,7 @@ use Rattle.std.specs.Str.{bytes_eq}
 use Rattle.clap.specs.Faults.{fault_of}
 use Rattle.clap.specs.Kinds.{IsAmong}
 use Rattle.clap.specs.Simple.{subcommand_of}
+use Rattle.clap.specs.Takes.{takes}
 use Rattle.clap.specs.Values.{kind_of}
 use Rattle.clap.specs.Walk.{Row, Text, all_of, first_of}
 use Rattle.clap.specs.declared.error.Error.{Error}
@@ -92,10 +93,10 @@ pub record Gives (words : List Text) (P : Text → List Row → Type 0) : Type 0
 abbrev pub IsAskedBy : List Text → Request → Type 0
 IsAskedBy words request = Gives words (λ name rows. Asks name rows request)
 
--- the words are refused so: clap's definition gives the error's kind, and so does not take them; or it takes them, and the
--- command is refused; or memory was refused
+-- the words are refused so: clap's definition does not take them, and gives the error's kind; or it takes them, and the command is
+-- refused; or memory was refused
 abbrev pub IsRefusedBy : List Text → WordsFault → Type 0
-IsRefusedBy words (Words error) = IsAmong (kind_of error) (fault_of elfmap words)
+IsRefusedBy words (Words error) = (takes elfmap words ≡ false) × IsAmong (kind_of error) (fault_of elfmap words)
 IsRefusedBy words TooManyFiles = Gives words (λ name rows. CommandRefuses name rows TooManyFiles)
 IsRefusedBy words BadNumber = Gives words (λ name rows. CommandRefuses name rows BadNumber)
 IsRefusedBy words OutOfMemory = Unit {0}

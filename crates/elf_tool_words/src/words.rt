@@ -9,7 +9,7 @@ use crate::command::elfmap;
 use crate::number::number_of;
 use clap::error::ErrorKind;
 use clap::{ArgMatches, Error};
-use std::alloc::{AllocError, Global};
+use std::alloc::{AllocError, AllocFailed, Global};
 use std::convert::AsStr;
 
 /// A command with its values and files.
@@ -51,16 +51,20 @@ pub enum Request<'a> {
 }
 
 /// Why the words ask for nothing that the program does.
-#[derive(Debug, Drop)]
+#[derive(Debug, Drop, thiserror::Error)]
 pub enum WordsFault {
     /// The words are not as the command takes them, or call for help; the error has the text.
+    #[error("{0}")]
     Words(Error),
     /// More than 64 files are named.
+    #[error("too many files")]
     TooManyFiles,
     /// A number is neither decimal digits nor `0x` and 1 to 16 hexadecimal digits in lower case, or
     /// is 2^64 or more.
+    #[error("bad number")]
     BadNumber,
     /// A growth was refused.
+    #[error("out of memory")]
     OutOfMemory,
 }
 
@@ -70,6 +74,16 @@ impl From<AllocError> for WordsFault {
     ghost from_gives = { λ _ fault. fault ≡ OutOfMemory };
 
     fn from(_refused: AllocError) -> WordsFault {
+        WordsFault::OutOfMemory
+    }
+}
+
+impl<T: Drop> From<AllocFailed<T>> for WordsFault {
+    ghost use Rattle.elf_tool_words.specs.declared.words.WordsFault.TheVariants.{OutOfMemory};
+
+    ghost from_gives = { λ _ fault. fault ≡ OutOfMemory };
+
+    fn from(_refused: AllocFailed<T>) -> WordsFault {
         WordsFault::OutOfMemory
     }
 }

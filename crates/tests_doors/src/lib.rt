@@ -37,7 +37,8 @@ pub mod table {
 pub mod object {
     pub use elf::object::{
         Body, Info, Layout, LayoutFault, Object, ObjectFault, ObjectParts, ObjectWriteFault, Place,
-        Relocation, Section, Shared, Symbol, lay_out, object_of, rules, shared_table, write_object,
+        Relocation, Section, Shared, Symbol, lay_out, object_of, prove_read_back, rules,
+        shared_table, write_object,
     };
 }
 
@@ -51,7 +52,7 @@ pub mod link {
 
 /// The executable.
 pub mod exec {
-    pub use elf::exec::{ExecFault, Load, write_exec};
+    pub use elf::exec::{ExecFault, Load, prove_loaded, write_exec};
 }
 
 /// The program.
@@ -65,3 +66,6 @@ pub mod tool {
 
 #[cfg(test)]
 mod empty_object;
+#[cfg(test)]
+mod fault_texts;
+pub mod own;
