@@ -1,12 +1,15 @@
 //! `tests_growths RULES FILE..`: makes each call of the library that takes memory, of records and extents by themselves and of these files,
 //! and prints a line on each: which it was, and a number that tells its answer, or `out of memory`, or `refused`. Behind them it prints
 //! what is asked of the values that came out, which takes no memory. `scripts/failing-calls` runs it with growths refused.
+//!
+//! `tests_growths quiet N FILE..`: makes each call that takes no memory N times on what these files are, and prints nothing of them.
 #![tactic(auto)]
 
 mod extents;
 mod images;
 mod links;
 mod objects;
+mod quiet;
 mod said;
 mod words;
 
@@ -20,13 +23,16 @@ use std::{env, fs, io};
 fn main(rt: HostRuntime) -> io::Result<ExitCode> {
     let alloc = rt.alloc();
     let mut out = rt.stdout();
-    extents::calls(alloc, &mut out);
-    words::calls(alloc, &mut out);
-    objects::calls(alloc, &mut out);
     let words: Vec<String> = env::args(&rt)?.collect(alloc)?;
     let [_, rules, names @ ..] = words.as_slice() else {
         return Ok(ExitCode::from(2));
     };
+    if rules.as_str() == "quiet" {
+        return quiet_calls(&rt, names);
+    }
+    extents::calls(alloc, &mut out);
+    words::calls(alloc, &mut out);
+    objects::calls(alloc, &mut out);
     let Ok(rules) = read(alloc, &mut fs::open(&rt, rules.as_str())?, &mut out) else {
         return Ok(ExitCode::from(3));
     };
@@ -39,6 +45,23 @@ fn main(rt: HostRuntime) -> io::Result<ExitCode> {
         files.push(file)?;
     }
     links::calls(alloc, &files, &rules, &mut out);
+    Ok(ExitCode::from(0))
+}
+
+/// The calls that take no memory, so many times, as the first of these words says, on the files of the other ones.
+fn quiet_calls(rt: &HostRuntime, words: &[String]) -> io::Result<ExitCode> {
+    let alloc = rt.alloc();
+    let [times, names @ ..] = words else {
+        return Ok(ExitCode::from(2));
+    };
+    let Ok(times) = times.as_str().parse::<u32>() else {
+        return Ok(ExitCode::from(2));
+    };
+    let mut files = Vec::new(alloc);
+    for name in names {
+        files.push(fs::read(rt, name.as_str())?)?;
+    }
+    quiet::calls(alloc, files.as_slice(), times);
     Ok(ExitCode::from(0))
 }
 

@@ -9,6 +9,8 @@ mod commons;
 #[cfg(test)]
 mod groups;
 #[cfg(test)]
+mod hashers;
+#[cfg(test)]
 mod headers;
 #[cfg(test)]
 mod memory;

@@ -1,0 +1,67 @@
+//! A link by a hasher that spreads no keys is the same as by one that does: no clause names the hasher.
+use crate::groups::Flat;
+use crate::parts::{GLOBAL, WEAK, data, list, mapped_by, object, symbol};
+use elf_field::Order;
+use elf_link_map::{Binding, LinkMap, Options, map};
+use elf_object_type::{Object, ObjectFault, Place};
+use std::alloc::Global;
+use std::test::Fail;
+
+/// Outputs of three names, at multiples of 16.
+const OPTIONS: Options<'static> = Options {
+    base: 0x1000,
+    page: 0x10,
+    entry: None,
+};
+
+/// A file of two sections, and two symbols in them: a global and a weak one.
+fn file(
+    alloc: Global,
+    sections: [&'static [u8]; 2],
+    symbols: [&'static [u8]; 2],
+) -> Result<Object<'static>, ObjectFault> {
+    let [first, second] = sections;
+    let [global, weak] = symbols;
+    let sections = list(alloc, [data(first, b"ab"), data(second, b"c")])?;
+    let strong = symbol(global, GLOBAL, Place::In(0), 1);
+    let symbols = list(alloc, [strong, symbol(weak, WEAK, Place::In(1), 0)])?;
+    object(alloc, Order::Big, sections, symbols)
+}
+
+/// The addresses of the sections, and what the names are bound to.
+type Told = ([Option<u64>; 4], [Option<Binding>; 3], usize);
+
+fn told(link: &LinkMap<'_>) -> Told {
+    let addresses = [
+        link.address(0, 0),
+        link.address(0, 1),
+        link.address(1, 0),
+        link.address(1, 1),
+    ];
+    let bindings = [link.binding(b"f"), link.binding(b"g"), link.binding(b"h")];
+    (addresses, bindings, link.outputs().len())
+}
+
+/// What the two hashers' maps tell of two files that share an output and a name.
+fn both_told(alloc: Global) -> Result<[Told; 2], Fail> {
+    let objects = [
+        file(alloc, [b"a", b"b"], [b"f", b"g"])?,
+        file(alloc, [b"b", b"c"], [b"h", b"f"])?,
+    ];
+    let spread = mapped_by(alloc, &objects, &OPTIONS)?;
+    let flat = map(alloc, &objects, &OPTIONS, Flat { state: 0 })?;
+    Ok([told(&spread), told(&flat)])
+}
+
+#[test]
+fn the_same_by_a_flat_hasher(rt: HostRuntime) -> Result<(), Fail> {
+    let addresses = [Some(0x1000), Some(0x1010), Some(0x1011), Some(0x1020)];
+    let bindings = [
+        Some(Binding::Strong { file: 0, symbol: 0 }),
+        Some(Binding::Weak { file: 0, symbol: 1 }),
+        Some(Binding::Strong { file: 1, symbol: 0 }),
+    ];
+    let both = both_told(rt.alloc())?;
+    assert_eq!(rt; both, [(addresses, bindings, 3); 2]);
+    Ok(())
+}

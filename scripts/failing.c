@@ -1,0 +1,108 @@
+/* Loaded before the C library: one call of a kind fails, is cut or interrupted, and all calls are counted. FAILING_CALL has four words: the
+   kind of call, the number of the one that fails, from 1, how, and the file in which it says what it did. */
+#define _GNU_SOURCE
+#include <errno.h>
+#include <fcntl.h>
+#include <stdio.h>
+#include <stdlib.h>
+#include <string.h>
+#include <sys/syscall.h>
+#include <unistd.h>
+
+extern void *__libc_malloc(size_t), *__libc_realloc(void *, size_t);
+enum { FILES = 256 };
+static char kind[16], how[16], told[512];
+static long left, at[FILES], failed_file = -1, opened, vain, grown, asked;
+
+__attribute__((constructor)) static void begin(void) {
+    const char *words = getenv("FAILING_CALL");
+    if (words && sscanf(words, "%15s %ld %15s %511s", kind, &left, how, told) != 4) left = 0;
+}
+
+static void say(const char *word, long number) {
+    char line[64];
+    int file = syscall(SYS_openat, AT_FDCWD, told, O_WRONLY | O_CREAT | O_APPEND, 0600);
+    syscall(SYS_write, file, line, snprintf(line, sizeof line, "%s %ld\n", word, number));
+    syscall(SYS_close, file);
+}
+
+/* How many files were opened; how many calls were in vain: empty ones, and those that wait for a disk; how many growths there were, and how
+   many bytes they asked for. */
+__attribute__((destructor)) static void end(void) {
+    if (strcmp(kind, "count") != 0) return;
+    say("opened", opened); say("vain", vain); say("grown", grown); say("asked", asked);
+}
+
+int fsync(int file) { return vain++, syscall(SYS_fsync, file); }
+int fdatasync(int file) { return vain++, syscall(SYS_fdatasync, file); }
+
+/* Whether this call of a kind is the one; it says so, with the offset where it was to begin. */
+static int is_it(const char *this, int file, long offset) {
+    if (file >= 0 && file == failed_file) say("again", offset);
+    if (left == 0 || strcmp(this, kind) != 0 || --left > 0) return 0;
+    failed_file = file;
+    if (strcmp(how, "rest") == 0 || strcmp(how, "bytes") == 0) left = 1;
+    if (strcmp(how, "bytes") != 0 || offset == 0) say("failed", offset);
+    return 1;
+}
+
+static int fails(void) {
+    if (strcmp(how, "interrupt") == 0) errno = EINTR;
+    else if (strcmp(how, "fail") == 0) errno = EIO;
+    else return 0;
+    return 1;
+}
+
+void *malloc(size_t size) {
+    grown++; asked += size;
+    if (!is_it("malloc", -1, 0)) return __libc_malloc(size);
+    errno = ENOMEM;
+    return NULL;
+}
+
+void *realloc(void *block, size_t size) {
+    grown++; asked += size;
+    if (size == 0 || !is_it("malloc", -1, 0)) return __libc_realloc(block, size);
+    errno = ENOMEM;
+    return NULL;
+}
+
+int open(const char *name, int flags, ...) {
+    if (is_it("open", -1, 0)) return errno = EACCES, -1;
+    opened++;
+    int file = syscall(SYS_openat, AT_FDCWD, name, flags, 0600);
+    if (file >= 0 && file < FILES) at[file] = 0;
+    return file;
+}
+
+ssize_t read(int file, void *block, size_t size) {
+    vain += size == 0;
+    if (is_it("read", file, at[file])) {
+        if (fails()) return -1;
+        failed_file = -1;
+        size = strcmp(how, "nothing") == 0 ? 0 : size > 0;
+    }
+    long count = syscall(SYS_read, file, block, size);
+    if (count > 0) at[file] += count;
+    return count;
+}
+
+off_t lseek(int file, off_t offset, int from) {
+    if (is_it("lseek", file, from == SEEK_SET ? offset : 0) && fails()) return -1;
+    off_t found = syscall(SYS_lseek, file, offset, from);
+    if (found >= 0) at[file] = found;
+    return found;
+}
+
+ssize_t write(int file, const void *block, size_t size) {
+    vain += size == 0;
+    if (file == 1 && is_it("write", file, at[file])) {
+        if (fails()) return -1;
+        if (strcmp(how, "nothing") == 0) return 0;
+        failed_file = -1;
+        size = size > 0;
+    }
+    long count = syscall(SYS_write, file, block, size);
+    if (file == 1 && count > 0) at[file] += count;
+    return count;
+}
