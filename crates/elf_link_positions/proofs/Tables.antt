@@ -12,7 +12,7 @@ use Rattle.elf_link_positions.specs.declared.slots.Seen.TheVariants.{Free, Here,
 use Rattle.elf_link_positions.specs.declared.slots.Slot.{Slot}
 use Rattle.elf_link_positions.specs.declared.slots.TheConstants.{MOST_NAMES, MOST_STEPS}
 use Rattle.elf_link_positions.specs.Ordered.{IsPlaced}
-use Rattle.elf_link_positions.specs.Slots.{AreTables, AreTaken, IsEnd, IsFound, IsInNone, Tells, entry_of, entry_position, free_slot, home, name_at, name_hash, no_entry, or_else, slot_from, upper_of}
+use Rattle.elf_link_positions.specs.Slots.{AreTables, AreSlotsTaken, IsEnd, IsFound, IsInNone, SlotsTell, numbered_entry, entry_position, free_slot, home, entry_name, name_hash, no_name_entry, or_else, slot_from, upper_of}
 
 pub is_same : (n q : List ℕ) → n ≡ q → bytes_eq n q ≡ true
 is_same n q same = (bytes_eq-Decides n q).1 same
@@ -25,13 +25,13 @@ not_same n q apart = told (bytes_eq n q) refl where
 
 -- ---- where the entries say that a name stands
 
-pub no_position : (es : List Entry) (q : List ℕ) → ((k : ℕ) → k < length es → name_at es k ≢ q) → entry_position es q ≡ None
+pub no_position : (es : List Entry) (q : List ℕ) → ((k : ℕ) → k < length es → entry_name es k ≢ q) → entry_position es q ≡ None
 no_position [] q none = refl
 no_position (e ∷ es) q none =
     rw (not_same e.name.now q (none 0 (omega arith))) (no_position es q (λ k lt. none (suc k) (omega arith)))
 
-pub first_position : (es : List Entry) (q : List ℕ) (k : ℕ) → k < length es → name_at es k ≡ q → ((j : ℕ) → j < k → name_at es j ≢ q) →
-    entry_position es q ≡ Some (get_or es k no_entry).position
+pub first_position : (es : List Entry) (q : List ℕ) (k : ℕ) → k < length es → entry_name es k ≡ q → ((j : ℕ) → j < k → entry_name es j ≢ q) →
+    entry_position es q ≡ Some (get_or es k no_name_entry).position
 first_position [] q k lt is first = absurd (omega arith)
 first_position (e ∷ es) q zero lt is first = rw (is_same e.name.now q is) refl
 first_position (e ∷ es) q (suc k) lt is first =
@@ -49,12 +49,12 @@ position_more (d ∷ es) e q = by_first (bytes_eq d.name.now q) d.position (entr
 -- ---- what its slots tell of a name
 
 absent : (slots : List Slot) (es : List Entry) (more : List ℕ → Option ℕ) → AreTables slots es more → (q : List ℕ) (n : ℕ) → IsEnd slots (home slots q) n →
-    IsInNone slots es (home slots q) (upper_of (name_hash q)) q n → (k : ℕ) → k < length es → name_at es k ≢ q
+    IsInNone slots es (home slots q) (upper_of (name_hash q)) q n → (k : ℕ) → k < length es → entry_name es k ≢ q
 absent slots es more tables q n end none k lt same =
     let (s, few, taken, is) = subst (λ (m : List ℕ). IsFound slots m (k + 1)) same (tables.found k lt) in
     let number : (slot_from slots (home slots q) s).number ≡ k + 1 = ap (λ (x : Slot). x.number) is in
     elim (cases_lt s n) [
-      | inl below ↦ none s below (ap (λ (x : Slot). x.upper) is, rw number (ap (λ (i : ℕ). name_at es i) (omega arith) ∙ same))
+      | inl below ↦ none s below (ap (λ (x : Slot). x.upper) is, rw number (ap (λ (i : ℕ). entry_name es i) (omega arith) ∙ same))
       | inr from ↦ elim end [
         | inl last ↦ absurd (omega arith)
         | inr free ↦ elim (cases_lt n s) [
@@ -64,21 +64,21 @@ absent slots es more tables q n end none k lt same =
       ]
     ]
 
-pub absent_free : (slots : List Slot) (es : List Entry) (more : List ℕ → Option ℕ) → AreTables slots es more → (q : List ℕ) (at : ℕ) → Tells slots es q (Free at) →
-    (k : ℕ) → k < length es → name_at es k ≢ q
+pub absent_free : (slots : List Slot) (es : List Entry) (more : List ℕ → Option ℕ) → AreTables slots es more → (q : List ℕ) (at : ℕ) → SlotsTell slots es q (Free at) →
+    (k : ℕ) → k < length es → entry_name es k ≢ q
 absent_free slots es more tables q at (few, (s, below, is, free, taken, none)) = absent slots es more tables q s (inr free) none
 
-pub absent_taken : (slots : List Slot) (es : List Entry) (more : List ℕ → Option ℕ) → AreTables slots es more → (q : List ℕ) → Tells slots es q Taken →
-    (k : ℕ) → k < length es → name_at es k ≢ q
+pub absent_taken : (slots : List Slot) (es : List Entry) (more : List ℕ → Option ℕ) → AreTables slots es more → (q : List ℕ) → SlotsTell slots es q Taken →
+    (k : ℕ) → k < length es → entry_name es k ≢ q
 absent_taken slots es more tables q (taken, (n, end, none)) = absent slots es more tables q n end none
 
 pub here_position : (slots : List Slot) (es : List Entry) (more : List ℕ → Option ℕ) → AreTables slots es more → (q : List ℕ) (position : ℕ) →
-    Tells slots es q (Here position) → entry_position es q ≡ Some position
+    SlotsTell slots es q (Here position) → entry_position es q ≡ Some position
 here_position slots es more tables q position (k, lt, is, at) =
     first_position es q k lt is (λ j below same. (let one = tables.once j k (omega arith) lt (same ∙ sym is) in omega arith)) ∙ ap Some (sym at)
 
 -- where a slot is free and numbers last, the map has no such name
-pub not_behind : (slots : List Slot) (es : List Entry) (more : List ℕ → Option ℕ) → AreTables slots es more → (q : List ℕ) (at : ℕ) → Tells slots es q (Free at) →
+pub not_behind : (slots : List Slot) (es : List Entry) (more : List ℕ → Option ℕ) → AreTables slots es more → (q : List ℕ) (at : ℕ) → SlotsTell slots es q (Free at) →
     more q ≡ None
 not_behind slots es more tables q at (few, (s, below, is, free, taken, none)) = told (more q) refl where
   told : (m : Option ℕ) → more q ≡ m → more q ≡ None
@@ -104,38 +104,38 @@ at_inside : (slots : List Slot) (q : List ℕ) (s : ℕ) → MOST_STEPS < length
 at_inside slots q s room few = omega arith
 
 module _ (slots : List Slot) (es : List Entry) (more : List ℕ → Option ℕ) (tables : AreTables slots es more) (e : Entry) (at : ℕ)
-    (tells : Tells slots es e.name.now (Free at)) where
+    (tells : SlotsTell slots es e.name.now (Free at)) where
   inside : at < length slots
   inside = (let (last, (s, few, is, free, taken, none)) = tells in rw is (at_inside slots e.name.now s tables.room few))
 
-  has_none : (k : ℕ) → k < length es → name_at es k ≢ e.name.now
+  has_none : (k : ℕ) → k < length es → entry_name es k ≢ e.name.now
   has_none = absent_free slots es more tables e.name.now at tells
 
-  old_name : (k : ℕ) → k < length es → name_at (es ++ e ∷ []) k ≡ name_at es k
-  old_name k lt = ap (λ (x : Entry). x.name.now) (get_or_append_left es (e ∷ []) no_entry k lt)
+  old_name : (k : ℕ) → k < length es → entry_name (es ++ e ∷ []) k ≡ entry_name es k
+  old_name k lt = ap (λ (x : Entry). x.name.now) (get_or_append_left es (e ∷ []) no_name_entry k lt)
 
-  new_name : name_at (es ++ e ∷ []) (length es) ≡ e.name.now
-  new_name = ap (λ (x : Entry). x.name.now) (get_or-append_seam es e [] no_entry)
+  new_name : entry_name (es ++ e ∷ []) (length es) ≡ e.name.now
+  new_name = ap (λ (x : Entry). x.name.now) (get_or-append_seam es e [] no_name_entry)
 
   -- each of a name's slots that was taken still is
-  still_taken : (q : List ℕ) (m : ℕ) → AreTaken slots (home slots q) m → AreTaken (with_number slots es e.name.now at) (home (with_number slots es e.name.now at) q) m
+  still_taken : (q : List ℕ) (m : ℕ) → AreSlotsTaken slots (home slots q) m → AreSlotsTaken (with_number slots es e.name.now at) (home (with_number slots es e.name.now at) q) m
   still_taken q m taken s lt =
       rw (length-set slots at (record { upper = upper_of (name_hash e.name.now); number = length es + 1 }))
       (stays_taken slots es e.name.now at (home slots q + s) inside (taken s lt))
 
   -- the slot of an old name is another one, and of the new one this
-  old_found : (k : ℕ) → k < length es → IsFound slots (name_at es k) (k + 1) → IsFound (with_number slots es e.name.now at) (name_at es k) (k + 1)
+  old_found : (k : ℕ) → k < length es → IsFound slots (entry_name es k) (k + 1) → IsFound (with_number slots es e.name.now at) (entry_name es k) (k + 1)
   old_found k lt (s, few, taken, is) =
       let (last, (free_at, below, place, free, before, none)) = tells in
-      let number : (slot_from slots (home slots (name_at es k)) s).number ≡ k + 1 = ap (λ (x : Slot). x.number) is in
-      let other : home slots (name_at es k) + s ≢ at = (λ same.
-      let here : (get_or slots (home slots (name_at es k) + s) free_slot).number ≡ 0 = ap (λ (i : ℕ). (get_or slots i free_slot).number) (same ∙ place) ∙ free in
+      let number : (slot_from slots (home slots (entry_name es k)) s).number ≡ k + 1 = ap (λ (x : Slot). x.number) is in
+      let other : home slots (entry_name es k) + s ≢ at = (λ same.
+      let here : (get_or slots (home slots (entry_name es k) + s) free_slot).number ≡ 0 = ap (λ (i : ℕ). (get_or slots i free_slot).number) (same ∙ place) ∙ free in
       absurd (omega arith)) in (
         s,
         few,
-        still_taken (name_at es k) s taken,
+        still_taken (entry_name es k) s taken,
         rw (length-set slots at (record { upper = upper_of (name_hash e.name.now); number = length es + 1 }))
-            (get_or-set_other slots at (home slots (name_at es k) + s) (record { upper = upper_of (name_hash e.name.now); number = length es + 1 }) free_slot other ∙ is),
+            (get_or-set_other slots at (home slots (entry_name es k) + s) (record { upper = upper_of (name_hash e.name.now); number = length es + 1 }) free_slot other ∙ is),
       )
 
   new_found : IsFound (with_number slots es e.name.now at) e.name.now (length es + 1)
@@ -154,24 +154,24 @@ module _ (slots : List Slot) (es : List Entry) (more : List ℕ → Option ℕ) 
       let long = length-append es (e ∷ []) in
       elim (cases_lt k (length es)) [ inl below ↦ inl below | inr from ↦ inr (omega arith) ]
 
-  all_found : (k : ℕ) → k < length (es ++ e ∷ []) → IsFound (with_number slots es e.name.now at) (name_at (es ++ e ∷ []) k) (k + 1)
+  all_found : (k : ℕ) → k < length (es ++ e ∷ []) → IsFound (with_number slots es e.name.now at) (entry_name (es ++ e ∷ []) k) (k + 1)
   all_found k lt = elim (old_or_new k lt) [
     | inl old ↦ subst (λ (m : List ℕ). IsFound (with_number slots es e.name.now at) m (k + 1)) (sym (old_name k old)) (old_found k old (tables.found k old))
     | inr new ↦ (
-        let named : name_at (es ++ e ∷ []) k ≡ e.name.now = ap (λ (i : ℕ). name_at (es ++ e ∷ []) i) new ∙ new_name in
-        subst (λ (i : ℕ). IsFound (with_number slots es e.name.now at) (name_at (es ++ e ∷ []) k) (i + 1)) (sym new)
+        let named : entry_name (es ++ e ∷ []) k ≡ e.name.now = ap (λ (i : ℕ). entry_name (es ++ e ∷ []) i) new ∙ new_name in
+        subst (λ (i : ℕ). IsFound (with_number slots es e.name.now at) (entry_name (es ++ e ∷ []) k) (i + 1)) (sym new)
         (subst (λ (m : List ℕ). IsFound (with_number slots es e.name.now at) m (length es + 1)) (sym named) new_found)
         )
   ]
 
-  all_once : (j k : ℕ) → j < length (es ++ e ∷ []) → k < length (es ++ e ∷ []) → name_at (es ++ e ∷ []) j ≡ name_at (es ++ e ∷ []) k → j ≡ k
+  all_once : (j k : ℕ) → j < length (es ++ e ∷ []) → k < length (es ++ e ∷ []) → entry_name (es ++ e ∷ []) j ≡ entry_name (es ++ e ∷ []) k → j ≡ k
   all_once j k in_j in_k same = elim (old_or_new j in_j) [
     | inl old_j ↦ elim (old_or_new k in_k) [
       | inl old_k ↦ tables.once j k old_j old_k (sym (old_name j old_j) ∙ same ∙ old_name k old_k)
-      | inr new_k ↦ absurd (has_none j old_j (sym (old_name j old_j) ∙ same ∙ ap (λ (i : ℕ). name_at (es ++ e ∷ []) i) new_k ∙ new_name))
+      | inr new_k ↦ absurd (has_none j old_j (sym (old_name j old_j) ∙ same ∙ ap (λ (i : ℕ). entry_name (es ++ e ∷ []) i) new_k ∙ new_name))
     ]
     | inr new_j ↦ elim (old_or_new k in_k) [
-      | inl old_k ↦ absurd (has_none k old_k (sym (old_name k old_k) ∙ sym same ∙ ap (λ (i : ℕ). name_at (es ++ e ∷ []) i) new_j ∙ new_name))
+      | inl old_k ↦ absurd (has_none k old_k (sym (old_name k old_k) ∙ sym same ∙ ap (λ (i : ℕ). entry_name (es ++ e ∷ []) i) new_j ∙ new_name))
       | inr new_k ↦ new_j ∙ sym new_k
     ]
   ]
@@ -191,7 +191,7 @@ module _ (slots : List Slot) (es : List Entry) (more : List ℕ → Option ℕ) 
         apart = λ q p k is lt same. elim (old_or_new k lt) [
           | inl old ↦ tables.apart q p k is old (sym (old_name k old) ∙ same)
           | inr k_new ↦ (
-              let named : e.name.now ≡ q = sym new_name ∙ sym (ap (λ (i : ℕ). name_at (es ++ e ∷ []) i) k_new) ∙ same in
+              let named : e.name.now ≡ q = sym new_name ∙ sym (ap (λ (i : ℕ). entry_name (es ++ e ∷ []) i) k_new) ∙ same in
               let none : more e.name.now ≡ None = not_behind slots es more tables e.name.now at tells in
               let never : None ≡ Some p = sym none ∙ ap more named ∙ is in
               cc
@@ -202,7 +202,7 @@ module _ (slots : List Slot) (es : List Entry) (more : List ℕ → Option ℕ) 
 
 -- ---- where names stand then
 
-pub placed_free : (es : List Entry) (more : List ℕ → Option ℕ) (e : Entry) → ((k : ℕ) → k < length es → name_at es k ≢ e.name.now) →
+pub placed_free : (es : List Entry) (more : List ℕ → Option ℕ) (e : Entry) → ((k : ℕ) → k < length es → entry_name es k ≢ e.name.now) →
     IsPlaced None e.name.now e.position (λ q. or_else (entry_position es q) (more q)) (λ q. or_else (entry_position (es ++ e ∷ []) q) (more q))
 placed_free es more e none q = rw (position_more es e q) (by_name (bytes_eq e.name.now q) refl) where
   by_name : (b : Bool) → bytes_eq e.name.now q ≡ b →
@@ -227,7 +227,7 @@ by_entry None there n q next old now none is = is
 by_entry (Some p) there n q next old now none is =
     rw (not_same n q (λ same. (let never : Some p ≡ None = none same in cc))) (either_way (is_some there) (Some p))
 
-pub placed_behind : (es : List Entry) (old now : List ℕ → Option ℕ) (there : Option ℕ) (n : List ℕ) (next : ℕ) → ((k : ℕ) → k < length es → name_at es k ≢ n) →
+pub placed_behind : (es : List Entry) (old now : List ℕ → Option ℕ) (there : Option ℕ) (n : List ℕ) (next : ℕ) → ((k : ℕ) → k < length es → entry_name es k ≢ n) →
     IsPlaced there n next old now → IsPlaced there n next (λ q. or_else (entry_position es q) (old q)) (λ q. or_else (entry_position es q) (now q))
 placed_behind es old now there n next none placed q =
     by_entry (entry_position es q) there n q next (old q) (now q) (λ same. no_position es q (λ k lt named. none k lt (named ∙ sym same))) (placed q)
@@ -245,7 +245,7 @@ old_or_placed old now there n q next p placed is = by_there there (placed q) whe
   by_there (Some k) at = inl (sym at ∙ is)
 
 pub tables_behind : (slots : List Slot) (es : List Entry) (old now : List ℕ → Option ℕ) (there : Option ℕ) (n : List ℕ) (next : ℕ) → AreTables slots es old →
-    ((k : ℕ) → k < length es → name_at es k ≢ n) → (length es < MOST_NAMES → AreTaken slots (home slots n) MOST_STEPS) → IsPlaced there n next old now →
+    ((k : ℕ) → k < length es → entry_name es k ≢ n) → (length es < MOST_NAMES → AreSlotsTaken slots (home slots n) MOST_STEPS) → IsPlaced there n next old now →
     AreTables slots es now
 tables_behind slots es old now there n next tables none taken placed = record {
   room = tables.room;
@@ -258,7 +258,7 @@ tables_behind slots es old now there n next tables none taken placed = record {
   ];
   behind = λ few q p is. elim (old_or_placed old now there n q next p placed is) [
     | inl before ↦ tables.behind few q p before
-    | inr same ↦ subst (λ (m : List ℕ). AreTaken slots (home slots m) MOST_STEPS) same (taken few)
+    | inr same ↦ subst (λ (m : List ℕ). AreSlotsTaken slots (home slots m) MOST_STEPS) same (taken few)
   ];
 }
 

@@ -21,13 +21,13 @@ pub struct NamePositions<'a> {
 }
 
 impl<'a> Model for NamePositions<'a> {
-    ghost use Rattle.elf_link_positions.specs.Slots.{HasTables, Positions, positions_value};
+    ghost use Rattle.elf_link_positions.specs.Slots.{HasNameTables, Positions, positions_value};
 
     ghost Value = { Positions };
 
     ghost view = { positions_value };
 
-    ghost invariant = { HasTables };
+    ghost invariant = { HasNameTables };
 }
 
 impl<'a> NamePositions<'a> {

@@ -1,6 +1,6 @@
 //! Slots in which names stand by their hashes, and what they tell of a name.
 ghost use Rattle.std.specs.Prelude.{◌≡◌, ◌<◌, ◌≤◌, ◌+◌, MatchOption, length};
-ghost use Rattle.elf_link_positions.specs.Slots.{AreKnown, IsOfName, Sees, Tells, entry_of, name_hash};
+ghost use Rattle.elf_link_positions.specs.Slots.{AreEntryNumbers, IsOfName, Sees, SlotsTell, numbered_entry, name_hash};
 
 use crate::hashing::{home_of, upper_of};
 
@@ -41,7 +41,7 @@ fn position_by(slot: Slot, entries: &[Entry<'_>], upper: u32, name: &[u8]) -> Op
     requires some { 0 < slot.number }
     requires known { slot.number ≤ length entries.now }
     ensures { MatchOption result (¬ IsOfName entries.now slot upper name.now)
-        (λ position. IsOfName entries.now slot upper name.now × (position ≡ (entry_of entries.now slot.number).position)) }
+        (λ position. IsOfName entries.now slot upper name.now × (position ≡ (numbered_entry entries.now slot.number).position)) }
 {
     if slot.upper != upper {
         return None;
@@ -57,7 +57,7 @@ fn position_by(slot: Slot, entries: &[Entry<'_>], upper: u32, name: &[u8]) -> Op
 /// What the slots from `home` on tell of a name whose hash has this upper half.
 fn look_from(slots: &[Slot], entries: &[Entry<'_>], home: usize, upper: u32, name: &[u8]) -> Seen
     requires room { home + MOST_STEPS ≤ length slots.now }
-    requires known { AreKnown slots.now (length entries.now) }
+    requires known { AreEntryNumbers slots.now (length entries.now) }
     ensures { Sees slots.now entries.now home upper name.now result }
 {
     for step in 0..MOST_STEPS {
@@ -75,9 +75,9 @@ fn look_from(slots: &[Slot], entries: &[Entry<'_>], home: usize, upper: u32, nam
 /// What its slots tell of a name of this hash. The last slots are no name's first one, so that each name has as many.
 pub(crate) fn look(slots: &[Slot], entries: &[Entry<'_>], hash: u64, name: &[u8]) -> Seen
     requires room { MOST_STEPS < length slots.now }
-    requires known { AreKnown slots.now (length entries.now) }
+    requires known { AreEntryNumbers slots.now (length entries.now) }
     requires hash { hash ≡ name_hash name.now }
-    ensures { Tells slots.now entries.now name.now result }
+    ensures { SlotsTell slots.now entries.now name.now result }
 {
     let home = home_of(hash, slots.len() - MOST_STEPS);
     match look_from(slots, entries, home, upper_of(hash), name) {
