@@ -11,7 +11,8 @@
 
 mod engine;
 mod show_lines;
+mod show_tables;
 mod table_lines;
 
 pub use elf_tool_text::{Refusal, ToolFault, Verdict};
-pub use engine::show::{show, show_bytes};
+pub use engine::{show, show_bytes};

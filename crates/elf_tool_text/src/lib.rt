@@ -15,9 +15,11 @@
 //! ```
 #![tactic(auto)]
 
+mod digits;
 mod fault;
 mod input;
 pub mod line;
+pub mod line_end;
 pub mod lines;
 mod output;
 pub mod sending;

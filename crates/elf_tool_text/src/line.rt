@@ -7,10 +7,10 @@ ghost use Rattle.std.specs.List.{list_all};
 ghost use Rattle.hex.specs.Hex.{encode_lower};
 ghost use Rattle.elf_tool_text.specs.Line.{blank, hexadecimal, is_graphic as is_graphic_byte, is_plain as is_plain_name, name_text, ok_line as ok_line_of, refused_line as refused_line_of};
 
-mod digits;
-
-pub(crate) use digits::{MOST_IN_WORD, put_digits};
-use digits::{put_before, put_wide_digits};
+use crate::digits::{
+    MOST_DECIMAL, MOST_HEXADECIMAL, WIDE_ROOM, glyph, put_before, put_decimal, put_hexadecimal,
+    put_wide_digits,
+};
 use std::alloc::{AllocError, Global};
 
 /// Appends a line's first word. Fails for want of memory alone.
@@ -32,8 +32,11 @@ pub fn push_word(text: &mut Vec<u8>, word: &[u8]) -> Result<(), AllocError>
 pub fn push_decimal(text: &mut Vec<u8>, number: u64) -> Result<(), AllocError>
     ensures { OnOk result (text.new.items ≡ text.old.items ++ blank ∷ decimal number) }
 {
-    let mut word = [0; MOST_IN_WORD];
-    let first = put_digits(number, 10, &mut word);
+    if number < 10 {
+        return text.extend_from_slice(&[b' ', glyph(number)]);
+    }
+    let mut word = [0; 1 + MOST_DECIMAL];
+    let first = put_decimal(number, 1 + MOST_DECIMAL, &mut word);
     let start = put_before(b" ", first, &mut word);
     text.extend_from_slice(&word[start..])
 }
@@ -42,8 +45,8 @@ pub fn push_decimal(text: &mut Vec<u8>, number: u64) -> Result<(), AllocError>
 pub fn push_signed(text: &mut Vec<u8>, number: i64) -> Result<(), AllocError>
     ensures { OnOk result (text.new.items ≡ text.old.items ++ blank ∷ signed_decimal number) }
 {
-    let mut word = [0; MOST_IN_WORD];
-    let first = put_digits(number.unsigned_abs(), 10, &mut word);
+    let mut word = [0; 2 + MOST_DECIMAL];
+    let first = put_decimal(number.unsigned_abs(), 2 + MOST_DECIMAL, &mut word);
     let start = if number < 0 {
         put_before(b" -", first, &mut word)
     } else {
@@ -56,8 +59,11 @@ pub fn push_signed(text: &mut Vec<u8>, number: i64) -> Result<(), AllocError>
 pub fn push_hexadecimal(text: &mut Vec<u8>, number: u64) -> Result<(), AllocError>
     ensures { OnOk result (text.new.items ≡ text.old.items ++ blank ∷ hexadecimal number) }
 {
-    let mut word = [0; MOST_IN_WORD];
-    let first = put_digits(number, 16, &mut word);
+    if number < 16 {
+        return text.extend_from_slice(&[b' ', b'0', b'x', glyph(number)]);
+    }
+    let mut word = [0; 3 + MOST_HEXADECIMAL];
+    let first = put_hexadecimal(number, 3 + MOST_HEXADECIMAL, &mut word);
     let start = put_before(b" 0x", first, &mut word);
     text.extend_from_slice(&word[start..])
 }
@@ -66,7 +72,7 @@ pub fn push_hexadecimal(text: &mut Vec<u8>, number: u64) -> Result<(), AllocErro
 pub fn push_wide_hexadecimal(text: &mut Vec<u8>, number: u128) -> Result<(), AllocError>
     ensures { OnOk result (text.new.items ≡ text.old.items ++ blank ∷ hexadecimal number) }
 {
-    let mut word = [0; MOST_IN_WORD];
+    let mut word = [0; WIDE_ROOM];
     let first = put_wide_digits(number, &mut word);
     let start = put_before(b" 0x", first, &mut word);
     text.extend_from_slice(&word[start..])

@@ -6,7 +6,7 @@ ghost use Rattle.hex.specs.Hex.{encode_lower};
 ghost use Rattle.elf_image_sending.specs.Sending.{Sends};
 ghost use Rattle.elf_tool_text.specs.Line.{blank};
 
-use crate::line::{MOST_IN_WORD, put_digits};
+use crate::digits::{MOST_DECIMAL, put_decimal};
 use elf_image_sending::send;
 use elf_image_stream::WriteFault;
 use std::io::Write;
@@ -26,8 +26,8 @@ pub fn send_word<W: Write>(writer: &mut W, out: u64, word: &[u8]) -> Result<u64,
 pub fn send_decimal<W: Write>(writer: &mut W, out: u64, number: u64) -> Result<u64, WriteFault>
     ensures { Sends (W.contents writer.old) (W.contents writer.new) out (blank ∷ decimal number) result }
 {
-    let mut digits = [0; MOST_IN_WORD];
-    let start = put_digits(number, 10, &mut digits);
+    let mut digits = [0; MOST_DECIMAL];
+    let start = put_decimal(number, MOST_DECIMAL, &mut digits);
     send_word(writer, out, &digits[start..])
 }
 

@@ -1,0 +1,127 @@
+-- The lines are sent kind by kind, each after those before it; a failure leaves out a beginning of all of them.
+use Rattle.std.proofs.Common.{◌≡◌, ◌∙◌, List, ℕ, [], ◌++◌, Option, ap, map, refl, subst}
+use Rattle.std.specs.List.{flat_map}
+use Rattle.std.proofs.lemmas.List.Folds.{flat_map-map}
+use Rattle.std.proofs.lemmas.Result.{err_from_is_err_and}
+use Rattle.elf_field.specs.declared.ehdr.Ehdr.{Ehdr}
+use Rattle.elf_image_outline.specs.Image.{ImageValue, PlacedPart}
+use Rattle.elf_image_outline.specs.declared.part.Part.{Part}
+use Rattle.elf_table_all.specs.TableVerdicts.{TablesValue}
+use Rattle.elf_tool_show.specs.TableLines.{all_table_lines}
+use Rattle.elf_tool_text.specs.Output.{Buffers, IsCutShort}
+use Rattle.elf_tool_show.specs.Show.{part_lines, section_lines, segment_lines, show_text}
+use Rattle.elf_tool_show.specs.ShowLines.{file_line, part_line}
+use Rattle.elf_tool_text.specs.declared.output.Output.{Output}
+use Rattle.elf_tool_text.proofs.Public.{all_out, all_cut, buffers_both, buffers_line, buffers_none, cut_later, cut_longer}
+use Rattle.elf_tool_show.proofs.engine.show_image.Goals as goal
+
+-- the lines of the parts alone are those of the value's
+parts_text : (b : List ℕ) (v : ImageValue) (ps : List Part) → ps ≡ map (λ (p : PlacedPart). p.part) v.parts → flat_map (part_line b) ps ≡ part_lines b v
+unfolding part_lines
+parts_text b v ps same = ap (flat_map (part_line b)) same ∙ flat_map-map (part_line b) (λ (p : PlacedPart). p.part) v.parts
+
+-- the first line is pushed
+file_buffered : (a : Option (List ℕ)) (o p : Output) (h header : Ehdr) → h ≡ header → p.pending.items ≡ o.pending.items ++ file_line h → p.written ≡ o.written
+    → Buffers a a o p (file_line header)
+file_buffered a o p h header same pushed count =
+    subst (λ (x : Ehdr). Buffers a a o p (file_line x)) same (buffers_line a a o o p [] (file_line h) (buffers_none a o) pushed count)
+
+pub returns-in_err-show_parts : goal.returns-in_err-show_parts
+unfolding show_text
+returns-in_err-show_parts g c =
+    let a = g.W.Write.contents c.args.writer.now in
+    let b = c.args.bytes.now in
+    let v = c.args.image.now in
+    let t : TablesValue = record { image = v; verdicts = c.args.tables.now.verdicts } in
+    let o = c.new-output.result in
+    let p : Output = record { pending = c.push_file_line.new.text; written = c.new-output.result.written } in
+    let first = file_buffered a o p c.header.result v.header c.header.ensures c.in_ok-push_file_line.ensures refl in
+    let q = err_from_is_err_and c.from_residual-in_err-show_parts.result c.from_residual-in_err-show_parts.ensures.1 in
+    let fault = c.in_err-show_parts.field-0.0 in
+    rw (q.1, q.2) (all_cut a _ o (show_text b t) fault c.new-output.ensures.pending c.new-output.ensures.written
+    (cut_later a a _ o p (file_line v.header) (part_lines b v ++ (section_lines v ++ (segment_lines v ++ all_table_lines t))) fault first
+    (cut_longer a _ p (part_lines b v) (section_lines v ++ (segment_lines v ++ all_table_lines t)) fault
+    (subst (λ (s : List ℕ). IsCutShort a (g.W.Write.contents c.show_parts.new.writer) p s fault) (parts_text b v c.parts.result.now c.parts.ensures.value) c.in_err-show_parts.ensures))))
+
+pub returns-in_err-show_sections : goal.returns-in_err-show_sections
+unfolding show_text
+returns-in_err-show_sections g c =
+    let a = g.W.Write.contents c.args.writer.now in
+    let b = c.args.bytes.now in
+    let v = c.args.image.now in
+    let t : TablesValue = record { image = v; verdicts = c.args.tables.now.verdicts } in
+    let o = c.new-output.result in
+    let p : Output = record { pending = c.push_file_line.new.text; written = c.new-output.result.written } in
+    let first = file_buffered a o p c.header.result v.header c.header.ensures c.in_ok-push_file_line.ensures refl in
+    let second = subst (λ (s : List ℕ). Buffers a (g.W.Write.contents c.show_parts.new.writer) p c.show_parts.new.output s) (parts_text b v c.parts.result.now c.parts.ensures.value) c.in_ok-show_parts.ensures in
+    let q = err_from_is_err_and c.from_residual-in_err-show_sections.result c.from_residual-in_err-show_sections.ensures.1 in
+    let fault = c.in_err-show_sections.field-0.0 in
+    rw (q.1, q.2) (all_cut a _ o (show_text b t) fault c.new-output.ensures.pending c.new-output.ensures.written
+    (cut_later a a _ o p (file_line v.header) (part_lines b v ++ (section_lines v ++ (segment_lines v ++ all_table_lines t))) fault first
+    (cut_later a _ _ p c.show_parts.new.output (part_lines b v) (section_lines v ++ (segment_lines v ++ all_table_lines t)) fault second
+    (cut_longer _ _ c.show_parts.new.output (section_lines v) (segment_lines v ++ all_table_lines t) fault c.in_err-show_sections.ensures))))
+
+pub returns-in_err-show_segments : goal.returns-in_err-show_segments
+unfolding show_text
+returns-in_err-show_segments g c =
+    let a = g.W.Write.contents c.args.writer.now in
+    let b = c.args.bytes.now in
+    let v = c.args.image.now in
+    let t : TablesValue = record { image = v; verdicts = c.args.tables.now.verdicts } in
+    let o = c.new-output.result in
+    let p : Output = record { pending = c.push_file_line.new.text; written = c.new-output.result.written } in
+    let first = file_buffered a o p c.header.result v.header c.header.ensures c.in_ok-push_file_line.ensures refl in
+    let second = subst (λ (s : List ℕ). Buffers a (g.W.Write.contents c.show_parts.new.writer) p c.show_parts.new.output s) (parts_text b v c.parts.result.now c.parts.ensures.value) c.in_ok-show_parts.ensures in
+    let q = err_from_is_err_and c.from_residual-in_err-show_segments.result c.from_residual-in_err-show_segments.ensures.1 in
+    let fault = c.in_err-show_segments.field-0.0 in
+    rw (q.1, q.2) (all_cut a _ o (show_text b t) fault c.new-output.ensures.pending c.new-output.ensures.written
+    (cut_later a a _ o p (file_line v.header) (part_lines b v ++ (section_lines v ++ (segment_lines v ++ all_table_lines t))) fault first
+    (cut_later a _ _ p c.show_parts.new.output (part_lines b v) (section_lines v ++ (segment_lines v ++ all_table_lines t)) fault second
+    (cut_later _ _ _ c.show_parts.new.output c.show_sections.new.output (section_lines v) (segment_lines v ++ all_table_lines t) fault c.in_ok-show_sections.ensures
+    (cut_longer _ _ c.show_sections.new.output (segment_lines v) (all_table_lines t) fault c.in_err-show_segments.ensures)))))
+
+-- the tables by the image that they are of
+same_tables : (tables : TablesValue) (v : ImageValue) → tables.image ≡ v → tables ≡ record { image = v; verdicts = tables.verdicts }
+same_tables tables v same = ap (λ (x : ImageValue). let t : TablesValue = record { image = x; verdicts = tables.verdicts } in t) same
+
+pub returns-in_err-show_tables : goal.returns-in_err-show_tables
+unfolding show_text
+returns-in_err-show_tables g c =
+    let a = g.W.Write.contents c.args.writer.now in
+    let b = c.args.bytes.now in
+    let v = c.args.image.now in
+    let t : TablesValue = record { image = v; verdicts = c.args.tables.now.verdicts } in
+    let o = c.new-output.result in
+    let p : Output = record { pending = c.push_file_line.new.text; written = c.new-output.result.written } in
+    let first = file_buffered a o p c.header.result v.header c.header.ensures c.in_ok-push_file_line.ensures refl in
+    let second = subst (λ (s : List ℕ). Buffers a (g.W.Write.contents c.show_parts.new.writer) p c.show_parts.new.output s) (parts_text b v c.parts.result.now c.parts.ensures.value) c.in_ok-show_parts.ensures in
+    let q = err_from_is_err_and c.from_residual-in_err-show_tables.result c.from_residual-in_err-show_tables.ensures.1 in
+    let fault = c.in_err-show_tables.field-0.0 in
+    let last = subst (λ (s : TablesValue). IsCutShort (g.W.Write.contents c.show_segments.new.writer) (g.W.Write.contents c.show_tables.new.writer) c.show_segments.new.output (all_table_lines s) fault)
+    (same_tables c.args.tables.now v c.requires) c.in_err-show_tables.ensures in
+    rw (q.1, q.2) (all_cut a _ o (show_text b t) fault c.new-output.ensures.pending c.new-output.ensures.written
+    (cut_later a a _ o p (file_line v.header) (part_lines b v ++ (section_lines v ++ (segment_lines v ++ all_table_lines t))) fault first
+    (cut_later a _ _ p c.show_parts.new.output (part_lines b v) (section_lines v ++ (segment_lines v ++ all_table_lines t)) fault second
+    (cut_later _ _ _ c.show_parts.new.output c.show_sections.new.output (section_lines v) (segment_lines v ++ all_table_lines t) fault c.in_ok-show_sections.ensures
+    (cut_later _ _ _ c.show_sections.new.output c.show_segments.new.output (segment_lines v) (all_table_lines t) fault c.in_ok-show_segments.ensures last)))))
+
+pub returns : goal.returns
+unfolding show_text
+returns g c =
+    let a = g.W.Write.contents c.args.writer.now in
+    let b = c.args.bytes.now in
+    let v = c.args.image.now in
+    let t : TablesValue = record { image = v; verdicts = c.args.tables.now.verdicts } in
+    let o = c.new-output.result in
+    let q = c.show_tables.new.output in
+    let p : Output = record { pending = c.push_file_line.new.text; written = c.new-output.result.written } in
+    let first = file_buffered a o p c.header.result v.header c.header.ensures c.in_ok-push_file_line.ensures refl in
+    let second = subst (λ (s : List ℕ). Buffers a (g.W.Write.contents c.show_parts.new.writer) p c.show_parts.new.output s) (parts_text b v c.parts.result.now c.parts.ensures.value) c.in_ok-show_parts.ensures in
+    let last = subst (λ (s : TablesValue). Buffers (g.W.Write.contents c.show_segments.new.writer) (g.W.Write.contents c.show_tables.new.writer) c.show_segments.new.output q (all_table_lines s))
+    (same_tables c.args.tables.now v c.requires) c.in_ok-show_tables.ensures in
+    let whole = buffers_both a a _ o p q (file_line v.header) (part_lines b v ++ (section_lines v ++ (segment_lines v ++ all_table_lines t))) first
+    (buffers_both a _ _ p c.show_parts.new.output q (part_lines b v) (section_lines v ++ (segment_lines v ++ all_table_lines t)) second
+    (buffers_both _ _ _ c.show_parts.new.output c.show_sections.new.output q (section_lines v) (segment_lines v ++ all_table_lines t) c.in_ok-show_sections.ensures
+    (buffers_both _ _ _ c.show_sections.new.output c.show_segments.new.output q (segment_lines v) (all_table_lines t) c.in_ok-show_segments.ensures last))) in
+    all_out a _ _ o q c.flush.new.self (show_text b t) c.flush.result c.new-output.ensures.pending c.new-output.ensures.written
+    whole c.flush.ensures.buffered c.flush.ensures.empty

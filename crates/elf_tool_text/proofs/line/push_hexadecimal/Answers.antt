@@ -1,0 +1,7 @@
+use Rattle.std.proofs.Common.{arith, false, rules}
+use Rattle.std.proofs.lemmas.Fmt.{hex_one_digit}
+use Rattle.elf_tool_text.proofs.line.push_hexadecimal.Goals as goal
+
+pub returns-then-number-lt16 : goal.returns-then-number-lt16
+returns-then-number-lt16 c =
+    rw (hex_one_digit false c.args.number (omega arith), ← c.glyph.ensures) (search rules)

@@ -1,0 +1,92 @@
+//! The end of a line, put together from its last word on, so that each number stands where it belongs when its digits are made: at the end
+//! of a text each word would be copied by itself.
+ghost use Rattle.std.specs.Prelude.{◌≡◌, ◌∷◌, ◌≤◌, ◌+◌, ◌++◌, [], length};
+ghost use Rattle.std.specs.Fmt.{decimal};
+ghost use Rattle.elf_tool_text.specs.Line.{blank, hexadecimal};
+
+use crate::digits::{glyph, put_before, put_decimal, put_hexadecimal};
+use std::marker::Model;
+
+/// How many bytes it may have.
+pub const LINE_ROOM: usize = 256;
+
+/// The most bytes of a number in decimal and the blank before it.
+pub const DECIMAL_ROOM: usize = 21;
+
+/// The most bytes of a number in hexadecimal with `0x` and the blank before it.
+pub const HEXADECIMAL_ROOM: usize = 19;
+
+/// The last words of a line, without the line feed.
+pub struct LineEnd {
+    bytes: [u8; LINE_ROOM],
+    start: usize,
+}
+
+impl Model for LineEnd {
+    ghost use Rattle.std.specs.Prelude.{ℕ, List, drop, length, ◌≤◌};
+
+    ghost Value = { List ℕ };
+
+    ghost view = { λ a. drop a.start a.bytes };
+
+    ghost invariant = { λ a. a.start ≤ length a.bytes };
+}
+
+impl LineEnd {
+    /// The end of a line before which all is to come.
+    pub fn new() -> LineEnd
+        ensures { result ≡ [] }
+    {
+        LineEnd {
+            bytes: [0; LINE_ROOM],
+            start: LINE_ROOM,
+        }
+    }
+
+    /// Puts a number in decimal, and a blank before it, before all that is there.
+    pub fn put_decimal(&mut self, number: u64)
+        requires room { length self.old + DECIMAL_ROOM ≤ LINE_ROOM }
+        ensures bytes { self.new ≡ blank ∷ decimal number ++ self.old }
+        ensures room { length self.new ≤ length self.old + DECIMAL_ROOM }
+    {
+        if number < 10 {
+            self.start = put_before(&[b' ', glyph(number)], self.start, &mut self.bytes);
+            return;
+        }
+        let first = put_decimal(number, self.start, &mut self.bytes);
+        self.start = put_before(b" ", first, &mut self.bytes);
+    }
+
+    /// Puts a number in hexadecimal, in lower case behind `0x`, and a blank before it, before all that is there.
+    pub fn put_hexadecimal(&mut self, number: u64)
+        requires room { length self.old + HEXADECIMAL_ROOM ≤ LINE_ROOM }
+        ensures bytes { self.new ≡ blank ∷ hexadecimal number ++ self.old }
+        ensures room { length self.new ≤ length self.old + HEXADECIMAL_ROOM }
+    {
+        if number < 16 {
+            self.start = put_before(
+                &[b' ', b'0', b'x', glyph(number)],
+                self.start,
+                &mut self.bytes,
+            );
+            return;
+        }
+        let first = put_hexadecimal(number, self.start, &mut self.bytes);
+        self.start = put_before(b" 0x", first, &mut self.bytes);
+    }
+
+    /// Puts bytes before all that is there.
+    pub fn put(&mut self, bytes: &[u8])
+        requires room { length self.old + length bytes.now ≤ LINE_ROOM }
+        ensures bytes { self.new ≡ bytes.now ++ self.old }
+    {
+        self.start = put_before(bytes, self.start, &mut self.bytes);
+    }
+
+    /// Its bytes.
+    pub fn as_bytes(&self) -> &[u8]
+        ensures { result.now ≡ self.now }
+    {
+        &self.bytes[self.start..]
+    }
+}
