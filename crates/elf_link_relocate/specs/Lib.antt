@@ -2,7 +2,6 @@
 pub mod Entries
 pub mod Fields
 pub mod Values
-pub mod NameValues
 pub mod ValuesView
 pub mod FieldOfView
 pub mod FieldListView

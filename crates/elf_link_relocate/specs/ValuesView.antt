@@ -1,11 +1,10 @@
--- A link with the numbers and the values of its names.
-use Rattle.std.specs.Prelude.{ℕ, ◌<◌, List, Option, length, map}
+-- A link with the numbers of its names.
+use Rattle.std.specs.Prelude.{ℕ, ◌<◌, List, length, map}
 use Rattle.elf_object_type.specs.Object.{ObjectValue}
 use Rattle.elf_link_files.specs.Files.{object_at}
 use Rattle.elf_link_map.specs.BindingNumbers.{AreBindingNumbers}
 use Rattle.elf_link_relocate.specs.declared.values.Values.TheInside.{Inside}
 use Rattle.elf_link_relocate.specs.Linking.{LinkingValue}
-use Rattle.elf_link_relocate.specs.NameValues.{AreNameValues}
 
 -- a symbol of a file
 abbrev pub IsFileSymbol : List ObjectValue → ℕ → ℕ → Type 0
@@ -15,10 +14,6 @@ IsFileSymbol fs f i = (f < length fs) × (i < length (object_at fs f).symbols)
 abbrev pub values_value : Inside → LinkingValue
 values_value v = v.linking.now
 
--- each symbol has the number of its name, and each name its value
-pub record AreValues (l : LinkingValue) (rows : List (List ℕ)) (values : List (Option ℕ)) : Type 0 where
-  pub numbers : AreBindingNumbers l.objects l.map rows
-  pub names : AreNameValues l.objects l.map (length l.map.bindings) values
-
+-- each symbol has the number of its name
 abbrev pub HasValues : Inside → Type 0
-HasValues v = AreValues v.linking.now (map (λ row. row.items) v.numbers.now) v.names.items
+HasValues v = AreBindingNumbers v.linking.now.objects v.linking.now.map (map (λ row. row.items) v.numbers.now)

@@ -111,7 +111,7 @@ fn push_section(
             site: Site { file, index, entry },
             rela: *rela,
             target: *target,
-            relocation: entries[entry],
+            relocation: entries.entry(entry),
         };
         push_entry(values, read, fields)?;
     }

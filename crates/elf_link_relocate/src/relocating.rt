@@ -38,7 +38,7 @@ pub fn relocate_numbered<'m, 'a>(
         map,
         rules,
     };
-    let values = Values::new(alloc, &linking, numbers)?;
+    let values = Values::new(&linking, numbers);
     let fields = judged_fields(alloc, values)?;
     let mut copies = all_copies(alloc, &linking)?;
     patch_all(&linking, &fields, &mut copies);
@@ -59,8 +59,8 @@ pub fn relocate_numbered<'m, 'a>(
 /// to be written by `write_exec` of `elf_exec`.
 ///
 /// [`LinkFault::Rule`] is the first of rules 12 to 16 ([`rules`](crate::rules)) that stands, at its first entry by file, section and
-/// position. [`LinkFault::OutOfMemory`] comes only where memory is refused: a number for each symbol, a value for each name, a field for
-/// each applied entry, a copy of each live section with bits; where the fields don't ascend, an extent for each; and where two of these
+/// position. [`LinkFault::OutOfMemory`] comes only where memory is refused: a number for each symbol, a field for each applied entry, a copy of
+/// each live section with bits; where the fields don't ascend, an extent for each; and where two of these
 /// share an address, a mark for each byte. Takes log n comparisons at most for each symbol and each field, and a look through the rules
 /// for each entry; all else is linear in the bytes, entries and symbols.
 pub fn relocate<'m, 'a>(

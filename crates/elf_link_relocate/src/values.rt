@@ -1,12 +1,11 @@
 //! The values of symbols at the addresses of a link map (gABI chapter 4, Symbol Table: `st_value`).
-ghost use Rattle.std.specs.Prelude.{◌≡◌, ◌≢◌, ◌+◌, ◌<◌, IfOk, IfSome, length, map as map_list};
+ghost use Rattle.std.specs.Prelude.{◌≡◌, ◌≢◌, ◌+◌, ◌<◌, IfSome, length, map as map_list};
 ghost use Rattle.elf_field.specs.Abi.{STB_LOCAL};
 ghost use Rattle.elf_link_files.specs.Files.{object_at, symbol_in};
 ghost use Rattle.elf_link_map.specs.BindingNumbers.{AreBindingNumbers};
 ghost use Rattle.elf_link_map.specs.Naming.{StandsAt};
 ghost use Rattle.elf_object_type.specs.Object.{binding as binding_of};
 ghost use Rattle.elf_object_type.specs.declared.symbol.Place.TheVariants.{In as InSection};
-ghost use Rattle.elf_link_relocate.specs.NameValues.{AreNameValues};
 ghost use Rattle.elf_link_relocate.specs.Values.{IsSmall, binding_value as binding_value_of, definition_value as definition_value_of, name_value as name_value_of, place_value as place_value_of, reference_value, resolved_value as resolved_value_of};
 ghost use Rattle.elf_link_relocate.specs.ValuesView.{IsFileSymbol};
 
@@ -16,7 +15,6 @@ use elf_link_files::SymbolId;
 use elf_link_map::files::symbol_of;
 use elf_link_map::{Binding, LinkMap};
 use elf_object_type::{Object, Place};
-use std::alloc::{AllocError, Global};
 use std::marker::Model;
 
 /// The value so far behind the start of a section of a file.
@@ -77,28 +75,11 @@ pub fn binding_value(objects: &[Object<'_>], map: &LinkMap<'_>, binding: Binding
     }
 }
 
-/// The value of each name, in the order of the names of the map.
-pub(crate) fn name_values(
-    alloc: Global,
-    objects: &[Object<'_>],
-    map: &LinkMap<'_>,
-) -> Result<Vec<Option<u128>>, AllocError>
-    ensures { IfOk result (λ values. AreNameValues objects.now map.now (length map.now.bindings) values.items) }
-{
-    let names = map.names();
-    let mut values = Vec::with_capacity(alloc, names.len())?;
-    for k in 0..names.len() {
-        values.push(binding_value(objects, map, names[k].binding))?;
-    }
-    Ok(values)
-}
-
-/// A link with the number of each symbol's name by file and position, and the value of each name by its number.
-#[derive(Drop)]
+/// A link with the number of each symbol's name by file and position. The value of a name is worked out where it is asked for.
+#[derive(Clone, Copy)]
 pub(crate) struct Values<'v, 'l, 'a> {
     pub(crate) linking: &'v Linking<'l, 'a>,
     pub(crate) numbers: &'v [Vec<usize>],
-    pub(crate) names: Vec<Option<u128>>,
 }
 
 impl<'v, 'l, 'a> Model for Values<'v, 'l, 'a> {
@@ -114,21 +95,15 @@ impl<'v, 'l, 'a> Model for Values<'v, 'l, 'a> {
 }
 
 impl<'v, 'l, 'a> Values<'v, 'l, 'a> {
-    /// A link with the values of its names, whose numbers these are.
+    /// A link whose names have these numbers.
     pub(crate) fn new(
-        alloc: Global,
         linking: &'v Linking<'l, 'a>,
         numbers: &'v [Vec<usize>],
-    ) -> Result<Values<'v, 'l, 'a>, AllocError>
+    ) -> Values<'v, 'l, 'a>
         requires { AreBindingNumbers linking.now.objects linking.now.map (map_list (λ row. row.items) numbers.now) }
-        ensures { IfOk result (λ values. values ≡ linking.entry.now) }
+        ensures { result ≡ linking.entry.now }
     {
-        let names = name_values(alloc, linking.objects, linking.map)?;
-        Ok(Values {
-            linking,
-            numbers,
-            names,
-        })
+        Values { linking, numbers }
     }
 
     /// The link.
@@ -156,7 +131,10 @@ impl<'v, 'l, 'a> Values<'v, 'l, 'a> {
         ensures value { result ≡ name_value_of self.now.objects self.now.map (symbol_in self.now.objects file index).name }
         ensures small { IsSmall result }
     {
-        self.names[self.name_number(file, index)]
+        let linking = self.linking();
+        let names = linking.map.names();
+        let k = self.name_number(file, index);
+        binding_value(linking.objects, linking.map, names[k].binding)
     }
 
     /// The value of a symbol: its own where it is local, and else that of its name.

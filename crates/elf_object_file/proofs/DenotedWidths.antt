@@ -1,15 +1,10 @@
 -- The object that a file denotes fits a file: its numbers stood in fields, and its names and bits were bytes.
-use Rattle.std.proofs.Common.{◌<◌, ◌+◌, ◌*◌, ◌/◌, ◌%◌, ◌^◌, ℕ, zero, suc, Bool, true, false, Option, None, Some, List, [], ◌∷◌, get_or, map, sym, subst, arith, pos}
-use Rattle.std.specs.Prelude.{◌==◌, if◌then◌else◌, FitsSigned, bit_and, drop}
-use Rattle.std.specs.Int.{w64}
+use Rattle.std.proofs.Common.{◌<◌, ◌+◌, ◌*◌, ◌/◌, ◌%◌, ◌^◌, ℕ, zero, suc, Bool, true, false, Option, None, Some, List, [], ◌∷◌, get_or, map, sym, subst, arith}
+use Rattle.std.specs.Prelude.{◌==◌, if◌then◌else◌, bit_and, drop}
 use Rattle.std.specs.List.{AllByRecursion}
 use Rattle.elf_field.specs.Abi.{SHF_INFO_LINK, SHT_NULL}
 use Rattle.elf_field.specs.Bytes.{IsBytes}
 use Rattle.elf_field.specs.BytesLaws.{IsBytes-drop, IsBytes-nil, IsBytes-take}
-use Rattle.elf_field.specs.Rel.{rel_at}
-use Rattle.elf_field.specs.RelLaws.{rel_laws}
-use Rattle.elf_field.specs.Rela.{rela_at}
-use Rattle.elf_field.specs.RelaLaws.{rela_laws}
 use Rattle.elf_field.specs.Shdr.{IsShdr}
 use Rattle.elf_field.specs.SymLaws.{sym_laws}
 use Rattle.elf_field.specs.declared.order.Order.{Order}
@@ -21,8 +16,7 @@ use Rattle.elf_table_symbols.specs.SymbolParts.{symbol_parts}
 use Rattle.elf_table_symbols.specs.SymbolRules.{entry}
 use Rattle.elf_table_symbols.specs.Symbols as table_symbols
 use Rattle.elf_table_symbols.specs.Symbols.{symbol_entry_in, symbols_in, symbols_of}
-use Rattle.elf_table_lists.specs.declared.relocation.Relocation as table_relocation
-use Rattle.elf_table_lists.specs.Relocations.{has_addends, relocation_in, relocations_in, relocations_of}
+use Rattle.elf_table_lists.specs.Relocations.{has_addends, relocations_of}
 use Rattle.elf_object_reader.specs.declared.body_kind.BodyKind.{BodyKind}
 use Rattle.elf_object_reader.specs.declared.body_kind.BodyKind.TheVariants.{Bits, NoBits, Relocs, Group}
 use Rattle.elf_object_reader.specs.declared.left_out.LeftOut.{LeftOut}
@@ -31,7 +25,8 @@ use Rattle.elf_object_reader.specs.Denotes.{Denotes, body_denoted, info_denoted,
 use Rattle.elf_object_reader.specs.Kept.{body_kind, kept, left_out, position_of, symbol_table}
 use Rattle.elf_object_type.specs.Object.{ObjectValue}
 use Rattle.elf_object_type.specs.Widths.{BodyFits, InfoFits, ObjectFits, RelocationFits, SectionFits, SymbolFits}
-use Rattle.elf_object_reader.proofs.Public.{denoted_with}
+use Rattle.elf_object_type.proofs.Public.{relocations_fit as table_fits}
+use Rattle.elf_object_reader.proofs.Public.{denoted_with, relocations_denoted}
 
 -- what holds of each element and of the one that stands for none holds at any index
 at_any : {A : Type 0} (P : A → Type 0) (xs : List A) (d : A) (i : ℕ) → AllByRecursion P xs → P d → P (get_or xs i d)
@@ -68,24 +63,6 @@ no_section_fits = record {
 -- a string of bytes
 IsBytes-string : (table : List ℕ) (x : ℕ) → IsBytes table → IsBytes (string table x)
 IsBytes-string table x bytes = IsBytes-take _ (drop x table) (IsBytes-drop x table bytes)
-
--- ---- relocations
-
-no_addend : FitsSigned w64 (pos 0)
-no_addend = search arith
-
-relocation_fits : (addends : Bool) (o : Order) (table : List ℕ) → IsBytes table → (j : ℕ) → RelocationFits (relocation_denoted (relocation_in addends o table j))
-unfolding relocation_in
-relocation_fits true o table bytes j =
-    let fits = rela_laws.valid o table (24 * j) bytes in
-    let e = rela_at o table (24 * j) in
-    let kind : e.r_info % 2 ^ 32 < 2 ^ 32 = omega arith in
-    record { offset = fits.r_offset; kind = kind; addend = fits.r_addend }
-relocation_fits false o table bytes j =
-    let fits = rel_laws.valid o table (16 * j) bytes in
-    let e = rel_at o table (16 * j) in
-    let kind : e.r_info % 2 ^ 32 < 2 ^ 32 = omega arith in
-    record { offset = fits.r_offset; kind = kind; addend = no_addend }
 
 -- ---- symbols
 
@@ -146,13 +123,11 @@ module _ (v : ImageValue) (sound : IsSoundImage v) where
   info_fits left i Group = omega arith
 
   relocations_fit : (i : ℕ) → AllByRecursion RelocationFits (map relocation_denoted (relocations_of (sections_of v) i))
-  unfolding relocations_of relocations_in
+  unfolding relocations_of
   relocations_fit i =
       let f = sections_of v in
       let addends = has_addends (section f i).sh_type in
-      all_through (λ (r : table_relocation.Relocation). RelocationFits (relocation_denoted r)) RelocationFits relocation_denoted (λ r fits. fits) _
-      (all_mapped (λ (r : table_relocation.Relocation). RelocationFits (relocation_denoted r)) (relocation_in addends (order f) (content f i))
-      (relocation_fits addends (order f) (content f i) (content_of i)) _)
+      subst (AllByRecursion RelocationFits) (relocations_denoted addends (order f) (content f i)) (table_fits addends (order f) (content f i) (content_of i))
 
   body_fits : (left : LeftOut) (i : ℕ) (kind : BodyKind) → BodyFits (body_denoted left (sections_of v) i kind)
   body_fits left i Bits = ((header_of i).sh_type, content_of i)

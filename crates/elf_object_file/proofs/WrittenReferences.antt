@@ -10,7 +10,8 @@ use Rattle.elf_object_reader.specs.declared.body_kind.BodyKind.TheVariants.{Bits
 use Rattle.elf_object_reader.specs.declared.left_out.LeftOut.{LeftOut}
 use Rattle.elf_object_type.specs.declared.section.Info.{Info}
 use Rattle.elf_object_type.specs.declared.section.Info.TheVariants as info
-use Rattle.elf_object_reader.specs.Denotes.{info_denoted, link_denoted, plain_info, section_reference, symbol_reference}
+use Rattle.elf_object_reader.specs.Denotes.{info_denoted, link_denoted, plain_info, section_reference}
+use Rattle.elf_object_type.specs.RelocationTable.{symbol_reference}
 use Rattle.elf_object_reader.specs.Kept.{position_of}
 use Rattle.elf_object_type.specs.Object.{BodyValue, bits, no_bits, relocs, group, ObjectValue, SectionValue}
 use Rattle.elf_object_writer.specs.PlainSections.{body_info, body_link, index_of, own_info}

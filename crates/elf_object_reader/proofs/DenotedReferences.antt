@@ -7,7 +7,8 @@ use Rattle.elf_extent.specs.Least.{Never}
 use Rattle.elf_field.specs.Abi.{SHF_INFO_LINK}
 use Rattle.elf_image_rules.specs.Rows.{FirstIn}
 use Rattle.elf_image_rules.proofs.Public.{FirstIn-behind, FirstIn-front}
-use Rattle.elf_object_reader.specs.Denotes.{Denotes, body_denoted, plain_info, relocation_denoted, section_reference, symbol_reference}
+use Rattle.elf_object_reader.specs.Denotes.{Denotes, body_denoted, plain_info, relocation_denoted, section_reference}
+use Rattle.elf_object_type.specs.RelocationTable.{symbol_reference}
 use Rattle.elf_object_reader.specs.FileRules.{IsKeptBits, IsPlain, file_rules, reference_rules, rules_of_body, wrong_kept_info, wrong_kept_link, wrong_relocation_target}
 use Rattle.elf_object_reader.specs.Kept.{body_kind, is_kept, left_out, position_of}
 use Rattle.elf_object_type.specs.Object.{ObjectValue, SectionValue}

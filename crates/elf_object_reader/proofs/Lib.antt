@@ -13,6 +13,7 @@ pub mod DenotedSymbols
 pub mod KeptTypes
 pub mod DenotedFields
 pub mod FileMembers
+pub mod DenotedRelocations
 pub mod DenotedReferences
 pub mod DenotedGroups
 pub mod ObjectKept

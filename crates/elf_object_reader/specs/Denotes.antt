@@ -21,6 +21,7 @@ use Rattle.elf_object_type.specs.declared.section.Info.TheVariants as info
 use Rattle.elf_object_type.specs.declared.symbol.Place.{Place}
 use Rattle.elf_object_type.specs.declared.symbol.Place.TheVariants as place
 use Rattle.elf_object_reader.specs.Kept.{body_kind, kept, left_out, position_of, symbol_table}
+use Rattle.elf_object_type.specs.RelocationTable.{symbol_reference}
 use Rattle.elf_object_type.specs.Object.{BodyValue, bits, no_bits, relocs, group, ObjectValue, SectionValue, SymbolValue}
 
 -- the name of section i: a string of the section name string table
@@ -29,12 +30,9 @@ section_name_of f i =
     let s = section f i in
     if s.sh_type == SHT_NULL then [] else string (value_names f.header f.headers f.contents) s.sh_name
 
--- section k as a position, and symbol k: index 0 is none
+-- section k as a position: index 0 is none
 abbrev pub section_reference : LeftOut → Sections → ℕ → Option ℕ
 section_reference left f k = if k == 0 then None else Some (position_of left f k)
-
-abbrev pub symbol_reference : ℕ → Option ℕ
-symbol_reference k = if k == 0 then None else Some (k - 1)
 
 -- a relocation of a relocation section
 abbrev pub relocation_denoted : table_relocation.Relocation → Relocation

@@ -12,36 +12,9 @@ use crate::body_kind::BodyKind;
 use crate::kept_section::KeptSection;
 use crate::object_reader::ObjectReader;
 use elf_field::abi::*;
-use elf_object_type::{Body, Info, Relocation, Section};
-use elf_table_all::{Group, Relocs};
+use elf_object_type::{Body, Info, Relocations, Section};
+use elf_table_all::Group;
 use std::alloc::{AllocError, Global};
-
-/// A relocation of a table as one of an object.
-fn relocation_of(relocation: elf_table_all::Relocation) -> Relocation
-    ensures { result ≡ relocation_denoted relocation }
-{
-    Relocation {
-        offset: relocation.offset,
-        symbol: if relocation.symbol == 0 {
-            None
-        } else {
-            Some(relocation.symbol as usize - 1)
-        },
-        kind: relocation.relocation_type,
-        addend: relocation.addend.unwrap_or(0),
-    }
-}
-
-/// The entries of a relocation section.
-fn read_entries(alloc: Global, relocs: &Relocs<'_>) -> Result<Vec<Relocation>, AllocError>
-    ensures { IfOk result (λ entries. entries.items ≡ map relocation_denoted relocs.now) }
-{
-    let mut entries = Vec::with_capacity(alloc, relocs.len())?;
-    for j in 0..relocs.len() {
-        entries.push(relocation_of(relocs.entry(j)))?;
-    }
-    Ok(entries)
-}
 
 impl<'r, 'i, 'a> KeptSection<'r, 'i, 'a> {
     /// What it links to.
@@ -77,12 +50,17 @@ impl<'r, 'i, 'a> KeptSection<'r, 'i, 'a> {
         }
     }
 
-    /// Its relocations.
-    fn relocs(&self) -> Relocs<'a>
-        requires { body_kind self.now.header.sh_type ≡ kind.Relocs }
-        ensures { result ≡ relocations_of (sections_of_file self.now.reader.now.file) self.now.index }
+    /// Its relocations, which stay the bytes that they are in the file.
+    fn relocations(&self) -> Relocations<'a>
+        ensures { result ≡ map relocation_denoted (relocations_of (sections_of_file self.now.reader.now.file) self.now.index) }
     {
-        self.reader.file.tables.relocs(self.index)
+        let reader = self.reader;
+        let image = reader.file.image;
+        Relocations::of_table(
+            image.order(),
+            self.header.sh_type == SHT_RELA,
+            image.content(self.index),
+        )
     }
 
     /// The group that it holds.
@@ -108,7 +86,7 @@ impl<'r, 'i, 'a> KeptSection<'r, 'i, 'a> {
             BodyKind::Relocs => Ok(Body::Relocs {
                 rela: self.header.sh_type == SHT_RELA,
                 target: self.reader.position_at(self.header.sh_info as usize),
-                entries: read_entries(alloc, &self.relocs())?,
+                entries: self.relocations(),
             }),
             BodyKind::Group => {
                 let group = self.group();

@@ -1,5 +1,5 @@
 -- What the derived `==` of the parts answers is whether their values are the same.
-use Rattle.std.proofs.Common.{◌≡◌, ◌∙◌, ℕ, Bool, true, false, ◌&&◌, nat_eq, List, [], ◌∷◌, Option, None, Some, refl, sym, ap, map}
+use Rattle.std.proofs.Common.{◌≡◌, ◌∙◌, ◌&&◌, nat_eq, List, refl, sym, map}
 use Rattle.std.specs.Cmp.Derive.Mapped.{pointwise-map}
 use Rattle.std.specs.Cmp.Lexicographic.{pointwise}
 use Rattle.elf_field.specs.contracts.order.OrderPartialEq.TheImpl as order_eq
@@ -80,7 +80,7 @@ symbol_same s t = λ i.
     pointwise nat_eq s.name.now t.name.now && (nat_eq s.info t.info && (nat_eq s.other t.other
     && (place_same s.place t.place i && (nat_eq s.value t.value && nat_eq s.size t.size))))
 
-order_same : (a b : Order) → (order_eq.ghosts).eq a b ≡ is_same_order a b
+pub order_same : (a b : Order) → (order_eq.ghosts).eq a b ≡ is_same_order a b
 order_same Little Little = refl
 order_same Little Big = refl
 order_same Big Little = refl

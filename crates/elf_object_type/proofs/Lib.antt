@@ -8,4 +8,5 @@ pub mod SoundReferences
 pub mod ObjectDecided
 pub mod Public
 pub mod Elements
+pub mod RelocationTables
 mod Equality

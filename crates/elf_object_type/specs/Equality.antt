@@ -1,5 +1,5 @@
 -- Whether two objects are the same: whether each of their parts is. That it is their equality the law `same_object` says.
-use Rattle.std.specs.Prelude.{ℕ, Bool, true, false, ◌&&◌, nat_eq, Option, None, Some}
+use Rattle.std.specs.Prelude.{ℕ, Bool, true, false, ◌&&◌, nat_eq, List, Option, None, Some}
 use Rattle.std.specs.Bool.{beq}
 use Rattle.std.specs.Cmp.Lexicographic.{pointwise}
 use Rattle.std.specs.Ordering.{int_eq}
@@ -34,6 +34,9 @@ abbrev pub is_same_relocation : Relocation → Relocation → Bool
 is_same_relocation r s = nat_eq r.offset s.offset && (is_same_position r.symbol s.symbol && (nat_eq r.kind s.kind
     && int_eq r.addend s.addend))
 
+abbrev pub are_same_relocations : List Relocation → List Relocation → Bool
+are_same_relocations rs ss = pointwise is_same_relocation rs ss
+
 abbrev pub is_same_body : BodyValue → BodyValue → Bool
 is_same_body (bits t b) (bits u c) = nat_eq t u && pointwise nat_eq b c
 is_same_body (bits t b) (no_bits m) = false
@@ -45,7 +48,7 @@ is_same_body (no_bits n) (relocs r j es) = false
 is_same_body (no_bits n) (group d j ns) = false
 is_same_body (relocs q i ds) (bits u c) = false
 is_same_body (relocs q i ds) (no_bits m) = false
-is_same_body (relocs q i ds) (relocs r j es) = beq q r && (nat_eq i j && pointwise is_same_relocation ds es)
+is_same_body (relocs q i ds) (relocs r j es) = beq q r && (nat_eq i j && are_same_relocations ds es)
 is_same_body (relocs q i ds) (group d j ns) = false
 is_same_body (group c i ms) (bits u b) = false
 is_same_body (group c i ms) (no_bits m) = false

@@ -1,5 +1,5 @@
 -- Objects are found to be the same exactly where they are equal: so is each of their parts. These are the laws of `==`.
-use Rattle.std.proofs.Common.{◌≡◌, ℕ, Bool, true, false, ◌&&◌, nat_eq, List, Option, None, Some, refl, sym, ap}
+use Rattle.std.proofs.Common.{◌≡◌, ℕ, Bool, true, false, ◌&&◌, nat_eq, List, Option, None, Some, refl, ap}
 use Rattle.std.specs.Bool.{Decides}
 use Rattle.std.specs.Cmp.{IsEquivalence, IsPartialEquivalence, booleans_Decides, decided, partial_equiv_from_equiv, signed_Decides, unsigned_Decides}
 use Rattle.std.specs.Cmp.Lexicographic.{pointwise, pointwise_decides}
@@ -10,7 +10,7 @@ use Rattle.elf_object_type.specs.declared.section.Info.{Info}
 use Rattle.elf_object_type.specs.declared.section.Info.TheVariants.{Number, Section}
 use Rattle.elf_object_type.specs.declared.symbol.Place.{Place}
 use Rattle.elf_object_type.specs.declared.symbol.Place.TheVariants.{Undef, Abs, Common, In}
-use Rattle.elf_object_type.specs.Equality.{is_same_body, is_same_info, is_same_object, is_same_order, is_same_place, is_same_position, is_same_relocation, is_same_section, is_same_symbol}
+use Rattle.elf_object_type.specs.Equality.{are_same_relocations, is_same_body, is_same_info, is_same_object, is_same_order, is_same_place, is_same_position, is_same_relocation, is_same_section, is_same_symbol}
 use Rattle.elf_object_type.specs.Object.{BodyValue, bits, no_bits, relocs, group, ObjectValue, SectionValue, SymbolValue}
 
 -- two tests together
@@ -29,7 +29,7 @@ never apart = (λ e. cc, λ p. absurd (apart p))
 text_decides : (b c : List ℕ) → Decides (pointwise nat_eq b c) (b ≡ c)
 text_decides = pointwise_decides unsigned_Decides
 
-order_decides : (a b : Order) → Decides (is_same_order a b) (a ≡ b)
+pub order_decides : (a b : Order) → Decides (is_same_order a b) (a ≡ b)
 order_decides Little Little = (λ e. refl, λ e. refl)
 order_decides Little Big = never (λ e. cc)
 order_decides Big Little = never (λ e. cc)
@@ -47,7 +47,7 @@ info_decides (Number n) (Section j) = never (λ e. cc)
 info_decides (Section i) (Number m) = never (λ e. cc)
 info_decides (Section i) (Section j) = instead (nat_eq i j) (unsigned_Decides i j) (λ e. ap Section e) (λ e. cc)
 
-relocation_decides : (a b : Relocation) → Decides (is_same_relocation a b) (a ≡ b)
+pub relocation_decides : (a b : Relocation) → Decides (is_same_relocation a b) (a ≡ b)
 relocation_decides a b =
     instead (is_same_relocation a b)
     (both _ _ (unsigned_Decides a.offset b.offset)
@@ -138,6 +138,15 @@ object_decides a b =
     (pointwise_decides symbol_decides a.symbols b.symbols)))))))
     (λ h i. record { order = h.0 i; osabi = h.1.0 i; abi = h.1.1.0 i; machine = h.1.1.1.0 i; flags = h.1.1.1.1.0 i; sections = h.1.1.1.1.1.0 i; symbols = h.1.1.1.1.1.1 i })
     (λ e. (ap (λ (x : ObjectValue). x.order) e, (ap (λ (x : ObjectValue). x.osabi) e, (ap (λ (x : ObjectValue). x.abi) e, (ap (λ (x : ObjectValue). x.machine) e, (ap (λ (x : ObjectValue). x.flags) e, (ap (λ (x : ObjectValue). x.sections) e, ap (λ (x : ObjectValue). x.symbols) e)))))))
+
+pub relocations_decide : (rs ss : List Relocation) → Decides (are_same_relocations rs ss) (rs ≡ ss)
+relocations_decide = pointwise_decides relocation_decides
+
+pub relocations_equivalence : IsEquivalence are_same_relocations
+relocations_equivalence = decided are_same_relocations relocations_decide
+
+pub relocations_partial_equivalence : IsPartialEquivalence are_same_relocations
+relocations_partial_equivalence = partial_equiv_from_equiv relocations_equivalence
 
 pub object_equivalence : IsEquivalence is_same_object
 object_equivalence = decided is_same_object object_decides

@@ -1,5 +1,6 @@
 -- The words of this crate's contracts.
 pub mod Object
+pub mod RelocationTable
 pub mod ObjectView
 pub mod Positions
 pub mod SectionRules

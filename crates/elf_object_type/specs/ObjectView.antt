@@ -10,7 +10,7 @@ use Rattle.elf_object_type.specs.Object.{BodyValue, bits, no_bits, relocs, group
 abbrev pub body_value : Body → BodyValue
 body_value (Bits type content) = bits type content.now
 body_value (NoBits size) = no_bits size
-body_value (Relocs rela target entries) = relocs rela target entries.items
+body_value (Relocs rela target entries) = relocs rela target entries
 body_value (Group comdat signature members) = group comdat signature members.items
 
 abbrev pub section_value : Section → SectionValue

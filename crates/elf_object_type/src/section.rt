@@ -1,5 +1,5 @@
 //! A section of an object (gABI chapter 4, Sections).
-use crate::relocation::Relocation;
+use crate::relocations::Relocations;
 
 /// What `sh_info` says of a section whose body gives it no meaning.
 #[derive(Clone, Copy, Debug, PartialEq, Eq)]
@@ -24,7 +24,7 @@ pub enum Body<'a> {
         /// The position of the section that they apply to.
         target: usize,
         /// The relocations, in order.
-        entries: Vec<Relocation>,
+        entries: Relocations<'a>,
     },
     /// A section group (`SHT_GROUP`), by the positions of its signature symbol and of its member sections.
     Group {

@@ -10,7 +10,7 @@ ghost use Rattle.elf_object_type.specs.SectionRules.{BreaksSection, HasLinkOrInf
 
 use crate::parts::ObjectParts;
 use crate::positions::{has_past, has_zero, info_position, is_bits, is_past, section_at};
-use crate::relocation::Relocation;
+use crate::relocations::Relocations;
 use crate::rules::*;
 use crate::section::{Body, Info, Section};
 use elf_field::abi::*;
@@ -122,10 +122,15 @@ fn is_no_target(parts: &ObjectParts<'_>, target: usize) -> bool
 }
 
 /// Whether the symbol of an entry isn't there.
-fn has_symbol_past(symbols: usize, entries: &[Relocation]) -> bool
+fn has_symbol_past(symbols: usize, entries: &Relocations<'_>) -> bool
     ensures { IsTrue result ↔ Any (λ entry. IsPast symbols entry.symbol) entries.now }
 {
-    entries.iter().any(|entry| is_past(symbols, entry.symbol))
+    for j in 0..entries.len() {
+        if is_past(symbols, entries.entry(j).symbol) {
+            return true;
+        }
+    }
+    false
 }
 
 /// Whether info, link, entry size or addends are not those of the flags and the body.
@@ -161,10 +166,15 @@ fn has_link_or_info(section: &Section<'_>) -> bool
 }
 
 /// Whether an entry has an addend.
-fn has_addend(entries: &[Relocation]) -> bool
+fn has_addend(entries: &Relocations<'_>) -> bool
     ensures { IsTrue result ↔ Any (λ entry. entry.addend ≢ pos 0) entries.now }
 {
-    entries.iter().any(|entry| entry.addend != 0)
+    for j in 0..entries.len() {
+        if entries.entry(j).addend != 0 {
+            return true;
+        }
+    }
+    false
 }
 
 /// The least position of a section that breaks the rule.

@@ -4,10 +4,9 @@ ghost use Rattle.std.specs.Prelude.{map};
 ghost use Rattle.std.specs.List.{AllByRecursion};
 ghost use Rattle.elf_field.specs.Bytes.{IsBytes};
 ghost use Rattle.elf_object_type.specs.ObjectView.{body_value, section_value, symbol_value, value_of};
-ghost use Rattle.elf_object_type.specs.Widths.{BodyFits, InfoFits, ObjectFits, RelocationFits, SectionFits, SymbolFits};
+ghost use Rattle.elf_object_type.specs.Widths.{BodyFits, InfoFits, ObjectFits, SectionFits, SymbolFits};
 
 use crate::parts::ObjectParts;
-use crate::relocation::Relocation;
 use crate::section::{Body, Info, Section};
 use crate::symbol::Symbol;
 
@@ -62,23 +61,9 @@ fn prove_body(body: &Body<'_>)
         Body::NoBits(size) => {
             let _number = *size;
         }
-        Body::Relocs { entries, .. } => prove_relocations(entries),
+        Body::Relocs { entries, .. } => entries.prove_fits(),
         Body::Group { .. } => {}
     }
-}
-
-fn prove_relocations(entries: &[Relocation])
-    ensures { AllByRecursion RelocationFits entries.now }
-{
-    for entry in entries {
-        prove_relocation(*entry);
-    }
-}
-
-fn prove_relocation(entry: Relocation)
-    ensures { RelocationFits entry }
-{
-    let _numbers = (entry.offset, entry.kind, entry.addend);
 }
 
 fn prove_symbols(symbols: &[Symbol<'_>])
@@ -99,7 +84,7 @@ fn prove_symbol(symbol: &Symbol<'_>)
     prove_bytes(symbol.name);
 }
 
-fn prove_bytes(bytes: &[u8])
+pub(crate) fn prove_bytes(bytes: &[u8])
     ensures { IsBytes bytes.now }
 {
     let _ = bytes;

@@ -5,6 +5,7 @@ pub mod NamesOf
 pub mod SharedNames
 pub mod PartSizes
 pub mod AllParts
+pub mod RelocationsBack
 pub mod PlacedSections
 pub mod PlainSections
 pub mod ShortLayout

@@ -7,18 +7,18 @@ use crate::indexes::index_of;
 use elf_field::abi::*;
 use elf_field::{Rel, Rela};
 use elf_image_stream::entries::Entries;
-use elf_object_type::Relocation;
+use elf_object_type::{Relocation, Relocations};
 
 /// The entries of a section of type `SHT_RELA`.
 #[derive(Drop)]
 pub(crate) struct RelaEntries<'s> {
-    pub(crate) entries: &'s [Relocation],
+    pub(crate) entries: &'s Relocations<'s>,
 }
 
 /// The entries of a section of type `SHT_REL`.
 #[derive(Drop)]
 pub(crate) struct RelEntries<'s> {
-    pub(crate) entries: &'s [Relocation],
+    pub(crate) entries: &'s Relocations<'s>,
 }
 
 /// The words of a section group: its flags, and the section indexes of its members.
@@ -40,7 +40,7 @@ impl<'s> Entries for RelaEntries<'s> {
     }
 
     fn entry(&self, index: usize) -> Rela {
-        rela_entry(self.entries[index])
+        rela_entry(self.entries.entry(index))
     }
 }
 
@@ -56,7 +56,7 @@ impl<'s> Entries for RelEntries<'s> {
     }
 
     fn entry(&self, index: usize) -> Rel {
-        rel_entry(self.entries[index])
+        rel_entry(self.entries.entry(index))
     }
 }
 

@@ -17,7 +17,7 @@ use elf_field::Order;
 use elf_field::abi::*;
 use elf_image_stream::entries::write_entries;
 use elf_image_stream::{WriteFault, write_whole};
-use elf_object_type::{Body, Relocation, Section};
+use elf_object_type::{Body, Relocations, Section};
 use std::io::Write;
 
 impl<'p, 'o, 'a> LaidSection<'p, 'o, 'a> {
@@ -107,10 +107,28 @@ fn write_body<W: Write>(order: Order, body: &Body<'_>, writer: &mut W) -> Result
     }
 }
 
+/// Writes relocations: as they were read, where they stay a table in the byte order and of the type of the section.
 fn write_relocations<W: Write>(
     order: Order,
     rela: bool,
-    entries: &[Relocation],
+    entries: &Relocations<'_>,
+    writer: &mut W,
+) -> Result<(), WriteFault>
+    requires indexes { All (λ entry. index_of entry.symbol < 2 ^ 32) entries.now }
+    requires short { length (relocation_bytes order rela entries.now) ≤ MAX_LEN }
+    ensures { Writes (W.contents writer.old) (W.contents writer.new) (relocation_bytes order rela entries.now) result }
+{
+    match entries.table(order, rela) {
+        Some(table) => write_whole(writer, table),
+        None => write_each_relocation(order, rela, entries, writer),
+    }
+}
+
+/// Writes relocations one after the other.
+fn write_each_relocation<W: Write>(
+    order: Order,
+    rela: bool,
+    entries: &Relocations<'_>,
     writer: &mut W,
 ) -> Result<(), WriteFault>
     requires indexes { All (λ entry. index_of entry.symbol < 2 ^ 32) entries.now }

@@ -8,11 +8,10 @@ ghost use Rattle.elf_object_type.specs.Object.{ObjectValue};
 ghost use Rattle.elf_object_type.specs.ObjectView.{body_value, section_value};
 ghost use Rattle.elf_object_writer.specs.PlainSections.{own_section, plain_sections};
 ghost use Rattle.elf_object_type.specs.SectionRules.{IsWrongBitsType};
-ghost use Rattle.elf_field.specs.Abi.{relocation_size};
 
 use crate::name_tables::{NameTables, has_index_table};
 use elf_field::abi::*;
-use elf_object_type::{Body, Object, Section};
+use elf_object_type::{Body, Object, Section, relocation_size};
 use std::alloc::{AllocError, Global};
 
 /// Alignment of the symbol table and of the section header table, whose records have fields of eight bytes.
@@ -63,19 +62,12 @@ pub(crate) fn content_part(section: &Section<'_>) -> (u64, u64)
         Body::NoBits(_) => (0, 1),
         Body::Relocs { rela, entries, .. } => {
             (
-                entries_size(entries.len(), relocation_size(*rela)),
+                entries_size(entries.len(), relocation_size(*rela) as u64),
                 section.align,
             )
         }
         Body::Group { members, .. } => (table_size(members.len(), WORD_SIZE), section.align),
     }
-}
-
-/// The size of a relocation with an addend or without one.
-fn relocation_size(rela: bool) -> u64
-    ensures { result ≡ relocation_size rela }
-{
-    if rela { RELA_SIZE } else { REL_SIZE }
 }
 
 /// The size of so many entries, in bytes.

@@ -54,7 +54,7 @@ fn relocs(alloc: Global) -> Result<Section<'static>, AllocError> {
         body: Body::Relocs {
             rela: true,
             target: 0,
-            entries: list(alloc, [call])?,
+            entries: list(alloc, [call])?.into(),
         },
     })
 }

@@ -64,7 +64,7 @@ pub fn relocs<'a>(target: usize, entries: Vec<Relocation>) -> Section<'a> {
         body: Body::Relocs {
             rela: true,
             target,
-            entries,
+            entries: entries.into(),
         },
     }
 }

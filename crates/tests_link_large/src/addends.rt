@@ -85,7 +85,7 @@ fn rel<'a>(entries: Vec<Relocation>) -> Section<'a> {
         body: Body::Relocs {
             rela: false,
             target: 0,
-            entries,
+            entries: entries.into(),
         },
     }
 }

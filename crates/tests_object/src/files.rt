@@ -120,7 +120,7 @@ fn are_the_relocations(section: &Section<'_>) -> bool {
             rela: true,
             target: 1,
             entries,
-        } => matches!(entries.as_slice(), [entry] if *entry == expected),
+        } => entries.len() == 1 && entries.entry(0) == expected,
         _ => false,
     }
 }

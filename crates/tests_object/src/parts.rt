@@ -59,7 +59,7 @@ fn sections(alloc: Global, rela: bool, entsize: u64) -> Result<Vec<Section<'stat
     let relocs = Body::Relocs {
         rela,
         target: 0,
-        entries,
+        entries: entries.into(),
     };
     Ok(vec![in alloc;
         bits(6),
@@ -169,7 +169,7 @@ fn judged_relocs(
     let relocs = Body::Relocs {
         rela,
         target,
-        entries: list(alloc, [entry(addend)])?,
+        entries: list(alloc, [entry(addend)])?.into(),
     };
     judged_with(alloc, 2, section(0, entsize, relocs))
 }

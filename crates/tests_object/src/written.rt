@@ -154,7 +154,7 @@ fn many_sections(alloc: Global) -> Result<Vec<Section<'static>>, AllocError> {
     let relocs = Body::Relocs {
         rela: false,
         target: 1,
-        entries: vec![in alloc; entry]?,
+        entries: vec![in alloc; entry]?.into(),
     };
     let space = Section {
         addr: 0x1000,

@@ -1,6 +1,5 @@
 -- A section whose body is no relocations, or is not applied, has no fields; else they are those of its entries, one after the other.
 use Rattle.std.proofs.Common.{◌≡◌, ◌<◌, ℕ, ap, false, get_or, length, refl, subst, sym, true, ◌∙◌, arith, rules}
-use Rattle.std.proofs.lemmas.List.{get_or_default}
 use Rattle.elf_object_type.specs.declared.section.Body.{Body}
 use Rattle.elf_object_type.specs.declared.section.Section.{Section}
 use Rattle.elf_object_type.specs.Object.{BodyValue, SectionValue, no_relocation}
@@ -62,7 +61,6 @@ returns-clause-ok c =
     let same = body_read _ _ c.args.file c.args.index c.section_of.result.now _ linking c.section_of.ensures c.in-Relocs.is in
     let items = ap (λ (b : BodyValue). length (entries_of b)) same in
     let count = c.len-entry-end.ensures in
-    let long = c.in-Relocs.entries.ok.0 in
     let past = c.loop-entry-test.false in
     let rules = c.args.values.now.rules in
     found_on fs c.args.values.now.map rules _ _ c.loop-entry.fields
@@ -76,16 +74,12 @@ push_entry-requires-clause-entry c =
     let same = body_read _ _ c.args.file c.args.index c.section_of.result.now _ linking c.section_of.ensures c.in-Relocs.is in
     let items = ap (λ (b : BodyValue). length (entries_of b)) same in
     let count = c.len-entry-end.ensures in
-    let long = c.in-Relocs.entries.ok.0 in
     let below = c.loop-entry-test.true in
     let applied = (rw c.linking-linking.ensures at c.if-not-are_applied.ensures).0 (search rules) in
-    let es = c.in-Relocs.entries.items in
     let e = c.loop-entry.entry in
-    let here : e < length es = omega arith in
-    let read = get_or_default es e no_relocation c.index.result.now here ∙ sym c.index.ensures in
     record {
       applied = (record { file = c.requires.section.0; section = c.requires.section.1; entry = omega arith }, (applied.0, rw same applied.1));
       rela = sym (ap (λ (b : BodyValue). is_rela b) same);
       target = sym (ap (λ (b : BodyValue). target_of b) same);
-      relocation = sym (ap (λ (b : BodyValue). get_or (entries_of b) e no_relocation) same ∙ read);
+      relocation = sym (ap (λ (b : BodyValue). get_or (entries_of b) e no_relocation) same ∙ sym c.entry.ensures);
     }

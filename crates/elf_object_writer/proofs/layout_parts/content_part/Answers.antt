@@ -10,11 +10,10 @@ returns-in-Bits c = λ o. bits_part o (section_value c.args.section.now) c.in-Bi
 
 pub returns-in-Relocs : goal.returns-in-Relocs
 returns-in-Relocs c = λ o.
-    let many : length c.in-Relocs.entries.items ≡ vec_len c.in-Relocs.entries = search rules in
     let size = c.entries_size.ensures in
     let entry = c.relocation_size.ensures in
-    relocs_part o (section_value c.args.section.now) c.in-Relocs.rela c.in-Relocs.target c.in-Relocs.entries.items c.len.result _ (ap body_value c.in-Relocs.is)
-    (c.len.ensures ∙ sym many) (size ∙ ap (λ (n : ℕ). min (n * c.len.result) LARGEST) entry)
+    relocs_part o (section_value c.args.section.now) c.in-Relocs.rela c.in-Relocs.target c.in-Relocs.entries c.len.result _ (ap body_value c.in-Relocs.is)
+    c.len.ensures (size ∙ ap (λ (n : ℕ). min (n * c.len.result) LARGEST) entry)
 
 pub returns-in-Group : goal.returns-in-Group
 returns-in-Group c = λ o.

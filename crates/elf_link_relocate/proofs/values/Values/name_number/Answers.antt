@@ -1,7 +1,7 @@
 use Rattle.std.proofs.Common.{map, subst, ℕ}
 use Rattle.std.specs.Global.{Vec}
+use Rattle.elf_link_map.specs.BindingNumbers.{AreBindingNumbers}
 use Rattle.elf_link_relocate.specs.Linking.{LinkingValue}
-use Rattle.elf_link_relocate.specs.ValuesView.{AreValues}
 use Rattle.elf_link_relocate.proofs.NameValues.{number_stands}
 use Rattle.elf_link_relocate.proofs.values.Values.name_number.Goals as goal
 
@@ -9,6 +9,6 @@ pub returns : goal.returns
 returns c =
     let l = c.args.self.now in
     let v = c.self.inside in
-    let is = subst (λ (now : LinkingValue). AreValues now (map (λ (row : Vec ℕ). row.items) v.numbers.now) v.names.items) c.self.view_is c.self.invariant in
+    let is = subst (λ (now : LinkingValue). AreBindingNumbers now.objects now.map (map (λ (row : Vec ℕ). row.items) v.numbers.now)) c.self.view_is c.self.invariant in
     number_stands l.objects l.map v.numbers.now c.index-numbers-file.result c.args.file c.args.index c.index.result.now
-    c.requires.symbol.0 c.requires.symbol.1 c.requires.entry c.index-numbers-file.is c.index.ensures is.numbers
+    c.requires.symbol.0 c.requires.symbol.1 c.requires.entry c.index-numbers-file.is c.index.ensures is

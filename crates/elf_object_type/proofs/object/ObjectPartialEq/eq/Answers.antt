@@ -1,4 +1,4 @@
-use Rattle.std.proofs.Common.{◌≡◌, ◌∙◌}
+use Rattle.std.proofs.Common.{◌∙◌}
 use Rattle.elf_object_type.specs.EqualityLaws.{object_decides}
 use Rattle.elf_object_type.proofs.Equality.{parts_same}
 use Rattle.elf_object_type.proofs.object.ObjectPartialEq.eq.Goals as goal
