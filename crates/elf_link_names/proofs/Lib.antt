@@ -5,6 +5,7 @@ pub mod BoundNames
 pub mod Naming
 pub mod Tabled
 pub mod NameNumbers
+pub mod LookedUp
 pub mod Numbers
 pub mod OneChoice
 pub mod Public

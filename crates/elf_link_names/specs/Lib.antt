@@ -1,6 +1,7 @@
 -- The words of this crate's contracts.
 pub mod Binds
 pub mod Listing
+pub mod Lookups
 pub mod NameRules
 pub mod LinkRules
 pub mod ChosenCommons

@@ -1,21 +1,23 @@
 //! What is known of each name, from one pass over all symbols: its first definitions, its commons, and what else needs it
 //! (gABI chapter 4, Symbol Table).
-ghost use Rattle.std.specs.Prelude.{◌≡◌, ◌↔◌, ◌+◌, ◌<◌, None, Some, false, IfOk, IsTrue, OnOk, length, map};
+ghost use Rattle.std.specs.Prelude.{◌≡◌, ◌↔◌, ◌+◌, ◌<◌, ◌≤◌, None, Some, false, IfOk, IsTrue, OnOk, length, map};
 ghost use Rattle.elf_object_type.specs.ObjectView.{symbol_value};
 ghost use Rattle.elf_link_files.specs.Files.{object_at};
 ghost use Rattle.elf_link_files.specs.Ids.{symbol_with};
 ghost use Rattle.elf_link_names.specs.Binds.{not_weak as not_weak_row};
 ghost use Rattle.elf_link_names.specs.KnownNames.{AreAllKnown, AreKnownBefore, IsBlock, IsCommonBest, IsKnownBefore, IsLargerOf, SomeBefore, first_or, known_at};
+ghost use Rattle.elf_link_names.specs.Lookups.{IsSymbolLookup};
 ghost use Rattle.elf_link_names.specs.NameNumbers.{AreNameNumbers, IsNameNumber, IsNumberRow, KeepsPositions};
 ghost use Rattle.elf_link_positions.specs.Slots.{name_position};
 ghost use Rattle.elf_field.specs.Abi.{STB_LOCAL};
 ghost use Rattle.elf_link_files.specs.Symbols.{IsCommon};
 ghost use Rattle.elf_object_type.specs.Object.{binding as binding_of};
 
+use crate::lookups::{BLOCK, block_lookups};
 use elf_field::abi::*;
 use elf_link_files::files::symbol_count;
 use elf_link_files::{InputSymbol, Inputs, SymbolId};
-use elf_link_positions::NamePositions;
+use elf_link_positions::{Lookup, NamePositions};
 use elf_object_type::Symbol;
 use std::alloc::{AllocError, Global};
 
@@ -154,18 +156,20 @@ fn unknown(id: SymbolId) -> Known
 }
 
 /// Whether a symbol is local.
-fn is_local(symbol: &Symbol<'_>) -> bool
+pub(crate) fn is_local(symbol: &Symbol<'_>) -> bool
     ensures { IsTrue result ↔ (binding_of (symbol_value symbol.now) ≡ STB_LOCAL) }
 {
     symbol.binding() == STB_LOCAL
 }
 
-/// Goes past a symbol, and returns the number of its name; 0 for a local one.
+/// Goes past a symbol whose name was looked up, and returns the number of its name; 0 for a local one.
 fn pass_symbol<'a>(
     symbol: &InputSymbol<'_, '_, 'a>,
+    lookup: Lookup,
     names: &mut KnownNames<'a>,
 ) -> Result<usize, AllocError>
-    requires { AreKnownBefore symbol.now.inputs.now symbol.now.id.file symbol.now.id.index (name_position names.old.positions) names.old.known.items }
+    requires before { AreKnownBefore symbol.now.inputs.now symbol.now.id.file symbol.now.id.index (name_position names.old.positions) names.old.known.items }
+    requires lookup { IsSymbolLookup symbol.now.inputs.now (name_position names.old.positions) symbol.now.id.file symbol.now.id.index lookup }
     ensures names { OnOk result (AreKnownBefore symbol.now.inputs.now symbol.now.id.file (symbol.now.id.index + 1) (name_position names.new.positions) names.new.known.items) }
     ensures number { IfOk result (IsNameNumber symbol.now.inputs.now (name_position names.new.positions) symbol.now.id.file symbol.now.id.index) }
     ensures kept { OnOk result (KeepsPositions (name_position names.old.positions) (name_position names.new.positions)) }
@@ -176,7 +180,7 @@ fn pass_symbol<'a>(
         return Ok(0);
     }
     let next = names.known.len();
-    let place = names.positions.place(name, next)?;
+    let place = names.positions.place_looked_up(lookup, name, next)?;
     match place {
         Some(k) => {
             let known = known_item(&names.known, k);
@@ -189,6 +193,34 @@ fn pass_symbol<'a>(
             Ok(next)
         }
     }
+}
+
+/// Goes past the next block of symbols of a file, and adds the number of each one's name to the row, which has those of the symbols before.
+fn pass_block<'a>(
+    inputs: &Inputs<'_, 'a>,
+    file: usize,
+    names: &mut KnownNames<'a>,
+    row: &mut Vec<usize>,
+) -> Result<(), AllocError>
+    requires file { file < length inputs.now }
+    requires left { length row.old.items < length (object_at inputs.now file).symbols }
+    requires before { AreKnownBefore inputs.now file (length row.old.items) (name_position names.old.positions) names.old.known.items }
+    requires numbers { IsNumberRow inputs.now (name_position names.old.positions) file (length row.old.items) row.old.items }
+    ensures more { OnOk result (length row.old.items < length row.new.items) }
+    ensures within { OnOk result (length row.new.items ≤ length (object_at inputs.now file).symbols) }
+    ensures names { OnOk result (AreKnownBefore inputs.now file (length row.new.items) (name_position names.new.positions) names.new.known.items) }
+    ensures numbers { OnOk result (IsNumberRow inputs.now (name_position names.new.positions) file (length row.new.items) row.new.items) }
+    ensures kept { OnOk result (KeepsPositions (name_position names.old.positions) (name_position names.new.positions)) }
+{
+    let start = row.len();
+    let end = start + (symbol_count(inputs.object(file)) - start).min(BLOCK);
+    let lookups = block_lookups(inputs, &names.positions, file, start, end);
+    for index in start..end {
+        let id = SymbolId { file, index };
+        let symbol = InputSymbol { inputs, id };
+        row.push(pass_symbol(&symbol, lookups[index - start], names)?)?;
+    }
+    Ok(())
 }
 
 /// Goes past the symbols of a file, and returns the number of each one's name.
@@ -206,10 +238,8 @@ fn pass_file<'a>(
 {
     let count = symbol_count(inputs.object(file));
     let mut row = Vec::with_capacity(alloc, count)?;
-    for index in 0..count {
-        let id = SymbolId { file, index };
-        let symbol = InputSymbol { inputs, id };
-        row.push(pass_symbol(&symbol, names)?)?;
+    while row.len() < count {
+        pass_block(inputs, file, names, &mut row)?;
     }
     Ok(row)
 }

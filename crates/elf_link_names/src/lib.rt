@@ -12,6 +12,7 @@ mod file_rules;
 pub mod judge;
 mod known_names;
 mod listing;
+mod lookups;
 mod name_rules;
 mod name_table;
 mod named_symbol;

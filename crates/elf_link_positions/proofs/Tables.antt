@@ -1,7 +1,7 @@
 -- Names that stand in slots, and behind them in a map. A name whose slots tell that it stands in none has no entry, since an entry's slot is
 -- behind taken ones.
-use Rattle.std.proofs.Common.{◌≡◌, ℕ, zero, suc, ◌<◌, ◌≤◌, ◌+◌, ◌-◌, ◌%◌, ◌⊎◌, Bool, true, false, List, [], ◌∷◌, ◌++◌, length, get_or, set, inl, inr, refl, sym, ◌∙◌, ap, subst, arith, get_or-set_other, get_or-set_same}
-use Rattle.std.specs.Prelude.{◌≢◌, cond, if◌then◌else◌, is_some, Option, None, Some}
+use Rattle.std.proofs.Common.{◌≡◌, ℕ, zero, suc, ◌<◌, ◌+◌, ◌-◌, ◌⊎◌, Bool, true, false, List, [], ◌∷◌, ◌++◌, length, get_or, set, inl, inr, refl, sym, ◌∙◌, ap, subst, arith, get_or-set_other, get_or-set_same}
+use Rattle.std.specs.Prelude.{◌≢◌, cond, if◌then◌else◌, is_some, MatchOption, Option, None, Some}
 use Rattle.std.specs.Str.{bytes_eq}
 use Rattle.std.proofs.lemmas.Bool.{cases_eq, cases_lt}
 use Rattle.std.proofs.Math.Seq.{get_or-append_seam}
@@ -12,7 +12,7 @@ use Rattle.elf_link_positions.specs.declared.slots.Seen.TheVariants.{Free, Here,
 use Rattle.elf_link_positions.specs.declared.slots.Slot.{Slot}
 use Rattle.elf_link_positions.specs.declared.slots.TheConstants.{MOST_NAMES, MOST_STEPS}
 use Rattle.elf_link_positions.specs.Ordered.{IsPlaced}
-use Rattle.elf_link_positions.specs.Slots.{AreTables, AreSlotsTaken, IsEnd, IsFound, IsInNone, SlotsTell, numbered_entry, entry_position, free_slot, home, entry_name, name_hash, no_name_entry, or_else, slot_from, upper_of}
+use Rattle.elf_link_positions.specs.Slots.{AreTables, AreSlotsTaken, IsEnd, IsFound, IsInNone, LeadsTo, SlotsTell, numbered_entry, entry_position, free_slot, home, entry_name, name_hash, no_name_entry, or_else, slot_from, upper_of}
 
 pub is_same : (n q : List ℕ) → n ≡ q → bytes_eq n q ≡ true
 is_same n q same = (bytes_eq-Decides n q).1 same
@@ -76,6 +76,14 @@ pub here_position : (slots : List Slot) (es : List Entry) (more : List ℕ → O
     SlotsTell slots es q (Here position) → entry_position es q ≡ Some position
 here_position slots es more tables q position (k, lt, is, at) =
     first_position es q k lt is (λ j below same. (let one = tables.once j k (omega arith) lt (same ∙ sym is) in omega arith)) ∙ ap Some (sym at)
+
+-- a slot that leads to a name's entry tells its position
+pub looked_up : (slots : List Slot) (es : List Entry) (more : List ℕ → Option ℕ) → AreTables slots es more → (slot : Slot) (upper : ℕ) (q : List ℕ) (found : Option ℕ) →
+    MatchOption found (¬ LeadsTo es slot upper q) (λ p. LeadsTo es slot upper q × (p ≡ (numbered_entry es slot.number).position)) →
+    MatchOption found (¬ LeadsTo es slot upper q) (λ p. or_else (entry_position es q) (more q) ≡ Some p)
+looked_up slots es more tables slot upper q None none = none
+looked_up slots es more tables slot upper q (Some p) ((some, within, of_name), at) =
+    ap (λ (found : Option ℕ). or_else found (more q)) (here_position slots es more tables q p (slot.number - 1, omega arith, of_name.1, at))
 
 -- where a slot is free and numbers last, the map has no such name
 pub not_behind : (slots : List Slot) (es : List Entry) (more : List ℕ → Option ℕ) → AreTables slots es more → (q : List ℕ) (at : ℕ) → SlotsTell slots es q (Free at) →

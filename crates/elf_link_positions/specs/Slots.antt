@@ -1,8 +1,9 @@
 -- Names by position, in slots by hash, with a map behind them.
-use Rattle.std.specs.Prelude.{◌≡◌, ◌≢◌, ◌⊎◌, ℕ, ◌<◌, ◌≤◌, ◌+◌, ◌-◌, ◌/◌, ◌%◌, ◌^◌, if◌then◌else◌, Option, None, Some, List, [], ◌∷◌, get_or, length}
+use Rattle.std.specs.Prelude.{◌≡◌, ◌≢◌, ◌⊎◌, ℕ, ◌<◌, ◌≤◌, ◌+◌, ◌-◌, ◌/◌, ◌%◌, ◌^◌, if◌then◌else◌, Option, None, Some, List, [], ◌∷◌, IfSome, get_or, length}
 use Rattle.std.specs.Str.{bytes_eq}
 use Rattle.std.specs.Borrow.{Bor}
 use Rattle.std.specs.Hash.FoldHasher as folding
+use Rattle.elf_link_positions.specs.declared.positions.Lookup.{Lookup}
 use Rattle.elf_link_positions.specs.declared.positions.NamePositions.TheInside.{Inside}
 use Rattle.elf_link_positions.specs.declared.slots.Entry.{Entry}
 use Rattle.elf_link_positions.specs.declared.slots.Seen.{Seen}
@@ -39,6 +40,10 @@ AreSlotsTaken slots place n = (s : ℕ) → s < n → 0 < (slot_from slots place
 -- a slot is the one of this name, whose hash has this upper half
 abbrev pub IsOfName : List Entry → Slot → ℕ → List ℕ → Type 0
 IsOfName entries slot upper name = (slot.upper ≡ upper) × ((numbered_entry entries slot.number).name.now ≡ name)
+
+-- a slot leads to the entry of this name
+abbrev pub LeadsTo : List Entry → Slot → ℕ → List ℕ → Type 0
+LeadsTo entries slot upper name = (0 < slot.number) × (slot.number ≤ length entries) × IsOfName entries slot upper name
 
 -- none of the first n slots from a place on is
 abbrev pub IsInNone : List Slot → List Entry → ℕ → ℕ → List ℕ → ℕ → Type 0
@@ -114,3 +119,7 @@ or_else (Some p) other = Some p
 -- where a name stands
 unfoldable pub name_position : Positions → List ℕ → Option ℕ
 name_position p q = or_else (entry_position p.entries q) (position_among p.more q)
+
+-- a name was looked up among these positions: this is its hash, and where its position was found, that is it
+abbrev pub IsLookup : (List ℕ → Option ℕ) → List ℕ → Lookup → Type 0
+IsLookup position name lookup = (lookup.hash ≡ name_hash name) × IfSome lookup.position (λ p. position name ≡ Some p)

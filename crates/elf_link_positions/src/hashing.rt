@@ -6,7 +6,7 @@ use std::hash::{FoldHasher, Hasher};
 
 /// The hash of a name. It reads eight bytes at a time.
 #[tactic(auto, unfolding(crate::specs::Slots::name_hash))]
-pub(crate) fn hash_of(name: &[u8]) -> u64
+pub fn hash_of(name: &[u8]) -> u64
     ensures { result ≡ name_hash name.now }
 {
     let mut hasher = FoldHasher::default();

@@ -14,4 +14,6 @@ mod ordered;
 mod positions;
 mod slots;
 
-pub use positions::NamePositions;
+pub use hashing::hash_of;
+pub use positions::{Lookup, NamePositions};
+pub use slots::Slot;

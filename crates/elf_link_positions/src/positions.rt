@@ -1,11 +1,11 @@
 //! Where each name of a link stands.
-ghost use Rattle.std.specs.Prelude.{◌≡◌, ℕ, None, List, IfOk, OnErr};
+ghost use Rattle.std.specs.Prelude.{◌≡◌, ℕ, None, Some, List, MatchOption, IfOk, OnErr};
 ghost use Rattle.elf_link_positions.specs.Ordered.{IsPlaced};
-ghost use Rattle.elf_link_positions.specs.Slots.{name_position};
+ghost use Rattle.elf_link_positions.specs.Slots.{IsLookup, LeadsTo, name_hash, name_position, upper_of as upper_of_hash};
 
-use crate::hashing::{hash_of, upper_of};
+use crate::hashing::{hash_of, home_of, upper_of};
 use crate::ordered::place_ordered;
-use crate::slots::{Entry, MOST_STEPS, Seen, Slot, look};
+use crate::slots::{Entry, MOST_STEPS, Seen, Slot, look, position_of};
 use std::alloc::{AllocError, Global};
 use std::collections::BTreeMap;
 use std::marker::Model;
@@ -18,6 +18,23 @@ pub struct NamePositions<'a> {
     slots: Vec<Slot>,
     entries: Vec<Entry<'a>>,
     more: BTreeMap<&'a [u8], usize>,
+}
+
+/// What a search for a name told ahead of its placing.
+#[derive(Clone, Copy, Debug)]
+pub struct Lookup {
+    /// The hash of the name.
+    pub hash: u64,
+    /// The position of the name, where one look found it.
+    pub position: Option<usize>,
+}
+
+impl Lookup {
+    /// That of no name.
+    pub const NONE: Lookup = Lookup {
+        hash: 0,
+        position: None,
+    };
 }
 
 impl<'a> Model for NamePositions<'a> {
@@ -36,11 +53,7 @@ impl<'a> NamePositions<'a> {
     pub fn new(alloc: Global, room: usize) -> Result<NamePositions<'a>, AllocError>
         ensures { IfOk result (λ positions. (q : List ℕ) → name_position positions q ≡ None) }
     {
-        let free = Slot {
-            upper: 0,
-            number: 0,
-        };
-        let slots = vec![in alloc; free; room.max(1).saturating_add(MOST_STEPS)]?;
+        let slots = vec![in alloc; Slot::FREE; room.max(1).saturating_add(MOST_STEPS)]?;
         let entries = Vec::new(alloc);
         let more = BTreeMap::new(alloc);
         Ok(NamePositions {
@@ -62,15 +75,63 @@ impl<'a> NamePositions<'a> {
         }
     }
 
+    /// The slot where a search for a name of this hash begins. Slots that are read one right after the other wait for memory together.
+    pub fn first_slot(&self, hash: u64) -> Slot {
+        self.slots[home_of(hash, self.slots.len() - MOST_STEPS)]
+    }
+
+    /// What a slot, read now or at any time before, tells of a name of this hash: its position, or nothing. Takes one comparison at most.
+    pub fn look_up(&self, slot: Slot, hash: u64, name: &[u8]) -> Lookup
+        ensures hash { result.hash ≡ hash }
+        ensures position { MatchOption result.position (¬ LeadsTo self.now.entries slot (upper_of_hash hash) name.now)
+            (λ position. name_position self.now name.now ≡ Some position) }
+    {
+        let position = position_of(slot, &self.entries, hash, name);
+        Lookup { hash, position }
+    }
+
     /// The position of a name that has one, which stays; a further name gets this one, and the answer is None. The error comes only where
     /// memory is refused, and leaves each name where it was. Takes a look at a few slots for most names, and log n comparisons for any.
-    #[tactic(auto, unfolding(crate::specs::Slots::name_position))]
     pub fn place(&mut self, name: &'a [u8], next: usize) -> Result<Option<usize>, AllocError>
         ensures old { IfOk result (λ old. old ≡ name_position self.old name.now) }
         ensures placed { IfOk result (λ old. IsPlaced old name.now next (name_position self.old) (name_position self.new)) }
         ensures err { OnErr result ((q : List ℕ) → name_position self.new q ≡ name_position self.old q) }
     {
         let hash = hash_of(name);
+        self.place_hashed(hash, name, next)
+    }
+
+    /// The same, of a name that was looked up before: it takes no further look at a name whose position was found.
+    pub fn place_looked_up(
+        &mut self,
+        lookup: Lookup,
+        name: &'a [u8],
+        next: usize,
+    ) -> Result<Option<usize>, AllocError>
+        requires { IsLookup (name_position self.old) name.now lookup }
+        ensures old { IfOk result (λ old. old ≡ name_position self.old name.now) }
+        ensures placed { IfOk result (λ old. IsPlaced old name.now next (name_position self.old) (name_position self.new)) }
+        ensures err { OnErr result ((q : List ℕ) → name_position self.new q ≡ name_position self.old q) }
+    {
+        if let Some(position) = lookup.position {
+            return Ok(Some(position));
+        }
+        self.place_hashed(lookup.hash, name, next)
+    }
+
+    /// The same, of a name of this hash.
+    #[tactic(auto, unfolding(crate::specs::Slots::name_position))]
+    fn place_hashed(
+        &mut self,
+        hash: u64,
+        name: &'a [u8],
+        next: usize,
+    ) -> Result<Option<usize>, AllocError>
+        requires { hash ≡ name_hash name.now }
+        ensures old { IfOk result (λ old. old ≡ name_position self.old name.now) }
+        ensures placed { IfOk result (λ old. IsPlaced old name.now next (name_position self.old) (name_position self.new)) }
+        ensures err { OnErr result ((q : List ℕ) → name_position self.new q ≡ name_position self.old q) }
+    {
         match look(&self.slots, &self.entries, hash, name) {
             Seen::Here(position) => Ok(Some(position)),
             Seen::Free(at) => {

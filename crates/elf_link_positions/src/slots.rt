@@ -1,6 +1,6 @@
 //! Slots in which names stand by their hashes, and what they tell of a name.
 ghost use Rattle.std.specs.Prelude.{◌≡◌, ◌<◌, ◌≤◌, ◌+◌, MatchOption, length};
-ghost use Rattle.elf_link_positions.specs.Slots.{AreEntryNumbers, IsOfName, Sees, SlotsTell, numbered_entry, name_hash};
+ghost use Rattle.elf_link_positions.specs.Slots.{AreEntryNumbers, IsOfName, LeadsTo, Sees, SlotsTell, numbered_entry, name_hash, upper_of as upper_of_hash};
 
 use crate::hashing::{home_of, upper_of};
 
@@ -13,9 +13,17 @@ const MOST_NAMES: usize = 0xffff_ffff;
 /// The number of a name among those that stand in slots, from 1 on, and 0 in a slot that is free; and the upper half of its hash, by which
 /// most other names are told from it without a look at them.
 #[derive(Clone, Copy, Debug)]
-pub(crate) struct Slot {
+pub struct Slot {
     pub(crate) upper: u32,
     pub(crate) number: u32,
+}
+
+impl Slot {
+    /// A free slot.
+    pub const FREE: Slot = Slot {
+        upper: 0,
+        number: 0,
+    };
 }
 
 /// A name that stands in a slot, and its position.
@@ -52,6 +60,22 @@ fn position_by(slot: Slot, entries: &[Entry<'_>], upper: u32, name: &[u8]) -> Op
     } else {
         None
     }
+}
+
+/// The position of a name that has this hash, by a slot of any time; `None` where the slot was free, or is another name's.
+pub(crate) fn position_of(
+    slot: Slot,
+    entries: &[Entry<'_>],
+    hash: u64,
+    name: &[u8],
+) -> Option<usize>
+    ensures { MatchOption result (¬ LeadsTo entries.now slot (upper_of_hash hash) name.now)
+        (λ position. LeadsTo entries.now slot (upper_of_hash hash) name.now × (position ≡ (numbered_entry entries.now slot.number).position)) }
+{
+    if slot.number == 0 || slot.number as usize > entries.len() {
+        return None;
+    }
+    position_by(slot, entries, upper_of(hash), name)
 }
 
 /// What the slots from `home` on tell of a name whose hash has this upper half.

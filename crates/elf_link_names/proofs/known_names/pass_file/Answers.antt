@@ -1,34 +1,15 @@
--- Symbol by symbol: a number joins the row before it, which still holds, since no name loses its position.
 use Rattle.std.proofs.Common.{◌≡◌, ℕ, length, subst, arith}
 use Rattle.elf_link_files.specs.Files.{object_at}
-use Rattle.elf_link_files.proofs.Public.{each_more}
 use Rattle.elf_link_names.specs.KnownNames.{AreKnownBefore}
-use Rattle.elf_link_names.specs.NameNumbers.{IsNameNumber}
 use Rattle.elf_link_positions.specs.Slots.{name_position}
-use Rattle.elf_link_names.proofs.NameNumbers.{keeps_on, row_kept}
 use Rattle.elf_link_names.proofs.known_names.pass_file.Goals as goal
-
-pub loop-index-preserved : goal.loop-index-preserved
-loop-index-preserved c =
-    let fs = c.args.inputs.now in
-    let f = c.args.file in
-    let first = name_position c.args.names.now.positions in
-    let old = name_position c.loop-index.names.positions in
-    let now = name_position c.pass_symbol.new.names.positions in
-    let passed = c.in_ok-pass_symbol.ensures in
-    let before = c.loop-index.invariant in
-    record {
-      names = passed.names;
-      numbers = rw c.in_ok-push.ensures.items
-          (each_more 0 (IsNameNumber fs now f) c.loop-index.index c.loop-index.row.items c.in_ok-pass_symbol.field-0 passed.number
-          (row_kept fs old now f c.loop-index.index c.loop-index.row.items passed.kept before.numbers));
-      kept = keeps_on first old now before.kept passed.kept;
-    }
 
 pub returns-clause-names : goal.returns-clause-names
 returns-clause-names c =
     let fs = c.args.inputs.now in
     let count = rw c.object.ensures at c.symbol_count-count.ensures in
-    let past = c.loop-index-test.false in
-    let end : c.loop-index.index ≡ length (object_at fs c.args.file).symbols = omega arith in
-    subst (λ (n : ℕ). AreKnownBefore fs c.args.file n (name_position c.loop-index.names.positions) c.loop-index.names.known.items) end c.loop-index.invariant.names
+    let before = c.loop-names.invariant in
+    let within = before.within in
+    let past = c.loop-names-test.false in
+    let end : length c.loop-names.row.items ≡ length (object_at fs c.args.file).symbols = omega arith in
+    subst (λ (n : ℕ). AreKnownBefore fs c.args.file n (name_position c.loop-names.names.positions) c.loop-names.names.known.items) end before.names

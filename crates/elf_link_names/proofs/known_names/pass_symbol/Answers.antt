@@ -17,7 +17,7 @@ pub returns-then-is_local-clause-names : goal.returns-then-is_local-clause-names
 returns-then-is_local-clause-names c =
     let s = c.args.symbol.now in
     names_local s.inputs.now s.id.file s.id.index (name_position c.args.names.now.positions) c.args.names.now.known.items
-    (subst (λ (s : SymbolValue). binding s ≡ STB_LOCAL) c.symbol-own.ensures (c.if-is_local.ensures.0 refl)) c.requires
+    (subst (λ (s : SymbolValue). binding s ≡ STB_LOCAL) c.symbol-own.ensures (c.if-is_local.ensures.0 refl)) c.requires.before
 
 pub known_past-requires-in-None : goal.known_past-requires-in-None
 known_past-requires-in-None c =
@@ -29,7 +29,7 @@ known_past-requires-in-None c =
     subst (IsKnownBefore fs name s.id.file s.id.index) (sym c.unknown-known.ensures)
     (known_none fs name s.id.file s.id.index
     (none_placed fs s.id.file s.id.index old c.args.names.now.known.items name
-    (subst (λ (n : List ℕ). old n ≡ None) same (sym c.in_ok-place.ensures.old ∙ c.in-None.is)) c.requires))
+    (subst (λ (n : List ℕ). old n ≡ None) same (sym c.in_ok-place.ensures.old ∙ c.in-None.is)) c.requires.before))
 
 pub returns-in-Some-clause-names : goal.returns-in-Some-clause-names
 returns-in-Some-clause-names c =
@@ -37,11 +37,11 @@ returns-in-Some-clause-names c =
     let fs = s.inputs.now in
     let same = ap (λ (s : SymbolValue). s.name) c.symbol-own.ensures in
     let old = name_position c.args.names.now.positions in
-    names_again fs s.id.file s.id.index old (name_position c.place.new.self) c.args.names.now.known.items c.in-Some.k c.known_past.result
+    names_again fs s.id.file s.id.index old (name_position c.place_looked_up.new.self) c.args.names.now.known.items c.in-Some.k c.known_past.result
     (λ q. rw c.in-Some.is at (c.in_ok-place.ensures.placed q))
     (subst (λ (n : List ℕ). old n ≡ Some c.in-Some.k) same (sym c.in_ok-place.ensures.old ∙ c.in-Some.is))
     (c.known_past.ensures.first ∙ ap (λ (k : Known). k.first) (c.known_item-known.ensures ∙ ap (λ (ks : List Known). known_at ks c.in-Some.k) c.deref.ensures.value))
-    c.known_past.ensures.known c.requires
+    c.known_past.ensures.known c.requires.before
 
 pub returns-in_ok-push-in-None-clause-names : goal.returns-in_ok-push-in-None-clause-names
 returns-in_ok-push-in-None-clause-names c =
@@ -51,7 +51,7 @@ returns-in_ok-push-in-None-clause-names c =
     let name = c.symbol-own.result.name.now in
     let same = ap (λ (s : SymbolValue). s.name) c.symbol-own.ensures in
     let old = name_position c.args.names.now.positions in
-    let now = name_position c.place.new.self in
+    let now = name_position c.place_looked_up.new.self in
     let long : c.len-next.result ≡ length ks = search rules in
     rw c.in_ok-push-in-None.ensures.items
     (names_new fs s.id.file s.id.index old now ks c.known_past-in-None.result s.there.0 s.there.1
@@ -60,9 +60,9 @@ returns-in_ok-push-in-None-clause-names c =
     (subst (λ (m : ℕ). (q : List ℕ) → now q ≡ cond (bytes_eq name q) (Some m) (old q)) long (λ q. rw c.in-None.is at (c.in_ok-place.ensures.placed q))))
     (subst (λ (n : List ℕ). old n ≡ None) same (sym c.in_ok-place.ensures.old ∙ c.in-None.is))
     (c.known_past-in-None.ensures.first ∙ ap (λ (k : Known). k.first) c.unknown-known.ensures)
-    c.known_past-in-None.ensures.known c.requires)
+    c.known_past-in-None.ensures.known c.requires.before)
 
 pub returns-in_ok-push-in-None-clause-kept : goal.returns-in_ok-push-in-None-clause-kept
 returns-in_ok-push-in-None-clause-kept c =
-    keeps_new (name_position c.args.names.now.positions) (name_position c.place.new.self) c.symbol-own.result.name.now c.len-next.result
+    keeps_new (name_position c.args.names.now.positions) (name_position c.place_looked_up.new.self) c.symbol-own.result.name.now c.len-next.result
     (sym c.in_ok-place.ensures.old ∙ c.in-None.is) (λ q. rw c.in-None.is at (c.in_ok-place.ensures.placed q))

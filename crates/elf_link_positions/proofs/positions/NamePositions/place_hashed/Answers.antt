@@ -4,7 +4,7 @@ use Rattle.elf_link_positions.specs.declared.slots.Entry.{Entry}
 use Rattle.elf_link_positions.specs.Ordered.{position_by}
 use Rattle.elf_link_positions.specs.Slots.{name_position, or_else}
 use Rattle.elf_link_positions.proofs.Tables.{absent_free, absent_taken, entered, here_position, no_position, not_behind, placed_behind, placed_free, tables_behind, tables_same}
-use Rattle.elf_link_positions.proofs.positions.NamePositions.place.Goals as goal
+use Rattle.elf_link_positions.proofs.positions.NamePositions.place_hashed.Goals as goal
 
 pub invariant_of-self-in-Free : goal.invariant_of-self-in-Free
 invariant_of-self-in-Free c =
@@ -12,7 +12,7 @@ invariant_of-self-in-Free c =
     let e : Entry = record { name = c.args.name; position = c.args.next } in
     let tells = rw (c.deref.ensures.value, c.deref-2.ensures.value, c.in-Free.is) at c.look.ensures in
     let number : c.len.result ≡ length p.entries.items + 1 = search rules in
-    rw (c.in_ok-push-in-Free.ensures.items, c.upper_of.ensures, c.hash_of-hash.ensures, number)
+    rw (c.in_ok-push-in-Free.ensures.items, c.upper_of.ensures, c.requires, number)
     (entered p.slots.items p.entries.items (position_by p.more) c.self.invariant e c.in-Free.at tells)
 
 pub invariant_of-self-in-Taken : goal.invariant_of-self-in-Taken

@@ -1,0 +1,13 @@
+use Rattle.std.proofs.Common.{◌≡◌, ◌≤◌, ◌-◌, length}
+use Rattle.elf_link_names.specs.declared.lookups.TheConstants.{BLOCK}
+use Rattle.elf_link_names.specs.Lookups.{AreBlockLookups}
+use Rattle.elf_link_positions.specs.Slots.{name_position}
+use Rattle.elf_link_names.proofs.lookups.block_lookups.Given as goal
+
+-- the lookups so far
+abbrev pub invariant-loop-index : goal.invariant-loop-index
+invariant-loop-index l = record {
+  behind : l.start ≤ l.index;
+  room : length l.lookups ≡ BLOCK;
+  lookups : AreBlockLookups l.inputs (name_position l.positions) l.file l.start (l.index - l.start) l.lookups;
+}
