@@ -22,6 +22,7 @@ pub const SIGNED_ROOM: usize = 22;
 pub const HEXADECIMAL_ROOM: usize = 19;
 
 /// The last words of a line, without the line feed.
+#[derive(Drop)]
 pub struct LineEnd {
     bytes: [u8; LINE_ROOM],
     start: usize,
