@@ -16,8 +16,8 @@ use std::alloc::{AllocError, Global};
 /// How many bytes of a gap are shown.
 const GAP_BYTES: usize = 16;
 
-/// The most bytes that say what a part is: the word `gap`, two digits for each byte that is shown, and two blanks.
-const OWNER_ROOM: usize = 37;
+/// The most bytes that say what a part is: ` gap ` and two digits for each byte that is shown.
+const OWNER_ROOM: usize = 5 + 2 * GAP_BYTES;
 
 /// `file little|big TYPE MACHINE ENTRY FLAGS`.
 pub(crate) fn push_file_line(text: &mut Vec<u8>, header: &Ehdr) -> Result<(), AllocError>

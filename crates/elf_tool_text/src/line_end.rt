@@ -1,5 +1,16 @@
 //! The end of a line, put together from its last word on, so that each number stands where it belongs when its digits are made: at the end
 //! of a text each word would be copied by itself.
+//!
+//! ```
+//! use elf_tool_text::line_end::LineEnd;
+//!
+//! let mut line = LineEnd::new();
+//! line.put(b"\n");
+//! line.put_decimal(24);
+//! line.put_hexadecimal(64);
+//! line.put(b"part");
+//! assert_eq!(rt; line.as_bytes(), b"part 0x40 24\n".as_slice());
+//! ```
 ghost use Rattle.std.specs.Prelude.{◌≡◌, ◌∷◌, ◌≤◌, ◌+◌, ◌*◌, ◌++◌, [], length};
 ghost use Rattle.std.specs.Fmt.{decimal, signed_decimal};
 ghost use Rattle.hex.specs.Hex.{encode_lower};
@@ -21,7 +32,7 @@ pub const SIGNED_ROOM: usize = 22;
 /// The most bytes of a number in hexadecimal with `0x` and the blank before it.
 pub const HEXADECIMAL_ROOM: usize = 19;
 
-/// The last words of a line, without the line feed.
+/// The last bytes of a line.
 #[derive(Drop)]
 pub struct LineEnd {
     bytes: [u8; LINE_ROOM],
