@@ -98,7 +98,7 @@ fn show_image<W: Write>(
 {
     let mut output = Output::new(alloc);
     push_file_line(&mut output.pending, &image.header())?;
-    show_parts(alloc, bytes, image.parts(), &mut output, writer)?;
+    show_parts(bytes, image.parts(), &mut output, writer)?;
     show_sections(alloc, image, &mut output, writer)?;
     show_segments(alloc, image, &mut output, writer)?;
     show_tables(alloc, image, tables, &mut output, writer)?;
@@ -106,7 +106,6 @@ fn show_image<W: Write>(
 }
 
 fn show_parts<W: Write>(
-    alloc: Global,
     bytes: &[u8],
     parts: &[Part],
     output: &mut Output,
@@ -116,7 +115,7 @@ fn show_parts<W: Write>(
         (flat_map (part_line bytes.now) parts.now) result }
 {
     for part in parts {
-        push_part_line(alloc, &mut output.pending, bytes, *part)?;
+        push_part_line(&mut output.pending, bytes, *part)?;
         output.flush_piece(writer)?;
     }
     Ok(())

@@ -1,5 +1,6 @@
-//! The lines of `show`: each function appends one to the text that is to go out.
-ghost use Rattle.std.specs.Prelude.{◌≡◌, ◌++◌, OnOk, drop, take};
+//! The lines of `show`: each function appends one to the text that is to go out. The numbers of a line are put together from the last one
+//! on, and are appended in one piece.
+ghost use Rattle.std.specs.Prelude.{◌≡◌, ◌≤◌, ◌+◌, ◌++◌, OnOk, drop, length, take};
 ghost use Rattle.elf_tool_text.specs.Line.{further_words};
 ghost use Rattle.elf_tool_show.specs.ShowLines.{file_line, order_text, owner_words, part_line, section_line, segment_line};
 
@@ -7,12 +8,16 @@ use elf_field::{Ehdr, Order, Phdr, Shdr};
 use elf_image_outline::{Owner, Part};
 use elf_image_rules::tables::order_in;
 use elf_tool_text::line::{
-    begin_line, end_line, push_bytes, push_decimal, push_hexadecimal, push_name, push_word,
+    begin_line, end_line, push_decimal, push_hexadecimal, push_name, push_word,
 };
+use elf_tool_text::line_end::{LINE_ROOM, LineEnd};
 use std::alloc::{AllocError, Global};
 
 /// How many bytes of a gap are shown.
 const GAP_BYTES: usize = 16;
+
+/// The most bytes that say what a part is: ` gap ` and two digits for each byte that is shown.
+const OWNER_ROOM: usize = 5 + 2 * GAP_BYTES;
 
 /// `file little|big TYPE MACHINE ENTRY FLAGS`.
 pub(crate) fn push_file_line(text: &mut Vec<u8>, header: &Ehdr) -> Result<(), AllocError>
@@ -37,37 +42,36 @@ fn order_name(order: Order) -> &'static str
 }
 
 /// `part START LENGTH` and what the part is, of a file of these bytes.
-pub(crate) fn push_part_line(
-    alloc: Global,
-    text: &mut Vec<u8>,
-    bytes: &[u8],
-    part: Part,
-) -> Result<(), AllocError>
+pub(crate) fn push_part_line(text: &mut Vec<u8>, bytes: &[u8], part: Part) -> Result<(), AllocError>
     ensures { OnOk result (text.new.items ≡ text.old.items ++ part_line bytes.now part) }
 {
-    begin_line(text, b"part")?;
-    push_hexadecimal(text, part.start)?;
-    push_hexadecimal(text, part.len)?;
-    push_owner(alloc, text, bytes, part)?;
-    end_line(text)
+    let mut line = LineEnd::new();
+    line.put(b"\n");
+    put_owner(&mut line, bytes, part);
+    line.put_hexadecimal(part.len);
+    line.put_hexadecimal(part.start);
+    line.put(b"part");
+    text.extend_from_slice(line.as_bytes())
 }
 
-// What a part is; of a gap its first bytes.
-fn push_owner(alloc: Global, text: &mut Vec<u8>, bytes: &[u8], part: Part) -> Result<(), AllocError>
-    ensures { OnOk result (text.new.items ≡ text.old.items
-        ++ further_words (owner_words (take part.len (drop part.start bytes.now)) part.owner)) }
+// Puts what a part is; of a gap its first bytes.
+fn put_owner(line: &mut LineEnd, bytes: &[u8], part: Part)
+    requires room { length line.old + OWNER_ROOM ≤ LINE_ROOM }
+    ensures bytes { line.new
+        ≡ further_words (owner_words (take part.len (drop part.start bytes.now)) part.owner) ++ line.old }
+    ensures room { length line.new ≤ length line.old + OWNER_ROOM }
 {
     match part.owner {
-        Owner::Header => push_word(text, b"header"),
-        Owner::ProgramTable => push_word(text, b"segments"),
-        Owner::SectionTable => push_word(text, b"sections"),
+        Owner::Header => line.put(b" header"),
+        Owner::ProgramTable => line.put(b" segments"),
+        Owner::SectionTable => line.put(b" sections"),
         Owner::Content(index) => {
-            push_word(text, b"content")?;
-            push_decimal(text, index as u64)
+            line.put_decimal(index as u64);
+            line.put(b" content");
         }
         Owner::Gap => {
-            push_word(text, b"gap")?;
-            push_bytes(alloc, text, gap_front(bytes, part))
+            line.put_bytes(gap_front(bytes, part));
+            line.put(b" gap ");
         }
     }
 }
@@ -102,17 +106,19 @@ pub(crate) fn push_section_line(
 ) -> Result<(), AllocError>
     ensures { OnOk result (text.new.items ≡ text.old.items ++ section_line index section.now name.now) }
 {
-    begin_line(text, b"section")?;
-    push_decimal(text, index as u64)?;
-    push_decimal(text, section.sh_type as u64)?;
-    push_hexadecimal(text, section.sh_flags)?;
-    push_hexadecimal(text, section.sh_addr)?;
-    push_hexadecimal(text, section.sh_offset)?;
-    push_hexadecimal(text, section.sh_size)?;
-    push_decimal(text, section.sh_link as u64)?;
-    push_decimal(text, section.sh_info as u64)?;
-    push_hexadecimal(text, section.sh_addralign)?;
-    push_hexadecimal(text, section.sh_entsize)?;
+    let mut line = LineEnd::new();
+    line.put_hexadecimal(section.sh_entsize);
+    line.put_hexadecimal(section.sh_addralign);
+    line.put_decimal(section.sh_info as u64);
+    line.put_decimal(section.sh_link as u64);
+    line.put_hexadecimal(section.sh_size);
+    line.put_hexadecimal(section.sh_offset);
+    line.put_hexadecimal(section.sh_addr);
+    line.put_hexadecimal(section.sh_flags);
+    line.put_decimal(section.sh_type as u64);
+    line.put_decimal(index as u64);
+    line.put(b"section");
+    text.extend_from_slice(line.as_bytes())?;
     push_name(alloc, text, name)?;
     end_line(text)
 }
@@ -125,15 +131,17 @@ pub(crate) fn push_segment_line(
 ) -> Result<(), AllocError>
     ensures { OnOk result (text.new.items ≡ text.old.items ++ segment_line index segment.now) }
 {
-    begin_line(text, b"segment")?;
-    push_decimal(text, index as u64)?;
-    push_decimal(text, segment.p_type as u64)?;
-    push_hexadecimal(text, segment.p_flags as u64)?;
-    push_hexadecimal(text, segment.p_offset)?;
-    push_hexadecimal(text, segment.p_vaddr)?;
-    push_hexadecimal(text, segment.p_paddr)?;
-    push_hexadecimal(text, segment.p_filesz)?;
-    push_hexadecimal(text, segment.p_memsz)?;
-    push_hexadecimal(text, segment.p_align)?;
-    end_line(text)
+    let mut line = LineEnd::new();
+    line.put(b"\n");
+    line.put_hexadecimal(segment.p_align);
+    line.put_hexadecimal(segment.p_memsz);
+    line.put_hexadecimal(segment.p_filesz);
+    line.put_hexadecimal(segment.p_paddr);
+    line.put_hexadecimal(segment.p_vaddr);
+    line.put_hexadecimal(segment.p_offset);
+    line.put_hexadecimal(segment.p_flags as u64);
+    line.put_decimal(segment.p_type as u64);
+    line.put_decimal(index as u64);
+    line.put(b"segment");
+    text.extend_from_slice(line.as_bytes())
 }

@@ -1,5 +1,6 @@
-//! The lines of tables: each function appends one to the text that is to go out.
-ghost use Rattle.std.specs.Prelude.{◌≡◌, ◌∷◌, ◌++◌, OnOk, map};
+//! The lines of tables: each function appends one to the text that is to go out. The numbers of a symbol or a relocation, of which a file
+//! may have millions, are put together from the last one on, and are appended in one piece.
+ghost use Rattle.std.specs.Prelude.{◌≡◌, ◌∷◌, ◌≤◌, ◌+◌, ◌++◌, OnOk, length, map};
 ghost use Rattle.std.specs.Fmt.{decimal};
 ghost use Rattle.elf_tool_text.specs.Line.{blank, bytes_text, further_words};
 ghost use Rattle.elf_tool_show.specs.TableLines.{addend_text, dynamic_line, group_line, hash_line, note_line, place_text, relocation_line, string_words, symbol_line, table_refused_line};
@@ -14,6 +15,7 @@ use elf_tool_text::line::{
     begin_line, end_line, push_bytes, push_decimal, push_hexadecimal, push_name, push_signed,
     push_word,
 };
+use elf_tool_text::line_end::{DECIMAL_ROOM, LINE_ROOM, LineEnd, SIGNED_ROOM};
 use std::alloc::{AllocError, Global};
 
 /// `symbol I S BINDING TYPE OTHER PLACE VALUE SIZE NAME`, of symbol `j` of the table in section `i`.
@@ -26,29 +28,33 @@ pub(crate) fn push_symbol_line(
 ) -> Result<(), AllocError>
     ensures { OnOk result (text.new.items ≡ text.old.items ++ symbol_line i j (symbol_entry_value symbol.now)) }
 {
-    begin_line(text, b"symbol")?;
-    push_decimal(text, i as u64)?;
-    push_decimal(text, j as u64)?;
-    push_decimal(text, symbol.binding as u64)?;
-    push_decimal(text, symbol.symbol_type as u64)?;
-    push_decimal(text, symbol.other as u64)?;
-    push_place(text, symbol.place)?;
-    push_hexadecimal(text, symbol.value)?;
-    push_hexadecimal(text, symbol.size)?;
+    let mut line = LineEnd::new();
+    line.put_hexadecimal(symbol.size);
+    line.put_hexadecimal(symbol.value);
+    put_place(&mut line, symbol.place);
+    line.put_decimal(symbol.other as u64);
+    line.put_decimal(symbol.symbol_type as u64);
+    line.put_decimal(symbol.binding as u64);
+    line.put_decimal(j as u64);
+    line.put_decimal(i as u64);
+    line.put(b"symbol");
+    text.extend_from_slice(line.as_bytes())?;
     push_name(alloc, text, symbol.name)?;
     end_line(text)
 }
 
-// Where a symbol is defined.
-fn push_place(text: &mut Vec<u8>, place: Place) -> Result<(), AllocError>
-    ensures { OnOk result (text.new.items ≡ text.old.items ++ blank ∷ place_text place) }
+// Puts where a symbol is defined.
+fn put_place(line: &mut LineEnd, place: Place)
+    requires room { length line.old + DECIMAL_ROOM ≤ LINE_ROOM }
+    ensures bytes { line.new ≡ blank ∷ place_text place ++ line.old }
+    ensures room { length line.new ≤ length line.old + DECIMAL_ROOM }
 {
     match place {
-        Place::Undefined => push_word(text, b"undef"),
-        Place::Absolute => push_word(text, b"abs"),
-        Place::Common => push_word(text, b"common"),
-        Place::Reserved(_) => push_word(text, b"reserved"),
-        Place::Section(index) => push_decimal(text, index as u64),
+        Place::Undefined => line.put(b" undef"),
+        Place::Absolute => line.put(b" abs"),
+        Place::Common => line.put(b" common"),
+        Place::Reserved(_) => line.put(b" reserved"),
+        Place::Section(index) => line.put_decimal(index as u64),
     }
 }
 
@@ -61,23 +67,27 @@ pub(crate) fn push_relocation_line(
 ) -> Result<(), AllocError>
     ensures { OnOk result (text.new.items ≡ text.old.items ++ relocation_line i j relocation) }
 {
-    begin_line(text, b"reloc")?;
-    push_decimal(text, i as u64)?;
-    push_decimal(text, j as u64)?;
-    push_hexadecimal(text, relocation.offset)?;
-    push_decimal(text, relocation.symbol as u64)?;
-    push_decimal(text, relocation.relocation_type as u64)?;
-    push_addend(text, relocation.addend)?;
-    end_line(text)
+    let mut line = LineEnd::new();
+    line.put(b"\n");
+    put_addend(&mut line, relocation.addend);
+    line.put_decimal(relocation.relocation_type as u64);
+    line.put_decimal(relocation.symbol as u64);
+    line.put_hexadecimal(relocation.offset);
+    line.put_decimal(j as u64);
+    line.put_decimal(i as u64);
+    line.put(b"reloc");
+    text.extend_from_slice(line.as_bytes())
 }
 
-// What is added.
-fn push_addend(text: &mut Vec<u8>, addend: Option<i64>) -> Result<(), AllocError>
-    ensures { OnOk result (text.new.items ≡ text.old.items ++ blank ∷ addend_text addend) }
+// Puts what is added.
+fn put_addend(line: &mut LineEnd, addend: Option<i64>)
+    requires room { length line.old + SIGNED_ROOM ≤ LINE_ROOM }
+    ensures bytes { line.new ≡ blank ∷ addend_text addend ++ line.old }
+    ensures room { length line.new ≤ length line.old + SIGNED_ROOM }
 {
     match addend {
-        Some(addend) => push_signed(text, addend),
-        None => push_word(text, b"-"),
+        Some(addend) => line.put_signed(addend),
+        None => line.put(b" -"),
     }
 }
 

@@ -65,3 +65,27 @@ line_in_a_row w ws =
     ap (λ (s : List ℕ). w ++ s) (behind_to_the_end ws)
     ∙ sym (append_assoc w (further_words ws) (codes "\n"))
     ∙ ap (λ (s : List ℕ). s ++ codes "\n") (sym (joined_words w ws))
+
+-- a line that is put together in one piece
+pub line_appended : {T E : Type 0} (result : Result T E) (text put new w : List ℕ) (ws : List (List ℕ)) → OnOk result (new ≡ text ++ put)
+    → put ≡ w ++ to_the_end ws → OnOk result (new ≡ text ++ line (w ∷ ws))
+line_appended (Ok done) text put new w ws appended same = appended ∙ ap (λ (s : List ℕ). text ++ s) (same ∙ line_in_a_row w ws)
+line_appended (Err fault) text put new w ws appended same = tt
+
+-- ---- a line whose first words come in one piece
+
+word_more : (text : List ℕ) (ws : List (List ℕ)) (v : List ℕ) → words_on text (ws ++ v ∷ []) ≡ words_on text ws ++ blank ∷ v
+word_more text [] v = refl
+word_more text (w ∷ ws) v = word_more (text ++ blank ∷ w) ws v
+
+-- the last word stands behind them
+pub line_ended_behind : {T E : Type 0} (result : Result T E) (text put last new w : List ℕ) (ws : List (List ℕ)) (v : List ℕ) → OnOk result (new ≡ last ++ codes "\n")
+    → last ≡ (text ++ put) ++ blank ∷ v → put ≡ w ++ further_words ws → OnOk result (new ≡ text ++ line (w ∷ (ws ++ v ∷ [])))
+line_ended_behind result text put last new w ws v ended same is =
+    line_ended result text last new w (ws ++ v ∷ []) ended (
+    same
+    ∙ ap (λ (s : List ℕ). s ++ blank ∷ v) (
+    ap (λ (s : List ℕ). text ++ s) is ∙ sym (append_assoc text w (further_words ws)) ∙ sym (words_behind (text ++ w) ws)
+    )
+    ∙ sym (word_more (text ++ w) ws v)
+    )

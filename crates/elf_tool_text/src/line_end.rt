@@ -1,22 +1,39 @@
 //! The end of a line, put together from its last word on, so that each number stands where it belongs when its digits are made: at the end
 //! of a text each word would be copied by itself.
-ghost use Rattle.std.specs.Prelude.{◌≡◌, ◌∷◌, ◌≤◌, ◌+◌, ◌++◌, [], length};
-ghost use Rattle.std.specs.Fmt.{decimal};
+//!
+//! ```
+//! use elf_tool_text::line_end::LineEnd;
+//!
+//! let mut line = LineEnd::new();
+//! line.put(b"\n");
+//! line.put_decimal(24);
+//! line.put_hexadecimal(64);
+//! line.put(b"part");
+//! assert_eq!(rt; line.as_bytes(), b"part 0x40 24\n".as_slice());
+//! ```
+ghost use Rattle.std.specs.Prelude.{◌≡◌, ◌∷◌, ◌≤◌, ◌+◌, ◌*◌, ◌++◌, [], length};
+ghost use Rattle.std.specs.Fmt.{decimal, signed_decimal};
+ghost use Rattle.hex.specs.Hex.{encode_lower};
 ghost use Rattle.elf_tool_text.specs.Line.{blank, hexadecimal};
 
 use crate::digits::{glyph, put_before, put_decimal, put_hexadecimal};
 use std::marker::Model;
 
-/// How many bytes it may have.
-pub const LINE_ROOM: usize = 256;
+/// How many bytes it may have. The most that a line of `show` has before a name are the 205 of a section's line, and each line pays for
+/// the zeros of this room.
+pub const LINE_ROOM: usize = 208;
 
 /// The most bytes of a number in decimal and the blank before it.
 pub const DECIMAL_ROOM: usize = 21;
 
+/// The most bytes of a signed number in decimal and the blank before it.
+pub const SIGNED_ROOM: usize = 22;
+
 /// The most bytes of a number in hexadecimal with `0x` and the blank before it.
 pub const HEXADECIMAL_ROOM: usize = 19;
 
-/// The last words of a line, without the line feed.
+/// The last bytes of a line.
+#[derive(Drop)]
 pub struct LineEnd {
     bytes: [u8; LINE_ROOM],
     start: usize,
@@ -57,6 +74,19 @@ impl LineEnd {
         self.start = put_before(b" ", first, &mut self.bytes);
     }
 
+    /// Puts a signed number in decimal, and a blank before it, before all that is there.
+    pub fn put_signed(&mut self, number: i64)
+        requires room { length self.old + SIGNED_ROOM ≤ LINE_ROOM }
+        ensures bytes { self.new ≡ blank ∷ signed_decimal number ++ self.old }
+        ensures room { length self.new ≤ length self.old + SIGNED_ROOM }
+    {
+        if number >= 0 {
+            return self.put_decimal(number.unsigned_abs());
+        }
+        let first = put_decimal(number.unsigned_abs(), self.start, &mut self.bytes);
+        self.start = put_before(b" -", first, &mut self.bytes);
+    }
+
     /// Puts a number in hexadecimal, in lower case behind `0x`, and a blank before it, before all that is there.
     pub fn put_hexadecimal(&mut self, number: u64)
         requires room { length self.old + HEXADECIMAL_ROOM ≤ LINE_ROOM }
@@ -75,10 +105,26 @@ impl LineEnd {
         self.start = put_before(b" 0x", first, &mut self.bytes);
     }
 
-    /// Puts bytes before all that is there.
+    /// Puts bytes, each as two hexadecimal digits in lower case, before all that is there.
+    pub fn put_bytes(&mut self, bytes: &[u8])
+        requires room { length self.old + 2 * length bytes.now ≤ LINE_ROOM }
+        ensures bytes { self.new ≡ encode_lower bytes.now ++ self.old }
+        ensures room { length self.new ≡ length self.old + 2 * length bytes.now }
+    {
+        let start = self.start - 2 * bytes.len();
+        match hex::encode_to_slice(bytes, &mut self.bytes[start..self.start]) {
+            Ok(()) => self.start = start,
+            // There is a place for each digit.
+            Err(_) => unreachable!(),
+        }
+    }
+
+    /// Puts bytes before all that is there. It is inlined for the sake of their number.
+    #[inline(always)]
     pub fn put(&mut self, bytes: &[u8])
         requires room { length self.old + length bytes.now ≤ LINE_ROOM }
         ensures bytes { self.new ≡ bytes.now ++ self.old }
+        ensures room { length self.new ≡ length self.old + length bytes.now }
     {
         self.start = put_before(bytes, self.start, &mut self.bytes);
     }

@@ -1,8 +1,9 @@
 use Rattle.std.proofs.Common.{rules}
 use Rattle.elf_tool_show.specs.ShowLines.{segment_line}
-use Rattle.elf_tool_text.proofs.Public.{line_ended}
+use Rattle.elf_tool_text.proofs.Public.{line_appended}
 use Rattle.elf_tool_show.proofs.show_lines.push_segment_line.Goals as goal
 
 pub returns : goal.returns
 unfolding segment_line
-returns c = line_ended c.end_line.result _ _ _ _ _ c.end_line.ensures (search rules)
+returns c =
+    line_appended c.extend_from_slice.result c.args.text.now.items c.as_bytes.result.now _ _ _ (search rules) (search rules)

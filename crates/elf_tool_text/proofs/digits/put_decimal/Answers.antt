@@ -1,5 +1,4 @@
-use Rattle.std.proofs.Common.{arith, ◌+◌, ◌≡◌, ◌≤◌, length}
-use Rattle.std.specs.Fmt.{decimal}
+use Rattle.std.proofs.Common.{arith}
 use Rattle.elf_tool_text.proofs.DigitByDigit.{few_digits}
 use Rattle.elf_tool_text.proofs.digits.put_decimal.Goals as goal
 

@@ -1,5 +1,5 @@
 -- Each digit is put before those that are there: the number's are then as many as `put` tells, and a place less is left for the rest.
-use Rattle.std.proofs.Common.{◌≡◌, ◌∙◌, ◌<◌, ◌≤◌, ◌+◌, ◌-◌, ◌++◌, ◌/◌, ◌^◌, ◌∷◌, ℕ, List, ap, arith, refl, false, drop, length, rules, set, subst, sym}
+use Rattle.std.proofs.Common.{◌≡◌, ◌∙◌, ◌<◌, ◌+◌, ◌-◌, ◌/◌, ◌^◌, ◌∷◌, ℕ, ap, arith, refl, false, drop, length, set, subst, sym}
 use Rattle.std.specs.Fmt.{digits, digits_onto}
 use Rattle.std.proofs.lemmas.List.{length-append, length-drop, length-set}
 use Rattle.elf_tool_text.proofs.DigitByDigit.{digits_behind_all, fits_less, last_digit, more_digits, place_left, places_left, put_before}

@@ -1,5 +1,4 @@
-use Rattle.std.proofs.Common.{arith, ◌+◌, ◌≡◌, ◌≤◌, length}
-use Rattle.std.specs.Fmt.{digits}
+use Rattle.std.proofs.Common.{arith}
 use Rattle.elf_tool_text.proofs.DigitByDigit.{few_digits}
 use Rattle.elf_tool_text.proofs.digits.put_hexadecimal.Goals as goal
 
