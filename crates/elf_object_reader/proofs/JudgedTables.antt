@@ -106,11 +106,6 @@ kept_table s kind is =
     let kept = subst (λ (left : LeftOut). is_kept left f s.index ≡ true) s.reader.now.file.own_left s.kept in
     (typed, subst (λ (k : BodyKind). FirstIn (rules_of_body k f s.index) None) typed (table_sound f s.index s.reader.now.sound s.there kept))
 
-pub relocs_ready : (s : KeptSection) → body_kind s.header.sh_type ≡ Relocs → HasSoundTable s.reader.now.file.tables s.index RelocationTable
-relocs_ready s is =
-    let (typed, sound) = kept_table s Relocs is in
-    ready s.reader.now.file s.index RelocationTable s.there (relocs_kind (section (sections_of_file s.reader.now.file) s.index).sh_type typed) sound
-
 pub group_ready : (s : KeptSection) → body_kind s.header.sh_type ≡ Group → HasSoundTable s.reader.now.file.tables s.index SectionGroup
 group_ready s is =
     let (typed, sound) = kept_table s Group is in

@@ -12,7 +12,7 @@ use Rattle.elf_field.specs.RelLaws.{rel_laws}
 use Rattle.elf_field.specs.RelaLaws.{rela_laws}
 use Rattle.elf_field.specs.declared.order.Order.{Order}
 use Rattle.elf_object_type.specs.Object.{no_relocation}
-use Rattle.elf_object_type.specs.RelocationTable.{IsTableOf, listed_in, table_count, table_relocation, table_relocations}
+use Rattle.elf_object_type.specs.RelocationTable.{IsRelocationTable, listed_in, table_count, table_relocation, table_relocations}
 use Rattle.elf_object_type.specs.declared.relocation_table.RelocationTable.{RelocationTable}
 use Rattle.elf_object_type.specs.Widths.{RelocationFits}
 use Rattle.elf_object_type.proofs.Elements.{all_of_each}
@@ -49,7 +49,7 @@ relocations_fit rela order bytes are =
     (λ j lt. subst RelocationFits (sym (table_relocation_get rela order bytes j (subst (λ (n : ℕ). j < n) (length_table_relocations rela order bytes) lt))) (relocation_fits rela order bytes j are))
 
 -- bytes that end with a relocation are a table of the relocations in them
-whole_table : (rela : Bool) (order : Order) (bytes : List ℕ) → IsBytes bytes → length bytes % relocation_size rela ≡ 0 → IsTableOf rela order bytes (table_relocations rela order bytes)
+whole_table : (rela : Bool) (order : Order) (bytes : List ℕ) → IsBytes bytes → length bytes % relocation_size rela ≡ 0 → IsRelocationTable rela order bytes (table_relocations rela order bytes)
 whole_table true order bytes are even =
     let long = length_table_relocations true order bytes in
     record { are_bytes = are; relocations_are = refl; whole = omega arith }
@@ -58,6 +58,6 @@ whole_table false order bytes are even =
     record { are_bytes = are; relocations_are = refl; whole = omega arith }
 
 pub table_is_of : (t : RelocationTable) (rela : Bool) (order : Order) → IsBytes t.bytes.now → t.rela ≡ rela → t.order ≡ order → length t.bytes.now % relocation_size rela ≡ 0 →
-    IsTableOf rela order t.bytes.now (listed_in t)
+    IsRelocationTable rela order t.bytes.now (listed_in t)
 table_is_of t rela order are is_rela is_order even =
-    subst (IsTableOf rela order t.bytes.now) (sym (ap₂ (λ r o. table_relocations r o t.bytes.now) is_rela is_order)) (whole_table rela order t.bytes.now are even)
+    subst (IsRelocationTable rela order t.bytes.now) (sym (ap₂ (λ r o. table_relocations r o t.bytes.now) is_rela is_order)) (whole_table rela order t.bytes.now are even)

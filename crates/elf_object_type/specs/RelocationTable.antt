@@ -41,7 +41,7 @@ kept_relocations (InList list) = list.items
 kept_relocations (Table table) = listed_in table
 
 -- these are the bytes of a table of these relocations, and of nothing else
-pub record IsTableOf (rela : Bool) (order : Order) (bytes : List ℕ) (relocations : List Relocation) : Type 0 where
+pub record IsRelocationTable (rela : Bool) (order : Order) (bytes : List ℕ) (relocations : List Relocation) : Type 0 where
   pub are_bytes : IsBytes bytes
   pub relocations_are : relocations ≡ table_relocations rela order bytes
   pub whole : length bytes ≡ relocation_size rela * length relocations

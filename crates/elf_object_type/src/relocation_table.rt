@@ -2,7 +2,7 @@
 ghost use Rattle.std.specs.Prelude.{◌≡◌, ◌<◌, IsTrue};
 ghost use Rattle.std.specs.List.{AllByRecursion};
 ghost use Rattle.elf_field.specs.Abi.{relocation_size as relocation_size_of};
-ghost use Rattle.elf_object_type.specs.RelocationTable.{IsTableOf, listed_in, symbol_reference as symbol_reference_of, table_count, table_relocation};
+ghost use Rattle.elf_object_type.specs.RelocationTable.{IsRelocationTable, listed_in, symbol_reference as symbol_reference_of, table_count, table_relocation};
 ghost use Rattle.elf_object_type.specs.Widths.{RelocationFits};
 
 use crate::relocation::Relocation;
@@ -53,7 +53,7 @@ impl<'a> RelocationTable<'a> {
 
     /// Whether it is a table in this byte order, with addends or without, and ends behind its last relocation.
     pub(crate) fn is_of(&self, order: Order, rela: bool) -> bool
-        ensures { IsTrue result → IsTableOf rela order self.now.bytes.now (listed_in self.now) }
+        ensures { IsTrue result → IsRelocationTable rela order self.now.bytes.now (listed_in self.now) }
     {
         prove_bytes(self.bytes);
         self.order == order && self.rela == rela && self.bytes.len() % relocation_size(rela) == 0

@@ -2,7 +2,7 @@
 ghost use Rattle.std.specs.Prelude.{◌≡◌, ◌↔◌, ◌<◌, IfSome, IsTrue, get_or, length};
 ghost use Rattle.std.specs.List.{AllByRecursion};
 ghost use Rattle.elf_object_type.specs.Object.{no_relocation};
-ghost use Rattle.elf_object_type.specs.RelocationTable.{IsTableOf, table_relocations};
+ghost use Rattle.elf_object_type.specs.RelocationTable.{IsRelocationTable, table_relocations};
 ghost use Rattle.elf_object_type.specs.Widths.{RelocationFits};
 
 use crate::relocation::Relocation;
@@ -80,7 +80,7 @@ impl<'a> Relocations<'a> {
 
     /// The bytes of a table of them in this byte order, with addends or without, where they are kept as one.
     pub fn table(&self, order: Order, rela: bool) -> Option<&'a [u8]>
-        ensures { IfSome result (λ bytes. IsTableOf rela order bytes.now self.now) }
+        ensures { IfSome result (λ bytes. IsRelocationTable rela order bytes.now self.now) }
     {
         match &self.listed {
             Listed::Table(table) if table.is_of(order, rela) => Some(table.bytes),

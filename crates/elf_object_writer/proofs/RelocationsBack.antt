@@ -12,7 +12,7 @@ use Rattle.elf_field.specs.declared.order.Order.{Order}
 use Rattle.elf_field.specs.declared.rel.Rel.{Rel}
 use Rattle.elf_field.specs.declared.rela.Rela.{Rela}
 use Rattle.elf_object_type.specs.declared.relocation.Relocation.{Relocation}
-use Rattle.elf_object_type.specs.RelocationTable.{IsTableOf, symbol_reference, table_count, table_relocation, table_relocations}
+use Rattle.elf_object_type.specs.RelocationTable.{IsRelocationTable, symbol_reference, table_count, table_relocation, table_relocations}
 use Rattle.elf_object_type.proofs.Public.{length_table_relocations}
 use Rattle.elf_object_writer.specs.PlainSections.{index_of, rel_entry, rela_entry, relocation_bytes}
 
@@ -44,12 +44,12 @@ entries_back : {A : Type 0} (entry : Relocation → A) (read : ℕ → Relocatio
 entries_back entry read at each [] = refl
 entries_back entry read at each (j ∷ js) = λ i. each j i ∷ entries_back entry read at each js i
 
-whole_count : (rela : Bool) (order : Order) (bytes : List ℕ) (relocations : List Relocation) → IsTableOf rela order bytes relocations →
+whole_count : (rela : Bool) (order : Order) (bytes : List ℕ) (relocations : List Relocation) → IsRelocationTable rela order bytes relocations →
     length bytes ≡ relocation_size rela * table_count rela bytes
 whole_count rela order bytes relocations is =
     is.whole ∙ ap (λ rs. relocation_size rela * length rs) is.relocations_are ∙ ap (λ n. relocation_size rela * n) (length_table_relocations rela order bytes)
 
-pub relocations_back : (rela : Bool) (order : Order) (bytes : List ℕ) (relocations : List Relocation) → IsTableOf rela order bytes relocations →
+pub relocations_back : (rela : Bool) (order : Order) (bytes : List ℕ) (relocations : List Relocation) → IsRelocationTable rela order bytes relocations →
     relocation_bytes order rela relocations ≡ bytes
 unfolding table_relocations
 relocations_back true order bytes relocations is =
