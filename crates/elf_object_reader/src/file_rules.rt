@@ -116,7 +116,7 @@ impl<'f, 'i, 'a> FileSymbols<'f, 'i, 'a> {
         ensures { let file = self.now.file.now in IsLowest (symbol_outside file.left (sections_of_file file) self.now.index) result }
     {
         for j in 0..self.entries.len() {
-            if self.file.is_symbol_outside(self.entries.entry(j).place) {
+            if self.file.is_symbol_outside(self.entries.place(j)) {
                 return Some(self.section_index_offset(j));
             }
         }

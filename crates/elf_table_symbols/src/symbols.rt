@@ -11,7 +11,7 @@ ghost use Rattle.elf_table_symbols.specs.SymbolView.{no_symbol_entry, symbol_ent
 ghost use Rattle.elf_table_symbols.specs.SymbolsLeft.{symbols_left};
 
 use crate::index_tables::{IndexTables, index_tables_of};
-use crate::symbol::{Symbol, place_at};
+use crate::symbol::{Place, Symbol, place_at};
 use crate::symbol_parts::SymbolParts;
 use crate::symbol_rules::judge_symbol_table;
 use crate::symbol_words::entry;
@@ -82,6 +82,15 @@ impl<'a> Symbols<'a> {
             value: symbol.st_value,
             size: symbol.st_size,
         }
+    }
+
+    /// Where symbol `j`, which is below [`len`](Symbols::len), is defined. Its name is not looked at.
+    pub fn place(&self, j: usize) -> Place
+        requires { j < length self.now }
+        ensures { result ≡ (get_or self.now j no_symbol_entry).place }
+    {
+        let symbol = entry(self.order, self.table, j);
+        place_at(self.order, self.words, symbol.st_shndx, j)
     }
 
     /// The symbols in order.
