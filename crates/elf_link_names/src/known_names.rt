@@ -125,21 +125,18 @@ fn not_weak_past(symbol: &InputSymbol<'_, '_, '_>, found: bool) -> bool
     found
 }
 
-/// What is known of a symbol's name, past the symbol.
-fn known_past(symbol: &InputSymbol<'_, '_, '_>, known: Known) -> Known
-    requires { IsKnownBefore symbol.now.inputs.now (symbol_with symbol.now.inputs.now symbol.now.id).name symbol.now.id.file symbol.now.id.index known }
-    ensures known { IsKnownBefore symbol.now.inputs.now (symbol_with symbol.now.inputs.now symbol.now.id).name symbol.now.id.file (symbol.now.id.index + 1) result }
-    ensures first { result.first ≡ known.first }
+/// Adds a symbol to what is known of its name. It is done in place: a copy of what is known would be written just before it is read.
+fn note_symbol(symbol: &InputSymbol<'_, '_, '_>, known: &mut Known)
+    requires { IsKnownBefore symbol.now.inputs.now (symbol_with symbol.now.inputs.now symbol.now.id).name symbol.now.id.file symbol.now.id.index known.old }
+    ensures known { IsKnownBefore symbol.now.inputs.now (symbol_with symbol.now.inputs.now symbol.now.id).name symbol.now.id.file (symbol.now.id.index + 1) known.new }
+    ensures first { known.new.first ≡ known.old.first }
 {
     let strong = symbol.is_definition(STB_GLOBAL);
     let weak = symbol.is_definition(STB_WEAK);
-    Known {
-        first: known.first,
-        strong: first_of(known.strong, strong, symbol.id),
-        weak: first_of(known.weak, weak, symbol.id),
-        common: common_past(symbol, known.common),
-        not_weak: not_weak_past(symbol, known.not_weak),
-    }
+    known.strong = first_of(known.strong, strong, symbol.id);
+    known.weak = first_of(known.weak, weak, symbol.id);
+    known.common = common_past(symbol, known.common);
+    known.not_weak = not_weak_past(symbol, known.not_weak);
 }
 
 /// What is known of a name whose first entry is this symbol, before it is looked at.
@@ -183,13 +180,13 @@ fn pass_symbol<'a>(
     let place = names.positions.place_looked_up(lookup, name, next)?;
     match place {
         Some(k) => {
-            let known = known_item(&names.known, k);
-            names.known[k] = known_past(symbol, known);
+            note_symbol(symbol, &mut names.known[k]);
             Ok(k)
         }
         None => {
-            let known = unknown(symbol.id);
-            names.known.push(known_past(symbol, known))?;
+            let mut known = unknown(symbol.id);
+            note_symbol(symbol, &mut known);
+            names.known.push(known)?;
             Ok(next)
         }
     }

@@ -19,6 +19,10 @@ name_hash name = folding.finish (folding.write folding.initial name)
 abbrev pub upper_of : ℕ → ℕ
 upper_of hash = hash / 2 ^ 32
 
+-- the place of a hash among so many, by its lower half
+abbrev pub place_among : ℕ → ℕ → ℕ
+place_among hash count = hash % 2 ^ 32 % count
+
 -- those that stand for a slot and an entry that aren't there
 abbrev pub free_slot : Slot
 free_slot = record { upper = 0; number = 0 }
@@ -63,7 +67,7 @@ Sees slots entries place upper name Taken = AreSlotsTaken slots place MOST_STEPS
 
 -- the first slot of a name: the last slots are no name's first one
 abbrev pub home : List Slot → List ℕ → ℕ
-home slots name = name_hash name % (length slots - MOST_STEPS)
+home slots name = place_among (name_hash name) (length slots - MOST_STEPS)
 
 -- the slots from a place on end at slot n: it is the last of a name, or free
 abbrev pub IsEnd : List Slot → ℕ → ℕ → Type 0

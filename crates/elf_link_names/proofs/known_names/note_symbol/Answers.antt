@@ -1,0 +1,18 @@
+use Rattle.elf_link_files.specs.Files.{symbol_in}
+use Rattle.elf_link_files.specs.Symbols.{IsStrong, IsWeak}
+use Rattle.elf_link_names.proofs.Tabled.{best_next}
+use Rattle.elf_link_names.proofs.known_names.note_symbol.Goals as goal
+
+pub returns-clause-known : goal.returns-clause-known
+returns-clause-known c =
+    let s = c.args.symbol.now in
+    let fs = s.inputs.now in
+    let name = (symbol_in fs s.id.file s.id.index).name in
+    record {
+      strong = best_next fs (IsStrong fs name) s.id.file s.id.index c.args.known.now.strong _ c.is_definition-strong.result s.there.0 s.there.1
+          c.is_definition-strong.ensures c.first_of-known.ensures c.requires.strong;
+      weak = best_next fs (IsWeak fs name) s.id.file s.id.index c.args.known.now.weak _ c.is_definition-weak.result s.there.0 s.there.1
+          c.is_definition-weak.ensures c.first_of-known-2.ensures c.requires.weak;
+      common = c.common_past-known.ensures;
+      not_weak = c.not_weak_past-known.ensures;
+    }
