@@ -76,7 +76,7 @@ pub fn binding_value(objects: &[Object<'_>], map: &LinkMap<'_>, binding: Binding
 }
 
 /// A link with the number of each symbol's name by file and position. The value of a name is worked out where it is asked for.
-#[derive(Clone, Copy)]
+#[derive(Drop)]
 pub(crate) struct Values<'v, 'l, 'a> {
     pub(crate) linking: &'v Linking<'l, 'a>,
     pub(crate) numbers: &'v [Vec<usize>],
