@@ -1,6 +1,5 @@
 -- Sections whose entries are none, or are not applied.
 use Rattle.std.proofs.Common.{◌≡◌, ℕ, ◌+◌, ◌<◌, Bool, List, [], length, refl, ap, subst, arith}
-use Rattle.std.specs.Global.{Vec}
 use Rattle.elf_object_type.specs.declared.relocation.Relocation.{Relocation}
 use Rattle.elf_object_type.specs.declared.section.Body.{Body}
 use Rattle.elf_object_type.specs.declared.section.Body.TheVariants.{Bits, NoBits, Relocs, Group}
@@ -15,7 +14,7 @@ use Rattle.elf_link_relocate.specs.Entries.{AreApplied, IsApplied, entries_of}
 use Rattle.elf_link_relocate.proofs.Collected.{fields_same}
 use Rattle.elf_link_relocate.proofs.Sites.{in_section, next_section}
 
-no_entries : (b : Body) → ((x : Bool) → (x' : ℕ) → (x'' : Vec Relocation) → b ≡ Relocs x x' x'' → ⊥) → entries_of (body_value b) ≡ []
+no_entries : (b : Body) → ((x : Bool) → (x' : ℕ) → (x'' : List Relocation) → b ≡ Relocs x x' x'' → ⊥) → entries_of (body_value b) ≡ []
 no_entries (Bits type content) never = refl
 no_entries (NoBits size) never = refl
 no_entries (Relocs rela target entries) never = absurd (never rela target entries refl)
@@ -37,7 +36,7 @@ module _ (fs : List ObjectValue) (rules : List RelocRule) (f s : ℕ) (ds : List
       (λ p applied before. in_section p f s 0 (λ file index. absurd (none p applied file index)) before) is
 
   -- a section of another body
-  pub no_relocations : (b : Body) → body_value b ≡ (section_in fs f s).body → ((x : Bool) → (x' : ℕ) → (x'' : Vec Relocation) → b ≡ Relocs x x' x'' → ⊥) →
+  pub no_relocations : (b : Body) → body_value b ≡ (section_in fs f s).body → ((x : Bool) → (x' : ℕ) → (x'' : List Relocation) → b ≡ Relocs x x' x'' → ⊥) →
       AreFieldsBefore fs rules (entry_site f s 0) ds → AreFieldsBefore fs rules (entry_site f (s + 1) 0) ds
   no_relocations b same never is =
       let none : entries_of (section_in fs f s).body ≡ [] = rw (← same) (no_entries b never) in

@@ -20,7 +20,7 @@ pub patch_all-requires-clause-fields : goal.patch_all-requires-clause-fields
 patch_all-requires-clause-fields c =
     let l = c.args in
     subst (λ (ds : List Field). AreJudged l.objects.now l.map.now l.rules.now ds) (sym c.deref.ensures.value)
-    (subst (λ (v : LinkingValue). AreJudged v.objects v.map v.rules c.in_ok-fields.fields.items) c.new.ensures c.in_ok-fields.ensures.fields)
+    (subst (λ (v : LinkingValue). AreJudged v.objects v.map v.rules c.in_ok-fields.fields.items) c.new-values.ensures c.in_ok-fields.ensures.fields)
 
 pub patch_all-requires-clause-before : goal.patch_all-requires-clause-before
 patch_all-requires-clause-before c =
@@ -31,7 +31,7 @@ returns-clause-linked c =
     let fs = c.args.objects.now in
     let m = c.args.map.now in
     let sound = sound_of fs m c.requires.map in
-    let values = c.new.ensures in
+    let values = c.new-values.ensures in
     let judged = subst (λ (ds : List Field). AreJudged fs m c.args.rules.now ds) (sym c.deref.ensures.value)
     (subst (λ (v : LinkingValue). AreJudged v.objects v.map v.rules c.in_ok-fields.fields.items) values c.in_ok-fields.ensures.fields) in
     let none = subst (λ (v : LinkingValue). FirstAmong (applied_entry_rules v.objects v.map v.rules) None) values c.in_ok-fields.ensures.sound in
