@@ -181,9 +181,8 @@ fn pass_symbol<'a>(
             Ok(k)
         }
         None => {
-            let mut known = unknown(symbol.id);
-            note_symbol(symbol, &mut known);
-            names.known.push(known)?;
+            names.known.push(unknown(symbol.id))?;
+            note_symbol(symbol, &mut names.known[next]);
             Ok(next)
         }
     }
