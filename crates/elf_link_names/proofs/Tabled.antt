@@ -1,11 +1,11 @@
 -- What is known of each name, symbol by symbol and file by file.
-use Rattle.std.proofs.Common.{◌≡◌, ◌≢◌, ◌↔◌, ℕ, ◌+◌, ◌<◌, ◌≤◌, ◌⊎◌, Bool, true, false, List, [], ◌∷◌, ◌++◌, length, map, set, inl, inr, refl, sym, ◌∙◌, ap, subst, arith, length-append}
+use Rattle.std.proofs.Common.{◌≡◌, ◌≢◌, ◌↔◌, ℕ, ◌+◌, ◌<◌, ◌≤◌, ◌⊎◌, Bool, true, false, List, [], ◌∷◌, ◌++◌, get_or, length, map, set, inl, inr, refl, sym, ◌∙◌, ap, subst, arith, length-append}
 use Rattle.std.specs.Prelude.{if◌then◌else◌, Option, None, Some, MatchOption}
 use Rattle.std.specs.Str.{bytes_eq}
 use Rattle.std.proofs.lemmas.Bool.{cases_eq, cases_lt}
 use Rattle.std.proofs.lemmas.List.{get_or_push, get_or-set_other, get_or-set_same, length-map, length-set, map-append}
 use Rattle.std.proofs.Math.ListN.{get_or-append}
-use Rattle.std.proofs.Math.Seq.{map-set_same}
+use Rattle.std.proofs.Math.Seq.{map-set_same, set-append_seam}
 use Rattle.elf_field.specs.Abi.{STB_GLOBAL, STB_LOCAL, STB_WEAK}
 use Rattle.elf_object_type.specs.Object.{ObjectValue, binding}
 use Rattle.elf_link_files.specs.declared.site.Site.{Site}
@@ -293,6 +293,14 @@ names_new fs f i old now ks known file index not_local added missing first next 
             rw (end, sites, last, get_or_push ks known no_known (length ks) refl) next)
       ];
     }
+
+-- ---- an item that was pushed, and is changed in place
+
+pub pushed_item : {A : Type 0} (xs items : List A) (x y : A) (n : ℕ) → items ≡ xs ++ x ∷ [] → n ≡ length xs → y ≡ get_or items n y → y ≡ x
+pushed_item xs items x y n is at read = read ∙ ap (λ l. get_or l n y) is ∙ get_or_push xs x y n (sym at)
+
+pub pushed_set : {A : Type 0} (xs items : List A) (x y : A) (n : ℕ) → items ≡ xs ++ x ∷ [] → n ≡ length xs → set items n y ≡ xs ++ y ∷ []
+pushed_set xs items x y n is at = rw (is, at) (set-append_seam xs x [] y)
 
 -- ---- the end of a file
 

@@ -32,19 +32,19 @@ pub struct Block {
     pub align: u64,
 }
 
-/// What is known of a name.
+/// What is known of a name. What a reference reads or writes of it is in front, in one line of memory.
 #[derive(Clone, Copy)]
 pub struct Known {
     /// Its first entry.
     pub first: SymbolId,
+    /// Whether it has an entry that is not weak.
+    pub not_weak: bool,
     /// Its first global definition.
     pub strong: Option<SymbolId>,
     /// Its first weak definition.
     pub weak: Option<SymbolId>,
     /// Its commons.
     pub common: Option<Block>,
-    /// Whether it has an entry that is not weak.
-    pub not_weak: bool,
 }
 
 /// What is known of each name, in the order of the first entries, and the position of each there: one item for each name that is not local.
@@ -64,14 +64,12 @@ pub(crate) fn known_item(known: &[Known], k: usize) -> Known
     known[k]
 }
 
-/// What stood first, or else this symbol where it passes.
-fn first_of(best: Option<SymbolId>, passes: bool, id: SymbolId) -> Option<SymbolId>
-    ensures { result ≡ first_or best passes id }
+/// Notes a symbol as the first one, where it passes and none has been noted.
+fn note_first(best: &mut Option<SymbolId>, passes: bool, id: SymbolId)
+    ensures { best.new ≡ first_or best.old passes id }
 {
-    match best {
-        Some(_) => best,
-        None if passes => Some(id),
-        None => None,
+    if passes && best.is_none() {
+        *best = Some(id);
     }
 }
 
@@ -103,29 +101,28 @@ fn joined(symbol: &InputSymbol<'_, '_, '_>, block: Option<Block>) -> Block
     }
 }
 
-/// The commons of a symbol's name, past the symbol.
-fn common_past(symbol: &InputSymbol<'_, '_, '_>, block: Option<Block>) -> Option<Block>
-    requires { IsCommonBest symbol.now.inputs.now (symbol_with symbol.now.inputs.now symbol.now.id).name symbol.now.id.file symbol.now.id.index block }
-    ensures { IsCommonBest symbol.now.inputs.now (symbol_with symbol.now.inputs.now symbol.now.id).name symbol.now.id.file (symbol.now.id.index + 1) result }
+/// Adds a symbol to the commons of its name, where it is one.
+fn note_common(symbol: &InputSymbol<'_, '_, '_>, block: &mut Option<Block>)
+    requires { IsCommonBest symbol.now.inputs.now (symbol_with symbol.now.inputs.now symbol.now.id).name symbol.now.id.file symbol.now.id.index block.old }
+    ensures { IsCommonBest symbol.now.inputs.now (symbol_with symbol.now.inputs.now symbol.now.id).name symbol.now.id.file (symbol.now.id.index + 1) block.new }
 {
-    if !symbol.is_common() {
-        return block;
+    if symbol.is_common() {
+        *block = Some(joined(symbol, *block));
     }
-    Some(joined(symbol, block))
 }
 
-/// Whether a symbol's name has an entry that is not weak, past the symbol.
-fn not_weak_past(symbol: &InputSymbol<'_, '_, '_>, found: bool) -> bool
-    requires { IsTrue found ↔ SomeBefore (not_weak_row symbol.now.inputs.now (symbol_with symbol.now.inputs.now symbol.now.id).name) symbol.now.id.file symbol.now.id.index }
-    ensures { IsTrue result ↔ SomeBefore (not_weak_row symbol.now.inputs.now (symbol_with symbol.now.inputs.now symbol.now.id).name) symbol.now.id.file (symbol.now.id.index + 1) }
+/// Notes that a symbol's name has an entry that is not weak, where the symbol is one.
+fn note_not_weak(symbol: &InputSymbol<'_, '_, '_>, found: &mut bool)
+    requires { IsTrue found.old ↔ SomeBefore (not_weak_row symbol.now.inputs.now (symbol_with symbol.now.inputs.now symbol.now.id).name) symbol.now.id.file symbol.now.id.index }
+    ensures { IsTrue found.new ↔ SomeBefore (not_weak_row symbol.now.inputs.now (symbol_with symbol.now.inputs.now symbol.now.id).name) symbol.now.id.file (symbol.now.id.index + 1) }
 {
     if symbol.is_not_weak() {
-        return true;
+        *found = true;
     }
-    found
 }
 
-/// Adds a symbol to what is known of its name. It is done in place: a copy of what is known would be written just before it is read.
+/// Adds a symbol to what is known of its name. It reads and writes no more of that than changes, since each part may have to come from
+/// memory: of a reference to a name it writes one mark.
 fn note_symbol(symbol: &InputSymbol<'_, '_, '_>, known: &mut Known)
     requires { IsKnownBefore symbol.now.inputs.now (symbol_with symbol.now.inputs.now symbol.now.id).name symbol.now.id.file symbol.now.id.index known.old }
     ensures known { IsKnownBefore symbol.now.inputs.now (symbol_with symbol.now.inputs.now symbol.now.id).name symbol.now.id.file (symbol.now.id.index + 1) known.new }
@@ -133,10 +130,10 @@ fn note_symbol(symbol: &InputSymbol<'_, '_, '_>, known: &mut Known)
 {
     let strong = symbol.is_definition(STB_GLOBAL);
     let weak = symbol.is_definition(STB_WEAK);
-    known.strong = first_of(known.strong, strong, symbol.id);
-    known.weak = first_of(known.weak, weak, symbol.id);
-    known.common = common_past(symbol, known.common);
-    known.not_weak = not_weak_past(symbol, known.not_weak);
+    note_first(&mut known.strong, strong, symbol.id);
+    note_first(&mut known.weak, weak, symbol.id);
+    note_common(symbol, &mut known.common);
+    note_not_weak(symbol, &mut known.not_weak);
 }
 
 /// What is known of a name whose first entry is this symbol, before it is looked at.
@@ -145,10 +142,10 @@ fn unknown(id: SymbolId) -> Known
 {
     Known {
         first: id,
+        not_weak: false,
         strong: None,
         weak: None,
         common: None,
-        not_weak: false,
     }
 }
 
@@ -184,9 +181,8 @@ fn pass_symbol<'a>(
             Ok(k)
         }
         None => {
-            let mut known = unknown(symbol.id);
-            note_symbol(symbol, &mut known);
-            names.known.push(known)?;
+            names.known.push(unknown(symbol.id))?;
+            note_symbol(symbol, &mut names.known[next]);
             Ok(next)
         }
     }

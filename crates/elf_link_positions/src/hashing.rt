@@ -4,7 +4,7 @@ ghost use Rattle.elf_link_positions.specs.Slots.{name_hash, place_among, upper_o
 
 use std::hash::{FoldHasher, Hasher};
 
-/// The hash of a name. It reads eight bytes at a time.
+/// The hash of a name, by a fixed seed. It reads eight bytes at a time.
 #[tactic(auto, unfolding(crate::specs::Slots::name_hash))]
 pub fn hash_of(name: &[u8]) -> u64
     ensures { result ≡ name_hash name.now }

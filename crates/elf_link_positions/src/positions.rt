@@ -20,17 +20,17 @@ pub struct NamePositions<'a> {
     more: BTreeMap<&'a [u8], usize>,
 }
 
-/// What a search for a name told ahead of its placing.
+/// What is known of a name before it is placed: [`NamePositions::look_up`] returns it.
 #[derive(Clone, Copy, Debug)]
 pub struct Lookup {
     /// The hash of the name.
     pub hash: u64,
-    /// The position of the name, where one look found it.
+    /// The position of the name; `None` if it has none, or was not found at once.
     pub position: Option<usize>,
 }
 
 impl Lookup {
-    /// That of no name.
+    /// A lookup of no name, to fill an array with.
     pub const NONE: Lookup = Lookup {
         hash: 0,
         position: None,
@@ -75,12 +75,14 @@ impl<'a> NamePositions<'a> {
         }
     }
 
-    /// The slot where a search for a name of this hash begins. Slots that are read one right after the other wait for memory together.
+    /// The slot where a search for a name of this hash begins, for [`look_up`](NamePositions::look_up). When the slots of many names are
+    /// read one right after the other, the waits for memory overlap.
     pub fn first_slot(&self, hash: u64) -> Slot {
         self.slots[home_of(hash, self.slots.len() - MOST_STEPS)]
     }
 
-    /// What a slot, read now or at any time before, tells of a name of this hash: its position, or nothing. Takes one comparison at most.
+    /// The lookup of a name of this hash by one slot: it has the position if the slot leads to the name. The slot is a hint: it may be any
+    /// one, and may have been read at any time, since the name is compared. Takes at most one comparison.
     pub fn look_up(&self, slot: Slot, hash: u64, name: &[u8]) -> Lookup
         ensures hash { result.hash ≡ hash }
         ensures position { MatchOption result.position (¬ LeadsTo self.now.entries slot (upper_of_hash hash) name.now)
@@ -101,7 +103,8 @@ impl<'a> NamePositions<'a> {
         self.place_hashed(hash, name, next)
     }
 
-    /// The same, of a name that was looked up before: it takes no further look at a name whose position was found.
+    /// What [`place`](NamePositions::place) does, of a name that was looked up: the same answer, and the same error. It takes no time if
+    /// the lookup has the position; the name is not hashed again.
     pub fn place_looked_up(
         &mut self,
         lookup: Lookup,
@@ -119,7 +122,7 @@ impl<'a> NamePositions<'a> {
         self.place_hashed(lookup.hash, name, next)
     }
 
-    /// The same, of a name of this hash.
+    /// What [`place`](NamePositions::place) does, of a name of this hash.
     #[tactic(auto, unfolding(crate::specs::Slots::name_position))]
     fn place_hashed(
         &mut self,

@@ -19,7 +19,7 @@ pub struct Slot {
 }
 
 impl Slot {
-    /// A free slot.
+    /// A free slot, which leads to no name.
     pub const FREE: Slot = Slot {
         upper: 0,
         number: 0,
@@ -62,7 +62,7 @@ fn position_by(slot: Slot, entries: &[Entry<'_>], upper: u32, name: &[u8]) -> Op
     }
 }
 
-/// The position of a name that has this hash, by a slot of any time; `None` where the slot was free, or is another name's.
+/// The position of a name that has this hash, by a slot that was read at any time; `None` if the slot is free, or leads to another name.
 pub(crate) fn position_of(
     slot: Slot,
     entries: &[Entry<'_>],

@@ -10,9 +10,9 @@ returns-clause-known c =
     let name = (symbol_in fs s.id.file s.id.index).name in
     record {
       strong = best_next fs (IsStrong fs name) s.id.file s.id.index c.args.known.now.strong _ c.is_definition-strong.result s.there.0 s.there.1
-          c.is_definition-strong.ensures c.first_of-known.ensures c.requires.strong;
+          c.is_definition-strong.ensures c.note_first.ensures c.requires.strong;
       weak = best_next fs (IsWeak fs name) s.id.file s.id.index c.args.known.now.weak _ c.is_definition-weak.result s.there.0 s.there.1
-          c.is_definition-weak.ensures c.first_of-known-2.ensures c.requires.weak;
-      common = c.common_past-known.ensures;
-      not_weak = c.not_weak_past-known.ensures;
+          c.is_definition-weak.ensures c.note_first-2.ensures c.requires.weak;
+      common = c.note_common.ensures;
+      not_weak = c.note_not_weak.ensures;
     }

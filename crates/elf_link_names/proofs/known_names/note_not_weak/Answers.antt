@@ -2,7 +2,7 @@ use Rattle.std.proofs.Common.{refl}
 use Rattle.elf_link_files.specs.Files.{symbol_in}
 use Rattle.elf_link_files.specs.Symbols.{IsNotWeak}
 use Rattle.elf_link_names.proofs.Tabled.{found_here}
-use Rattle.elf_link_names.proofs.known_names.not_weak_past.Goals as goal
+use Rattle.elf_link_names.proofs.known_names.note_not_weak.Goals as goal
 
 pub returns-then-is_not_weak : goal.returns-then-is_not_weak
 returns-then-is_not_weak c =
