@@ -96,10 +96,7 @@ impl<'v, 'l, 'a> Model for Values<'v, 'l, 'a> {
 
 impl<'v, 'l, 'a> Values<'v, 'l, 'a> {
     /// A link whose names have these numbers.
-    pub(crate) fn new(
-        linking: &'v Linking<'l, 'a>,
-        numbers: &'v [Vec<usize>],
-    ) -> Values<'v, 'l, 'a>
+    pub(crate) fn new(linking: &'v Linking<'l, 'a>, numbers: &'v [Vec<usize>]) -> Values<'v, 'l, 'a>
         requires { AreBindingNumbers linking.now.objects linking.now.map (map_list (λ row. row.items) numbers.now) }
         ensures { result ≡ linking.entry.now }
     {

@@ -1,5 +1,5 @@
 -- A section whose body is no relocations, or is not applied, has no fields; else they are those of its entries, one after the other.
-use Rattle.std.proofs.Common.{◌≡◌, ◌<◌, ℕ, ap, false, get_or, length, refl, subst, sym, true, ◌∙◌, arith, rules}
+use Rattle.std.proofs.Common.{◌≡◌, ℕ, ap, false, get_or, length, refl, subst, sym, true, ◌∙◌, arith, rules}
 use Rattle.elf_object_type.specs.declared.section.Body.{Body}
 use Rattle.elf_object_type.specs.declared.section.Section.{Section}
 use Rattle.elf_object_type.specs.Object.{BodyValue, SectionValue, no_relocation}
