@@ -4,6 +4,7 @@ pub mod ChosenCommons
 pub mod BoundNames
 pub mod Naming
 pub mod Tabled
+pub mod KnownTable
 pub mod NameNumbers
 pub mod LookedUp
 pub mod Numbers

@@ -7,6 +7,8 @@ pub mod LinkRules
 pub mod ChosenCommons
 pub mod Naming
 pub mod KnownNames
+pub mod KnownTable
+pub mod KnownTableView
 pub mod NameNumbers
 pub mod NameTable
 pub mod Numbers

@@ -12,5 +12,5 @@ objects_of_table t = t.inputs
 
 -- what is known of each name and the numbers are those of the files
 pub record IsTableOfNames (t : Inside) : Type 0 where
-  pub names : AreAllKnown t.inputs (name_position t.names.positions) t.names.known.items
+  pub names : AreAllKnown t.inputs (name_position t.names.positions) t.names.known
   pub numbers : AreNameNumbers t.inputs (name_position t.names.positions) (map (λ row. row.items) t.numbers.items)

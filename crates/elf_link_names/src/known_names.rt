@@ -5,7 +5,7 @@ ghost use Rattle.elf_object_type.specs.ObjectView.{symbol_value};
 ghost use Rattle.elf_link_files.specs.Files.{object_at};
 ghost use Rattle.elf_link_files.specs.Ids.{symbol_with};
 ghost use Rattle.elf_link_names.specs.Binds.{not_weak as not_weak_row};
-ghost use Rattle.elf_link_names.specs.KnownNames.{AreAllKnown, AreKnownBefore, IsBlock, IsCommonBest, IsKnownBefore, IsLargerOf, SomeBefore, first_or, known_at};
+ghost use Rattle.elf_link_names.specs.KnownNames.{AreAllKnown, AreKnownBefore, IsBlock, IsCommonBest, IsKnownBefore, IsLargerOf, SomeBefore, first_or};
 ghost use Rattle.elf_link_names.specs.Lookups.{IsSymbolLookup};
 ghost use Rattle.elf_link_names.specs.NameNumbers.{AreNameNumbers, IsNameNumber, IsNumberRow, KeepsPositions};
 ghost use Rattle.elf_link_positions.specs.Slots.{name_position};
@@ -13,6 +13,7 @@ ghost use Rattle.elf_field.specs.Abi.{STB_LOCAL};
 ghost use Rattle.elf_link_files.specs.Symbols.{IsCommon};
 ghost use Rattle.elf_object_type.specs.Object.{binding as binding_of};
 
+use crate::known_table::KnownTable;
 use crate::lookups::{BLOCK, block_lookups};
 use elf_field::abi::*;
 use elf_link_files::files::symbol_count;
@@ -32,7 +33,7 @@ pub struct Block {
     pub align: u64,
 }
 
-/// What is known of a name. What a reference reads or writes of it is in front, in one line of memory.
+/// What is known of a name.
 #[derive(Clone, Copy)]
 pub struct Known {
     /// Its first entry.
@@ -53,15 +54,7 @@ pub struct KnownNames<'a> {
     /// The position of each name in `known`.
     pub positions: NamePositions<'a>,
     /// What is known of each.
-    pub known: Vec<Known>,
-}
-
-/// What is known of the name at a position.
-pub(crate) fn known_item(known: &[Known], k: usize) -> Known
-    requires { k < length known.now }
-    ensures { result ≡ known_at known.now k }
-{
-    known[k]
+    pub known: KnownTable,
 }
 
 /// Notes a symbol as the first one, where it passes and none has been noted.
@@ -121,8 +114,7 @@ fn note_not_weak(symbol: &InputSymbol<'_, '_, '_>, found: &mut bool)
     }
 }
 
-/// Adds a symbol to what is known of its name. It reads and writes no more of that than changes, since each part may have to come from
-/// memory: of a reference to a name it writes one mark.
+/// Adds a symbol to what is known of its name.
 fn note_symbol(symbol: &InputSymbol<'_, '_, '_>, known: &mut Known)
     requires { IsKnownBefore symbol.now.inputs.now (symbol_with symbol.now.inputs.now symbol.now.id).name symbol.now.id.file symbol.now.id.index known.old }
     ensures known { IsKnownBefore symbol.now.inputs.now (symbol_with symbol.now.inputs.now symbol.now.id).name symbol.now.id.file (symbol.now.id.index + 1) known.new }
@@ -162,9 +154,9 @@ fn pass_symbol<'a>(
     lookup: Lookup,
     names: &mut KnownNames<'a>,
 ) -> Result<usize, AllocError>
-    requires before { AreKnownBefore symbol.now.inputs.now symbol.now.id.file symbol.now.id.index (name_position names.old.positions) names.old.known.items }
+    requires before { AreKnownBefore symbol.now.inputs.now symbol.now.id.file symbol.now.id.index (name_position names.old.positions) names.old.known }
     requires lookup { IsSymbolLookup symbol.now.inputs.now (name_position names.old.positions) symbol.now.id.file symbol.now.id.index lookup }
-    ensures names { OnOk result (AreKnownBefore symbol.now.inputs.now symbol.now.id.file (symbol.now.id.index + 1) (name_position names.new.positions) names.new.known.items) }
+    ensures names { OnOk result (AreKnownBefore symbol.now.inputs.now symbol.now.id.file (symbol.now.id.index + 1) (name_position names.new.positions) names.new.known) }
     ensures number { IfOk result (IsNameNumber symbol.now.inputs.now (name_position names.new.positions) symbol.now.id.file symbol.now.id.index) }
     ensures kept { OnOk result (KeepsPositions (name_position names.old.positions) (name_position names.new.positions)) }
 {
@@ -177,12 +169,15 @@ fn pass_symbol<'a>(
     let place = names.positions.place_looked_up(lookup, name, next)?;
     match place {
         Some(k) => {
-            note_symbol(symbol, &mut names.known[k]);
+            let mut known = names.known.item(k);
+            note_symbol(symbol, &mut known);
+            names.known.set(k, known)?;
             Ok(k)
         }
         None => {
-            names.known.push(unknown(symbol.id))?;
-            note_symbol(symbol, &mut names.known[next]);
+            let mut known = unknown(symbol.id);
+            note_symbol(symbol, &mut known);
+            names.known.push(known)?;
             Ok(next)
         }
     }
@@ -197,11 +192,11 @@ fn pass_block<'a>(
 ) -> Result<(), AllocError>
     requires file { file < length inputs.now }
     requires left { length row.old.items < length (object_at inputs.now file).symbols }
-    requires before { AreKnownBefore inputs.now file (length row.old.items) (name_position names.old.positions) names.old.known.items }
+    requires before { AreKnownBefore inputs.now file (length row.old.items) (name_position names.old.positions) names.old.known }
     requires numbers { IsNumberRow inputs.now (name_position names.old.positions) file (length row.old.items) row.old.items }
     ensures more { OnOk result (length row.old.items < length row.new.items) }
     ensures within { OnOk result (length row.new.items ≤ length (object_at inputs.now file).symbols) }
-    ensures names { OnOk result (AreKnownBefore inputs.now file (length row.new.items) (name_position names.new.positions) names.new.known.items) }
+    ensures names { OnOk result (AreKnownBefore inputs.now file (length row.new.items) (name_position names.new.positions) names.new.known) }
     ensures numbers { OnOk result (IsNumberRow inputs.now (name_position names.new.positions) file (length row.new.items) row.new.items) }
     ensures kept { OnOk result (KeepsPositions (name_position names.old.positions) (name_position names.new.positions)) }
 {
@@ -224,8 +219,8 @@ fn pass_file<'a>(
     names: &mut KnownNames<'a>,
 ) -> Result<Vec<usize>, AllocError>
     requires file { file < length inputs.now }
-    requires before { AreKnownBefore inputs.now file 0 (name_position names.old.positions) names.old.known.items }
-    ensures names { OnOk result (AreKnownBefore inputs.now file (length (object_at inputs.now file).symbols) (name_position names.new.positions) names.new.known.items) }
+    requires before { AreKnownBefore inputs.now file 0 (name_position names.old.positions) names.old.known }
+    ensures names { OnOk result (AreKnownBefore inputs.now file (length (object_at inputs.now file).symbols) (name_position names.new.positions) names.new.known) }
     ensures numbers { IfOk result (λ row. IsNumberRow inputs.now (name_position names.new.positions) file (length (object_at inputs.now file).symbols) row.items) }
     ensures kept { OnOk result (KeepsPositions (name_position names.old.positions) (name_position names.new.positions)) }
 {
@@ -252,11 +247,11 @@ pub(crate) fn known_names<'a>(
     alloc: Global,
     inputs: &Inputs<'_, 'a>,
 ) -> Result<(KnownNames<'a>, Vec<Vec<usize>>), AllocError>
-    ensures names { IfOk result (λ both. AreAllKnown inputs.now (name_position both.0.positions) both.0.known.items) }
+    ensures names { IfOk result (λ both. AreAllKnown inputs.now (name_position both.0.positions) both.0.known) }
     ensures numbers { IfOk result (λ both. AreNameNumbers inputs.now (name_position both.0.positions) (map (λ row. row.items) both.1.items)) }
 {
     let positions = NamePositions::new(alloc, all_symbol_count(inputs))?;
-    let known = Vec::new(alloc);
+    let known = KnownTable::new(alloc);
     let mut names = KnownNames { positions, known };
     let mut numbers = Vec::with_capacity(alloc, inputs.file_count())?;
     for file in 0..inputs.file_count() {

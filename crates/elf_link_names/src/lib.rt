@@ -11,6 +11,7 @@ mod commons;
 mod file_rules;
 pub mod judge;
 mod known_names;
+mod known_table;
 mod listing;
 mod lookups;
 mod name_rules;

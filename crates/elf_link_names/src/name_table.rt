@@ -6,7 +6,7 @@ ghost use Rattle.elf_link_names.specs.NameNumbers.{IsEntryIn};
 ghost use Rattle.elf_link_names.specs.KnownNames.{IsKnownWhole};
 ghost use Rattle.elf_link_names.specs.Numbers.{IsNameCount, IsNumberOf};
 
-use crate::known_names::{Known, KnownNames, known_item, known_names};
+use crate::known_names::{Known, KnownNames, known_names};
 use crate::named_symbol::NamedSymbol;
 use elf_link_files::files::symbol_count;
 use elf_link_files::{InputSymbol, Inputs, SymbolId};
@@ -86,7 +86,7 @@ impl<'l, 'a> NameTable<'l, 'a> {
         requires { IsEntryIn self.now id }
         ensures { IsKnownWhole self.now (symbol_with self.now id).name result }
     {
-        known_item(&self.names.known, self.number_of(id))
+        self.names.known.item(self.number_of(id))
     }
 
     /// A symbol of a file.

@@ -18,7 +18,7 @@ ghost use Rattle.elf_link_names.specs.Resolved.{IsNumberIn, name_in};
 
 use crate::bind::choice_of;
 use crate::choice::Choice;
-use crate::known_names::{KnownNames, known_item};
+use crate::known_names::KnownNames;
 use crate::listing::live_sections;
 use crate::name_table::NameTable;
 use elf_link_files::{Chosen, Inputs, Site, SymbolId};
@@ -133,7 +133,7 @@ impl<'l, 'a> Resolution<'l, 'a> {
         ensures { result.now ≡ name_in self.now k }
     {
         self.inputs
-            .symbol(known_item(&self.names.known, k).first)
+            .symbol(self.names.known.item(k).first)
             .symbol()
             .name
     }
@@ -143,7 +143,7 @@ impl<'l, 'a> Resolution<'l, 'a> {
         requires { k < length self.now.firsts }
         ensures { Binds self.now.objects (name_in self.now k) result }
     {
-        choice_of(known_item(&self.names.known, k))
+        choice_of(self.names.known.item(k))
     }
 
     /// The position of the common of name `k` among those that are placed.

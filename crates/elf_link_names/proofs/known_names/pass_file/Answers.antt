@@ -12,4 +12,4 @@ returns-clause-names c =
     let within = before.within in
     let past = c.loop-names-test.false in
     let end : length c.loop-names.row.items ≡ length (object_at fs c.args.file).symbols = omega arith in
-    subst (λ (n : ℕ). AreKnownBefore fs c.args.file n (name_position c.loop-names.names.positions) c.loop-names.names.known.items) end before.names
+    subst (λ (n : ℕ). AreKnownBefore fs c.args.file n (name_position c.loop-names.names.positions) c.loop-names.names.known) end before.names

@@ -9,7 +9,7 @@ use Rattle.elf_link_names.proofs.known_names.pass_file.Given as goal
 abbrev pub invariant-loop-names : goal.invariant-loop-names
 invariant-loop-names l = record {
   within : length l.row.items ≤ length (object_at l.inputs l.file).symbols;
-  names : AreKnownBefore l.inputs l.file (length l.row.items) (name_position l.names.positions) l.names.known.items;
+  names : AreKnownBefore l.inputs l.file (length l.row.items) (name_position l.names.positions) l.names.known;
   numbers : IsNumberRow l.inputs (name_position l.names.positions) l.file (length l.row.items) l.row.items;
   kept : KeepsPositions (name_position l.fn.names.positions) (name_position l.names.positions);
 }

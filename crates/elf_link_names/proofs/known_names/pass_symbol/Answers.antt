@@ -1,52 +1,47 @@
 -- A local symbol changes nothing; one whose name has a position changes what is known of that name alone; any other opens one name at
 -- the end, of which nothing was known before.
-use Rattle.std.proofs.Common.{◌≡◌, ℕ, List, true, false, length, refl, rules, sym, ◌∙◌, ap, subst}
+use Rattle.std.proofs.Common.{◌≡◌, ℕ, List, true, false, length, refl, sym, ◌∙◌, ap, subst}
 use Rattle.std.specs.Prelude.{cond, None, Some}
 use Rattle.std.specs.Str.{bytes_eq}
-use Rattle.std.proofs.lemmas.List.{get_or_default}
 use Rattle.elf_field.specs.Abi.{STB_LOCAL}
 use Rattle.elf_object_type.specs.Object.{SymbolValue, binding}
 use Rattle.elf_link_files.specs.Files.{symbol_in}
 use Rattle.elf_link_names.specs.declared.known_names.Known.{Known}
-use Rattle.elf_link_names.specs.KnownNames.{IsKnownBefore, no_known}
+use Rattle.elf_link_names.specs.KnownNames.{IsKnownBefore}
 use Rattle.elf_link_positions.specs.Slots.{name_position}
 use Rattle.elf_link_names.proofs.NameNumbers.{keeps_new}
-use Rattle.elf_link_names.proofs.Tabled.{known_none, none_placed, placed_at, names_again, names_local, names_new, pushed_item, pushed_set}
+use Rattle.elf_link_names.proofs.Tabled.{known_none, none_placed, names_again, names_local, names_new}
 use Rattle.elf_link_names.proofs.known_names.pass_symbol.Goals as goal
 
 pub returns-then-is_local-clause-names : goal.returns-then-is_local-clause-names
 returns-then-is_local-clause-names c =
     let s = c.args.symbol.now in
-    names_local s.inputs.now s.id.file s.id.index (name_position c.args.names.now.positions) c.args.names.now.known.items
+    names_local s.inputs.now s.id.file s.id.index (name_position c.args.names.now.positions) c.args.names.now.known
     (subst (λ (s : SymbolValue). binding s ≡ STB_LOCAL) c.symbol-own.ensures (c.if-is_local.ensures.0 refl)) c.requires.before
 
-pub returns-in-Some-clause-names : goal.returns-in-Some-clause-names
-returns-in-Some-clause-names c =
+pub returns-in_ok-set-in-Some-clause-names : goal.returns-in_ok-set-in-Some-clause-names
+returns-in_ok-set-in-Some-clause-names c =
     let s = c.args.symbol.now in
     let fs = s.inputs.now in
-    let ks = c.args.names.now.known.items in
+    let ks = c.args.names.now.known in
     let k = c.in-Some.k in
     let same = ap (λ (s : SymbolValue). s.name) c.symbol-own.ensures in
     let old = name_position c.args.names.now.positions in
     let at = subst (λ (n : List ℕ). old n ≡ Some k) same (sym c.in_ok-place.ensures.old ∙ c.in-Some.is) in
-    let (lt, named) = placed_at fs s.id.file s.id.index old ks (symbol_in fs s.id.file s.id.index).name k at c.requires.before in
-    let noted = c.index_mut.ensures.value ∙ get_or_default ks k c.index_mut.result.now no_known lt in
-    names_again fs s.id.file s.id.index old (name_position c.place_looked_up.new.self) ks k c.note_symbol.new.known
-    (λ q. rw c.in-Some.is at (c.in_ok-place.ensures.placed q)) at (c.note_symbol.ensures.first ∙ ap (λ (k : Known). k.first) noted)
-    c.note_symbol.ensures.known c.requires.before
+    rw c.in_ok-set-in-Some.ensures
+    (names_again fs s.id.file s.id.index old (name_position c.place_looked_up.new.self) ks k c.note_symbol.new.known
+    (λ q. rw c.in-Some.is at (c.in_ok-place.ensures.placed q)) at (c.note_symbol.ensures.first ∙ ap (λ (k : Known). k.first) c.item-known.ensures)
+    c.note_symbol.ensures.known c.requires.before)
 
 pub note_symbol-requires-in-None : goal.note_symbol-requires-in-None
 note_symbol-requires-in-None c =
     let s = c.args.symbol.now in
     let fs = s.inputs.now in
-    let ks = c.args.names.now.known.items in
+    let ks = c.args.names.now.known in
     let same = ap (λ (s : SymbolValue). s.name) c.symbol-own.ensures in
     let name = (symbol_in fs s.id.file s.id.index).name in
     let old = name_position c.args.names.now.positions in
-    let long : c.len-next.result ≡ length ks = search rules in
-    let pushed = pushed_item ks c.push.new.self.items c.unknown.result c.index_mut-in-None.result.now c.len-next.result c.in_ok-push-in-None.ensures.items long
-    c.index_mut-in-None.ensures.value in
-    subst (IsKnownBefore fs name s.id.file s.id.index) (sym (pushed ∙ c.unknown.ensures))
+    subst (IsKnownBefore fs name s.id.file s.id.index) (sym c.unknown-known.ensures)
     (known_none fs name s.id.file s.id.index
     (none_placed fs s.id.file s.id.index old ks name
     (subst (λ (n : List ℕ). old n ≡ None) same (sym c.in_ok-place.ensures.old ∙ c.in-None.is)) c.requires.before))
@@ -55,21 +50,19 @@ pub returns-in_ok-push-in-None-clause-names : goal.returns-in_ok-push-in-None-cl
 returns-in_ok-push-in-None-clause-names c =
     let s = c.args.symbol.now in
     let fs = s.inputs.now in
-    let ks = c.args.names.now.known.items in
+    let ks = c.args.names.now.known in
     let name = c.symbol-own.result.name.now in
     let same = ap (λ (s : SymbolValue). s.name) c.symbol-own.ensures in
     let old = name_position c.args.names.now.positions in
     let now = name_position c.place_looked_up.new.self in
-    let long : c.len-next.result ≡ length ks = search rules in
-    let pushed = pushed_item ks c.push.new.self.items c.unknown.result c.index_mut-in-None.result.now c.len-next.result c.in_ok-push-in-None.ensures.items long
-    c.index_mut-in-None.ensures.value in
-    rw (pushed_set ks c.push.new.self.items c.unknown.result c.note_symbol-in-None.new.known c.len-next.result c.in_ok-push-in-None.ensures.items long)
+    rw c.in_ok-push-in-None.ensures
     (names_new fs s.id.file s.id.index old now ks c.note_symbol-in-None.new.known s.there.0 s.there.1
     (λ local. (let never : false ≡ true = c.if-is_local.ensures.1 (subst (λ (s : SymbolValue). binding s ≡ STB_LOCAL) (sym c.symbol-own.ensures) local) in cc))
     (subst (λ (n : List ℕ). (q : List ℕ) → now q ≡ cond (bytes_eq n q) (Some (length ks)) (old q)) same
-    (subst (λ (m : ℕ). (q : List ℕ) → now q ≡ cond (bytes_eq name q) (Some m) (old q)) long (λ q. rw c.in-None.is at (c.in_ok-place.ensures.placed q))))
+    (subst (λ (m : ℕ). (q : List ℕ) → now q ≡ cond (bytes_eq name q) (Some m) (old q)) c.len-next.ensures
+    (λ q. rw c.in-None.is at (c.in_ok-place.ensures.placed q))))
     (subst (λ (n : List ℕ). old n ≡ None) same (sym c.in_ok-place.ensures.old ∙ c.in-None.is))
-    (c.note_symbol-in-None.ensures.first ∙ ap (λ (k : Known). k.first) (pushed ∙ c.unknown.ensures))
+    (c.note_symbol-in-None.ensures.first ∙ ap (λ (k : Known). k.first) c.unknown-known.ensures)
     c.note_symbol-in-None.ensures.known c.requires.before)
 
 pub returns-in_ok-push-in-None-clause-kept : goal.returns-in_ok-push-in-None-clause-kept

@@ -1,34 +1,32 @@
 -- The number of a name is the position of its first entry among all, and what is known stands in that order.
-use Rattle.std.proofs.Common.{ℕ, ◌<◌, List, length, map, ap, sym, ◌∙◌, subst, arith}
+use Rattle.std.proofs.Common.{ℕ, ◌<◌, List, length, map, sym, subst, arith}
 use Rattle.std.proofs.lemmas.List.{length-map}
 use Rattle.elf_link_files.specs.Files.{symbol_in}
-use Rattle.elf_link_names.specs.declared.known_names.Known.{Known}
 use Rattle.elf_link_names.specs.KnownNames.{IsKnownWhole, first_site, known_at}
 use Rattle.elf_link_positions.specs.Slots.{name_position}
 use Rattle.elf_link_names.proofs.Numbers.{number_by}
 use Rattle.elf_link_names.proofs.Tabled.{whole_at, whole_firsts}
 use Rattle.elf_link_names.proofs.name_table.NameTable.known_of.Goals as goal
 
-pub known_item-requires : goal.known_item-requires
-known_item-requires c =
+pub item-requires : goal.item-requires
+item-requires c =
     let t = c.self.inside in
-    let ks = t.names.known.items in
+    let ks = t.names.known in
     let numbered = rw (← c.self.view_is) at c.number_of.ensures in
     let (lt, named) = number_by t.inputs _ c.number_of.result (map first_site ks) (whole_firsts t.inputs (name_position t.names.positions) ks c.self.invariant.names) numbered in
     let many = length-map ks first_site in
-    let long = ap (λ (xs : List Known). length xs) c.deref.ensures.value in
     omega arith
 
 pub returns : goal.returns
 returns c =
     let t = c.self.inside in
     let fs = t.inputs in
-    let ks = t.names.known.items in
+    let ks = t.names.known in
     let position = name_position t.names.positions in
     let numbered = rw (← c.self.view_is) at c.number_of.ensures in
     let (lt, named) = number_by fs _ c.number_of.result (map first_site ks) (whole_firsts fs position ks c.self.invariant.names) numbered in
     let many = length-map ks first_site in
     let within : c.number_of.result < length ks = omega arith in
     rw (← c.self.view_is) (subst (IsKnownWhole fs (symbol_in fs c.args.id.file c.args.id.index).name)
-    (sym (c.known_item.ensures ∙ ap (λ (xs : List Known). known_at xs c.number_of.result) c.deref.ensures.value))
+    (sym c.item.ensures)
     (subst (λ (n : List ℕ). IsKnownWhole fs n (known_at ks c.number_of.result)) named (whole_at fs position ks c.number_of.result within c.self.invariant.names)))

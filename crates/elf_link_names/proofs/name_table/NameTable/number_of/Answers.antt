@@ -13,4 +13,4 @@ returns c =
     let asked = rw (← c.self.view_is) at c.requires in
     let at = number_read fs position t.numbers.items c.index.result.now c.args.id.file c.args.id.index c.index-2.result.now
     asked.symbol.0 asked.symbol.1 asked.entry c.index.ensures c.index-2.ensures c.self.invariant.numbers in
-    rw (← c.self.view_is) (number_is fs position t.names.known.items name c.index-2.result.now c.self.invariant.names at)
+    rw (← c.self.view_is) (number_is fs position t.names.known name c.index-2.result.now c.self.invariant.names at)

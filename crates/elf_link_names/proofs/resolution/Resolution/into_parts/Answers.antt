@@ -5,9 +5,9 @@ use Rattle.elf_link_names.proofs.resolution.Resolution.into_parts.Goals as goal
 pub returns-clause-firsts : goal.returns-clause-firsts
 returns-clause-firsts c =
     let r = c.self.inside in
-    rw (← c.self.view_is) (whole_firsts r.inputs (name_position r.names.positions) r.names.known.items c.self.invariant.names)
+    rw (← c.self.view_is) (whole_firsts r.inputs (name_position r.names.positions) r.names.known c.self.invariant.names)
 
 pub returns-clause-positions : goal.returns-clause-positions
 returns-clause-positions c =
     let r = c.self.inside in
-    rw (← c.self.view_is) (whole_places r.inputs (name_position r.names.positions) r.names.known.items c.self.invariant.names)
+    rw (← c.self.view_is) (whole_places r.inputs (name_position r.names.positions) r.names.known c.self.invariant.names)

@@ -12,7 +12,7 @@ invariant_of-result c =
     let t = c.table.inside in
     let fs = t.inputs in
     let cs = c.in_ok-commons.commons.items in
-    let firsts = map first_site t.names.known.items in
+    let firsts = map first_site t.names.known in
     let chosen = rw (← c.table.view_is) at c.in_ok-commons.ensures in
     let ranks = rw (← c.table.view_is) at c.in_ok-ranks.ensures in
     record {
@@ -23,5 +23,5 @@ invariant_of-result c =
       symbols = chosen_symbols fs cs chosen;
       all = have_chosen fs cs chosen;
       ranks = subst (λ (xs : List Chosen). AreRanks fs firsts xs (length xs) c.in_ok-ranks.ranks.items) c.deref.ensures.value
-          (ranks firsts (whole_firsts fs (name_position t.names.positions) t.names.known.items c.table.invariant.names));
+          (ranks firsts (whole_firsts fs (name_position t.names.positions) t.names.known c.table.invariant.names));
     }

@@ -8,4 +8,4 @@ returns c =
     let r = c.self.inside in
     let position = name_position r.names.positions in
     let at : c.get.result ≡ position c.args.name.now = search rules in
-    rw (← c.self.view_is, at) (number_found r.inputs position r.names.known.items c.args.name.now c.self.invariant.names)
+    rw (← c.self.view_is, at) (number_found r.inputs position r.names.known c.args.name.now c.self.invariant.names)

@@ -1,0 +1,48 @@
+use Rattle.std.proofs.Common.{◌≡◌, true, List, length, refl, rules, sym, ◌∙◌, subst, arith, vec_len}
+use Rattle.std.specs.Prelude.{slice_get}
+use Rattle.elf_link_names.specs.declared.known_table.Large.{Large}
+use Rattle.elf_link_names.specs.KnownTable.{is_of}
+use Rattle.elf_link_names.proofs.KnownTable.{from_set, length-known_from, own_within, set_own}
+use Rattle.elf_link_names.proofs.known_table.KnownTable.set.Goals as goal
+
+pub index-requires : goal.index-requires
+index-requires c =
+    let t = c.self.inside in
+    let asked = rw (← c.self.view_is) at c.requires in
+    let many = length-known_from t.large.items 0 t.rows.items in
+    let wide : length t.rows.items ≡ vec_len t.rows = search rules in
+    omega arith
+
+pub index_mut-requires : goal.index_mut-requires
+index_mut-requires c =
+    let t = c.self.inside in
+    let row = c.index.result.now in
+    let own = subst (λ (ls : List Large). is_of c.args.k (slice_get ls row.large) ≡ true) c.deref.ensures.value (sym c.is_own.ensures ∙ c.if-is_own.true) in
+    let within = own_within t.large.items row.large c.args.k own in
+    let wide : length t.large.items ≡ vec_len t.large = search rules in
+    omega arith
+
+pub returns-then-is_own : goal.returns-then-is_own
+returns-then-is_own c =
+    let t = c.self.inside in
+    let row = c.index.result.now in
+    let asked = rw (← c.self.view_is) at c.requires in
+    let many = length-known_from t.large.items 0 t.rows.items in
+    let own = subst (λ (ls : List Large). is_of c.args.k (slice_get ls row.large) ≡ true) c.deref.ensures.value (sym c.is_own.ensures ∙ c.if-is_own.true) in
+    rw (← c.self.view_is) (set_own t.large.items t.rows.items c.args.k row (record { name = c.args.k; known = c.args.known }) refl (omega arith) c.index.ensures own)
+
+pub index_mut-requires-2 : goal.index_mut-requires-2
+index_mut-requires-2 c =
+    let t = c.self.inside in
+    let asked = rw (← c.self.view_is) at c.requires in
+    let many = length-known_from t.large.items 0 t.rows.items in
+    let wide : length t.rows.items ≡ vec_len t.rows = search rules in
+    omega arith
+
+pub returns : goal.returns
+returns c =
+    let t = c.self.inside in
+    let asked = rw (← c.self.view_is) at c.requires in
+    let many = length-known_from t.large.items 0 t.rows.items in
+    rw (← c.self.view_is) (from_set t.large.items c.row_of.new.large.items 0 c.args.k c.args.k t.rows.items c.in_ok-self-inside.field-0 c.args.known
+    (omega arith) (omega arith) c.in_ok-self-inside.ensures.others c.in_ok-self-inside.ensures.row)
