@@ -408,10 +408,10 @@ uint32_t elfmap_link(const uint8_t *bytes, size_t len, const struct elfmap_exten
  * ---- The memory of the engines. The library has these three functions over malloc, realloc and free. A program that defines all three by
  * itself has its own taken, and needs no malloc.
  *
- * Files of many megabytes take less time where malloc keeps what it has, in large pieces, and on large pages. With the GNU C library a
- * caller sets that before the first call by mallopt (M_MMAP_THRESHOLD and M_TRIM_THRESHOLD of 1 GiB and more, M_TOP_PAD of 64 MiB), or in
- * the environment by GLIBC_TUNABLES (glibc.malloc.mmap_threshold, trim_threshold, top_pad); large pages by glibc.malloc.hugetlb=1 there
- * alone.
+ * To show a file of many megabytes takes less time where malloc keeps what it has, in large pieces, and on large pages; a link of a million
+ * names took more. With the GNU C library a caller sets that before the first call by mallopt (M_MMAP_THRESHOLD and M_TRIM_THRESHOLD of
+ * 1 GiB and more, M_TOP_PAD of 64 MiB), or in the environment by GLIBC_TUNABLES (glibc.malloc.mmap_threshold, trim_threshold, top_pad);
+ * large pages by glibc.malloc.hugetlb=1 there alone.
  *
  * `align` is 1, 2, 4, 8 or 16, and `size` is at most PTRDIFF_MAX; it may be 0, for which memory that is not there is told as refused. No
  * function may call an engine, or leave by longjmp.
