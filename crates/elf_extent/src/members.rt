@@ -21,8 +21,25 @@ pub fn members_by_start(alloc: Global, extents: &[Extent]) -> Result<Vec<Member>
     ensures ascending { IfOk result (λ ms. IsNonDecreasingBy (λ m. m.extent.start) ms.items) }
 {
     let mut members = members_in_order(alloc, extents)?;
-    members.sort_unstable_by_key(|member| member.extent.start);
+    sort_by_start(&mut members);
     Ok(members)
+}
+
+/// How many extents at the front of a list may be anywhere, as a file's header and its tables are.
+const ANYWHERE: usize = 3;
+
+/// Sorts members by start. If all but the first few ascend, the stable sort is linear; in any other
+/// order it is the slower one. It takes a buffer, so the other one sorts if memory for that is refused.
+fn sort_by_start(members: &mut Vec<Member>)
+    ensures permutation { IsPermutation members.old.items members.new.items }
+    ensures ascending { IsNonDecreasingBy (λ m. m.extent.start) members.new.items }
+{
+    let is_nearly_sorted = members.len() > ANYWHERE
+        && members[ANYWHERE..].is_sorted_by_key(|member| member.extent.start);
+    if is_nearly_sorted && members.sort_by_key(|member| member.extent.start).is_ok() {
+        return;
+    }
+    members.sort_unstable_by_key(|member| member.extent.start);
 }
 
 /// The extents that hold a byte, in the order of the list.

@@ -1,5 +1,4 @@
-use Rattle.std.proofs.Common.{rules}
-use Rattle.std.proofs.lemmas.List.Sorted.{IsNonDecreasingBy-from_sort_by_key, IsPermutation-map}
+use Rattle.std.proofs.lemmas.List.Sorted.{IsPermutation-map}
 use Rattle.elf_extent.specs.declared.extent.Extent.{Extent}
 use Rattle.elf_extent.specs.declared.members.Member.{Member}
 use Rattle.elf_extent.proofs.MembersLemmas.{members_permuted}
@@ -7,14 +6,9 @@ use Rattle.elf_extent.proofs.members.members_by_start.Goals as goal
 
 pub returns-clause-members : goal.returns-clause-members
 returns-clause-members c =
-    members_permuted _ _ _ _ c.sort_unstable_by_key.ensures.permutation c.in_ok-members.ensures.members
+    members_permuted _ _ _ _ c.sort_by_start.ensures.permutation c.in_ok-members.ensures.members
 
 pub returns-clause-held : goal.returns-clause-held
 returns-clause-held c =
     let extent : Member → Extent = λ m. m.extent in
-    rw c.in_ok-members.ensures.held at (IsPermutation-map extent _ _ c.sort_unstable_by_key.ensures.permutation)
-
-pub returns-clause-ascending : goal.returns-clause-ascending
-returns-clause-ascending c =
-    IsNonDecreasingBy-from_sort_by_key (λ (m : Member). m.extent.start) _
-    c.sort_unstable_by_key.ensures.sorted (λ a r q k. search rules)
+    rw c.in_ok-members.ensures.held at (IsPermutation-map extent _ _ c.sort_by_start.ensures.permutation)
