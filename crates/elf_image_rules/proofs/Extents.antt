@@ -1,5 +1,5 @@
 -- The list of a file's extents, and the searches over it for a byte that two of them hold.
-use Rattle.std.proofs.Common.{◌≡◌, ℕ, suc, ◌+◌, ◌-◌, ◌<◌, ◌≤◌, ◌⊎◌, min, Option, None, Some, List, length, get_or, inl, inr, refl, sym, ◌∙◌, ap, subst, arith}
+use Rattle.std.proofs.Common.{◌≡◌, ℕ, suc, ◌+◌, ◌-◌, ◌<◌, ◌≤◌, ◌⊎◌, min, Option, None, Some, List, length, get_or, inl, inr, sym, ◌∙◌, ap, subst, arith}
 use Rattle.std.proofs.Math.Nat.{le-min, min-le_left, min-le_right}
 use Rattle.std.specs.List.{slice_get}
 use Rattle.std.proofs.lemmas.Bool.{cases_lt}
@@ -11,7 +11,7 @@ use Rattle.elf_extent.specs.declared.extent.Extent.{Extent}
 use Rattle.elf_extent.specs.Extent.{Has, HasAt, Doubly}
 use Rattle.elf_extent.specs.Least.{IsLowest, lower_of}
 use Rattle.elf_extent.proofs.Public.{IsLowest-same, IsLowest-lower}
-use Rattle.elf_image_rules.specs.OverlapRule.{DoublyBelow, ExtentsAscend, SharedBelow, contents, extents}
+use Rattle.elf_image_rules.specs.OverlapRule.{DoublyBelow, ExtentsAscend, LieBetween, LieOutside, SharedBelow, contents, extents}
 use Rattle.elf_image_rules.specs.declared.file_extents.FileExtents.{FileExtents}
 use Rattle.elf_image_rules.specs.FileExtents.{file_extents}
 use Rattle.elf_image_rules.specs.JudgedRecords.{file_of}
@@ -26,14 +26,17 @@ unfolding extents
 length-extents h n m s =
     let e = length-map-range_with_len (λ i. content_extent (s i)) 0 n in omega arith
 
--- the header and the tables are among the extents that are read from a file
-pub three_first : (f : FileExtents) → 3 ≤ length (file_extents f)
+-- of a file they are three more than its sections
+pub length-file_extents : (f : FileExtents) → length (file_extents f) ≡ 3 + (file_counts (file_of f.records)).sections
 unfolding file_extents
-three_first f =
+length-file_extents f =
     let b = file_of f.records in
     let c = file_counts b in
-    let long = length-extents (header b) c.sections c.segments (sections b (header b)) in
-    omega arith
+    length-extents (header b) c.sections c.segments (sections b (header b))
+
+-- the header and the tables are among the extents that are read from a file
+pub three_first : (f : FileExtents) → 3 ≤ length (file_extents f)
+three_first f = let long = length-file_extents f in omega arith
 
 -- from index 3 on they are the contents
 pub content_extent_at : (h : Ehdr) (n m : ℕ) (s : ℕ → Shdr) (i : ℕ) → 3 ≤ i → i < 3 + n →
@@ -143,66 +146,37 @@ doubly_ascending es limit found ascend lowest = doubly_below es limit found apar
       let behind = ascend i j a e high lt within at_i at_j some also in
       omega arith
 
--- the walk over the contents: those below index k ascend, none of them ends behind `last`, and `last` is one of them that is
--- not empty, or holds no offset at all
-pub record HasAscended (es : List Extent) (from k : ℕ) (last : Extent) : Type 0 where
+-- The walk over the contents: those below index k ascend, and none of them starts before `first` or ends after `last`. `last` is one of
+-- them that is not empty, or holds no offset at all.
+pub record HasAscended (es : List Extent) (from k : ℕ) (first last : Extent) : Type 0 where
   pub ascending : ExtentsAscend es from k
-  pub behind : (i : ℕ) (a : Extent) → from ≤ i → i < k → slice_get es i ≡ Some a → 0 < a.len →
+  pub least : (i : ℕ) (a : Extent) → from ≤ i → i < k → slice_get es i ≡ Some a → 0 < a.len → first.start ≤ a.start
+  pub most : (i : ℕ) (a : Extent) → from ≤ i → i < k → slice_get es i ≡ Some a → 0 < a.len →
       a.start + a.len ≤ last.start + last.len
   pub held : 0 < last.start + last.len → (i : ℕ) × (from ≤ i) × (i < k) × (slice_get es i ≡ Some last) × (0 < last.len)
 
--- what is known of the member at k holds of the one that was read there
-at_read : (es : List Extent) (P : Extent → Type 0) (i k : ℕ) (a e : Extent) → i ≡ k → slice_get es k ≡ Some e →
-    slice_get es i ≡ Some a → P e → P a
-at_read es P i k a e place read at holds =
-    let there : slice_get es k ≡ Some a = subst (λ (n : ℕ). slice_get es n ≡ Some a) place at in
-    let same : e ≡ a = (let both : Some e ≡ Some a = sym read ∙ there in cc) in
-    subst P same holds
+-- where all others ascend, and the first three lie outside of them, the search over these three is enough
+pub doubly_outside : (es : List Extent) (first last : Extent) (found : Option ℕ) → 3 ≤ length es →
+    ExtentsAscend es 3 (length es) → LieBetween es 3 first last → LieOutside es 3 first last →
+    IsLowest (DoublyBelow es 3 3) found → IsLowest (Doubly es) found
+doubly_outside es first last found three ascend inside outside lowest =
+    doubly_ascending es 3 found ascend (IsLowest-same _ _ found to back lowest) where
+      to : (x : ℕ) → DoublyBelow es 3 3 x → DoublyBelow es 3 (length es) x
+      to x (i, j, lt, low, high, one, other) = (i, j, lt, low, omega arith, one, other)
 
--- past an empty member
-pub walk_past : (es : List Extent) (from k : ℕ) (last e : Extent) → slice_get es k ≡ Some e → (0 < e.len → ⊥) →
-    HasAscended es from k last → HasAscended es from (k + 1) last
-walk_past es from k last e read empty walk = record {
-  ascending = λ i j a b low lt below at_i at_j some_i some_j. elim (cases_lt j k) [
-    | inl earlier ↦ walk.ascending i j a b low lt earlier at_i at_j some_i some_j
-    | inr here ↦ absurd (at_read es (λ d. 0 < d.len → ⊥) j k b e (omega arith) read at_j empty some_j)
-  ];
-  behind = λ i a low below at some. elim (cases_lt i k) [
-    | inl earlier ↦ walk.behind i a low earlier at some
-    | inr here ↦ absurd (at_read es (λ d. 0 < d.len → ⊥) i k a e (omega arith) read at empty some)
-  ];
-  held = λ some. (let (i, low, below, at, has) = walk.held some in (i, low, omega arith, at, has));
-}
+      apart : (i j x : ℕ) → i < 3 → 3 ≤ j → HasAt es i x → HasAt es j x → ⊥
+      apart i j x low high (a, at, has) other =
+          let (from, to_end) = inside j x high other in
+          elim (outside i a low at) [
+            | inl below ↦ omega arith
+            | inr above ↦ omega arith
+          ]
 
--- to a member that begins behind the last
-pub walk_on : (es : List Extent) (from k : ℕ) (last e : Extent) → from ≤ k → slice_get es k ≡ Some e → 0 < e.len →
-    last.start + last.len ≤ e.start → HasAscended es from k last → HasAscended es from (k + 1) e
-walk_on es from k last e under read has later walk = record {
-  ascending = λ i j a b low lt below at_i at_j some_i some_j. elim (cases_lt j k) [
-    | inl earlier ↦ walk.ascending i j a b low lt earlier at_i at_j some_i some_j
-    | inr here ↦
-        let end = walk.behind i a low (omega arith) at_i some_i in
-        at_read es (λ d. a.start + a.len ≤ d.start) j k b e (omega arith) read at_j (omega arith)
-  ];
-  behind = λ i a low below at some. elim (cases_lt i k) [
-    | inl earlier ↦ (let end = walk.behind i a low earlier at some in omega arith)
-    | inr here ↦ at_read es (λ d. d.start + d.len ≤ e.start + e.len) i k a e (omega arith) read at (omega arith)
-  ];
-  held = λ some. (k, under, omega arith, read, has);
-}
-
--- a search over the first members that goes on past an empty one
-lower_of-none : (l : Option ℕ) → lower_of l None ≡ l
-lower_of-none None = refl
-lower_of-none (Some x) = refl
-
-pub doubly_past : (es : List Extent) (limit j : ℕ) (e : Extent) (l : Option ℕ) → slice_get es j ≡ Some e → (0 < e.len → ⊥) →
-    IsLowest (DoublyBelow es limit j) l → IsLowest (DoublyBelow es limit (j + 1)) l
-doubly_past es limit j e l read empty before =
-    subst (IsLowest (DoublyBelow es limit (j + 1))) (lower_of-none l)
-    (doubly_more es limit j l None before (λ x (i, lt, one, other).
-    let has = has_read es j x e read other in
-    absurd (empty (omega arith))))
+      back : (x : ℕ) → DoublyBelow es 3 (length es) x → DoublyBelow es 3 3 x
+      back x (i, j, lt, low, high, one, other) = elim (cases_lt j 3) [
+        | inl early ↦ (i, j, lt, low, early, one, other)
+        | inr late ↦ absurd (apart i j x low late one other)
+      ]
 
 -- the search over the first three members, one by one
 pub shared_with_three : (es : List Extent) (j : ℕ) (a b c e : Extent) (r s t : Option ℕ) →

@@ -1,6 +1,6 @@
 -- Rule 33: no byte of the file belongs to two of its parts.
 -- (gABI chapter 4, Sections: "Sections in a file may not overlap".)
-use Rattle.std.specs.Prelude.{◌≡◌, ℕ, ◌*◌, ◌+◌, ◌<◌, ◌≤◌, Option, None, Some, List, [], ◌∷◌, map, slice_get}
+use Rattle.std.specs.Prelude.{◌≡◌, ℕ, ◌*◌, ◌+◌, ◌<◌, ◌≤◌, ◌⊎◌, Option, None, Some, List, [], ◌∷◌, map, slice_get}
 use Rattle.std.specs.List.{range_with_len}
 use Rattle.elf_field.specs.Abi.{EHDR_SIZE, PHDR_SIZE, SHDR_SIZE}
 use Rattle.elf_field.specs.declared.ehdr.Ehdr.{Ehdr}
@@ -48,3 +48,15 @@ DoublyBelow es limit count x = (i j : ℕ) × (i < j) × (i < limit) × (j < cou
 abbrev pub ExtentsAscend : List Extent → ℕ → ℕ → Type 0
 ExtentsAscend es from count = (i j : ℕ) (a e : Extent) → from ≤ i → i < j → j < count →
     slice_get es i ≡ Some a → slice_get es j ≡ Some e → 0 < a.len → 0 < e.len → a.start + a.len ≤ e.start
+
+-- each byte of the extents from index `from` on is at or after the start of `first`, and before the end of `last`
+abbrev pub LieBetween : List Extent → ℕ → Extent → Extent → Type 0
+LieBetween es from first last = (i x : ℕ) → from ≤ i → HasAt es i x → (first.start ≤ x) × (x < last.start + last.len)
+
+-- the extent ends before `first` starts, or starts after `last` ends
+abbrev pub IsOutside : Extent → Extent → Extent → Type 0
+IsOutside first last e = (e.start + e.len ≤ first.start) ⊎ (last.start + last.len ≤ e.start)
+
+-- each of the first `count` extents ends before `first` starts, or starts after `last` ends
+abbrev pub LieOutside : List Extent → ℕ → Extent → Extent → Type 0
+LieOutside es count first last = (i : ℕ) (e : Extent) → i < count → slice_get es i ≡ Some e → IsOutside first last e

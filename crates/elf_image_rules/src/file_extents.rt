@@ -1,10 +1,10 @@
 //! The extents of a file, read as they are asked for: no memory is taken.
-ghost use Rattle.std.specs.Prelude.{◌≡◌, ◌≤◌, ◌<◌, ◌+◌, ◌↔◌, IsTrue, IfOk, OnErr, Some, length, slice_get};
+ghost use Rattle.std.specs.Prelude.{◌≡◌, ◌≤◌, ◌<◌, ◌+◌, ◌↔◌, IsFalse, IsTrue, IfOk, OnErr, Some, length, slice_get};
 ghost use Rattle.elf_extent.specs.Extent.{Doubly, Has};
 ghost use Rattle.elf_extent.specs.Least.{IsLowest, lower_of};
 ghost use Rattle.elf_image_rules.specs.ImageRules.{extents_of_file};
 ghost use Rattle.elf_image_rules.specs.JudgedRecords.{file_of};
-ghost use Rattle.elf_image_rules.specs.OverlapRule.{DoublyBelow, ExtentsAscend, SharedBelow};
+ghost use Rattle.elf_image_rules.specs.OverlapRule.{DoublyBelow, ExtentsAscend, IsOutside, LieBetween, LieOutside, SharedBelow};
 
 use crate::content::extent_of_content;
 use crate::judged_records::JudgedRecords;
@@ -56,12 +56,20 @@ impl<'a> FileExtents<'a> {
                 start: self.records.header().e_phoff,
                 len: PHDR_SIZE * self.records.segment_count(),
             },
-            _ => extent_of_content(&self.records.section(index - FileExtents::BEFORE_CONTENTS)),
+            _ => self.content(index - FileExtents::BEFORE_CONTENTS),
         }
     }
 
+    /// The content of this section.
+    fn content(&self, section: u64) -> Extent
+        requires { section + 3 < length (file_extents self.now) }
+        ensures { slice_get (file_extents self.now) (section + 3) ≡ Some result }
+    {
+        extent_of_content(&self.records.section(section))
+    }
+
     /// The lowest byte that two of them hold. Where the contents stand in the order of their section
-    /// headers one pass settles it; else every two are compared.
+    /// headers a pass or two settle it; else every two are compared.
     pub fn lowest_shared_byte(&self) -> Option<u64>
         ensures { IsLowest (Doubly (file_extents self.now)) result }
     {
@@ -72,7 +80,7 @@ impl<'a> FileExtents<'a> {
     }
 
     /// The lowest byte that two of them hold. Where the contents stand in the order of their section
-    /// headers one pass settles it; else they are sorted, which takes memory. Assemblers don't keep
+    /// headers a pass or two settle it; else they are sorted, which takes memory. Assemblers don't keep
     /// that order: they lay a table of relocations behind the tables of symbols and names, and give
     /// it the index behind its section's.
     pub fn lowest_shared_byte_by_sorting(&self, alloc: Global) -> Result<Option<u64>, OutOfMemory>
@@ -98,26 +106,65 @@ impl<'a> FileExtents<'a> {
         Ok(extents)
     }
 
-    /// The lowest byte that two of them hold, where the contents that are not empty stand in the order
-    /// of their section headers, each behind the ones before it: these share no byte with one another,
-    /// but may with the header and the tables.
+    /// The lowest byte that two of them hold, if the contents that are not empty are in the order of
+    /// their section headers, each after the ones before it: these share no byte with one another, but
+    /// may share one with the header or a table. Mostly the header and both tables are before the first
+    /// content or after the last one. Then no content is compared with them.
     fn lowest_of_ascending(&self) -> Result<Option<u64>, NotAscending>
         ensures lowest { IfOk result (IsLowest (Doubly (file_extents self.now))) }
         ensures otherwise { let es = file_extents self.now in OnErr result (¬ ExtentsAscend es 3 (length es)) }
     {
-        let mut lowest = self.lowest_double(FileExtents::BEFORE_CONTENTS);
-        let mut last = Extent { start: 0, len: 0 };
-        for index in FileExtents::BEFORE_CONTENTS..self.len() {
-            let extent = self.at(index);
+        let hull = self.hull_of_ascending()?;
+        if self.meets_hull(&hull) {
+            Ok(self.lowest_with_contents())
+        } else {
+            Ok(self.lowest_double(FileExtents::BEFORE_CONTENTS))
+        }
+    }
+
+    /// The first and the last content that hold a byte, if those that hold one are in the order of their
+    /// section headers, each after the ones before it.
+    fn hull_of_ascending(&self) -> Result<Hull, NotAscending>
+        ensures ascending { let es = file_extents self.now in IfOk result (λ hull. ExtentsAscend es 3 (length es)) }
+        ensures enclosed { IfOk result (λ hull. LieBetween (file_extents self.now) 3 hull.first hull.last) }
+        ensures otherwise { let es = file_extents self.now in OnErr result (¬ ExtentsAscend es 3 (length es)) }
+    {
+        let mut first = Extent { start: 0, len: 0 };
+        let mut last = first;
+        for section in 0..self.records.section_count() {
+            let extent = self.content(section);
             if extent.len > 0 {
                 if begins_before_end(&extent, &last) {
                     return Err(NotAscending);
                 }
-                lowest = lower(lowest, self.lowest_in_tables(index, &extent));
+                if last.len == 0 {
+                    first = extent;
+                }
                 last = extent;
             }
         }
-        Ok(lowest)
+        Ok(Hull { first, last })
+    }
+
+    /// Whether the header or a table reaches into the hull.
+    fn meets_hull(&self, hull: &Hull) -> bool
+        ensures { IsFalse result → LieOutside (file_extents self.now) 3 hull.now.first hull.now.last }
+    {
+        reaches_into(&self.at(0), hull)
+            || reaches_into(&self.at(1), hull)
+            || reaches_into(&self.at(2), hull)
+    }
+
+    /// The lowest byte that the header or a table shares with another of the extents.
+    fn lowest_with_contents(&self) -> Option<u64>
+        ensures { let es = file_extents self.now in IsLowest (DoublyBelow es 3 (length es)) result }
+    {
+        let mut lowest = self.lowest_double(FileExtents::BEFORE_CONTENTS);
+        for index in FileExtents::BEFORE_CONTENTS..self.len() {
+            let extent = self.at(index);
+            lowest = lower(lowest, self.lowest_in_tables(index, &extent));
+        }
+        lowest
     }
 
     /// The lowest byte that the content of this index shares with the header or a table.
@@ -157,8 +204,23 @@ impl<'a> FileExtents<'a> {
     }
 }
 
-/// A content stands before one of a lower index.
+/// A content begins before one of a lower index ends.
 struct NotAscending;
+
+/// The first and the last content that hold a byte, or two empty extents if no content holds one. Each
+/// byte of a content is between the start of the first one and the end of the last one.
+#[derive(Drop)]
+struct Hull {
+    first: Extent,
+    last: Extent,
+}
+
+/// Whether an extent begins before the hull ends, and ends after the hull begins.
+fn reaches_into(extent: &Extent, hull: &Hull) -> bool
+    ensures { IsFalse result → IsOutside hull.now.first hull.now.last extent.now }
+{
+    begins_before_end(extent, &hull.last) && begins_before_end(&hull.first, extent)
+}
 
 /// Whether an extent begins before another one ends.
 fn begins_before_end(extent: &Extent, other: &Extent) -> bool

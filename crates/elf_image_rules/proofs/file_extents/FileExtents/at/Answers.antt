@@ -1,15 +1,13 @@
 -- By the index: header, section table, program table, and from 3 on the content of section header `index - 3`.
-use Rattle.std.proofs.Common.{◌≡◌, ℕ, ◌-◌, ◌*◌, Some, refl, sym, ap, ap₂, subst, ◌∙◌, arith}
+use Rattle.std.proofs.Common.{◌≡◌, ℕ, ◌+◌, ◌-◌, ◌*◌, Some, refl, sym, ap, ap₂, subst, arith}
 use Rattle.std.specs.List.{slice_get}
 use Rattle.elf_field.specs.Abi.{EHDR_SIZE, PHDR_SIZE, SHDR_SIZE}
 use Rattle.elf_extent.specs.declared.extent.Extent.{Extent}
 use Rattle.elf_field.specs.declared.ehdr.Ehdr.{Ehdr}
-use Rattle.elf_field.specs.declared.shdr.Shdr.{Shdr}
 use Rattle.elf_image_rules.specs.FileExtents.{file_extents}
 use Rattle.elf_image_rules.specs.OverlapRule.{extents}
 use Rattle.elf_image_rules.specs.JudgedRecords.{file_of}
-use Rattle.elf_image_rules.specs.Tables.{content_extent, file_counts, header, sections}
-use Rattle.elf_image_rules.proofs.Extents.{length-extents, content_extent_at}
+use Rattle.elf_image_rules.specs.Tables.{file_counts, header}
 use Rattle.elf_image_rules.proofs.file_extents.FileExtents.at.Goals as goal
 
 pub returns-in-0 : goal.returns-in-0
@@ -36,23 +34,7 @@ returns-in-2 c =
     ap₂ (λ (h : Ehdr) (m : ℕ). record { start = h.e_phoff; len = PHDR_SIZE * m }) c.header-in-2.ensures c.segment_count.ensures.count in
     subst (λ (i : ℕ). slice_get (file_extents c.args.self.now) i ≡ Some e) (sym c.in-2.is) (ap Some (sym same))
 
-pub section-requires : goal.section-requires
-unfolding file_extents
-section-requires c =
-    let b = file_of c.args.self.now.records in
-    let n = file_counts b in
-    let long = length-extents (header b) n.sections n.segments (sections b (header b)) in
-    let within = c.requires in
-    omega arith
-
 pub returns-in_default : goal.returns-in_default
-unfolding file_extents
 returns-in_default c =
-    let b = file_of c.args.self.now.records in
-    let s = sections b (header b) in
-    let n = file_counts b in
-    let long = length-extents (header b) n.sections n.segments s in
-    let content = content_extent_at (header b) n.sections n.segments s c.args.index (omega arith) (omega arith) in
-    let read : content_extent (s (c.args.index - 3)) ≡ c.extent_of_content.result =
-    ap (λ (entry : Shdr). content_extent entry) (sym c.section.ensures) ∙ sym c.extent_of_content.ensures in
-    content ∙ ap Some read
+    let place : c.args.index - 3 + 3 ≡ c.args.index = omega arith in
+    subst (λ (i : ℕ). slice_get (file_extents c.args.self.now) i ≡ Some c.content.result) place c.content.ensures

@@ -1,8 +1,0 @@
-use Rattle.elf_extent.specs.Least.{IsLowest}
-use Rattle.elf_image_rules.specs.FileExtents.{file_extents}
-use Rattle.elf_image_rules.specs.OverlapRule.{DoublyBelow}
-use Rattle.elf_image_rules.proofs.Extents.{HasAscended}
-use Rattle.elf_image_rules.proofs.file_extents.FileExtents.lowest_of_ascending.Given as goal
-
-abbrev pub invariant-loop-index : goal.invariant-loop-index
-invariant-loop-index l = HasAscended (file_extents l.self) 3 l.index l.last × IsLowest (DoublyBelow (file_extents l.self) 3 l.index) l.lowest
