@@ -70,6 +70,11 @@ own_within [] i k own = absurd (cc)
 own_within (x ∷ xs) zero k own = omega arith
 own_within (x ∷ xs) (suc i) k own = (let within = own_within xs i k own in omega arith)
 
+pub own_named : (ls : List Large) (i k : ℕ) (l : Large) → is_of k (slice_get ls i) ≡ true → l ≡ get_or ls i l → l.name ≡ k
+own_named ls i k l own read =
+    let some = slice_get_read ls (length ls) i l refl (own_within ls i k own) read in
+    eqb-true l.name k (subst (λ (o : Option Large). is_of k o ≡ true) some own)
+
 by_own : (k : ℕ) (found : Option Large) (l : Large) (small : Known) → found ≡ Some l → is_of k found ≡ true → known_by k found small ≡ l.known
 by_own k found l small is own = (let named = subst (λ (o : Option Large). is_of k o ≡ true) is own in rw (is, named) refl)
 
@@ -108,3 +113,9 @@ set_own ls rs k row l name within at own =
     (λ j r other. changed_other ls row.large l j r.large (small_known r) (λ equal. other (equal ∙ name)) named)
     (subst (λ (n : ℕ). known_by n (slice_get (set ls row.large l) row.large) (small_known row) ≡ l.known) name
     (changed_own ls row.large l (small_known row) (own_within ls row.large k own))))
+
+pub set_small : (ls : List Large) (rs : List Row) (k : ℕ) (row now : Row) → now.large ≡ row.large → k < length rs → row ≡ get_or rs k row →
+    is_of k (slice_get ls row.large) ≡ false → known_from ls 0 (set rs k now) ≡ set (known_from ls 0 rs) k (small_known now)
+set_small ls rs k row now large within at other =
+    from_set ls ls 0 k k rs now (small_known now) (omega arith) within (λ j r apart. refl)
+    (by_row k (slice_get ls now.large) (small_known now) (subst (λ (n : ℕ). is_of k (slice_get ls n) ≡ false) (sym large) other))

@@ -1,11 +1,11 @@
 -- What is known of each name, symbol by symbol and file by file.
-use Rattle.std.proofs.Common.{◌≡◌, ◌≢◌, ◌↔◌, ℕ, ◌+◌, ◌<◌, ◌≤◌, ◌⊎◌, Bool, true, false, List, [], ◌∷◌, ◌++◌, get_or, length, map, set, inl, inr, refl, sym, ◌∙◌, ap, subst, arith, length-append}
+use Rattle.std.proofs.Common.{◌≡◌, ◌≢◌, ◌↔◌, ℕ, ◌+◌, ◌<◌, ◌≤◌, ◌⊎◌, Bool, true, false, List, [], ◌∷◌, ◌++◌, length, map, set, inl, inr, refl, sym, ◌∙◌, ap, subst, arith, length-append}
 use Rattle.std.specs.Prelude.{if◌then◌else◌, Option, None, Some, MatchOption}
 use Rattle.std.specs.Str.{bytes_eq}
 use Rattle.std.proofs.lemmas.Bool.{cases_eq, cases_lt}
 use Rattle.std.proofs.lemmas.List.{get_or_push, get_or-set_other, get_or-set_same, length-map, length-set, map-append}
 use Rattle.std.proofs.Math.ListN.{get_or-append}
-use Rattle.std.proofs.Math.Seq.{map-set_same, set-append_seam}
+use Rattle.std.proofs.Math.Seq.{map-set_same}
 use Rattle.elf_field.specs.Abi.{STB_GLOBAL, STB_LOCAL, STB_WEAK}
 use Rattle.elf_object_type.specs.Object.{ObjectValue, binding}
 use Rattle.elf_link_files.specs.declared.site.Site.{Site}
@@ -21,7 +21,7 @@ use Rattle.elf_link_names.specs.declared.known_names.Known.{Known}
 use Rattle.elf_link_files.specs.declared.ids.SymbolId.{SymbolId}
 use Rattle.elf_link_names.specs.Binds.{IsLargest, IsUnbound, commons, entries, strong, weak}
 use Rattle.elf_link_names.specs.Listing.{IsFirstEntry, first_entries}
-use Rattle.elf_link_names.specs.KnownNames.{AreAllKnown, AreKnownBefore, IsBest, IsBlock, IsCommonBest, IsFirstBefore, IsKnownBefore, IsKnownWhole, IsLargerOf, IsWholeBest, IsWholeBlock, NoneBefore, SomeBefore, first_or, first_site, known_at, no_known, id_in, id_site}
+use Rattle.elf_link_names.specs.KnownNames.{AreAllKnown, AreKnownBefore, IsBest, IsBlock, IsCommonBest, IsFirstBefore, IsKnownBefore, IsKnownWhole, IsLargerOf, IsWholeBest, IsWholeBlock, NoneBefore, SomeBefore, first_or, first_site, known_at, marked_known, no_known, id_in, id_site}
 use Rattle.elf_link_names.specs.Naming.{ArePositionsOf}
 use Rattle.elf_link_names.proofs.Naming.{apart_names, entry_there, entry_told, positions_more}
 
@@ -175,6 +175,16 @@ known_other fs name f i k other is = record {
   not_weak = found_past fs (IsNotWeak fs name) f i k.not_weak (λ here. other here.0) is.not_weak;
 }
 
+pub known_reference : (fs : List ObjectValue) (name : List ℕ) (f i : ℕ) (k : Known) → f < length fs → i < length (object_at fs f).symbols →
+    (IsCommon fs name f i → ⊥) → (IsStrong fs name f i → ⊥) → IsNotWeak fs name f i → IsKnownBefore fs name f i k →
+    IsKnownBefore fs name f (i + 1) (marked_known k)
+known_reference fs name f i k file index no_common no_strong here is = record {
+  strong = best_past fs (IsStrong fs name) f i k.strong no_strong is.strong;
+  weak = best_past fs (IsWeak fs name) f i k.weak (λ weak. here.1 weak.1) is.weak;
+  common = block_past fs name f i k.common no_common is.common;
+  not_weak = found_here fs (IsNotWeak fs name) f i file index here;
+}
+
 -- nothing is known of a name without entries
 pub known_none : (fs : List ObjectValue) (name : List ℕ) (f i : ℕ) → NoneBefore (entries fs name) f i →
     IsKnownBefore fs name f i (record { first = id_in f i; strong = None; weak = None; common = None; not_weak = false })
@@ -293,14 +303,6 @@ names_new fs f i old now ks known file index not_local added missing first next 
             rw (end, sites, last, get_or_push ks known no_known (length ks) refl) next)
       ];
     }
-
--- ---- an item that was pushed, and is changed in place
-
-pub pushed_item : {A : Type 0} (xs items : List A) (x y : A) (n : ℕ) → items ≡ xs ++ x ∷ [] → n ≡ length xs → y ≡ get_or items n y → y ≡ x
-pushed_item xs items x y n is at read = read ∙ ap (λ l. get_or l n y) is ∙ get_or_push xs x y n (sym at)
-
-pub pushed_set : {A : Type 0} (xs items : List A) (x y : A) (n : ℕ) → items ≡ xs ++ x ∷ [] → n ≡ length xs → set items n y ≡ xs ++ y ∷ []
-pushed_set xs items x y n is at = rw (is, at) (set-append_seam xs x [] y)
 
 -- ---- the end of a file
 

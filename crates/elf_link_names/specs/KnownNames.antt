@@ -1,6 +1,6 @@
 -- What is known of each name on the way through all symbols: the first definition of each binding, the commons, and whether an
 -- entry that isn't WEAK stands.
-use Rattle.std.specs.Prelude.{◌≡◌, ◌↔◌, ℕ, ◌<◌, ◌≤◌, ◌⊎◌, if◌then◌else◌, Bool, true, false, Option, None, Some, MatchOption, List, get_or, length, map}
+use Rattle.std.specs.Prelude.{◌≡◌, ◌↔◌, ℕ, ◌<◌, ◌≤◌, ◌⊎◌, if◌then◌else◌, Bool, true, false, Option, None, Some, MatchOption, List, get_or, length, map, set}
 use Rattle.elf_object_type.specs.Object.{ObjectValue}
 use Rattle.elf_link_files.specs.declared.site.Site.{Site}
 use Rattle.elf_link_files.specs.Files.{IsEarlier}
@@ -71,9 +71,20 @@ no_known = record { first = id_in 0 0; strong = None; weak = None; common = None
 abbrev pub known_at : List Known → ℕ → Known
 known_at ks k = get_or ks k no_known
 
+-- the same, where an entry that isn't WEAK stands
+abbrev pub marked_known : Known → Known
+marked_known k = record { first = k.first; strong = k.strong; weak = k.weak; common = k.common; not_weak = true }
+
 -- the first entry of the name
 abbrev pub first_site : Known → Site
 first_site k = id_site k.first
+
+-- name k alone is known otherwise: its first entry stays, and the others are those before position i of file f
+pub record IsNotedAt (fs : List ObjectValue) (name : List ℕ) (f i k : ℕ) (old new : List Known) : Type 0 where
+  pub known : Known
+  pub set : new ≡ set old k known
+  pub first : known.first ≡ (known_at old k).first
+  pub noted : IsKnownBefore fs name f i known
 
 -- what is known of each name before position i of file f, and the position of each name there
 pub record AreKnownBefore (fs : List ObjectValue) (f i : ℕ) (position : List ℕ → Option ℕ) (ks : List Known) : Type 0 where

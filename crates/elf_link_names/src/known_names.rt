@@ -5,12 +5,12 @@ ghost use Rattle.elf_object_type.specs.ObjectView.{symbol_value};
 ghost use Rattle.elf_link_files.specs.Files.{object_at};
 ghost use Rattle.elf_link_files.specs.Ids.{symbol_with};
 ghost use Rattle.elf_link_names.specs.Binds.{not_weak as not_weak_row};
-ghost use Rattle.elf_link_names.specs.KnownNames.{AreAllKnown, AreKnownBefore, IsBlock, IsCommonBest, IsKnownBefore, IsLargerOf, SomeBefore, first_or};
+ghost use Rattle.elf_link_names.specs.KnownNames.{AreAllKnown, AreKnownBefore, IsBlock, IsCommonBest, IsKnownBefore, IsLargerOf, IsNotedAt, SomeBefore, first_or, known_at};
 ghost use Rattle.elf_link_names.specs.Lookups.{IsSymbolLookup};
 ghost use Rattle.elf_link_names.specs.NameNumbers.{AreNameNumbers, IsNameNumber, IsNumberRow, KeepsPositions};
 ghost use Rattle.elf_link_positions.specs.Slots.{name_position};
 ghost use Rattle.elf_field.specs.Abi.{STB_LOCAL};
-ghost use Rattle.elf_link_files.specs.Symbols.{IsCommon};
+ghost use Rattle.elf_link_files.specs.Symbols.{IsCommon, IsNotWeak, IsStrong};
 ghost use Rattle.elf_object_type.specs.Object.{binding as binding_of};
 
 use crate::known_table::KnownTable;
@@ -128,6 +128,34 @@ fn note_symbol(symbol: &InputSymbol<'_, '_, '_>, known: &mut Known)
     note_not_weak(symbol, &mut known.not_weak);
 }
 
+/// Whether a symbol is an entry that is not weak, and neither a common nor a definition. It changes one mark of what is known of its name.
+fn is_reference(symbol: &InputSymbol<'_, '_, '_>) -> bool
+    ensures common { IsTrue result → IsCommon symbol.now.inputs.now (symbol_with symbol.now.inputs.now symbol.now.id).name symbol.now.id.file symbol.now.id.index → ⊥ }
+    ensures strong { IsTrue result → IsStrong symbol.now.inputs.now (symbol_with symbol.now.inputs.now symbol.now.id).name symbol.now.id.file symbol.now.id.index → ⊥ }
+    ensures not_weak { IsTrue result → IsNotWeak symbol.now.inputs.now (symbol_with symbol.now.inputs.now symbol.now.id).name symbol.now.id.file symbol.now.id.index }
+{
+    symbol.is_not_weak() && !symbol.is_common() && !symbol.is_definition(STB_GLOBAL)
+}
+
+/// Adds a symbol to what is known of its name, which is the one at a position.
+fn note_again(
+    symbol: &InputSymbol<'_, '_, '_>,
+    names: &mut KnownTable,
+    k: usize,
+) -> Result<(), AllocError>
+    requires within { k < length names.old }
+    requires before { IsKnownBefore symbol.now.inputs.now (symbol_with symbol.now.inputs.now symbol.now.id).name symbol.now.id.file symbol.now.id.index (known_at names.old k) }
+    ensures { OnOk result (IsNotedAt symbol.now.inputs.now (symbol_with symbol.now.inputs.now symbol.now.id).name symbol.now.id.file (symbol.now.id.index + 1) k names.old names.new) }
+{
+    if is_reference(symbol) {
+        names.mark(k);
+        return Ok(());
+    }
+    let mut known = names.item(k);
+    note_symbol(symbol, &mut known);
+    names.set(k, known)
+}
+
 /// What is known of a name whose first entry is this symbol, before it is looked at.
 fn unknown(id: SymbolId) -> Known
     ensures { result ≡ record { first = id; strong = None; weak = None; common = None; not_weak = false } }
@@ -169,9 +197,7 @@ fn pass_symbol<'a>(
     let place = names.positions.place_looked_up(lookup, name, next)?;
     match place {
         Some(k) => {
-            let mut known = names.known.item(k);
-            note_symbol(symbol, &mut known);
-            names.known.set(k, known)?;
+            note_again(symbol, &mut names.known, k)?;
             Ok(k)
         }
         None => {

@@ -1,6 +1,6 @@
 //! What is known of each name, in rows of 32 bytes: how long a link of many names takes depends on how much memory it goes through.
 ghost use Rattle.std.specs.Prelude.{◌≡◌, ◌<◌, ◌++◌, ◌∷◌, [], None, Some, IfOk, IfSome, OnOk, if◌then◌else◌, length, set, slice_get};
-ghost use Rattle.elf_link_names.specs.KnownNames.{known_at};
+ghost use Rattle.elf_link_names.specs.KnownNames.{known_at, marked_known};
 ghost use Rattle.elf_link_names.specs.KnownTable.{KeepsOthers, id_of, is_of, known_in, small_known};
 
 use crate::known_names::Known;
@@ -15,7 +15,7 @@ struct SmallId {
     index: u32,
 }
 
-/// What is known of a name, where that is what is known of most: it has no common and not both a global and a weak definition.
+/// What is known of a name, in 32 bytes: it has no common, and no definition or a first one, which is global or weak.
 #[derive(Clone, Copy)]
 struct Row {
     first: SmallId,
@@ -26,15 +26,15 @@ struct Row {
     not_weak: bool,
 }
 
-/// What is known of a name, whatever it is.
+/// What is known of a name that does not fit in its row, with the number of the name.
 #[derive(Clone, Copy)]
 struct Large {
     name: usize,
     known: Known,
 }
 
-/// What is known of each name. To a contract it is the list of that. What does not fit in a row is among `large`, with the number of its
-/// name: a row whose `large` is no position there, or that of another name, holds by itself what is known.
+/// What is known of each name. To a contract it is the list of that. Where it does not fit in the row of a name, it is in `large`, at the
+/// position that the row has. A position past the end, or of an item of another name, means that the row itself holds what is known.
 #[derive(Drop)]
 pub struct KnownTable {
     rows: Vec<Row>,
@@ -192,5 +192,18 @@ impl KnownTable {
         }
         self.rows[k] = row_of(&mut self.large, k, known)?;
         Ok(())
+    }
+    /// Notes that the name at a position has an entry that is not weak. It reads one number of the row and writes one mark, so that the
+    /// waits for memory of many symbols overlap.
+    pub(crate) fn mark(&mut self, k: usize)
+        requires { k < length self.old }
+        ensures { self.new ≡ set self.old k (marked_known (known_at self.old k)) }
+    {
+        let own = self.rows[k].large;
+        if is_own(&self.large, own, k) {
+            self.large[own].known.not_weak = true;
+            return;
+        }
+        self.rows[k].not_weak = true;
     }
 }

@@ -19,8 +19,8 @@ returns-then-is_local-clause-names c =
     names_local s.inputs.now s.id.file s.id.index (name_position c.args.names.now.positions) c.args.names.now.known
     (subst (λ (s : SymbolValue). binding s ≡ STB_LOCAL) c.symbol-own.ensures (c.if-is_local.ensures.0 refl)) c.requires.before
 
-pub returns-in_ok-set-in-Some-clause-names : goal.returns-in_ok-set-in-Some-clause-names
-returns-in_ok-set-in-Some-clause-names c =
+pub returns-in_ok-note_again-in-Some-clause-names : goal.returns-in_ok-note_again-in-Some-clause-names
+returns-in_ok-note_again-in-Some-clause-names c =
     let s = c.args.symbol.now in
     let fs = s.inputs.now in
     let ks = c.args.names.now.known in
@@ -28,13 +28,13 @@ returns-in_ok-set-in-Some-clause-names c =
     let same = ap (λ (s : SymbolValue). s.name) c.symbol-own.ensures in
     let old = name_position c.args.names.now.positions in
     let at = subst (λ (n : List ℕ). old n ≡ Some k) same (sym c.in_ok-place.ensures.old ∙ c.in-Some.is) in
-    rw c.in_ok-set-in-Some.ensures
-    (names_again fs s.id.file s.id.index old (name_position c.place_looked_up.new.self) ks k c.note_symbol.new.known
-    (λ q. rw c.in-Some.is at (c.in_ok-place.ensures.placed q)) at (c.note_symbol.ensures.first ∙ ap (λ (k : Known). k.first) c.item-known.ensures)
-    c.note_symbol.ensures.known c.requires.before)
+    let noted = c.in_ok-note_again-in-Some.ensures in
+    rw noted.set
+    (names_again fs s.id.file s.id.index old (name_position c.place_looked_up.new.self) ks k noted.known
+    (λ q. rw c.in-Some.is at (c.in_ok-place.ensures.placed q)) at noted.first noted.noted c.requires.before)
 
-pub note_symbol-requires-in-None : goal.note_symbol-requires-in-None
-note_symbol-requires-in-None c =
+pub note_symbol-requires : goal.note_symbol-requires
+note_symbol-requires c =
     let s = c.args.symbol.now in
     let fs = s.inputs.now in
     let ks = c.args.names.now.known in
@@ -56,14 +56,14 @@ returns-in_ok-push-in-None-clause-names c =
     let old = name_position c.args.names.now.positions in
     let now = name_position c.place_looked_up.new.self in
     rw c.in_ok-push-in-None.ensures
-    (names_new fs s.id.file s.id.index old now ks c.note_symbol-in-None.new.known s.there.0 s.there.1
+    (names_new fs s.id.file s.id.index old now ks c.note_symbol.new.known s.there.0 s.there.1
     (λ local. (let never : false ≡ true = c.if-is_local.ensures.1 (subst (λ (s : SymbolValue). binding s ≡ STB_LOCAL) (sym c.symbol-own.ensures) local) in cc))
     (subst (λ (n : List ℕ). (q : List ℕ) → now q ≡ cond (bytes_eq n q) (Some (length ks)) (old q)) same
     (subst (λ (m : ℕ). (q : List ℕ) → now q ≡ cond (bytes_eq name q) (Some m) (old q)) c.len-next.ensures
     (λ q. rw c.in-None.is at (c.in_ok-place.ensures.placed q))))
     (subst (λ (n : List ℕ). old n ≡ None) same (sym c.in_ok-place.ensures.old ∙ c.in-None.is))
-    (c.note_symbol-in-None.ensures.first ∙ ap (λ (k : Known). k.first) c.unknown-known.ensures)
-    c.note_symbol-in-None.ensures.known c.requires.before)
+    (c.note_symbol.ensures.first ∙ ap (λ (k : Known). k.first) c.unknown-known.ensures)
+    c.note_symbol.ensures.known c.requires.before)
 
 pub returns-in_ok-push-in-None-clause-kept : goal.returns-in_ok-push-in-None-clause-kept
 returns-in_ok-push-in-None-clause-kept c =
