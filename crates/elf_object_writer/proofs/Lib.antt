@@ -10,6 +10,7 @@ pub mod PlacedSections
 pub mod PlainSections
 pub mod ShortLayout
 pub mod KeptPositions
+pub mod FewSections
 pub mod OwnSections
 pub mod HeaderTable
 pub mod HeaderFields

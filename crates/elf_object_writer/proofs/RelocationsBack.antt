@@ -1,5 +1,5 @@
 -- The relocations that a table of a file lists have the bytes of that table.
-use Rattle.std.proofs.Common.{◌≡◌, ◌∙◌, ◌≤◌, ◌+◌, ◌-◌, ◌*◌, ◌/◌, ◌%◌, ◌^◌, ℕ, zero, suc, Bool, true, false, List, [], ◌∷◌, length, map, take, take_all, refl, sym, ap, arith, zero-add}
+use Rattle.std.proofs.Common.{◌≡◌, ◌∙◌, ◌+◌, ◌-◌, ◌*◌, ◌/◌, ◌%◌, ◌^◌, ℕ, zero, suc, Bool, true, false, List, [], ◌∷◌, length, map, take_all, refl, sym, ap, arith, zero-add}
 use Rattle.std.specs.List.{flat_map, range_with_len}
 use Rattle.elf_field.proofs.RecordTableLaws.{entries_bytes}
 use Rattle.std.proofs.lemmas.Bool.{ne_eqb}

@@ -62,7 +62,9 @@ fn section_names<'a>(alloc: Global, object: &Object<'a>) -> Result<Vec<&'a [u8]>
 pub(crate) fn has_index_table(object: &Object<'_>) -> bool
     ensures { result ≡ has_index_table object.now }
 {
-    has_far_symbol(object.symbols())
+    object.prove_rules();
+    // A symbol lies in one of the sections, so that none is far where these are few.
+    object.sections().len() >= SHN_LORESERVE as usize && has_far_symbol(object.symbols())
 }
 
 fn has_far_symbol(symbols: &[Symbol<'_>]) -> bool

@@ -1,4 +1,3 @@
-use Rattle.std.proofs.Common.{sym}
 use Rattle.elf_object_writer.proofs.RelocationsBack.{relocations_back}
 use Rattle.elf_object_writer.proofs.contents.write_relocations.Goals as goal
 
