@@ -1,8 +1,8 @@
 -- What goes out is the executable of the link: not too long, and as a file an image that loads the memory of the link.
 use Rattle.std.proofs.Common.{ℕ, Option, Ok, Err, List, sym, subst, arith}
 use Rattle.std.specs.Io.KnownBytes.{Appends}
-use Rattle.elf_image_sending.specs.Sending.{StoppedIn, WentOut}
-use Rattle.elf_image_sending.proofs.Public.{stopped_whole}
+use Rattle.elf_image_stream.specs.Chunks.{StoppedIn, WentOut}
+use Rattle.elf_image_stream.proofs.Public.{stopped_whole}
 use Rattle.elf_exec.specs.Executable.{IsExecFile, IsSoundLink}
 use Rattle.elf_exec.specs.ExecWriting.{IsLoadable, WritesExec}
 use Rattle.elf_exec.specs.Pieces.{exec_text}

@@ -3,8 +3,8 @@ use Rattle.std.proofs.Common.{◌≡◌, ◌<◌, ◌+◌, ◌*◌, ℕ, Option,
 use Rattle.std.specs.Prelude.{IfErr}
 use Rattle.std.specs.List.{flat_map, range_with_len}
 use Rattle.std.proofs.lemmas.List.{get_or-map, length-map}
-use Rattle.elf_image_sending.specs.Sending.{Sends, WentOut}
-use Rattle.elf_image_sending.proofs.Public.{sends_behind}
+use Rattle.elf_image_stream.specs.Chunks.{Sends, WentOut}
+use Rattle.elf_image_stream.proofs.Public.{sends_behind}
 use Rattle.elf_image_stream.specs.declared.fault.WriteFault.{WriteFault}
 use Rattle.elf_link_map.proofs.Public.{parts_apart}
 use Rattle.elf_link_map.specs.LinkMap.{LinkMapValue}

@@ -1,6 +1,6 @@
 //! The bytes of the segments, each at its place in the file, with zeros between.
 ghost use Rattle.std.specs.Prelude.{◌≡◌, ◌<◌, length};
-ghost use Rattle.elf_image_sending.specs.Sending.{Sends};
+ghost use Rattle.elf_image_stream.specs.Chunks.{Sends};
 ghost use Rattle.elf_exec.specs.Loads.{loads};
 ghost use Rattle.elf_exec.specs.Pieces.{load_content, load_padding, loads_text};
 
@@ -8,8 +8,7 @@ use crate::load::{Load, file_size};
 use crate::member_pieces::send_output;
 use crate::placed_exec::PlacedExec;
 use crate::placing::table_end;
-use elf_image_sending::{Pieces, send_all, send_zeros};
-use elf_image_stream::WriteFault;
+use elf_image_stream::{Chunks, WriteFault, send_all, send_zeros};
 use elf_link_relocate::Linked;
 use std::io::Write;
 
@@ -30,14 +29,14 @@ struct LoadPieces<'p, 'l, 'm, 'a> {
     placed: &'p PlacedExec<'l, 'm, 'a>,
 }
 
-impl<'p, 'l, 'm, 'a> Pieces for LoadPieces<'p, 'l, 'm, 'a> {
+impl<'p, 'l, 'm, 'a> Chunks for LoadPieces<'p, 'l, 'm, 'a> {
     ghost use Rattle.std.specs.Prelude.{length};
     ghost use Rattle.elf_exec.specs.Loads.{loads};
     ghost use Rattle.elf_exec.specs.Pieces.{load_piece};
 
     ghost count = { λ pieces. length (loads pieces.placed.now.linked.map) };
 
-    ghost piece = { λ pieces. load_piece pieces.placed.now };
+    ghost chunk = { λ pieces. load_piece pieces.placed.now };
 
     fn count(&self) -> usize {
         self.placed.count()

@@ -1,12 +1,11 @@
 //! The bytes of an output section, member by member: the relocated bytes of each at its address, with zeros between.
 ghost use Rattle.std.specs.Prelude.{◌≡◌, ◌<◌, length};
-ghost use Rattle.elf_image_sending.specs.Sending.{Sends};
+ghost use Rattle.elf_image_stream.specs.Chunks.{Sends};
 ghost use Rattle.elf_link_map.specs.Standing.{member_address};
 ghost use Rattle.elf_link_outputs.specs.PlacedView.{output_value};
 ghost use Rattle.elf_exec.specs.Pieces.{member_content, member_padding, output_content};
 
-use elf_image_sending::{Pieces, send, send_all, send_zeros};
-use elf_image_stream::WriteFault;
+use elf_image_stream::{Chunks, WriteFault, send, send_all, send_zeros};
 use elf_link_map::{Member, Output};
 use elf_link_relocate::Linked;
 use std::io::Write;
@@ -30,14 +29,14 @@ struct MemberPieces<'l, 'm, 'a, 'o, 'n> {
     output: &'o Output<'n>,
 }
 
-impl<'l, 'm, 'a, 'o, 'n> Pieces for MemberPieces<'l, 'm, 'a, 'o, 'n> {
+impl<'l, 'm, 'a, 'o, 'n> Chunks for MemberPieces<'l, 'm, 'a, 'o, 'n> {
     ghost use Rattle.std.specs.Prelude.{length};
     ghost use Rattle.elf_link_outputs.specs.PlacedView.{output_value};
     ghost use Rattle.elf_exec.specs.Pieces.{member_piece};
 
     ghost count = { λ pieces. length pieces.output.now.members.items };
 
-    ghost piece = { λ pieces. member_piece pieces.linked.now (output_value pieces.output.now) };
+    ghost chunk = { λ pieces. member_piece pieces.linked.now (output_value pieces.output.now) };
 
     fn count(&self) -> usize {
         self.output.members.len()

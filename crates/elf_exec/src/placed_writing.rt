@@ -1,6 +1,6 @@
 //! The parts of an executable onto a writer: the header, the program header table, and the bytes of the segments.
 ghost use Rattle.std.specs.Prelude.{◌≡◌, ◌++◌};
-ghost use Rattle.elf_image_sending.specs.Sending.{Sends};
+ghost use Rattle.elf_image_stream.specs.Chunks.{Sends};
 ghost use Rattle.elf_image_stream.specs.Output.{Writes};
 ghost use Rattle.elf_field.specs.Abi.{EHDR_SIZE};
 ghost use Rattle.elf_exec.specs.Pieces.{loads_text, placed_header, placed_table};

@@ -1,5 +1,6 @@
 -- The lemmas of this crate. `Public` is for the proofs of the crates above, the others are for those of this one.
 mod Moved
 pub mod Public
+mod SentChunks
 mod Several
 mod Written

@@ -4,10 +4,9 @@ ghost use Rattle.elf_image_stream.specs.Output.{Writes};
 ghost use Rattle.elf_tool_text.specs.Line.{blank, bytes_text};
 ghost use Rattle.std.specs.List.{flat_map};
 ghost use Rattle.elf_tool_map.specs.MapLines.{bytes_line, bytes_lines, member_bytes};
-ghost use Rattle.elf_image_sending.specs.Sending.{Sends};
+ghost use Rattle.elf_image_stream.specs.Chunks.{Sends};
 
-use elf_image_sending::{Pieces, send, send_all};
-use elf_image_stream::WriteFault;
+use elf_image_stream::{Chunks, WriteFault, send, send_all};
 use elf_link_map::Member;
 use elf_link_relocate::Linked;
 use elf_tool_text::sending::{send_decimal, send_hexadecimal, send_word};
@@ -72,14 +71,14 @@ struct OutputBytes<'l, 'm, 'a> {
     linked: &'l Linked<'m, 'a>,
 }
 
-impl<'l, 'm, 'a> Pieces for OutputBytes<'l, 'm, 'a> {
+impl<'l, 'm, 'a> Chunks for OutputBytes<'l, 'm, 'a> {
     ghost use Rattle.std.specs.Prelude.{get_or, length};
     ghost use Rattle.elf_tool_map.specs.MapLines.{output_bytes};
     ghost use Rattle.elf_link_outputs.specs.Placed.{no_output};
 
     ghost count = { λ pieces. length pieces.linked.now.map.outputs };
 
-    ghost piece = { λ pieces k. output_bytes pieces.linked.now (get_or pieces.linked.now.map.outputs k no_output) };
+    ghost chunk = { λ pieces k. output_bytes pieces.linked.now (get_or pieces.linked.now.map.outputs k no_output) };
 
     fn count(&self) -> usize {
         self.linked.map().outputs().len()
@@ -113,14 +112,14 @@ struct MemberBytes<'l, 'm, 'a> {
     members: &'l [Member],
 }
 
-impl<'l, 'm, 'a> Pieces for MemberBytes<'l, 'm, 'a> {
+impl<'l, 'm, 'a> Chunks for MemberBytes<'l, 'm, 'a> {
     ghost use Rattle.std.specs.Prelude.{get_or, length};
     ghost use Rattle.elf_link_map.specs.Standing.{no_member};
     ghost use Rattle.elf_tool_map.specs.MapLines.{member_bytes};
 
     ghost count = { λ pieces. length pieces.members.now };
 
-    ghost piece = { λ pieces k. member_bytes pieces.linked.now (get_or pieces.members.now k no_member) };
+    ghost chunk = { λ pieces k. member_bytes pieces.linked.now (get_or pieces.members.now k no_member) };
 
     fn count(&self) -> usize {
         self.members.len()

@@ -3,7 +3,7 @@ use Rattle.std.proofs.Common.{◌≡◌, ◌∙◌, ℕ, ◌+◌, ◌<◌, ◌�
 use Rattle.std.specs.List.{flat_map, range_with_len}
 use Rattle.std.proofs.lemmas.List.{append-nil, take_more}
 use Rattle.std.proofs.lemmas.List.Concat.{flat_map-append}
-use Rattle.elf_image_sending.proofs.Public.{is_index, line_at, no_index}
+use Rattle.elf_image_stream.proofs.Public.{is_index, line_at, no_index}
 
 -- one more line
 pub line_more : (f : ℕ → List ℕ) (text old new : List ℕ) (j end n : ℕ) → j < end → end ≡ n → new ≡ old ++ f j

@@ -8,10 +8,10 @@ use Rattle.elf_tool_text.specs.Engine.{Prints}
 use Rattle.elf_tool_text.specs.declared.fault.ToolFault.{ToolFault}
 use Rattle.elf_tool_text.specs.declared.fault.ToolFault.TheVariants.{Read, Write, OutOfMemory}
 use Rattle.elf_tool_text.specs.declared.fault.Verdict.{Verdict}
-use Rattle.elf_image_sending.specs.Sending.{Sends, StoppedIn, WentOut}
+use Rattle.elf_image_stream.specs.Chunks.{Sends, StoppedIn, WentOut}
 use Rattle.elf_tool_text.specs.Line.{line}
 use Rattle.elf_tool_text.proofs.Words.{line_in_a_row, to_the_end}
-use Rattle.elf_image_sending.proofs.Public.{both_out, stopped_later, stopped_longer}
+use Rattle.elf_image_stream.proofs.Public.{both_out, stopped_later, stopped_longer}
 
 -- ---- a line word by word
 

@@ -3,18 +3,17 @@
 ghost use Rattle.std.specs.Prelude.{◌≡◌, ◌∷◌, ◌<◌, ◌≤◌, length};
 ghost use Rattle.std.specs.Fmt.{decimal};
 ghost use Rattle.hex.specs.Hex.{encode_lower};
-ghost use Rattle.elf_image_sending.specs.Sending.{Sends};
+ghost use Rattle.elf_image_stream.specs.Chunks.{Sends};
 ghost use Rattle.elf_tool_text.specs.Line.{blank};
 
 use crate::digits::{MOST_DECIMAL, put_decimal};
-use elf_image_sending::send;
-use elf_image_stream::WriteFault;
+use elf_image_stream::{WriteFault, send};
 use std::io::Write;
 
 /// How many bytes are made digits at a time.
 const BLOCK: usize = 4096;
 
-/// Sends a blank and a further word of a line. Fails as [`send`](elf_image_sending::send) does, of the one or the other.
+/// Sends a blank and a further word of a line. Fails as [`send`](elf_image_stream::send) does, of the one or the other.
 pub fn send_word<W: Write>(writer: &mut W, out: u64, word: &[u8]) -> Result<u64, WriteFault>
     ensures { Sends (W.contents writer.old) (W.contents writer.new) out (blank ∷ word.now) result }
 {
@@ -31,7 +30,7 @@ pub fn send_decimal<W: Write>(writer: &mut W, out: u64, number: u64) -> Result<u
     send_word(writer, out, &digits[start..])
 }
 
-/// Sends bytes, each as two hexadecimal digits in lower case, a block at a time. Fails as [`send`](elf_image_sending::send) does, of any
+/// Sends bytes, each as two hexadecimal digits in lower case, a block at a time. Fails as [`send`](elf_image_stream::send) does, of any
 /// block.
 pub fn send_hexadecimal<W: Write>(writer: &mut W, out: u64, bytes: &[u8]) -> Result<u64, WriteFault>
     ensures { Sends (W.contents writer.old) (W.contents writer.new) out (encode_lower bytes.now) result }

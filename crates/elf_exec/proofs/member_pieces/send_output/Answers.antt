@@ -1,5 +1,5 @@
 use Rattle.std.proofs.Common.{List, ℕ, subst, sym}
-use Rattle.elf_image_sending.specs.Sending.{Sends}
+use Rattle.elf_image_stream.specs.Chunks.{Sends}
 use Rattle.elf_link_outputs.specs.PlacedView.{output_value}
 use Rattle.elf_exec.proofs.Sent.{output_text}
 use Rattle.elf_exec.proofs.member_pieces.send_output.Goals as goal

@@ -1,4 +1,4 @@
-use Rattle.elf_image_sending.proofs.Public.{sends_behind}
+use Rattle.elf_image_stream.proofs.Public.{sends_behind}
 use Rattle.elf_exec.specs.Pieces.{loads_text, placed_table}
 use Rattle.elf_exec.proofs.placed_writing.send_behind_header.Goals as goal
 

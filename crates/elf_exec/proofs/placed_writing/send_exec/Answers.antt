@@ -1,6 +1,6 @@
 use Rattle.std.proofs.Common.{◌++◌, arith}
 use Rattle.std.proofs.lemmas.Result.{err_from_is_err_and}
-use Rattle.elf_image_sending.proofs.Public.{sends_behind, stopped_longer}
+use Rattle.elf_image_stream.proofs.Public.{sends_behind, stopped_longer}
 use Rattle.elf_exec.specs.Pieces.{loads_text, placed_header, placed_table}
 use Rattle.elf_exec.proofs.ExecText.{length-header}
 use Rattle.elf_exec.proofs.placed_writing.send_exec.Goals as goal

@@ -2,7 +2,7 @@ use Rattle.std.proofs.Common.{◌≡◌, ◌∙◌, ◌==◌, ℕ, [], ◌∷◌
 use Rattle.hex.specs.Hex.{encode_lower}
 use Rattle.elf_tool_text.specs.Line.{blank}
 use Rattle.elf_tool_map.proofs.BytesText.{digits_text}
-use Rattle.elf_image_sending.proofs.Public.{sends_behind}
+use Rattle.elf_image_stream.proofs.Public.{sends_behind}
 use Rattle.elf_tool_map.proofs.bytes_lines.send_bytes.Goals as goal
 
 pub returns : goal.returns

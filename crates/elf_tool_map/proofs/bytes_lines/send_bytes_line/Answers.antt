@@ -5,7 +5,7 @@ use Rattle.std.specs.Fmt.{decimal}
 use Rattle.std.proofs.lemmas.Result.{err_from_is_err_and}
 use Rattle.elf_tool_text.specs.Line.{blank, bytes_text}
 use Rattle.elf_tool_map.specs.MapLines.{bytes_line}
-use Rattle.elf_image_sending.proofs.Public.{sends_behind, stopped_later, stopped_longer}
+use Rattle.elf_image_stream.proofs.Public.{sends_behind, stopped_later, stopped_longer}
 use Rattle.elf_tool_text.proofs.Public.{sends_line, stopped_in_line}
 use Rattle.elf_tool_map.proofs.bytes_lines.send_bytes_line.Goals as goal
 

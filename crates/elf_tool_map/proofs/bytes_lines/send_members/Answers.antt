@@ -1,7 +1,7 @@
 use Rattle.std.proofs.Common.{List, ℕ, subst}
 use Rattle.elf_tool_map.specs.MapLines.{member_bytes}
 use Rattle.elf_link_map.specs.Standing.{no_member}
-use Rattle.elf_image_sending.specs.Sending.{Sends}
+use Rattle.elf_image_stream.specs.Chunks.{Sends}
 use Rattle.elf_tool_map.proofs.Items.{by_position}
 use Rattle.elf_tool_map.proofs.bytes_lines.send_members.Goals as goal
 

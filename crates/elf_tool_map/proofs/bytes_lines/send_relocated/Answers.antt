@@ -1,7 +1,7 @@
 use Rattle.std.proofs.Common.{List, ℕ, subst}
 use Rattle.elf_link_outputs.specs.Placed.{no_output}
 use Rattle.elf_tool_map.specs.MapLines.{bytes_lines, output_bytes}
-use Rattle.elf_image_sending.specs.Sending.{Sends}
+use Rattle.elf_image_stream.specs.Chunks.{Sends}
 use Rattle.elf_tool_map.proofs.Items.{by_position}
 use Rattle.elf_tool_map.proofs.bytes_lines.send_relocated.Goals as goal
 

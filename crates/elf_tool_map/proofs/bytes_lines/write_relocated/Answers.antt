@@ -1,6 +1,6 @@
 use Rattle.std.proofs.lemmas.Result.{err_from_is_err_and}
 use Rattle.elf_tool_map.specs.MapLines.{bytes_lines}
-use Rattle.elf_image_sending.proofs.Public.{both_out, stopped_whole, stopped_later, stopped_longer}
+use Rattle.elf_image_stream.proofs.Public.{both_out, stopped_whole, stopped_later, stopped_longer}
 use Rattle.elf_tool_map.proofs.bytes_lines.write_relocated.Goals as goal
 
 pub returns-in_err-out : goal.returns-in_err-out

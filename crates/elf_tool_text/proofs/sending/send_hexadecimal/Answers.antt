@@ -1,7 +1,7 @@
 use Rattle.std.proofs.Common.{◌+◌, arith}
 use Rattle.std.proofs.lemmas.Result.{err_from_is_err_and}
 use Rattle.hex.specs.Hex.{encode_with}
-use Rattle.elf_image_sending.proofs.Public.{nothing_out}
+use Rattle.elf_image_stream.proofs.Public.{nothing_out}
 use Rattle.elf_tool_text.proofs.SentPieces.{block_out, block_stopped}
 use Rattle.elf_tool_text.proofs.sending.send_hexadecimal.Goals as goal
 

@@ -1,6 +1,6 @@
 use Rattle.std.proofs.Common.{◌-◌, ◌≤◌, length, take}
 use Rattle.hex.specs.Hex.{encode_lower}
-use Rattle.elf_image_sending.specs.Sending.{WentOut}
+use Rattle.elf_image_stream.specs.Chunks.{WentOut}
 use Rattle.elf_tool_text.proofs.sending.send_hexadecimal.Given as goal
 
 -- the digits of the first bytes are out

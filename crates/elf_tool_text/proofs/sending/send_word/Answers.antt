@@ -1,6 +1,6 @@
 use Rattle.std.proofs.Common.{[], ◌∷◌}
 use Rattle.elf_tool_text.specs.Line.{blank}
-use Rattle.elf_image_sending.proofs.Public.{sends_behind}
+use Rattle.elf_image_stream.proofs.Public.{sends_behind}
 use Rattle.elf_tool_text.proofs.sending.send_word.Goals as goal
 
 pub returns : goal.returns

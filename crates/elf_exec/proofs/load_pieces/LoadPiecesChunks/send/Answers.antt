@@ -1,7 +1,7 @@
 use Rattle.std.proofs.Common.{ap₂}
 use Rattle.elf_exec.specs.Pieces.{load_content}
 use Rattle.elf_exec.proofs.Sent.{padded_sent}
-use Rattle.elf_exec.proofs.load_pieces.LoadPiecesPieces.send.Goals as goal
+use Rattle.elf_exec.proofs.load_pieces.LoadPiecesChunks.send.Goals as goal
 
 pub returns : goal.returns
 returns g c =

@@ -1,9 +1,10 @@
-//! Pieces one after the other.
+//! Chunks one after the other.
 ghost use Rattle.std.specs.Prelude.{◌≡◌, ◌<◌};
 ghost use Rattle.std.specs.List.{flat_map, range_with_len};
-ghost use Rattle.elf_image_sending.specs.Sending.{Sends};
+ghost use Rattle.elf_image_stream.specs.Chunks.{Sends};
 
-use elf_image_stream::{WriteFault, write_whole};
+use crate::fault::WriteFault;
+use crate::output::write_whole;
 use std::io::Write;
 
 /// Sends these bytes behind `out` others, and answers how many are out then.
@@ -25,15 +26,15 @@ pub fn send<W: Write>(writer: &mut W, out: u64, bytes: &[u8]) -> Result<u64, Wri
 }
 
 /// Texts by their indexes.
-pub trait Pieces {
+pub trait Chunks {
     ghost use Rattle.std.specs.Prelude.{ℕ, List};
-    ghost use Rattle.elf_image_sending.specs.Sending.{Sends};
+    ghost use Rattle.elf_image_stream.specs.Chunks.{Sends};
 
     // how many there are
     ghost count: { Self → ℕ };
 
     // text j
-    ghost piece: { Self → ℕ → List ℕ };
+    ghost chunk: { Self → ℕ → List ℕ };
 
     /// How many there are.
     fn count(&self) -> usize
@@ -42,22 +43,22 @@ pub trait Pieces {
     /// Sends text `j`, which has to be one of them, behind `out` bytes.
     fn send<W: Write>(&self, writer: &mut W, out: u64, j: usize) -> Result<u64, WriteFault>
         requires { j < count self.now }
-        ensures { Sends (W.contents writer.old) (W.contents writer.new) out (piece self.now j) result };
+        ensures { Sends (W.contents writer.old) (W.contents writer.new) out (chunk self.now j) result };
 }
 
 /// Sends them all, one after the other. Where one meets a fault, that is the answer, with the count of all bytes that are out, and none
 /// behind it is sent.
-pub fn send_all<P: Pieces, W: Write>(
+pub fn send_all<P: Chunks, W: Write>(
     writer: &mut W,
     out: u64,
-    pieces: &P,
+    chunks: &P,
 ) -> Result<u64, WriteFault>
     ensures { Sends (W.contents writer.old) (W.contents writer.new) out
-        (flat_map (P.piece pieces.now) (range_with_len 0 (P.count pieces.now))) result }
+        (flat_map (P.chunk chunks.now) (range_with_len 0 (P.count chunks.now))) result }
 {
     let mut all = out;
-    for j in 0..pieces.count() {
-        all = pieces.send(writer, all, j)?;
+    for j in 0..chunks.count() {
+        all = chunks.send(writer, all, j)?;
     }
     Ok(all)
 }

@@ -1,4 +1,4 @@
--- A text that goes out piece by piece, with the count of the bytes that are out.
+-- A text that goes out chunk by chunk, with the count of the bytes that are out.
 use Rattle.std.specs.Prelude.{◌≡◌, ℕ, ◌+◌, ◌<◌, List, length, take, Option, Result, MatchResult}
 use Rattle.std.specs.Io.KnownBytes.{Appends}
 use Rattle.elf_image_stream.specs.declared.fault.WriteFault.{WriteFault}

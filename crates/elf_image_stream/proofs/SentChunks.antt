@@ -8,7 +8,7 @@ use Rattle.std.proofs.lemmas.List.{append-nil, take-append-drop, take-append-le,
 use Rattle.std.proofs.lemmas.List.FromFn.{get_or-range_with_len, length-range_with_len}
 use Rattle.std.proofs.lemmas.List.Concat.{flat_map-append}
 use Rattle.elf_image_stream.specs.declared.fault.WriteFault.{WriteFault}
-use Rattle.elf_image_sending.specs.Sending.{Sends, StoppedIn, WentOut}
+use Rattle.elf_image_stream.specs.Chunks.{Sends, StoppedIn, WentOut}
 
 pub nothing_out : (a : Option (List ℕ)) (out : ℕ) → WentOut a a out [] out
 nothing_out a out = (omega arith, Appends-nil a)
@@ -71,20 +71,20 @@ module _ (f : ℕ → List ℕ) (j end n : ℕ) (a b c : Option (List ℕ)) (out
       ap (flat_map f) (take_more xs j 0 (is_index j end n below count)) ∙ flat_map-append f (take j xs) (get_or xs j 0 ∷ [])
       ∙ ap (λ (s : List ℕ). flat_map f (take j xs) ++ s) (append-nil (f (get_or xs j 0)) ∙ sym (line_at f j end n (f j) below count refl))
 
-  pub piece_out : (all : ℕ) → WentOut b c mid (f j) all → WentOut a c out (flat_map f (take (j + 1) (range_with_len 0 n))) all
+  pub chunk_out : (all : ℕ) → WentOut b c mid (f j) all → WentOut a c out (flat_map f (take (j + 1) (range_with_len 0 n))) all
   unfolding xs
-  piece_out all next = subst (λ (s : List ℕ). WentOut a c out s all) (sym more) (both_out a b c out mid all (flat_map f (take j xs)) (f j) before next)
+  chunk_out all next = subst (λ (s : List ℕ). WentOut a c out s all) (sym more) (both_out a b c out mid all (flat_map f (take j xs)) (f j) before next)
 
-  pub piece_stopped : (written : ℕ) → StoppedIn b c mid (f j) written → StoppedIn a c out (flat_map f (range_with_len 0 n)) written
+  pub chunk_stopped : (written : ℕ) → StoppedIn b c mid (f j) written → StoppedIn a c out (flat_map f (range_with_len 0 n)) written
   unfolding xs
-  piece_stopped written stop =
+  chunk_stopped written stop =
       let all : flat_map f xs ≡ flat_map f (take (j + 1) xs) ++ flat_map f (drop (j + 1) xs) =
       ap (flat_map f) (sym (take-append-drop (j + 1) xs)) ∙ flat_map-append f (take (j + 1) xs) (drop (j + 1) xs) in
       subst (λ (s : List ℕ). StoppedIn a c out s written) (sym all)
       (stopped_longer a c out written (flat_map f (take (j + 1) xs)) (flat_map f (drop (j + 1) xs))
       (subst (λ (s : List ℕ). StoppedIn a c out s written) (sym more) (stopped_later a b c out mid written (flat_map f (take j xs)) (f j) before stop)))
 
-pub pieces_out : (f : ℕ → List ℕ) (j end n : ℕ) (a b : Option (List ℕ)) (out all : ℕ) → end ≤ j → end ≡ n →
+pub chunks_out : (f : ℕ → List ℕ) (j end n : ℕ) (a b : Option (List ℕ)) (out all : ℕ) → end ≤ j → end ≡ n →
     WentOut a b out (flat_map f (take j (range_with_len 0 n))) all → WentOut a b out (flat_map f (range_with_len 0 n)) all
-pieces_out f j end n a b out all past count went =
+chunks_out f j end n a b out all past count went =
     subst (λ (xs : List ℕ). WentOut a b out (flat_map f xs) all) (take_all j (range_with_len 0 n) (no_index j end n past count)) went

@@ -1,9 +1,9 @@
 //! Zeros, as those between two parts of a file.
 ghost use Rattle.std.specs.Prelude.{replicate};
-ghost use Rattle.elf_image_sending.specs.Sending.{Sends};
+ghost use Rattle.elf_image_stream.specs.Chunks.{Sends};
 
-use elf_image_stream::WriteFault;
-use elf_image_stream::output::write_zeros;
+use crate::fault::WriteFault;
+use crate::output::write_zeros;
 use std::io::Write;
 
 /// Sends so many zeros behind `out` bytes, a block at a time, and answers how many bytes are out then.

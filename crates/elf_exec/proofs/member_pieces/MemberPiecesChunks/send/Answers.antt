@@ -3,7 +3,7 @@ use Rattle.std.proofs.lemmas.List.{get_or_read}
 use Rattle.elf_link_map.specs.Standing.{no_member}
 use Rattle.elf_exec.specs.Pieces.{member_content}
 use Rattle.elf_exec.proofs.Sent.{padded_sent}
-use Rattle.elf_exec.proofs.member_pieces.MemberPiecesPieces.send.Goals as goal
+use Rattle.elf_exec.proofs.member_pieces.MemberPiecesChunks.send.Goals as goal
 
 pub returns : goal.returns
 returns g c =
