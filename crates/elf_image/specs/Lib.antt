@@ -21,7 +21,7 @@ pub use Rattle.elf_image_type.specs.Loads
 pub use Rattle.elf_image_outline.specs.Parsing
 pub use Rattle.elf_image_outline.specs.Parts
 pub use Rattle.elf_image_outline.specs.Scanning
-pub use Rattle.elf_image_source.specs.Source
+pub use Rattle.elf_image_stream.specs.Source
 pub use Rattle.elf_image_stream.specs.Reading
 pub use Rattle.elf_image_type.specs.Strings
 pub use Rattle.elf_image_type.specs.View

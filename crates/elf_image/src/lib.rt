@@ -18,6 +18,7 @@
 pub use elf_image_copy::{CopyFault, copy_image};
 pub use elf_image_outline::{NoSection, Outline, Owner, Part, ReplaceFault, scan};
 pub use elf_image_rules::{rules, verdict};
-pub use elf_image_source::{Bytes, Failed, Failures, Seeking, Source};
-pub use elf_image_stream::{Fault, WriteFault, read_to_end, resume};
+pub use elf_image_stream::{
+    Bytes, Failed, Failures, Fault, Seeking, Source, WriteFault, read_to_end, resume,
+};
 pub use elf_image_type::{Image, parse, write};

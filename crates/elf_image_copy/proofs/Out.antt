@@ -4,10 +4,10 @@ use Rattle.std.specs.Result.{IsErrAnd}
 use Rattle.std.specs.Io.KnownBytes.{Appends}
 use Rattle.std.proofs.KnownBytes.{Appends-trans}
 use Rattle.std.proofs.lemmas.List.{drop-drop, drop_at, length-take, length-take-le, take-append-le, take_at}
-use Rattle.elf_image_source.specs.Reads.{HasFailed}
-use Rattle.elf_image_source.specs.Source.{Reaches, Remembers}
-use Rattle.elf_image_source.specs.declared.failures.Failures.{Failures}
-use Rattle.elf_image_source.proofs.Public.{failed_within}
+use Rattle.elf_image_stream.specs.Reads.{HasFailed}
+use Rattle.elf_image_stream.specs.Source.{Reaches, Remembers}
+use Rattle.elf_image_stream.specs.declared.failures.Failures.{Failures}
+use Rattle.elf_image_stream.proofs.Public.{failed_within}
 use Rattle.elf_image_copy.specs.declared.fault.CopyFault.{CopyFault}
 use Rattle.elf_image_copy.specs.declared.fault.CopyFault.TheVariants.{Read, Write}
 use Rattle.elf_image_copy.specs.Copying.{Copies, CopiedOut, ReadsBehind, bytes_out, copy_failure, later}

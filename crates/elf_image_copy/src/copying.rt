@@ -2,13 +2,13 @@
 ghost use Rattle.std.specs.Prelude.{◌≡◌, ℕ, List, Some, slice_get};
 ghost use Rattle.elf_image_outline.specs.Image.{IsImage, part_bytes};
 ghost use Rattle.elf_image_outline.specs.Outline.{IsOutlineOf, IsSoundOutline, bytes_of_outline, image_in, placed_part};
-ghost use Rattle.elf_image_source.specs.Source.{Remembers};
+ghost use Rattle.elf_image_stream.specs.Source.{Remembers};
 ghost use Rattle.elf_image_copy.specs.Copying.{Copies, ReadsBehind, ReadsOfSource, ReadsPart, copy_failure};
 
 use crate::fault::CopyFault;
 use crate::range::copy_range;
 use elf_image_outline::{Outline, Owner, Part};
-use elf_image_source::Source;
+use elf_image_stream::Source;
 use elf_image_stream::output::{BLOCK, write_records, write_zeros};
 use std::io::Write;
 

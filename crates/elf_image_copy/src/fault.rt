@@ -2,8 +2,7 @@
 ghost use Rattle.std.specs.Prelude.{◌≡◌, ◌<◌, ◌+◌, ◌^◌};
 ghost use Rattle.elf_image_copy.specs.Copying.{bytes_out, later};
 
-use elf_image_source::ReadFault;
-use elf_image_stream::WriteFault;
+use elf_image_stream::{ReadFault, WriteFault};
 use thiserror::Error;
 
 /// Why an image was not copied whole. Exactly its first `written` bytes are out.

@@ -1,12 +1,11 @@
 //! Bytes of a source onto a writer, through one array.
 ghost use Rattle.std.specs.Prelude.{◌≡◌, ◌<◌, ◌≤◌, ◌+◌, ◌^◌, ℕ, List, Some, drop, length, take};
-ghost use Rattle.elf_image_source.specs.Source.{Reaches, Remembers};
+ghost use Rattle.elf_image_stream.specs.Source.{Reaches, Remembers};
 ghost use Rattle.elf_image_copy.specs.Copying.{Copies, ReadsBehind, copy_failure};
 
 use crate::fault::CopyFault;
-use elf_image_source::{Source, read_exactly};
 use elf_image_stream::output::BLOCK;
-use elf_image_stream::write_whole;
+use elf_image_stream::{Source, read_exactly, write_whole};
 use std::io::Write;
 
 /// Copies as many bytes as the block has, from an offset on.

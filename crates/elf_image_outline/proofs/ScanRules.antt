@@ -22,7 +22,7 @@ use Rattle.elf_image_rules.specs.SectionTableRules.{section_table_rules}
 use Rattle.elf_image_rules.specs.Tables.{counts_in, header, order_of, program_header_count, section_header_count, sections, segments, shdr_offset}
 use Rattle.elf_image_rules.specs.declared.tables.Counts.{Counts}
 use Rattle.elf_image_rules.proofs.Public.{FirstIn-sooner, fault_of_records, from_header, from_ident, from_length, from_program_table, from_section_table, from_tables, record_rules_of, sections_read_at, table_some}
-use Rattle.elf_image_source.specs.Reads.{table_at}
+use Rattle.elf_image_stream.specs.Reads.{table_at}
 use Rattle.elf_image_stream.specs.declared.fault.Fault.{Fault}
 use Rattle.elf_image_stream.specs.declared.fault.Fault.TheVariants.{Rule}
 use Rattle.elf_image_outline.specs.Image.{AreRecordsIn}

@@ -5,14 +5,13 @@ ghost use Rattle.elf_field.specs.Ehdr.{IsEhdr};
 ghost use Rattle.elf_image_outline.specs.Scanning.{KeepsHeadRules, Scans, scan_failure};
 ghost use Rattle.elf_image_rules.specs.HeaderRules.{MAX_LEN};
 ghost use Rattle.elf_image_rules.specs.Tables.{header as header_in};
-ghost use Rattle.elf_image_source.specs.Source.{Remembers};
+ghost use Rattle.elf_image_stream.specs.Source.{Remembers};
 
 use elf_field::abi::EHDR_SIZE;
 use elf_field::{Ehdr, Record};
 use elf_image_rules::tables::header_of;
 use elf_image_rules::{judge_header, judge_ident, judge_length};
-use elf_image_source::{Source, read_exactly};
-use elf_image_stream::Fault;
+use elf_image_stream::{Fault, Source, read_exactly};
 
 /// The length of a source in bytes, and its header.
 #[derive(Clone, Copy)]

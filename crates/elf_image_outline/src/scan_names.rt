@@ -4,14 +4,13 @@ ghost use Rattle.elf_image_outline.specs.Image.{AreRecordsIn};
 ghost use Rattle.elf_image_outline.specs.Scanning.{HasTables, Scans, names_extent, scan_failure};
 ghost use Rattle.elf_image_rules.specs.StringTable.{AreEnds};
 ghost use Rattle.elf_image_rules.specs.Tables.{names as names_in, section_header_of};
-ghost use Rattle.elf_image_source.specs.Source.{Reaches, Remembers};
+ghost use Rattle.elf_image_stream.specs.Source.{Reaches, Remembers};
 
 use crate::scan_tables::Tables;
 use elf_extent::Extent;
 use elf_image_rules::TableEnds;
 use elf_image_rules::content::extent_of_content;
-use elf_image_source::{Source, read_ends};
-use elf_image_stream::Fault;
+use elf_image_stream::{Fault, Source, read_ends};
 
 /// Where the section name string table stands: nowhere without one.
 fn extent_of_names(tables: &Tables) -> Extent

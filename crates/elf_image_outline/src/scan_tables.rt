@@ -8,16 +8,15 @@ ghost use Rattle.elf_image_outline.specs.Image.{AreRecordsIn};
 ghost use Rattle.elf_image_outline.specs.Scanning.{HasTables, KeepsHeadRules, Scans, scan_failure};
 ghost use Rattle.elf_image_rules.specs.HeaderRules.{MAX_LEN};
 ghost use Rattle.elf_image_rules.specs.Tables.{header as header_in, no_section_header, order_of, section_header_of, sections as sections_in};
-ghost use Rattle.elf_image_source.specs.Reads.{table_at};
-ghost use Rattle.elf_image_source.specs.Source.{Reaches, Remembers};
+ghost use Rattle.elf_image_stream.specs.Reads.{table_at};
+ghost use Rattle.elf_image_stream.specs.Source.{Reaches, Remembers};
 
 use crate::scan_head::Head;
 use elf_field::abi::EI_NIDENT;
 use elf_field::{Ehdr, Phdr, Shdr};
 use elf_image_rules::tables::{Counts, NO_SECTION, counts_of, order_in};
 use elf_image_rules::{judge_program_table, judge_section_table};
-use elf_image_source::{Source, read_record, read_records};
-use elf_image_stream::Fault;
+use elf_image_stream::{Fault, Source, read_record, read_records};
 use std::alloc::Global;
 
 /// The header of a source, its counts and its two tables.

@@ -4,15 +4,14 @@ ghost use Rattle.elf_field.specs.Bytes.{IsBytes};
 ghost use Rattle.elf_image_outline.specs.Image.{IsImage};
 ghost use Rattle.elf_image_outline.specs.Outline.{IsOutlineOf, image_in};
 ghost use Rattle.elf_image_outline.specs.Scanning.{Scans, scan_failure};
-ghost use Rattle.elf_image_source.specs.Source.{Remembers};
+ghost use Rattle.elf_image_stream.specs.Source.{Remembers};
 
 use crate::judged::judged_parts;
 use crate::outline::Outline;
 use crate::scan_head::scan_head;
 use crate::scan_names::scan_names;
 use crate::scan_tables::scan_tables;
-use elf_image_source::Source;
-use elf_image_stream::Fault;
+use elf_image_stream::{Fault, Source};
 use std::alloc::Global;
 
 /// The records and the parts of an ELF-64 file that breaks no rule, read of a source: the header, the two tables and the ends of the

@@ -2,3 +2,5 @@
 pub mod Chunks
 pub mod Output
 pub mod Reading
+pub mod Reads
+pub mod Source

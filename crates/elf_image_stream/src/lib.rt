@@ -1,20 +1,42 @@
-//! The bytes of a file in and out: from any reader, however its reads are cut, and onto any writer, with the count of those that are out.
+//! The bytes of a file in and out. It knows nothing of images.
 //!
-//! [`read_to_end`] takes all bytes of a reader, and [`resume`] goes on where it stopped. [`write_whole`] writes bytes, [`output`] records
-//! and zeros too, and [`entries`] tables whose entries are made as they go out. A text that goes out chunk by chunk without memory is sent:
-//! each call is told how many bytes are out, and answers how many are then. [`send`] sends bytes, [`send_zeros`] zeros without a list of
-//! them, and [`send_all`] the texts of a [`Chunks`], which are made as they go out. [`Fault`] and [`WriteFault`] say what can stop them.
+//! **In**: [`read_to_end`] takes all bytes of a reader, however its reads are cut, and [`resume`] goes on where it stopped. Bytes that are
+//! read at any place, as those of a file on a disk, are a [`Source`]: it answers one read at an offset, and remembers its [`Failures`];
+//! [`Bytes`] is one over memory, [`Seeking`] one over a file that can seek. [`read_exactly`] fills a buffer from it, and [`read_record`],
+//! [`read_records`] and [`read_ends`] stand on that.
+//!
+//! **Out**: [`write_whole`] writes bytes, [`output`] records and zeros too, and [`entries`] tables whose entries are made as they go out,
+//! with the count of the bytes that are out. A text that goes out chunk by chunk without memory is sent: each call is told how many bytes
+//! are out, and answers how many are then. [`send`] sends bytes, [`send_zeros`] zeros without a list of them, and [`send_all`] the texts of
+//! a [`Chunks`], which are made as they go out.
+//!
+//! [`Fault`], [`ReadFault`] and [`WriteFault`] say what can stop them.
 #![tactic(auto)]
 
+mod bytes;
 mod chunks;
+mod ends;
 pub mod entries;
+mod failures;
 mod fault;
+pub mod laws;
 pub mod output;
 mod reading;
+mod records;
+mod seeking;
+mod source;
+mod whole;
 mod zeros;
 
+pub use bytes::Bytes;
 pub use chunks::{Chunks, send, send_all};
+pub use ends::read_ends;
+pub use failures::Failures;
 pub use fault::{Fault, WriteFault};
 pub use output::write_whole;
 pub use reading::{read_to_end, resume};
+pub use records::{RecordsFault, read_record, read_records};
+pub use seeking::Seeking;
+pub use source::{Failed, Source};
+pub use whole::{ReadFault, read_exactly};
 pub use zeros::send_zeros;

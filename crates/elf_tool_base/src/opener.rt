@@ -2,7 +2,7 @@
 ghost use Rattle.std.specs.Prelude.{◌≡◌, ℕ, Bool, false, List, None, Option, Some, IfErr, IfOk, IfSome};
 ghost use Rattle.elf_tool_base.specs.Opener.{IsOpenFault};
 
-use elf_image_source::{Seeking, Source};
+use elf_image_stream::{Seeking, Source};
 use std::fs::{Files, OpenFile};
 use std::io::Read;
 use std::{fs, io};

@@ -2,14 +2,13 @@
 ghost use Rattle.std.specs.Prelude.{◌≡◌, ℕ, List, Ok, Some, IfErr, IfOk, string_bytes};
 ghost use Rattle.elf_field.specs.Bytes.{IsBytes};
 ghost use Rattle.elf_image_rules.specs.Broken.{fault_of};
-ghost use Rattle.elf_image_source.specs.Source.{Remembers};
+ghost use Rattle.elf_image_stream.specs.Source.{Remembers};
 ghost use Rattle.elf_tool_check.specs.Check.{verdict_of};
 ghost use Rattle.elf_tool_check_source.specs.CheckSource.{IsScanStopped, IsScanned, IsSourceSaid, check_failure, line_of_scan};
 
 use elf_image_outline::{Outline, scan};
 use elf_image_rules::Broken;
-use elf_image_source::Source;
-use elf_image_stream::{Fault, write_whole};
+use elf_image_stream::{Fault, Source, write_whole};
 use elf_tool_text::line::{ok_line, refused_line};
 use elf_tool_text::{Refusal, ToolFault, Verdict};
 use std::alloc::{AllocError, Global};

@@ -9,8 +9,7 @@
 mod changes;
 mod writing;
 
-use elf_image_source::Seeking;
-use elf_image_stream::read_to_end;
+use elf_image_stream::{Seeking, read_to_end};
 use std::process::ExitCode;
 use std::{env, fs, io};
 

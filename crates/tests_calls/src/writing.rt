@@ -4,8 +4,7 @@ ghost use Rattle.elf_field.specs.Bytes.{IsBytes};
 
 use elf_image_copy::{CopyFault, copy_image};
 use elf_image_outline::scan;
-use elf_image_source::Source;
-use elf_image_stream::{Fault, WriteFault};
+use elf_image_stream::{Fault, Source, WriteFault};
 use elf_image_type::{parse, write};
 use elf_object_file::write_object;
 use elf_object_reader::object_of;

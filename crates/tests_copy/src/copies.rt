@@ -3,7 +3,7 @@ use crate::against::Against;
 use elf_field::Order;
 use elf_image_copy::copy_image;
 use elf_image_outline::scan;
-use elf_image_source::Bytes;
+use elf_image_stream::Bytes;
 use std::process::Abort;
 use std::test::Fail;
 use tests_files::{caller, empty_object, filled_gap, long_parts, one_section, set, two_of_each};

@@ -2,7 +2,7 @@
 use crate::against::Against;
 use elf_image_copy::{CopyFault, copy_image};
 use elf_image_outline::{Outline, scan};
-use elf_image_source::Bytes;
+use elf_image_stream::Bytes;
 use std::process::Abort;
 use std::test::Fail;
 use tests_files::caller;

@@ -3,8 +3,7 @@ ghost use Rattle.std.specs.Prelude.{◌<◌, length};
 
 use crate::said::{Said, of_fault, say};
 use elf_image_outline::scan;
-use elf_image_source::Bytes;
-use elf_image_stream::Fault;
+use elf_image_stream::{Bytes, Fault};
 use elf_image_type::{Image, parse};
 use elf_object_file::write_object;
 use elf_object_reader::object_of;

@@ -7,7 +7,7 @@ use elf_field::{Order, Record, Shdr};
 use elf_image_copy::copy_image;
 use elf_image_outline::{Outline, scan};
 use elf_image_rules::verdict;
-use elf_image_source::{Bytes, Seeking, Source};
+use elf_image_stream::{Bytes, Seeking, Source};
 use elf_image_type::{Image, parse, write};
 use elf_link_field::RelocRule;
 use elf_link_map::{LinkMap, Options, map};

@@ -1,7 +1,7 @@
 //! Sources over bytes that give little, or fail at one call alone.
 ghost use Rattle.std.specs.Prelude.{◌≡◌, ◌≤◌, length, IfOk};
 
-use elf_image_source::{Bytes, Failed, Failures, Source};
+use elf_image_stream::{Bytes, Failed, Failures, Source};
 
 /// Gives its bytes, at most `piece` a call. The call of `read_at` of number `failing`, counted from 1, fails, or gives no byte where
 /// `gives_none`; every other one succeeds.

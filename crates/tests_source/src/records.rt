@@ -1,7 +1,7 @@
 //! Records of a source.
 use crate::fakes::Cut;
 use elf_field::{Order, Rel};
-use elf_image_source::{Bytes, RecordsFault, read_record, read_records};
+use elf_image_stream::{Bytes, RecordsFault, read_record, read_records};
 use std::alloc::Global;
 use std::process::Abort;
 use std::test::Fail;

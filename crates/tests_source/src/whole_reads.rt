@@ -1,6 +1,6 @@
 //! Whole reads.
 use crate::fakes::Cut;
-use elf_image_source::{
+use elf_image_stream::{
     Bytes, Failed, Failures, ReadFault, Seeking, Source, read_ends, read_exactly,
 };
 use std::io::Cursor;

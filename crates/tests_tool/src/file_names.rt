@@ -1,6 +1,6 @@
 //! The word for the file is the name that is opened, as it stands.
 use crate::program::HEADER;
-use elf_image_source::Bytes;
+use elf_image_stream::Bytes;
 use elf_tool_program::{MachineFiles, OpenFault, Opener, run};
 use std::alloc::Global;
 use std::io::Read;

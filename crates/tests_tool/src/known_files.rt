@@ -4,7 +4,7 @@ ghost use Rattle.std.specs.Prelude.{◌≡◌, ℕ, ◌≤◌, length, None, Som
 ghost use Rattle.elf_image_rules.specs.HeaderRules.{MAX_LEN};
 ghost use Rattle.elf_image_rules.specs.ImageRules.{IsFault};
 
-use elf_image_source::Bytes;
+use elf_image_stream::Bytes;
 use elf_tool_program::{OpenFault, Opener, run};
 use std::alloc::Global;
 use std::io;

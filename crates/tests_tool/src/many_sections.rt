@@ -4,8 +4,7 @@ ghost use Rattle.std.specs.Prelude.{◌<◌, ◌≡◌, None, length};
 
 use crate::said::{assert_accepts, assert_lines, assert_written_back};
 use elf_field::{Ehdr, Order, Record, Shdr};
-use elf_image_source::{Bytes, Failed, Failures, Source};
-use elf_image_stream::Fault;
+use elf_image_stream::{Bytes, Failed, Failures, Fault, Source};
 use elf_image_type::{parse, verdict};
 use elf_tool_program::{Verdict, check_source, show};
 use std::alloc::{AllocError, Global};

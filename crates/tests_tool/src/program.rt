@@ -2,7 +2,7 @@
 ghost use Rattle.std.specs.Prelude.{◌<◌};
 
 use elf_field::Order;
-use elf_image_source::Bytes;
+use elf_image_stream::Bytes;
 use elf_tool_program::{OpenFault, Opener, ToolFault, refuse_words, run, show};
 use std::alloc::Global;
 use std::io;

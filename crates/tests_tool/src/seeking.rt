@@ -3,7 +3,7 @@ ghost use Rattle.std.specs.Prelude.{◌≡◌, ◌≤◌, length, IfOk};
 
 use crate::program::{HEADER, ROOM, Ran, Shelf, assert_ran};
 use elf_field::Order;
-use elf_image_source::{Bytes, Failed, Failures, Source};
+use elf_image_stream::{Bytes, Failed, Failures, Source};
 use elf_tool_program::{OpenFault, Opener, ToolFault, Verdict, check_source, run};
 use std::alloc::Global;
 use std::process::Abort;

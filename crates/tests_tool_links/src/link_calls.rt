@@ -1,6 +1,6 @@
 //! `link` over readers and writers that fail at one call alone, and over what it refuses: what is told is exact, and what is out is the
 //! executable or its beginning.
-use elf_image_source::Bytes;
+use elf_image_stream::Bytes;
 use elf_tool_program::{
     Form, OpenFault, Opener, Options, Range, RelocRule, ToolFault, Verdict, Width, link, run,
 };

@@ -1,5 +1,5 @@
 //! `map` over readers and writers that fail at one call alone, and over files that don't open: what is told is exact.
-use elf_image_source::Bytes;
+use elf_image_stream::Bytes;
 use elf_tool_program::{
     Form, OpenFault, Opener, Options, Range, Refusal, RelocRule, ToolFault, Verdict, Width, map,
     run,

@@ -1,4 +1,0 @@
-mod EndsIn
-mod Filled
-pub mod Public
-mod Tables

@@ -1,0 +1,12 @@
+use Rattle.std.proofs.Common.{◌≡◌, ◌+◌, ◌*◌, length}
+use Rattle.std.specs.List.{AllByRecursion}
+use Rattle.elf_image_stream.specs.Reads.{Extends}
+use Rattle.elf_image_stream.proofs.records.push_records.Given as goal
+
+-- so many records stand behind the others
+abbrev pub invariant-loop-i : goal.invariant-loop-i
+invariant-loop-i g l = record {
+  many : length l.records.items ≡ length l.initial.records.items + l.i;
+  valid : AllByRecursion g.T.Record.IsValid l.initial.records.items → AllByRecursion g.T.Record.IsValid l.records.items;
+  told : Extends (λ i. g.T.Record.at l.order l.bytes (g.T.Record.SIZE * i)) l.i l.initial.records.items l.records.items;
+}

@@ -1,0 +1,52 @@
+-- What a source of bytes says of them: a list that no call changes, where it tells it, and its failures: how many calls failed, and what
+-- the last of them was asked for.
+use Rattle.std.specs.Prelude.{◌≡◌, ◌<◌, ◌≤◌, ◌+◌, ◌%◌, ◌^◌, ℕ, List, length, take, drop, Option, None, Some, Result, Ok, Err, IfOk, IfSome}
+use Rattle.elf_image_stream.specs.declared.failures.Failures.{Failures}
+
+-- no call failed
+abbrev pub no_failures : Failures
+no_failures = record { count = 0; last = 0 }
+
+-- one call more failed, and was asked for this offset
+abbrev pub Fails : Failures → Failures → ℕ → Type 0
+Fails old new at = (new.count ≡ (old.count + 1) % 2 ^ 64) × (new.last ≡ at)
+
+-- a call failed that was asked for this offset, or none did
+abbrev pub Remembers : Option ℕ → Failures → Failures → Type 0
+Remembers None old new = new ≡ old
+Remembers (Some at) old new = Fails old new at
+
+-- a call that was asked for an offset failed where it answers so
+abbrev pub RemembersCall : {T E : Type 0} → ℕ → Failures → Failures → Result T E → Type 0
+RemembersCall at old new (Ok t) = new ≡ old
+RemembersCall at old new (Err e) = Fails old new at
+
+-- a read gives no byte though it has room for some, and the source does not tell where its bytes end
+abbrev pub IsDry : Option (List ℕ) → ℕ → ℕ → Type 0
+IsDry content room k = (content ≡ None) × (0 < room) × (k ≡ 0)
+
+-- a read of an offset failed where it answers so, and where it is dry
+abbrev pub RemembersRead : {E : Type 0} → Option (List ℕ) → ℕ → ℕ → Failures → Failures → Result ℕ E → Type 0
+RemembersRead content at room old new (Ok k) = (IsDry content room k → Fails old new at) × (¬ IsDry content room k → new ≡ old)
+RemembersRead content at room old new (Err e) = Fails old new at
+
+-- the length that is answered is that of the content
+abbrev pub SaysLength : {E : Type 0} → Option (List ℕ) → Result ℕ E → Type 0
+SaysLength content result = IfOk result (λ len. IfSome content (λ b. len ≡ length b))
+
+-- the source tells its bytes, and none stands at this offset
+abbrev pub EndsBy : Option (List ℕ) → ℕ → Type 0
+EndsBy content at = (b : List ℕ) × (content ≡ Some b) × (length b ≤ at)
+
+-- where the source tells its bytes, they reach to this offset
+abbrev pub Reaches : Option (List ℕ) → ℕ → Type 0
+Reaches content end = (b : List ℕ) → content ≡ Some b → end ≤ length b
+
+-- the first k bytes of a buffer are those of b from an offset on; there are none only where b ends, or none was asked for
+pub record GivesAt (b : List ℕ) (at k : ℕ) (buf : List ℕ) : Type 0 where
+  pub bytes : take k buf ≡ take k (drop at b)
+  pub within : 0 < k → at + k ≤ length b
+  pub some : k ≡ 0 → 0 < length buf → length b ≤ at
+
+abbrev pub GivesFrom : {E : Type 0} → Option (List ℕ) → ℕ → Result ℕ E → List ℕ → Type 0
+GivesFrom content at result buf = IfOk result (λ k. IfSome content (λ b. GivesAt b at k buf))

@@ -1,0 +1,42 @@
+//! Bytes that are read at any place, as those of a file on a disk.
+ghost use Rattle.std.specs.Prelude.{◌≡◌, ◌≤◌, length, IfOk};
+ghost use Rattle.elf_image_stream.specs.Source.{GivesFrom, RemembersCall, RemembersRead, SaysLength};
+
+use thiserror::Error;
+
+/// A call of a source failed.
+#[derive(Clone, Copy, Debug, PartialEq, Eq, Error)]
+#[error("a call of the source failed")]
+pub struct Failed;
+
+/// Bytes that are read at any place.
+///
+/// A source remembers its calls that failed, and tells its bytes or doesn't. Of one that tells them no call changes them. A file's source
+/// does not tell: a file may change while it is read. One that does not tell keeps [`Failures`](crate::Failures): `and_one_at(0)` behind
+/// a length that failed, and `and_read` behind each read.
+pub trait Source {
+    ghost use Rattle.std.specs.Prelude.{ℕ, List, None, Option};
+    ghost use Rattle.elf_image_stream.specs.declared.failures.Failures.{Failures};
+
+    // The bytes, where the source tells them.
+    ghost content: { Self → Option (List ℕ) } = { λ _. None };
+
+    // The calls that failed.
+    ghost failures: { Self → Failures };
+
+    /// How many bytes there are. [`Failed`] where the call fails, which was asked for offset 0 then.
+    fn length(&mut self) -> Result<u64, Failed>
+        ensures kept { content self.new ≡ content self.old }
+        ensures failures { RemembersCall 0 (failures self.old) (failures self.new) result }
+        ensures length { SaysLength (content self.old) result };
+
+    /// Reads bytes from offset `at` on to the front of `buf`, and answers how many. They may be fewer than `buf` has room for, but 0
+    /// only where no byte stands at the offset, or `buf` is empty. [`Failed`] where the call fails; `buf` may have changed then. A call
+    /// that answers 0 counts as failed too where `buf` has room and the source does not tell its bytes.
+    fn read_at(&mut self, at: u64, buf: &mut [u8]) -> Result<usize, Failed>
+        ensures kept { content self.new ≡ content self.old }
+        ensures failures { RemembersRead (content self.old) at (length buf.old) (failures self.old) (failures self.new) result }
+        ensures bound { IfOk result (λ k. k ≤ length buf.new) }
+        ensures same { length buf.new ≡ length buf.old }
+        ensures bytes { GivesFrom (content self.old) at result buf.new };
+}
