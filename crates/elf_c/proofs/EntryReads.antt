@@ -5,10 +5,10 @@ use Rattle.elf_field.specs.declared.dynamic.Dyn.{Dyn}
 use Rattle.elf_field.specs.declared.order.Order.{Order}
 use Rattle.elf_image_rules.proofs.Public.{FirstIn-front}
 use Rattle.elf_table_all.specs.DynamicStrings.{dynamic_strings}
-use Rattle.elf_table_base.specs.declared.table_kind.TableKind.{TableKind}
-use Rattle.elf_table_base.specs.declared.table_kind.TableKind.TheVariants.{DynamicArray, RelocationTable}
-use Rattle.elf_table_base.specs.OwnRules.{own_rules}
-use Rattle.elf_table_base.specs.Sections.{order, section, sections_in}
+use Rattle.elf_table_symbols.specs.declared.table_kind.TableKind.{TableKind}
+use Rattle.elf_table_symbols.specs.declared.table_kind.TableKind.TheVariants.{DynamicArray, RelocationTable}
+use Rattle.elf_table_symbols.specs.OwnRules.{own_rules}
+use Rattle.elf_table_symbols.specs.Sections.{order, section, sections_in}
 use Rattle.elf_table_lists.specs.DynamicArray.{dynamic_array_of, dynamic_entries, dynamic_entry, dynamic_entry_count, is_null_entry, no_dynamic_entry}
 use Rattle.elf_table_lists.specs.DynamicRules.{dynamic_section_rules}
 use Rattle.elf_table_lists.specs.Relocations.{has_addends, no_relocation_entry, relocation_count, relocation_in, relocations_in, relocations_of}

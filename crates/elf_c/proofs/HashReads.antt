@@ -9,9 +9,9 @@ use Rattle.elf_image_rules.specs.Rows.{FirstIn}
 use Rattle.elf_image_rules.specs.SoundTables.{HasSoundTables}
 use Rattle.elf_image_rules.specs.Tables.{bytes_in, content_extent, file_counts, header, section_header_count, sections}
 use Rattle.elf_image_rules.proofs.Public.{FirstIn-behind, FirstIn-front, sound_file, table_some}
-use Rattle.elf_table_base.specs.declared.table_kind.TableKind.TheVariants.{HashTable}
-use Rattle.elf_table_base.specs.OwnRules.{own_rules}
-use Rattle.elf_table_base.specs.Sections.{Sections, content, count, order, section, sections_in}
+use Rattle.elf_table_symbols.specs.declared.table_kind.TableKind.TheVariants.{HashTable}
+use Rattle.elf_table_symbols.specs.OwnRules.{own_rules}
+use Rattle.elf_table_symbols.specs.Sections.{Sections, content, count, order, section, sections_in}
 use Rattle.elf_table_hash.specs.HashRules.{hash_table_rules}
 use Rattle.elf_table_hash.specs.HashTable.{Valid}
 use Rattle.elf_table_hash.specs.HashView.{hash_of_section}

@@ -9,7 +9,7 @@ use Rattle.elf_field.specs.Abi.{SHT_SYMTAB_SHNDX}
 use Rattle.elf_field.specs.declared.shdr.Shdr.{Shdr}
 use Rattle.elf_image_outline.specs.Image.{no_section_header}
 use Rattle.elf_image_rules.specs.Tables.{content_extent}
-use Rattle.elf_table_base.specs.Sections.{Sections, count, section, sections_in}
+use Rattle.elf_table_symbols.specs.Sections.{Sections, count, section, sections_in}
 use Rattle.elf_table_symbols.specs.Below.{Below}
 use Rattle.elf_table_symbols.specs.IndexTable.{IsIndexTable, index_table}
 use Rattle.elf_table_symbols.proofs.Public.{lowest_position}

@@ -12,8 +12,8 @@ use Rattle.elf_field.specs.WordLaws.{word_laws}
 use Rattle.elf_field.specs.declared.order.Order.{Order}
 use Rattle.elf_image_rules.specs.Rows.{FirstIn}
 use Rattle.elf_image_rules.specs.Tables.{bytes_in}
-use Rattle.elf_table_base.specs.declared.table_kind.TableKind.TheVariants.{NoteSection}
-use Rattle.elf_table_base.specs.Sections.{content, order, sections_in}
+use Rattle.elf_table_symbols.specs.declared.table_kind.TableKind.TheVariants.{NoteSection}
+use Rattle.elf_table_symbols.specs.Sections.{content, order, sections_in}
 use Rattle.elf_table_lists.specs.NoteRules.{note_rules, note_section_rules}
 use Rattle.elf_table_lists.specs.Notes.{AreNotesWhole, NoteValue, desc_start, descsz, name_start, namesz, note_at, note_end, note_offset, notes_in, notes_of, padded}
 use Rattle.elf_table_lists.proofs.Public.{note_entry}

@@ -8,7 +8,7 @@ use Rattle.elf_field.specs.Shdr.{shdr_at}
 use Rattle.elf_field.specs.declared.shdr.Shdr.{Shdr}
 use Rattle.elf_image_outline.specs.Image.{no_section_header}
 use Rattle.elf_image_rules.specs.Tables.{bytes_in, content_extent, file_counts, header, sections}
-use Rattle.elf_table_base.specs.Sections.{content, count, section, sections_in}
+use Rattle.elf_table_symbols.specs.Sections.{content, count, section, sections_in}
 use Rattle.elf_c.specs.Files.{HasEntry, IsFileOf, file_order}
 use Rattle.elf_c.specs.declared.shapes.File.{File}
 use Rattle.elf_c.proofs.FileEntries.{section_at, section_below}

@@ -5,9 +5,9 @@ use Rattle.elf_field.specs.Abi.{SHN_XINDEX, WORD_SIZE}
 use Rattle.elf_field.specs.declared.order.Order.{Order}
 use Rattle.elf_image_rules.specs.Rows.{FirstIn}
 use Rattle.elf_image_rules.proofs.Public.{FirstIn-behind, FirstIn-front}
-use Rattle.elf_table_base.specs.declared.table_kind.TableKind.TheVariants.{SymbolTable}
-use Rattle.elf_table_base.specs.OwnRules.{own_rules}
-use Rattle.elf_table_base.specs.Sections.{Sections, content, order, section, sections_in}
+use Rattle.elf_table_symbols.specs.declared.table_kind.TableKind.TheVariants.{SymbolTable}
+use Rattle.elf_table_symbols.specs.OwnRules.{own_rules}
+use Rattle.elf_table_symbols.specs.Sections.{Sections, content, order, section, sections_in}
 use Rattle.elf_table_symbols.specs.IndexTable.{index_table, index_words}
 use Rattle.elf_table_symbols.specs.StringRules.{linked_string_rules}
 use Rattle.elf_table_symbols.specs.SymbolParts.{symbol_parts}

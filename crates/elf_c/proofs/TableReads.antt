@@ -14,9 +14,9 @@ use Rattle.elf_image_rules.specs.SoundTables.{HasSoundTables}
 use Rattle.elf_image_rules.specs.Tables.{bytes_in, content_extent, file_counts, header, order_of, section_header_count, sections}
 use Rattle.elf_image_rules.proofs.Public.{sound_file, table_some}
 use Rattle.elf_table_all.specs.TableRules.{rules_of_kind, table_rules}
-use Rattle.elf_table_base.specs.declared.table_kind.TableKind.{TableKind}
-use Rattle.elf_table_base.specs.Sections.{Sections, content, count, order, section, sections_in}
-use Rattle.elf_table_base.specs.TableKind.{kind_of}
+use Rattle.elf_table_symbols.specs.declared.table_kind.TableKind.{TableKind}
+use Rattle.elf_table_symbols.specs.Sections.{Sections, content, count, order, section, sections_in}
+use Rattle.elf_table_symbols.specs.TableKind.{kind_of}
 use Rattle.elf_table_symbols.specs.IndexTable.{index_table, index_words}
 use Rattle.elf_c.specs.Files.{order_named}
 use Rattle.elf_c.specs.Tables.{IsTableOfKind, IsTableOf, index_place, linked_place, slot_bytes, strings_place}

@@ -6,7 +6,7 @@ use Rattle.elf_field.specs.declared.dynamic.Dyn.{Dyn}
 use Rattle.elf_field.specs.declared.order.Order.{Order}
 use Rattle.elf_field.specs.declared.sym.Sym.{Sym}
 use Rattle.elf_table_lists.specs.declared.relocation.Relocation as listed
-use Rattle.elf_table_base.specs.declared.table_kind.TableKind.TheVariants.{NoteSection, SymbolTable}
+use Rattle.elf_table_symbols.specs.declared.table_kind.TableKind.TheVariants.{NoteSection, SymbolTable}
 use Rattle.elf_table_lists.specs.Notes.{NoteValue, note_end}
 use Rattle.elf_table_symbols.specs.SymbolRules.{entry, entry_count, word}
 use Rattle.elf_table_symbols.specs.Symbols.{SymbolEntryValue, place_of}

@@ -6,10 +6,10 @@ use Rattle.elf_image_rules.specs.ImageRules.{KeepsRecordRules}
 use Rattle.elf_image_rules.specs.Rows.{FirstIn}
 use Rattle.elf_image_rules.specs.Tables.{bytes_in, content_extent}
 use Rattle.elf_table_all.specs.TableRules.{table_rules}
-use Rattle.elf_table_base.specs.declared.table_kind.TableKind.{TableKind}
-use Rattle.elf_table_base.specs.declared.table_kind.TableKind.TheVariants.{SymbolTable, RelocationTable, NoteSection, DynamicArray, HashTable}
-use Rattle.elf_table_base.specs.Sections.{Sections, content, count, order, section, sections_in}
-use Rattle.elf_table_base.specs.TableKind.{kind_of}
+use Rattle.elf_table_symbols.specs.declared.table_kind.TableKind.{TableKind}
+use Rattle.elf_table_symbols.specs.declared.table_kind.TableKind.TheVariants.{SymbolTable, RelocationTable, NoteSection, DynamicArray, HashTable}
+use Rattle.elf_table_symbols.specs.Sections.{Sections, content, count, order, section, sections_in}
+use Rattle.elf_table_symbols.specs.TableKind.{kind_of}
 use Rattle.elf_table_hash.specs.WordLists.{words_in}
 use Rattle.elf_table_lists.specs.DynamicArray.{dynamic_array_of}
 use Rattle.elf_table_lists.specs.Notes.{notes_of}

@@ -5,8 +5,8 @@ ghost use Rattle.std.specs.Bool.{OnFalse, OnTrue};
 ghost use Rattle.elf_field.specs.Abi.{SHN_XINDEX as shn_xindex, WORD_SIZE as word_size};
 ghost use Rattle.elf_image_type.specs.Strings.{string};
 ghost use Rattle.elf_table_all.specs.DynamicStrings.{dynamic_strings};
-ghost use Rattle.elf_table_base.specs.Sections.{content, order, sections_in};
-ghost use Rattle.elf_table_base.specs.declared.table_kind.TableKind.TheVariants.{DynamicArray, RelocationTable, SymbolTable};
+ghost use Rattle.elf_table_symbols.specs.Sections.{content, order, sections_in};
+ghost use Rattle.elf_table_symbols.specs.declared.table_kind.TableKind.TheVariants.{DynamicArray, RelocationTable, SymbolTable};
 ghost use Rattle.elf_table_lists.specs.DynamicArray.{dynamic_array_of, no_dynamic_entry};
 ghost use Rattle.elf_table_lists.specs.Relocations.{no_relocation_entry, relocations_of};
 ghost use Rattle.elf_table_symbols.specs.SymbolRules.{entry as entry_of};
@@ -25,9 +25,8 @@ use crate::tables::is_of_kind;
 use elf_c_room::Slot;
 use elf_field::Order;
 use elf_field::abi::{SHN_XINDEX, SHT_RELA, SYM_SIZE, WORD_SIZE};
-use elf_table_base::TableKind;
 use elf_table_lists::{dynamic_entry, dynamic_entry_count, relocation_at, relocation_count};
-use elf_table_symbols::{entry, word};
+use elf_table_symbols::{TableKind, entry, word};
 
 /// Symbol `index` of a symbol table; false where there is none of this index, or its `st_shndx` is `SHN_XINDEX` and the index table has no
 /// word for it, and for a table of another kind. A name of no bytes is said to stand at offset 0.

@@ -1,8 +1,8 @@
 //! Finding a symbol by its name (gABI chapter 5, Hash Table).
 ghost use Rattle.std.specs.Prelude.{◌≡◌, ◌↔◌, ℕ, IfSome, IsSome, IsTrue, None, Some};
 ghost use Rattle.std.specs.Bool.{OnFalse, OnTrue};
-ghost use Rattle.elf_table_base.specs.Sections.{sections_in};
-ghost use Rattle.elf_table_base.specs.declared.table_kind.TableKind.TheVariants.{HashTable};
+ghost use Rattle.elf_table_symbols.specs.Sections.{sections_in};
+ghost use Rattle.elf_table_symbols.specs.declared.table_kind.TableKind.TheVariants.{HashTable};
 ghost use Rattle.elf_table_hash.specs.HashView.{hash_of_section};
 ghost use Rattle.elf_table_hash.specs.Probe.{HasSymbolNamed, IsProbed};
 ghost use Rattle.elf_c.specs.Tables.{IsTableOfKind, IsTableOf};
@@ -10,8 +10,8 @@ ghost use Rattle.elf_c.specs.Tables.{IsTableOfKind, IsTableOf};
 use crate::places::{bytes_of, order_of};
 use crate::shapes::Table;
 use crate::tables::is_of_kind;
-use elf_table_base::TableKind;
 use elf_table_hash::find_in;
+use elf_table_symbols::TableKind;
 
 /// The index of the first symbol of this name on the chain of the name's bucket of a hash table that breaks no rule; false where no symbol
 /// from 1 on has the name, and for a table of another kind.

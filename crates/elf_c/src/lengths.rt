@@ -5,8 +5,8 @@ ghost use Rattle.elf_c.specs.Lengths.{length_in};
 
 use elf_field::Order;
 use elf_field::abi::{NHDR_SIZE, SHT_RELA, SYM_SIZE, WORD_SIZE};
-use elf_table_base::TableKind;
 use elf_table_lists::{NoteHeader, first_null_entry, relocation_count};
+use elf_table_symbols::TableKind;
 
 /// How many entries a table of this kind has in a section of this type: of a dynamic array those before the first of tag `DT_NULL`, of a
 /// hash table its words.

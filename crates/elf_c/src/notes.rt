@@ -1,8 +1,8 @@
 //! The notes of note sections (gABI chapter 5, Note Section).
 ghost use Rattle.std.specs.Prelude.{◌≡◌, ℕ, ◌+◌, ◌<◌, ◌≤◌, ◌↔◌, IfNone, IfSome, IsSome, IsTrue, SomeIff, get_or, length};
 ghost use Rattle.std.specs.Bool.{OnFalse, OnTrue};
-ghost use Rattle.elf_table_base.specs.Sections.{content, order, sections_in};
-ghost use Rattle.elf_table_base.specs.declared.table_kind.TableKind.TheVariants.{NoteSection};
+ghost use Rattle.elf_table_symbols.specs.Sections.{content, order, sections_in};
+ghost use Rattle.elf_table_symbols.specs.declared.table_kind.TableKind.TheVariants.{NoteSection};
 ghost use Rattle.elf_table_lists.specs.Notes.{note_at as note_of_content, note_end as note_end_of, note_offset, notes_of};
 ghost use Rattle.elf_c.specs.Entries.{HasNoteAt, LiesInFile, no_note_value, note_told};
 ghost use Rattle.elf_c.specs.Files.{order_named};
@@ -15,8 +15,8 @@ use crate::tables::is_of_kind;
 use elf_c_room::Slot;
 use elf_field::abi::{N_TYPE_AT, NHDR_SIZE};
 use elf_field::{Order, get_at};
-use elf_table_base::TableKind;
 use elf_table_lists::NoteHeader;
+use elf_table_symbols::TableKind;
 
 /// Note `index` of a note section; false where there is none of this index, or it or one before it is cut, and for a table of another kind.
 /// It goes over the notes before it.

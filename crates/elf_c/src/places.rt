@@ -4,7 +4,7 @@ ghost use Rattle.elf_field.specs.Abi.{PHDR_SIZE as phdr_size, SHDR_SIZE as shdr_
 ghost use Rattle.elf_field.specs.Phdr.{phdr_at};
 ghost use Rattle.elf_field.specs.Shdr.{shdr_at};
 ghost use Rattle.elf_image_rules.specs.Tables.{content_extent};
-ghost use Rattle.elf_table_base.specs.Sections.{count, section, sections_in};
+ghost use Rattle.elf_table_symbols.specs.Sections.{count, section, sections_in};
 ghost use Rattle.elf_c_room.specs.Room.{extent_in};
 ghost use Rattle.elf_c.specs.Files.{HasEntry, IsFileOf, file_order, order_named};
 ghost use Rattle.elf_c.specs.Tables.{slot_bytes};

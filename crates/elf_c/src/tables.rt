@@ -1,7 +1,7 @@
 //! The tables that sections hold (gABI chapters 4 and 5).
 ghost use Rattle.std.specs.Prelude.{◌≡◌, ◌↔◌, IsTrue, Some, SomeIff};
 ghost use Rattle.std.specs.Bool.{OnFalse, OnTrue};
-ghost use Rattle.elf_table_base.specs.Sections.{sections_in};
+ghost use Rattle.elf_table_symbols.specs.Sections.{sections_in};
 ghost use Rattle.elf_table_symbols.specs.IndexTable.{index_table};
 ghost use Rattle.elf_c.specs.Files.{IsFileOf};
 ghost use Rattle.elf_c.specs.Tables.{HoldsTable, IsLinkThere, IsTableOfKind, index_place, linked_place, strings_place, table_in};
@@ -11,7 +11,7 @@ use crate::places::{NOWHERE, bytes_of, order_of, place_of_content, section_of};
 use crate::shapes::{File, Table, put};
 use elf_c_room::Slot;
 use elf_field::abi::SHT_SYMTAB_SHNDX;
-use elf_table_base::TableKind;
+use elf_table_symbols::TableKind;
 
 /// The numbers of the table in section `index`; false where there is no section of this index, or it holds no table that the accessors
 /// read, or a section that it links to is not there.

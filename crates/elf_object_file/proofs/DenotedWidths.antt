@@ -11,7 +11,7 @@ use Rattle.elf_field.specs.declared.order.Order.{Order}
 use Rattle.elf_image_outline.specs.Image.{ImageValue, IsSoundImage, value_names}
 use Rattle.elf_image_type.specs.Strings.{string}
 use Rattle.elf_image_rules.specs.Tables.{name_table, no_section_header}
-use Rattle.elf_table_base.specs.Sections.{content, order, section, sections_of}
+use Rattle.elf_table_symbols.specs.Sections.{content, order, section, sections_of}
 use Rattle.elf_table_symbols.specs.SymbolParts.{symbol_parts}
 use Rattle.elf_table_symbols.specs.SymbolRules.{entry}
 use Rattle.elf_table_symbols.specs.Symbols as table_symbols

@@ -16,7 +16,7 @@ use Rattle.elf_object_writer.specs.ObjectWriting.{IsLayoutWritten}
 use Rattle.elf_object_writer.specs.declared.object_writing.ObjectWriteFault.{ObjectWriteFault}
 use Rattle.elf_object_writer.specs.declared.object_writing.ObjectWriteFault.TheVariants.{TooLong, OutOfMemory, Io}
 use Rattle.elf_object_writer.proofs.Public.{one_layout}
-use Rattle.elf_table_base.specs.Sections.{sections_of}
+use Rattle.elf_table_symbols.specs.Sections.{sections_of}
 
 module _ (o : ObjectValue) (object : IsObject o) (widths : ObjectFits o) where
   pub file_of : (b : List ℕ) → Laid o b → length b ≤ MAX_LEN → IsWrittenFile o b

@@ -4,7 +4,7 @@ use Rattle.std.specs.Prelude.{None}
 use Rattle.elf_image_outline.specs.Image.{ImageValue, IsImage}
 use Rattle.elf_image_type.proofs.Public.{image_is_sound}
 use Rattle.elf_image_rules.specs.Rows.{FirstIn}
-use Rattle.elf_table_base.specs.Sections.{sections_of}
+use Rattle.elf_table_symbols.specs.Sections.{sections_of}
 use Rattle.elf_object_reader.specs.Denotes.{Denotes}
 use Rattle.elf_object_reader.specs.FileRules.{file_rules}
 use Rattle.elf_object_reader.proofs.Public.{object_kept}

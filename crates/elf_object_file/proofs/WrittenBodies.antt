@@ -5,7 +5,7 @@ use Rattle.std.specs.List.{range_with_len}
 use Rattle.std.proofs.lemmas.Bool.{ne_eqb}
 use Rattle.elf_field.specs.Abi.{GRP_COMDAT, SHT_GROUP, SHT_NOBITS, SHT_REL, SHT_RELA}
 use Rattle.elf_field.specs.declared.order.Order.{Order}
-use Rattle.elf_table_base.specs.Sections.{Sections, content, order, section}
+use Rattle.elf_table_symbols.specs.Sections.{Sections, content, order, section}
 use Rattle.elf_table_lists.specs.Groups.{GroupValue, group_in, group_of, member, member_count, members_in}
 use Rattle.elf_table_lists.specs.Relocations.{has_addends, relocation_count, relocation_in, relocations_in, relocations_of}
 use Rattle.elf_object_reader.specs.declared.left_out.LeftOut.{LeftOut}

@@ -4,7 +4,7 @@ use Rattle.std.specs.Prelude.{codes, if◌then◌else◌}
 use Rattle.std.proofs.lemmas.Bool.{cases_lt}
 use Rattle.elf_field.specs.declared.shdr.Shdr.{Shdr}
 use Rattle.elf_object_strings.specs.StringTable.{name_offset}
-use Rattle.elf_table_base.specs.Sections.{Sections, content, count, section}
+use Rattle.elf_table_symbols.specs.Sections.{Sections, content, count, section}
 use Rattle.elf_object_writer.specs.Laid.{section_header, section_size}
 use Rattle.elf_object_type.specs.Object.{ObjectValue, section_at}
 use Rattle.elf_object_writer.specs.PlainSections.{PlainSection, has_index_table, index_table_section, own_section, section_names, strings, strings_at, symbol_names, symbol_table_at, symbol_table_section}

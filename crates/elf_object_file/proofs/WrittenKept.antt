@@ -11,7 +11,7 @@ use Rattle.elf_image_type.specs.RelocatableFile.{long_number, short_index}
 use Rattle.elf_image_rules.specs.Tables.{name_table}
 use Rattle.elf_object_strings.specs.StringTable.{name_offset}
 use Rattle.elf_table_symbols.specs.IndexTable.{IsIndexTable, index_table}
-use Rattle.elf_table_base.specs.Sections.{count, section}
+use Rattle.elf_table_symbols.specs.Sections.{count, section}
 use Rattle.elf_object_reader.specs.declared.left_out.LeftOut.{LeftOut}
 use Rattle.elf_object_reader.specs.Kept.{is_at, is_kept, kept, left_out, position_of, symbol_indexes, symbol_strings, symbol_table}
 use Rattle.elf_object_writer.specs.Laid.{section_header}

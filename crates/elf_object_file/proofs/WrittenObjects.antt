@@ -9,7 +9,7 @@ use Rattle.elf_image_type.proofs.Public.{image_is_sound, relocatable_accepted, r
 use Rattle.elf_image_rules.specs.HeaderRules.{MAX_LEN}
 use Rattle.elf_image_rules.specs.ImageRules.{IsFault}
 use Rattle.elf_image_rules.specs.Rows.{FirstIn}
-use Rattle.elf_table_base.specs.Sections.{Sections, sections_of}
+use Rattle.elf_table_symbols.specs.Sections.{Sections, sections_of}
 use Rattle.elf_object_reader.specs.Denotes.{Denotes}
 use Rattle.elf_object_reader.specs.FileRules.{file_rules}
 use Rattle.elf_object_writer.specs.Laid.{Laid, layout_bytes}

@@ -1,7 +1,7 @@
 -- An own section of an object that is written is read back as itself.
 use Rattle.std.proofs.Common.{◌≡◌, ◌<◌, ◌+◌, ℕ, suc, List, Option, length, map, inl, inr, refl, ap, ◌∙◌, arith}
 use Rattle.elf_field.specs.declared.shdr.Shdr.{Shdr}
-use Rattle.elf_table_base.specs.Sections.{section}
+use Rattle.elf_table_symbols.specs.Sections.{section}
 use Rattle.elf_object_type.specs.declared.section.Info.{Info}
 use Rattle.elf_object_reader.specs.Denotes.{section_denoted}
 use Rattle.elf_object_reader.specs.Kept.{body_kind, kept, left_out}

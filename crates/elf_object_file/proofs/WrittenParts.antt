@@ -13,7 +13,7 @@ use Rattle.elf_image_rules.specs.Tables.{order_of}
 use Rattle.elf_object_strings.specs.Names.{HasNoZero}
 use Rattle.elf_object_strings.specs.StringTable.{name_offset, string_table}
 use Rattle.elf_object_strings.proofs.Public.{holds_names}
-use Rattle.elf_table_base.specs.Sections.{content, order, section}
+use Rattle.elf_table_symbols.specs.Sections.{content, order, section}
 use Rattle.elf_object_reader.specs.Denotes.{section_name_of}
 use Rattle.elf_object_writer.specs.Laid.{encoding}
 use Rattle.elf_object_type.specs.Object.{ObjectValue, section_at}

@@ -7,7 +7,7 @@ use Rattle.elf_field.specs.declared.shdr.Shdr.{Shdr}
 use Rattle.elf_image_type.specs.RelocatableFile.{long_number, short_index}
 use Rattle.elf_image_rules.specs.Rows.{FirstIn}
 use Rattle.elf_table_symbols.specs.declared.symbol.Place.TheVariants as table_place
-use Rattle.elf_table_base.specs.Sections.{Sections, content, count, order, section}
+use Rattle.elf_table_symbols.specs.Sections.{Sections, content, count, order, section}
 use Rattle.elf_table_symbols.specs.SymbolParts.{symbol_parts}
 use Rattle.elf_table_symbols.specs.SymbolRules.{entry_count, word}
 use Rattle.elf_table_symbols.specs.Symbols as table_symbols

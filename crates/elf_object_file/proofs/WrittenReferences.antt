@@ -4,7 +4,7 @@ use Rattle.std.specs.Prelude.{bit_and}
 use Rattle.std.proofs.lemmas.Bool.{cases_eq, cases_lt, ne_eqb}
 use Rattle.elf_field.specs.Abi.{SHF_INFO_LINK}
 use Rattle.elf_field.specs.declared.shdr.Shdr.{Shdr}
-use Rattle.elf_table_base.specs.Sections.{Sections}
+use Rattle.elf_table_symbols.specs.Sections.{Sections}
 use Rattle.elf_object_reader.specs.declared.body_kind.BodyKind.{BodyKind}
 use Rattle.elf_object_reader.specs.declared.body_kind.BodyKind.TheVariants.{Bits, NoBits, Relocs, Group}
 use Rattle.elf_object_reader.specs.declared.left_out.LeftOut.{LeftOut}

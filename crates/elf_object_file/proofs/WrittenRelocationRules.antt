@@ -5,14 +5,14 @@ use Rattle.std.proofs.lemmas.Bool.{cases_eq, cases_lt}
 use Rattle.elf_field.specs.declared.order.Order.{Order}
 use Rattle.elf_image_rules.specs.Rows.{FirstIn}
 use Rattle.elf_image_rules.proofs.Public.{FirstIn-later}
-use Rattle.elf_table_base.specs.declared.table_kind.TableKind.TheVariants.{RelocationTable}
-use Rattle.elf_table_base.specs.OwnRules.{own_rules}
+use Rattle.elf_table_symbols.specs.declared.table_kind.TableKind.TheVariants.{RelocationTable}
+use Rattle.elf_table_symbols.specs.OwnRules.{own_rules}
 use Rattle.elf_table_lists.specs.declared.relocation.Relocation as table
 use Rattle.elf_table_lists.specs.RelocationRules.{relocation_entry_rules, relocation_section_rules}
 use Rattle.elf_field.specs.Abi.{relocation_size}
-use Rattle.elf_table_base.specs.Sections.{content, order, section}
+use Rattle.elf_table_symbols.specs.Sections.{content, order, section}
 use Rattle.elf_table_symbols.specs.SymbolRules.{entry_count, symbol_table_rules}
-use Rattle.elf_table_base.specs.TableKind.{entry_size, kind_of}
+use Rattle.elf_table_symbols.specs.TableKind.{entry_size, kind_of}
 use Rattle.elf_table_lists.specs.Relocations.{has_addends, relocation_count, relocation_in}
 use Rattle.elf_object_type.specs.declared.relocation.Relocation.{Relocation}
 use Rattle.elf_object_type.specs.Object.{BodyValue, relocs, ObjectValue, SectionValue, no_relocation, no_section, section_at}

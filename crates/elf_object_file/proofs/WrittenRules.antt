@@ -4,7 +4,7 @@ use Rattle.std.specs.List.{range_with_len}
 use Rattle.elf_extent.specs.Least.{Never}
 use Rattle.elf_image_rules.specs.Rows.{FirstIn}
 use Rattle.elf_image_rules.proofs.Public.{FirstIn-later}
-use Rattle.elf_table_base.specs.Sections.{Sections, section}
+use Rattle.elf_table_symbols.specs.Sections.{Sections, section}
 use Rattle.elf_object_reader.specs.declared.body_kind.BodyKind.{BodyKind}
 use Rattle.elf_object_reader.specs.FileRules.{file_rules, foreign_section, front_rules, reference_rules, rules_behind, rules_of_bodies, rules_of_body, second_symbol_table, stray_index_table, symbol_rules_in}
 use Rattle.elf_object_reader.specs.Kept.{body_kind, kept, left_out, symbol_table}

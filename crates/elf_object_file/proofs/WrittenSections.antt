@@ -5,7 +5,7 @@ use Rattle.elf_extent.proofs.Public.{fits_length}
 use Rattle.elf_image_type.specs.RelocatableFile.{first_header}
 use Rattle.elf_image_rules.specs.Tables.{section_header_of}
 use Rattle.elf_object_strings.specs.StringTable.{name_offset}
-use Rattle.elf_table_base.specs.Sections.{content, count, section}
+use Rattle.elf_table_symbols.specs.Sections.{content, count, section}
 use Rattle.elf_object_writer.specs.Laid.{layout_parts, section_header, section_headers}
 use Rattle.elf_object_type.specs.Object.{ObjectValue}
 use Rattle.elf_object_writer.specs.PlainSections.{PlainSection, name_table_at, plain_sections, section_names}

@@ -5,10 +5,10 @@ use Rattle.std.proofs.lemmas.Bool.{true≢false}
 use Rattle.elf_extent.specs.Least.{Never}
 use Rattle.elf_image_rules.specs.Rows.{FirstIn, OfSome}
 use Rattle.elf_image_rules.proofs.Public.{FirstIn-later}
-use Rattle.elf_table_base.specs.declared.table_kind.TableKind.TheVariants.{SymbolTable}
+use Rattle.elf_table_symbols.specs.declared.table_kind.TableKind.TheVariants.{SymbolTable}
 use Rattle.elf_table_symbols.specs.IndexTable.{index_table, index_words}
-use Rattle.elf_table_base.specs.OwnRules.{own_rules}
-use Rattle.elf_table_base.specs.Sections.{content, section}
+use Rattle.elf_table_symbols.specs.OwnRules.{own_rules}
+use Rattle.elf_table_symbols.specs.Sections.{content, section}
 use Rattle.elf_table_symbols.specs.StringRules.{linked_string_rules}
 use Rattle.elf_table_symbols.specs.SymbolParts.{symbol_parts}
 use Rattle.elf_table_symbols.specs.SymbolRules.{entry_count, index_table_rules, rest_rules, second_index_table, symbol_entry_rules, symbol_table_rules, wrong_index_table_size}

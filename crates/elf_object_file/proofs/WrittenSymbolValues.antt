@@ -13,7 +13,7 @@ use Rattle.elf_image_type.specs.Strings.{string}
 use Rattle.elf_object_strings.specs.Names.{HasNoZero}
 use Rattle.elf_object_strings.specs.StringTable.{name_offset, string_table}
 use Rattle.elf_table_symbols.specs.IndexTable.{index_table, index_words}
-use Rattle.elf_table_base.specs.Sections.{Sections, content, section}
+use Rattle.elf_table_symbols.specs.Sections.{Sections, content, section}
 use Rattle.elf_table_symbols.specs.SymbolRules.{entry_binding, entry_count, word}
 use Rattle.elf_table_symbols.specs.Symbols as table
 use Rattle.elf_table_symbols.specs.Symbols.{place_of, symbol_entry_in, symbols_in, symbols_of}

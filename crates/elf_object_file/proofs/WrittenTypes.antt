@@ -2,7 +2,7 @@
 use Rattle.std.proofs.Common.{◌≡◌, ◌≢◌, ◌<◌, ◌+◌, ◌⊎◌, ℕ, zero, suc, Bool, true, false, List, length, get_or, inl, inr, refl, sym, ap, subst, arith}
 use Rattle.elf_field.specs.Abi.{SHT_DYNAMIC, SHT_DYNSYM, SHT_GROUP, SHT_HASH, SHT_NOBITS, SHT_NULL, SHT_REL, SHT_RELA, SHT_SHLIB, SHT_STRTAB, SHT_SYMTAB, SHT_SYMTAB_SHNDX}
 use Rattle.elf_field.specs.declared.shdr.Shdr.{Shdr}
-use Rattle.elf_table_base.specs.Sections.{count, section}
+use Rattle.elf_table_symbols.specs.Sections.{count, section}
 use Rattle.elf_object_reader.specs.FileRules.{IsForeignType}
 use Rattle.elf_object_type.specs.Object.{BodyValue, bits, no_bits, relocs, group, ObjectValue, section_at}
 use Rattle.elf_object_writer.specs.PlainSections.{body_type, has_index_table, symbol_table_at}

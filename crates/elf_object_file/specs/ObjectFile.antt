@@ -16,7 +16,7 @@ use Rattle.elf_object_writer.specs.LayoutView.{IsLayoutFault}
 use Rattle.elf_object_writer.specs.declared.layout.LayoutFault.TheVariants as layout
 use Rattle.elf_object_writer.specs.declared.object_writing.ObjectWriteFault.{ObjectWriteFault}
 use Rattle.elf_object_writer.specs.declared.object_writing.ObjectWriteFault.TheVariants.{TooLong, OutOfMemory, Io}
-use Rattle.elf_table_base.specs.Sections.{sections_of}
+use Rattle.elf_table_symbols.specs.Sections.{sections_of}
 
 -- b is the file of an object: its canonical layout, no longer than the longest file. It breaks no rule of images, and what stands as it
 -- breaks no rule of files read as objects and denotes this object and no other; and the file of any object is b exactly where the two

@@ -5,7 +5,7 @@ use Rattle.elf_extent.specs.Place.{Least}
 use Rattle.elf_image_type.specs.RelocatableFile.{all_headers}
 use Rattle.elf_image_rules.specs.HeaderRules.{MAX_LEN}
 use Rattle.elf_object_strings.specs.StringTable.{name_offset}
-use Rattle.elf_table_base.specs.Sections.{Sections}
+use Rattle.elf_table_symbols.specs.Sections.{Sections}
 use Rattle.elf_object_writer.specs.Laid.{Laid, file_header, layout_bytes, layout_parts, section_headers}
 use Rattle.elf_object_type.specs.Object.{ObjectValue}
 use Rattle.elf_object_type.specs.ObjectRules.{IsObject}

@@ -3,7 +3,7 @@ ghost use Rattle.std.specs.Prelude.{◌≡◌};
 ghost use Rattle.elf_image_outline.specs.Image.{IsImage};
 ghost use Rattle.elf_object_file.specs.ObjectFile.{IsObjectWritten, IsWrittenFile};
 ghost use Rattle.elf_object_reader.specs.Denotes.{Denotes};
-ghost use Rattle.elf_table_base.specs.Sections.{sections_of};
+ghost use Rattle.elf_table_symbols.specs.Sections.{sections_of};
 
 use elf_image_type::Image;
 use elf_object_type::Object;

@@ -12,7 +12,7 @@ ghost use Rattle.elf_object_file.specs.WrittenObject.{IsWrittenAs, written_secti
 ghost use Rattle.elf_image_rules.specs.HeaderRules.{MAX_LEN};
 ghost use Rattle.elf_image_rules.specs.ImageRules.{IsFault};
 ghost use Rattle.elf_image_rules.specs.Rows.{FirstIn};
-ghost use Rattle.elf_table_base.specs.Sections.{sections_of};
+ghost use Rattle.elf_table_symbols.specs.Sections.{sections_of};
 
 /// What an object is written as breaks no rule of images; what stands as it has the sections of the object's canonical layout,
 /// breaks no rule of objects, and denotes the object. No other object is written so.

@@ -7,7 +7,7 @@ use Rattle.elf_image_rules.proofs.Public.{FirstIn-later, FirstIn-sooner}
 use Rattle.elf_object_reader.specs.FileRules.{rules_of_bodies, rules_of_body}
 use Rattle.elf_object_reader.specs.Kept.{body_kind, is_kept, kept}
 use Rattle.elf_object_reader.specs.declared.left_out.LeftOut.{LeftOut}
-use Rattle.elf_table_base.specs.Sections.{Sections, count, section}
+use Rattle.elf_table_symbols.specs.Sections.{Sections, count, section}
 use Rattle.elf_object_reader.proofs.KeptLists.{filter_from_kept, filter_from_other}
 
 -- those that are kept from section i on, and "what they find is what all find"

@@ -19,11 +19,11 @@ use Rattle.elf_object_reader.specs.declared.body_kind.BodyKind.TheVariants.{Bits
 use Rattle.elf_object_reader.specs.declared.left_out.LeftOut.{LeftOut}
 use Rattle.elf_object_type.specs.declared.relocation.Relocation.{Relocation}
 use Rattle.elf_object_type.specs.declared.section.Info.TheVariants as info
-use Rattle.elf_table_base.specs.declared.table_kind.TableKind.{TableKind}
-use Rattle.elf_table_base.specs.declared.table_kind.TableKind.TheVariants.{RelocationTable, SectionGroup}
-use Rattle.elf_table_base.specs.OwnRules.{own_rules}
-use Rattle.elf_table_base.specs.Sections.{Sections, content, order, section, sections_of}
-use Rattle.elf_table_base.specs.TableKind.{entry_size}
+use Rattle.elf_table_symbols.specs.declared.table_kind.TableKind.{TableKind}
+use Rattle.elf_table_symbols.specs.declared.table_kind.TableKind.TheVariants.{RelocationTable, SectionGroup}
+use Rattle.elf_table_symbols.specs.OwnRules.{own_rules}
+use Rattle.elf_table_symbols.specs.Sections.{Sections, content, order, section, sections_of}
+use Rattle.elf_table_symbols.specs.TableKind.{entry_size}
 use Rattle.elf_table_lists.specs.declared.relocation.Relocation as table_relocation
 use Rattle.elf_table_lists.specs.GroupRules.{group_section_rules}
 use Rattle.elf_table_lists.specs.RelocationRules.{relocation_section_rules}

@@ -14,7 +14,7 @@ use Rattle.elf_object_type.specs.Positions.{LacksFlag, is_group, members_of}
 use Rattle.elf_object_reader.specs.declared.body_kind.BodyKind.{BodyKind}
 use Rattle.elf_object_reader.specs.declared.body_kind.BodyKind.TheVariants.{Bits, NoBits, Relocs, Group}
 use Rattle.elf_object_reader.specs.declared.left_out.LeftOut.{LeftOut}
-use Rattle.elf_table_base.specs.Sections.{Sections, content, count, order, section}
+use Rattle.elf_table_symbols.specs.Sections.{Sections, content, count, order, section}
 use Rattle.elf_table_lists.specs.GroupRules.{group_section_rules}
 use Rattle.elf_table_lists.specs.Groups.{member, member_count}
 use Rattle.elf_table_lists.proofs.Public.{sound_group}

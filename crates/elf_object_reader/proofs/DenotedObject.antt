@@ -13,7 +13,7 @@ use Rattle.elf_object_reader.specs.Denotes.{Denotes, section_denoted}
 use Rattle.elf_object_reader.specs.Kept.{is_kept, kept, left_out, position_of}
 use Rattle.elf_object_type.specs.Object.{ObjectValue, SectionValue, no_section, section_at}
 use Rattle.elf_object_type.specs.SectionRules.{zero_in_section_name}
-use Rattle.elf_table_base.specs.Sections.{Sections, count, section}
+use Rattle.elf_table_symbols.specs.Sections.{Sections, count, section}
 use Rattle.elf_object_reader.proofs.KeptIndex.{listed, stands_at}
 
 -- the section at a position is one of the file that is kept

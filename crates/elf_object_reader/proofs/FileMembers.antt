@@ -12,13 +12,13 @@ use Rattle.elf_object_reader.specs.FileRules as file
 use Rattle.elf_object_reader.specs.FileRules.{file_rules, reference_rules, wrong_group_member}
 use Rattle.elf_object_reader.specs.Kept.{is_kept, left_out, position_of, symbol_table}
 use Rattle.elf_object_type.specs.Object.{ObjectValue, SymbolValue}
-use Rattle.elf_table_base.specs.declared.table_kind.TableKind.{TableKind}
-use Rattle.elf_table_base.specs.declared.table_kind.TableKind.TheVariants.{RelocationTable, SectionGroup}
-use Rattle.elf_table_base.specs.OwnRules.{own_rules}
-use Rattle.elf_table_base.specs.Sections.{Sections, content, count, order, section}
+use Rattle.elf_table_symbols.specs.declared.table_kind.TableKind.{TableKind}
+use Rattle.elf_table_symbols.specs.declared.table_kind.TableKind.TheVariants.{RelocationTable, SectionGroup}
+use Rattle.elf_table_symbols.specs.OwnRules.{own_rules}
+use Rattle.elf_table_symbols.specs.Sections.{Sections, content, count, order, section}
 use Rattle.elf_table_symbols.specs.SymbolRules.{entry_count, symbol_table_rules}
 use Rattle.elf_table_symbols.specs.Symbols.{symbols_of}
-use Rattle.elf_table_base.specs.TableKind.{IsLinkOf, IsSymbolType}
+use Rattle.elf_table_symbols.specs.TableKind.{IsLinkOf, IsSymbolType}
 use Rattle.elf_table_lists.specs.GroupRules as table
 use Rattle.elf_table_lists.specs.GroupRules.{IsUnfit, group_front_rules, group_member_rules, group_rules, group_section_rules, wrong_member}
 use Rattle.elf_table_lists.specs.Groups.{group_of, member, member_count, members_in}

@@ -4,7 +4,7 @@ use Rattle.elf_image_rules.specs.Rows.{FirstIn}
 use Rattle.elf_image_rules.proofs.Public.{FirstIn-behind, FirstIn-front}
 use Rattle.elf_object_reader.specs.FileRules.{file_rules, front_rules, reference_rules, rules_behind, rules_of_bodies, rules_of_symbols, symbol_outside_rules, symbol_rules_in}
 use Rattle.elf_object_reader.specs.Kept.{kept, left_out, symbol_table}
-use Rattle.elf_table_base.specs.Sections.{Sections}
+use Rattle.elf_table_symbols.specs.Sections.{Sections}
 
 pub front_sound : (f : Sections) → FirstIn (file_rules f) None → FirstIn (front_rules f) None
 unfolding file_rules

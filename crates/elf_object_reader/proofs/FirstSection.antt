@@ -4,7 +4,7 @@ use Rattle.std.specs.Prelude.{◌&&◌, position}
 use Rattle.std.proofs.lemmas.Bool.{cases_lt}
 use Rattle.elf_field.specs.declared.shdr.Shdr.{Shdr}
 use Rattle.elf_image_outline.specs.Image.{no_section_header}
-use Rattle.elf_table_base.specs.Sections.{Sections, count, section}
+use Rattle.elf_table_symbols.specs.Sections.{Sections, count, section}
 use Rattle.elf_table_symbols.proofs.Public.{lowest_position}
 
 pub and_true : (s t : Bool) → (s && t) ≡ true → (s ≡ true) × (t ≡ true)

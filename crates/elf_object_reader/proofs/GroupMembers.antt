@@ -7,7 +7,7 @@ use Rattle.elf_field.specs.Abi.{SHT_GROUP}
 use Rattle.elf_object_reader.specs.FileRules.{IsMemberBefore, wrong_group_member_before, wrong_group_member_of}
 use Rattle.elf_object_reader.specs.MemberMarks.{AreMarks}
 use Rattle.elf_object_reader.specs.declared.left_out.LeftOut.{LeftOut}
-use Rattle.elf_table_base.specs.Sections.{Sections, section}
+use Rattle.elf_table_symbols.specs.Sections.{Sections, section}
 
 -- a section below i + 1 is below i, or i
 below_next : (i h : ℕ) → h < i + 1 → (h < i) ⊎ (h ≡ i)

@@ -18,11 +18,11 @@ use Rattle.elf_object_reader.specs.declared.kept_section.KeptSection.{KeptSectio
 use Rattle.elf_object_reader.specs.declared.left_out.LeftOut.{LeftOut}
 use Rattle.elf_object_reader.specs.declared.object_file.ObjectFile.{ObjectFile}
 use Rattle.elf_object_reader.specs.declared.object_reader.ObjectReader.{ObjectReader}
-use Rattle.elf_table_base.specs.declared.table_kind.TableKind.{TableKind}
-use Rattle.elf_table_base.specs.declared.table_kind.TableKind.TheVariants.{RelocationTable, SectionGroup, SymbolTable}
-use Rattle.elf_table_base.specs.Sections.{count, section, sections_of}
+use Rattle.elf_table_symbols.specs.declared.table_kind.TableKind.{TableKind}
+use Rattle.elf_table_symbols.specs.declared.table_kind.TableKind.TheVariants.{RelocationTable, SectionGroup, SymbolTable}
+use Rattle.elf_table_symbols.specs.Sections.{count, section, sections_of}
 use Rattle.elf_table_symbols.specs.SymbolRules.{symbol_table_rules}
-use Rattle.elf_table_base.specs.TableKind.{kind_of}
+use Rattle.elf_table_symbols.specs.TableKind.{kind_of}
 use Rattle.elf_table_all.specs.TableRules.{rules_of_kind, table_rules}
 use Rattle.elf_table_all.specs.TableVerdicts.{HasSoundTable}
 use Rattle.elf_table_all.proofs.Public.{kind_asked, none_kept}

@@ -12,7 +12,7 @@ use Rattle.elf_field.specs.declared.shdr.Shdr.{Shdr}
 use Rattle.elf_image_outline.specs.Image.{no_section_header}
 use Rattle.elf_object_reader.specs.Kept.{is_kept, position_of, symbol_table}
 use Rattle.elf_object_reader.specs.declared.left_out.LeftOut.{LeftOut}
-use Rattle.elf_table_base.specs.Sections.{Sections, count, section}
+use Rattle.elf_table_symbols.specs.Sections.{Sections, count, section}
 
 -- the indexes from i on are i and those from i + 1 on
 range_from : (n i : ℕ) → i < n → range_with_len i (n - i) ≡ i ∷ range_with_len (i + 1) (n - (i + 1))

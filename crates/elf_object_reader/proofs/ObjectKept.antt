@@ -8,7 +8,7 @@ use Rattle.elf_object_type.specs.Object.{ObjectValue}
 use Rattle.elf_object_type.specs.ObjectRules.{IsObject}
 use Rattle.elf_object_type.specs.SectionRules.{object_section_rules}
 use Rattle.elf_object_type.specs.SymbolRules.{object_symbol_rules}
-use Rattle.elf_table_base.specs.Sections.{sections_of}
+use Rattle.elf_table_symbols.specs.Sections.{sections_of}
 use Rattle.elf_object_reader.proofs.DenotedFields.{no_wrong_alignment, no_wrong_field}
 use Rattle.elf_object_reader.proofs.DenotedGroups.{no_wrong_membership}
 use Rattle.elf_object_reader.proofs.DenotedObject.{no_zero_in_section_name}

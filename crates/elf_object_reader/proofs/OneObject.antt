@@ -3,7 +3,7 @@ use Rattle.std.proofs.Common.{◌≡◌, ℕ, List, map, ap, refl, sym, ◌∙�
 use Rattle.std.specs.Prelude.{slice_index}
 use Rattle.elf_field.specs.Abi.{EI_ABIVERSION, EI_OSABI}
 use Rattle.elf_field.specs.declared.order.Order.{Order}
-use Rattle.elf_table_base.specs.Sections.{Sections, order}
+use Rattle.elf_table_symbols.specs.Sections.{Sections, order}
 use Rattle.elf_object_reader.specs.Denotes.{Denotes, section_denoted, symbols_denoted}
 use Rattle.elf_object_reader.specs.Kept.{kept, left_out, symbol_table}
 use Rattle.elf_object_type.specs.Object.{ObjectValue, SectionValue, SymbolValue}

@@ -4,7 +4,7 @@ use Rattle.std.specs.Prelude.{◌/◌, ◌%◌}
 use Rattle.elf_field.specs.Sym.{sym_at}
 use Rattle.elf_object_type.specs.Object.{SymbolValue}
 use Rattle.elf_object_type.specs.declared.symbol.Place.{Place}
-use Rattle.elf_table_base.specs.Sections.{Sections, content, order}
+use Rattle.elf_table_symbols.specs.Sections.{Sections, content, order}
 use Rattle.elf_table_symbols.specs.SymbolParts.{symbol_parts}
 use Rattle.elf_table_symbols.specs.SymbolRules.{entry, entry_count}
 use Rattle.elf_table_symbols.specs.Symbols as table_symbols

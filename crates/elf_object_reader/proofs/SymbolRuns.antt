@@ -5,7 +5,7 @@ use Rattle.elf_image_rules.specs.Rows.{FirstIn}
 use Rattle.elf_image_rules.proofs.Public.{FirstIn-later, FirstIn-sooner}
 use Rattle.elf_object_reader.specs.FileRules.{symbol_outside, symbol_outside_rules, symbol_rules_in}
 use Rattle.elf_object_reader.specs.declared.left_out.LeftOut.{LeftOut}
-use Rattle.elf_table_base.specs.Sections.{Sections}
+use Rattle.elf_table_symbols.specs.Sections.{Sections}
 use Rattle.elf_table_symbols.specs.SymbolRules.{symbol_table_rules}
 
 -- without a symbol table none is broken

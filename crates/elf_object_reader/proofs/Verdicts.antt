@@ -6,11 +6,11 @@ use Rattle.elf_image_stream.specs.declared.fault.Fault.{Fault}
 use Rattle.elf_image_stream.specs.declared.fault.Fault.TheVariants.{OutOfMemory, Io, Rule}
 use Rattle.elf_image_rules.specs.Rows.{FirstIn, Ruled}
 use Rattle.elf_image_rules.proofs.Public.{FirstIn-later, FirstIn-sooner}
-use Rattle.elf_table_base.specs.Judged.{IsJudgedBehind}
+use Rattle.elf_table_symbols.specs.Judged.{IsJudgedBehind}
 use Rattle.elf_object_reader.specs.FileRules.{file_rules, front_rules, rules_behind}
 use Rattle.elf_object_reader.specs.Kept.{left_out}
 use Rattle.elf_object_reader.specs.declared.left_out.LeftOut.{LeftOut}
-use Rattle.elf_table_base.specs.Sections.{Sections}
+use Rattle.elf_table_symbols.specs.Sections.{Sections}
 use Rattle.elf_object_reader.proofs.FileRuns.{front_sound}
 
 -- what a call answers that tests these rules and makes nothing

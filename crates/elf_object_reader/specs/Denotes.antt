@@ -6,7 +6,7 @@ use Rattle.elf_image_outline.specs.Image.{value_names}
 use Rattle.elf_image_type.specs.Strings.{string}
 use Rattle.elf_table_symbols.specs.declared.symbol.Place as table_place
 use Rattle.elf_table_symbols.specs.declared.symbol.Place.TheVariants.{Undefined, Absolute, Common, Reserved, Section}
-use Rattle.elf_table_base.specs.Sections.{Sections, content, order, section}
+use Rattle.elf_table_symbols.specs.Sections.{Sections, content, order, section}
 use Rattle.elf_table_symbols.specs.Symbols as table_symbols
 use Rattle.elf_table_symbols.specs.Symbols.{symbols_of}
 use Rattle.elf_table_lists.specs.declared.relocation.Relocation as table_relocation

@@ -6,7 +6,7 @@ use Rattle.elf_field.specs.declared.ehdr.Ehdr.{Ehdr}
 use Rattle.elf_image_rules.specs.Rows.{AtEntry, Either, OfSome, Row, Ruled, When, rule}
 use Rattle.elf_table_symbols.specs.declared.symbol.Place.{Place}
 use Rattle.elf_table_symbols.specs.declared.symbol.Place.TheVariants.{Undefined, Absolute, Common, Reserved, Section}
-use Rattle.elf_table_base.specs.Sections.{Sections, content, count, header_at, order, section}
+use Rattle.elf_table_symbols.specs.Sections.{Sections, content, count, header_at, order, section}
 use Rattle.elf_table_symbols.specs.SymbolRules.{symbol_table_rules}
 use Rattle.elf_table_symbols.specs.Symbols.{symbols_of}
 use Rattle.elf_table_symbols.specs.SymbolView.{no_symbol_entry}

@@ -6,7 +6,7 @@ use Rattle.elf_field.specs.Abi.{SHT_GROUP, SHT_NOBITS, SHT_NULL, SHT_REL, SHT_RE
 use Rattle.elf_field.specs.declared.shdr.Shdr.{Shdr}
 use Rattle.elf_image_rules.specs.Tables.{name_table}
 use Rattle.elf_table_symbols.specs.IndexTable.{index_table}
-use Rattle.elf_table_base.specs.Sections.{Sections, count, section}
+use Rattle.elf_table_symbols.specs.Sections.{Sections, count, section}
 use Rattle.elf_object_reader.specs.declared.body_kind.BodyKind.{BodyKind}
 use Rattle.elf_object_reader.specs.declared.body_kind.BodyKind.TheVariants.{Bits, NoBits, Relocs, Group}
 use Rattle.elf_object_reader.specs.declared.left_out.LeftOut.{LeftOut}

@@ -3,7 +3,7 @@ use Rattle.std.specs.Prelude.{◌≡◌, ℕ, ◌+◌, List, length, map}
 use Rattle.std.specs.List.{range_with_len}
 use Rattle.elf_object_reader.specs.Kept.{position_of}
 use Rattle.elf_object_reader.specs.declared.left_out.LeftOut.{LeftOut}
-use Rattle.elf_table_base.specs.Sections.{Sections, count}
+use Rattle.elf_table_symbols.specs.Sections.{Sections, count}
 
 -- for each section its position; the last one is that of any section that isn't there
 pub record AreSectionPositions (left : LeftOut) (f : Sections) (positions : List ℕ) : Type 0 where

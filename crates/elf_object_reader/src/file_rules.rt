@@ -7,8 +7,8 @@ ghost use Rattle.elf_object_reader.specs.Kept.{body_kind, kept};
 ghost use Rattle.elf_object_reader.specs.ObjectFile.{sections_of_file};
 ghost use Rattle.elf_image_rules.specs.Broken.{fault_of};
 ghost use Rattle.elf_image_rules.specs.Rows.{FirstIn};
-ghost use Rattle.elf_table_base.specs.Judged.{IsJudgedBehind};
-ghost use Rattle.elf_table_base.specs.Sections.{content, section};
+ghost use Rattle.elf_table_symbols.specs.Judged.{IsJudgedBehind};
+ghost use Rattle.elf_table_symbols.specs.Sections.{content, section};
 
 use crate::body_kind::BodyKind;
 use crate::file_section::FileSection;

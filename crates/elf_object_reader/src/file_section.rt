@@ -1,6 +1,6 @@
 //! A section of a file that is read as an object.
 ghost use Rattle.std.specs.Prelude.{◌≡◌, ◌<◌, length};
-ghost use Rattle.elf_table_base.specs.Sections.{section, sections_of};
+ghost use Rattle.elf_table_symbols.specs.Sections.{section, sections_of};
 
 use crate::object_file::ObjectFile;
 use elf_field::Shdr;

@@ -1,6 +1,6 @@
 //! The symbol table of a file that is read as an object.
 ghost use Rattle.std.specs.Prelude.{◌≡◌, ◌<◌, length};
-ghost use Rattle.elf_table_base.specs.Sections.{sections_of};
+ghost use Rattle.elf_table_symbols.specs.Sections.{sections_of};
 ghost use Rattle.elf_table_symbols.specs.Symbols.{symbols_of};
 
 use crate::object_file::ObjectFile;

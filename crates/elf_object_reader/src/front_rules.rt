@@ -5,7 +5,7 @@ ghost use Rattle.elf_object_reader.specs.FileRules.{IsForeignType, foreign_secti
 ghost use Rattle.elf_object_reader.specs.Kept.{symbol_table as symbol_table_of};
 ghost use Rattle.elf_image_rules.specs.Broken.{fault_of};
 ghost use Rattle.elf_image_rules.specs.Rows.{FirstIn};
-ghost use Rattle.elf_table_base.specs.Sections.{sections_of};
+ghost use Rattle.elf_table_symbols.specs.Sections.{sections_of};
 
 use crate::rules::*;
 use elf_field::abi::*;

@@ -1,7 +1,7 @@
 //! A section of a file that the object keeps.
 ghost use Rattle.std.specs.Prelude.{◌≡◌, ◌<◌, true, length};
 ghost use Rattle.elf_object_reader.specs.Kept.{is_kept};
-ghost use Rattle.elf_table_base.specs.Sections.{section, sections_of};
+ghost use Rattle.elf_table_symbols.specs.Sections.{section, sections_of};
 
 use crate::object_reader::ObjectReader;
 use elf_field::Shdr;

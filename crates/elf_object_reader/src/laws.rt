@@ -4,7 +4,7 @@ ghost use Rattle.elf_object_type.specs.Object.{ObjectValue};
 ghost use Rattle.elf_object_reader.specs.Denotes.{Denotes};
 ghost use Rattle.elf_object_reader.specs.FileRules.{file_rules};
 ghost use Rattle.elf_image_rules.specs.Rows.{FirstIn};
-ghost use Rattle.elf_table_base.specs.Sections.{Sections};
+ghost use Rattle.elf_table_symbols.specs.Sections.{Sections};
 
 /// A file that is read as an object has one fault or none: no other rule and offset meets the definition, and it can't be that no answer
 /// does.

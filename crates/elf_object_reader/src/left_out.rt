@@ -3,7 +3,7 @@ ghost use Rattle.std.specs.Prelude.{◌≡◌, ◌==◌, ◌&&◌, ◌<◌, ◌�
 ghost use Rattle.std.specs.Bool.{OnTrue};
 ghost use Rattle.elf_object_reader.specs.Kept.{is_at as is_at_of, is_kept as is_kept_of, left_out, symbol_table as symbol_table_of};
 ghost use Rattle.elf_table_symbols.specs.IndexTable.{index_table as index_table_of};
-ghost use Rattle.elf_table_base.specs.Sections.{sections_of};
+ghost use Rattle.elf_table_symbols.specs.Sections.{sections_of};
 
 use elf_field::abi::*;
 use elf_image_type::Image;

@@ -4,7 +4,7 @@ ghost use Rattle.elf_extent.specs.Least.{IsLowest, lower_of};
 ghost use Rattle.elf_object_reader.specs.FileRules.{IsMemberBefore, IsWrongGroupMember, wrong_group_member, wrong_group_member_of};
 ghost use Rattle.elf_object_reader.specs.MemberMarks.{AreMarks};
 ghost use Rattle.elf_object_reader.specs.ObjectFile.{sections_of_file};
-ghost use Rattle.elf_table_base.specs.Sections.{count};
+ghost use Rattle.elf_table_symbols.specs.Sections.{count};
 
 use crate::file_section::FileSection;
 use crate::object_file::ObjectFile;

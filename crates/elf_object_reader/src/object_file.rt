@@ -3,7 +3,7 @@ ghost use Rattle.std.specs.Prelude.{◌≡◌, ◌<◌, length};
 ghost use Rattle.std.specs.Bool.{OnTrue};
 ghost use Rattle.elf_object_reader.specs.Kept.{is_kept as is_kept_of, left_out};
 ghost use Rattle.elf_table_all.specs.TableVerdicts.{AreVerdicts};
-ghost use Rattle.elf_table_base.specs.Sections.{sections_of};
+ghost use Rattle.elf_table_symbols.specs.Sections.{sections_of};
 
 use crate::file_section::FileSection;
 use crate::left_out::LeftOut;

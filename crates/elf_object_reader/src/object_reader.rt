@@ -6,7 +6,7 @@ ghost use Rattle.elf_object_reader.specs.Denotes.{section_reference};
 ghost use Rattle.elf_object_reader.specs.FileRules.{file_rules};
 ghost use Rattle.elf_object_reader.specs.Kept.{position_of};
 ghost use Rattle.elf_object_reader.specs.Reading.{AreSectionPositions};
-ghost use Rattle.elf_table_base.specs.Sections.{sections_of};
+ghost use Rattle.elf_table_symbols.specs.Sections.{sections_of};
 
 use crate::object_file::ObjectFile;
 

@@ -6,8 +6,8 @@ ghost use Rattle.elf_object_reader.specs.FileRules.{file_rules, front_rules};
 ghost use Rattle.elf_object_reader.specs.ObjectFile.{sections_of_file};
 ghost use Rattle.elf_object_type.specs.ObjectView.{value_of};
 ghost use Rattle.elf_image_rules.specs.Rows.{FirstIn};
-ghost use Rattle.elf_table_base.specs.Judged.{IsJudgedBehind};
-ghost use Rattle.elf_table_base.specs.Sections.{sections_of};
+ghost use Rattle.elf_table_symbols.specs.Judged.{IsJudgedBehind};
+ghost use Rattle.elf_table_symbols.specs.Sections.{sections_of};
 
 use crate::front_rules::judge_front;
 use crate::left_out::LeftOut;

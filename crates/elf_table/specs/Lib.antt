@@ -1,9 +1,9 @@
 -- The words of the contracts that this door shows, for the contracts of those who stand on it.
 pub use Rattle.elf_table_all.specs.TableRules
-pub use Rattle.elf_table_base.specs.Judged
-pub use Rattle.elf_table_base.specs.OwnRules
-pub use Rattle.elf_table_base.specs.Sections
-pub use Rattle.elf_table_base.specs.TableKind
+pub use Rattle.elf_table_symbols.specs.Judged
+pub use Rattle.elf_table_symbols.specs.OwnRules
+pub use Rattle.elf_table_symbols.specs.Sections
+pub use Rattle.elf_table_symbols.specs.TableKind
 pub use Rattle.elf_table_hash.specs.ChainDepths
 pub use Rattle.elf_table_hash.specs.Chains
 pub use Rattle.elf_table_hash.specs.ElfHash

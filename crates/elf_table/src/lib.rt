@@ -13,9 +13,8 @@
 //! ```
 #![tactic(auto)]
 
-pub use elf_table_base::rules;
 pub use elf_table_hash::{Hash, HashFault, HashIter, build_hash, elf_hash};
 pub use elf_table_lists::{
     Dynamic, DynamicIter, Group, GroupIter, Note, NoteIter, Notes, RelocIter, Relocation, Relocs,
 };
-pub use elf_table_symbols::{Place, Strings, Symbol, SymbolIter, Symbols};
+pub use elf_table_symbols::{Place, Strings, Symbol, SymbolIter, Symbols, rules};

@@ -4,7 +4,7 @@ use Rattle.std.proofs.lemmas.Bool.{cases_eq}
 use Rattle.std.proofs.lemmas.List.{length-set}
 use Rattle.elf_table_symbols.specs.declared.index_tables.IndexTables.{IndexTables}
 use Rattle.elf_table_symbols.specs.IndexTable.{IsIndexTable, noted}
-use Rattle.elf_table_base.specs.Sections.{Sections, count}
+use Rattle.elf_table_symbols.specs.Sections.{Sections, count}
 use Rattle.elf_table_symbols.proofs.Public.{index_tables_noted, index_tables_passed}
 use Rattle.elf_table_all.specs.TableVerdicts.{AreAllIndexTables, no_index_tables}
 

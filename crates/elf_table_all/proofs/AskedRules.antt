@@ -1,9 +1,9 @@
 -- Which rules a section's type asks for.
 use Rattle.std.proofs.Common.{◌≡◌, ℕ, None, Option, Some, length, subst}
 use Rattle.elf_image_rules.specs.Rows.{FirstIn}
-use Rattle.elf_table_base.specs.declared.table_kind.TableKind.{TableKind}
-use Rattle.elf_table_base.specs.Sections.{Sections, section, sections_of}
-use Rattle.elf_table_base.specs.TableKind.{kind_of}
+use Rattle.elf_table_symbols.specs.declared.table_kind.TableKind.{TableKind}
+use Rattle.elf_table_symbols.specs.Sections.{Sections, section, sections_of}
+use Rattle.elf_table_symbols.specs.TableKind.{kind_of}
 use Rattle.elf_table_all.specs.TableRules.{rules_of_kind, table_rules}
 use Rattle.elf_table_all.specs.TableVerdicts.{AreVerdicts, HasSoundTable, TablesValue}
 

@@ -5,7 +5,7 @@ use Rattle.elf_image_stream.specs.declared.fault.Fault.TheVariants.{Io, OutOfMem
 use Rattle.elf_image_rules.specs.declared.broken.Broken.{Broken}
 use Rattle.elf_image_rules.specs.Broken.{fault_of}
 use Rattle.elf_image_rules.specs.Rows.{FirstIn, Ruled}
-use Rattle.elf_table_base.specs.Judged.{IsJudgedBehind}
+use Rattle.elf_table_symbols.specs.Judged.{IsJudgedBehind}
 use Rattle.elf_table_all.specs.Verdict.{IsUnread, IsVerdictOf}
 
 -- nothing was read for it, and its verdict is the first rule that is broken

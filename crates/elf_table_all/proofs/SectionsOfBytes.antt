@@ -5,7 +5,7 @@ use Rattle.elf_field.specs.declared.ehdr.Ehdr.{Ehdr}
 use Rattle.elf_field.specs.declared.shdr.Shdr.{Shdr}
 use Rattle.elf_image_outline.specs.Image.{ImageValue, IsImage}
 use Rattle.elf_image_rules.specs.Tables.{bytes_in, content_extent, section_header_count, sections}
-use Rattle.elf_table_base.specs.Sections.{Sections, sections_in, sections_of}
+use Rattle.elf_table_symbols.specs.Sections.{Sections, sections_in, sections_of}
 
 -- the section headers of bytes with this header, and what follows from them
 abbrev headers_at : List ℕ → Ehdr → List Shdr

@@ -1,6 +1,6 @@
 -- The name of a section group: its signature's. (gABI chapter 4, Section Groups.)
 use Rattle.std.specs.Prelude.{ℕ, List, get_or}
-use Rattle.elf_table_base.specs.Sections.{Sections, section}
+use Rattle.elf_table_symbols.specs.Sections.{Sections, section}
 use Rattle.elf_table_symbols.specs.Symbols.{symbols_of}
 use Rattle.elf_table_symbols.specs.SymbolView.{no_symbol_entry}
 

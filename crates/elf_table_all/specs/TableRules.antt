@@ -1,11 +1,11 @@
 -- The rules of the table that a section holds, by the kind of the table.
 use Rattle.std.specs.Prelude.{ℕ, Option, None, Some, List, []}
 use Rattle.elf_image_rules.specs.Rows.{Ruled}
-use Rattle.elf_table_base.specs.declared.table_kind.TableKind.{TableKind}
-use Rattle.elf_table_base.specs.declared.table_kind.TableKind.TheVariants.{SymbolTable, RelocationTable, SectionGroup, NoteSection, DynamicArray, HashTable}
-use Rattle.elf_table_base.specs.Sections.{Sections, section}
+use Rattle.elf_table_symbols.specs.declared.table_kind.TableKind.{TableKind}
+use Rattle.elf_table_symbols.specs.declared.table_kind.TableKind.TheVariants.{SymbolTable, RelocationTable, SectionGroup, NoteSection, DynamicArray, HashTable}
+use Rattle.elf_table_symbols.specs.Sections.{Sections, section}
 use Rattle.elf_table_symbols.specs.SymbolRules.{symbol_table_rules}
-use Rattle.elf_table_base.specs.TableKind.{kind_of}
+use Rattle.elf_table_symbols.specs.TableKind.{kind_of}
 use Rattle.elf_table_hash.specs.HashRules.{hash_table_rules}
 use Rattle.elf_table_lists.specs.DynamicRules.{dynamic_section_rules}
 use Rattle.elf_table_lists.specs.GroupRules.{group_section_rules}

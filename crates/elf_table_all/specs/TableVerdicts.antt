@@ -4,9 +4,9 @@ use Rattle.elf_image_rules.specs.Rows.{FirstIn}
 use Rattle.elf_image_outline.specs.Image.{ImageValue}
 use Rattle.elf_table_symbols.specs.declared.index_tables.IndexTables.{IndexTables}
 use Rattle.elf_table_symbols.specs.IndexTable.{AreIndexTables}
-use Rattle.elf_table_base.specs.Sections.{Sections, count, section, sections_of}
-use Rattle.elf_table_base.specs.TableKind.{kind_of}
-use Rattle.elf_table_base.specs.declared.table_kind.TableKind.{TableKind}
+use Rattle.elf_table_symbols.specs.Sections.{Sections, count, section, sections_of}
+use Rattle.elf_table_symbols.specs.TableKind.{kind_of}
+use Rattle.elf_table_symbols.specs.declared.table_kind.TableKind.{TableKind}
 use Rattle.elf_table_all.specs.TableRules.{table_rules}
 
 abbrev pub no_index_tables : IndexTables

@@ -1,7 +1,7 @@
 -- What contracts see of the tables of an image.
 use Rattle.std.specs.Prelude.{length, map}
 use Rattle.elf_image_rules.specs.Broken.{fault_of}
-use Rattle.elf_table_base.specs.Sections.{sections_of}
+use Rattle.elf_table_symbols.specs.Sections.{sections_of}
 use Rattle.elf_table_all.specs.declared.tables.Tables.TheInside.{Inside}
 use Rattle.elf_table_all.specs.TableVerdicts.{AreAllIndexTables, AreVerdicts, TablesValue}
 

@@ -11,7 +11,7 @@ ghost use Rattle.elf_field.specs.Word.{word_at};
 ghost use Rattle.elf_image_outline.specs.Image.{ImageValue, IsImage};
 ghost use Rattle.elf_image_rules.specs.Rows.{FirstIn};
 ghost use Rattle.elf_image_rules.specs.Tables.{bytes_in};
-ghost use Rattle.elf_table_base.specs.Sections.{Sections, sections_in, sections_of};
+ghost use Rattle.elf_table_symbols.specs.Sections.{Sections, sections_in, sections_of};
 ghost use Rattle.elf_table_symbols.specs.StringRules.{string_table_rules};
 ghost use Rattle.elf_table_symbols.specs.SymbolRules.{entry, symbol_table_rules, word};
 ghost use Rattle.elf_table_lists.specs.DynamicArray.{dynamic_entry};

@@ -18,12 +18,11 @@ mod laws;
 mod tables;
 mod verdicts;
 
-pub use elf_table_base::{TableKind, rules};
 pub use elf_table_hash::{Hash, HashFault, HashIter, build_hash, elf_hash};
 pub use elf_table_lists::{
     Dynamic, DynamicIter, Group, GroupIter, Note, NoteIter, Notes, RelocIter, Relocation, Relocs,
     is_string_tag, member, member_count,
 };
-pub use elf_table_symbols::{Place, Strings, Symbol, SymbolIter, Symbols};
+pub use elf_table_symbols::{Place, Strings, Symbol, SymbolIter, Symbols, TableKind, rules};
 pub use laws::{entries_in_file, one_table_fault, sections_of_bytes};
 pub use tables::Tables;

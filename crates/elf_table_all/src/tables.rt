@@ -2,9 +2,9 @@
 ghost use Rattle.std.specs.Prelude.{◌≡◌, ◌<◌, None, IfOk, get_or, length};
 ghost use Rattle.elf_image_rules.specs.Broken.{fault_of};
 ghost use Rattle.elf_image_rules.specs.Rows.{FirstIn};
-ghost use Rattle.elf_table_base.specs.Sections.{sections_of};
+ghost use Rattle.elf_table_symbols.specs.Sections.{sections_of};
 ghost use Rattle.elf_table_symbols.specs.Symbols.{symbols_of};
-ghost use Rattle.elf_table_base.specs.declared.table_kind.TableKind.TheVariants as kind;
+ghost use Rattle.elf_table_symbols.specs.declared.table_kind.TableKind.TheVariants as kind;
 ghost use Rattle.elf_table_hash.specs.HashView.{hash_of_section};
 ghost use Rattle.elf_table_lists.specs.DynamicArray.{dynamic_array_of};
 ghost use Rattle.elf_table_lists.specs.Groups.{group_of};

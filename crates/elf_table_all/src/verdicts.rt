@@ -3,10 +3,10 @@ ghost use Rattle.std.specs.Prelude.{◌≡◌, ◌<◌, Some, IfOk, length, map}
 ghost use Rattle.elf_image_rules.specs.Broken.{fault_of};
 ghost use Rattle.elf_image_rules.specs.Rows.{FirstIn};
 ghost use Rattle.elf_table_symbols.specs.IndexTable.{AreIndexTables};
-ghost use Rattle.elf_table_base.specs.Sections.{section, sections_of};
+ghost use Rattle.elf_table_symbols.specs.Sections.{section, sections_of};
 ghost use Rattle.elf_table_symbols.specs.SymbolRules.{symbol_table_rules};
-ghost use Rattle.elf_table_base.specs.TableKind.{kind_of};
-ghost use Rattle.elf_table_base.specs.declared.table_kind.TableKind.TheVariants as kind;
+ghost use Rattle.elf_table_symbols.specs.TableKind.{kind_of};
+ghost use Rattle.elf_table_symbols.specs.declared.table_kind.TableKind.TheVariants as kind;
 ghost use Rattle.elf_table_all.specs.TableRules.{table_rules};
 ghost use Rattle.elf_table_symbols.specs.LinkedVerdicts.{AreSymbolVerdicts};
 ghost use Rattle.elf_table_all.specs.TableVerdicts.{AreAllIndexTables, AreVerdicts};
@@ -15,12 +15,11 @@ ghost use Rattle.elf_table_all.specs.Verdict.{IsUnread, IsVerdictOf};
 use elf_image_rules::Broken;
 use elf_image_stream::Fault;
 use elf_image_type::Image;
-use elf_table_base::{TableKind, TableSection};
 use elf_table_hash::judge_hash_table;
 use elf_table_lists::{
     judge_dynamic_section, judge_group_section, judge_note_section, judge_relocation_section,
 };
-use elf_table_symbols::{IndexTables, SymbolVerdicts, judge_symbol_table};
+use elf_table_symbols::{IndexTables, SymbolVerdicts, TableKind, TableSection, judge_symbol_table};
 use std::alloc::{AllocError, Global};
 
 /// The verdict on the table in each section; `Ok` where there is none.

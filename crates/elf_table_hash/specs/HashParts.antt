@@ -1,7 +1,7 @@
 -- What the rules of a hash table look at, beside its own section header: its words, and the names of the symbols of the symbol
 -- table that it links to. (gABI chapter 5, Hash Table.)
 use Rattle.std.specs.Prelude.{ℕ, List}
-use Rattle.elf_table_base.specs.Sections.{Sections, content, header_at, order, section}
+use Rattle.elf_table_symbols.specs.Sections.{Sections, content, header_at, order, section}
 use Rattle.elf_table_hash.specs.declared.hash_parts.HashParts as declared
 use Rattle.elf_table_hash.specs.WordLists.{symbol_names_of, words_in}
 

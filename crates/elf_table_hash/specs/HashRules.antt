@@ -2,9 +2,9 @@
 use Rattle.std.specs.Prelude.{◌≡◌, ◌≢◌, ℕ, ◌+◌, ◌*◌, ◌<◌, ◌≤◌, ◌⊎◌, List, [], ◌∷◌, ◌++◌, get_or, length}
 use Rattle.elf_field.specs.Abi.{SH_SIZE_AT, WORD_SIZE}
 use Rattle.elf_image_rules.specs.Rows.{AtEntry, Either, Row, Ruled, When, rule}
-use Rattle.elf_table_base.specs.declared.table_kind.TableKind.TheVariants.{HashTable}
-use Rattle.elf_table_base.specs.OwnRules.{own_rules}
-use Rattle.elf_table_base.specs.Sections.{Sections, section}
+use Rattle.elf_table_symbols.specs.declared.table_kind.TableKind.TheVariants.{HashTable}
+use Rattle.elf_table_symbols.specs.OwnRules.{own_rules}
+use Rattle.elf_table_symbols.specs.Sections.{Sections, section}
 use Rattle.elf_table_symbols.specs.SymbolRules.{symbol_table_rules}
 use Rattle.elf_table_hash.specs.Chains.{Ends, IsOn}
 use Rattle.elf_table_hash.specs.HashParts.{HashPartsValue, hash_parts}

@@ -1,6 +1,6 @@
 -- The hash table in a section, as a value.
 use Rattle.std.specs.Prelude.{ℕ}
-use Rattle.elf_table_base.specs.Sections.{Sections, content, order, section}
+use Rattle.elf_table_symbols.specs.Sections.{Sections, content, order, section}
 use Rattle.elf_table_hash.specs.Probe.{HashValue}
 use Rattle.elf_table_hash.specs.WordLists.{symbol_names_of, words_in}
 

@@ -5,7 +5,7 @@ use Rattle.std.specs.List.{range_with_len}
 use Rattle.elf_field.specs.Abi.{WORD_SIZE}
 use Rattle.elf_field.specs.declared.order.Order.{Order}
 use Rattle.elf_image_type.specs.Strings.{string}
-use Rattle.elf_table_base.specs.Sections.{Sections}
+use Rattle.elf_table_symbols.specs.Sections.{Sections}
 use Rattle.elf_table_symbols.specs.SymbolRules.{entry, entry_count, word}
 use Rattle.elf_table_symbols.specs.Symbols.{SymbolEntryValue, symbols_of}
 

@@ -1,8 +1,8 @@
 //! Hash tables (gABI chapter 5, Hash Table).
 ghost use Rattle.std.specs.Prelude.{◌≡◌, ◌↔◌, ◌<◌, ◌≤◌, ℕ, None, IsSome, length, get_or};
 ghost use Rattle.elf_image_rules.specs.Rows.{FirstIn};
-ghost use Rattle.elf_table_base.specs.Judged.{IsJudgedBehind};
-ghost use Rattle.elf_table_base.specs.Sections.{sections_of};
+ghost use Rattle.elf_table_symbols.specs.Judged.{IsJudgedBehind};
+ghost use Rattle.elf_table_symbols.specs.Sections.{sections_of};
 ghost use Rattle.elf_table_hash.specs.HashLeft.{words_left};
 ghost use Rattle.elf_table_hash.specs.HashRules.{hash_table_front, hash_table_rules};
 ghost use Rattle.elf_table_hash.specs.HashTable.{nbucket as nbucket_of, nchain as nchain_of};
@@ -15,8 +15,7 @@ use crate::hash_rules::judge_hash_table;
 use crate::hash_words::{HashWords, SymbolNames};
 use elf_image_stream::Fault;
 use elf_image_type::Image;
-use elf_table_base::{LinkedTable, TableSection};
-use elf_table_symbols::SymbolVerdicts;
+use elf_table_symbols::{LinkedTable, SymbolVerdicts, TableSection};
 use std::alloc::Global;
 use std::marker::Model;
 

@@ -4,7 +4,7 @@ ghost use Rattle.elf_field.specs.Abi.{SHDR_SIZE, WORD_SIZE};
 ghost use Rattle.elf_image_rules.specs.HeaderRules.{MAX_LEN};
 
 use crate::hash_words::{HashWords, SymbolNames};
-use elf_table_base::{LinkedTable, TableKind};
+use elf_table_symbols::{LinkedTable, TableKind};
 
 /// The words of a hash table, the names of the symbols that it is for, and where the table stands.
 #[derive(Drop)]
@@ -25,8 +25,8 @@ pub(crate) struct HashParts<'a> {
 impl<'a> HashParts<'a> {
     ghost use Rattle.std.specs.Prelude.{None};
     ghost use Rattle.elf_image_rules.specs.Rows.{FirstIn};
-    ghost use Rattle.elf_table_base.specs.OwnRules.{own_rules};
-    ghost use Rattle.elf_table_base.specs.Sections.{section, sections_of};
+    ghost use Rattle.elf_table_symbols.specs.OwnRules.{own_rules};
+    ghost use Rattle.elf_table_symbols.specs.Sections.{section, sections_of};
     ghost use Rattle.elf_table_symbols.specs.SymbolRules.{symbol_table_rules};
     ghost use Rattle.elf_table_hash.specs.HashParts.{hash_parts, hash_parts_value};
 

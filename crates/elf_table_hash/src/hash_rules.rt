@@ -3,10 +3,10 @@ ghost use Rattle.std.specs.Prelude.{◌≡◌, ◌≢◌, ◌<◌, ◌≤◌, �
 ghost use Rattle.elf_extent.specs.Least.{IsLowest};
 ghost use Rattle.elf_image_rules.specs.Broken.{fault_of};
 ghost use Rattle.elf_image_rules.specs.Rows.{FirstIn};
-ghost use Rattle.elf_table_base.specs.Judged.{IsJudgedBehind};
+ghost use Rattle.elf_table_symbols.specs.Judged.{IsJudgedBehind};
 ghost use Rattle.elf_table_symbols.specs.LinkedVerdicts.{AreKnown};
-ghost use Rattle.elf_table_base.specs.OwnRules.{own_rules};
-ghost use Rattle.elf_table_base.specs.Sections.{section, sections_of};
+ghost use Rattle.elf_table_symbols.specs.OwnRules.{own_rules};
+ghost use Rattle.elf_table_symbols.specs.Sections.{section, sections_of};
 ghost use Rattle.elf_table_symbols.specs.SymbolRules.{symbol_table_rules};
 ghost use Rattle.elf_table_hash.specs.ChainDepths.{IsDepthKnown};
 ghost use Rattle.elf_table_hash.specs.HashParts.{hash_parts, hash_parts_value};
@@ -19,9 +19,8 @@ use crate::hash_word_rules::judge_words;
 use elf_field::abi::*;
 use elf_image_rules::Broken;
 use elf_image_stream::Fault;
-use elf_table_base::rules::*;
-use elf_table_base::{LinkedTable, TableKind, TableSection, judge_own_rules};
-use elf_table_symbols::SymbolVerdicts;
+use elf_table_symbols::rules::*;
+use elf_table_symbols::{LinkedTable, SymbolVerdicts, TableKind, TableSection, judge_own_rules};
 use std::alloc::{AllocError, Global};
 
 /// All rules of a hash table, by these verdicts on the symbol tables. [`Fault::OutOfMemory`] comes only where no rule

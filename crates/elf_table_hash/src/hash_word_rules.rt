@@ -10,7 +10,7 @@ ghost use Rattle.elf_table_hash.specs.HashTable.{AreHashWords, nbucket, nchain};
 use crate::hash_parts::HashParts;
 use elf_field::abi::*;
 use elf_image_rules::Broken;
-use elf_table_base::rules::*;
+use elf_table_symbols::rules::*;
 
 /// Rules 65 to 67 of a hash table.
 #[tactic(auto, unfolding(crate::specs::HashRules::word_rules))]

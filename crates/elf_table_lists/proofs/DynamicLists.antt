@@ -9,7 +9,7 @@ use Rattle.elf_extent.specs.Least.{IsLowest}
 use Rattle.elf_field.specs.Abi.{DT_NULL}
 use Rattle.elf_field.specs.declared.order.Order.{Order}
 use Rattle.elf_image_rules.specs.Rows.{AtEntry}
-use Rattle.elf_table_base.specs.Sections.{Sections, content, order}
+use Rattle.elf_table_symbols.specs.Sections.{Sections, content, order}
 use Rattle.elf_table_lists.specs.DynamicArray.{IsNullEntry, dynamic_array_of, dynamic_entries, dynamic_entry, dynamic_entry_count, is_null_entry, no_dynamic_entry}
 
 pub length_dynamic : (o : Order) (table : List ℕ) (n : ℕ) → length (dynamic_entries o table n) ≡ n

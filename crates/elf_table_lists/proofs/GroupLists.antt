@@ -7,9 +7,9 @@ use Rattle.elf_field.specs.Abi.{SHT_GROUP, WORD_SIZE}
 use Rattle.elf_field.specs.declared.order.Order.{Order}
 use Rattle.elf_image_rules.specs.Rows.{FirstIn}
 use Rattle.elf_image_rules.proofs.Public.{FirstIn-behind, FirstIn-front}
-use Rattle.elf_table_base.specs.declared.table_kind.TableKind.TheVariants.{SectionGroup}
-use Rattle.elf_table_base.specs.OwnRules.{own_rules}
-use Rattle.elf_table_base.specs.Sections.{Sections, section}
+use Rattle.elf_table_symbols.specs.declared.table_kind.TableKind.TheVariants.{SectionGroup}
+use Rattle.elf_table_symbols.specs.OwnRules.{own_rules}
+use Rattle.elf_table_symbols.specs.Sections.{Sections, section}
 use Rattle.elf_table_symbols.specs.SymbolRules.{symbol_table_rules}
 use Rattle.elf_table_symbols.proofs.Public.{type_of_group}
 use Rattle.elf_table_lists.specs.GroupRules.{group_front_rules, group_rules, group_section_rules}

@@ -7,7 +7,7 @@ use Rattle.elf_extent.specs.Least.{IsLeast, IsLowest, Never}
 use Rattle.elf_field.specs.Abi.{WORD_SIZE}
 use Rattle.elf_field.specs.declared.order.Order.{Order}
 use Rattle.elf_table_symbols.specs.Below.{Below}
-use Rattle.elf_table_base.specs.Sections.{Sections, content, order, section}
+use Rattle.elf_table_symbols.specs.Sections.{Sections, content, order, section}
 use Rattle.elf_table_lists.specs.GroupRules.{IsNamedBefore, IsUnfit, IsWrongMember, wrong_member}
 use Rattle.elf_table_lists.specs.Groups.{MembersAscend, member, member_count}
 

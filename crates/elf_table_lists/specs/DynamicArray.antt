@@ -6,7 +6,7 @@ use Rattle.elf_field.specs.Abi.{DT_NEEDED, DT_NULL, DT_RPATH, DT_RUNPATH, DT_SON
 use Rattle.elf_field.specs.declared.dynamic.Dyn.{Dyn}
 use Rattle.elf_field.specs.declared.order.Order.{Order}
 use Rattle.elf_field.specs.Dyn.{dyn_at}
-use Rattle.elf_table_base.specs.Sections.{Sections, content, order}
+use Rattle.elf_table_symbols.specs.Sections.{Sections, content, order}
 
 -- entry j of a dynamic section's content, and how many there are
 unfoldable pub dynamic_entry : Order → List ℕ → ℕ → Dyn

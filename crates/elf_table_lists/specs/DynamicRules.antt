@@ -3,9 +3,9 @@ use Rattle.std.specs.Prelude.{◌≡◌, ℕ, ◌+◌, ◌*◌, ◌<◌, ◌≤�
 use Rattle.elf_field.specs.Abi.{DYN_SIZE, D_UN_AT, SH_SIZE_AT}
 use Rattle.elf_field.specs.declared.dynamic.Dyn.{Dyn}
 use Rattle.elf_image_rules.specs.Rows.{AtEntry, Row, Ruled, When, rule}
-use Rattle.elf_table_base.specs.declared.table_kind.TableKind.TheVariants.{DynamicArray}
-use Rattle.elf_table_base.specs.OwnRules.{own_rules}
-use Rattle.elf_table_base.specs.Sections.{Sections, content, header_at, order, section}
+use Rattle.elf_table_symbols.specs.declared.table_kind.TableKind.TheVariants.{DynamicArray}
+use Rattle.elf_table_symbols.specs.OwnRules.{own_rules}
+use Rattle.elf_table_symbols.specs.Sections.{Sections, content, header_at, order, section}
 use Rattle.elf_table_symbols.specs.StringRules.{linked_string_rules}
 use Rattle.elf_table_lists.specs.DynamicArray.{IsNullEntry, dynamic_entry, dynamic_entry_count, is_string_tag}
 

@@ -4,9 +4,9 @@ use Rattle.std.specs.Prelude.{◌≡◌, ◌≢◌, ℕ, ◌+◌, ◌*◌, ◌<�
 use Rattle.elf_field.specs.Abi.{GRP_COMDAT, SHF_GROUP, SH_INFO_AT, SH_SIZE_AT, WORD_SIZE}
 use Rattle.elf_field.specs.declared.order.Order.{Order}
 use Rattle.elf_image_rules.specs.Rows.{AtEntry, Row, Ruled, When, rule}
-use Rattle.elf_table_base.specs.declared.table_kind.TableKind.TheVariants.{SectionGroup}
-use Rattle.elf_table_base.specs.OwnRules.{own_rules}
-use Rattle.elf_table_base.specs.Sections.{Sections, content, count, header_at, order, section}
+use Rattle.elf_table_symbols.specs.declared.table_kind.TableKind.TheVariants.{SectionGroup}
+use Rattle.elf_table_symbols.specs.OwnRules.{own_rules}
+use Rattle.elf_table_symbols.specs.Sections.{Sections, content, count, header_at, order, section}
 use Rattle.elf_table_symbols.specs.SymbolRules.{entry_count, symbol_table_rules}
 use Rattle.elf_table_lists.specs.Groups.{group_flags, member, member_count}
 

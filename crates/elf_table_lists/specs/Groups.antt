@@ -3,7 +3,7 @@ use Rattle.std.specs.Prelude.{ℕ, ◌+◌, ◌-◌, ◌/◌, ◌<◌, List, len
 use Rattle.std.specs.List.{range_with_len}
 use Rattle.elf_field.specs.Abi.{WORD_SIZE}
 use Rattle.elf_field.specs.declared.order.Order.{Order}
-use Rattle.elf_table_base.specs.Sections.{Sections, content, order, section}
+use Rattle.elf_table_symbols.specs.Sections.{Sections, content, order, section}
 use Rattle.elf_table_symbols.specs.SymbolRules.{word}
 
 pub record GroupValue : Type 0 where

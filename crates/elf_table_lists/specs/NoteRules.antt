@@ -3,8 +3,8 @@ use Rattle.std.specs.Prelude.{◌≡◌, ◌≢◌, ℕ, ◌+◌, ◌-◌, ◌<�
 use Rattle.elf_field.specs.Abi.{N_DESCSZ_AT, N_NAMESZ_AT, NHDR_SIZE, SHT_NOTE}
 use Rattle.elf_field.specs.declared.order.Order.{Order}
 use Rattle.elf_image_rules.specs.Rows.{Row, Ruled, rule}
-use Rattle.elf_table_base.specs.OwnRules.{wrong_table_type}
-use Rattle.elf_table_base.specs.Sections.{Sections, content, order, section}
+use Rattle.elf_table_symbols.specs.OwnRules.{wrong_table_type}
+use Rattle.elf_table_symbols.specs.Sections.{Sections, content, order, section}
 use Rattle.elf_table_lists.specs.Notes.{desc_start, name_start, namesz, note_end, note_offset}
 
 -- the row of a rule on each note of a content: broken at the offset of one with P, at each of which a byte is left

@@ -4,7 +4,7 @@ use Rattle.std.specs.Prelude.{ℕ, zero, suc, ◌+◌, ◌-◌, ◌*◌, ◌/◌
 use Rattle.elf_field.specs.Abi.{N_DESCSZ_AT, N_NAMESZ_AT, N_TYPE_AT, NHDR_SIZE, NOTE_ALIGN}
 use Rattle.elf_field.specs.Word.{word_at}
 use Rattle.elf_field.specs.declared.order.Order.{Order}
-use Rattle.elf_table_base.specs.Sections.{Sections, content, order}
+use Rattle.elf_table_symbols.specs.Sections.{Sections, content, order}
 
 pub record NoteValue : Type 0 where
   pub note_type : ℕ

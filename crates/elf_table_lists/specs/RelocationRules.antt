@@ -2,9 +2,9 @@
 use Rattle.std.specs.Prelude.{ℕ, ◌+◌, ◌*◌, ◌≤◌, List, [], ◌∷◌, ◌++◌}
 use Rattle.elf_field.specs.Abi.{R_INFO_AT, SH_INFO_AT, relocation_size}
 use Rattle.elf_image_rules.specs.Rows.{AtEntry, Row, Ruled, When, rule}
-use Rattle.elf_table_base.specs.declared.table_kind.TableKind.TheVariants.{RelocationTable}
-use Rattle.elf_table_base.specs.OwnRules.{own_rules}
-use Rattle.elf_table_base.specs.Sections.{Sections, content, count, header_at, order, section}
+use Rattle.elf_table_symbols.specs.declared.table_kind.TableKind.TheVariants.{RelocationTable}
+use Rattle.elf_table_symbols.specs.OwnRules.{own_rules}
+use Rattle.elf_table_symbols.specs.Sections.{Sections, content, count, header_at, order, section}
 use Rattle.elf_table_symbols.specs.SymbolRules.{entry_count, symbol_table_rules}
 use Rattle.elf_table_lists.specs.Relocations.{has_addends, relocation_count, relocation_in}
 

@@ -5,7 +5,7 @@ use Rattle.elf_field.specs.Abi.{RELA_SIZE, REL_SIZE, SHT_RELA}
 use Rattle.elf_field.specs.Rel.{rel_at}
 use Rattle.elf_field.specs.Rela.{rela_at}
 use Rattle.elf_field.specs.declared.order.Order.{Order}
-use Rattle.elf_table_base.specs.Sections.{Sections, content, order, section}
+use Rattle.elf_table_symbols.specs.Sections.{Sections, content, order, section}
 use Rattle.elf_table_lists.specs.declared.relocation.Relocation.{Relocation}
 
 -- the relocations of a section of this type have addends

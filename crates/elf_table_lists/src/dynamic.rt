@@ -1,8 +1,8 @@
 //! Dynamic sections (gABI chapter 5, Dynamic Section).
 ghost use Rattle.std.specs.Prelude.{◌≡◌, ◌<◌, None, length, get_or};
 ghost use Rattle.elf_image_rules.specs.Rows.{FirstIn};
-ghost use Rattle.elf_table_base.specs.Judged.{IsJudged};
-ghost use Rattle.elf_table_base.specs.Sections.{sections_of};
+ghost use Rattle.elf_table_symbols.specs.Judged.{IsJudged};
+ghost use Rattle.elf_table_symbols.specs.Sections.{sections_of};
 ghost use Rattle.elf_table_lists.specs.DynamicArray.{dynamic_array_of, no_dynamic_entry};
 ghost use Rattle.elf_table_lists.specs.DynamicLeft.{dynamic_left};
 ghost use Rattle.elf_table_lists.specs.DynamicRules.{dynamic_section_rules};
@@ -12,7 +12,7 @@ use crate::dynamic_rules::judge_dynamic_section;
 use elf_field::{Dyn, Order};
 use elf_image_stream::Fault;
 use elf_image_type::Image;
-use elf_table_base::TableSection;
+use elf_table_symbols::TableSection;
 use std::marker::Model;
 
 /// The dynamic array of a dynamic section: the list of its entries, which end before the first of tag `DT_NULL`. It borrows

@@ -4,7 +4,7 @@ ghost use Rattle.elf_extent.specs.Least.{IsLowest};
 ghost use Rattle.elf_image_rules.specs.Broken.{fault_of};
 ghost use Rattle.elf_image_rules.specs.HeaderRules.{MAX_LEN};
 ghost use Rattle.elf_image_rules.specs.Rows.{AtEntry, FirstIn};
-ghost use Rattle.elf_table_base.specs.Sections.{sections_of};
+ghost use Rattle.elf_table_symbols.specs.Sections.{sections_of};
 ghost use Rattle.elf_table_lists.specs.DynamicArray.{dynamic_entry as dynamic_entry_of, dynamic_entry_count as dynamic_entry_count_of};
 ghost use Rattle.elf_table_lists.specs.DynamicRules.{IsDynamicStringPastEnd, dynamic_rules, dynamic_section_rules};
 
@@ -12,9 +12,10 @@ use crate::dynamic_entries::{dynamic_entry, dynamic_entry_count, first_null_entr
 use elf_field::Order;
 use elf_field::abi::*;
 use elf_image_rules::Broken;
-use elf_table_base::rules::*;
-use elf_table_base::{LinkedTable, TableKind, TableSection, judge_own_rules};
-use elf_table_symbols::judge_linked_strings;
+use elf_table_symbols::rules::*;
+use elf_table_symbols::{
+    LinkedTable, TableKind, TableSection, judge_linked_strings, judge_own_rules,
+};
 
 /// All rules of a dynamic section. [`Broken`] is the first that is broken, at its lowest offset: 40, 42, 43, 44, then 41 of the
 /// string table that the section links to, then 63 and 64.

@@ -2,8 +2,8 @@
 ghost use Rattle.std.specs.Prelude.{◌≡◌, ◌<◌, IfErr, None, length, slice_index};
 ghost use Rattle.elf_image_stream.specs.declared.fault.Fault.TheVariants.{OutOfMemory};
 ghost use Rattle.elf_image_rules.specs.Rows.{FirstIn};
-ghost use Rattle.elf_table_base.specs.Judged.{IsJudgedBehind};
-ghost use Rattle.elf_table_base.specs.Sections.{content, order, sections_of};
+ghost use Rattle.elf_table_symbols.specs.Judged.{IsJudgedBehind};
+ghost use Rattle.elf_table_symbols.specs.Sections.{content, order, sections_of};
 ghost use Rattle.elf_table_lists.specs.GroupRules.{group_section_front, group_section_rules};
 ghost use Rattle.elf_table_lists.specs.Groups.{MembersAscend, group_of};
 ghost use Rattle.elf_table_lists.specs.MembersLeft.{members_left};
@@ -12,8 +12,7 @@ use crate::group_rules::{judge_group_section, member, member_count};
 use elf_field::Order;
 use elf_image_stream::Fault;
 use elf_image_type::Image;
-use elf_table_base::TableSection;
-use elf_table_symbols::{SymbolVerdicts, word};
+use elf_table_symbols::{SymbolVerdicts, TableSection, word};
 use std::alloc::Global;
 use std::marker::Model;
 

@@ -6,9 +6,9 @@ ghost use Rattle.elf_extent.specs.Least.{IsLowest};
 ghost use Rattle.elf_image_rules.specs.Broken.{fault_of};
 ghost use Rattle.elf_image_rules.specs.Rows.{FirstIn};
 ghost use Rattle.elf_table_symbols.specs.Below.{Below};
-ghost use Rattle.elf_table_base.specs.Judged.{IsJudgedBehind};
+ghost use Rattle.elf_table_symbols.specs.Judged.{IsJudgedBehind};
 ghost use Rattle.elf_table_symbols.specs.LinkedVerdicts.{AreKnown};
-ghost use Rattle.elf_table_base.specs.Sections.{content, order, section, sections_of};
+ghost use Rattle.elf_table_symbols.specs.Sections.{content, order, section, sections_of};
 ghost use Rattle.elf_table_lists.specs.GroupRules.{IsUnfit, IsWrongMember, group_front_rules, group_rules, group_section_front, group_section_rules};
 ghost use Rattle.elf_table_lists.specs.Groups.{MembersAscend, member as member_of, member_count as member_count_of};
 
@@ -16,9 +16,10 @@ use elf_field::Order;
 use elf_field::abi::*;
 use elf_image_rules::Broken;
 use elf_image_stream::Fault;
-use elf_table_base::rules::*;
-use elf_table_base::{LinkedTable, TableKind, TableSection, judge_own_rules};
-use elf_table_symbols::{SymbolVerdicts, word};
+use elf_table_symbols::rules::*;
+use elf_table_symbols::{
+    LinkedTable, SymbolVerdicts, TableKind, TableSection, judge_own_rules, word,
+};
 use std::alloc::{AllocError, Global};
 use std::collections::BTreeSet;
 

@@ -3,7 +3,7 @@ ghost use Rattle.std.specs.Prelude.{◌≡◌, ◌<◌, ◌≤◌, ◌+◌, Matc
 ghost use Rattle.elf_image_rules.specs.Broken.{fault_of};
 ghost use Rattle.elf_image_rules.specs.HeaderRules.{MAX_LEN};
 ghost use Rattle.elf_image_rules.specs.Rows.{FirstIn};
-ghost use Rattle.elf_table_base.specs.Sections.{sections_of};
+ghost use Rattle.elf_table_symbols.specs.Sections.{sections_of};
 ghost use Rattle.elf_table_lists.specs.NoteRules.{IsUnclosedNoteName, name_last, note_rules, note_section_rules};
 ghost use Rattle.elf_table_lists.specs.Notes.{note_end as note_end_of};
 ghost use Rattle.elf_table_lists.specs.NoteCut.{IsCut};
@@ -12,8 +12,8 @@ use crate::note::NoteHeader;
 use elf_field::Order;
 use elf_field::abi::*;
 use elf_image_rules::Broken;
-use elf_table_base::TableSection;
-use elf_table_base::rules::*;
+use elf_table_symbols::TableSection;
+use elf_table_symbols::rules::*;
 
 /// Rules 40 and 59 to 62 of a note section. [`Broken`] is the first of them that is broken, at its lowest offset.
 #[tactic(auto, unfolding(crate::specs::NoteRules::note_section_rules))]

@@ -1,8 +1,8 @@
 //! Note sections (gABI chapter 5, Note Section).
 ghost use Rattle.std.specs.Prelude.{◌≡◌, ◌<◌, None, length};
 ghost use Rattle.elf_image_rules.specs.Rows.{FirstIn};
-ghost use Rattle.elf_table_base.specs.Judged.{IsJudged};
-ghost use Rattle.elf_table_base.specs.Sections.{sections_of};
+ghost use Rattle.elf_table_symbols.specs.Judged.{IsJudged};
+ghost use Rattle.elf_table_symbols.specs.Sections.{sections_of};
 ghost use Rattle.elf_table_lists.specs.NoteRules.{note_section_rules};
 ghost use Rattle.elf_table_lists.specs.Notes.{notes_of};
 
@@ -11,7 +11,7 @@ use crate::note_rules::judge_note_section;
 use elf_field::Order;
 use elf_image_stream::Fault;
 use elf_image_type::Image;
-use elf_table_base::TableSection;
+use elf_table_symbols::TableSection;
 use std::marker::Model;
 
 /// A note section: the list of its notes. It borrows from the bytes of the file.

@@ -6,7 +6,7 @@ ghost use Rattle.elf_image_rules.specs.Broken.{fault_of};
 ghost use Rattle.elf_image_rules.specs.HeaderRules.{MAX_LEN};
 ghost use Rattle.elf_image_rules.specs.Rows.{AtEntry, FirstIn};
 ghost use Rattle.elf_table_symbols.specs.LinkedVerdicts.{AreKnown};
-ghost use Rattle.elf_table_base.specs.Sections.{sections_of};
+ghost use Rattle.elf_table_symbols.specs.Sections.{sections_of};
 ghost use Rattle.elf_table_lists.specs.RelocationRules.{relocation_entry_rules, relocation_section_rules};
 ghost use Rattle.elf_table_lists.specs.Relocations.{relocation_count as relocation_count_of, relocation_in};
 
@@ -14,9 +14,8 @@ use crate::relocation::{relocation_at, relocation_count, relocation_offset};
 use elf_field::Order;
 use elf_field::abi::*;
 use elf_image_rules::Broken;
-use elf_table_base::rules::*;
-use elf_table_base::{LinkedTable, TableKind, TableSection, judge_own_rules};
-use elf_table_symbols::SymbolVerdicts;
+use elf_table_symbols::rules::*;
+use elf_table_symbols::{LinkedTable, SymbolVerdicts, TableKind, TableSection, judge_own_rules};
 
 /// All rules of a relocation section, by these verdicts on the symbol tables. [`Broken`] is the first that is broken, at its lowest
 /// offset: 40, 42, 43, 44, then all rules of the symbol table that the section links to, then 53 and 54.

@@ -1,7 +1,7 @@
 //! Relocation sections (gABI chapter 4, Relocation).
 ghost use Rattle.std.specs.Prelude.{◌≡◌, ◌<◌, ◌==◌, length, get_or};
-ghost use Rattle.elf_table_base.specs.Judged.{IsJudged};
-ghost use Rattle.elf_table_base.specs.Sections.{sections_of};
+ghost use Rattle.elf_table_symbols.specs.Judged.{IsJudged};
+ghost use Rattle.elf_table_symbols.specs.Sections.{sections_of};
 ghost use Rattle.elf_table_lists.specs.RelocationRules.{relocation_section_rules};
 ghost use Rattle.elf_table_lists.specs.Relocations.{no_relocation_entry, relocations_of};
 ghost use Rattle.elf_table_lists.specs.RelocationsLeft.{relocations_left};
@@ -12,8 +12,7 @@ use elf_field::Order;
 use elf_field::abi::*;
 use elf_image_stream::Fault;
 use elf_image_type::Image;
-use elf_table_base::TableSection;
-use elf_table_symbols::SymbolVerdicts;
+use elf_table_symbols::{SymbolVerdicts, TableSection};
 use std::marker::Model;
 
 /// A relocation section: the list of its relocations. It borrows from the bytes of the file.

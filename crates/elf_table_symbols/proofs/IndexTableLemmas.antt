@@ -10,7 +10,7 @@ use Rattle.elf_image_outline.specs.Image.{no_section_header}
 use Rattle.elf_table_symbols.specs.declared.index_tables.IndexTables.{IndexTables}
 use Rattle.elf_table_symbols.specs.Below.{Below}
 use Rattle.elf_table_symbols.specs.IndexTable.{AreIndexTables, IsIndexTable, IsSecondIndexTable, index_table, noted}
-use Rattle.elf_table_base.specs.Sections.{Sections, count}
+use Rattle.elf_table_symbols.specs.Sections.{Sections, count}
 use Rattle.elf_table_symbols.proofs.Lowest.{lowest_found, lowest_kept, lowest_passed, lowest_position}
 
 -- a section that is none changes nothing

@@ -1,6 +1,8 @@
 -- `Public` is for the proofs of the crates above, the others are for those of this one.
-mod Lowest
 mod IndexTableLemmas
+mod JudgedLemmas
+mod Lowest
+mod OwnRuleLemmas
+pub mod Public
 mod SymbolLists
 mod TableKinds
-pub mod Public

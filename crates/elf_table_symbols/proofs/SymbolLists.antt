@@ -6,16 +6,16 @@ use Rattle.elf_field.specs.Abi.{SHN_XINDEX, WORD_SIZE}
 use Rattle.elf_field.specs.declared.order.Order.{Order}
 use Rattle.elf_image_rules.specs.Rows.{FirstIn}
 use Rattle.elf_image_rules.proofs.Public.{FirstIn-behind, FirstIn-front}
-use Rattle.elf_table_base.specs.declared.table_kind.TableKind.TheVariants.{SymbolTable}
+use Rattle.elf_table_symbols.specs.declared.table_kind.TableKind.TheVariants.{SymbolTable}
 use Rattle.elf_table_symbols.specs.IndexTable.{index_table}
-use Rattle.elf_table_base.specs.OwnRules.{own_rules}
-use Rattle.elf_table_base.specs.Sections.{Sections, count, section}
+use Rattle.elf_table_symbols.specs.OwnRules.{own_rules}
+use Rattle.elf_table_symbols.specs.Sections.{Sections, count, section}
 use Rattle.elf_table_symbols.specs.StringRules.{linked_string_rules}
 use Rattle.elf_table_symbols.specs.SymbolParts.{SymbolPartsValue, symbol_parts}
 use Rattle.elf_table_symbols.specs.SymbolRules.{entry, entry_count, index_table_rules, place_rules, rest_rules, symbol_entry_rules, symbol_table_rules}
 use Rattle.elf_table_symbols.specs.Symbols.{IsReadable, symbol_entry_in, symbols_in}
 use Rattle.elf_table_symbols.specs.SymbolView.{no_symbol_entry}
-use Rattle.elf_table_base.proofs.OwnRuleLemmas.{link_there}
+use Rattle.elf_table_symbols.proofs.OwnRuleLemmas.{link_there}
 
 pub length_symbols : (o : Order) (table names words : List ℕ) → length (symbols_in o table names words) ≡ entry_count table
 unfolding symbols_in

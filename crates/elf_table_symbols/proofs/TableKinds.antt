@@ -3,9 +3,9 @@ use Rattle.std.proofs.Common.{◌≡◌, ◌<◌, ℕ, List, Option, None, Some,
 use Rattle.std.proofs.lemmas.Grind.{common_steps}
 use Rattle.elf_image_rules.specs.Rows.{FirstIn}
 use Rattle.elf_field.specs.Abi.{SHT_GROUP, SHT_HASH}
-use Rattle.elf_table_base.specs.declared.table_kind.TableKind.TheVariants.{HashTable, SectionGroup, SymbolTable}
-use Rattle.elf_table_base.specs.Sections.{Sections, count, section}
-use Rattle.elf_table_base.specs.TableKind.{IsSymbolType, kind_of}
+use Rattle.elf_table_symbols.specs.declared.table_kind.TableKind.TheVariants.{HashTable, SectionGroup, SymbolTable}
+use Rattle.elf_table_symbols.specs.Sections.{Sections, count, section}
+use Rattle.elf_table_symbols.specs.TableKind.{IsSymbolType, kind_of}
 use Rattle.elf_table_symbols.specs.SymbolRules.{symbol_table_rules}
 use Rattle.elf_table_symbols.specs.LinkedVerdicts.{AreSymbolVerdicts}
 

@@ -6,7 +6,7 @@ use Rattle.elf_field.specs.declared.shdr.Shdr.{Shdr}
 use Rattle.elf_extent.specs.Least.{IsLowest}
 use Rattle.elf_table_symbols.specs.declared.index_tables.IndexTables.{IndexTables}
 use Rattle.elf_table_symbols.specs.Below.{Below}
-use Rattle.elf_table_base.specs.Sections.{Sections, content, section}
+use Rattle.elf_table_symbols.specs.Sections.{Sections, content, section}
 
 -- section j is an index table of the symbol table in section i
 abbrev pub IsIndexTable : Sections → ℕ → ℕ → Type 0

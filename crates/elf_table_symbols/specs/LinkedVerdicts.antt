@@ -4,10 +4,10 @@ use Rattle.elf_image_rules.specs.Broken.{fault_of}
 use Rattle.elf_image_rules.specs.Rows.{FirstIn}
 use Rattle.elf_table_symbols.specs.declared.symbol_verdicts.SymbolVerdicts.{SymbolVerdicts}
 use Rattle.elf_table_symbols.specs.declared.symbol_verdicts.SymbolVerdicts.TheVariants.{All, Unknown}
-use Rattle.elf_table_base.specs.declared.table_kind.TableKind.TheVariants.{SymbolTable}
-use Rattle.elf_table_base.specs.Sections.{Sections, count, section}
+use Rattle.elf_table_symbols.specs.declared.table_kind.TableKind.TheVariants.{SymbolTable}
+use Rattle.elf_table_symbols.specs.Sections.{Sections, count, section}
 use Rattle.elf_table_symbols.specs.SymbolRules.{symbol_table_rules}
-use Rattle.elf_table_base.specs.TableKind.{kind_of}
+use Rattle.elf_table_symbols.specs.TableKind.{kind_of}
 
 -- for each of the first `end` sections that holds a symbol table the first rule that it breaks, with its lowest offset
 pub record AreSymbolVerdicts (f : Sections) (end : ℕ) (verdicts : List (Option (ℕ × ℕ))) : Type 0 where

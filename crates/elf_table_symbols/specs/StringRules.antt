@@ -3,8 +3,8 @@ use Rattle.std.specs.Prelude.{◌≡◌, ℕ, List, [], ◌∷◌}
 use Rattle.elf_field.specs.Abi.{SHT_STRTAB}
 use Rattle.elf_image_rules.specs.NameRules.{UnclosedAt}
 use Rattle.elf_image_rules.specs.Rows.{Row, Ruled, rule}
-use Rattle.elf_table_base.specs.OwnRules.{wrong_table_type}
-use Rattle.elf_table_base.specs.Sections.{Sections, content, section}
+use Rattle.elf_table_symbols.specs.OwnRules.{wrong_table_type}
+use Rattle.elf_table_symbols.specs.Sections.{Sections, content, section}
 
 -- rule 41: a string table that is not empty begins or ends with a byte that isn't 0
 abbrev pub unclosed_string_table : List ℕ → ℕ → Row ℕ

@@ -4,7 +4,7 @@ use Rattle.std.specs.Prelude.{ℕ, List, Option, None, Some}
 use Rattle.elf_field.specs.declared.order.Order.{Order}
 use Rattle.elf_table_symbols.specs.declared.symbol_parts.SymbolParts as declared
 use Rattle.elf_table_symbols.specs.IndexTable.{index_table, index_words}
-use Rattle.elf_table_base.specs.Sections.{Sections, content, count, header_at, order, section}
+use Rattle.elf_table_symbols.specs.Sections.{Sections, content, count, header_at, order, section}
 
 pub record SymbolPartsValue : Type 0 where
   pub order : Order

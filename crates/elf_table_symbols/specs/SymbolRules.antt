@@ -9,10 +9,10 @@ use Rattle.elf_field.specs.Word.{word_at}
 use Rattle.elf_image_rules.specs.Rows.{AtEntry, Either, OfSome, Row, Ruled, When, rule}
 use Rattle.elf_table_symbols.specs.declared.symbol_rules.SymbolRule.{SymbolRule}
 use Rattle.elf_table_symbols.specs.declared.symbol_rules.SymbolRule.TheVariants.{MisplacedBinding, SymbolNamePastEnd, WrongSymbolSection}
-use Rattle.elf_table_base.specs.declared.table_kind.TableKind.TheVariants.{SymbolTable}
+use Rattle.elf_table_symbols.specs.declared.table_kind.TableKind.TheVariants.{SymbolTable}
 use Rattle.elf_table_symbols.specs.IndexTable.{IsSecondIndexTable}
-use Rattle.elf_table_base.specs.OwnRules.{own_rules}
-use Rattle.elf_table_base.specs.Sections.{Sections, count, header_at, section}
+use Rattle.elf_table_symbols.specs.OwnRules.{own_rules}
+use Rattle.elf_table_symbols.specs.Sections.{Sections, count, header_at, section}
 use Rattle.elf_table_symbols.specs.StringRules.{linked_string_rules}
 use Rattle.elf_table_symbols.specs.SymbolParts.{SymbolPartsValue, symbol_parts}
 

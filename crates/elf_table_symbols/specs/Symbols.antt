@@ -6,7 +6,7 @@ use Rattle.elf_field.specs.Abi.{SHN_ABS, SHN_COMMON, SHN_LORESERVE, SHN_UNDEF, S
 use Rattle.elf_image_type.specs.Strings.{string}
 use Rattle.elf_table_symbols.specs.declared.symbol.Place.{Place}
 use Rattle.elf_table_symbols.specs.declared.symbol.Place.TheVariants.{Undefined, Absolute, Common, Reserved, Section}
-use Rattle.elf_table_base.specs.Sections.{Sections}
+use Rattle.elf_table_symbols.specs.Sections.{Sections}
 use Rattle.elf_table_symbols.specs.SymbolParts.{symbol_parts}
 use Rattle.elf_table_symbols.specs.SymbolRules.{entry, entry_binding, entry_count, word}
 

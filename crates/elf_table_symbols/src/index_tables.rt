@@ -2,7 +2,7 @@
 //! SHT_SYMTAB_SHNDX).
 ghost use Rattle.std.specs.Prelude.{◌≡◌, ◌<◌, length};
 ghost use Rattle.elf_table_symbols.specs.IndexTable.{AreIndexTables, noted};
-ghost use Rattle.elf_table_base.specs.Sections.{sections_of};
+ghost use Rattle.elf_table_symbols.specs.Sections.{sections_of};
 
 use elf_field::abi::*;
 use elf_image_type::Image;

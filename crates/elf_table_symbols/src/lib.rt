@@ -1,4 +1,6 @@
-//! The symbol tables of an ELF-64 image, and the string tables and index tables that belong to them (gABI chapter 4).
+//! The symbol tables of an ELF-64 image, with the string tables and index tables that belong to them, and what all kinds of tables share
+//! (gABI chapter 4): the numbers of their rules ([`rules`]), their [kinds](TableKind), and [`judge_own_rules`], which looks at what the
+//! section header of a table says of the table by itself, rules 40 and 42 to 44.
 //!
 //! A table is accepted exactly where it breaks none of its rules; else the first rule that it breaks is answered, at its lowest
 //! offset. The names of the symbols in section 3 are read so:
@@ -13,6 +15,8 @@
 #![tactic(auto)]
 
 mod index_tables;
+mod own_rules;
+pub mod rules;
 mod strings;
 mod symbol;
 mod symbol_parts;
@@ -20,11 +24,16 @@ mod symbol_rules;
 mod symbol_verdicts;
 mod symbol_words;
 mod symbols;
+mod table_kind;
+mod table_section;
 
 pub use index_tables::IndexTables;
+pub use own_rules::judge_own_rules;
 pub use strings::{Strings, judge_linked_strings};
 pub use symbol::{Place, Symbol};
 pub use symbol_rules::judge_symbol_table;
 pub use symbol_verdicts::SymbolVerdicts;
 pub use symbol_words::{entry, word};
 pub use symbols::{SymbolIter, Symbols, sound_symbols};
+pub use table_kind::TableKind;
+pub use table_section::{LinkedTable, TableSection};

@@ -4,17 +4,17 @@ ghost use Rattle.elf_image_rules.specs.HeaderRules.{MAX_LEN};
 ghost use Rattle.elf_image_rules.specs.Broken.{fault_of};
 ghost use Rattle.elf_image_rules.specs.Rows.{FirstIn};
 ghost use Rattle.elf_image_type.specs.Strings.{string};
-ghost use Rattle.elf_table_base.specs.Judged.{IsJudged};
-ghost use Rattle.elf_table_base.specs.Sections.{content, sections_of};
+ghost use Rattle.elf_table_symbols.specs.Judged.{IsJudged};
+ghost use Rattle.elf_table_symbols.specs.Sections.{content, sections_of};
 ghost use Rattle.elf_table_symbols.specs.StringRules.{linked_string_rules, string_table_rules};
 
+use crate::rules::*;
+use crate::table_section::TableSection;
 use elf_field::abi::*;
 use elf_image_rules::{Broken, unclosed_at};
 use elf_image_stream::Fault;
 use elf_image_type::Image;
 use elf_image_type::strings::string_at;
-use elf_table_base::TableSection;
-use elf_table_base::rules::*;
 use std::marker::Model;
 
 /// A string table: strings one after the other, each ended by a zero. It is a list of bytes, and borrows from the bytes

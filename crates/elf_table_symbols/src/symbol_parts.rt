@@ -2,13 +2,13 @@
 ghost use Rattle.std.specs.Prelude.{◌≡◌, ℕ, Some, ◌*◌, ◌/◌, ◌+◌, ◌<◌, ◌≤◌, length};
 ghost use Rattle.elf_field.specs.Abi.{SHDR_SIZE};
 ghost use Rattle.elf_image_rules.specs.HeaderRules.{MAX_LEN};
-ghost use Rattle.elf_table_base.specs.Sections.{section, sections_of};
+ghost use Rattle.elf_table_symbols.specs.Sections.{section, sections_of};
 
 use crate::index_tables::IndexTables;
 use crate::symbol_words::index_words_in;
+use crate::table_section::LinkedTable;
 use elf_field::Order;
 use elf_field::abi::*;
-use elf_table_base::LinkedTable;
 
 /// The content of a symbol table, of the string table that it links to, and of its index table, with their offsets. All of them lie in one
 /// file of at most 2^30 bytes.

@@ -6,19 +6,21 @@ ghost use Rattle.elf_extent.specs.Least.{IsLowest};
 ghost use Rattle.elf_image_rules.specs.Broken.{fault_of};
 ghost use Rattle.elf_image_rules.specs.Rows.{AtEntry, FirstIn};
 ghost use Rattle.elf_table_symbols.specs.IndexTable.{AreIndexTables};
-ghost use Rattle.elf_table_base.specs.Sections.{content, sections_of};
+ghost use Rattle.elf_table_symbols.specs.Sections.{content, sections_of};
 ghost use Rattle.elf_table_symbols.specs.SymbolParts.{parts_value, symbol_parts};
 ghost use Rattle.elf_table_symbols.specs.SymbolRules.{BreaksSymbolEntry, entry as entry_of, entry_count, symbol_entry_rules, index_table_rules, place_rules, rest_rules, symbol_0_not_null, symbol_field, symbol_table_rules, IsWrongIndexWord, wrong_index_word};
 
 use crate::index_tables::IndexTables;
+use crate::own_rules::judge_own_rules;
+use crate::rules::*;
 use crate::strings::judge_linked_strings;
 use crate::symbol_parts::SymbolParts;
 use crate::symbol_words::{entry, word};
+use crate::table_kind::TableKind;
+use crate::table_section::{LinkedTable, TableSection};
 use elf_field::Sym;
 use elf_field::abi::*;
 use elf_image_rules::Broken;
-use elf_table_base::rules::*;
-use elf_table_base::{LinkedTable, TableKind, TableSection, judge_own_rules};
 
 /// A rule on one symbol by itself.
 #[derive(Clone, Copy, Debug, PartialEq, Eq)]

@@ -2,14 +2,14 @@
 ghost use Rattle.elf_image_rules.specs.Broken.{fault_of};
 ghost use Rattle.elf_image_rules.specs.Rows.{FirstIn};
 ghost use Rattle.elf_table_symbols.specs.LinkedVerdicts.{AreKnown};
-ghost use Rattle.elf_table_base.specs.Sections.{section, sections_of};
+ghost use Rattle.elf_table_symbols.specs.Sections.{section, sections_of};
 ghost use Rattle.elf_table_symbols.specs.SymbolRules.{symbol_table_rules};
-ghost use Rattle.elf_table_base.specs.TableKind.{IsSymbolType};
+ghost use Rattle.elf_table_symbols.specs.TableKind.{IsSymbolType};
 
 use crate::index_tables::index_tables_of;
 use crate::symbol_rules::judge_symbol_table;
+use crate::table_section::{LinkedTable, TableSection};
 use elf_image_rules::Broken;
-use elf_table_base::{LinkedTable, TableSection};
 
 /// Which verdicts on symbol tables are known.
 #[derive(Clone, Copy, Drop)]

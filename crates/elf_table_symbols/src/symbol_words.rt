@@ -2,7 +2,7 @@
 ghost use Rattle.std.specs.Prelude.{◌≡◌, ℕ, Some, ◌*◌, ◌+◌, ◌<◌, ◌≤◌, length};
 ghost use Rattle.elf_image_rules.specs.HeaderRules.{MAX_LEN};
 ghost use Rattle.elf_table_symbols.specs.IndexTable.{index_words};
-ghost use Rattle.elf_table_base.specs.Sections.{section, sections_of};
+ghost use Rattle.elf_table_symbols.specs.Sections.{section, sections_of};
 ghost use Rattle.elf_table_symbols.specs.SymbolParts.{index_words_start};
 ghost use Rattle.elf_table_symbols.specs.SymbolRules.{entry as entry_of, entry_count, word as word_of};
 

@@ -3,8 +3,8 @@ ghost use Rattle.std.specs.Prelude.{◌≡◌, ◌<◌, None, OnOk, length, get_
 ghost use Rattle.elf_image_rules.specs.Broken.{fault_of};
 ghost use Rattle.elf_image_rules.specs.Rows.{FirstIn};
 ghost use Rattle.elf_table_symbols.specs.IndexTable.{AreIndexTables};
-ghost use Rattle.elf_table_base.specs.Judged.{IsJudged};
-ghost use Rattle.elf_table_base.specs.Sections.{sections_of};
+ghost use Rattle.elf_table_symbols.specs.Judged.{IsJudged};
+ghost use Rattle.elf_table_symbols.specs.Sections.{sections_of};
 ghost use Rattle.elf_table_symbols.specs.SymbolRules.{symbol_table_rules};
 ghost use Rattle.elf_table_symbols.specs.Symbols.{symbols_of};
 ghost use Rattle.elf_table_symbols.specs.SymbolView.{no_symbol_entry, symbol_entry_value};
@@ -15,12 +15,12 @@ use crate::symbol::{Place, Symbol, place_at};
 use crate::symbol_parts::SymbolParts;
 use crate::symbol_rules::judge_symbol_table;
 use crate::symbol_words::entry;
+use crate::table_section::{LinkedTable, TableSection};
 use elf_field::Order;
 use elf_field::abi::*;
 use elf_image_stream::Fault;
 use elf_image_type::Image;
 use elf_image_type::strings::string_at;
-use elf_table_base::{LinkedTable, TableSection};
 use std::marker::Model;
 
 /// A symbol table: the list of its symbols, symbol 0 among them. It borrows from the bytes of the file, as the names of its

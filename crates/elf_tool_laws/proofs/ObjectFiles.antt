@@ -5,7 +5,7 @@ use Rattle.elf_image_rules.specs.ImageRules.{rules_in}
 use Rattle.elf_image_rules.specs.Rows.{FirstIn}
 use Rattle.elf_image_outline.specs.Image.{ImageValue}
 use Rattle.elf_image_type.proofs.Public.{one_image}
-use Rattle.elf_table_base.specs.Sections.{sections_of}
+use Rattle.elf_table_symbols.specs.Sections.{sections_of}
 use Rattle.elf_object_type.specs.Object.{ObjectValue}
 use Rattle.elf_object_reader.specs.Denotes.{Denotes}
 use Rattle.elf_object_reader.specs.FileRules.{file_rules}

@@ -6,7 +6,7 @@ use Rattle.elf_image_rules.specs.ImageRules.{IsFault, rules_in}
 use Rattle.elf_image_rules.proofs.Public.{one_fault}
 use Rattle.elf_image_outline.specs.Image.{ImageValue}
 use Rattle.elf_image_type.proofs.Public.{one_image}
-use Rattle.elf_table_base.specs.Sections.{Sections, sections_of}
+use Rattle.elf_table_symbols.specs.Sections.{Sections, sections_of}
 use Rattle.elf_table_all.specs.TableRules.{table_rules}
 use Rattle.elf_table_all.specs.TableVerdicts.{AreVerdicts, TablesValue}
 use Rattle.elf_tool_text.specs.Line.{refused_line}

@@ -8,7 +8,7 @@ use Rattle.elf_image_stream.specs.declared.fault.Fault.{Fault}
 use Rattle.elf_image_stream.specs.declared.fault.Fault.TheVariants as fault
 use Rattle.elf_image_rules.specs.ImageRules.{IsFault}
 use Rattle.elf_image_rules.specs.Rows.{FirstIn}
-use Rattle.elf_table_base.specs.Sections.{sections_of}
+use Rattle.elf_table_symbols.specs.Sections.{sections_of}
 use Rattle.elf_tool_objects.specs.declared.object_files.FileFault.{FileFault}
 use Rattle.elf_tool_objects.specs.declared.object_files.FileFault.TheVariants.{Refused, OutOfMemory}
 

@@ -9,7 +9,7 @@ use Rattle.elf_object_type.specs.Object.{ObjectValue}
 use Rattle.elf_image_rules.specs.HeaderRules.{MAX_LEN}
 use Rattle.elf_image_rules.specs.ImageRules.{IsFault}
 use Rattle.elf_image_rules.specs.Rows.{FirstIn}
-use Rattle.elf_table_base.specs.Sections.{Sections, sections_of}
+use Rattle.elf_table_symbols.specs.Sections.{Sections, sections_of}
 use Rattle.elf_tool_text.specs.Engine.{IsFileCallAllocatingFirst}
 use Rattle.elf_tool_text.specs.declared.fault.Refusal.TheVariants.{File, Link, TooLong}
 use Rattle.elf_tool_text.specs.declared.fault.ToolFault.{ToolFault}

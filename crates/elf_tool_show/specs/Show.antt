@@ -5,7 +5,7 @@ use Rattle.std.specs.List.{flat_map, range_with_len}
 use Rattle.elf_image_rules.specs.ImageRules.{IsFault}
 use Rattle.elf_image_outline.specs.Image.{ImageValue, IsImage, program_header_of, section_header_of}
 use Rattle.elf_image_type.specs.Strings.{section_name}
-use Rattle.elf_table_base.specs.Sections.{sections_of}
+use Rattle.elf_table_symbols.specs.Sections.{sections_of}
 use Rattle.elf_table_all.specs.TableVerdicts.{AreVerdicts, TablesValue}
 use Rattle.elf_tool_text.specs.Engine.{IsFileCall, WritesReport}
 use Rattle.elf_tool_text.specs.Line.{refused_line}

@@ -7,12 +7,12 @@ use Rattle.elf_field.specs.declared.dynamic.Dyn.{Dyn}
 use Rattle.elf_image_type.specs.Strings.{string}
 use Rattle.elf_table_symbols.specs.declared.symbol.Place.{Place}
 use Rattle.elf_table_symbols.specs.declared.symbol.Place.TheVariants.{Undefined, Absolute, Common, Reserved, Section}
-use Rattle.elf_table_base.specs.declared.table_kind.TableKind.{TableKind}
-use Rattle.elf_table_base.specs.declared.table_kind.TableKind.TheVariants.{SymbolTable, RelocationTable, SectionGroup, NoteSection, DynamicArray, HashTable}
-use Rattle.elf_table_base.specs.Sections.{Sections, section, sections_of}
+use Rattle.elf_table_symbols.specs.declared.table_kind.TableKind.{TableKind}
+use Rattle.elf_table_symbols.specs.declared.table_kind.TableKind.TheVariants.{SymbolTable, RelocationTable, SectionGroup, NoteSection, DynamicArray, HashTable}
+use Rattle.elf_table_symbols.specs.Sections.{Sections, section, sections_of}
 use Rattle.elf_table_symbols.specs.Symbols.{SymbolEntryValue, symbols_of}
 use Rattle.elf_table_symbols.specs.SymbolView.{no_symbol_entry}
-use Rattle.elf_table_base.specs.TableKind.{kind_of}
+use Rattle.elf_table_symbols.specs.TableKind.{kind_of}
 use Rattle.elf_table_hash.specs.HashTable.{nbucket, nchain}
 use Rattle.elf_table_hash.specs.HashView.{hash_of_section}
 use Rattle.elf_table_lists.specs.declared.relocation.Relocation.{Relocation}

@@ -2,8 +2,8 @@
 ghost use Rattle.std.specs.Prelude.{◌≡◌, ◌<◌, length};
 ghost use Rattle.elf_tool_text.specs.Output.{IsBuffered};
 ghost use Rattle.elf_tool_show.specs.TableLines.{all_table_lines, group_line, hash_line, note_lines, table_refused_line, table_text};
-ghost use Rattle.elf_table_base.specs.declared.table_kind.TableKind.TheVariants as kind;
-ghost use Rattle.elf_table_base.specs.Sections.{sections_of};
+ghost use Rattle.elf_table_symbols.specs.declared.table_kind.TableKind.TheVariants as kind;
+ghost use Rattle.elf_table_symbols.specs.Sections.{sections_of};
 ghost use Rattle.elf_table_all.specs.TableVerdicts.{HasSoundTable};
 ghost use Rattle.elf_table_lists.specs.Groups.{group_of};
 ghost use Rattle.elf_table_all.specs.Signature.{signature_name};

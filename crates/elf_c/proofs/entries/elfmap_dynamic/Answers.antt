@@ -2,8 +2,8 @@
 -- two causes: another kind of table, or an index at or after the first DT_NULL.
 use Rattle.std.proofs.Common.{◌<◌, ℕ, false, ap, arith, length, refl, subst, sym, ◌∙◌}
 use Rattle.std.specs.Prelude.{IsTrue}
-use Rattle.elf_table_base.specs.Sections.{sections_in}
-use Rattle.elf_table_base.specs.declared.table_kind.TableKind.TheVariants.{DynamicArray}
+use Rattle.elf_table_symbols.specs.Sections.{sections_in}
+use Rattle.elf_table_symbols.specs.declared.table_kind.TableKind.TheVariants.{DynamicArray}
 use Rattle.elf_table_lists.specs.DynamicArray.{dynamic_array_of, dynamic_entry_count}
 use Rattle.elf_c.specs.Entries.{dynamic_shape}
 use Rattle.elf_c.specs.Tables.{slot_bytes}

@@ -3,8 +3,8 @@
 use Rattle.std.proofs.Common.{◌≡◌, ◌<◌, ℕ, List, false, ap, arith, get_or, refl, ◌∙◌}
 use Rattle.std.specs.Prelude.{IsTrue}
 use Rattle.elf_field.specs.declared.order.Order.{Order}
-use Rattle.elf_table_base.specs.declared.table_kind.TableKind.TheVariants.{RelocationTable}
-use Rattle.elf_table_base.specs.Sections.{sections_in}
+use Rattle.elf_table_symbols.specs.declared.table_kind.TableKind.TheVariants.{RelocationTable}
+use Rattle.elf_table_symbols.specs.Sections.{sections_in}
 use Rattle.elf_table_lists.specs.Relocations.{has_addends, no_relocation_entry, relocation_count, relocation_in, relocations_of}
 use Rattle.elf_c.specs.Entries.{relocation_shape}
 use Rattle.elf_c.specs.Files.{order_named}

@@ -1,8 +1,8 @@
 -- What `symbol_of` reads by the numbers of the table is the symbol of the section there; `put` passes it on, or its absence.
 use Rattle.std.proofs.Common.{ℕ, List, ap, ◌∙◌}
 use Rattle.elf_field.specs.declared.order.Order.{Order}
-use Rattle.elf_table_base.specs.declared.table_kind.TableKind.TheVariants.{SymbolTable}
-use Rattle.elf_table_base.specs.Sections.{order, sections_in}
+use Rattle.elf_table_symbols.specs.declared.table_kind.TableKind.TheVariants.{SymbolTable}
+use Rattle.elf_table_symbols.specs.Sections.{order, sections_in}
 use Rattle.elf_table_symbols.specs.SymbolRules.{entry}
 use Rattle.elf_c.specs.Entries.{symbol_record, symbol_told}
 use Rattle.elf_c.specs.Tables.{slot_bytes}

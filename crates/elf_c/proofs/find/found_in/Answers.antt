@@ -1,7 +1,7 @@
 -- The hash table that the numbers lead to is the one of the section, and a sound one: what `find_in` says of its words holds of it.
 use Rattle.std.proofs.Common.{◌↔◌, ℕ, subst}
 use Rattle.std.specs.Prelude.{IsSome}
-use Rattle.elf_table_base.specs.declared.table_kind.TableKind.TheVariants.{HashTable}
+use Rattle.elf_table_symbols.specs.declared.table_kind.TableKind.TheVariants.{HashTable}
 use Rattle.elf_table_hash.specs.HashTable.{Valid}
 use Rattle.elf_table_hash.specs.Probe.{HasSymbolNamed, HashValue, IsProbed}
 use Rattle.elf_c.proofs.HashReads.{table_hash, table_valid}

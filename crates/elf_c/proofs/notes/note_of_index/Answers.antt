@@ -1,8 +1,8 @@
 -- The offset that is found is where the note of this index begins; where none is found there are fewer notes.
 use Rattle.std.proofs.Common.{◌≡◌, ◌<◌, ◌≤◌, ◌+◌, ◌↔◌, ℕ, List, ap, length, subst, sym, ◌∙◌}
 use Rattle.elf_field.specs.declared.order.Order.{Order}
-use Rattle.elf_table_base.specs.declared.table_kind.TableKind.TheVariants.{NoteSection}
-use Rattle.elf_table_base.specs.Sections.{content, order, sections_in}
+use Rattle.elf_table_symbols.specs.declared.table_kind.TableKind.TheVariants.{NoteSection}
+use Rattle.elf_table_symbols.specs.Sections.{content, order, sections_in}
 use Rattle.elf_table_lists.specs.Notes.{note_at, note_end, note_offset, notes_of}
 use Rattle.elf_c.specs.Entries.{note_told}
 use Rattle.elf_c.specs.Files.{order_named}

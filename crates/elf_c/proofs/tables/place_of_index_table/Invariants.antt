@@ -1,5 +1,5 @@
 use Rattle.std.proofs.Common.{◌<◌, ℕ}
-use Rattle.elf_table_base.specs.Sections.{sections_in}
+use Rattle.elf_table_symbols.specs.Sections.{sections_in}
 use Rattle.elf_table_symbols.specs.IndexTable.{IsIndexTable}
 use Rattle.elf_c.specs.Files.{IsFileOf}
 use Rattle.elf_c.proofs.tables.place_of_index_table.Given as goal

@@ -1,7 +1,7 @@
 use Rattle.std.proofs.Common.{◌≡◌, ℕ, ◌<◌, true, false}
 use Rattle.elf_field.specs.Abi.{SHT_SYMTAB}
 use Rattle.elf_object_reader.specs.FileRules.{IsSecondSymbolTable}
-use Rattle.elf_table_base.specs.Sections.{section, sections_of}
+use Rattle.elf_table_symbols.specs.Sections.{section, sections_of}
 use Rattle.elf_object_reader.proofs.front_rules.lowest_second_symbol_table.Given as goal
 
 -- no symbol table so far is a second one, and it is known whether there is a first

@@ -5,7 +5,7 @@ use Rattle.std.proofs.lemmas.Bool.{eq-eqb, eqb-true}
 use Rattle.elf_field.specs.Abi.{SHT_SYMTAB_SHNDX}
 use Rattle.elf_field.specs.declared.shdr.Shdr.{Shdr}
 use Rattle.elf_table_symbols.specs.IndexTable.{IsIndexTable, index_table}
-use Rattle.elf_table_base.specs.Sections.{sections_of}
+use Rattle.elf_table_symbols.specs.Sections.{sections_of}
 use Rattle.elf_object_reader.proofs.FirstSection.{and_true, first_found, first_missing}
 use Rattle.elf_object_reader.proofs.left_out.index_table.Goals as goal
 

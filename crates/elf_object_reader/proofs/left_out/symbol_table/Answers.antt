@@ -4,7 +4,7 @@ use Rattle.std.proofs.lemmas.Bool.{eq-eqb, eqb-true}
 use Rattle.elf_field.specs.Abi.{SHT_SYMTAB}
 use Rattle.elf_field.specs.declared.shdr.Shdr.{Shdr}
 use Rattle.elf_object_reader.specs.Kept.{symbol_table}
-use Rattle.elf_table_base.specs.Sections.{section, sections_of}
+use Rattle.elf_table_symbols.specs.Sections.{section, sections_of}
 use Rattle.elf_object_reader.proofs.FirstSection.{first_found, first_missing}
 use Rattle.elf_object_reader.proofs.left_out.symbol_table.Goals as goal
 

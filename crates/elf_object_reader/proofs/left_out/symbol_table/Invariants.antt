@@ -1,6 +1,6 @@
 use Rattle.std.proofs.Common.{◌≡◌, ℕ, ◌<◌}
 use Rattle.elf_field.specs.Abi.{SHT_SYMTAB}
-use Rattle.elf_table_base.specs.Sections.{section, sections_of}
+use Rattle.elf_table_symbols.specs.Sections.{section, sections_of}
 use Rattle.elf_object_reader.proofs.left_out.symbol_table.Given as goal
 
 abbrev pub invariant-loop-i : goal.invariant-loop-i

@@ -2,7 +2,7 @@ use Rattle.std.proofs.Common.{None}
 use Rattle.elf_object_reader.specs.Denotes.{Denotes}
 use Rattle.elf_object_type.specs.ObjectView.{value_of}
 use Rattle.elf_object_type.specs.declared.parts.ObjectParts.{ObjectParts}
-use Rattle.elf_table_base.specs.Sections.{sections_of}
+use Rattle.elf_table_symbols.specs.Sections.{sections_of}
 use Rattle.elf_object_reader.proofs.Verdicts.{fault_behind, found_behind, front_fault, read_judged}
 use Rattle.elf_object_reader.proofs.reading.parts_of.Goals as goal
 

@@ -1,4 +1,4 @@
-use Rattle.elf_table_base.specs.Sections.{sections_of}
+use Rattle.elf_table_symbols.specs.Sections.{sections_of}
 use Rattle.elf_table_all.specs.TableVerdicts.{AreAllIndexTables}
 use Rattle.elf_table_all.proofs.tables.all_index_tables.Given as goal
 

@@ -2,9 +2,9 @@
 use Rattle.std.proofs.Common.{None, sym, subst}
 use Rattle.elf_image_rules.proofs.Public.{FirstIn-behind, FirstIn-front}
 use Rattle.elf_image_rules.specs.Rows.{FirstIn}
-use Rattle.elf_table_base.specs.declared.table_kind.TableKind.TheVariants.{HashTable}
-use Rattle.elf_table_base.specs.OwnRules.{own_rules}
-use Rattle.elf_table_base.specs.Sections.{section, sections_of}
+use Rattle.elf_table_symbols.specs.declared.table_kind.TableKind.TheVariants.{HashTable}
+use Rattle.elf_table_symbols.specs.OwnRules.{own_rules}
+use Rattle.elf_table_symbols.specs.Sections.{section, sections_of}
 use Rattle.elf_table_symbols.proofs.Public.{link_there}
 use Rattle.elf_table_symbols.specs.SymbolRules.{symbol_table_rules}
 use Rattle.elf_table_hash.specs.HashParts.{HashPartsValue, hash_parts, hash_parts_value}

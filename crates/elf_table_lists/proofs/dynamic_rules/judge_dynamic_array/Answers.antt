@@ -4,7 +4,7 @@ use Rattle.elf_extent.specs.Least.{IsLowest, Never}
 use Rattle.elf_field.specs.Abi.{D_UN_AT, DYN_SIZE}
 use Rattle.elf_field.specs.declared.order.Order.{Order}
 use Rattle.elf_image_rules.specs.Rows.{AtEntry}
-use Rattle.elf_table_base.specs.Sections.{Sections, content, order, section, sections_of}
+use Rattle.elf_table_symbols.specs.Sections.{Sections, content, order, section, sections_of}
 use Rattle.elf_table_lists.specs.DynamicArray.{IsNullEntry, dynamic_entry, dynamic_entry_count}
 use Rattle.elf_table_lists.specs.DynamicRules.{IsDynamicStringPastEnd, dynamic_rules, dynamic_string_past_end, no_null_entry}
 use Rattle.elf_table_lists.proofs.DynamicLists.{IsEnd, lowest_before_end}

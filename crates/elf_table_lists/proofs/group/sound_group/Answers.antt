@@ -1,5 +1,5 @@
 use Rattle.std.proofs.Common.{refl, arith}
-use Rattle.elf_table_base.specs.Sections.{sections_of}
+use Rattle.elf_table_symbols.specs.Sections.{sections_of}
 use Rattle.elf_table_lists.specs.Groups.{group_of}
 use Rattle.elf_table_lists.proofs.GroupLists.{sound_group}
 use Rattle.elf_table_lists.proofs.group.sound_group.Goals as goal

@@ -1,6 +1,6 @@
 use Rattle.std.proofs.Common.{refl, inl}
 use Rattle.elf_image_rules.proofs.Public.{FirstIn-later, FirstIn-sooner}
-use Rattle.elf_table_base.specs.Sections.{sections_of}
+use Rattle.elf_table_symbols.specs.Sections.{sections_of}
 use Rattle.elf_table_symbols.proofs.Public.{judged_handed}
 use Rattle.elf_table_lists.specs.GroupRules.{group_member_rules, group_rules}
 use Rattle.elf_table_lists.proofs.GroupMembers.{no_wrong_member, wrong_member_row}

@@ -1,5 +1,5 @@
 use Rattle.std.proofs.Common.{ℕ, ◌<◌}
-use Rattle.elf_table_base.specs.Sections.{sections_of}
+use Rattle.elf_table_symbols.specs.Sections.{sections_of}
 use Rattle.elf_table_lists.specs.GroupRules.{IsUnfit}
 use Rattle.elf_table_lists.specs.Groups.{member}
 use Rattle.elf_table_lists.proofs.group_rules.lowest_unfit.Given as goal

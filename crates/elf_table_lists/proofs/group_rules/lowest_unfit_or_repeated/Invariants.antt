@@ -1,4 +1,4 @@
-use Rattle.elf_table_base.specs.Sections.{sections_of}
+use Rattle.elf_table_symbols.specs.Sections.{sections_of}
 use Rattle.elf_table_lists.proofs.GroupMembers.{AreRight}
 use Rattle.elf_table_lists.proofs.group_rules.lowest_unfit_or_repeated.Given as goal
 

@@ -1,4 +1,4 @@
-use Rattle.elf_table_base.specs.Sections.{sections_of}
+use Rattle.elf_table_symbols.specs.Sections.{sections_of}
 use Rattle.elf_table_lists.proofs.GroupMembers.{ascending_lowest}
 use Rattle.elf_table_lists.proofs.group_rules.lowest_wrong_member.Goals as goal
 

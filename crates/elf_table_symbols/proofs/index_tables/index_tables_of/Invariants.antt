@@ -1,5 +1,5 @@
 use Rattle.elf_table_symbols.specs.IndexTable.{AreIndexTables}
-use Rattle.elf_table_base.specs.Sections.{sections_of}
+use Rattle.elf_table_symbols.specs.Sections.{sections_of}
 use Rattle.elf_table_symbols.proofs.index_tables.index_tables_of.Given as goal
 
 abbrev pub invariant-loop-j : goal.invariant-loop-j

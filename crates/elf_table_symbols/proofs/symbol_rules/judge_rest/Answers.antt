@@ -2,7 +2,7 @@
 use Rattle.std.proofs.Common.{◌≡◌, ℕ, Option, Some, length, ap, sym, ◌∙◌}
 use Rattle.elf_image_rules.proofs.Public.{FirstIn-later, FirstIn-stop}
 use Rattle.elf_table_symbols.specs.IndexTable.{AreIndexTables, index_table, index_words}
-use Rattle.elf_table_base.specs.Sections.{Sections, content, count}
+use Rattle.elf_table_symbols.specs.Sections.{Sections, content, count}
 use Rattle.elf_table_symbols.specs.SymbolParts.{SymbolPartsValue, symbol_parts}
 use Rattle.elf_table_symbols.specs.SymbolRules.{rest_rules}
 use Rattle.elf_table_symbols.specs.declared.index_tables.IndexTables.{IndexTables}

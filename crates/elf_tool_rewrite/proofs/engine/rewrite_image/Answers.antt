@@ -1,5 +1,5 @@
 use Rattle.std.proofs.Common.{inl}
-use Rattle.elf_table_base.specs.Sections.{sections_of}
+use Rattle.elf_table_symbols.specs.Sections.{sections_of}
 use Rattle.elf_tool_rewrite.specs.Rewrite.{ObjectSays, SectionsSay}
 use Rattle.elf_tool_text.proofs.Public.{said_more}
 use Rattle.elf_tool_rewrite.proofs.engine.rewrite_image.Goals as goal

@@ -1,6 +1,6 @@
 use Rattle.std.proofs.Common.{ℕ, ◌<◌}
 use Rattle.elf_object_reader.specs.FileRules.{IsWrongGroupMember}
-use Rattle.elf_table_base.specs.Sections.{content, order}
+use Rattle.elf_table_symbols.specs.Sections.{content, order}
 use Rattle.elf_table_lists.specs.Groups.{member}
 use Rattle.elf_object_reader.specs.ObjectFile.{sections_of_file}
 use Rattle.elf_object_reader.proofs.file_section.FileSection.lowest_wrong_member.Given as goal

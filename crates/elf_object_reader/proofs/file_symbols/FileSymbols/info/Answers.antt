@@ -4,7 +4,7 @@ use Rattle.elf_field.specs.Sym.{sym_at}
 use Rattle.elf_field.specs.declared.order.Order.{Order}
 use Rattle.elf_field.specs.declared.sym.Sym.{Sym}
 use Rattle.elf_object_reader.specs.ObjectFile.{sections_of_file}
-use Rattle.elf_table_base.specs.Sections.{content, order}
+use Rattle.elf_table_symbols.specs.Sections.{content, order}
 use Rattle.elf_table_symbols.specs.Symbols.{SymbolEntryValue}
 use Rattle.elf_table_symbols.specs.SymbolView.{no_symbol_entry}
 use Rattle.elf_object_reader.proofs.SymbolCount.{symbol_info, symbol_within}

@@ -2,7 +2,7 @@ use Rattle.std.proofs.Common.{◌∙◌}
 use Rattle.std.specs.Prelude.{◌==◌}
 use Rattle.elf_field.specs.Abi.{SHT_RELA}
 use Rattle.elf_object_type.specs.RelocationTable.{table_relocations}
-use Rattle.elf_table_base.specs.Sections.{content, order, section}
+use Rattle.elf_table_symbols.specs.Sections.{content, order, section}
 use Rattle.elf_table_lists.specs.Relocations.{has_addends, relocations_of}
 use Rattle.elf_object_reader.specs.ObjectFile.{sections_of_file}
 use Rattle.elf_object_reader.proofs.DenotedRelocations.{relocations_denoted}

@@ -3,7 +3,7 @@ use Rattle.std.proofs.Common.{◌≡◌, ◌+◌, ◌++◌, [], ◌∷◌, List,
 use Rattle.std.specs.List.{range_with_len}
 use Rattle.std.proofs.lemmas.List.FromFn.{length-map-range_with_len, map-range_with_len_more}
 use Rattle.elf_object_reader.specs.Kept.{is_kept, position_of}
-use Rattle.elf_table_base.specs.Sections.{count}
+use Rattle.elf_table_symbols.specs.Sections.{count}
 use Rattle.elf_object_reader.specs.ObjectFile.{sections_of_file}
 use Rattle.elf_object_reader.proofs.KeptLists.{count_kept, count_other, position_le}
 use Rattle.elf_object_reader.proofs.object_file.ObjectFile.positions.Goals as goal

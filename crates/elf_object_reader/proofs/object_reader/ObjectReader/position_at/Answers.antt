@@ -2,7 +2,7 @@ use Rattle.std.proofs.Common.{◌+◌, ◌<◌, List, get_or, inl, inr, ap, ◌�
 use Rattle.std.proofs.lemmas.Bool.{cases_lt}
 use Rattle.std.proofs.lemmas.List.{get_or_default}
 use Rattle.elf_object_reader.specs.Kept.{position_of}
-use Rattle.elf_table_base.specs.Sections.{count}
+use Rattle.elf_table_symbols.specs.Sections.{count}
 use Rattle.elf_object_reader.specs.ObjectFile.{sections_of_file}
 use Rattle.elf_object_reader.proofs.KeptLists.{position_get, position_past}
 use Rattle.elf_object_reader.proofs.object_reader.ObjectReader.position_at.Goals as goal

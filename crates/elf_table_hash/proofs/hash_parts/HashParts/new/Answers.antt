@@ -3,7 +3,7 @@ use Rattle.std.proofs.Common.{inl, inr, ℕ, ◌+◌, ◌/◌, ◌<◌, ◌≤�
 use Rattle.std.proofs.lemmas.Bool.{cases_lt}
 use Rattle.elf_field.specs.Abi.{WORD_SIZE}
 use Rattle.elf_field.specs.declared.order.Order.{Order}
-use Rattle.elf_table_base.specs.Sections.{section, sections_of}
+use Rattle.elf_table_symbols.specs.Sections.{section, sections_of}
 use Rattle.elf_table_symbols.proofs.Public.{sound_link}
 use Rattle.elf_table_hash.specs.WordLists.{names_in}
 use Rattle.elf_table_hash.proofs.HashSound.{hash_content, hash_type, names_of_section}

@@ -1,6 +1,6 @@
 //! A section that may hold a table, and one that links to another section (gABI chapter 4, Sections).
 ghost use Rattle.std.specs.Prelude.{◌<◌, length};
-ghost use Rattle.elf_table_base.specs.Sections.{section, sections_of};
+ghost use Rattle.elf_table_symbols.specs.Sections.{section, sections_of};
 
 use elf_field::abi::*;
 use elf_field::{Order, Shdr};
@@ -20,7 +20,7 @@ impl<'i, 'a> TableSection<'i, 'a> {
     ghost use Rattle.std.specs.Prelude.{◌≡◌, ◌≤◌, ◌+◌};
     ghost use Rattle.elf_image_rules.specs.HeaderRules.{MAX_LEN};
     ghost use Rattle.elf_image_rules.specs.Tables.{content_extent};
-    ghost use Rattle.elf_table_base.specs.Sections.{content, header_at, order};
+    ghost use Rattle.elf_table_symbols.specs.Sections.{content, header_at, order};
 
     /// The byte order of the file.
     pub fn order(self) -> Order
@@ -65,7 +65,7 @@ pub struct LinkedTable<'i, 'a> {
 impl<'i, 'a> LinkedTable<'i, 'a> {
     ghost use Rattle.std.specs.Prelude.{◌≡◌, ◌≤◌, ◌+◌};
     ghost use Rattle.elf_image_rules.specs.HeaderRules.{MAX_LEN};
-    ghost use Rattle.elf_table_base.specs.Sections.{content};
+    ghost use Rattle.elf_table_symbols.specs.Sections.{content};
 
     /// The index of the section that it links to.
     pub fn link(self) -> usize

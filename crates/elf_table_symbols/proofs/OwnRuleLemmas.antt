@@ -2,9 +2,9 @@
 use Rattle.std.proofs.Common.{ℕ, ◌<◌, None, inl, inr, refl}
 use Rattle.std.proofs.lemmas.Bool.{cases_lt}
 use Rattle.elf_image_rules.specs.Rows.{FirstIn}
-use Rattle.elf_table_base.specs.declared.table_kind.TableKind.{TableKind}
-use Rattle.elf_table_base.specs.OwnRules.{own_rules}
-use Rattle.elf_table_base.specs.Sections.{Sections, count, section}
+use Rattle.elf_table_symbols.specs.declared.table_kind.TableKind.{TableKind}
+use Rattle.elf_table_symbols.specs.OwnRules.{own_rules}
+use Rattle.elf_table_symbols.specs.Sections.{Sections, count, section}
 
 -- the section that it links to is there
 pub link_there : (kind : TableKind) (f : Sections) (i : ℕ) → FirstIn (own_rules kind f i) None → (section f i).sh_link < count f

@@ -3,9 +3,9 @@
 ghost use Rattle.std.specs.Prelude.{◌≡◌, ◌<◌, ◌%◌, Some, OnOk};
 ghost use Rattle.elf_image_rules.specs.Broken.{fault_of};
 ghost use Rattle.elf_image_rules.specs.Rows.{FirstIn};
-ghost use Rattle.elf_table_base.specs.OwnRules.{own_rules};
-ghost use Rattle.elf_table_base.specs.Sections.{count, section, sections_of};
-ghost use Rattle.elf_table_base.specs.TableKind.{IsLinkOf, entry_size, kind_of};
+ghost use Rattle.elf_table_symbols.specs.OwnRules.{own_rules};
+ghost use Rattle.elf_table_symbols.specs.Sections.{count, section, sections_of};
+ghost use Rattle.elf_table_symbols.specs.TableKind.{IsLinkOf, entry_size, kind_of};
 
 use crate::rules::*;
 use crate::table_kind::TableKind;

@@ -3,9 +3,9 @@
 use Rattle.std.specs.Prelude.{◌≡◌, ◌≢◌, ℕ, ◌+◌, ◌%◌, ◌≤◌, ◌⊎◌, Some, List, [], ◌∷◌}
 use Rattle.elf_field.specs.Abi.{SH_ENTSIZE_AT, SH_LINK_AT, SH_SIZE_AT, SH_TYPE_AT}
 use Rattle.elf_image_rules.specs.Rows.{Row, Ruled, When, rule}
-use Rattle.elf_table_base.specs.declared.table_kind.TableKind.{TableKind}
-use Rattle.elf_table_base.specs.Sections.{Sections, count, header_at, section}
-use Rattle.elf_table_base.specs.TableKind.{IsLinkOf, entry_size, kind_of}
+use Rattle.elf_table_symbols.specs.declared.table_kind.TableKind.{TableKind}
+use Rattle.elf_table_symbols.specs.Sections.{Sections, count, header_at, section}
+use Rattle.elf_table_symbols.specs.TableKind.{IsLinkOf, entry_size, kind_of}
 
 -- rule 40: the section is not of a type that holds such a table
 abbrev pub wrong_table_type : (ℕ → Type 0) → Sections → ℕ → Row ℕ

@@ -1,7 +1,7 @@
 //! The kinds of tables, and what the section headers of those say whose entries are of one size
 //! (gABI chapter 4, Sections: sh_type, sh_link, sh_entsize).
 ghost use Rattle.std.specs.Prelude.{◌≡◌, ◌↔◌, ◌<◌, ◌⊎◌, IsTrue};
-ghost use Rattle.elf_table_base.specs.TableKind.{IsLinkOf, IsSymbolType, entry_size as entry_size_of, kind_of};
+ghost use Rattle.elf_table_symbols.specs.TableKind.{IsLinkOf, IsSymbolType, entry_size as entry_size_of, kind_of};
 
 use elf_field::abi::*;
 

@@ -6,7 +6,7 @@ use Rattle.elf_image_stream.specs.declared.fault.Fault.TheVariants.{Io, OutOfMem
 use Rattle.elf_image_rules.specs.declared.broken.Broken.{Broken}
 use Rattle.elf_image_rules.specs.Rows.{FirstIn, Ruled}
 use Rattle.elf_image_rules.proofs.Public.{FirstIn-later, FirstIn-sooner}
-use Rattle.elf_table_base.specs.Judged.{IsJudgedBehind}
+use Rattle.elf_table_symbols.specs.Judged.{IsJudgedBehind}
 
 -- the fault that a run has found is handed on
 pub judged_handed : {T : Type 0} (front rules : List {1} (Ruled ℕ)) (Is : T → Type 0) (broken : Broken ℕ) (result : Result T Fault) →
