@@ -8,7 +8,7 @@ ghost use Rattle.elf_c_engines.specs.Told.{IsEngineCall};
 
 use crate::answer::{CallFault, Outcome, give_up, tell};
 use crate::files::{files_in, rules_in};
-use elf_c_room::Slot;
+use elf_c_parts::Slot;
 use elf_link_field::RelocRule;
 use elf_link_map::Options;
 use elf_tool_link::link_files;

@@ -1,5 +1,5 @@
 use Rattle.std.proofs.Common.{◌≢◌, ℕ, List, Some, Result, Ok, Err, MatchResult, inr, refl}
-use Rattle.elf_c_room.specs.declared.room.Slot.{Slot}
+use Rattle.elf_c_parts.specs.declared.room.Slot.{Slot}
 use Rattle.elf_link_field.specs.declared.rule.RelocRule.{RelocRule}
 use Rattle.elf_tool_map.specs.Map.{MapSays}
 use Rattle.elf_tool_rule_file.specs.File.{AreRules}

@@ -9,8 +9,8 @@ use Rattle.std.proofs.lemmas.List.Elements.{filter_more}
 use Rattle.std.proofs.lemmas.Option.{get_or_from_slice_get}
 use Rattle.elf_extent.specs.declared.extent.Extent.{Extent}
 use Rattle.elf_extent.specs.Extent.{holds_any}
-use Rattle.elf_c_room.specs.declared.room.Slot.{Slot}
-use Rattle.elf_c_room.specs.Room.{extent_in}
+use Rattle.elf_c_parts.specs.declared.room.Slot.{Slot}
+use Rattle.elf_c_parts.specs.Room.{extent_in}
 
 -- where the slots ascend by their starts, so do the extents
 pub ascending_slots : (ss : List Slot) → IsNonDecreasingBy (λ s. s.start) ss → IsNonDecreasingBy (λ e. e.start) (map extent_in ss)

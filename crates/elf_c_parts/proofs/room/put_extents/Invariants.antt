@@ -1,8 +1,8 @@
 use Rattle.std.proofs.Common.{◌≡◌, ◌≤◌, filter, map, take}
 use Rattle.elf_extent.specs.Extent.{holds_any}
 use Rattle.elf_image_rules.specs.FileExtents.{file_extents}
-use Rattle.elf_c_room.specs.Room.{extent_in}
-use Rattle.elf_c_room.proofs.room.put_extents.Given as goal
+use Rattle.elf_c_parts.specs.Room.{extent_in}
+use Rattle.elf_c_parts.proofs.room.put_extents.Given as goal
 
 abbrev pub invariant-loop-index : goal.invariant-loop-index
 invariant-loop-index l = record {

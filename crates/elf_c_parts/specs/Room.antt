@@ -2,8 +2,8 @@
 use Rattle.std.specs.Prelude.{◌≡◌, ◌<◌, ◌≤◌, ℕ, List, length, map}
 use Rattle.elf_extent.specs.declared.extent.Extent.{Extent}
 use Rattle.elf_image_rules.specs.ImageRules.{KeepsRecordRules, extents_of_file}
-use Rattle.elf_c_room.specs.declared.room.Slot.{Slot}
-use Rattle.elf_c_room.specs.declared.room.SlotRow.{SlotRow}
+use Rattle.elf_c_parts.specs.declared.room.Slot.{Slot}
+use Rattle.elf_c_parts.specs.declared.room.SlotRow.{SlotRow}
 
 -- the extent that a slot holds
 abbrev pub extent_in : Slot → Extent

@@ -1,6 +1,6 @@
 use Rattle.elf_image_rules.specs.FileExtents.{file_extents}
 use Rattle.elf_extent.proofs.Public.{held_nonempty, lowest_held}
-use Rattle.elf_c_room.proofs.room.lowest_shared_byte.Goals as goal
+use Rattle.elf_c_parts.proofs.room.lowest_shared_byte.Goals as goal
 
 pub lowest_double-requires : goal.lowest_double-requires
 lowest_double-requires c =
