@@ -21,6 +21,6 @@ pub use Rattle.elf_tool_text.specs.Fault
 pub use Rattle.elf_tool_text.specs.Inputs
 pub use Rattle.elf_tool_text.specs.Line
 pub use Rattle.elf_tool_text.specs.Output
-pub use Rattle.elf_tool_words.specs.Command
-pub use Rattle.elf_tool_words.specs.Number
-pub use Rattle.elf_tool_words.specs.Words
+pub use Rattle.elf_tool_base.specs.Command
+pub use Rattle.elf_tool_base.specs.Number
+pub use Rattle.elf_tool_base.specs.Words

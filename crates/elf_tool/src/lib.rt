@@ -10,7 +10,7 @@
 
 pub use elf_link_field::{Form, Range, RelocRule, Width};
 pub use elf_link_files::Options;
-pub use elf_tool_base::{OpenFault, Opener, Status};
+pub use elf_tool_base::{OpenFault, Opener, Request, Status, WordsFault, read_words};
 pub use elf_tool_check::check;
 pub use elf_tool_check_source::check_source;
 pub use elf_tool_link::link;
@@ -20,4 +20,3 @@ pub use elf_tool_rewrite::rewrite;
 pub use elf_tool_rule_file::{RulesFault, read_rules};
 pub use elf_tool_show::show;
 pub use elf_tool_text::{Refusal, ToolFault, Verdict};
-pub use elf_tool_words::{Request, WordsFault, read_words};

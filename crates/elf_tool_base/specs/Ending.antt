@@ -5,8 +5,8 @@ use Rattle.elf_tool_base.specs.Opener.{IsOpenFault}
 use Rattle.elf_tool_base.specs.declared.ending.Status.{Status}
 use Rattle.elf_tool_base.specs.declared.ending.Status.TheVariants.{Done, Refused, Usage, Failed}
 use Rattle.elf_tool_base.specs.declared.opener.OpenFault.{OpenFault}
-use Rattle.elf_tool_words.specs.declared.words.WordsFault.{WordsFault}
-use Rattle.elf_tool_words.specs.declared.words.WordsFault.TheVariants.{Words, TooManyFiles, BadNumber, OutOfMemory}
+use Rattle.elf_tool_base.specs.declared.words.WordsFault.{WordsFault}
+use Rattle.elf_tool_base.specs.declared.words.WordsFault.TheVariants.{Words, TooManyFiles, BadNumber, OutOfMemory}
 use Rattle.elf_tool_text.specs.declared.fault.ToolFault.{ToolFault}
 use Rattle.elf_tool_text.specs.declared.fault.Verdict.{Verdict}
 use Rattle.elf_tool_text.specs.declared.fault.Verdict.TheVariants as verdict

@@ -6,8 +6,8 @@ ghost use Rattle.elf_tool_base.specs.Ending.{code_of, ending_of, unasked};
 ghost use Rattle.elf_tool_base.specs.declared.ending.Status.{Status as Ending};
 
 use crate::opener::OpenFault;
+use crate::words::WordsFault;
 use elf_tool_text::{ToolFault, Verdict};
-use elf_tool_words::WordsFault;
 use std::fmt::Display;
 use std::io;
 use std::io::Write;

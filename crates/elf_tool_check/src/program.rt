@@ -6,8 +6,9 @@ ghost use Rattle.elf_tool_check.specs.CheckProgram.{EndsCheck};
 ghost use Rattle.elf_tool_base.specs.declared.ending.Status.{Status as Ending};
 
 use crate::engine::check;
-use elf_tool_base::{Opener, Status, misused, no_request, status_of, unopened};
-use elf_tool_words::{Request, read_words};
+use elf_tool_base::{
+    Opener, Request, Status, misused, no_request, read_words, status_of, unopened,
+};
 use std::alloc::Global;
 use std::convert::AsStr;
 use std::io::Write;

@@ -14,7 +14,9 @@ mod program;
 mod rules;
 
 pub use elf_link_field::{Form, Range, RelocRule, Width};
-pub use elf_tool_base::{MachineFiles, OpenFault, Opener, Status, refuse_words};
+pub use elf_tool_base::{
+    MachineFiles, OpenFault, Opener, Request, Status, WordsFault, read_words, refuse_words,
+};
 pub use elf_tool_check::check;
 pub use elf_tool_check_source::check_source;
 pub use elf_tool_link::link;
@@ -23,6 +25,5 @@ pub use elf_tool_rewrite::rewrite;
 pub use elf_tool_rule_file::{RulesFault, read_rules};
 pub use elf_tool_show::show;
 pub use elf_tool_text::{Refusal, ToolFault, Verdict};
-pub use elf_tool_words::{Request, WordsFault, read_words};
 pub use machine::run_on_machine;
 pub use program::run;

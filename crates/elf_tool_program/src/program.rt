@@ -12,7 +12,9 @@ ghost use Rattle.elf_tool_program.specs.Program.{EndsFiles, EndsLink, EndsMap, E
 use crate::opening::open_all;
 use crate::rules::{NoRules, rules_of};
 use elf_link_field::RelocRule;
-use elf_tool_base::{OpenFault, Opener, Status, fail, misused, no_request, status_of, unopened};
+use elf_tool_base::{
+    OpenFault, Opener, Request, Status, fail, misused, no_request, read_words, status_of, unopened,
+};
 use elf_tool_check::check_file;
 use elf_tool_check_source::check_source;
 use elf_tool_link::link;
@@ -21,7 +23,6 @@ use elf_tool_rewrite::rewrite;
 use elf_tool_rule_file::RulesFault;
 use elf_tool_show::show;
 use elf_tool_text::{Refusal, ToolFault, Verdict};
-use elf_tool_words::{Request, read_words};
 use std::alloc::Global;
 use std::convert::AsStr;
 use std::io::Write;

@@ -17,11 +17,11 @@ use Rattle.elf_tool_text.specs.declared.fault.Refusal.TheVariants.{File, Link, T
 use Rattle.elf_tool_text.specs.declared.fault.ToolFault.{ToolFault}
 use Rattle.elf_tool_text.specs.declared.fault.Verdict.{Verdict}
 use Rattle.elf_tool_text.specs.declared.fault.Verdict.TheVariants.{Done, Refused}
-use Rattle.elf_tool_words.specs.Words.{is_set}
-use Rattle.elf_tool_words.specs.Command.{check, elfmap, map_command, rewrite, show}
+use Rattle.elf_tool_base.specs.Words.{is_set}
+use Rattle.elf_tool_base.specs.Command.{check, elfmap, map_command, rewrite, show}
 use Rattle.elf_tool_program.specs.Program.{EndsRun}
-use Rattle.elf_tool_words.specs.declared.words.Request.TheVariants.{Check, CheckSource, Show, Rewrite, Map, Link}
-use Rattle.elf_tool_words.specs.declared.words.WordsFault.TheVariants as words_fault
+use Rattle.elf_tool_base.specs.declared.words.Request.TheVariants.{Check, CheckSource, Show, Rewrite, Map, Link}
+use Rattle.elf_tool_base.specs.declared.words.WordsFault.TheVariants as words_fault
 
 -- some rule is broken
 abbrev pub IsBroken : List ℕ → Type 0

@@ -1,4 +1,0 @@
--- The words of this crate's contracts.
-pub mod Command
-pub mod Number
-pub mod Words
