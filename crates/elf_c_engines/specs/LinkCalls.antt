@@ -6,7 +6,7 @@ use Rattle.elf_link_files.specs.declared.options.Options.{Options}
 use Rattle.elf_tool_rule_file.specs.File.{AreRules, IsBadLine}
 use Rattle.elf_tool_text.specs.declared.fault.Verdict.{Verdict}
 use Rattle.elf_tool_link.specs.Link.{FilesLink}
-use Rattle.elf_tool_map.specs.Map.{MapSays}
+use Rattle.elf_tool_link.specs.Map.{MapSays}
 use Rattle.elf_c_engines.specs.declared.answer.CallFault.{CallFault}
 use Rattle.elf_c_engines.specs.declared.answer.CallFault.TheVariants.{BadRules, BadFiles, OutOfMemory}
 use Rattle.elf_c_engines.specs.declared.links.LinkOptions.{LinkOptions}

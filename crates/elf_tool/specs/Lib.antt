@@ -4,9 +4,9 @@ pub use Rattle.elf_tool_base.specs.Opener
 pub use Rattle.elf_tool_check.specs.Check
 pub use Rattle.elf_tool_check_source.specs.CheckSource
 pub use Rattle.elf_tool_link.specs.Link
-pub use Rattle.elf_tool_map.specs.Map
-pub use Rattle.elf_tool_map.specs.MapLines
-pub use Rattle.elf_tool_objects.specs.ObjectFiles
+pub use Rattle.elf_tool_link.specs.Map
+pub use Rattle.elf_tool_link.specs.MapLines
+pub use Rattle.elf_tool_link.specs.ObjectFiles
 pub use Rattle.elf_tool_program.specs.Opening
 pub use Rattle.elf_tool_program.specs.Program
 pub use Rattle.elf_tool_program.specs.Rules

@@ -5,7 +5,7 @@ use Rattle.elf_object_type.specs.ObjectRules.{IsObject}
 use Rattle.elf_object_type.specs.Widths.{ObjectFits}
 use Rattle.elf_object_file.proofs.Public.{sound_object}
 use Rattle.elf_link_files.specs.Files.{object_at}
-use Rattle.elf_tool_objects.specs.ObjectFiles.{AreObjectFiles}
+use Rattle.elf_tool_link.specs.ObjectFiles.{AreObjectFiles}
 
 pub object_of_file : (files : List (List ℕ)) (fs : List ObjectValue) (f : ℕ) → AreObjectFiles files fs → f < length fs → IsObject (object_at fs f) × ObjectFits (object_at fs f)
 object_of_file [] [] f are lt = absurd (omega arith)

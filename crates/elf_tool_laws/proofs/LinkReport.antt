@@ -18,7 +18,7 @@ use Rattle.elf_exec.proofs.Public.{one_exec}
 use Rattle.elf_tool_text.specs.declared.fault.Refusal.TheVariants.{File, Link, TooLong}
 use Rattle.elf_tool_text.specs.declared.fault.Verdict.{Verdict}
 use Rattle.elf_tool_text.specs.declared.fault.Verdict.TheVariants.{Done, Refused}
-use Rattle.elf_tool_objects.specs.ObjectFiles.{AreObjectFiles, IsFirstRefused}
+use Rattle.elf_tool_link.specs.ObjectFiles.{AreObjectFiles, IsFirstRefused}
 use Rattle.elf_tool_link.specs.Link.{ExecSays, FileRefuses, FilesLink, MapLinks, ObjectsLink, RuleRefuses}
 use Rattle.elf_tool_laws.specs.SaysOne.{SaysOne}
 use Rattle.elf_tool_laws.proofs.LinkFaults.{none_among, none_of_link, one_among, one_of_link}

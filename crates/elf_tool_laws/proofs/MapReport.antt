@@ -15,9 +15,9 @@ use Rattle.elf_link_relocate.specs.RelocationRules.{applied_entry_rules}
 use Rattle.elf_tool_text.specs.declared.fault.Refusal.TheVariants.{File, Link, TooLong}
 use Rattle.elf_tool_text.specs.declared.fault.Verdict.{Verdict}
 use Rattle.elf_tool_text.specs.declared.fault.Verdict.TheVariants.{Done, Refused}
-use Rattle.elf_tool_objects.specs.ObjectFiles.{AreObjectFiles, IsFirstRefused}
-use Rattle.elf_tool_map.specs.Map.{FilesRefuse, LinkRefuses, LinkSays, MapSays, RelocationSays}
-use Rattle.elf_tool_map.specs.MapLines.{bytes_lines, file_refused_line, link_refused_line, map_text}
+use Rattle.elf_tool_link.specs.ObjectFiles.{AreObjectFiles, IsFirstRefused}
+use Rattle.elf_tool_link.specs.Map.{FilesRefuse, LinkRefuses, LinkSays, MapSays, RelocationSays}
+use Rattle.elf_tool_link.specs.MapLines.{bytes_lines, file_refused_line, link_refused_line, map_text}
 use Rattle.elf_tool_laws.specs.SaysOne.{SaysOne}
 use Rattle.elf_tool_laws.proofs.LinkFaults.{none_among, none_of_link, one_among, one_of_link}
 use Rattle.elf_tool_laws.proofs.ObjectFiles.{objects_not_refused, one_objects, one_refused}

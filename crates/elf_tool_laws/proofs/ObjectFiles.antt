@@ -10,7 +10,7 @@ use Rattle.elf_object_type.specs.Object.{ObjectValue}
 use Rattle.elf_object_reader.specs.Denotes.{Denotes}
 use Rattle.elf_object_reader.specs.FileRules.{file_rules}
 use Rattle.elf_object_reader.proofs.Public.{one_object}
-use Rattle.elf_tool_objects.specs.ObjectFiles.{AreObjectFiles, IsFirstRefused, IsObjectFile, IsRefusedFile}
+use Rattle.elf_tool_link.specs.ObjectFiles.{AreObjectFiles, IsFirstRefused, IsObjectFile, IsRefusedFile}
 use Rattle.elf_tool_laws.proofs.Faults.{none_first, one_first}
 
 -- ---- a file

@@ -7,7 +7,7 @@ use Rattle.elf_link_files.specs.Rows.{FirstAmong}
 use Rattle.elf_link_map.specs.LinkFaults.{FirstOfLink}
 use Rattle.elf_link_map.specs.LinkMap.{IsLinkMap, LinkMapValue}
 use Rattle.elf_link_relocate.specs.RelocationRules.{applied_entry_rules}
-use Rattle.elf_tool_objects.specs.ObjectFiles.{AreObjectFiles}
+use Rattle.elf_tool_link.specs.ObjectFiles.{AreObjectFiles}
 
 -- the files are images that denote these objects, m is their map, and none of rules 1 to 16 of the link stands; the page fits the code's
 -- type

@@ -5,7 +5,7 @@ ghost use Rattle.elf_link_files.specs.declared.options.Options.{Options};
 ghost use Rattle.elf_tool_check.specs.Check.{CheckSays};
 ghost use Rattle.elf_tool_laws.specs.SaysOne.{SaysOne};
 ghost use Rattle.elf_tool_link.specs.Link.{FilesLink};
-ghost use Rattle.elf_tool_map.specs.Map.{MapSays};
+ghost use Rattle.elf_tool_link.specs.Map.{MapSays};
 ghost use Rattle.elf_tool_rewrite.specs.Rewrite.{RewriteSays};
 ghost use Rattle.elf_tool_show.specs.Show.{ShowSays};
 

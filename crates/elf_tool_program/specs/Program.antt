@@ -6,7 +6,7 @@ use Rattle.elf_tool_check.specs.Check.{IsChecked}
 use Rattle.elf_tool_check_source.specs.CheckSource.{IsSourceChecked}
 use Rattle.elf_tool_base.specs.Ending.{EndsFile, EndsWords, ending_of}
 use Rattle.elf_tool_link.specs.Link.{IsLinkCall}
-use Rattle.elf_tool_map.specs.Map.{IsMapped}
+use Rattle.elf_tool_link.specs.Map.{IsMapped}
 use Rattle.elf_tool_rewrite.specs.Rewrite.{IsRewritten}
 use Rattle.elf_tool_show.specs.Show.{IsShown}
 use Rattle.elf_link_files.specs.declared.options.Options.{Options}

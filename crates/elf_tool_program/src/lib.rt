@@ -19,8 +19,7 @@ pub use elf_tool_base::{
 };
 pub use elf_tool_check::check;
 pub use elf_tool_check_source::check_source;
-pub use elf_tool_link::link;
-pub use elf_tool_map::{Options, map};
+pub use elf_tool_link::{Options, link, map};
 pub use elf_tool_rewrite::rewrite;
 pub use elf_tool_rule_file::{RulesFault, read_rules};
 pub use elf_tool_show::show;

@@ -6,7 +6,7 @@ ghost use Rattle.elf_tool_check_source.specs.CheckSource.{IsSourceChecked};
 ghost use Rattle.elf_tool_rewrite.specs.Rewrite.{IsRewritten};
 ghost use Rattle.elf_tool_show.specs.Show.{IsShown};
 ghost use Rattle.elf_tool_link.specs.Link.{IsLinkCall};
-ghost use Rattle.elf_tool_map.specs.Map.{IsMapped};
+ghost use Rattle.elf_tool_link.specs.Map.{IsMapped};
 ghost use Rattle.elf_tool_program.specs.Program.{EndsFiles, EndsLink, EndsMap, EndsRun, unruled};
 
 use crate::opening::open_all;
@@ -17,8 +17,7 @@ use elf_tool_base::{
 };
 use elf_tool_check::check_file;
 use elf_tool_check_source::check_source;
-use elf_tool_link::link;
-use elf_tool_map::{Options, map};
+use elf_tool_link::{Options, link, map};
 use elf_tool_rewrite::rewrite;
 use elf_tool_rule_file::RulesFault;
 use elf_tool_show::show;
