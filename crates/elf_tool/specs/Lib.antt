@@ -1,6 +1,11 @@
 -- The words of the contracts that this door shows, for the contracts of those who stand on it.
+pub mod FileLink
+pub mod SaysOne
+pub use Rattle.elf_tool_base.specs.Command
 pub use Rattle.elf_tool_base.specs.Ending
+pub use Rattle.elf_tool_base.specs.Number
 pub use Rattle.elf_tool_base.specs.Opener
+pub use Rattle.elf_tool_base.specs.Words
 pub use Rattle.elf_tool_check.specs.Check
 pub use Rattle.elf_tool_check_source.specs.CheckSource
 pub use Rattle.elf_tool_link.specs.Link
@@ -21,6 +26,3 @@ pub use Rattle.elf_tool_text.specs.Fault
 pub use Rattle.elf_tool_text.specs.Inputs
 pub use Rattle.elf_tool_text.specs.Line
 pub use Rattle.elf_tool_text.specs.Output
-pub use Rattle.elf_tool_base.specs.Command
-pub use Rattle.elf_tool_base.specs.Number
-pub use Rattle.elf_tool_base.specs.Words

@@ -1,5 +1,6 @@
 //! The program `elfmap` without its surroundings: its engines over any reader or source and any writer, the words of its command line,
-//! files of relocation rules, and [`run`], the whole program over its words and an [`Opener`] of files.
+//! files of relocation rules, and [`run`], the whole program over its words and an [`Opener`] of files. [`laws`] has what holds of the texts
+//! of the commands.
 //!
 //! ```
 //! // The first word is the program's name; `files` opens names, `out` and `err` take what is written.
@@ -7,6 +8,8 @@
 //! assert_eq!(rt; status, Status::Done as u8);
 //! ```
 #![tactic(auto)]
+
+pub mod laws;
 
 pub use elf_link_field::{Form, Range, RelocRule, Width};
 pub use elf_link_files::Options;

@@ -20,10 +20,10 @@ use Rattle.elf_tool_text.specs.declared.fault.Verdict.{Verdict}
 use Rattle.elf_tool_text.specs.declared.fault.Verdict.TheVariants.{Done, Refused}
 use Rattle.elf_tool_link.specs.ObjectFiles.{AreObjectFiles, IsFirstRefused}
 use Rattle.elf_tool_link.specs.Link.{ExecSays, FileRefuses, FilesLink, MapLinks, ObjectsLink, RuleRefuses}
-use Rattle.elf_tool_laws.specs.SaysOne.{SaysOne}
-use Rattle.elf_tool_laws.proofs.LinkFaults.{none_among, none_of_link, one_among, one_of_link}
-use Rattle.elf_tool_laws.proofs.ObjectFiles.{objects_not_refused, one_objects, one_refused}
-use Rattle.elf_tool_laws.proofs.SaysOne.{of_holding, of_one, or_refused}
+use Rattle.elf_tool.specs.SaysOne.{SaysOne}
+use Rattle.elf_tool.proofs.LinkFaults.{none_among, none_of_link, one_among, one_of_link}
+use Rattle.elf_tool.proofs.ObjectFiles.{objects_not_refused, one_objects, one_refused}
+use Rattle.elf_tool.proofs.SaysOne.{of_holding, of_one, or_refused}
 
 -- ---- the executable
 

@@ -14,9 +14,9 @@ use Rattle.elf_tool_text.specs.declared.fault.Refusal.TheVariants.{File, Link, T
 use Rattle.elf_tool_text.specs.declared.fault.Verdict.{Verdict}
 use Rattle.elf_tool_text.specs.declared.fault.Verdict.TheVariants.{Done, Refused}
 use Rattle.elf_tool_show.specs.Show.{AreVerdictsOf, ShowSays, show_text}
-use Rattle.elf_tool_laws.specs.SaysOne.{SaysOne}
-use Rattle.elf_tool_laws.proofs.Faults.{none_first, one_first}
-use Rattle.elf_tool_laws.proofs.SaysOne.{of_answer}
+use Rattle.elf_tool.specs.SaysOne.{SaysOne}
+use Rattle.elf_tool.proofs.Faults.{none_first, one_first}
+use Rattle.elf_tool.proofs.SaysOne.{of_answer}
 
 -- ---- the image and the verdicts on its tables
 

@@ -15,9 +15,9 @@ use Rattle.elf_tool_text.specs.declared.fault.Refusal.TheVariants.{File, Link, T
 use Rattle.elf_tool_text.specs.declared.fault.Verdict.{Verdict}
 use Rattle.elf_tool_text.specs.declared.fault.Verdict.TheVariants.{Done, Refused}
 use Rattle.elf_tool_rewrite.specs.Rewrite.{ObjectSays, RewriteRefuses, RewriteSays, SectionsSay}
-use Rattle.elf_tool_laws.specs.SaysOne.{SaysOne}
-use Rattle.elf_tool_laws.proofs.Faults.{none_first, one_first}
-use Rattle.elf_tool_laws.proofs.SaysOne.{of_holding, of_one, or_refused}
+use Rattle.elf_tool.specs.SaysOne.{SaysOne}
+use Rattle.elf_tool.proofs.Faults.{none_first, one_first}
+use Rattle.elf_tool.proofs.SaysOne.{of_holding, of_one, or_refused}
 
 of_object : (o : ObjectValue) → SaysOne (ObjectSays o)
 of_object o Done Done s t here there = (refl, one_layout o s t here.laid there.laid)

@@ -1,5 +1,5 @@
-use Rattle.elf_tool_laws.proofs.RuleFile.{one_bad_line, one_rules, rules_not_bad}
-use Rattle.elf_tool_laws.proofs.rule_file_laws.one_rule_file.Goals as goal
+use Rattle.elf_tool.proofs.RuleFile.{one_bad_line, one_rules, rules_not_bad}
+use Rattle.elf_tool.proofs.laws.one_rule_file.Goals as goal
 
 pub returns-clause-rules : goal.returns-clause-rules
 returns-clause-rules c = one_rules

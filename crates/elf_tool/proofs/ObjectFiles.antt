@@ -11,7 +11,7 @@ use Rattle.elf_object_reader.specs.Denotes.{Denotes}
 use Rattle.elf_object_reader.specs.FileRules.{file_rules}
 use Rattle.elf_object_reader.proofs.Public.{one_object}
 use Rattle.elf_tool_link.specs.ObjectFiles.{AreObjectFiles, IsFirstRefused, IsObjectFile, IsRefusedFile}
-use Rattle.elf_tool_laws.proofs.Faults.{none_first, one_first}
+use Rattle.elf_tool.proofs.Faults.{none_first, one_first}
 
 -- ---- a file
 

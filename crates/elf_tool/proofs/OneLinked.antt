@@ -9,7 +9,7 @@ use Rattle.elf_link_relocate.specs.Linked.{AreBytesOf, HasLiveBits, IsLinked, Li
 use Rattle.elf_link_relocate.specs.MapFacts.{IsMapOfSome}
 use Rattle.elf_link_relocate.specs.Memory.{IsMemory}
 use Rattle.elf_link_relocate.proofs.Public.{any_options, one_byte}
-use Rattle.elf_tool_laws.proofs.Faults.{same_some}
+use Rattle.elf_tool.proofs.Faults.{same_some}
 
 module _ (fs : List ObjectValue) (m : LinkMapValue) (rules : List RelocRule) (is : IsMapOfSome fs m) where
   one_bytes : (f s : ℕ) (l : LinkedValue) (xs ys : List ℕ) → IsLinked fs m rules l → AreBytesOf fs m rules f s xs → AreBytesOf fs m rules f s ys → xs ≡ ys

@@ -9,7 +9,7 @@ use Rattle.elf_link_files.specs.Rows.{FirstAmong}
 use Rattle.elf_link_files.proofs.Public.{one_found}
 use Rattle.elf_link_map.specs.LinkFaults.{FirstOfLink}
 use Rattle.elf_link_map.proofs.Public.{one_link_fault}
-use Rattle.elf_tool_laws.proofs.Faults.{none_some, same_some}
+use Rattle.elf_tool.proofs.Faults.{none_some, same_some}
 
 pub one_of_link : (opt : Options) (fs : List ObjectValue) (x y : ℕ × Site) → FirstOfLink opt fs (Some x) → FirstOfLink opt fs (Some y) → x ≡ y
 one_of_link opt fs x y first other = same_some x y (one_link_fault opt fs (Some x) (Some y) first other)

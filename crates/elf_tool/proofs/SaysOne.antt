@@ -1,7 +1,7 @@
 -- How what says one thing alone is put together.
 use Rattle.std.proofs.Common.{◌≡◌, ◌∙◌, ◌⊎◌, ℕ, List, ap, inl, inr, subst, sym}
 use Rattle.elf_tool_text.specs.declared.fault.Verdict.{Verdict}
-use Rattle.elf_tool_laws.specs.SaysOne.{SaysOne}
+use Rattle.elf_tool.specs.SaysOne.{SaysOne}
 
 -- of one answer, which gives both
 pub of_answer : {A : Type 0} (Is : A → Type 0) (verdict : A → Verdict) (text : A → List ℕ) (Says : Verdict → List ℕ → Type 0) →

@@ -7,8 +7,8 @@ use Rattle.elf_link_files.specs.declared.options.Options.{Options}
 use Rattle.elf_link_map.specs.LinkMap.{LinkMapValue}
 use Rattle.elf_exec.specs.Executable.{IsExecFile, IsExecutable, IsSoundLink}
 use Rattle.elf_exec.proofs.Public as exec
-use Rattle.elf_tool_laws.specs.FileLink.{IsSoundFileLink}
-use Rattle.elf_tool_laws.proofs.FilesObjects.{object_of_file}
+use Rattle.elf_tool.specs.FileLink.{IsSoundFileLink}
+use Rattle.elf_tool.proofs.FilesObjects.{object_of_file}
 
 sound_link : (opt : Options) (rules : List RelocRule) (files : List (List ℕ)) (fs : List ObjectValue) (m : LinkMapValue) → IsSoundFileLink opt rules files fs m →
     IsSoundLink fs m rules

@@ -18,11 +18,11 @@ use Rattle.elf_tool_text.specs.declared.fault.Verdict.TheVariants.{Done, Refused
 use Rattle.elf_tool_link.specs.ObjectFiles.{AreObjectFiles, IsFirstRefused}
 use Rattle.elf_tool_link.specs.Map.{FilesRefuse, LinkRefuses, LinkSays, MapSays, RelocationSays}
 use Rattle.elf_tool_link.specs.MapLines.{bytes_lines, file_refused_line, link_refused_line, map_text}
-use Rattle.elf_tool_laws.specs.SaysOne.{SaysOne}
-use Rattle.elf_tool_laws.proofs.LinkFaults.{none_among, none_of_link, one_among, one_of_link}
-use Rattle.elf_tool_laws.proofs.ObjectFiles.{objects_not_refused, one_objects, one_refused}
-use Rattle.elf_tool_laws.proofs.OneLinked.{one_linked}
-use Rattle.elf_tool_laws.proofs.SaysOne.{of_answer, of_holding, of_one, or_refused}
+use Rattle.elf_tool.specs.SaysOne.{SaysOne}
+use Rattle.elf_tool.proofs.LinkFaults.{none_among, none_of_link, one_among, one_of_link}
+use Rattle.elf_tool.proofs.ObjectFiles.{objects_not_refused, one_objects, one_refused}
+use Rattle.elf_tool.proofs.OneLinked.{one_linked}
+use Rattle.elf_tool.proofs.SaysOne.{of_answer, of_holding, of_one, or_refused}
 
 -- the verdict and the line on a rule that stands first at a site
 abbrev verdict_at : ℕ × Site → Verdict

@@ -8,8 +8,8 @@ use Rattle.elf_tool_text.specs.declared.fault.Refusal.TheVariants.{File, Link, T
 use Rattle.elf_tool_text.specs.declared.fault.Verdict.{Verdict}
 use Rattle.elf_tool_text.specs.declared.fault.Verdict.TheVariants.{Done, Refused}
 use Rattle.elf_tool_check.specs.Check.{CheckSays, file_sections, file_segments, verdict_of}
-use Rattle.elf_tool_laws.specs.SaysOne.{SaysOne}
-use Rattle.elf_tool_laws.proofs.SaysOne.{of_answer}
+use Rattle.elf_tool.specs.SaysOne.{SaysOne}
+use Rattle.elf_tool.proofs.SaysOne.{of_answer}
 
 -- the line on the rule that the file breaks first, if any
 abbrev line_of : List ℕ → Option (ℕ × ℕ) → List ℕ

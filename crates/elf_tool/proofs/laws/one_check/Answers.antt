@@ -1,0 +1,5 @@
+use Rattle.elf_tool.proofs.CheckReport.{one_check}
+use Rattle.elf_tool.proofs.laws.one_check.Goals as goal
+
+pub returns : goal.returns
+returns c = one_check

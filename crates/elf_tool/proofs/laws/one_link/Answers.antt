@@ -1,0 +1,5 @@
+use Rattle.elf_tool.proofs.LinkReport.{one_link}
+use Rattle.elf_tool.proofs.laws.one_link.Goals as goal
+
+pub returns : goal.returns
+returns c = one_link

@@ -1,0 +1,5 @@
+use Rattle.elf_tool.proofs.ShowReport.{one_show}
+use Rattle.elf_tool.proofs.laws.one_show.Goals as goal
+
+pub returns : goal.returns
+returns c = one_show
