@@ -11,4 +11,5 @@ mod OneLinked
 mod RewriteReport
 mod RuleFile
 mod SaysOne
+mod SaysSome
 mod ShowReport
