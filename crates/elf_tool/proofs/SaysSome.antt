@@ -1,24 +1,22 @@
 -- Each command says something of its input: that it says nothing can't be. So what its rules say need not be decided.
-use Rattle.std.proofs.Common.{◌≡◌, ◌∙◌, ◌<◌, ◌≤◌, ◌⊎◌, ◌^◌, ℕ, zero, suc, List, [], ◌∷◌, ◌++◌, ap, arith, inl, inr, length, refl, subst, sym}
+use Rattle.std.proofs.Common.{◌<◌, ◌^◌, ℕ, zero, suc, List, [], ◌∷◌, ◌++◌, inl, inr, length, refl, subst}
 use Rattle.std.specs.Prelude.{Option, None, Some}
 use Rattle.std.proofs.lemmas.Bool.{cases_lt}
 use Rattle.elf_field.specs.Abi.{PN_XNUM}
 use Rattle.elf_field.specs.Bytes.{IsBytes}
 use Rattle.elf_image_rules.specs.HeaderRules.{MAX_LEN}
-use Rattle.elf_image_rules.specs.ImageRules.{IsFault, rules_in}
+use Rattle.elf_image_rules.specs.ImageRules.{rules_in}
 use Rattle.elf_image_rules.specs.Rows.{FirstIn}
 use Rattle.elf_image_rules.proofs.Public.{some_fault}
 use Rattle.elf_image_outline.specs.Image.{ImageValue, IsImage}
 use Rattle.elf_image_type.proofs.Public.{some_image}
-use Rattle.elf_table_symbols.specs.Sections.{Sections, sections_of}
+use Rattle.elf_table_symbols.specs.Sections.{sections_of}
 use Rattle.elf_table_all.specs.TableRules.{table_rules}
 use Rattle.elf_object_type.specs.Object.{ObjectValue}
 use Rattle.elf_object_type.specs.ObjectRules.{IsObject}
 use Rattle.elf_object_type.specs.Widths.{ObjectFits}
-use Rattle.elf_object_reader.specs.Denotes.{Denotes}
 use Rattle.elf_object_reader.specs.FileRules.{file_rules}
 use Rattle.elf_object_reader.proofs.Public.{some_object}
-use Rattle.elf_object_writer.specs.Laid.{Laid}
 use Rattle.elf_object_writer.proofs.Public.{one_layout, some_layout}
 use Rattle.elf_object_file.proofs.Public.{file_of, sound_object}
 use Rattle.elf_link_field.specs.declared.rule.RelocRule.{RelocRule}
@@ -33,18 +31,18 @@ use Rattle.elf_link_relocate.specs.Linked.{IsLinked, LinkedValue}
 use Rattle.elf_link_relocate.specs.RelocationRules.{applied_entry_rules}
 use Rattle.elf_link_relocate.proofs.Public.{any_options, ready_of, some_linked}
 use Rattle.elf_exec.specs.ExecLaid.{ExecLaid}
+use Rattle.elf_exec.specs.Executable.{IsExecFile}
 use Rattle.elf_exec.specs.Loads.{loads}
 use Rattle.elf_exec.proofs.Public.{some_exec}
 use Rattle.elf_tool_text.specs.Line.{ok_line, refused_line}
 use Rattle.elf_tool_text.specs.declared.fault.Refusal.TheVariants.{File, Link, TooLong}
-use Rattle.elf_tool_text.specs.declared.fault.Verdict.{Verdict}
 use Rattle.elf_tool_text.specs.declared.fault.Verdict.TheVariants.{Done, Refused}
 use Rattle.elf_tool_check.specs.Check.{CheckSays, file_sections, file_segments}
 use Rattle.elf_tool_show.specs.Show.{ShowSays, show_text}
-use Rattle.elf_tool_rewrite.specs.Rewrite.{ObjectSays, RewriteSays, SectionsSay}
+use Rattle.elf_tool_rewrite.specs.Rewrite.{ObjectSays, RewriteSays}
 use Rattle.elf_tool_link.specs.ObjectFiles.{AreObjectFiles, IsFirstRefused, IsObjectFile, IsRefusedFile}
-use Rattle.elf_tool_link.specs.Link.{ExecSays, FilesLink, MapLinks, ObjectsLink}
-use Rattle.elf_tool_link.specs.Map.{LinkSays, MapSays, RelocationSays}
+use Rattle.elf_tool_link.specs.Link.{ExecSays, FilesLink}
+use Rattle.elf_tool_link.specs.Map.{MapSays, RelocationSays}
 use Rattle.elf_tool_link.specs.MapLines.{bytes_lines, file_refused_line, link_refused_line, map_text}
 use Rattle.elf_tool.specs.FileLink.{IsSoundFileLink}
 use Rattle.elf_tool.specs.SaysOne.{AreFilesOfBytes, SaysSome}
@@ -145,23 +143,23 @@ some_executable : (opt : Options) (rules : List RelocRule) (files : List (List �
     IsSoundFileLink opt rules files fs m → SaysSome (ExecSays fs m rules)
 some_executable opt rules files fs m link none =
     some_linked fs m rules (any_options fs m (opt, link.map, link.linked)) link.relocated of_linked where
-  laid : (b : List ℕ) → ¬ ExecLaid fs m rules b
-  laid b is = elim (cases_lt (length (loads m)) PN_XNUM) [
-    | inr many ↦ none (Refused TooLong) [] (inl many, refl)
-    | inl few ↦ elim (cases_lt MAX_LEN (length b)) [
-      | inl long ↦ none (Refused TooLong) [] (inr (b, is, long), refl)
-      | inr short ↦
-          let file = record { laid = is; few = few; short = short } in
-          none Done b (file, executable opt rules files fs m b link file)
-    ]
-  ]
+      laid : (b : List ℕ) → ¬ ExecLaid fs m rules b
+      laid b is = elim (cases_lt (length (loads m)) PN_XNUM) [
+        | inr many ↦ none (Refused TooLong) [] (inl many, refl)
+        | inl few ↦ elim (cases_lt MAX_LEN (length b)) [
+          | inl long ↦ none (Refused TooLong) [] (inr (b, is, long), refl)
+          | inr short ↦
+              let file : IsExecFile fs m rules b = record { laid = is; few = few; short = short } in
+              none Done b (file, executable opt rules files fs m b link file)
+        ]
+      ]
 
-  of_linked : (l : LinkedValue) → ¬ IsLinked fs m rules l
-  of_linked l linked =
-      let (b, is) = some_exec l (ready_of fs m rules l (opt, link.map, link.linked) linked) in
-      laid b (subst (λ (rs : List RelocRule). ExecLaid fs m rs b) linked.same_rules
-      (subst (λ (n : LinkMapValue). ExecLaid fs n l.rules b) linked.same_map
-      (subst (λ (gs : List ObjectValue). ExecLaid gs l.map l.rules b) linked.same_objects is)))
+      of_linked : (l : LinkedValue) → ¬ IsLinked fs m rules l
+      of_linked l linked =
+          let (b, is) = some_exec l (ready_of fs m rules l (opt, link.map, link.linked) linked) in
+          laid b (subst (λ (rs : List RelocRule). ExecLaid fs m rs b) linked.same_rules
+          (subst (λ (n : LinkMapValue). ExecLaid fs n l.rules b) linked.same_map
+          (subst (λ (gs : List ObjectValue). ExecLaid gs l.map l.rules b) linked.same_objects is)))
 
 pub some_link : (opt : Options) (rules : List RelocRule) (files : List (List ℕ)) → opt.page < 2 ^ 64 → AreFilesOfBytes files →
     SaysSome (FilesLink opt rules files)
