@@ -11,7 +11,7 @@
 //! | [`exec`] | the executable of a link |
 //! | [`tool`] | the program `elfmap`, over any readers and writers |
 //!
-//! Six things that people do with it, each a program of 40 to 70 lines, in a crate of its name:
+//! Five things that people do with it, each a program of 40 to 70 lines, in a crate of its name:
 //!
 //! | program | what it shows |
 //! |---|---|
