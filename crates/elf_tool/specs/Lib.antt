@@ -1,11 +1,11 @@
 -- The words of the contracts that this public crate shows, for the contracts of those who stand on it.
 pub mod FileLink
 pub mod SaysOne
-pub use Rattle.elf_tool_base.specs.Command
-pub use Rattle.elf_tool_base.specs.Ending
-pub use Rattle.elf_tool_base.specs.Number
-pub use Rattle.elf_tool_base.specs.Opener
-pub use Rattle.elf_tool_base.specs.Words
+pub use Rattle.elf_tool_words.specs.Command
+pub use Rattle.elf_tool_check.specs.Ending
+pub use Rattle.elf_tool_words.specs.Number
+pub use Rattle.elf_tool_check.specs.Opener
+pub use Rattle.elf_tool_words.specs.Words
 pub use Rattle.elf_tool_check.specs.Check
 pub use Rattle.elf_tool_check_source.specs.CheckSource
 pub use Rattle.elf_tool_link.specs.Link

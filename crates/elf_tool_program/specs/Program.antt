@@ -4,7 +4,7 @@ use Rattle.std.specs.Io.KnownBytes.{Keeps}
 use Rattle.clap.specs.Walk.{Text}
 use Rattle.elf_tool_check.specs.Check.{IsChecked}
 use Rattle.elf_tool_check_source.specs.CheckSource.{IsSourceChecked}
-use Rattle.elf_tool_base.specs.Ending.{EndsFile, EndsWords, ending_of}
+use Rattle.elf_tool_check.specs.Ending.{EndsFile, EndsWords, ending_of}
 use Rattle.elf_tool_link.specs.Link.{IsLinkCall}
 use Rattle.elf_tool_link.specs.Map.{IsMapped}
 use Rattle.elf_tool_rewrite.specs.Rewrite.{IsRewritten}
@@ -13,17 +13,17 @@ use Rattle.elf_link_files.specs.declared.options.Options.{Options}
 use Rattle.elf_link_field.specs.declared.rule.RelocRule.{RelocRule}
 use Rattle.elf_tool_program.specs.Opening.{AreOpened, IsUnopened}
 use Rattle.elf_tool_program.specs.Rules.{GivesNoRules, GivesRules}
-use Rattle.elf_tool_base.specs.Words.{IsAskedBy, IsRefusedBy}
+use Rattle.elf_tool_words.specs.Words.{IsAskedBy, IsRefusedBy}
 use Rattle.elf_tool_text.specs.declared.fault.ToolFault.{ToolFault}
 use Rattle.elf_tool_text.specs.declared.fault.Verdict.{Verdict}
 use Rattle.elf_tool_program.specs.declared.opening.Unopened.{Unopened}
-use Rattle.elf_tool_base.specs.declared.ending.Status.{Status}
-use Rattle.elf_tool_base.specs.declared.ending.Status.TheVariants.{Usage, Failed}
+use Rattle.elf_tool_check.specs.declared.ending.Status.{Status}
+use Rattle.elf_tool_check.specs.declared.ending.Status.TheVariants.{Usage, Failed}
 use Rattle.elf_tool_program.specs.declared.rules.NoRules.{NoRules}
 use Rattle.elf_tool_program.specs.declared.rules.NoRules.TheVariants as no_rules
-use Rattle.elf_tool_base.specs.declared.words.Request.{Request}
-use Rattle.elf_tool_base.specs.declared.words.Request.TheVariants.{Check, CheckSource, Show, Rewrite, Map, Link}
-use Rattle.elf_tool_base.specs.declared.words.WordsFault.{WordsFault}
+use Rattle.elf_tool_words.specs.declared.words.Request.{Request}
+use Rattle.elf_tool_words.specs.declared.words.Request.TheVariants.{Check, CheckSource, Show, Rewrite, Map, Link}
+use Rattle.elf_tool_words.specs.declared.words.WordsFault.{WordsFault}
 
 -- a call of an engine that takes several files: what its readers had and have left, what its writer held and holds, and its answer
 abbrev pub CallOnFiles : Type 1

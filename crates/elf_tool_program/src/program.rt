@@ -1,7 +1,7 @@
 //! The whole program: from the words of its command line to its exit status.
 ghost use Rattle.std.specs.Prelude.{◌≡◌, map as map_list, option_copied};
-ghost use Rattle.elf_tool_base.specs.Ending.{EndsFile, code_of, ending_of};
-ghost use Rattle.elf_tool_base.specs.declared.ending.Status.{Status as Ending};
+ghost use Rattle.elf_tool_check.specs.Ending.{EndsFile, code_of, ending_of};
+ghost use Rattle.elf_tool_check.specs.declared.ending.Status.{Status as Ending};
 ghost use Rattle.elf_tool_check_source.specs.CheckSource.{IsSourceChecked};
 ghost use Rattle.elf_tool_rewrite.specs.Rewrite.{IsRewritten};
 ghost use Rattle.elf_tool_show.specs.Show.{IsShown};
@@ -12,16 +12,16 @@ ghost use Rattle.elf_tool_program.specs.Program.{EndsFiles, EndsLink, EndsMap, E
 use crate::opening::open_all;
 use crate::rules::{NoRules, rules_of};
 use elf_link_field::RelocRule;
-use elf_tool_base::{
-    OpenFault, Opener, Request, Status, fail, misused, no_request, read_words, status_of, unopened,
+use elf_tool_check::{
+    OpenFault, Opener, Status, check_file, fail, misused, no_request, status_of, unopened,
 };
-use elf_tool_check::check_file;
 use elf_tool_check_source::check_source;
 use elf_tool_link::{Options, link, map};
 use elf_tool_rewrite::rewrite;
 use elf_tool_rule_file::RulesFault;
 use elf_tool_show::show;
 use elf_tool_text::{Refusal, ToolFault, Verdict};
+use elf_tool_words::{Request, read_words};
 use std::alloc::Global;
 use std::convert::AsStr;
 use std::io::Write;

@@ -1,6 +1,6 @@
 //! The words of a command line.
 use crate::said::{Said, say};
-use elf_tool_base::{WordsFault, read_words};
+use elf_tool_words::{WordsFault, read_words};
 use std::alloc::Global;
 use std::io::Write;
 

@@ -9,19 +9,19 @@ use Rattle.elf_field.specs.Bytes.{IsBytes}
 use Rattle.elf_image_rules.specs.ImageRules.{IsFault}
 use Rattle.elf_tool_check.specs.Check.{CheckSays}
 use Rattle.elf_tool_check_source.specs.CheckSource.{IsSourceChecked}
-use Rattle.elf_tool_base.specs.Ending.{code_of, ending_of}
-use Rattle.elf_tool_base.specs.declared.ending.Status.{Status}
+use Rattle.elf_tool_check.specs.Ending.{code_of, ending_of}
+use Rattle.elf_tool_check.specs.declared.ending.Status.{Status}
 use Rattle.elf_tool_text.specs.Engine.{IsFileCall, IsReadWhole, Report}
 use Rattle.elf_tool_show.specs.Show.{ShowSays}
 use Rattle.elf_tool_text.specs.declared.fault.Refusal.TheVariants.{File, Link, TooLong}
 use Rattle.elf_tool_text.specs.declared.fault.ToolFault.{ToolFault}
 use Rattle.elf_tool_text.specs.declared.fault.Verdict.{Verdict}
 use Rattle.elf_tool_text.specs.declared.fault.Verdict.TheVariants.{Done, Refused}
-use Rattle.elf_tool_base.specs.Words.{is_set}
-use Rattle.elf_tool_base.specs.Command.{check, elfmap, map_command, rewrite, show}
+use Rattle.elf_tool_words.specs.Words.{is_set}
+use Rattle.elf_tool_words.specs.Command.{check, elfmap, map_command, rewrite, show}
 use Rattle.elf_tool_program.specs.Program.{EndsRun}
-use Rattle.elf_tool_base.specs.declared.words.Request.TheVariants.{Check, CheckSource, Show, Rewrite, Map, Link}
-use Rattle.elf_tool_base.specs.declared.words.WordsFault.TheVariants as words_fault
+use Rattle.elf_tool_words.specs.declared.words.Request.TheVariants.{Check, CheckSource, Show, Rewrite, Map, Link}
+use Rattle.elf_tool_words.specs.declared.words.WordsFault.TheVariants as words_fault
 
 -- some rule is broken
 abbrev pub IsBroken : List ℕ → Type 0

@@ -1,5 +1,5 @@
 use Rattle.std.proofs.Common.{Some, ap, inl, refl}
-use Rattle.elf_tool_base.specs.declared.words.Request.TheVariants.{Link, Map}
+use Rattle.elf_tool_words.specs.declared.words.Request.TheVariants.{Link, Map}
 use Rattle.elf_tool_program.proofs.program.ending.Goals as goal
 
 pub returns-in-Ok-Map : goal.returns-in-Ok-Map

@@ -1,0 +1,4 @@
+-- The words of this crate's contracts.
+pub mod Command
+pub mod Number
+pub mod Words

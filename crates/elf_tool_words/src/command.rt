@@ -1,0 +1,182 @@
+//! The program's command line, defined once. A further command is one more item of `elfmap`, here
+//! and in `specs/Command.antt`, and a function for its arguments where it takes more than one file.
+ghost use Rattle.std.specs.Prelude.{◌≡◌, false, IfOk};
+ghost use Rattle.clap.specs.Simple.{with_subcommand};
+ghost use Rattle.clap.specs.Words.{app_of, shape_of};
+ghost use Rattle.clap.specs.declared.builder.command.Command.TheViews.{out-Command as fields_of};
+ghost use Rattle.clap.specs.Walk.{rule_of};
+ghost use Rattle.elf_tool_words.specs.Command.{base as base_rule, check as check_shape, elfmap as elfmap_app, entry_word as entry_rule, file_command as file_shape, files as files_rule, link_command as link_shape, map_command as map_shape, needed_rules_file as needed_rules_rule, page as page_rule, rules_file as rules_rule, seek as seek_rule};
+
+use clap::{Arg, ArgAction, Command};
+use std::alloc::{AllocError, Global};
+
+/// The whole command.
+pub(crate) fn elfmap<'a>(alloc: Global) -> Result<Command<'a>, AllocError>
+    ensures { IfOk result (λ command. app_of command ≡ elfmap_app) }
+{
+    let command = Command::new(alloc, "elfmap")
+        .about("Checks, shows, rewrites and links ELF-64 object files")
+        .subcommand_required(true)
+        .disable_help_subcommand(true);
+    let command = with_check_command(alloc, command)?;
+    let command = with_file_command(
+        alloc,
+        command,
+        "show",
+        "Shows the header, the parts, the sections, the segments and the tables of FILE",
+        "The file to show",
+    )?;
+    let command = with_file_command(
+        alloc,
+        command,
+        "rewrite",
+        "Writes the object of FILE in canonical layout on standard output",
+        "The relocatable file to rewrite",
+    )?;
+    let command = with_map_command(alloc, command)?;
+    command.subcommand(link_command(alloc)?)
+}
+
+// The command with the subcommand `check`.
+fn with_check_command<'a>(alloc: Global, command: Command<'a>) -> Result<Command<'a>, AllocError>
+    ensures { IfOk result (λ more. app_of more ≡ with_subcommand (app_of command.entry) check_shape) }
+{
+    command.subcommand(check_command(alloc)?)
+}
+
+fn check_command<'a>(alloc: Global) -> Result<Command<'a>, AllocError>
+    ensures shape { IfOk result (λ command. shape_of command ≡ check_shape) }
+    ensures local { IfOk result (λ command. (fields_of command).has_globals ≡ false) }
+{
+    let command = file_command(
+        alloc,
+        "check",
+        "Tells whether FILE is an ELF-64 file, or the first rule that it breaks and where",
+        "The file to check",
+    )?;
+    command.arg(seek(alloc))
+}
+
+fn seek<'a>(alloc: Global) -> Arg<'a>
+    ensures rule { rule_of result ≡ seek_rule }
+    ensures local { result.global ≡ false }
+{
+    Arg::new(alloc, "seek")
+        .long("seek")
+        .help("Seeks in FILE, and reads what the check needs of it alone")
+        .action(ArgAction::SetTrue)
+}
+
+// The command with one more subcommand, whose one argument is a file.
+fn with_file_command<'a>(
+    alloc: Global,
+    command: Command<'a>,
+    name: &'a str,
+    about: &'a str,
+    help: &'a str,
+) -> Result<Command<'a>, AllocError>
+    ensures { IfOk result (λ more. app_of more ≡ with_subcommand (app_of command.entry) (file_shape name.entry.now)) }
+{
+    command.subcommand(file_command(alloc, name, about, help)?)
+}
+
+fn file_command<'a>(
+    alloc: Global,
+    name: &'a str,
+    about: &'a str,
+    help: &'a str,
+) -> Result<Command<'a>, AllocError>
+    ensures shape { IfOk result (λ command. shape_of command ≡ file_shape name.entry.now) }
+    ensures local { IfOk result (λ command. (fields_of command).has_globals ≡ false) }
+{
+    let file = Arg::new(alloc, "FILE").help(help).required(true);
+    Command::new(alloc, name).about(about).arg(file)
+}
+
+// The command with the subcommand `map`.
+fn with_map_command<'a>(alloc: Global, command: Command<'a>) -> Result<Command<'a>, AllocError>
+    ensures { IfOk result (λ more. app_of more ≡ with_subcommand (app_of command.entry) map_shape) }
+{
+    command.subcommand(map_command(alloc)?)
+}
+
+fn map_command<'a>(alloc: Global) -> Result<Command<'a>, AllocError>
+    ensures shape { IfOk result (λ command. shape_of command ≡ map_shape) }
+    ensures local { IfOk result (λ command. (fields_of command).has_globals ≡ false) }
+{
+    Command::new(alloc, "map")
+        .about("Shows where the sections and names of the FILEs stand in their link")
+        .arg(base(alloc))?
+        .arg(page(alloc))?
+        .arg(rules(alloc))?
+        .arg(files(alloc))
+}
+
+fn link_command<'a>(alloc: Global) -> Result<Command<'a>, AllocError>
+    ensures shape { IfOk result (λ command. shape_of command ≡ link_shape) }
+    ensures local { IfOk result (λ command. (fields_of command).has_globals ≡ false) }
+{
+    Command::new(alloc, "link")
+        .about("Links the FILEs, and writes the executable on standard output")
+        .arg(base(alloc))?
+        .arg(page(alloc))?
+        .arg(entry(alloc))?
+        .arg(needed_rules(alloc))?
+        .arg(files(alloc))
+}
+
+fn base<'a>(alloc: Global) -> Arg<'a>
+    ensures rule { rule_of result ≡ base_rule }
+    ensures local { result.global ≡ false }
+{
+    Arg::new(alloc, "B")
+        .long("base")
+        .help("The address that placement begins at, a multiple of P")
+        .required(true)
+}
+
+fn page<'a>(alloc: Global) -> Arg<'a>
+    ensures rule { rule_of result ≡ page_rule }
+    ensures local { result.global ≡ false }
+{
+    Arg::new(alloc, "P")
+        .long("page")
+        .help("What each output section begins at a multiple of, a power of two")
+        .required(true)
+}
+
+fn entry<'a>(alloc: Global) -> Arg<'a>
+    ensures rule { rule_of result ≡ entry_rule }
+    ensures local { result.global ≡ false }
+{
+    Arg::new(alloc, "NAME")
+        .long("entry")
+        .help("The symbol that the program begins at")
+        .required(true)
+}
+
+fn rules<'a>(alloc: Global) -> Arg<'a>
+    ensures rule { rule_of result ≡ rules_rule }
+    ensures local { result.global ≡ false }
+{
+    Arg::new(alloc, "RULES").long("rules").help(
+        "The file of relocation rules, a line KIND abs|pc|none 1|2|4|8 signed|unsigned|wrap each",
+    )
+}
+
+fn needed_rules<'a>(alloc: Global) -> Arg<'a>
+    ensures rule { rule_of result ≡ needed_rules_rule }
+    ensures local { result.global ≡ false }
+{
+    rules(alloc).required(true)
+}
+
+fn files<'a>(alloc: Global) -> Arg<'a>
+    ensures rule { rule_of result ≡ files_rule }
+    ensures local { result.global ≡ false }
+{
+    Arg::new(alloc, "FILE")
+        .help("The relocatable files to link, at most 64")
+        .required(true)
+        .action(ArgAction::Append)
+}
