@@ -1,6 +1,6 @@
 use Rattle.std.proofs.Common.{◌≤◌}
 use Rattle.std.specs.List.{AllAdjacentBelow}
-use Rattle.tests_extent.proofs.sweeps.ascends.Given as goal
+use Rattle.tests_base.proofs.sweeps.ascends.Given as goal
 
 -- so far no start falls
 abbrev pub invariant-loop-k : goal.invariant-loop-k

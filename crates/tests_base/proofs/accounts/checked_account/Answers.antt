@@ -1,7 +1,7 @@
 use Rattle.std.proofs.Common.{◌+◌, ◌≤◌, rules, subst}
 use Rattle.std.proofs.lemmas.Option.{get_or_from_slice_get, slice_get_within}
 use Rattle.elf_extent.specs.declared.extent.Extent.{Extent}
-use Rattle.tests_extent.proofs.accounts.checked_account.Goals as goal
+use Rattle.tests_base.proofs.accounts.checked_account.Goals as goal
 
 pub account-requires-clause-within : goal.account-requires-clause-within
 account-requires-clause-within c = λ i e here nonempty.

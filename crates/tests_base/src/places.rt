@@ -4,16 +4,6 @@ use elf_extent::{PlaceFault, first_double, next_place, place};
 use std::alloc::Global;
 use std::test::Fail;
 
-// The example of the root of elf_extent.
-#[test]
-fn finds_a_double_and_places_parts(rt: HostRuntime) -> Result<(), Fail> {
-    let alloc = rt.alloc();
-    let double = first_double(alloc, &[extent(0, 4), extent(2, 4)])?;
-    let places = place(alloc, &[(1, 1), (8, 8)], 64)?;
-    assert_eq!(rt; (double, places.as_slice()), (Some(2), [64, 72].as_slice()));
-    Ok(())
-}
-
 #[test]
 fn finds_the_next_place(rt: HostRuntime) {
     let places = [
@@ -42,18 +32,23 @@ fn place_fault(alloc: Global, parts: &[(u64, u64)], from: u64) -> Option<PlaceFa
     place(alloc, parts, from).err()
 }
 
+// The first two are the example of the root of elf_extent.
 #[test]
-fn places_parts(rt: HostRuntime) -> Result<(), PlaceFault> {
-    let places = place(rt.alloc(), &[(1, 4), (0, 8), (3, 2)], 5)?;
+fn places_parts(rt: HostRuntime) -> Result<(), Fail> {
+    let alloc = rt.alloc();
+    let double = first_double(alloc, &[extent(0, 4), extent(2, 4)])?;
+    let pair = place(alloc, &[(1, 1), (8, 8)], 64)?;
+    let three = place(alloc, &[(1, 4), (0, 8), (3, 2)], 5)?;
     let last = u64::MAX - 1;
     let faults = [
-        place_fault(rt.alloc(), &[(1, 1), (1, 2)], last),
-        place_fault(rt.alloc(), &[(1, 1), (2, 1)], last),
+        place_fault(alloc, &[(1, 1), (1, 2)], last),
+        place_fault(alloc, &[(1, 1), (2, 1)], last),
     ];
     assert_eq!(rt;
-        (places.as_slice(), faults),
+        (double, [pair.as_slice(), three.as_slice()], faults),
         (
-            [8, 16, 16].as_slice(),
+            Some(2),
+            [[64, 72].as_slice(), [8, 16, 16].as_slice()],
             [Some(PlaceFault::Overflow { index: 1 }); 2]
         )
     );

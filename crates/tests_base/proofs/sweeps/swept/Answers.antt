@@ -1,7 +1,7 @@
 use Rattle.std.proofs.Common.{rules}
 use Rattle.std.proofs.lemmas.List.Sorted.{IsNonDecreasingBy-from_all_adjacent}
 use Rattle.elf_extent.specs.declared.extent.Extent.{Extent}
-use Rattle.tests_extent.proofs.sweeps.swept.Goals as goal
+use Rattle.tests_base.proofs.sweeps.swept.Goals as goal
 
 pub sweep-double-requires-clause-ascending : goal.sweep-double-requires-clause-ascending
 sweep-double-requires-clause-ascending c =
