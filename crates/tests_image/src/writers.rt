@@ -5,7 +5,7 @@ use std::io::{ErrorKind, Write};
 /// Takes bytes, at most `piece` a call, and tells whether they are those that are to come. The call of number `failing`, counted from 1,
 /// fails, or takes no byte where `takes_none`, and so does every call where there is no room left.
 #[derive(Drop)]
-pub struct Against<'a> {
+pub struct ComparingWriter<'a> {
     rest: &'a [u8],
     pub piece: usize,
     pub room: usize,
@@ -20,9 +20,9 @@ pub struct Against<'a> {
     pub agrees: bool,
 }
 
-impl<'a> Against<'a> {
-    pub fn new(expected: &'a [u8]) -> Against<'a> {
-        Against {
+impl<'a> ComparingWriter<'a> {
+    pub fn new(expected: &'a [u8]) -> ComparingWriter<'a> {
+        ComparingWriter {
             rest: expected,
             piece: expected.len(),
             room: expected.len(),
@@ -42,7 +42,7 @@ impl<'a> Against<'a> {
     }
 }
 
-impl Write for Against<'_> {
+impl Write for ComparingWriter<'_> {
     fn write(&mut self, buf: &[u8]) -> io::Result<usize> {
         self.calls = self.calls.saturating_add(1);
         self.longest = self.longest.max(buf.len());
