@@ -1,6 +1,6 @@
-//! The most segments and the longest file, and one more.
-use crate::parts::{object, options, section, write_linked};
-use crate::writers::Counter;
+//! The most segments and the longest file of an executable, and one more.
+use crate::linked::{options, write_linked};
+use crate::written::{object, section};
 use elf_exec::ExecFault;
 use elf_field::Order;
 use elf_link_map::{LinkFault, Options};
@@ -8,6 +8,7 @@ use elf_object_type::{Body, Object, ObjectFault, Section};
 use std::alloc::{AllocError, Global};
 use std::fmt::Write;
 use std::test::Fail;
+use tests_files::Counter;
 
 /// The digits of each name.
 const LETTERS: usize = 5;
