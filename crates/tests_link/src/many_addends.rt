@@ -1,15 +1,14 @@
 //! Forty thousand fields of one, two, four and eight bytes, whose addends stand in them.
 ghost use Rattle.std.specs.Prelude.{◌<◌};
 
-use crate::fields::push_number;
+use crate::parts::{GLOBAL, data, holds, list, mapped, object, push_number, rule, symbol};
 use elf_field::Order;
-use elf_link_field::{Form, Range, RelocRule, Width};
+use elf_link_field::{Form, Range, Width};
 use elf_link_map::LinkFault;
 use elf_link_relocate::relocate;
 use elf_object_type::{Body, Info, Object, ObjectFault, Place, Relocation, Section};
 use std::alloc::{AllocError, Global};
 use std::test::Fail;
-use tests_link::{GLOBAL, data, holds, list, mapped, object, rule, symbol};
 
 /// How many groups of four fields there are, side by side.
 const GROUPS: usize = 10_000;
@@ -19,16 +18,6 @@ const SIZE: u64 = 15;
 
 /// The value of the symbol.
 const VALUE: u64 = 50;
-
-/// The rules of kinds 1 to 4.
-fn rules() -> [RelocRule; 4] {
-    [
-        rule(1, Form::Abs, Width::W1, Range::Signed),
-        rule(2, Form::Abs, Width::W2, Range::Signed),
-        rule(3, Form::Abs, Width::W4, Range::Signed),
-        rule(4, Form::Abs, Width::W8, Range::Signed),
-    ]
-}
 
 /// Adds the number of a group, in one, two, four and eight bytes.
 fn push_group(order: Order, number: u64, bytes: &mut Vec<u8>) -> Result<(), AllocError> {
@@ -99,8 +88,13 @@ fn file(alloc: Global, order: Order, content: &[u8]) -> Result<Object<'_>, Objec
 
 /// Whether the link of these objects leaves these bytes in section 0 of the first one.
 fn leaves(alloc: Global, objects: &[Object<'_>], bytes: &[u8]) -> Result<bool, LinkFault> {
+    let rules = [
+        rule(1, Form::Abs, Width::W1, Range::Signed),
+        rule(2, Form::Abs, Width::W2, Range::Signed),
+        rule(3, Form::Abs, Width::W4, Range::Signed),
+        rule(4, Form::Abs, Width::W8, Range::Signed),
+    ];
     let map = mapped(alloc, objects, 0x1000, None)?;
-    let rules = rules();
     let linked = relocate(alloc, &map, objects, &rules)?;
     Ok(holds(&linked, bytes))
 }

@@ -1,9 +1,9 @@
 //! Entry symbols at high values.
+use crate::parts::{GLOBAL, WEAK, data, list, mapped, object, symbol};
 use elf_field::Order;
 use elf_object_type::{Object, ObjectFault, Place};
 use std::alloc::Global;
 use std::test::Fail;
-use tests_link::{GLOBAL, WEAK, data, list, mapped, object, symbol};
 
 /// One section, and the symbol that the program begins at.
 fn file(alloc: Global, info: u8, place: Place, value: u64) -> Result<Object<'static>, ObjectFault> {

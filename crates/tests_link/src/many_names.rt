@@ -1,30 +1,17 @@
 //! An object of a million symbols, each of a name of its own.
+use crate::parts::{DIGITS, GLOBAL, mapped, numbered, object, symbol};
 use elf_field::Order;
 use elf_link_map::{Binding, LinkMap};
 use elf_object_type::{Place, Symbol};
 use std::alloc::{AllocError, Global};
-use std::fmt::Write;
 use std::test::Fail;
-use tests_link::{GLOBAL, mapped, object, symbol};
 
 const COUNT: usize = 1_000_000;
-
-/// The letters of each name, the decimal digits of the symbol's position.
-const LETTERS: usize = 7;
-
-/// The names, one behind the other.
-fn names(alloc: Global) -> Result<String, Fail> {
-    let mut names = String::new(alloc);
-    for position in 0..COUNT {
-        write!(names, "{position:07}")?;
-    }
-    Ok(names)
-}
 
 /// The symbols of these names.
 fn symbols(alloc: Global, names: &[u8]) -> Result<Vec<Symbol<'_>>, AllocError> {
     let mut symbols = Vec::with_capacity(alloc, COUNT)?;
-    for name in names.chunks(LETTERS) {
+    for name in names.chunks(DIGITS) {
         symbols.push(symbol(name, GLOBAL, Place::Abs, 0))?;
     }
     Ok(symbols)
@@ -60,7 +47,7 @@ fn told(link: &LinkMap<'_>) -> (usize, Option<usize>, [Option<Binding>; 2]) {
 
 /// The same of the link of all symbols.
 fn told_of_all(alloc: Global) -> Result<(usize, Option<usize>, [Option<Binding>; 2]), Fail> {
-    let names = names(alloc)?;
+    let names = numbered(alloc, COUNT)?;
     let link = linked(alloc, names.as_bytes())?;
     Ok(told(&link))
 }

@@ -2,13 +2,12 @@
 //! defines 17 names, one of them long, and has five fields, in its section 1.
 //!
 //! Section `s` of file `f` is number `4 f + s`. Number `k` goes to output `k mod 40`, as its member `k / 40`: that is where it stands.
+use crate::parts::{GLOBAL, WEAK, data, list, object, relocs, symbol};
 use elf_field::Order;
-use elf_link_map::LinkMap;
 use elf_object_type::{Object, ObjectFault, Place, Relocation, Section, Symbol};
 use std::alloc::{AllocError, Global};
 use std::fmt::Write;
 use std::test::Fail;
-use tests_link::{GLOBAL, WEAK, data, list, mapped, object, relocs, symbol};
 
 /// How many files there are.
 pub(crate) const FILES: u8 = 66;
@@ -138,16 +137,4 @@ pub(crate) fn files(alloc: Global, digits: &[u8], order: Order) -> Result<Vec<Ob
         files.push(file(alloc, digits, order, k)?)?;
     }
     Ok(files)
-}
-
-/// The link map of all files, whose entry is the long name of this one.
-pub(crate) fn linked(
-    alloc: Global,
-    digits: &[u8],
-    order: Order,
-    base: u64,
-    entry: u8,
-) -> Result<LinkMap<'_>, Fail> {
-    let objects = files(alloc, digits, order)?;
-    Ok(mapped(alloc, &objects, base, Some(long_name(digits, entry)))?)
 }

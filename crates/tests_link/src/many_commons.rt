@@ -1,32 +1,19 @@
 //! Five thousand commons, each of which has an entry in each of forty files.
 ghost use Rattle.std.specs.Prelude.{◌<◌};
 
+use crate::parts::{DIGITS, GLOBAL, mapped, numbered, object, symbol};
 use elf_field::Order;
 use elf_link_map::LinkMap;
 use elf_object_type::{Object, Place, Symbol};
 use std::alloc::{AllocError, Global};
-use std::fmt::Write;
 use std::test::Fail;
-use tests_link::{GLOBAL, mapped, object, symbol};
 
 const NAMES: u64 = 5_000;
 
 const FILES: u64 = 40;
 
-/// The letters of each name, the decimal digits of its position.
-const LETTERS: usize = 4;
-
 /// The address of the first common.
 const BASE: u64 = 0x1_0000;
-
-/// The names, one behind the other.
-fn names(alloc: Global) -> Result<String, Fail> {
-    let mut names = String::new(alloc);
-    for position in 0..NAMES {
-        write!(names, "{position:04}")?;
-    }
-    Ok(names)
-}
 
 /// The size and the alignment of a name's entry in a file: the one grows by one from file to file, the other doubles up to that of the
 /// name, the power of two of the rest of its position by 13.
@@ -44,8 +31,8 @@ fn symbols(alloc: Global, names: &[u8], file: u64) -> Result<Vec<Symbol<'_>>, Al
 {
     let mut symbols = Vec::new(alloc);
     for position in 0..NAMES {
-        let start = LETTERS * position as usize;
-        let name = names.get(start..start + LETTERS).unwrap_or(b"");
+        let start = DIGITS * position as usize;
+        let name = names.get(start..start + DIGITS).unwrap_or(b"");
         let (size, align) = entry(file, position);
         let common = symbol(name, GLOBAL, Place::Common, align);
         symbols.push(Symbol { size, ..common })?;
@@ -82,7 +69,7 @@ fn first_wrong(link: &LinkMap<'_>) -> Option<u64> {
 
 /// How many commons the link has, and the first one that is wrong.
 fn outcome(alloc: Global) -> Result<(usize, Option<u64>), Fail> {
-    let names = names(alloc)?;
+    let names = numbered(alloc, NAMES as usize)?;
     let objects = files(alloc, names.as_bytes())?;
     let link = mapped(alloc, &objects, BASE, None)?;
     Ok((link.commons().len(), first_wrong(&link)))
