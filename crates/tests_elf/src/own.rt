@@ -48,14 +48,14 @@ impl Row for Two {
     }
 }
 
-/// A shelf with one file.
+/// One file, under its name.
 #[derive(Debug, Drop)]
-pub struct Shelf<'a> {
+pub struct OneFile<'a> {
     name: &'a str,
     bytes: &'a [u8],
 }
 
-impl<'a> Opener for Shelf<'a> {
+impl<'a> Opener for OneFile<'a> {
     type Input = &'a [u8];
 
     type Seek = Bytes<'a>;

@@ -1,5 +1,5 @@
-//! What the library shows: each item of each door, named through `elf`, and the object without sections, made, written, judged and
-//! read by them.
+//! What the library shows: each item of each public crate, named through `elf`, and the object without sections, made, written, judged
+//! and read by them.
 #![tactic(auto)]
 
 /// Records.
@@ -68,4 +68,5 @@ pub mod tool {
 mod empty_object;
 #[cfg(test)]
 mod fault_texts;
-pub mod own;
+#[cfg(test)]
+mod own;
