@@ -10,7 +10,7 @@ use Rattle.elf_image_rules.specs.Broken.{fault_of}
 use Rattle.elf_image_rules.specs.Tables.{program_header_count, section_header_count, sections, segments}
 use Rattle.elf_image_rules.specs.declared.broken.Broken.{Broken}
 use Rattle.elf_tool_check.specs.Check.{CheckSays, file_sections, file_segments, verdict_of}
-use Rattle.elf_tool_check_source.specs.CheckSource.{IsCheckLine, IsScanned, SourceSays, line_of_scan}
+use Rattle.elf_tool_program.specs.CheckSource.{IsCheckLine, IsScanned, SourceSays, line_of_scan}
 use Rattle.elf_tool_text.specs.Engine.{Prints}
 use Rattle.elf_tool_text.specs.Line.{ok_line}
 use Rattle.elf_tool_text.specs.declared.fault.ToolFault.TheVariants.{Write}

@@ -4,7 +4,7 @@ ghost use Rattle.elf_field.specs.Bytes.{IsBytes};
 ghost use Rattle.elf_image_rules.specs.Broken.{fault_of};
 ghost use Rattle.elf_image_stream.specs.Source.{Remembers};
 ghost use Rattle.elf_tool_check.specs.Check.{verdict_of};
-ghost use Rattle.elf_tool_check_source.specs.CheckSource.{IsScanStopped, IsScanned, IsSourceSaid, check_failure, line_of_scan};
+ghost use Rattle.elf_tool_program.specs.CheckSource.{IsScanStopped, IsScanned, IsSourceSaid, check_failure, line_of_scan};
 
 use elf_image_outline::{Outline, scan};
 use elf_image_rules::Broken;
