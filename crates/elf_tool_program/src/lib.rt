@@ -12,13 +12,12 @@
 //! ```
 #![tactic(auto)]
 
-mod check_source;
 mod machine;
 mod opening;
 mod program;
 mod rules;
+mod scan_check;
 
-pub use check_source::check_source;
 pub use elf_link_field::{Form, Range, RelocRule, Width};
 pub use elf_tool_check::{MachineFiles, OpenFault, Opener, Status, check, refuse_words};
 pub use elf_tool_link::{Options, link, map};
@@ -29,3 +28,4 @@ pub use elf_tool_text::{Refusal, ToolFault, Verdict};
 pub use elf_tool_words::{Request, WordsFault, read_words};
 pub use machine::run_on_machine;
 pub use program::run;
+pub use scan_check::check_source;

@@ -1,7 +1,7 @@
 use Rattle.std.proofs.Common.{◌∙◌}
 use Rattle.std.proofs.lemmas.Result.{err_from_is_err_and}
 use Rattle.elf_tool_program.proofs.Scanned.{said_in_part, said_whole}
-use Rattle.elf_tool_program.proofs.check_source.check_source.Goals as goal
+use Rattle.elf_tool_program.proofs.scan_check.check_source.Goals as goal
 
 pub returns-in_err-write_whole-clause-said : goal.returns-in_err-write_whole-clause-said
 returns-in_err-write_whole-clause-said g c =
