@@ -72,7 +72,7 @@ def failing_library(folder: str) -> str:
     """Makes the library in which calls fail, and which counts them: its path."""
     library = f"{folder}/failing.so"
     if not os.path.exists(library):
-        made = run("cc", "-shared", "-fPIC", "-O1", "-w", "-o", library, f"{TOP}/tools/lib/failing.c")
+        made = run("cc", "-shared", "-fPIC", "-O1", "-w", "-o", library, f"{TOP}/cases/sources/failing.c")
         if made.returncode:
             raise SystemExit(f"failing.c is not compiled: {made.stderr!r}")
     return library

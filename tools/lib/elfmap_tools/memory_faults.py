@@ -25,37 +25,19 @@ from .suite import Tally, Test
 from .tree import TOP, read_text
 
 WANT = ("OutOfMemory", "AllocError")
-# Calls of the standard library that fail only where memory is refused.
-GROWTHS = {
-    "push",
-    "push_str",
-    "insert",
-    "reserve",
-    "reserve_exact",
-    "resize",
-    "extend_from_slice",
-    "with_capacity",
-    "collect",
-    "to_vec",
-    "try_clone",
-    "vec!",
-    "format!",
-    "append",
-}
+# Calls of the standard library that fail only where memory is refused, and those whose first argument is a length.
+GROWTHS = set("push push_str insert extend_from_slice collect to_vec try_clone format! append".split())
+SIZED = set("with_capacity reserve reserve_exact resize vec!".split())
+GROWTHS |= SIZED
 # Engines over bytes. Those for C write into a vector, which fails for nothing else, and have no reader.
 INTO_A_VECTOR, OF_CRATE = {"show_bytes", "rewrite_bytes", "map_files", "link_files"}, "crates/elf_c_engines/"
 # Faults that tell how much was written, and the functions that count it.
 WRITTEN = {"WriteFault", "CopyFault", "ObjectWriteFault", "ExecFault", "ToolFault"}
 COUNTING = {"send", "send_zeros", "flush"}
-SIZED = {"with_capacity", "reserve", "reserve_exact", "resize", "vec!"}
 MOST_IN_TEXT = 1 << 20
 # Comments, texts, characters, lifetimes, names (a macro's has its mark), and signs.
-TOKEN = re.compile(
-    r"""//[^\n]*|/\*.*?\*/|b?"(?:\\.|[^"\\])*"|b?'(?:\\.[^']*|[^'\\])'|'\w+|\w+!?(?=[(\[{])|\w+|"""
-    r"""::|=>|->|==|!=|<=|>=|&&|\|\||\.\.=?|\S""",
-    re.S,
-)
-OPEN, CLOSE = {"(": ")", "[": "]", "{": "}"}, {")", "]", "}"}
+TEXTS = r"""//[^\n]*|/\*.*?\*/|b?"(?:\\.|[^"\\])*"|b?'(?:\\.[^']*|[^'\\])'|'\w+|\w+!?(?=[(\[{])|\w+|"""
+TOKEN = re.compile(TEXTS + r"::|=>|->|==|!=|<=|>=|&&|\|\||\.\.=?|\S", re.S)
 
 
 class Token(str):
@@ -63,151 +45,117 @@ class Token(str):
 
     line: int
 
-    def __new__(cls, text: str, line: int) -> "Token":
-        made = super().__new__(cls, text)
-        made.line = line
-        return made
-
 
 class Group(list[Any]):
-    """What stands between two brackets, with the one that opens it."""
+    """What is between two brackets, with the one that opens it and its line."""
 
-    def __init__(self, bracket: str, line: int) -> None:
-        super().__init__()
-        self.bracket, self.line = bracket, line
+    bracket, line = "", 1
 
 
 def tree_of(text: str) -> Group:
-    """The tokens of a file, what stands in brackets as groups; without comments."""
-    top = Group("", 1)
-    open_groups, line, last = [top], 1, 0
+    """The tokens of a file, what is in brackets as groups; without comments."""
+    groups, line, last = [Group()], 1, 0
     for found in TOKEN.finditer(text):
-        line += text.count("\n", last, found.start())
-        last = found.start()
-        word = found[0]
-        if word.startswith("//") or word.startswith("/*"):
-            continue
-        if word in OPEN:
-            open_groups[-1].append(Group(word, line))
-            open_groups.append(open_groups[-1][-1])
-        elif word in CLOSE:
-            if len(open_groups) > 1:
-                open_groups.pop()
-        else:
-            open_groups[-1].append(Token(word, line))
-    return top
+        line, last = line + text.count("\n", last, found.start()), found.start()
+        if found[0] in ("(", "[", "{"):
+            inner = Group()
+            inner.bracket, inner.line = found[0], line
+            groups[-1].append(inner)
+            groups.append(inner)
+        elif found[0] in (")", "]", "}"):
+            del groups[max(1, len(groups) - 1) :]
+        elif not found[0].startswith(("//", "/*")):
+            token = Token(found[0])
+            token.line = line
+            groups[-1].append(token)
+    return groups[0]
 
 
 def is_group(it: object, bracket: str) -> bool:
     return isinstance(it, Group) and it.bracket == bracket
 
 
+def until(tokens: list[Any], k: int, *stops: str) -> int:
+    """Where the first of these tokens is from k on, `{` a block; behind the end where none is."""
+    return next((at for at in range(k, len(tokens)) if tokens[at] in stops or "{" in stops and is_group(tokens[at], "{")), len(tokens))
+
+
 def words_in(tokens: Iterable[Any]) -> Iterator[Token]:
     """All tokens, those in groups too."""
     for it in tokens:
-        if isinstance(it, Group):
-            yield from words_in(it)
-        else:
-            yield it
+        yield from words_in(it) if isinstance(it, Group) else [it]
 
 
-def without_ghosts(tokens: Group) -> Group:
-    """The items of a block or a file without what is ghost, and without what is brought in by `use` or compiled for tests alone."""
-    kept, k = Group(tokens.bracket, tokens.line), 0
+def without_ghosts(tokens: list[Any]) -> list[Any]:
+    """The items of a block or a file without what is ghost, and without what `use` brings in. A clause ends with the group that holds its
+    statement."""
+    kept, k = list[Any](), 0
     while k < len(tokens):
-        it = tokens[k]
-        if it == "ghost" or it == "use":
-            while k < len(tokens) and tokens[k] != ";":
-                k += 1
-        elif it in ("requires", "ensures", "decreases"):
-            # A clause ends with the group that holds its statement.
-            k += 1
-            while k < len(tokens) and not is_group(tokens[k], "{"):
-                k += 1
+        if tokens[k] in ("ghost", "use"):
+            k = until(tokens, k, ";")
+        elif tokens[k] in ("requires", "ensures", "decreases"):
+            k = until(tokens, k + 1, "{")
         else:
-            kept.append(it)
+            kept.append(tokens[k])
         k += 1
     return kept
 
 
 class Function:
+    """A function; whether it is in a `From` of out of memory, or of a failed write."""
+
     def __init__(self, path: str, name: str, header: list[Any], body: Group, is_from: bool, is_of_write: bool) -> None:
-        self.path, self.name, self.header, self.body, self.is_from, self.is_of_write = path, name, header, body, is_from, is_of_write
-
-    def faults(self) -> str:
-        """What its signature tells of its faults: `want` where want of memory is the only one, `other` of any other `Result`."""
-        told = list[str](words_in(self.header))
-        answer = told[told.index("->") + 1 :] if "->" in told else []
-        if "Result" not in answer:
-            return ""
-        return "want" if answer[-1] == ">" and answer[-2] in WANT else "other"
-
-    def writes(self) -> bool:
-        """Whether its signature tells of a failed write as one of its faults, or the only one."""
-        told = list[str](words_in(self.header))
-        answer = told[told.index("->") + 1 :] if "->" in told else []
-        return "Result" in answer and answer[-1] == ">" and answer[-2] in WRITTEN
+        self.path, self.name, self.body, self.is_from, self.is_of_write = path, name, body, is_from, is_of_write
+        self.words = list[str](words_in(header))
+        answer = self.words[self.words.index("->") + 1 :] if "->" in self.words else []
+        # Its fault, and what the signature says of it: `out` where out of memory is the only one, `other` of any other `Result`.
+        self.fault = answer[-2] if "Result" in answer and answer[-1] == ">" else ""
+        self.faults = "out" if self.fault in WANT else "other" if "Result" in answer else ""
+        self.writes = self.fault in WRITTEN
 
 
-def functions_of(path: str, tokens: Group, is_from: bool = False, is_of_write: bool = False) -> Iterator[Function]:
+def functions_of(path: str, tokens: list[Any], is_from: bool = False, is_of_write: bool = False) -> Iterator[Function]:
     """The functions of a file, those of its `impl`s and traits too."""
     tokens, k, start = without_ghosts(tokens), 0, 0
     while k < len(tokens):
-        it = tokens[k]
+        it, begun = tokens[k], k
         if it == "fn" and k + 1 < len(tokens):
-            name, header, k = tokens[k + 1], list[Any](), k + 2
-            while k < len(tokens) and not is_group(tokens[k], "{") and tokens[k] != ";":
-                header.append(tokens[k])
-                k += 1
-            if k < len(tokens) and is_group(tokens[k], "{"):
-                yield Function(path, name, header, tokens[k], is_from, is_of_write)
-            start = k + 1
-        elif it == "enum" or it == "struct":
-            while k < len(tokens) and not is_group(tokens[k], "{") and tokens[k] != ";":
-                k += 1
-            start = k + 1
+            k = until(tokens, k + 2, "{", ";")
+            if k < len(tokens) and tokens[k] != ";":
+                yield Function(path, tokens[begun + 1], tokens[begun + 2 : k], tokens[k], is_from, is_of_write)
+        elif it in ("enum", "struct"):
+            k = until(tokens, k, "{", ";")
         elif is_group(it, "{"):
             head = list[str](words_in(tokens[start:k]))
-            source = source_of(head)
-            yield from functions_of(path, it, is_want_for(source), any(it in WRITTEN for it in source))
-            start = k + 1
-        elif it == ";":
-            start = k + 1
-        k += 1
-
-
-def source_of(head: list[str]) -> list[str]:
-    """What stands for X in `impl From<X> for Y`; nothing in other heads."""
-    return head[head.index("From") + 1 : head.index("for")] if {"impl", "From", "for"} <= {*head} else []
-
-
-def is_want_for(source: list[str]) -> bool:
-    """Whether such an X tells want of memory: itself, or a fault that has it."""
-    return any(it in WANT or it in ("AllocFailed", "Error") or it.endswith("Fault") for it in source)
-
-
-class Place:
-    """A place where want of memory is made, and why it may be, if it may."""
-
-    def __init__(self, function: Function, token: Token, form: str) -> None:
-        self.function, self.token, self.form = function, token, form
+            # What X is in `impl From<X> for Y`: out of memory itself, or a fault that has it.
+            source = head[head.index("From") + 1 : head.index("for")] if {"impl", "From", "for"} <= {*head} else []
+            is_out = any(it in (*WANT, "AllocFailed", "Error") or it.endswith("Fault") for it in source)
+            yield from functions_of(path, it, is_out, any(it in WRITTEN for it in source))
+        elif it != ";":
+            k += 1
+            continue
+        k = start = k + 1
 
 
 def last_call(tokens: list[Any]) -> str:
     """The name of the call that an expression ends with: a function's, a method's, or a macro's."""
-    tokens = [it for it in tokens if it != "?" and it != "mut" and it != "&"]
-    if len(tokens) >= 2 and isinstance(tokens[-1], Group) and tokens[-1].bracket in "([{" and isinstance(tokens[-2], Token):
+    tokens = [it for it in tokens if it not in ("?", "mut", "&")]
+    if len(tokens) < 2 or not isinstance(tokens[-1], Group):
+        return ""
+    if isinstance(tokens[-2], Token) and tokens[-2] != ">":
         return tokens[-2]
     # A call with the type of its result: `collect::<Vec<_>>(alloc)`.
-    if len(tokens) >= 2 and is_group(tokens[-1], "(") and tokens[-2] == ">":
-        depth, k = 0, len(tokens) - 2
-        while k >= 0:
-            depth += (tokens[k] == ">") - (tokens[k] == "<")
-            if depth == 0:
-                break
-            k -= 1
-        return str(tokens[k - 2]) if k >= 2 and tokens[k - 1] == "::" else ""
-    return ""
+    depth, k = 0, len(tokens) - 2
+    while k >= 0:
+        depth += (tokens[k] == ">") - (tokens[k] == "<")
+        if depth == 0:
+            break
+        k -= 1
+    return str(tokens[k - 2]) if tokens[-2] == ">" and k >= 2 and tokens[k - 1] == "::" else ""
+
+
+# A place where a fault is made, and why it may be, if it may.
+Place = tuple[Token, str]
 
 
 class Reading:
@@ -217,148 +165,107 @@ class Reading:
         self.function, self.memory_calls, self.write_calls = function, memory_calls, write_calls
         self.places, self.written, self.sizes = list[Place](), list[Place](), list[Token]()
         self.calls: list[tuple[Token, str, str]] = []
+        has_one = function.name == "after" or function.is_from or function.is_of_write
+        self.read(function.body, "From" if function.is_from else "", "failed write" if has_one else "")
 
-    def is_growth(self, expression: list[Any]) -> bool:
-        return last_call(expression) in self.memory_calls
-
-    def tells_want(self, pattern: list[Any]) -> bool:
-        """Whether a pattern is of want of memory and of nothing else."""
-        told = list(words_in(pattern))
-        if not any(it in WANT for it in told):
-            return False
-        return all(sum(it in WANT for it in part) for part in split(told, "|"))
+    @staticmethod
+    def is_out(pattern: list[Any]) -> bool:
+        """Whether a pattern is of out of memory and of nothing else."""
+        words = list(words_in(pattern))
+        bars = [-1, *(k for k, it in enumerate(words) if it == "|"), len(words)]
+        return any(it in WANT for it in words) and all(any(it in WANT for it in words[a + 1 : b]) for a, b in zip(bars, bars[1:]))
 
     def arms(self, block: list[Any]) -> Iterator[tuple[list[Any], list[Any]]]:
-        """The arms of a match: pattern with its guard, and body."""
+        """The arms of a match: pattern with its guard, and body. A block may be the beginning of an expression."""
         k = 0
         while k < len(block):
-            start = k
-            while k < len(block) and block[k] != "=>":
-                k += 1
-            pattern, k = block[start:k], k + 1
-            start = k
-            if k < len(block) and is_group(block[k], "{"):
-                k += 1
-                # A block may be the beginning of an expression.
-                if k < len(block) and block[k] in (".", "?"):
-                    while k < len(block) and block[k] != ",":
-                        k += 1
-            else:
-                while k < len(block) and block[k] != ",":
-                    k += 1
-            if pattern:
-                yield pattern, block[start:k]
-            if k < len(block) and block[k] == ",":
-                k += 1
+            arrow = until(block, k, "=>")
+            is_block = is_group(block[arrow + 1 : arrow + 2][0], "{") if arrow + 1 < len(block) else False
+            is_begun = is_block and block[arrow + 2 : arrow + 3] in (["."], ["?"])
+            end = arrow + 2 if is_block and not is_begun else until(block, arrow + 1, ",")
+            if block[k:arrow]:
+                yield block[k:arrow], block[arrow + 1 : end]
+            k = end + (block[end : end + 1] == [","])
 
-    def read(self, tokens: list[Any], form: str, failed: str = "") -> None:
-        """Reads the tokens of an expression or a block; `form` is why want of memory may be made in it, `failed` why a failed write may."""
+    def read(self, tokens: list[Any], form: str, failed: str) -> None:
+        """Reads the tokens of an expression or a block; `form` is why out of memory may be made in it, `failed` why a failed write may."""
         k = 0
         while k < len(tokens):
             it = tokens[k]
             if it == "match":
-                start = k = k + 1
-                while k < len(tokens) and not is_group(tokens[k], "{"):
-                    k += 1
-                scrutinee = tokens[start:k]
+                end = until(tokens, k, "{")
+                scrutinee, k = tokens[k + 1 : end], end
                 self.read(scrutinee, form, failed)
                 for pattern, body in self.arms(tokens[k] if k < len(tokens) else []):
                     self.read(body, form or self.form_of_arm(scrutinee, pattern), failed or self.failed_in_arm(scrutinee, pattern))
             elif it == "let":
-                is_tested = k > 0 and tokens[k - 1] in ("if", "while", "&&")
-                start = k = k + 1
-                while k < len(tokens) and tokens[k] not in ("=", ";"):
-                    k += 1
-                pattern = tokens[start:k]
-                if k < len(tokens) and tokens[k] == "=":
-                    start = k = k + 1
-                    while k < len(tokens) and tokens[k] not in (";", "else") and not (is_tested and is_group(tokens[k], "{")):
-                        k += 1
-                    expression = tokens[start:k]
-                    self.read(expression, form, failed)
-                    if k < len(tokens) and tokens[k] == "else" and pattern[:1] == ["Ok"] and self.is_growth(expression):
-                        self.read(tokens[k + 1], form or "refused growth", failed)
-                        k += 1
-                    elif k < len(tokens) and tokens[k] == "else" and self.is_counted(pattern, expression):
-                        self.read(tokens[k + 1], form, "count of what is out")
-                        k += 1
-                    elif is_tested and k < len(tokens) and self.is_want_of(pattern, expression):
-                        self.read(tokens[k], form or "want of memory", failed)
-                    elif is_tested and k < len(tokens) and self.failed_in_arm(expression, pattern):
-                        self.read(tokens[k], form, self.failed_in_arm(expression, pattern))
-                    else:
-                        k -= 1
+                k = self.read_let(tokens, k, form, failed)
             elif isinstance(it, Group):
-                self.see_sizes(tokens, k)
-                if self.is_failed_write(tokens, k):
-                    self.written.append(Place(self.function, tokens[k - 1], failed))
+                self.see_sizes(tokens[k - 1] if k else "", it)
+                if k and self.is_failed_write(tokens[:k], it):
+                    self.written.append((tokens[k - 1], failed))
                 self.read(it, form, failed)
-            elif it in WANT:
-                if not self.is_tested(tokens, k):
-                    self.places.append(Place(self.function, it, form))
-            elif k + 1 < len(tokens) and is_group(tokens[k + 1], "("):
+            elif it in WANT and not self.is_compared(tokens, k):
+                self.places.append((it, form))
+            elif it not in WANT and k + 1 < len(tokens) and is_group(tokens[k + 1], "("):
                 self.calls.append((it, form, failed))
             k += 1
 
+    def read_let(self, tokens: list[Any], k: int, form: str, failed: str) -> int:
+        """Reads a `let`, and the block of an `if let` or an `else`: where that ends."""
+        is_tested = k > 0 and tokens[k - 1] in ("if", "while", "&&")
+        sign = until(tokens, k, "=", ";")
+        pattern = tokens[k + 1 : sign]
+        if tokens[sign : sign + 1] != ["="]:
+            return sign
+        end = until(tokens, sign, ";", "else", *(["{"] if is_tested else []))
+        expression = tokens[sign + 1 : end]
+        self.read(expression, form, failed)
+        call, is_else = last_call(expression), tokens[end : end + 1] == ["else"]
+        if is_else and pattern[:1] == ["Ok"] and call in self.memory_calls:
+            self.read(tokens[end + 1], form or "refused growth", failed)
+        elif is_else and self.function.name in COUNTING and pattern[:1] == ["Some"] and call == "checked_add":
+            self.read(tokens[end + 1], form, "count of what is written")
+        elif is_tested and end < len(tokens) and (self.is_out(pattern) or pattern[:1] == ["Err"] and call in self.memory_calls):
+            self.read(tokens[end], form or "out of memory", failed)
+        elif is_tested and end < len(tokens) and self.failed_in_arm(expression, pattern):
+            self.read(tokens[end], form, self.failed_in_arm(expression, pattern))
+        else:
+            return end - 1
+        return end + is_else
+
     @staticmethod
-    def is_failed_write(tokens: list[Any], k: int) -> bool:
+    def is_failed_write(before: list[Any], group: Group) -> bool:
         """Whether a group has the fields of a failed write."""
-        if k == 0 or not is_group(tokens[k], "{"):
-            return False
-        name, is_variant = tokens[k - 1], tokens[k - 2 : k - 1] == ["::"]
-        return name == "WriteFault" or is_variant and (name == "Write" or name == "Io" and "written" in tokens[k])
+        is_variant = before[-2:-1] == ["::"] and (before[-1] == "Write" or before[-1] == "Io" and "written" in group)
+        return group.bracket == "{" and (before[-1] == "WriteFault" or is_variant)
 
     def failed_in_arm(self, scrutinee: list[Any], pattern: list[Any]) -> str:
         """Why a failed write may be made in an arm of a match."""
-        call = last_call(scrutinee)
+        call, words = last_call(scrutinee), self.function.words
         if [*words_in(pattern)] == ["_"] and call == "write":
             return "failed call of a writer"
-        is_given = len(scrutinee) == 1 and scrutinee[0] in [*words_in(self.function.header)] and WRITTEN & {*words_in(self.function.header)}
-        if pattern[:1] == ["Err"] and (call in self.write_calls or is_given):
-            return "failed write"
-        return ""
-
-    def is_counted(self, pattern: list[Any], expression: list[Any]) -> bool:
-        return self.function.name in COUNTING and pattern[:1] == ["Some"] and last_call(expression) == "checked_add"
-
-    def is_want_of(self, pattern: list[Any], expression: list[Any]) -> bool:
-        """Whether what `if let` takes is want of memory."""
-        return self.tells_want(pattern) or pattern[:1] == ["Err"] and self.is_growth(expression)
+        is_given = len(scrutinee) == 1 and scrutinee[0] in words and WRITTEN & {*words}
+        return "failed write" if pattern[:1] == ["Err"] and (call in self.write_calls or is_given) else ""
 
     def form_of_arm(self, scrutinee: list[Any], pattern: list[Any]) -> str:
-        if self.tells_want(pattern):
-            return "want of memory"
-        if [*words_in(pattern)] == ["Err", "_"] and self.is_growth(scrutinee):
-            return "refused growth"
-        return ""
+        if self.is_out(pattern):
+            return "out of memory"
+        is_growth = [*words_in(pattern)] == ["Err", "_"] and last_call(scrutinee) in self.memory_calls
+        return "refused growth" if is_growth else ""
 
     @staticmethod
-    def is_tested(tokens: list[Any], k: int) -> bool:
+    def is_compared(tokens: list[Any], k: int) -> bool:
         """Whether it is only compared: `error.kind() == ErrorKind::OutOfMemory`."""
-        front = k
-        while front >= 2 and tokens[front - 1] == "::":
-            front -= 2
-        return tokens[front - 1 : front] == ["=="] or tokens[front - 1 : front] == ["!="]
+        while k >= 2 and tokens[k - 1] == "::":
+            k -= 2
+        return tokens[k - 1 : k] in (["=="], ["!="])
 
-    def see_sizes(self, tokens: list[Any], k: int) -> None:
-        name = tokens[k - 1] if k > 0 and isinstance(tokens[k - 1], Token) else ""
-        if name not in SIZED:
-            return
-        for it in words_in(tokens[k]):
+    def see_sizes(self, name: object, group: Group) -> None:
+        for it in words_in(group) if isinstance(name, str) and name in SIZED else []:
             digits = it.replace("_", "")
             if it == "MAX" or re.fullmatch(r"0x[0-9a-fA-F]+|\d+", digits) and int(digits, 0) > MOST_IN_TEXT:
                 self.sizes.append(it)
-
-
-def split(tokens: list[Token], at: str) -> list[list[Token]]:
-    part, parts = list[Token](), list[list[Token]]()
-    for it in tokens:
-        if it == at:
-            parts.append(part)
-            part = []
-        else:
-            part.append(it)
-    return [*parts, part]
 
 
 def texts() -> dict[str, str]:
@@ -371,44 +278,32 @@ def functions_in(path: str, text: str) -> list[Function]:
     return list(functions_of(path, tree_of(text)))
 
 
-def judged(found: dict[str, str]) -> tuple[collections.Counter[str], list[str]]:
+def faults_in(found: dict[str, str]) -> tuple[collections.Counter[str], list[str]]:
     """What the functions of these files make: the count of places by form, and what is wrong, each as a place with its reason."""
     functions = [it for path, text in found.items() for it in functions_in(path, text)]
-    memory_calls = GROWTHS | {it.name for it in functions if it.faults() == "want"}
-    # The name of a function that has other faults too tells nothing.
-    memory_calls -= {it.name for it in functions if it.faults() == "other" and it.name not in GROWTHS}
-    write_calls = {"write"} | {it.name for it in functions if it.writes()}
-    readings = [
-        Reading(it, memory_calls | INTO_A_VECTOR if it.path.startswith(OF_CRATE) else memory_calls, write_calls) for it in functions
-    ]
-    called = collections.defaultdict[str, list[tuple[str, str]]](list)
-    for reading in readings:
-        has_one = reading.function.name == "after" or reading.function.is_from or reading.function.is_of_write
-        reading.read(reading.function.body, "From" if reading.function.is_from else "", "failed write" if has_one else "")
-        for name, form, failed in reading.calls:
-            called[name].append((form, failed))
+    # The name of a function that has other faults too says nothing.
+    others = {it.name for it in functions if it.faults == "other" and it.name not in GROWTHS}
+    memory_calls = (GROWTHS | {it.name for it in functions if it.faults == "out"}) - others
+    write_calls = {"write"} | {it.name for it in functions if it.writes}
+    readings = [Reading(it, memory_calls | (INTO_A_VECTOR if it.path.startswith(OF_CRATE) else set()), write_calls) for it in functions]
+    called = collections.defaultdict[str, list[str]](list)
+    for name, form, _ in (call for it in readings for call in it.calls):
+        called[name].append(form)
     forms, wrong = collections.Counter[str](), list[str]()
-    for reading in readings:
-        where, callers = reading.function, called[reading.function.name]
-        for place in reading.written:
-            if place.form:
-                forms[place.form] += 1
-            else:
-                wrong.append(f"{where.path}:{place.token.line}: {where.name}: a failed write is made where no call of a writer failed")
-        for place in reading.places:
-            form = place.form or ("called where a growth was refused" if callers and all(it for it, _ in callers) else "")
-            if form:
-                forms[form] += 1
-            else:
-                wrong.append(f"{where.path}:{place.token.line}: {where.name}: want of memory is made where no growth was refused")
-        for size in reading.sizes:
-            wrong.append(f"{where.path}:{size.line}: {where.name}: a growth by a number of the text, {size}")
+    for it in readings:
+        callers = called[it.function.name]
+        by_callers = "called where a growth was refused" if callers and all(callers) else ""
+        made = [(place, form, "a failed write is made where no call of a writer failed") for place, form in it.written]
+        made += [(place, form or by_callers, "out of memory is made where no growth was refused") for place, form in it.places]
+        made += [(place, "", f"a growth by a number of the text, {place}") for place in it.sizes]
+        forms.update(form for _, form, _ in made if form)
+        wrong += [f"{it.function.path}:{place.line}: {it.function.name}: {why}" for place, form, why in made if not form]
     return forms, wrong
 
 
 # ---- what has to be refused
 
-# What is put at the head of a function's body, and behind the function; WANT is the value of want of memory in its fault's type.
+# What is put at the head of a function's body, and behind the function; WANT is the value of out of memory in its fault's type.
 WAYS = {
     "a limit": ("if 1 + 1 >= 1000 { return Err(WANT); }", ""),
     "a sum that may be too large": ("let Some(_) = 1usize.checked_add(2) else { return Err(WANT); };", ""),
@@ -436,20 +331,15 @@ FAILED |= {"ExecFault": "ExecFault::Io { written: 0 }"}
 
 
 def enums_with_want(texts: dict[str, str]) -> set[str]:
-    """The types that have want of memory among other"""
+    """The types that have out of memory among other"""
     enum = re.compile(r"^(?:pub(?:\(crate\))? )?enum (\w+)[^{]*\{(?:[^{}]|\{[^}]*\})*?^    OutOfMemory,", re.M)
     return {it[1] for text in texts.values() for it in enum.finditer(text)}
 
 
 def fault_of(function: Function, enums: set[str]) -> tuple[str, str] | None:
-    """The fault of a function and the value that stands for want of memory in it, where its fault has one."""
-    told = [*words_in(function.header)]
-    if "Result" not in told or told[-1] != ">":
-        return None
-    fault = told[-2]
-    if fault in WANT:
-        return fault, fault
-    return (fault, f"{fault}::OutOfMemory") if fault in enums else None
+    """The fault of a function and the value of out of memory in it, where its fault has one."""
+    value = function.fault if function.fault in WANT else f"{function.fault}::OutOfMemory" if function.fault in enums else ""
+    return (function.fault, value) if value else None
 
 
 def planted(text: str, function: Function, way: tuple[str, str], fault: str, value: str) -> str:
@@ -462,7 +352,7 @@ def planted(text: str, function: Function, way: tuple[str, str], fault: str, val
 
 def memory_faults(tally: Tally, options: Namespace) -> None:
     found = texts()
-    forms, wrong = judged(found)
+    forms, wrong = faults_in(found)
     tally.count(sum(forms.values()) + len(wrong), wrong)
     tally.note(", ".join(f"{count} {form}" for form, count in forms.most_common()))
     enums, places, writers = enums_with_want(found), dict[str, Plant](), dict[str, Plant]()
@@ -470,15 +360,14 @@ def memory_faults(tally: Tally, options: Namespace) -> None:
         crate, fault = path.split("/")[1], fault_of(function, enums)
         if fault and not function.is_from and crate not in places:
             places[crate] = (path, function, *fault)
-        if function.writes() and not function.is_from and function.name not in COUNTING:
-            own: str = [*words_in(function.header)][-2]
-            writers.setdefault(crate, (path, function, own, FAILED[own]))
+        if function.writes and not function.is_from and function.name not in COUNTING:
+            writers.setdefault(crate, (path, function, function.fault, FAILED[function.fault]))
     for ways, plants in ((WAYS, places), (WRITE_WAYS, writers)):
         names = list(ways)
         for k, (crate, (path, function, own, value)) in enumerate(sorted(plants.items())):
             # Each library one way, the first of them all.
             for way in names if k == 0 else [names[k % len(names)]]:
-                _, wrong = judged({**found, path: planted(found[path], function, ways[way], own, value)})
+                _, wrong = faults_in({**found, path: planted(found[path], function, ways[way], own, value)})
                 is_refused = any(it.startswith(f"{path}:") for it in wrong)
                 tally.check(is_refused, f"{crate}, {function.name}: {way}: not refused")
 
