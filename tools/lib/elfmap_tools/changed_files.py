@@ -17,12 +17,8 @@ from .tree import PROCESSORS, PROGRAM, run, write
 
 # Of the object of a call: the byte at an offset, what it is set to, and what `check` says then.
 CHANGED = (
-    (4, 1, "refused 4 4"),
-    (40, 0xE9, "refused 13 281"),
-    (60, 7, "refused 15 40"),
-    (60, 5, "refused 16 62"),
-    (62, 4, "refused 32 480"),
-)
+    (4, 1, "refused 4 4"), (40, 0xE9, "refused 13 281"), (60, 7, "refused 15 40"), (60, 5, "refused 16 62"), (62, 4, "refused 32 480"),
+)  # fmt: skip
 # And of its beginnings up to a length.
 CUT = ((64, "refused 2 {}"), (288, "refused 12 40"), (608, "refused 15 40"))
 

@@ -10,55 +10,54 @@ which sections and symbols it is about. Nothing in a FILE has to be sound: what 
 
 import argparse, mmap, re, sys, textwrap
 from collections.abc import Iterator
+from typing import Any, Literal
 
 from .reference import (
     DYNAMIC, DYNAMIC_SECTION, DYNSYM, GROUP, HASH, HEADER, NOBITS, NOTE, NULL, PROGRAM_HEADER, REL, RELA, SECTION_HEADER, SYMBOL, SYMTAB,
-    SYMTAB_SHNDX, Layout,
+    SYMTAB_SHNDX, XINDEX, Layout,
 )  # fmt: skip
 from .tree import read_text
 
-LONGEST = 2**30 + 1
-WIDTH = 130
+LONGEST, WIDTH = 2**30 + 1, 130
 OF_HEADER: Layout = {
     "the magic number": (0, 4), "the class in e_ident": (4, 1), "the data encoding in e_ident": (5, 1), "the version in e_ident": (6, 1),
     "the rest of e_ident": (7, 9), **HEADER,
 }  # fmt: skip
 OF_NOTE: Layout = {"namesz": (0, 4), "descsz": (4, 4), "type": (8, 4)}
 IN_HEX = ("flags", "addr", "off", "align", "entry", "value", "st_info", "r_info", "filesz", "memsz", "shndx")
-
 TYPES = dict(enumerate("NULL PROGBITS SYMTAB STRTAB RELA HASH DYNAMIC NOTE NOBITS REL SHLIB DYNSYM".split()))
 TYPES |= {17: "GROUP", 18: "SYMTAB_SHNDX"}
-
-# Where the offset of a rule stands: in the header, in a section header, in a program header, or in a content. Any other rule's may stand
-# in each of them.
-IN_HEADER = {*range(3, 13), 15, 16, 18, 19, 21, 70, 71}
-IN_SECTION = {13, 14, 17, 20, 22, 23, 24, 30, 32, 40, 42, 43, 44, 46, 49, 50, 53, 55, 57, 63, 65, 72, 73, 74, 76, 78, 79}
-IN_SEGMENT = {25, 26, 27, 28, 29}
-IN_CONTENT = {31, 41, 47, 48, 51, 52, 54, 56, 58, 59, 60, 61, 62, 64, 66, 67, 68, 69, 75, 77}
+# Where the offset of a rule is: in the header, in a section header, in a program header, or in a content. Any other rule's may be in each.
+PARTS = {
+    "header": {*range(3, 13), 15, 16, 18, 19, 21, 70, 71},
+    "section": {13, 14, 17, 20, 22, 23, 24, 30, 32, 40, 42, 43, 44, 46, 49, 50, 53, 55, 57, 63, 65, 72, 73, 74, 76, 78, 79},
+    "segment": {25, 26, 27, 28, 29},
+    "content": {31, 41, 47, 48, 51, 52, 54, 56, 58, 59, 60, 61, 62, 64, 66, 67, 68, 69, 75, 77},
+}
 
 
 class File:
     """A file's bytes, read wherever they are asked for: a number that isn't there is 0, a name that isn't is empty."""
 
     def __init__(self, path: str) -> None:
-        self.path = path
+        self.path, self.data = path, self.bytes_of(path)
+        self.order: Literal["big", "little"] = "big" if self.data[5:6] == b"\2" else "little"
+        self.table, names, segments = self.number(40, 8), self.number(62, 2), self.number(56, 2)
+        self.count = min(self.number(60, 2) or self.number(self.table + 32, 8), len(self.data) // 64) if self.table else 0
+        self.names = self.section(0, "sh_link") if names == XINDEX else names
+        self.segments = min(self.section(0, "sh_info") if segments == XINDEX else segments, len(self.data) // 56)
+
+    @staticmethod
+    def bytes_of(path: str) -> Any:
         with open(path, "rb") as it:
             try:
-                self.data: mmap.mmap | bytes = mmap.mmap(it.fileno(), 0, access=mmap.ACCESS_READ)
+                return mmap.mmap(it.fileno(), 0, access=mmap.ACCESS_READ)
             except (OSError, ValueError):
                 # Empty, or no file on a disk.
-                self.data = it.read(LONGEST)
-        self.order = ">" if self.data[5:6] == b"\2" else "<"
-        self.table, count = self.number(40, 8), self.number(60, 2)
-        self.count = min(count or self.number(self.table + 32, 8), len(self.data) // 64) if self.table else 0
-        names = self.number(62, 2)
-        self.names = self.section(0, "sh_link") if names == 0xFFFF else names
-        segments = self.number(56, 2)
-        self.segments = min(self.section(0, "sh_info") if segments == 0xFFFF else segments, len(self.data) // 56)
+                return it.read(LONGEST)
 
     def number(self, at: int, width: int) -> int:
-        found = self.data[at : at + width].ljust(width, b"\0") if at >= 0 else bytes(width)
-        return int.from_bytes(found, "big" if self.order == ">" else "little")
+        return int.from_bytes(self.data[at : at + width].ljust(width, b"\0") if at >= 0 else b"", self.order)
 
     def section(self, index: int, field: str) -> int:
         """A field of a section header, 0 where there is no such section."""
@@ -67,9 +66,8 @@ class File:
 
     def content(self, index: int) -> tuple[int, int]:
         """Where the content of a section begins and ends; nowhere for one without bytes in the file."""
-        start = self.section(index, "sh_offset")
-        has_bytes = self.section(index, "sh_type") not in (NULL, NOBITS)
-        return (start, start + self.section(index, "sh_size")) if has_bytes else (start, start)
+        start, kind = self.section(index, "sh_offset"), self.section(index, "sh_type")
+        return start, start + (0 if kind in (NULL, NOBITS) else self.section(index, "sh_size"))
 
     def string(self, table: int, at: int) -> str:
         """The name at an offset of a string table."""
@@ -78,8 +76,9 @@ class File:
         letters = name.split(b"\0")[0].decode("utf-8", "backslashreplace")
         return "".join(it if it.isprintable() else ascii(it)[1:-1] for it in letters)
 
-    def of_type(self, *kinds: int) -> list[int]:
-        return [index for index in range(self.count) if self.section(index, "sh_type") in kinds]
+    def first_of(self, kind: int) -> int:
+        """The first section of a type, 0 where there is none."""
+        return next((index for index in range(self.count) if self.section(index, "sh_type") == kind), 0)
 
     def symbol(self, table: int, index: int, field: str) -> int:
         """A field of a symbol, 0 where there is none."""
@@ -90,27 +89,25 @@ class File:
     # ---- in words
 
     def section_words(self, index: int) -> str:
-        if not index < self.count:
+        if index >= self.count:
             return f"section {index}, which isn't there"
-        name = self.string(self.names, self.section(index, "sh_name"))
-        return f"section {index} {name or '(no name)'}"
+        return f"section {index} {self.string(self.names, self.section(index, 'sh_name')) or '(no name)'}"
 
     def typed_words(self, index: int) -> str:
         kind = self.section(index, "sh_type")
-        return f"{self.section_words(index)} of type {TYPES.get(kind, hex(kind))}" if index < self.count else self.section_words(index)
+        return self.section_words(index) + (f" of type {TYPES.get(kind, hex(kind))}" if index < self.count else "")
 
     def symbol_name(self, table: int, index: int) -> str:
         name = self.string(self.section(table, "sh_link"), self.symbol(table, index, "st_name"))
         if not name and self.symbol(table, index, "st_info") & 15 == 3:
             section = self.symbol(table, index, "st_shndx")
-            name = f"of section {self.string(self.names, self.section(section, 'sh_name'))}"
+            return f"of section {self.string(self.names, self.section(section, 'sh_name'))}"
         return name or "(no name)"
 
     def symbol_words(self, table: int, index: int) -> str:
         start, end = self.content(table)
-        if not start + 24 * index + 24 <= end:
-            return f"symbol {index}, which isn't there"
-        return f"symbol {index} {self.symbol_name(table, index)}"
+        is_there = start + 24 * index + 24 <= end
+        return f"symbol {index} {self.symbol_name(table, index)}" if is_there else f"symbol {index}, which isn't there"
 
     def field_words(self, record: Layout, start: int, at: int) -> str:
         """The field of a record that holds an offset, and its value."""
@@ -119,46 +116,37 @@ class File:
                 if name.startswith("the "):
                     return f"{name}, which is {self.data[start + begins:start + begins + width].hex(' ')}"
                 value = self.number(start + begins, width)
-                is_hex = any(it in name for it in IN_HEX) and value > 9
-                return f"{name}, which is {hex(value) if is_hex else value}"
+                return f"{name}, which is {hex(value) if any(it in name for it in IN_HEX) and value > 9 else value}"
         return "no field"
 
 
-# ---- what stands at an offset
+# ---- what is at an offset
 
 
 def entry_words(file: File, index: int, at: int) -> str:
     """The entry of the table in a section that holds an offset."""
     kind, (start, end), link = file.section(index, "sh_type"), file.content(index), file.section(index, "sh_link")
-    within = at - start
-
-    def entry(size: int) -> tuple[int, int]:
-        return within // size, start + within // size * size
-
+    size = {SYMTAB: 24, DYNSYM: 24, RELA: 24, REL: 16, DYNAMIC_SECTION: 16, GROUP: 4, SYMTAB_SHNDX: 4, HASH: 4}.get(kind, 1)
+    position = (at - start) // size
+    begins = start + position * size
+    value = file.number(begins, 4)
     if kind in (SYMTAB, DYNSYM):
-        position, begins = entry(24)
         section = file.symbol(index, position, "st_shndx")
         defined = f", defined in {file.section_words(section)}" if 0 < section < 0xFF00 else ""
         return f"{file.symbol_words(index, position)}{defined}: {file.field_words(SYMBOL, begins, at)}"
     if kind in (RELA, REL):
-        position, begins = entry(24 if kind == RELA else 16)
         named = file.symbol_words(link, file.number(begins + 8, 8) >> 32)
-        target = file.section_words(file.section(index, "sh_info"))
-        return f"relocation {position}, of {named}, at {hex(file.number(begins, 8))} of {target}"
+        place = f"{hex(file.number(begins, 8))} of {file.section_words(file.section(index, 'sh_info'))}"
+        return f"relocation {position}, of {named}, at {place}"
     if kind == DYNAMIC_SECTION:
-        position, begins = entry(16)
         return f"entry {position}, of tag {file.number(begins, 8)}: {file.field_words(DYNAMIC, begins, at)}"
     if kind == GROUP:
-        position, begins = entry(4)
-        member = file.number(begins, 4)
         signature = f"of the group that {file.symbol_words(link, file.section(index, 'sh_info'))} signs"
-        return f"the member {file.section_words(member)} {signature}" if position else f"the flags, {member}, {signature}"
+        return f"the member {file.section_words(value)} {signature}" if position else f"the flags, {value}, {signature}"
     if kind == SYMTAB_SHNDX:
-        position, begins = entry(4)
-        return f"the word of {file.symbol_words(link, position)}: {file.number(begins, 4)}"
+        return f"the word of {file.symbol_words(link, position)}: {value}"
     if kind == HASH:
-        position, begins = entry(4)
-        buckets, value = file.number(start, 4), file.number(begins, 4)
+        buckets = file.number(start, 4)
         if position < 2:
             return f"the number of {('buckets', 'chain words')[position]}, {value}"
         if position < 2 + buckets:
@@ -166,8 +154,7 @@ def entry_words(file: File, index: int, at: int) -> str:
         return f"the chain word of {file.symbol_words(link, position - 2 - buckets)}: {value}"
     if kind == NOTE:
         return note_words(file, start, end, at)
-    byte = f": 0x{file.data[at]:02x}" if at < len(file.data) else ""
-    return f"byte {within}{byte}"
+    return f"byte {position}" + (f": 0x{file.data[at]:02x}" if at < len(file.data) else "")
 
 
 def note_words(file: File, start: int, end: int, at: int) -> str:
@@ -177,28 +164,24 @@ def note_words(file: File, start: int, end: int, at: int) -> str:
         name, desc = (file.number(start + it, 4) for it in (0, 4))
         if at < start + 12:
             return f"note {position}: {file.field_words(OF_NOTE, start, at)}"
-        behind = start + 12 + (name + 3) // 4 * 4
-        if at < behind + (desc + 3) // 4 * 4:
-            return f"note {position}: {'its name' if at < behind else 'its descriptor'}"
-        position, start = position + 1, behind + (desc + 3) // 4 * 4
+        after = start + 12 + (name + 3) // 4 * 4
+        if at < after + (desc + 3) // 4 * 4:
+            return f"note {position}: {'its name' if at < after else 'its descriptor'}"
+        position, start = position + 1, after + (desc + 3) // 4 * 4
     return "behind the last note"
 
 
 def header_words(file: File, index: int) -> str:
     """What a section header is about: its section, and those that it names."""
     kind, link, info = (file.section(index, it) for it in ("sh_type", "sh_link", "sh_info"))
-    said = [f"the section header of {file.typed_words(index)}"] if index else ["section header 0"]
-    if link and kind != NULL:
-        said.append(f"its link is {file.typed_words(link)}")
-    if kind in (REL, RELA):
-        said.append(f"it relocates {file.section_words(info)}")
-    if kind == GROUP:
-        said.append(f"signed by {file.symbol_words(link, info)}")
-    return "; ".join(said)
+    words = [f"the section header of {file.typed_words(index)}" if index else "section header 0"]
+    words += [f"its link is {file.typed_words(link)}"] if link and kind != NULL else []
+    words += [f"it relocates {file.section_words(info)}"] if kind in (REL, RELA) else []
+    return "; ".join(words + ([f"signed by {file.symbol_words(link, info)}"] if kind == GROUP else []))
 
 
 def places(file: File, at: int) -> Iterator[tuple[str, str]]:
-    """All that stands at an offset: of which kind, and in words."""
+    """All that is at an offset: of which kind, and in words."""
     if at < 64:
         yield "header", f"the header: {file.field_words(OF_HEADER, 0, at)}"
     if file.table <= at < file.table + 64 * file.count:
@@ -214,39 +197,30 @@ def places(file: File, at: int) -> Iterator[tuple[str, str]]:
             yield "content", f"the content of {file.section_words(index)}, {hex(start)} to {hex(end - 1)}: {entry_words(file, index, at)}"
 
 
-def wanted(rule: int) -> list[str]:
-    """Of which kinds what a rule is broken at may be."""
-    kinds = (("header", IN_HEADER), ("section", IN_SECTION), ("segment", IN_SEGMENT), ("content", IN_CONTENT))
-    return [kind for kind, rules in kinds if rule in rules] or [kind for kind, _ in kinds]
-
-
 def offset_words(file: File, rule: int, at: int) -> list[str]:
-    """What stands at the offset at which a rule is broken."""
+    """What is at the offset at which a rule is broken."""
+    wanted = [kind for kind, rules in PARTS.items() if rule in rules] or list(PARTS)
     found = list(places(file, at)) if at < len(file.data) else [("end", f"the file ends there, with {len(file.data)} bytes")]
-    words = [said for kind, said in found if kind in wanted(rule)] or [said for _, said in found] or ["in no part of the file"]
-    return [f"{file.path}, offset {at} ({hex(at)}): {said}" for said in words]
+    words = [it for kind, it in found if kind in wanted] or [it for _, it in found] or ["in no part of the file"]
+    return [f"{file.path}, offset {at} ({hex(at)}): {it}" for it in words]
 
 
 # ---- the link: positions in the object that a file denotes
 
 
-def kept_sections(file: File) -> list[int]:
-    """The sections of a file that are sections of its object, in the order of their positions."""
-    symbols = next(iter(file.of_type(SYMTAB)), None)
-    indexes = next((it for it in file.of_type(SYMTAB_SHNDX) if file.section(it, "sh_link") == symbols), None)
-    out = {0, symbols, indexes, file.names, file.section(symbols, "sh_link") if symbols else None}
-    return [index for index in range(file.count) if index not in out and file.section(index, "sh_type") != NULL]
-
-
 def kept_at(file: File, position: int) -> int:
-    kept = kept_sections(file)
+    """The index of the section at a position of the object; behind all where there is none."""
+    symbols = file.first_of(SYMTAB)
+    indexes = (it for it in range(file.count) if file.section(it, "sh_type") == SYMTAB_SHNDX and file.section(it, "sh_link") == symbols)
+    out = {0, symbols, next(indexes, 0) if symbols else 0, file.names, file.section(symbols, "sh_link") if symbols else 0}
+    kept = [index for index in range(file.count) if index not in out and file.section(index, "sh_type") != NULL]
     return kept[position] if position < len(kept) else file.count
 
 
 def definition_before(files: list[File], name: str, file: int, index: int) -> str:
     """Where a name has a global definition before symbol `index` of a file."""
     for position, it in enumerate(files[: file + 1]):
-        table = next(iter(it.of_type(SYMTAB)), 0)
+        table = it.first_of(SYMTAB)
         start, end = it.content(table)
         for symbol in range(1, min(max(end - start, 0), len(it.data)) // 24):
             is_definition = it.symbol(table, symbol, "st_info") >> 4 == 1 and it.symbol(table, symbol, "st_shndx") not in (0, 0xFFF2)
@@ -257,9 +231,8 @@ def definition_before(files: list[File], name: str, file: int, index: int) -> st
 
 def symbol_rule_words(files: list[File], rule: int, position: int, index: int) -> str:
     """What rules 6 to 9 are about: a symbol of a file."""
-    file = files[position]
-    table = next(iter(file.of_type(SYMTAB)), 0)
-    symbol = index + 1
+    file, symbol = files[position], index + 1
+    table = file.first_of(SYMTAB)
     name = file.symbol_name(table, symbol)
     if rule == 8:
         second = f"the second one at symbol {symbol} of {file.path}"
@@ -267,15 +240,14 @@ def symbol_rule_words(files: list[File], rule: int, position: int, index: int) -
     if rule == 9:
         return f"undefined name {name}, needed by {file.path} (its {file.symbol_words(table, symbol)})"
     info, value = (file.symbol(table, symbol, it) for it in ("st_info", "st_value"))
-    said = f"st_value {value}" if rule == 7 else f"type {info & 15}"
-    return f"{file.path}, {file.symbol_words(table, symbol)}: binding {info >> 4}, {said}"
+    words = f"st_value {value}" if rule == 7 else f"type {info & 15}"
+    return f"{file.path}, {file.symbol_words(table, symbol)}: binding {info >> 4}, {words}"
 
 
 def relocation_rule_words(file: File, position: int, entry: int) -> str:
     """What rules 12 to 16 are about: an entry of a section of relocations."""
     index = kept_at(file, position)
-    size = 24 if file.section(index, "sh_type") == RELA else 16
-    start, end = file.content(index)
+    size, (start, end) = 24 if file.section(index, "sh_type") == RELA else 16, file.content(index)
     at = start + size * entry
     if not at + size <= end:
         return f"{file.path}, {file.section_words(index)}: relocation {entry}, which isn't there"
@@ -284,8 +256,7 @@ def relocation_rule_words(file: File, position: int, entry: int) -> str:
 
 
 def machine_words(file: File) -> str:
-    order = "big" if file.order == ">" else "little"
-    return f"{file.path} has order {order}, machine {file.number(18, 2)}, flags {hex(file.number(48, 4))}"
+    return f"{file.path} has order {file.order}, machine {file.number(18, 2)}, flags {hex(file.number(48, 4))}"
 
 
 def link_words(files: list[File], rule: int, file: int, index: int, entry: int) -> str:
@@ -295,22 +266,19 @@ def link_words(files: list[File], rule: int, file: int, index: int, entry: int) 
     it = files[file]
     if rule == 2:
         return f"{machine_words(it)}; {machine_words(files[0])}"
-    if rule in (3, 4):
+    if rule in (3, 4, 5):
         kept = kept_at(it, index)
-        return f"{it.path}, {it.section_words(kept)}: sh_flags, which is {hex(it.section(kept, 'sh_flags'))}"
-    if rule == 5:
-        kept = kept_at(it, index)
-        return f"{it.path}, {it.section_words(kept)}: signed by {it.symbol_words(it.section(kept, 'sh_link'), it.section(kept, 'sh_info'))}"
-    if rule in (6, 7, 8, 9):
-        return symbol_rule_words(files, rule, file, index)
-    return relocation_rule_words(it, index, entry)
+        signature = f"signed by {it.symbol_words(it.section(kept, 'sh_link'), it.section(kept, 'sh_info'))}"
+        flags = f"sh_flags, which is {hex(it.section(kept, 'sh_flags'))}"
+        return f"{it.path}, {it.section_words(kept)}: {signature if rule == 5 else flags}"
+    return symbol_rule_words(files, rule, file, index) if rule in (6, 7, 8, 9) else relocation_rule_words(it, index, entry)
 
 
 # ---- the rules
 
 
 def rule_words(anchor: str) -> tuple[str, str, str, str] | None:
-    """Of a rule of docs/RULES.md, by its anchor: its names, what it refuses, its sentence, and what to do."""
+    """Of a rule of docs/RULES.md, by its anchor: its name, what it refuses, its sentence, and what to do."""
     head: list[str] = []
     for line in read_text("docs/RULES.md").splitlines():
         cells = [cell.strip() for cell in line.strip().strip("|").split(" | ")]
@@ -330,10 +298,6 @@ def explained(line: str, anchor: str, places: list[str]) -> list[str]:
     return [line, f"{name}: {refused} {sentence}", *places, f"what to do: {advice}", f"docs/RULES.md#{anchor}"]
 
 
-def kind_of(rule: int) -> str:
-    return "image" if rule < 40 else "table" if rule < 70 else "object"
-
-
 def explain(line: str, files: list[File]) -> list[str] | None:
     """The words for a line, None where it is no refusal."""
     match = re.fullmatch(r"(?:file (\d+) )?refused((?: \d+){2,4})", line.strip())
@@ -346,10 +310,8 @@ def explain(line: str, files: list[File]) -> list[str] | None:
     file, (*section, rule, at) = int(match[1] or 0), numbers
     if not file < len(files):
         return [line, f"there is no file {file}"]
-    told = offset_words(files[file], rule, at)
-    if section:
-        told.insert(0, f"the table in {files[file].section_words(section[0])}")
-    return explained(line, f"{kind_of(rule)}-{rule}", told)
+    words = [f"the table in {files[file].section_words(it)}" for it in section] + offset_words(files[file], rule, at)
+    return explained(line, f"{'image' if rule < 40 else 'table' if rule < 70 else 'object'}-{rule}", words)
 
 
 def explain_all(lines: list[str], files: list[File]) -> str:

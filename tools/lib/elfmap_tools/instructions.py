@@ -27,15 +27,10 @@ PLACE = ["--base", "0x400000", "--page", "0x1000"]
 PIPE, PIPE_LENGTH = "/dev/stdin", 1 << 20
 # The words of each command; its files follow. RULES and ENTRY are replaced by those of the input.
 COMMANDS = {
-    "check": ["check"],
-    "check of a pipe": ["check", PIPE],
-    "check --seek": ["check", "--seek"],
-    "show": ["show"],
-    "rewrite": ["rewrite"],
-    "map": ["map", *PLACE],
-    "map --rules": ["map", *PLACE, "--rules", "RULES"],
+    "check": ["check"], "check of a pipe": ["check", PIPE], "check --seek": ["check", "--seek"], "show": ["show"], "rewrite": ["rewrite"],
+    "map": ["map", *PLACE], "map --rules": ["map", *PLACE, "--rules", "RULES"],
     "link": ["link", *PLACE, "--entry", "ENTRY", "--rules", "RULES"],
-}
+}  # fmt: skip
 # Each input, its length in bytes, and the commands that run on it. What goes through a pipe has at most PIPE_LENGTH bytes.
 ROWS: list[tuple[Callable[[int], Any], int, list[str]]] = [
     (made.scattered_sections, 1000000, ["check", "check of a pipe", "check --seek", "show", "rewrite"]),

@@ -24,14 +24,9 @@ MADE = {"an object": "-c -O1", "an object of C++": "-x c++ -c -O1 -g", "an execu
 MADE |= {"a library": "-shared -nostdlib -fPIC -O1 -Wl,--hash-style=sysv -Wl,-soname,answer.so"}
 # Each tool, and how it is called; its version it says by --version.
 TOOLS = {
-    "readelf": "readelf -aW a.o",
-    "eu-readelf": "eu-readelf -a a.o",
-    "eu-elflint": "eu-elflint --gnu-ld a.o",
-    "llvm-readobj": "llvm-readobj --all a.o",
-    "objcopy": "objcopy a.o b.o",
-    "ld -r": "ld -r a.o -o b.o",
-    "lld -r": "ld.lld -r a.o -o b.o",
-}
+    "readelf": "readelf -aW a.o", "eu-readelf": "eu-readelf -a a.o", "eu-elflint": "eu-elflint --gnu-ld a.o",
+    "llvm-readobj": "llvm-readobj --all a.o", "objcopy": "objcopy a.o b.o", "ld -r": "ld -r a.o -o b.o", "lld -r": "ld.lld -r a.o -o b.o",
+}  # fmt: skip
 # The rules by the command that answers them, and where docs/RULES.md has them.
 KINDS = {"check": ("image", range(1, 34)), "show": ("table", range(40, 70)), "rewrite": ("object", range(70, 80))}
 HEAD = """# What other tools say

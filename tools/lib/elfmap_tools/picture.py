@@ -20,30 +20,13 @@ COLUMNS = (("begins at", 96, "end"), ("bytes", 196, "end"), ("owner", 212, "star
 
 # What a section holds, by its type; of type PROGBITS and its like, by its flags.
 TYPES = {
-    2: "symbols",
-    3: "strings",
-    4: "relocations",
-    5: "hash table",
-    6: "dynamic array",
-    7: "notes",
-    9: "relocations",
-    11: "symbols",
-    14: "addresses",
-    15: "addresses",
-    17: "group",
-    18: "indexes",
-}
+    2: "symbols", 3: "strings", 4: "relocations", 5: "hash table", 6: "dynamic array", 7: "notes", 9: "relocations", 11: "symbols",
+    14: "addresses", 15: "addresses", 17: "group", 18: "indexes",
+}  # fmt: skip
 COLOURS = {
-    "header and tables": "#4c566a",
-    "code": "#c0504d",
-    "data": "#e0a030",
-    "constants": "#7f9f3f",
-    "symbols and strings": "#4f81bd",
-    "relocations": "#8064a2",
-    "other": "#8aa0a8",
-    "several parts": "#b9c4c9",
-    "gap": "url(#gap)",
-}
+    "header and tables": "#4c566a", "code": "#c0504d", "data": "#e0a030", "constants": "#7f9f3f", "symbols and strings": "#4f81bd",
+    "relocations": "#8064a2", "other": "#8aa0a8", "several parts": "#b9c4c9", "gap": "url(#gap)",
+}  # fmt: skip
 FILE_TYPES = {0: "no type", 1: "relocatable", 2: "executable", 3: "shared", 4: "core"}
 
 

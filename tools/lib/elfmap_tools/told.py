@@ -174,14 +174,9 @@ def found_lines(f: Any, i: int) -> Iterator[str]:
 
 
 ENTRY_LINES = {
-    SYMTAB: symbol_lines,
-    DYNSYM: symbol_lines,
-    RELA: relocation_lines,
-    REL: relocation_lines,
-    DYNAMIC_SECTION: dynamic_lines,
-    NOTE: note_lines,
-    HASH: found_lines,
-}
+    SYMTAB: symbol_lines, DYNSYM: symbol_lines, RELA: relocation_lines, REL: relocation_lines, DYNAMIC_SECTION: dynamic_lines,
+    NOTE: note_lines, HASH: found_lines,
+}  # fmt: skip
 
 
 def entry_count(f: Any, i: int) -> int:
