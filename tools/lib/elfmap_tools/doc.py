@@ -6,13 +6,12 @@ import argparse, collections, functools, re, sys
 from collections.abc import Callable
 from html import escape
 
-from . import sources
+from .sources import DOORS, Definition, Item, Uses, definition, definitions, items_of, module_file, source
 from .suite import Tally, Test
 from .tree import matched, read_text
 
 # Where a word leads to, and its title.
 Place = tuple[str, str] | None
-PlaceOf = Callable[[str], Place]
 MARK = re.compile(r"`([^`]+)`|\[(`?)([^\]`]+)`?\](?:\(([^)]*)\))?")
 WORD = re.compile(r"(?<![\w.])[^\W\d]\w*")
 
@@ -21,50 +20,72 @@ class Page:
     """What is on the page: an anchor for each item by its door and name, and the definitions that were led to."""
 
     def __init__(self) -> None:
-        self.doors = {door: list(sources.items_of(f"elf_{door}")) for door in sources.DOORS}
+        self.doors = {door: list(items_of(f"elf_{door}")) for door in DOORS}
         self.anchors: dict[tuple[str, str], str] = {}
-        self.homes: dict[tuple[str, str, str], str] = {}
-        self.wanted: dict[tuple[str, str], sources.Definition] = {}
+        self.wanted: dict[tuple[str, str], Definition] = {}
         self.faults: list[str] = []
+        homes: dict[tuple[str, str, str], str] = {}
         for door, items in self.doors.items():
             self.anchors[door, door] = door
             for item in items:
-                self.add(door, item)
+                # An item that several doors show has its place at the first one.
+                home = homes.setdefault((item.source, item.name, item.kind), door)
+                self.add(door, f"{home}.{item.name}", item.name, item)
 
-    def add(self, door: str, item: sources.Item) -> None:
-        """An item that several doors show has its place at the first one."""
-        home = self.homes.setdefault((item.source, item.name, item.kind), door)
-        self.add_in(door, f"{home}.{item.name}", item.name, item)
-
-    def add_in(self, door: str, anchor: str, path: str, item: sources.Item) -> None:
+    def add(self, door: str, anchor: str, path: str, item: Item) -> None:
         self.anchors[door, path] = anchor
-        for _, text in item.fields:
-            self.anchors[door, f"{path}::{name_of(text)}"] = f"{anchor}.{name_of(text)}"
+        for name in (name_of(text) for _, text in item.fields):
+            self.anchors[door, f"{path}::{name}"] = f"{anchor}.{name}"
         for it in item.members:
-            self.add_in(door, f"{anchor}.{it.name}", f"{path}::{it.name}", it)
+            self.add(door, f"{anchor}.{it.name}", f"{path}::{it.name}", it)
 
-    def anchor(self, door: str, path: str, owner: str = "") -> str | None:
-        """Where a path of a doc comment or a signature leads to; None where that is not on the page."""
-        words = [owner if it == "Self" else it for it in path.split("::") if it != "crate" and not it.startswith("elf_")]
-        for name in ("::".join(words[-2:]), words[0] if words else ""):
-            for place in (door, *sources.DOORS):
-                if (place, name) in self.anchors:
-                    return self.anchors[place, name]
-        return None
-
-    def want(self, found: sources.Definition) -> str:
-        """The anchor of a definition, which is then told of on the page, as those are that its text names."""
-        place = (found.path, found.name)
-        if place not in self.wanted:
-            self.wanted[place] = found
-            for word in WORD.findall(found.text):
-                other = named_in(found.path, word)
-                if other:
-                    self.want(other)
+    def want(self, found: Definition) -> str:
+        """The anchor of a definition, which is then on the page, as those are that its text names."""
+        if (found.path, found.name) not in self.wanted:
+            self.wanted[found.path, found.name] = found
+            for other in filter(None, (named_in(found.path, word) for word in WORD.findall(found.text))):
+                self.want(other)
         return anchor_of(found)
 
+    def glossary(self) -> str:
+        """The definitions that contracts name, and those that these name, by file."""
+        parts, path = [], ""
+        for found in sorted(self.wanted.values(), key=lambda it: it.path):
+            if found.path != path:
+                path = found.path
+                parts.append(f'<h4 class="place">{path}</h4>')
+            name, said = escape(found.name), Door(self, "").marked(said_of(found))
+            text = linked(found.text, functools.partial(place_in, found))
+            head = f'<div data-names="{name}"><details id="{escape(anchor_of(found))}"><summary><code>{name}</code> {said}</summary>'
+            parts.append(f"{head}<pre>{text}</pre></details></div>")
+        return "\n".join(['<section><h2 id="definitions">Definitions</h2>', *parts, "</section>"])
 
-def anchor_of(found: sources.Definition) -> str:
+    def whole(self) -> str:
+        doors = [Door(self, door).section() for door in DOORS]
+        return f"""<!DOCTYPE html>
+<html lang="en">
+<head><meta charset="utf-8"><meta name="viewport" content="width=device-width, initial-scale=1">
+<title>elfmap</title><style>{read_text("page/doc.css")}</style></head>
+<body>
+<h1>elfmap</h1>
+{Door(self, "").told(source(module_file("elf", ()))[0])}
+<input id="filter" placeholder="a name" aria-label="show what has this name" hidden>
+{self.contents()}
+{chr(10).join(doors)}
+{self.glossary()}
+<script>{read_text("page/doc.js")}</script>
+</body>
+</html>"""
+
+    def contents(self) -> str:
+        lines = []
+        for door, items in self.doors.items():
+            names = ", ".join(f'<a href="#{self.anchors[door, it.name]}">{it.name}</a>' for it in items)
+            lines.append(f'<p><a href="#{door}"><b>{door}</b></a>: {names}</p>')
+        return f'<nav>{"".join(lines)}<p><a href="#definitions"><b>definitions</b></a></p></nav>'
+
+
+def anchor_of(found: Definition) -> str:
     crate, _, rest = found.path.removeprefix("crates/").removesuffix(".antt").partition("/specs/")
     return f"{crate}/{rest.replace('/', '.')}.{found.name}"
 
@@ -74,52 +95,16 @@ def name_of(text: str) -> str:
     return matched(r"\w+", text)[0]
 
 
-def named_in(path: str, word: str) -> sources.Definition | None:
+def named_in(path: str, word: str) -> Definition | None:
     """The definition that a word in a file of specs/ stands for."""
-    own, uses = sources.definitions(path)
-    return own.get(word) or (sources.definition(*uses[word]) if word in uses else None)
+    own, uses = definitions(path)
+    return own.get(word) or (definition(*uses[word]) if word in uses else None)
 
 
-def counted(count: int, word: str) -> str:
-    return f"{count} {word}{'' if count == 1 else 's'}"
-
-
-# ---- doc comments
-
-
-def marked(page: Page, door: str, text: str, owner: str = "") -> str:
-    """A paragraph with its code and its links."""
-    found, at = [], 0
-    for mark in MARK.finditer(text):
-        found.append(escape(text[at : mark.start()]))
-        found.append(f"<code>{escape(mark[1])}</code>" if mark[1] else link(page, door, mark, owner))
-        at = mark.end()
-    return "".join([*found, escape(text[at:])])
-
-
-def link(page: Page, door: str, mark: re.Match[str], owner: str) -> str:
-    words = f"<code>{escape(mark[3])}</code>" if mark[2] else escape(mark[3])
-    anchor = page.anchor(door, mark[4] or mark[3], owner)
-    if not anchor:
-        return words if mark[2] or mark[4] else escape(mark[0])
-    return f'<a href="#{escape(anchor)}">{words}</a>'
-
-
-def told(page: Page, door: str, docs: list[str], owner: str = "") -> str:
-    """A doc comment: paragraphs, tables, lists and code."""
-    parts, lines = [], list(docs)
-    while lines:
-        kind = "code" if lines[0].startswith("```") else lines[0][:2] if lines[0][:2] in ("- ", "| ") else ""
-        if kind == "code":
-            end = next(at for at in range(1, len(lines)) if lines[at].startswith("```"))
-            parts.append(f"<pre>{escape(chr(10).join(lines[1:end]))}</pre>")
-            lines = lines[end + 1 :]
-            continue
-        end = next((at for at, line in enumerate(lines) if not line or line.startswith("```")), len(lines))
-        if end:
-            parts.append(block(page, door, kind, lines[:end], owner))
-        lines = lines[end + (end < len(lines) and not lines[end]) :]
-    return "\n".join(parts)
+def place_in(found: Definition, word: str) -> Place:
+    """Where a word of a definition leads to."""
+    other = named_in(found.path, word)
+    return (anchor_of(other), said_of(other) or other.text) if other and other is not found else None
 
 
 def cells(line: str) -> list[str]:
@@ -127,24 +112,11 @@ def cells(line: str) -> list[str]:
     return [it.strip() for it in line.strip("| ").split(" | ")]
 
 
-def block(page: Page, door: str, kind: str, lines: list[str], owner: str) -> str:
-    if kind == "| ":
-        rows = [[f"<td>{marked(page, door, it, owner)}</td>" for it in cells(line)] for line in lines if not line.startswith("|--")]
-        return f"<table>{''.join(f'<tr>{chr(10).join(row)}</tr>' for row in rows)}</table>"
-    if kind == "- ":
-        entries = "\n".join(lines)[2:].split("\n- ")
-        return "<ul>" + "".join(f"<li>{marked(page, door, it, owner)}</li>" for it in entries) + "</ul>"
-    return f"<p>{marked(page, door, chr(10).join(lines), owner)}</p>"
-
-
-# ---- signatures and contracts
-
-
-def linked(text: str, place_of: PlaceOf) -> str:
+def linked(text: str, place_of: Callable[[str], Place]) -> str:
     """A text of code, each word of it with the anchor and the title that it has, if it has one."""
     found, at = [], 0
     for word in WORD.finditer(text):
-        anchor, title = place_of(word[0]) or (None, "")
+        anchor, title = place_of(word[0]) or ("", "")
         if anchor:
             said = f' title="{escape(title)}"' if title else ""
             found += [escape(text[at : word.start()]), f'<a href="#{escape(anchor)}"{said}>{escape(word[0])}</a>']
@@ -152,24 +124,9 @@ def linked(text: str, place_of: PlaceOf) -> str:
     return "".join([*found, escape(text[at:])])
 
 
-def signature(page: Page, door: str, item: sources.Item) -> str:
-    """The signature, where the types of the library lead to their place."""
-
-    def place_of(word: str) -> Place:
-        anchor = page.anchor(door, word) if word[0].isupper() and word != item.name else None
-        return (anchor, "") if anchor else None
-
-    return f"<pre>{linked(chr(10).join(item.text), place_of)}</pre>"
-
-
-def said_of(found: sources.Definition) -> str:
+def said_of(found: Definition) -> str:
     """What is said of a definition: the comment above it, or else its line in docs/DEFINITIONS.md or docs/RULES.md."""
     return found.comment or table_words().get(found.name, "")
-
-
-def title_of(found: sources.Definition) -> str:
-    """The title of a word that is a definition: what is said of it, or else the definition itself."""
-    return said_of(found) or found.text
 
 
 @functools.cache
@@ -181,179 +138,158 @@ def table_words() -> dict[str, str]:
     return words | {word: row[1] for row in rows for word in re.findall(r"`([^`]+)`", row[0])}
 
 
-def place_by(page: Page, door: str, uses: sources.Uses) -> PlaceOf:
-    """Where the words of a contract lead to, by the `ghost use` lines of its source."""
+class Door:
+    """The part of the page that is of a public crate."""
 
-    def place_of(word: str) -> Place:
+    def __init__(self, page: Page, name: str) -> None:
+        self.page, self.name = page, name
+
+    def anchor(self, path: str, owner: str = "") -> str:
+        """Where a path of a doc comment or a signature leads to; nowhere where that is not on the page."""
+        words = [owner if it == "Self" else it for it in path.split("::") if it != "crate" and not it.startswith("elf_")]
+        names = ("::".join(words[-2:]), words[0] if words else "")
+        anchors = (self.page.anchors.get((door, name), "") for name in names for door in (self.name, *DOORS))
+        return next(filter(None, anchors), "")
+
+    # ---- doc comments
+
+    def marked(self, text: str, owner: str = "") -> str:
+        """A paragraph with its code and its links."""
+        found, at = [], 0
+        for mark in MARK.finditer(text):
+            found.append(escape(text[at : mark.start()]))
+            found.append(f"<code>{escape(mark[1])}</code>" if mark[1] else self.link(mark, owner))
+            at = mark.end()
+        return "".join([*found, escape(text[at:])])
+
+    def link(self, mark: re.Match[str], owner: str) -> str:
+        words = f"<code>{escape(mark[3])}</code>" if mark[2] else escape(mark[3])
+        anchor = self.anchor(mark[4] or mark[3], owner)
+        if not anchor:
+            return words if mark[2] or mark[4] else escape(mark[0])
+        return f'<a href="#{escape(anchor)}">{words}</a>'
+
+    def told(self, docs: list[str], owner: str = "") -> str:
+        """A doc comment: paragraphs, tables, lists and code."""
+        parts, lines = [], list(docs)
+        while lines:
+            if lines[0].startswith("```"):
+                end = next(at for at in range(1, len(lines)) if lines[at].startswith("```"))
+                parts.append(f"<pre>{escape(chr(10).join(lines[1:end]))}</pre>")
+                lines = lines[end + 1 :]
+                continue
+            end = next((at for at, line in enumerate(lines) if not line or line.startswith("```")), len(lines))
+            parts += [self.block(lines[:end], owner)] if end else []
+            lines = lines[end + (end < len(lines) and not lines[end]) :]
+        return "\n".join(parts)
+
+    def block(self, lines: list[str], owner: str) -> str:
+        if lines[0].startswith("| "):
+            rows = [[f"<td>{self.marked(it, owner)}</td>" for it in cells(line)] for line in lines if not line.startswith("|--")]
+            return f"<table>{''.join(f'<tr>{chr(10).join(row)}</tr>' for row in rows)}</table>"
+        if lines[0].startswith("- "):
+            return f"<ul>{''.join(f'<li>{self.marked(it, owner)}</li>' for it in chr(10).join(lines)[2:].split(chr(10) + '- '))}</ul>"
+        return f"<p>{self.marked(chr(10).join(lines), owner)}</p>"
+
+    # ---- signatures and contracts
+
+    def signature(self, item: Item) -> str:
+        """The signature, where the types of the library lead to their place."""
+        own = item.name
+        return f"<pre>{linked(chr(10).join(item.text), lambda it: (self.anchor(it), '') if it[0].isupper() and it != own else None)}</pre>"
+
+    def place_by(self, uses: Uses, word: str) -> Place:
+        """Where a word of a contract leads to, by the `ghost use` lines of its source."""
         place, name = uses.get(word, ("", ""))
         if ".declared." in place:
-            anchor = page.anchor(door, re.sub(r"\.TheVariants$", "", place).rsplit(".", 1)[-1])
-            return (anchor, "") if anchor else None
-        found = sources.definition(place, name) if place else None
-        return (page.want(found), title_of(found)) if found else None
+            return self.anchor(re.sub(r"\.TheVariants$", "", place).rsplit(".", 1)[-1]), ""
+        found = definition(place, name) if place else None
+        return (self.page.want(found), said_of(found) or found.text) if found else None
 
-    return place_of
+    def contract(self, item: Item) -> str:
+        """The clauses, or of a type what its value and its invariant are."""
+        lines = [*item.ghosts, *item.clauses]
+        kinds = collections.Counter(it.split()[0] for it in item.clauses)
+        head = "what it is in the logic" if item.ghosts else "contract: " + ", ".join(f"{count} {kind}" for kind, count in kinds.items())
+        text = linked(chr(10).join(lines), functools.partial(self.place_by, item.uses))
+        return f"<details><summary>{head}</summary><pre>{text}</pre></details>" if lines else ""
 
+    # ---- items
 
-def contract(page: Page, door: str, item: sources.Item) -> str:
-    """The clauses, or of a type what its value and its invariant are."""
-    lines = [*item.ghosts, *item.clauses]
-    if not lines:
-        return ""
-    kinds = collections.Counter(it.split()[0] for it in item.clauses)
-    head = "what it is in the logic" if item.ghosts else "contract: " + ", ".join(f"{count} {kind}" for kind, count in kinds.items())
-    return f"<details><summary>{head}</summary><pre>{linked(chr(10).join(lines), place_by(page, door, item.uses))}</pre></details>"
+    def check_doc(self, item: Item, docs: list[str], name: str = "") -> None:
+        if not "".join(docs).strip():
+            self.page.faults.append(f"{item.source}: {self.name}: {item.name}{name} has no doc comment")
 
+    def fields(self, item: Item) -> str:
+        """The public fields of a struct, or the variants of an enum, each in one line."""
+        lines = []
+        for docs, text in item.fields:
+            self.check_doc(item, docs, f"::{name_of(text)}")
+            anchor = self.page.anchors[self.name, f"{item.name}::{name_of(text)}"]
+            line = " ".join(it.strip() for it in text.splitlines() if not it.strip().startswith("///"))
+            code = escape(re.sub(r",? \}$", " }", line))
+            lines.append(f'<dt id="{anchor}"><code>{code}</code></dt><dd>{self.told(docs, item.name)}</dd>')
+        return f"<dl>{''.join(lines)}</dl>" if lines else ""
 
-# ---- items
+    def member(self, item: Item, owner: Item) -> str:
+        self.check_doc(item, item.docs)
+        anchor = self.page.anchors[self.name, f"{owner.name}::{item.name}"]
+        return f"""<div class="member" data-names="{owner.name} {item.name}"><h4 id="{anchor}"><a href="#{anchor}">{item.name}</a></h4>
+{self.signature(item)}
+{self.told(item.docs, owner.name)}
+{self.contract(item)}</div>"""
 
+    def constants(self, item: Item) -> str:
+        """The constants of a module in a table, and then those of each module in it."""
+        rows = "".join(self.constant(it, item.name) for it in item.members if it.kind != "mod")
+        parts = [f"<table>{rows}</table>"] if rows else []
+        for it in (it for it in item.members if it.kind == "mod"):
+            self.check_doc(it, it.docs)
+            path = f"{item.name}::{it.name}"
+            inner = "\n".join(self.constant(own, path) for own in it.members)
+            parts.append(f'<h4 id="{self.page.anchors[self.name, path]}">{path}</h4>{self.told(it.docs)}<table>{inner}</table>')
+        return "\n".join(parts)
 
-def no_doc(page: Page, door: str, item: sources.Item, docs: list[str]) -> None:
-    if not "".join(docs).strip():
-        page.faults.append(f"{item.source}: {door}: {item.name} has no doc comment")
+    def constant(self, item: Item, path: str) -> str:
+        self.check_doc(item, item.docs)
+        _, _, value = " ".join(it.strip() for it in item.text).removesuffix(";").partition(" = ")
+        anchor, said = self.page.anchors[self.name, f"{path}::{item.name}"], self.marked(" ".join(item.docs))
+        return f'<tr id="{anchor}"><td><code>{item.name}</code></td><td><code>{escape(value)}</code></td><td>{said}</td></tr>'
 
+    def traits(self, item: Item) -> str:
+        anchors = [(f"<code>{escape(it)}</code>", self.anchor(re.sub("<.*", "", it))) for it in item.traits]
+        named = ", ".join(f'<a href="#{anchor}">{it}</a>' if anchor else it for it, anchor in anchors)
+        return f'<p class="place">Has the traits {named}.</p>' if named else ""
 
-def fields(page: Page, door: str, item: sources.Item) -> str:
-    """The public fields of a struct, or the variants of an enum."""
-    lines = []
-    for docs, text in item.fields:
-        name = name_of(text)
-        if not docs:
-            page.faults.append(f"{item.source}: {door}: {item.name}::{name} has no doc comment")
-        anchor = page.anchors[door, f"{item.name}::{name}"]
-        lines.append(f'<dt id="{anchor}"><code>{escape(shortened(text))}</code></dt><dd>{told(page, door, docs, item.name)}</dd>')
-    return f"<dl>{''.join(lines)}</dl>" if lines else ""
-
-
-def shortened(text: str) -> str:
-    """A field or a variant in one line."""
-    bare = [it.strip() for it in text.splitlines() if not it.strip().startswith("///")]
-    return re.sub(r",? \}$", " }", " ".join(bare))
-
-
-def member(page: Page, door: str, item: sources.Item, owner: sources.Item) -> str:
-    no_doc(page, door, item, item.docs)
-    anchor = page.anchors[door, f"{owner.name}::{item.name}"]
-    return f"""<div class="member" data-names="{owner.name} {item.name}"><h4 id="{anchor}"><a href="#{anchor}">{item.name}</a></h4>
-{signature(page, door, item)}
-{told(page, door, item.docs, owner.name)}
-{contract(page, door, item)}</div>"""
-
-
-def constants(page: Page, door: str, item: sources.Item) -> str:
-    """The constants of a module in a table, and behind it those of each module in it."""
-    rows = [constant(page, door, it, item.name) for it in item.members if it.kind != "mod"]
-    inner = [inner_module(page, door, it, item) for it in item.members if it.kind == "mod"]
-    return "\n".join([*([f"<table>{''.join(rows)}</table>"] if rows else []), *inner])
-
-
-def inner_module(page: Page, door: str, item: sources.Item, owner: sources.Item) -> str:
-    path = f"{owner.name}::{item.name}"
-    no_doc(page, door, item, item.docs)
-    rows = "\n".join(constant(page, door, it, path) for it in item.members)
-    return f'<h4 id="{page.anchors[door, path]}">{path}</h4>{told(page, door, item.docs)}<table>{rows}</table>'
-
-
-def constant(page: Page, door: str, item: sources.Item, path: str) -> str:
-    no_doc(page, door, item, item.docs)
-    _, _, value = " ".join(it.strip() for it in item.text).removesuffix(";").partition(" = ")
-    anchor = page.anchors[door, f"{path}::{item.name}"]
-    said = marked(page, door, " ".join(item.docs))
-    return f'<tr id="{anchor}"><td><code>{item.name}</code></td><td><code>{escape(value)}</code></td><td>{said}</td></tr>'
-
-
-def traits(page: Page, door: str, item: sources.Item) -> str:
-    named = []
-    for it in item.traits:
-        anchor = page.anchor(door, re.sub("<.*", "", it))
-        named.append(f'<a href="#{anchor}"><code>{escape(it)}</code></a>' if anchor else f"<code>{escape(it)}</code>")
-    return f'<p class="place">Has the traits {", ".join(named)}.</p>' if named else ""
-
-
-def article(page: Page, door: str, item: sources.Item) -> str:
-    anchor = page.anchors[door, item.name]
-    no_doc(page, door, item, item.docs)
-    members = "\n".join(member(page, door, it, item) for it in item.members) if item.kind != "mod" else constants(page, door, item)
-    names = " ".join([item.name, *(it.name for it in item.members)])
-    return f"""<article data-names="{names}">
+    def article(self, item: Item) -> str:
+        anchor = self.page.anchors[self.name, item.name]
+        self.check_doc(item, item.docs)
+        members = "\n".join(self.member(it, item) for it in item.members) if item.kind != "mod" else self.constants(item)
+        return f"""<article data-names="{" ".join([item.name, *(it.name for it in item.members)])}">
 <h3 id="{anchor}"><span class="kind">{item.kind}</span> <a href="#{anchor}">{item.name}</a></h3>
-{signature(page, door, item)}
-{told(page, door, item.docs, item.name)}
-{fields(page, door, item)}
-{contract(page, door, item)}
-{traits(page, door, item)}
+{self.signature(item)}
+{self.told(item.docs, item.name)}
+{self.fields(item)}
+{self.contract(item)}
+{self.traits(item)}
 <p class="place">{item.source}</p>
 {members}</article>"""
 
-
-# ---- the page
-
-
-def front(crate: str) -> list[str]:
-    return sources.source(sources.module_file(crate, ()))[0]
-
-
-def section(page: Page, door: str) -> str:
-    own = [it for it in page.doors[door] if page.anchors[door, it.name].startswith(f"{door}.")]
-    others = [f'<a href="#{page.anchors[door, it.name]}"><code>{it.name}</code></a>' for it in page.doors[door] if it not in own]
-    also = f"<p>It shows too: {', '.join(others)}.</p>" if others else ""
-    head = f'<section><h2 id="{door}">elf::{door}</h2>{told(page, door, front(f"elf_{door}"))}{also}'
-    return "\n".join([head, *(article(page, door, it) for it in own), "</section>"])
-
-
-def contents(page: Page) -> str:
-    lines = []
-    for door, items in page.doors.items():
-        names = ", ".join(f'<a href="#{page.anchors[door, it.name]}">{it.name}</a>' for it in items)
-        lines.append(f'<p><a href="#{door}"><b>{door}</b></a>: {names}</p>')
-    return f'<nav>{"".join(lines)}<p><a href="#definitions"><b>definitions</b></a></p></nav>'
-
-
-def glossary(page: Page) -> str:
-    """The definitions that contracts name, and those that these name, by file."""
-    parts, path = [], ""
-    for found in sorted(page.wanted.values(), key=lambda it: it.path):
-        if found.path != path:
-            path = found.path
-            parts.append(f'<h4 class="place">{path}</h4>')
-        parts.append(entry(page, found))
-    return "\n".join(['<section><h2 id="definitions">Definitions</h2>', *parts, "</section>"])
-
-
-def entry(page: Page, found: sources.Definition) -> str:
-    def place_of(word: str) -> Place:
-        other = named_in(found.path, word)
-        return (anchor_of(other), title_of(other)) if other and other is not found else None
-
-    name, head = escape(found.name), f"<summary><code>{escape(found.name)}</code> {marked(page, '', said_of(found))}</summary>"
-    text = f"<pre>{linked(found.text, place_of)}</pre>"
-    return f'<div data-names="{name}"><details id="{escape(anchor_of(found))}">{head}{text}</details></div>'
-
-
-def whole(page: Page) -> str:
-    doors = [section(page, door) for door in sources.DOORS]
-    return f"""<!DOCTYPE html>
-<html lang="en">
-<head><meta charset="utf-8"><meta name="viewport" content="width=device-width, initial-scale=1">
-<title>elfmap</title><style>{read_text("page/doc.css")}</style></head>
-<body>
-<h1>elfmap</h1>
-{told(page, "", front("elf"))}
-<input id="filter" placeholder="a name" aria-label="show what has this name" hidden>
-{contents(page)}
-{chr(10).join(doors)}
-{glossary(page)}
-<script>{read_text("page/doc.js")}</script>
-</body>
-</html>"""
+    def section(self) -> str:
+        anchors = [(it, self.page.anchors[self.name, it.name]) for it in self.page.doors[self.name]]
+        others = [f'<a href="#{anchor}"><code>{it.name}</code></a>' for it, anchor in anchors if not anchor.startswith(f"{self.name}.")]
+        also = f"<p>It shows too: {', '.join(others)}.</p>" if others else ""
+        front = self.told(source(module_file(f"elf_{self.name}", ()))[0])
+        own = (self.article(it) for it, anchor in anchors if anchor.startswith(f"{self.name}."))
+        return "\n".join([f'<section><h2 id="{self.name}">elf::{self.name}</h2>{front}{also}', *own, "</section>"])
 
 
 def made() -> tuple[str, list[str]]:
     """The page, and what is wrong with it."""
     page = Page()
-    text = whole(page)
+    text = page.whole()
     ids = collections.Counter(re.findall(r' id="([^"]+)"', text))
-    wrong = [f"{anchor} is in the page {counted(ids[anchor], 'time')}" for anchor in sorted(set(page.anchors.values())) if ids[anchor] != 1]
+    wrong = [f"{anchor} is in the page {ids[anchor]} times" for anchor in sorted(set(page.anchors.values())) if ids[anchor] != 1]
     leads = set(re.findall(r' href="#([^"]+)"', text))
     return text, [*page.faults, *wrong, *(f"{anchor} is nowhere in the page" for anchor in sorted(leads - set(ids)))]
 
