@@ -18,13 +18,14 @@ Named = tuple[str, bytes]
 
 @dataclass
 class Case:
-    """The words, the files they need (a place, `=` and the file's name, or a folder), and the answer."""
+    """The words, the files they need (a place, `=` and the file's name, or a folder), the answer, and what another test needs of it."""
 
     words: list[str]
     needs: list[str]
     status: int = 0
     out: bytes = b""
     err: bytes = b""
+    note: str = ""
 
 
 @dataclass
@@ -67,6 +68,8 @@ def cases_of(path: str) -> Cases:
                 found.cases[-1].out += line[2:].encode() + b"\n"
             elif line.startswith("! "):
                 found.cases[-1].err += line[2:].encode() + b"\n"
+            elif line.startswith("? "):
+                found.cases[-1].note = line[2:]
             elif line.startswith("= "):
                 found.cases[-1].out = bytes(found.files[line[2:]])
     return found
