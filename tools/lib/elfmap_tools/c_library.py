@@ -274,15 +274,9 @@ def laws(tally: Tally, options: Namespace) -> None:
 
 BOTH = crates_of(VERDICTS, ENGINES)
 TOOLS = ("cc", "c++", "clang", "nm", "objcopy", SANITIZERS)
+COPIES = (number("count", 20000, "so many copies"), number("seed", 1, "the same seed makes the same copies"))
+ABOUT = "bytes of files changed; what the library for C says of each copy agrees with itself (bindings/c/laws.c)"
 TESTS = [
     Test("c-library", "the libraries for C, and the header, by cc and by clang with its checks", c_library, TOOLS, BOTH),
-    Test(
-        "laws",
-        "bytes of files changed; what the library for C says of each copy agrees with itself (bindings/c/laws.c)",
-        laws,
-        ("cc", "ar", "objcopy"),
-        BOTH,
-        alone=True,
-        options=(number("count", 20000, "so many copies"), number("seed", 1, "the same seed makes the same copies")),
-    ),
+    Test("laws", ABOUT, laws, ("cc", "ar", "objcopy"), BOTH, True, options=COPIES),
 ]

@@ -9,7 +9,7 @@ from dataclasses import dataclass, field
 from .building import output_of
 from .making import SPOKEN_OF, Chance, a_file, an_object, an_object_file, mutant, one_thing_wrong
 from .reference import File, check, entries_of, laid, link_refusal, linked, mapped, object_verdict, rewritten, shown, table_verdict, verdict
-from .suite import Tally, Test, crates_of, number
+from .suite import Option, Tally, Test, crates_of, number
 from .tree import PROGRAM, TOP, run, write
 
 Needs = list[tuple[str, str]]
@@ -347,22 +347,12 @@ def make_cases(tally: Tally, options: Namespace) -> None:
 
 
 IN = {"dest": "folder", "metavar": "FOLDER"}
+COUNTED = number("count", COUNT, "cases of each kind")
+SEEDED: Option = ("--seed", {"default": SEED, "help": "the same seed makes the same cases"})
+FROM: Option = ("--in", {"dest": "folder", "metavar": "FOLDER", "default": f"{TOP}/cases", "help": "another folder of cases"})
+INTO: Option = ("--in", {"dest": "folder", "metavar": "FOLDER", "help": "write them there"})
+PROGRAMS = crates_of("elfmap", "elfmap_check")
 TESTS = [
-    Test(
-        "cases",
-        "the program on the cases of cases/*.txt: status, standard output and standard error",
-        try_cases,
-        crates=crates_of("elfmap", "elfmap_check"),
-        options=(("--in", {**IN, "default": f"{TOP}/cases", "help": "another folder of cases"}),),
-    ),
-    Test(
-        "make-cases",
-        "the generated cases are what the generator makes, byte for byte; with a folder it writes them there",
-        make_cases,
-        options=(
-            ("--in", {**IN, "help": "where to write them"}),
-            number("count", COUNT, "cases of each kind"),
-            ("--seed", {"default": SEED, "help": "the same seed makes the same cases"}),
-        ),
-    ),
+    Test("cases", "the program answers the cases of cases/*.txt", try_cases, crates=PROGRAMS, options=(FROM,)),
+    Test("make-cases", "the generated cases are what the generator makes, byte for byte", make_cases, options=(INTO, COUNTED, SEEDED)),
 ]

@@ -93,14 +93,6 @@ def changed_files(tally: Tally, options: Namespace) -> None:
             tally.count(count, wrong)
 
 
-TESTS = [
-    Test(
-        "changed-files",
-        "each one-byte change of an object, beside the reference implementation",
-        changed_files,
-        crates=crates_of("elfmap", "tests_calls"),
-        alone=True,
-        family="fuzz",
-        options=(flag("all", "of two more objects too: 390,000 files"),),
-    )
-]
+ABOUT, CRATES = "each one-byte change of an object, beside the reference implementation", crates_of("elfmap", "tests_calls")
+ALL = flag("all", "of two more objects too: 390,000 files")
+TESTS = [Test("changed-files", ABOUT, changed_files, (), CRATES, True, "fuzz", (ALL,))]

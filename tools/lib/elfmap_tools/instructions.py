@@ -130,13 +130,5 @@ def instructions(tally: Tally, options: Namespace) -> None:
     tally.note(f"{sum(count for count, _ in counts.values()):,} in {len(counts)} rows")
 
 
-TESTS = [
-    Test(
-        "instructions",
-        "the instructions of each command, beside the stored numbers",
-        instructions,
-        ("valgrind",),
-        crates_of("elfmap"),
-        options=(flag("store", "store the new numbers"),),
-    )
-]
+ABOUT, STORE = "the instructions of each command, beside the stored numbers", flag("store", "store the new numbers")
+TESTS = [Test("instructions", ABOUT, instructions, ("valgrind",), crates_of("elfmap"), options=(STORE,))]

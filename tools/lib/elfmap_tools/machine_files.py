@@ -216,23 +216,11 @@ def real_objects(tally: Tally, options: Namespace) -> None:
         tally.count(len(WAYS), linked(folder))
 
 
-OPTIONS = flag("all", "all of this machine")
+ROUNDTRIP, ELFMAP = crates_of("elfmap", "example_roundtrip"), crates_of("elfmap")
+TOOLS = ("gcc", "g++", "clang", "readelf", "eu-elflint")
+FILES, OBJECTS = ((number("count", it, "so many of them"), flag("all", "all of this machine")) for it in (2000, 4000))
+ABOUT = "objects of this machine and its compilers through `rewrite`, beside readelf and eu-elflint"
 TESTS = [
-    Test(
-        "real-files",
-        "ELF files of this machine through `check`, `show` and example_roundtrip, which has to give each back",
-        real_files,
-        crates=crates_of("elfmap", "example_roundtrip"),
-        alone=True,
-        options=(number("count", 2000, "so many files"), OPTIONS),
-    ),
-    Test(
-        "real-objects",
-        "objects of this machine, and of its compilers, through `rewrite`, beside readelf and eu-elflint",
-        real_objects,
-        ("gcc", "g++", "clang", "readelf", "eu-elflint"),
-        crates_of("elfmap"),
-        alone=True,
-        options=(number("count", 4000, "so many objects"), OPTIONS),
-    ),
+    Test("real-files", "ELF files of this machine through `check`, `show` and back", real_files, (), ROUNDTRIP, True, options=FILES),
+    Test("real-objects", ABOUT, real_objects, TOOLS, ELFMAP, True, options=OBJECTS),
 ]

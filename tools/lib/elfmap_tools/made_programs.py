@@ -241,14 +241,7 @@ def made_programs(tally: Tally, options: Namespace) -> None:
         tally.note("the programs do not run on this machine")
 
 
+OPTIONS = (number("count", 100, "so many programs"), number("seed", 1, "the same seed makes the same programs"))
 TESTS = [
-    Test(
-        "made-programs",
-        "programs of chance objects, linked and run",
-        made_programs,
-        crates=crates_of("elfmap"),
-        alone=True,
-        family="linked",
-        options=(number("count", 100, "so many programs"), number("seed", 1, "the same seed makes the same programs")),
-    )
+    Test("made-programs", "programs of chance objects, linked and run", made_programs, (), crates_of("elfmap"), True, "linked", OPTIONS)
 ]

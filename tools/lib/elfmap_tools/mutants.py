@@ -153,8 +153,8 @@ def wrong_with(path: str) -> str:
 
 
 # Bases and pages; the last pair breaks rule 1.
-OPTIONS = [("0x400000", "0x1000"), ("65536", "1"), ("0", "1"), ("0x80000000", "16"), ("0x7ffff000", "0x1000")]
-OPTIONS += [("0xffffffffffff0000", "4096"), ("0x1001", "0x1000")]
+PLACES = [("0x400000", "0x1000"), ("65536", "1"), ("0", "1"), ("0x80000000", "16"), ("0x7ffff000", "0x1000")]
+PLACES += [("0xffffffffffff0000", "4096"), ("0x1001", "0x1000")]
 ENTRIES = ("caller", "counted", "half", "once", "absent", "nowhere")
 RULE = re.compile(rb"[0-9]+ (abs|pc|none) [1248] (signed|unsigned|wrap)")
 
@@ -176,7 +176,7 @@ def wrong_link(paths: list[str], folder: str, chance: Chance) -> str:
     """What is wrong with the answers on the link of files."""
     rules = mutant_of_rules(read_bytes(RULES), chance)
     write(f"{folder}/rules", rules)
-    base, page = chance.choice(OPTIONS)
+    base, page = chance.choice(PLACES)
     words = ("map", "--base", base, "--page", page)
     missing = chance.randrange(40) == 0
     files = paths + [f"{folder}/missing"] * missing
@@ -221,15 +221,7 @@ def mutants(tally: Tally, options: Namespace) -> None:
         shutil.rmtree(folder)
 
 
-TESTS = [
-    Test(
-        "mutants",
-        "files and links with fields changed, beside the reference implementation",
-        mutants,
-        ("gcc", "g++", "clang", "ld.lld", "rustc", "as"),
-        crates_of("elfmap"),
-        alone=True,
-        family="fuzz",
-        options=(number("count", 500, "so many mutants"), number("seed", 1, "the same seed makes the same mutants")),
-    )
-]
+COMPILERS, CRATES = ("gcc", "g++", "clang", "ld.lld", "rustc", "as"), crates_of("elfmap")
+OPTIONS = (number("count", 500, "so many mutants"), number("seed", 1, "the same seed makes the same mutants"))
+ABOUT = "files and links with fields changed, beside the reference implementation"
+TESTS = [Test("mutants", ABOUT, mutants, COMPILERS, CRATES, True, "fuzz", OPTIONS)]

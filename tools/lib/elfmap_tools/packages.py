@@ -1,44 +1,21 @@
 """The commands that tests start, the Debian packages that have them, and `tools/test setup`, which installs those that are missing."""
 
-import os, re, shutil, subprocess, sys
+import glob, os, re, shutil, subprocess, sys
 from collections.abc import Iterable
 
 from .tree import run
 
 KLIBC = "/usr/lib/klibc/lib/libc.a"
-SANITIZERS = "/usr/lib/llvm-14/lib/clang/14.0.6/lib/linux/libclang_rt.asan-x86_64.a"
-# The package of each command; a path is a file that has to be there.
-PACKAGES = {
-    "ar": "binutils",
-    "as": "binutils",
-    "black": "black",
-    "c++": "g++",
-    "cargo": "cargo-web",
-    "cc": "gcc",
-    "chromium": "chromium",
-    "clang": "clang",
-    "eu-elflint": "elfutils",
-    "g++": "g++",
-    "gcc": "gcc",
-    "git": "git",
-    "groff": "groff",
-    "ld": "binutils",
-    "ld.lld": "lld",
-    "llvm-objcopy": "llvm",
-    "man": "man-db",
-    "mypy": "mypy",
-    "nm": "binutils",
-    "node": "nodejs",
-    "objcopy": "binutils",
-    "pkg-config": "pkg-config",
-    "readelf": "binutils",
-    "rustc": "rustc-web",
-    "valgrind": "valgrind",
-    "wasm-opt": "binaryen",
-    KLIBC: "libklibc-dev",
-    # Debian's clang brings its checks of addresses and of undefined behavior only as a recommended package.
-    SANITIZERS: "libclang-rt-14-dev",
-}
+# Debian's clang brings its checks of addresses and of undefined behavior only as a recommended package.
+SANITIZERS = "/usr/lib/llvm-*/lib/clang/*/lib/linux/libclang_rt.asan-x86_64.a"
+# The commands of each package, by their first words, or a file that has to be there.
+COMMANDS = {
+    "binutils": "ar as ld nm objcopy readelf", "binaryen": "wasm-opt", "black": "black", "cargo-web": "cargo", "chromium": "chromium",
+    "clang": "clang", "elfutils": "eu-elflint", "g++": "c++ g++", "gcc": "cc gcc", "git": "git", "groff": "groff",
+    "libclang-rt-14-dev": SANITIZERS, "libklibc-dev": KLIBC, "lld": "ld.lld", "llvm": "llvm-objcopy", "man-db": "man", "mypy": "mypy",
+    "nodejs": "node", "pkg-config": "pkg-config", "rustc-web": "rustc", "valgrind": "valgrind",
+}  # fmt: skip
+PACKAGES = {command: package for package, commands in COMMANDS.items() for command in commands.split()}
 # The machines of rules/, by the names of qemu's program and of the compiler.
 MACHINES = {"aarch64": "aarch64", "riscv64": "riscv64", "s390x": "s390x", "ppc64": "powerpc64"}
 for qemu, target in MACHINES.items():
@@ -51,7 +28,7 @@ LEAST = {"cargo": (1, 85)}
 def is_there(command: str) -> bool:
     """Whether a command, or a file, is on this machine, and not too old."""
     if command.startswith("/"):
-        return os.path.exists(command)
+        return bool(glob.glob(command))
     if not shutil.which(command) or command not in LEAST:
         return shutil.which(command) is not None
     version = re.search(rb"(\d+)\.(\d+)", run(command, "--version").stdout)

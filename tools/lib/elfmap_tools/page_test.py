@@ -259,14 +259,5 @@ def try_page(tally: Tally, options: Namespace) -> None:
         in_chromium(tally, room)
 
 
-TESTS = [
-    Test(
-        "page",
-        "the page for a browser, in node beside `elfmap show`, and in chromium",
-        try_page,
-        ("node", "wasm-opt", "chromium", "cc"),
-        crates_of("elfmap", CRATE),
-        alone=True,
-        options=(number("count", 3000, "so many changed files"),),
-    )
-]
+ABOUT, TOOLS = "the page for a browser, in node beside `elfmap show`, and in chromium", ("node", "wasm-opt", "chromium", "cc")
+TESTS = [Test("page", ABOUT, try_page, TOOLS, crates_of("elfmap", CRATE), True, "", (number("count", 3000, "so many changed files"),))]
