@@ -71,183 +71,169 @@ def in_node(tally: Tally, room: str, count: int) -> None:
         tally.check(own == lines, f"{path}: {[pair for pair in zip(own, lines) if pair[0] != pair[1]][:2] or (len(own), len(lines))}")
 
 
-# ---- In chromium
+# ---- in chromium
 
 SYMBOLS = 1_000_000
 MOST_MILLISECONDS = 200
+SOUND = "Sound: this file keeps all 33 rules of an ELF-64 file."
+ROWS = "[...document.querySelectorAll('#table tbody tr')]"
+# What the tree for readers of the screen has: a role and a name.
+READ = (
+    "heading Verdict, heading Map of the file, heading Tables, heading Bytes, tablist Kinds of tables, searchbox Filter, columnheader name"
+)
+SOURCE = 'int limit = 3; int work(int); const char *name(void) { return "answer"; } int answer(int x) { return x < limit ? work(x) : 42; }'
 
 
-def show(browser: Browser, path: str, is_dropped: bool = False) -> bool:
-    """Opens a file in the page, and waits until it is shown: whether it is."""
-    before = browser.value("document.body.dataset.ready ?? '0'")
-    browser.drop(path) if is_dropped else browser.choose("#chosen", path)
-    return browser.wait(f"(document.body.dataset.ready ?? '0') !== '{before}'")
+class InChromium:
+    """The page in a browser."""
 
+    def __init__(self, tally: Tally, browser: Browser, room: str) -> None:
+        self.check, self.note, self.room = tally.check, tally.note, room
+        self.browser, self.text, self.value, self.click, self.wait = browser, browser.text, browser.value, browser.click, browser.wait
 
-def sound_file(tally: Tally, browser: Browser, path: str) -> None:
-    tally.check(show(browser, path), f"{path} is not shown")
-    tally.check(browser.text("#verdict") == "Sound: this file keeps all 33 rules of an ELF-64 file.", f"{path}: {browser.text('#verdict')}")
-    lines = said(PROGRAM, "show", path).stdout.splitlines()
-    parts = sum(it.startswith("part ") for it in lines)
-    tally.check(f"{parts} parts." in browser.text("#map-words"), f"{path} has {parts} parts: {browser.text('#map-words')}")
-    sections = [it.split()[-1] for it in lines if it.startswith("section ")]
-    rows = browser.value("[...document.querySelectorAll('#table tbody tr')].map((it) => it.children[1].textContent)")
-    tally.check(rows == [{"-": "(no name)"}.get(it, it) for it in sections[:100]], f"{path} has the sections {sections}: {rows}")
-    tally.check(
-        browser.text("#bytes tbody tr td").startswith("7f 45 4c 46 02"), f"the bytes of {path}: {browser.text('#bytes tbody tr td')}"
-    )
+    def waits(self, expression: str, why: str) -> None:
+        self.check(self.wait(expression), why)
 
-
-def links(tally: Tally, browser: Browser) -> None:
-    """A relocation leads to its symbol, a symbol to its section, a section to its bytes."""
-    browser.click("#tab-relocations")
-    browser.wait("document.querySelector('#table-words').textContent.startsWith('Relocations')")
-    name = browser.text("#table tbody tr td:nth-child(4)").split(" ", 1)
-    browser.click("#table tbody tr td:nth-child(4) a")
-    tally.check(
-        browser.wait("document.querySelector('tr.shown') && document.querySelector('#tab-symbols').ariaSelected === 'true'"),
-        "no symbol is shown",
-    )
-    tally.check(browser.text("tr.shown td") == name[0], f"the relocation's symbol is {name}, and {browser.text('tr.shown')} is shown")
-    row = browser.value("[...document.querySelectorAll('#table tbody tr')].findIndex((it) => it.children[6].querySelector('a'))") + 1
-    place = browser.text(f"#table tbody tr:nth-child({row}) td:nth-child(7)").split()[0]
-    browser.click(f"#table tbody tr:nth-child({row}) td:nth-child(7) a")
-    tally.check(browser.wait(f"document.querySelector('tr.shown td')?.textContent === '{place}'"), f"section {place} is not shown")
-    browser.click("tr.shown td a")
-    tally.check(browser.wait("document.querySelector('#bytes mark')"), "the bytes of the section are not marked")
-
-
-def filtered(tally: Tally, browser: Browser) -> None:
-    browser.click("#tab-symbols")
-    browser.wait("document.querySelector('#table-words').textContent.startsWith('Symbols')")
-    browser.value("document.querySelector('#filter').value = 'global'; document.querySelector('#filter').dispatchEvent(new Event('input'))")
-    tally.check(browser.wait("document.querySelector('#table-words').textContent.includes('found among')"), "nothing is found")
-    bindings = browser.value("[...document.querySelectorAll('#table tbody tr')].map((it) => it.children[5].textContent)")
-    tally.check(bindings and set(bindings) == {"GLOBAL"}, f"the filter finds {bindings}")
-
-
-def by_keys(tally: Tally, browser: Browser) -> None:
-    """To the map, along it, into a part and out again, without a mouse."""
-    browser.value("document.querySelector('#chosen').focus()")
-    browser.press("Tab")
-    tally.check(browser.value("document.activeElement.parentElement.id") == "map", "the tabulator does not lead to the map")
-    browser.press("ArrowRight")
-    told = browser.text("#map-words")
-    tally.check(told == browser.value("document.activeElement.ariaLabel"), f"the arrow leads to a part of which is told: {told}")
-    browser.press("Enter")
-    tally.check(browser.wait("document.querySelector('#map [aria-current=true]')"), "the part is not chosen")
-    before = browser.text("#map-scale")
-    browser.click("#zoom-in")
-    tally.check(browser.wait(f"document.querySelector('#map-scale').textContent !== '{before}'"), "there is no zoom")
-    browser.value("document.querySelector('#map button').focus()")
-    browser.press("Escape")
-    browser.press("Escape")
-    browser.click("#zoom-whole")
-    tally.check(browser.wait(f"document.querySelector('#map-scale').textContent === '{before}'"), "there is no way back")
-
-
-def for_readers(tally: Tally, browser: Browser) -> None:
-    """What a reader of the screen is told."""
-    tree = browser.tree()
-    for role, name in (
-        ("heading", "Verdict"),
-        ("heading", "Map of the file"),
-        ("heading", "Tables"),
-        ("heading", "Bytes"),
-        ("tablist", "Kinds of tables"),
-        ("group", "The parts of the file, to scale"),
-        ("searchbox", "Filter"),
-        ("columnheader", "name"),
-    ):
-        tally.check((role, name) in tree, f"the tree has no {role} {name}")
-    nameless = [it for it in tree if it[0] in ("button", "tab", "link", "textbox", "searchbox", "combobox") and not it[1]]
-    tally.check(not nameless, f"the tree has {len(nameless)} things to press without a name: {nameless[:3]}")
-
-
-def on_screens(tally: Tally, browser: Browser) -> None:
-    """The colours of the map are seen, light and dark; and a screen of 360 points is wide enough."""
-    for dark in (False, True):
-        seen = colours(browser.screen(1200, 1000, dark))
-        for colour in ("6b7689", "c0504d", "4f81bd"):
-            tally.check(seen.get(bytes.fromhex(colour), 0) > 100, f"the colour {colour} is not seen, dark: {dark}")
-        ground = max(seen, key=seen.__getitem__)
-        tally.check((sum(ground) < 200) == dark, f"the ground is {ground.hex()}, dark: {dark}")
-    browser.screen(360, 800)
-    tally.check(browser.value("document.documentElement.scrollWidth") <= 360, "a screen of 360 points is too small")
-    browser.screen(1200, 1000)
-
-
-def refused_files(tally: Tally, browser: Browser, room: str, path: str) -> None:
-    content = read_bytes(path)
-    for name, made, rule, words in (
-        ("magic", b"\0" + content[1:], 3, "7f"),
-        ("empty", b"", 2, None),
-        ("size", content[:52] + b"\x3f" + content[53:], None, "e_ehsize"),
-        ("picture", b"<svg xmlns='http://www.w3.org/2000/svg'/>" * 4, 3, None),
-    ):
-        file = write(f"{room}/{name}", made)
-        refused = said(PROGRAM, "check", file).stdout.split()
-        tally.check(show(browser, file, is_dropped=True), f"{name} is not shown")
-        verdict = browser.text("#verdict")
-        tally.check(
-            verdict.startswith(f"Refused by rule {refused[1]}, ") and f" at {int(refused[2]):#x}: " in verdict,
-            f"{name}: {verdict}, and check says {refused}",
+    def opens(self, tab: str, words: str) -> None:
+        """Chooses a tab, and waits until its table is there."""
+        self.click(f"#tab-{tab}")
+        self.waits(
+            f"document.querySelector('#table-words').textContent.startsWith('{words}')", f"the tab {tab}: {self.text('#table-words')}"
         )
-        tally.check(rule in (None, int(refused[1])), f"{name} breaks rule {refused[1]}")
-        tally.check(
-            not words
-            or words in browser.text("#advice") + browser.value("document.querySelector('#bytes mark')?.textContent ?? ''")
-            or words == "7f",
-            f"{name}: {browser.text('#advice')}",
+
+    def show(self, path: str, is_dropped: bool = False) -> None:
+        """Opens a file in the page, and waits until it is shown."""
+        before = self.value("document.body.dataset.ready ?? '0'")
+        self.browser.drop(path) if is_dropped else self.browser.choose("#chosen", path)
+        self.waits(f"(document.body.dataset.ready ?? '0') !== '{before}'", f"{path} is not shown")
+
+    def sound_file(self, path: str) -> None:
+        self.show(path)
+        self.check(self.text("#verdict") == SOUND, f"{path}: {self.text('#verdict')}")
+        lines = said(PROGRAM, "show", path).stdout.splitlines()
+        parts = sum(it.startswith("part ") for it in lines)
+        self.check(f"{parts} parts." in self.text("#map-words"), f"{path} has {parts} parts: {self.text('#map-words')}")
+        sections = [it.split()[-1] for it in lines if it.startswith("section ")]
+        rows = self.value(f"{ROWS}.map((it) => it.children[1].textContent)")
+        self.check(rows == [{"-": "(no name)"}.get(it, it) for it in sections[:100]], f"{path} has the sections {sections}: {rows}")
+        front = self.text("#bytes tbody tr td")
+        self.check(front.startswith("7f 45 4c 46 02"), f"the bytes of {path}: {front}")
+
+    def links(self) -> None:
+        """A relocation leads to its symbol, a symbol to its section, a section to its bytes."""
+        self.opens("relocations", "Relocations")
+        name = self.text("#table tbody tr td:nth-child(4)").split(" ", 1)
+        self.click("#table tbody tr td:nth-child(4) a")
+        selected = "document.querySelector('#tab-symbols').ariaSelected === 'true'"
+        self.waits(f"document.querySelector('tr.shown') && {selected}", "no symbol is shown")
+        self.check(self.text("tr.shown td") == name[0], f"the relocation's symbol is {name}, and {self.text('tr.shown')} is shown")
+        row = self.value(f"{ROWS}.findIndex((it) => it.children[6].querySelector('a'))") + 1
+        place = self.text(f"#table tbody tr:nth-child({row}) td:nth-child(7)").split()[0]
+        self.click(f"#table tbody tr:nth-child({row}) td:nth-child(7) a")
+        self.waits(f"document.querySelector('tr.shown td')?.textContent === '{place}'", f"section {place} is not shown")
+        self.click("tr.shown td a")
+        self.waits("document.querySelector('#bytes mark')", "the bytes of the section are not marked")
+
+    def filtered(self) -> None:
+        self.opens("symbols", "Symbols")
+        self.value(
+            "document.querySelector('#filter').value = 'global'; document.querySelector('#filter').dispatchEvent(new Event('input'))"
         )
-        # As digits and as letters.
-        marks = browser.value("document.querySelectorAll('#bytes mark').length")
-        tally.check(marks == (2 if made else 0), f"{name}: {marks} marks, and one field")
+        self.waits("document.querySelector('#table-words').textContent.includes('found among')", "nothing is found")
+        bindings = self.value(f"{ROWS}.map((it) => it.children[5].textContent)")
+        self.check(bindings and set(bindings) == {"GLOBAL"}, f"the filter finds {bindings}")
 
+    def by_keys(self) -> None:
+        """To the map, along it, into a part and out again, without a mouse."""
+        press = self.browser.press
+        self.value("document.querySelector('#chosen').focus()")
+        press("Tab")
+        self.check(self.value("document.activeElement.parentElement.id") == "map", "the tabulator does not lead to the map")
+        press("ArrowRight")
+        label, words = self.value("document.activeElement.ariaLabel"), self.text("#map-words")
+        self.check(words == label, f"the arrow leads to {label}, and the words are {words}")
+        press("Enter")
+        self.waits("document.querySelector('#map [aria-current=true]')", "the part is not chosen")
+        scale, before = "document.querySelector('#map-scale').textContent", self.text("#map-scale")
+        self.click("#zoom-in")
+        self.waits(f"{scale} !== '{before}'", "there is no zoom")
+        self.value("document.querySelector('#map button').focus()")
+        press("Escape")
+        press("Escape")
+        self.click("#zoom-whole")
+        self.waits(f"{scale} === '{before}'", "there is no way back")
 
-def folder_and_text(tally: Tally, browser: Browser, room: str) -> None:
-    os.mkdir(f"{room}/folder")
-    browser.drop(f"{room}/folder")
-    tally.check(browser.wait("/folder/.test(document.querySelector('#said').textContent)"), f"of a folder is said: {browser.text('#said')}")
+    def for_readers(self) -> None:
+        """What a reader of the screen is told."""
+        tree = self.browser.tree()
+        wanted = [(role, name) for role, _, name in (it.partition(" ") for it in READ.split(", "))]
+        missing = {*wanted, ("group", "The parts of the file, to scale")} - {*tree}
+        self.check(not missing, f"the tree has no {missing}")
+        nameless = [it for it in tree if it[0] in ("button", "tab", "link", "textbox", "searchbox", "combobox") and not it[1]]
+        self.check(not nameless, f"the tree has {len(nameless)} things to press without a name: {nameless[:3]}")
 
+    def on_screens(self) -> None:
+        """The colours of the map are seen, light and dark; and a screen of 360 points is wide enough."""
+        for dark in (False, True):
+            seen = colours(self.browser.screen(1200, 1000, dark))
+            for colour in ("6b7689", "c0504d", "4f81bd"):
+                self.check(seen.get(bytes.fromhex(colour), 0) > 100, f"the colour {colour} is not seen, dark: {dark}")
+            ground = max(seen, key=seen.__getitem__)
+            self.check((sum(ground) < 200) == dark, f"the ground is {ground.hex()}, dark: {dark}")
+        self.browser.screen(360, 800)
+        self.check(self.value("document.documentElement.scrollWidth") <= 360, "a screen of 360 points is too small")
+        self.browser.screen(1200, 1000)
 
-def million(tally: Tally, browser: Browser, room: str) -> None:
-    write(f"{room}/million.s", "".join(f".globl name_{k}\nname_{k}={k}\n" for k in range(SYMBOLS)))
-    made = said("cc", "-c", f"{room}/million.s", "-o", f"{room}/million.o")
-    if not tally.check(made.returncode == 0, f"the object is not made: {made.stdout[:200]}"):
-        return
-    tally.check(show(browser, f"{room}/million.o"), "the object of a million symbols is not shown")
-    took = float(browser.value("document.body.dataset.took"))
-    tally.note(f"an object of {SYMBOLS:,} symbols, {os.path.getsize(f'{room}/million.o') / 2**20:.0f} MiB, was judged in {took:.1f} ms")
-    tally.check(took < MOST_MILLISECONDS, f"that took {took} ms")
-    browser.click("#tab-symbols")
-    tally.check(
-        browser.wait("document.querySelector('#table-words').textContent.startsWith('Symbols 1 to 100 of 1,000,')"),
-        f"{browser.text('#table-words')}",
-    )
+    def refused_files(self, path: str) -> None:
+        content = read_bytes(path)
+        size = content[:52] + b"\x3f" + content[53:]
+        files = {"magic": b"\0" + content[1:], "empty": b"", "size": size, "picture": b"<svg xmlns='http://www.w3.org/2000/svg'/>" * 4}
+        for name, made in files.items():
+            file = write(f"{self.room}/{name}", made)
+            _, rule, at = said(PROGRAM, "check", file).stdout.split()
+            self.show(file, is_dropped=True)
+            verdict = self.text("#verdict")
+            is_said = verdict.startswith(f"Refused by rule {rule}, ") and f" at {int(at):#x}: " in verdict
+            self.check(is_said, f"{name}: {verdict}, and check says {rule} {at}")
+            self.check(rule == {"magic": "3", "empty": "2", "picture": "3"}.get(name, rule), f"{name} breaks rule {rule}")
+            mark = self.value("document.querySelector('#bytes mark')?.textContent ?? ''")
+            self.check(name != "size" or "e_ehsize" in self.text("#advice") + mark, f"{name}: {self.text('#advice')}")
+            # As digits and as letters.
+            marks = self.value("document.querySelectorAll('#bytes mark').length")
+            self.check(marks == (2 if made else 0), f"{name}: {marks} marks, and one field")
+
+    def folder(self) -> None:
+        os.mkdir(f"{self.room}/folder")
+        self.browser.drop(f"{self.room}/folder")
+        self.waits("/folder/.test(document.querySelector('#said').textContent)", f"of a folder is said: {self.text('#said')}")
+
+    def million(self) -> None:
+        path = f"{self.room}/million.o"
+        write(f"{self.room}/million.s", "".join(f".globl name_{k}\nname_{k}={k}\n" for k in range(SYMBOLS)))
+        made = said("cc", "-c", f"{self.room}/million.s", "-o", path)
+        if self.check(made.returncode == 0, f"the object is not made: {made.stdout[:200]}"):
+            self.show(path)
+            took = float(self.value("document.body.dataset.took"))
+            self.note(f"an object of {SYMBOLS:,} symbols, {os.path.getsize(path) / 2**20:.0f} MiB, was validated in {took:.1f} ms")
+            self.check(took < MOST_MILLISECONDS, f"that took {took} ms")
+            self.opens("symbols", "Symbols 1 to 100 of 1,000,")
 
 
 def in_chromium(tally: Tally, room: str) -> None:
-    html = write(f"{room}/elfmap.html", page())
-    source = write(
-        f"{room}/object.c",
-        b'int limit = 3; int work(int); const char *name(void) { return "answer"; } int answer(int x) { return x < limit ? work(x) : 42; }',
-    )
-    said("cc", "-c", "-O1", source, "-o", f"{room}/object.o")
+    html, file = write(f"{room}/elfmap.html", page()), f"{room}/object.o"
+    said("cc", "-c", "-O1", write(f"{room}/object.c", SOURCE), "-o", file)
     browser = Browser()
     try:
         browser.open(html)
-        sound_file(tally, browser, f"{room}/object.o")
-        links(tally, browser)
-        filtered(tally, browser)
-        by_keys(tally, browser)
-        for_readers(tally, browser)
-        on_screens(tally, browser)
-        sound_file(tally, browser, "/bin/true")
+        it = InChromium(tally, browser, room)
+        it.sound_file(file)
+        for part in (it.links, it.filtered, it.by_keys, it.for_readers, it.on_screens):
+            part()
+        it.sound_file("/bin/true")
         tally.check(not browser.value("document.querySelector('#memory-section').hidden"), "an executable has no bar by address")
-        refused_files(tally, browser, room, f"{room}/object.o")
-        folder_and_text(tally, browser, room)
-        million(tally, browser, room)
+        it.refused_files(file)
+        it.folder()
+        it.million()
         tally.check(not browser.messages, f"the console says {browser.messages[:3]}")
     finally:
         browser.close()
