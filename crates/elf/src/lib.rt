@@ -11,16 +11,15 @@
 //! | [`exec`] | the executable of a link |
 //! | [`tool`] | the program `elfmap`, over any readers and writers |
 //!
-//! Six things that people do with it, each a program of 40 to 70 lines, in a crate of its name:
+//! Five things that people do with it, each a program of 40 to 70 lines, in a crate of its name:
 //!
 //! | program | what it shows |
 //! |---|---|
 //! | `example_symbols FILE` | reading a file, judging it, and listing the symbols of its tables |
 //! | `example_make` | making an object from nothing, reading it back from its file, and writing its canonical layout |
-//! | `example_edit FILE SECTION FLAGS` | zeroing the gaps of a file, setting the flags of a section, and writing the image |
+//! | `example_edit FILE [SECTION FLAGS]` | parsing a file, and writing its image: the same bytes, or those of its edits |
 //! | `example_link A B` | linking two objects, relocating their bytes, writing the executable, and asking it for a byte of memory |
 //! | `example_copy FILE SECTION FLAGS` | copying a file with an edit by a source of its own, without its contents in memory |
-//! | `example_roundtrip FILE` | parsing a file, and writing its image: the same bytes |
 //!
 //! ```
 //! use elf::image::{parse, verdict};

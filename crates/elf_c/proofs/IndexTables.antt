@@ -13,8 +13,8 @@ use Rattle.elf_table_symbols.specs.Sections.{Sections, count, section, sections_
 use Rattle.elf_table_symbols.specs.Below.{Below}
 use Rattle.elf_table_symbols.specs.IndexTable.{IsIndexTable, index_table}
 use Rattle.elf_table_symbols.proofs.Public.{lowest_position}
-use Rattle.elf_c_room.specs.Room.{extent_in}
-use Rattle.elf_c_room.specs.declared.room.Slot.{Slot}
+use Rattle.elf_c_parts.specs.Room.{extent_in}
+use Rattle.elf_c_parts.specs.declared.room.Slot.{Slot}
 use Rattle.elf_c.specs.Files.{IsFileOf}
 use Rattle.elf_c.specs.Tables.{index_place, no_place}
 use Rattle.elf_c.specs.declared.shapes.File.{File}

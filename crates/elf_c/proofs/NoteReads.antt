@@ -17,7 +17,7 @@ use Rattle.elf_table_symbols.specs.Sections.{content, order, sections_in}
 use Rattle.elf_table_lists.specs.NoteRules.{note_rules, note_section_rules}
 use Rattle.elf_table_lists.specs.Notes.{AreNotesWhole, NoteValue, desc_start, descsz, name_start, namesz, note_at, note_end, note_offset, notes_in, notes_of, padded}
 use Rattle.elf_table_lists.proofs.Public.{note_entry}
-use Rattle.elf_c_room.specs.declared.room.Slot.{Slot}
+use Rattle.elf_c_parts.specs.declared.room.Slot.{Slot}
 use Rattle.elf_c.specs.Entries.{no_note_value}
 use Rattle.elf_c.specs.Files.{order_named}
 use Rattle.elf_c.specs.Places.{NoteStandsAt}

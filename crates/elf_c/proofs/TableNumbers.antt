@@ -18,8 +18,8 @@ use Rattle.elf_table_symbols.specs.SymbolParts.{symbol_parts}
 use Rattle.elf_table_symbols.specs.SymbolRules.{word}
 use Rattle.elf_table_symbols.specs.Symbols.{symbols_of}
 use Rattle.elf_table_symbols.proofs.Public.{length_symbols}
-use Rattle.elf_c_room.specs.Room.{extent_in}
-use Rattle.elf_c_room.specs.declared.room.Slot.{Slot}
+use Rattle.elf_c_parts.specs.Room.{extent_in}
+use Rattle.elf_c_parts.specs.declared.room.Slot.{Slot}
 use Rattle.elf_c.specs.Files.{IsFileOf, order_named}
 use Rattle.elf_c.specs.Lengths.{length_in}
 use Rattle.elf_c.specs.Tables.{HoldsTable, IsLinkThere, content_place, length_of_table, linked_place, slot_bytes, strings_place, table_in}

@@ -7,7 +7,7 @@ use Rattle.elf_field.specs.declared.order.Order.{Order}
 use Rattle.elf_image_rules.specs.Tables.{bytes_in, content_extent, file_counts, header, sections}
 use Rattle.elf_image_type.specs.Strings.{string}
 use Rattle.elf_table_lists.specs.Notes.{desc_start, descsz, name_start, namesz}
-use Rattle.elf_c_room.specs.declared.room.Slot.{Slot}
+use Rattle.elf_c_parts.specs.declared.room.Slot.{Slot}
 use Rattle.elf_c.specs.Tables.{no_place}
 use Rattle.elf_c.specs.declared.shapes.Note.{Note}
 

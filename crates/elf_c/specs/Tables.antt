@@ -16,8 +16,8 @@ use Rattle.elf_table_lists.specs.Notes.{notes_of}
 use Rattle.elf_table_lists.specs.Relocations.{relocations_of}
 use Rattle.elf_table_symbols.specs.IndexTable.{index_table}
 use Rattle.elf_table_symbols.specs.Symbols.{symbols_of}
-use Rattle.elf_c_room.specs.Room.{extent_in}
-use Rattle.elf_c_room.specs.declared.room.Slot.{Slot}
+use Rattle.elf_c_parts.specs.Room.{extent_in}
+use Rattle.elf_c_parts.specs.declared.room.Slot.{Slot}
 use Rattle.elf_c.specs.declared.shapes.Table.{Table}
 
 -- the bytes that stand in a place, as far as they lie in the file

@@ -12,7 +12,7 @@ ghost use Rattle.elf_table_lists.specs.Relocations.{no_relocation_entry, relocat
 ghost use Rattle.elf_table_symbols.specs.SymbolRules.{entry as entry_of};
 ghost use Rattle.elf_table_symbols.specs.Symbols.{symbol_entry_in, symbols_of};
 ghost use Rattle.elf_table_symbols.specs.SymbolView.{no_symbol_entry};
-ghost use Rattle.elf_c_room.specs.Room.{extent_in};
+ghost use Rattle.elf_c_parts.specs.Room.{extent_in};
 ghost use Rattle.elf_c.specs.Entries.{HasSymbol, dynamic_shape, relocation_shape, section_index, symbol_record, symbol_told};
 ghost use Rattle.elf_c.specs.Files.{order_named};
 ghost use Rattle.elf_c.specs.Places.{string_place};
@@ -22,7 +22,7 @@ use crate::names::place_of_string;
 use crate::places::{bytes_of, order_of};
 use crate::shapes::{DynamicEntry, Relocation, Symbol, Table, put};
 use crate::tables::is_of_kind;
-use elf_c_room::Slot;
+use elf_c_parts::Slot;
 use elf_field::Order;
 use elf_field::abi::{SHN_XINDEX, SHT_RELA, SYM_SIZE, WORD_SIZE};
 use elf_table_lists::{dynamic_entry, dynamic_entry_count, relocation_at, relocation_count};

@@ -3,14 +3,14 @@ ghost use Rattle.std.specs.Prelude.{◌≡◌, ◌<◌, ◌≤◌, ◌+◌, ◌�
 ghost use Rattle.std.specs.Bool.{OnFalse, OnTrue};
 ghost use Rattle.elf_image_rules.specs.Tables.{bytes_in, file_counts};
 ghost use Rattle.elf_image_type.specs.Strings.{string};
-ghost use Rattle.elf_c_room.specs.Room.{extent_in};
+ghost use Rattle.elf_c_parts.specs.Room.{extent_in};
 ghost use Rattle.elf_c.specs.Files.{HasName, IsFileOf, name_of_section};
 ghost use Rattle.elf_c.specs.Places.{name_place, string_place};
 ghost use Rattle.elf_c.specs.Tables.{slot_bytes};
 
 use crate::places::{NOWHERE, bytes_of, place_of_content, section_of};
 use crate::shapes::{File, put};
-use elf_c_room::Slot;
+use elf_c_parts::Slot;
 use elf_field::abi::SHT_NULL;
 use elf_image_type::strings::string_at;
 

@@ -12,7 +12,7 @@ ghost use Rattle.elf_c.specs.Tables.{IsTableOfKind, IsTableOf, slot_bytes};
 use crate::places::{bytes_of, order_of};
 use crate::shapes::{Note, Table, put};
 use crate::tables::is_of_kind;
-use elf_c_room::Slot;
+use elf_c_parts::Slot;
 use elf_field::abi::{N_TYPE_AT, NHDR_SIZE};
 use elf_field::{Order, get_at};
 use elf_table_lists::NoteHeader;

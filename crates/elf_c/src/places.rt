@@ -5,12 +5,12 @@ ghost use Rattle.elf_field.specs.Phdr.{phdr_at};
 ghost use Rattle.elf_field.specs.Shdr.{shdr_at};
 ghost use Rattle.elf_image_rules.specs.Tables.{content_extent};
 ghost use Rattle.elf_table_symbols.specs.Sections.{count, section, sections_in};
-ghost use Rattle.elf_c_room.specs.Room.{extent_in};
+ghost use Rattle.elf_c_parts.specs.Room.{extent_in};
 ghost use Rattle.elf_c.specs.Files.{HasEntry, IsFileOf, file_order, order_named};
 ghost use Rattle.elf_c.specs.Tables.{slot_bytes};
 
 use crate::shapes::File;
-use elf_c_room::Slot;
+use elf_c_parts::Slot;
 use elf_field::abi::{ELFDATA2MSB, PHDR_SIZE, SHDR_SIZE};
 use elf_field::{Order, Phdr, Shdr, get_at};
 use elf_image_rules::content::extent_of_content;

@@ -4,7 +4,7 @@ ghost use Rattle.std.specs.Bool.{OnFalse};
 ghost use Rattle.elf_c.specs.Entries.{dynamic_shape, relocation_shape};
 ghost use Rattle.elf_c.specs.Shapes.{header_shape, section_shape, segment_shape};
 
-use elf_c_room::Slot;
+use elf_c_parts::Slot;
 use elf_field::abi::EI_NIDENT;
 use elf_field::{Dyn, Ehdr, Phdr, Shdr};
 use elf_table_lists as lists;

@@ -9,7 +9,7 @@ ghost use Rattle.elf_c.specs.Tables.{HoldsTable, IsLinkThere, IsTableOfKind, ind
 use crate::lengths::length_of;
 use crate::places::{NOWHERE, bytes_of, order_of, place_of_content, section_of};
 use crate::shapes::{File, Table, put};
-use elf_c_room::Slot;
+use elf_c_parts::Slot;
 use elf_field::abi::SHT_SYMTAB_SHNDX;
 use elf_table_symbols::TableKind;
 

@@ -2,11 +2,11 @@
 ghost use Rattle.std.specs.Prelude.{◌≡◌, ◌≢◌, None, Some, length};
 ghost use Rattle.std.specs.Bool.{OnFalse, OnTrue};
 ghost use Rattle.elf_image_rules.specs.ImageRules.{IsFault};
-ghost use Rattle.elf_c_room.specs.Room.{HasSlotsFor, IsShortRoom};
+ghost use Rattle.elf_c_parts.specs.Room.{HasSlotsFor, IsShortRoom};
 ghost use Rattle.elf_c.specs.Verdicts.{SHORT_ROOM as short_room};
 
 use crate::shapes::Fault;
-use elf_c_room::{ShortRoom, Slot, verdict_in};
+use elf_c_parts::{ShortRoom, Slot, verdict_in};
 use elf_image_rules::verdict;
 
 /// What stands in place of a rule's number where a room has too few extents: no rule has it.

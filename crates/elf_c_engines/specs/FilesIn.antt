@@ -2,8 +2,8 @@
 use Rattle.std.specs.Prelude.{◌≡◌, ◌<◌, ◌≤◌, ◌+◌, ℕ, List, ◌∷◌, ◌++◌, length, map}
 use Rattle.std.specs.List.{All}
 use Rattle.elf_image_rules.specs.Tables.{bytes_in}
-use Rattle.elf_c_room.specs.Room.{extent_in}
-use Rattle.elf_c_room.specs.declared.room.Slot.{Slot}
+use Rattle.elf_c_parts.specs.Room.{extent_in}
+use Rattle.elf_c_parts.specs.declared.room.Slot.{Slot}
 
 -- an extent lies in so many bytes
 abbrev pub LiesWithin : ℕ → Slot → Type 0

@@ -1,12 +1,12 @@
 -- What `map` and `link` make of files that lie in bytes, by the text of a file of relocation rules.
 use Rattle.std.specs.Prelude.{◌≡◌, ◌≢◌, ◌⊎◌, ℕ, List, length, None, Option, Some, option_copied}
-use Rattle.elf_c_room.specs.declared.room.Slot.{Slot}
+use Rattle.elf_c_parts.specs.declared.room.Slot.{Slot}
 use Rattle.elf_link_field.specs.declared.rule.RelocRule.{RelocRule}
 use Rattle.elf_link_files.specs.declared.options.Options.{Options}
 use Rattle.elf_tool_rule_file.specs.File.{AreRules, IsBadLine}
 use Rattle.elf_tool_text.specs.declared.fault.Verdict.{Verdict}
 use Rattle.elf_tool_link.specs.Link.{FilesLink}
-use Rattle.elf_tool_map.specs.Map.{MapSays}
+use Rattle.elf_tool_link.specs.Map.{MapSays}
 use Rattle.elf_c_engines.specs.declared.answer.CallFault.{CallFault}
 use Rattle.elf_c_engines.specs.declared.answer.CallFault.TheVariants.{BadRules, BadFiles, OutOfMemory}
 use Rattle.elf_c_engines.specs.declared.links.LinkOptions.{LinkOptions}

@@ -2,12 +2,12 @@
 ghost use Rattle.std.specs.Prelude.{◌≡◌, ◌≤◌, ◌+◌, Some, None, MatchOption, MatchResult, length, map};
 ghost use Rattle.elf_image_rules.specs.Tables.{bytes_in};
 ghost use Rattle.elf_tool_rule_file.specs.File.{AreRules};
-ghost use Rattle.elf_c_room.specs.Room.{extent_in};
+ghost use Rattle.elf_c_parts.specs.Room.{extent_in};
 ghost use Rattle.elf_c_engines.specs.FilesIn.{AreFilesIn, LiesWithin};
 ghost use Rattle.elf_c_engines.specs.LinkCalls.{LacksFile, LacksRules};
 
 use crate::answer::CallFault;
-use elf_c_room::Slot;
+use elf_c_parts::Slot;
 use elf_link_field::RelocRule;
 use elf_tool_rule_file::{RulesFault, read_rules};
 use std::alloc::Global;

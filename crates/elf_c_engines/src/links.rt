@@ -1,18 +1,17 @@
 //! Where the sections and names of files stand in their link, and the executable of it.
 ghost use Rattle.std.specs.Prelude.{◌≡◌, [], MatchResult, option_copied};
 ghost use Rattle.elf_tool_link.specs.Link.{FilesLink};
-ghost use Rattle.elf_tool_map.specs.Map.{MapSays};
+ghost use Rattle.elf_tool_link.specs.Map.{MapSays};
 ghost use Rattle.elf_link_files.specs.declared.options.Options.{Options as AnOptions};
 ghost use Rattle.elf_c_engines.specs.LinkCalls.{AreLinkOptions, LacksFile, LinkCallFails, LinkCallSays, MapCallFails, MapCallSays, SaysOfFiles, map_options};
 ghost use Rattle.elf_c_engines.specs.Told.{IsEngineCall};
 
 use crate::answer::{CallFault, Outcome, give_up, tell};
 use crate::files::{files_in, rules_in};
-use elf_c_room::Slot;
+use elf_c_parts::Slot;
 use elf_link_field::RelocRule;
 use elf_link_map::Options;
-use elf_tool_link::link_files;
-use elf_tool_map::map_files;
+use elf_tool_link::{link_files, map_files};
 use elf_tool_text::Verdict;
 use std::alloc::Global;
 

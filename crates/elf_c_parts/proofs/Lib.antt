@@ -1,2 +1,4 @@
+-- The lemmas of this crate.
 mod FileExtents
 mod PartSlots
+mod Slots

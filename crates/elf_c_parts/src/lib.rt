@@ -1,7 +1,13 @@
-//! What each byte of an ELF file belongs to, in n log n for any file and without memory of its own: the extents of the file's parts are
-//! put into a room that the caller lends, and sorted and accounted for there.
+//! What takes n log n for any file and no memory of its own, but a room that the caller lends: the extents of the file's parts are put
+//! there and sorted. [`verdict_in`] says which rule of images a file breaks first, [`parts_in`] what each of its bytes belongs to.
 //!
 //! ```
+//! let mut room = [Slot { start: 0, len: 0 }; 64];
+//! match verdict_in(bytes, &mut room) {
+//!     Ok(None) => println!(rt; "an image")?,
+//!     Ok(Some((rule, at))) => println!(rt; "refused {rule} {at}")?,
+//!     Err(ShortRoom { wanted }) => println!(rt; "a room of {wanted} slots is wanted")?,
+//! }
 //! let mut room = [Part { start: 0, len: 0, owner: GAP }; 64];
 //! match parts_in(bytes, &mut room) {
 //!     Ok(count) => println!(rt; "{count} parts")?,
@@ -14,7 +20,9 @@
 mod accounting;
 mod filing;
 mod members;
+mod room;
 mod shapes;
 
 pub use filing::parts_in;
+pub use room::{ShortRoom, Slot, verdict_in};
 pub use shapes::{GAP, Part, PartsFault};

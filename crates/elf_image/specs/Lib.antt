@@ -1,5 +1,5 @@
--- The words of the contracts that this door shows, for the contracts of those who stand on it.
-pub use Rattle.elf_image_copy.specs.Copying
+-- The words of the contracts that this public crate shows, for the contracts of those who stand on it.
+pub use Rattle.elf_image_outline.specs.Copying
 pub use Rattle.elf_image_rules.specs.Broken
 pub use Rattle.elf_image_rules.specs.HeaderRules
 pub use Rattle.elf_image_rules.specs.ImageRules

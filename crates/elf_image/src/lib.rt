@@ -15,8 +15,9 @@
 //! ```
 #![tactic(auto)]
 
-pub use elf_image_copy::{CopyFault, copy_image};
-pub use elf_image_outline::{NoSection, Outline, Owner, Part, ReplaceFault, scan};
+pub use elf_image_outline::{
+    CopyFault, NoSection, Outline, Owner, Part, ReplaceFault, copy_image, scan,
+};
 pub use elf_image_rules::{rules, verdict};
 pub use elf_image_stream::{
     Bytes, Failed, Failures, Fault, Seeking, Source, WriteFault, read_to_end, resume,

@@ -1,5 +1,5 @@
 -- What was read of a source that tells its bytes is what they hold, so what the rules find of it is the verdict on them.
-use Rattle.std.proofs.Common.{◌≡◌, ◌≢◌, ◌≤◌, ◌<◌, ◌+◌, ◌-◌, ℕ, min, None, Some, Option, List, [], length, map, take, drop, refl, sym, ap, subst, ◌∙◌, inl, inr, arith, length-drop}
+use Rattle.std.proofs.Common.{◌≡◌, ◌≢◌, ◌≤◌, ◌<◌, ◌+◌, ◌-◌, ◌⊎◌, ℕ, min, None, Some, Option, List, [], length, map, take, drop, refl, sym, ap, subst, ◌∙◌, inl, inr, arith, length-drop}
 use Rattle.std.specs.Prelude.{if◌then◌else◌, ◌==◌}
 use Rattle.std.proofs.Math.Nat.{min-eq_left, min-eq_right, min-le_left}
 use Rattle.std.proofs.lemmas.Bool.{cases_eq, cases_lt, ne_eqb}
@@ -23,7 +23,7 @@ use Rattle.elf_image_outline.specs.declared.part.Part.{Part}
 use Rattle.elf_image_outline.specs.Image.{AreRecordsIn, IsImage, part_piece, value_extents}
 use Rattle.elf_image_outline.specs.Outline.{image_in, outline_value}
 use Rattle.elf_image_outline.proofs.Parsed.{made_is_image}
-use Rattle.elf_image_outline.specs.Scanning.{BreaksTables, HasTables, KeepTables, Stops, names_extent}
+use Rattle.elf_image_outline.specs.Scanning.{BreaksTables, HasTables, IsEndIn, KeepTables, Stops, names_extent, names_place}
 use Rattle.elf_image_outline.proofs.Stands.{element_made, first_of_none}
 use Rattle.elf_image_rules.proofs.Public.{Agree, FirstIn-same, same_rules, sections_none}
 
@@ -73,6 +73,24 @@ names_are len b h c ss gs has records =
           rw (ne_eqb k 0 some) (ap (λ (e : Shdr). bytes_in b (content_extent e)) (section_same b h ss gs k records (omega arith))))
     ]
 
+-- and that is where the file's name table stands
+pub place_is : (len : ℕ) (b : List ℕ) (h : Ehdr) (c : Counts) (ss : List Shdr) (gs : List Phdr) → HasTables len h c ss gs → AreRecordsIn b h ss gs →
+    names_extent ss c.name_table ≡ names_place b
+place_is len b h c ss gs has records =
+    let k = c.name_table in
+    let named : k ≡ name_table h (section_header_of ss 0) = ap (λ (x : Counts). x.name_table) has.counts in
+    let same : name_table h (sections b h 0) ≡ k = ap (name_table h) (first_same len b h c ss gs has records) ∙ sym named in
+    let Place : Ehdr → ℕ → Extent = λ g j. if j == 0 then record { start = 0; len = 0 } else content_extent (sections b g j) in
+    let here : names_extent ss k ≡ Place h k = elim (cases_eq k 0) [
+      | inl none ↦ rw none refl
+      | inr some ↦
+          (let there : h.e_shoff ≢ 0 = λ none. some (named ∙ unnamed h (section_header_of ss 0) (has.head.nameless none)) in
+          let below = has.named there in
+          let many = has.section_count in
+          rw (ne_eqb k 0 some) (ap content_extent (sym (section_same b h ss gs k records (omega arith)))))
+    ] in
+    here ∙ ap (Place h) (sym same) ∙ ap (λ (g : Ehdr). Place g (name_table g (sections b g 0))) records.header
+
 -- as many bytes as lie there are all that do
 taken_there : (xs : List ℕ) (n m : ℕ) → m ≡ min (length xs) n → take m xs ≡ take n xs
 taken_there xs n m is = elim (cases_lt n (length xs)) [
@@ -81,6 +99,21 @@ taken_there xs n m is = elim (cases_lt n (length xs)) [
       ap (λ (k : ℕ). take k xs) (is ∙ min-eq_left (omega arith))
       ∙ take_all (length xs) xs (omega arith) ∙ sym (take_all n xs (omega arith))
 ]
+
+length_there : (b : List ℕ) (e : Extent) (len there : ℕ) → len ≡ length b → there ≡ min (len - e.start) e.len → length (bytes_in b e) ≡ there
+length_there b e len there says is =
+    let rest = length-drop e.start b in
+    let m : there ≡ min (length (drop e.start b)) e.len = is ∙ ap (λ (k : ℕ). min k e.len) (ap (λ (k : ℕ). k - e.start) says ∙ sym rest) in
+    let same : take there (drop e.start b) ≡ bytes_in b e = taken_there (drop e.start b) e.len there m in
+    let below : there ≤ length (drop e.start b) = rw m (min-le_left (length (drop e.start b)) e.len) in
+    ap length (sym same) ∙ length-take-le there (drop e.start b) below
+
+-- a read of one of the ends of the bytes that lie there is one of an end of the extent
+pub end_read : (b : List ℕ) (e : Extent) (len there at : ℕ) → len ≡ length b → there ≡ min (len - e.start) e.len → e.start ≤ at → at < e.start + there →
+    (at ≡ e.start) ⊎ (at ≡ e.start + there - 1) → IsEndIn b e at
+end_read b e len there at says is from to end =
+    let long = length_there b e len there says is in
+    (omega arith, subst (λ (n : ℕ). (at ≡ e.start) ⊎ (at ≡ e.start + n - 1)) (sym long) end)
 
 -- the ends of the bytes that lie there are those of all
 pub ends_there : (b : List ℕ) (ends : TableEnds) (e : Extent) (len there : ℕ) → len ≡ length b → there ≡ min (len - e.start) e.len → ends.len ≡ there →

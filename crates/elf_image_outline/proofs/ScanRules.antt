@@ -19,7 +19,7 @@ use Rattle.elf_image_rules.specs.HeaderRules.{header_rules, ident_rules, length_
 use Rattle.elf_image_rules.specs.Rows.{FirstIn}
 use Rattle.elf_image_rules.specs.ProgramTableRules.{program_table_rules}
 use Rattle.elf_image_rules.specs.SectionTableRules.{section_table_rules}
-use Rattle.elf_image_rules.specs.Tables.{counts_in, header, order_of, program_header_count, section_header_count, sections, segments, shdr_offset}
+use Rattle.elf_image_rules.specs.Tables.{counts_in, file_counts, header, order_of, program_header_count, section_header_count, sections, segments, shdr_offset}
 use Rattle.elf_image_rules.specs.declared.tables.Counts.{Counts}
 use Rattle.elf_image_rules.proofs.Public.{FirstIn-sooner, fault_of_records, from_header, from_ident, from_length, from_program_table, from_section_table, from_tables, record_rules_of, sections_read_at, table_some}
 use Rattle.elf_image_stream.specs.Reads.{table_at}
@@ -98,6 +98,10 @@ first_at b h first count read counted some =
     read
     ∙ ap (λ (f : ℕ → Shdr). f 0) (sections_read_at b h (table_some h first (omega (arith, counted))))
     ∙ ap (shdr_at (order_of h.e_ident) b) place
+
+-- the counts by the header and section header 0 that were read are the file's
+pub counts_are : (b : List ℕ) (h : Ehdr) (first : Shdr) (c : Counts) → h ≡ header b → first ≡ sections b h 0 → c ≡ counts_in h first → c ≡ file_counts b
+counts_are b h first c is read counted = counted ∙ ap (counts_in h) read ∙ ap (λ (x : Ehdr). counts_in x (sections b x 0)) is
 
 -- tables that were read of a file are those of its records
 pub tables_read : (b : List ℕ) (h : Ehdr) (first : Shdr) (c : Counts) (ss : List Shdr) (gs : List Phdr) → h ≡ header b → first ≡ sections b h 0 →

@@ -1,8 +1,9 @@
 -- The words of this crate's contracts.
+pub mod Copying
+pub mod Edits
 pub mod Image
 pub mod Outline
 pub mod OutlineView
-pub mod Edits
+pub mod Parsing
 pub mod Parts
 pub mod Scanning
-pub mod Parsing

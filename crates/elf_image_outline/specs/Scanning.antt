@@ -1,6 +1,7 @@
 -- What the stages of a scan answer: a scan reads a source as an image, without its contents.
-use Rattle.std.specs.Prelude.{◌≡◌, ◌≢◌, ◌≤◌, ◌<◌, ◌^◌, ◌==◌, if◌then◌else◌, ℕ, Option, List, None, Some, Result, Ok, Err, length, map}
+use Rattle.std.specs.Prelude.{◌≡◌, ◌≢◌, ◌≤◌, ◌<◌, ◌^◌, ◌+◌, ◌-◌, ◌⊎◌, ◌==◌, if◌then◌else◌, ℕ, Option, List, None, Some, Result, Ok, Err, length, map}
 use Rattle.std.specs.List.{AllByRecursion}
+use Rattle.elf_field.specs.Abi.{EHDR_SIZE, SHDR_SIZE}
 use Rattle.elf_field.specs.Ehdr.{IsEhdr}
 use Rattle.elf_field.specs.Phdr.{IsPhdr}
 use Rattle.elf_field.specs.Shdr.{IsShdr}
@@ -16,7 +17,7 @@ use Rattle.elf_image_rules.specs.ImageRules.{IsFault, image_rules, record_rules}
 use Rattle.elf_image_rules.specs.ProgramTableRules.{program_table_rules}
 use Rattle.elf_image_rules.specs.Rows.{FirstIn}
 use Rattle.elf_image_rules.specs.SectionTableRules.{section_table_rules}
-use Rattle.elf_image_rules.specs.Tables.{content_extent, counts_in, phdr_offset, program_header_of, section_header_of, shdr_offset}
+use Rattle.elf_image_rules.specs.Tables.{bytes_in, content_extent, counts_in, file_counts, header, phdr_offset, program_header_of, section_header_of, sections, shdr_offset}
 use Rattle.elf_image_rules.specs.declared.tables.Counts.{Counts}
 use Rattle.elf_image_outline.specs.Image.{part_piece, value_extents}
 use Rattle.elf_image_outline.specs.declared.part.Part.{Part}
@@ -30,11 +31,29 @@ scan_failure (Err OutOfMemory) = None
 scan_failure (Err (Io at)) = Some at
 scan_failure (Err (Rule number at)) = None
 
--- of a source that tells its bytes b: why there is no answer. A rule that is answered is the first that they break; want of memory and a
--- failed read may come of any bytes
+-- where a file's section name string table stands; nowhere without one
+abbrev pub names_place : List ℕ → Extent
+names_place b = let k = (file_counts b).name_table in if k == 0 then record { start = 0; len = 0 } else content_extent (sections b (header b) k)
+
+-- the first or the last byte of an extent, of as much of it as lies in b
+abbrev pub IsEndIn : List ℕ → Extent → ℕ → Type 0
+IsEndIn b e at = (0 < length (bytes_in b e)) × ((at ≡ e.start) ⊎ (at ≡ e.start + length (bytes_in b e) - 1))
+
+-- what a scan of b asks a source for: an offset of the header, of section header 0, of the two tables by their counts, or the ends of the
+-- section name string table
+abbrev pub IsScanRead : List ℕ → ℕ → Type 0
+IsScanRead b at = let h = header b in
+    (at < EHDR_SIZE)
+    ⊎ (((h.e_shoff ≤ at) × (at < h.e_shoff + SHDR_SIZE))
+    ⊎ (((h.e_shoff ≤ at) × (at < shdr_offset h (file_counts b).sections))
+    ⊎ (((h.e_phoff ≤ at) × (at < phdr_offset h (file_counts b).segments))
+    ⊎ IsEndIn b (names_place b) at)))
+
+-- of a source that tells its bytes b: why there is no answer. A rule that is answered is the first that they break, a failed read lies
+-- where a scan reads, and want of memory may come of any bytes
 abbrev pub Stops : List ℕ → Fault → Type 0
 Stops b OutOfMemory = Unit {0}
-Stops b (Io at) = Unit {0}
+Stops b (Io at) = IsScanRead b at
 Stops b (Rule number at) = IsFault b (Some (number, at))
 
 abbrev pub Scans : {T : Type 0} → List ℕ → (T → Type 0) → Result T Fault → Type 0

@@ -2,9 +2,20 @@
 //!
 //! [`scan`] reads an [`Outline`] of any source: the header, the section headers and program headers, and the [`Part`]s of a file that
 //! breaks no rule. Its edits change its own fields alone. `scanning` is the recipe of a scan: its head, its tables, its names, and the
-//! verdict of `judged`.
+//! verdict of `judged`. [`copy_image`] writes the image of an outline, edited or as read, from the source that it was read of onto any
+//! writer, so that a file is edited on a disk without its contents in memory:
+//!
+//! ```
+//! let mut source = Seeking::new(file);
+//! let mut outline = scan(alloc, &mut source)?;
+//! outline.set_entry(0x1000);
+//! copy_image(&outline, &mut source, &mut writer)?;
+//! ```
 #![tactic(auto)]
 
+mod copy_fault;
+mod copy_range;
+mod copying;
 mod edit_fault;
 mod extents;
 mod judged;
@@ -16,6 +27,8 @@ mod scan_names;
 mod scan_tables;
 mod scanning;
 
+pub use copy_fault::CopyFault;
+pub use copying::copy_image;
 pub use edit_fault::{NoSection, ReplaceFault};
 pub use judged_file::outline_of;
 pub use outline::Outline;

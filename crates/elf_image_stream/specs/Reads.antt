@@ -1,5 +1,5 @@
 -- What whole reads of a source answer: bytes, a record, a table of records; and when one fails.
-use Rattle.std.specs.Prelude.{◌≡◌, ◌<◌, ◌≤◌, ◌+◌, ◌*◌, ◌⊎◌, ℕ, List, length, take, drop, map, Option, Some, Result, Ok, Err, [], ◌∷◌}
+use Rattle.std.specs.Prelude.{◌≡◌, ◌<◌, ◌≤◌, ◌+◌, ◌-◌, ◌*◌, ◌⊎◌, ℕ, List, length, take, drop, map, Option, Some, Result, Ok, Err, [], ◌∷◌}
 use Rattle.std.specs.List.{AllByRecursion, range_with_len}
 use Rattle.elf_field.specs.Bytes.{IsBytes}
 use Rattle.elf_image_rules.specs.declared.string_table.TableEnds.{TableEnds}
@@ -59,10 +59,11 @@ abbrev pub ReadsByte : Option (List ℕ) → Failures → Failures → ℕ → R
 ReadsByte content old new at (Ok byte) = (new ≡ old) × ((b : List ℕ) → content ≡ Some b → byte ∷ [] ≡ take 1 (drop at b))
 ReadsByte content old new at (Err fault) = HasFailed content old new at 1 fault.at
 
--- the ends of a table of so many bytes from an offset on, and no call failed; or a read failed. Some table has these ends, which holds of
+-- the ends of a table of so many bytes from an offset on, and no call failed; or a read of one of them failed. Some table has these ends, which holds of
 -- a source that gives other bytes each time too
 abbrev pub ReadsEnds : Option (List ℕ) → Failures → Failures → ℕ → ℕ → Result TableEnds ReadFault → Type 0
 ReadsEnds content old new start len (Ok ends) =
     (new ≡ old) × ((table : List ℕ) × AreEnds ends table × IsBytes table) × (ends.len ≡ len)
     × ((b : List ℕ) → content ≡ Some b → start + len ≤ length b → AreEnds ends (take len (drop start b)))
-ReadsEnds content old new start len (Err fault) = HasFailed content old new start len fault.at
+ReadsEnds content old new start len (Err fault) =
+    HasFailed content old new start len fault.at × ((fault.at ≡ start) ⊎ (fault.at ≡ start + len - 1))

@@ -9,4 +9,6 @@ pub mod Paged
 pub mod OnePlan
 pub mod OneLinkFault
 pub mod OneLinkMap
+pub mod SomeLinkMap
+pub mod SomePlan
 pub mod Public

@@ -38,7 +38,7 @@ bound_never (b ∷ bs) q none =
 
 -- ---- all names
 
-bound_here : (fs : List ObjectValue) (cs : List CommonValue) (ps : List Site) (bs : List (List ℕ × Binding)) (name : List ℕ) (k : ℕ) →
+pub bound_here : (fs : List ObjectValue) (cs : List CommonValue) (ps : List Site) (bs : List (List ℕ × Binding)) (name : List ℕ) (k : ℕ) →
     Lists (first_entries fs) ps → AreNamedAt fs cs ps (length ps) bs → k < length ps → name_at fs (site_at ps k) ≡ name →
     bound_in bs name ≡ Some (get_or bs k no_name).1
 bound_here fs cs ps bs name k are named lt is =

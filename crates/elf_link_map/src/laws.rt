@@ -41,14 +41,17 @@ pub fn prove_objects(objects: &[Object<'_>])
     }
 }
 
-/// Some objects and options have at most one answer: that no rule of the link stands, or the first one that does, at its first site. Of
-/// rules 1 to 9, which are asked of the objects alone, it can't be that no answer meets the definition.
+/// Some objects and options have one answer: that no rule of the link stands, or the first one that does, at its first site. At most one
+/// meets the definition, and it can't be that none does: of rules 1 to 9, which are asked of the objects alone, and of all eleven.
 pub fn one_link_fault()
-    ensures some { (opt : Options) (fs : List ObjectValue) → ((x : Option (ℕ × Site)) → FirstAmong (input_rules opt fs) x → ⊥) → ⊥ }
+    ensures some_input { (opt : Options) (fs : List ObjectValue) → ((x : Option (ℕ × Site)) → FirstAmong (input_rules opt fs) x → ⊥) → ⊥ }
+    ensures some { (opt : Options) (fs : List ObjectValue) → ((x : Option (ℕ × Site)) → FirstOfLink opt fs x → ⊥) → ⊥ }
     ensures one { (opt : Options) (fs : List ObjectValue) (a b : Option (ℕ × Site)) → FirstOfLink opt fs a → FirstOfLink opt fs b → a ≡ b }
 {}
 
-/// Some objects and options have at most one link map: no second value meets the definition.
+/// Some objects and options have at most one link map: no second value meets the definition. Where no rule of the link stands it can't be
+/// that none does.
 pub fn one_link_map()
-    ensures { (opt : Options) (fs : List ObjectValue) (m n : LinkMapValue) → IsLinkMap opt fs m → IsLinkMap opt fs n → m ≡ n }
+    ensures some { (opt : Options) (fs : List ObjectValue) → FirstOfLink opt fs None → ((m : LinkMapValue) → IsLinkMap opt fs m → ⊥) → ⊥ }
+    ensures one { (opt : Options) (fs : List ObjectValue) (m n : LinkMapValue) → IsLinkMap opt fs m → IsLinkMap opt fs n → m ≡ n }
 {}

@@ -1,12 +1,12 @@
 //! The names of a link map, with what each is bound to (gABI chapter 4, Symbol Table).
 ghost use Rattle.std.specs.Prelude.{◌≡◌, MatchOption, None, map};
-ghost use Rattle.elf_link_positions.specs.Slots.{name_position};
+ghost use Rattle.elf_link_names.specs.Slots.{name_position};
 ghost use Rattle.elf_link_map.specs.LinkMap.{bound_in};
 ghost use Rattle.elf_link_map.specs.LinkMapView.{named_value};
 ghost use Rattle.elf_link_map.specs.Naming.{AreBindingPositions, StandsAt};
 
 use crate::bindings::Binding;
-use elf_link_positions::NamePositions;
+use elf_link_names::NameIndex;
 use std::marker::Model;
 
 /// A name that is not local, and what it is bound to.
@@ -22,7 +22,7 @@ pub struct Named<'a> {
 #[derive(Debug, Drop)]
 pub(crate) struct Names<'a> {
     list: Vec<Named<'a>>,
-    positions: NamePositions<'a>,
+    positions: NameIndex<'a>,
 }
 
 impl<'a> Model for Names<'a> {
@@ -31,7 +31,7 @@ impl<'a> Model for Names<'a> {
 
     ghost Value = { List (List ℕ × Binding) };
 
-    ghost use Rattle.elf_link_positions.specs.Slots.{name_position};
+    ghost use Rattle.elf_link_names.specs.Slots.{name_position};
     ghost use Rattle.elf_link_map.specs.LinkMapView.{named_value};
     ghost use Rattle.elf_link_map.specs.Naming.{AreBindingPositions};
 
@@ -42,7 +42,7 @@ impl<'a> Model for Names<'a> {
 
 impl<'a> Names<'a> {
     /// These names, whose positions are known.
-    pub(crate) fn new(list: Vec<Named<'a>>, positions: NamePositions<'a>) -> Names<'a>
+    pub(crate) fn new(list: Vec<Named<'a>>, positions: NameIndex<'a>) -> Names<'a>
         requires { AreBindingPositions (map named_value list.items) (name_position positions) }
         ensures { result ≡ map named_value list.entry.items }
     {

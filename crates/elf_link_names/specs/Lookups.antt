@@ -3,8 +3,8 @@ use Rattle.std.specs.Prelude.{◌≡◌, ◌≢◌, ℕ, ◌<◌, ◌+◌, Optio
 use Rattle.elf_field.specs.Abi.{STB_LOCAL}
 use Rattle.elf_object_type.specs.Object.{ObjectValue, binding}
 use Rattle.elf_link_files.specs.Files.{symbol_in}
-use Rattle.elf_link_positions.specs.Slots.{IsLookup, name_hash}
-use Rattle.elf_link_positions.specs.declared.positions.Lookup.{Lookup}
+use Rattle.elf_link_names.specs.Slots.{IsLookup, name_hash}
+use Rattle.elf_link_names.specs.declared.name_index.Lookup.{Lookup}
 
 -- a number is the hash of the name of symbol i of file f
 abbrev pub IsSymbolHash : List ObjectValue → ℕ → ℕ → ℕ → Type 0

@@ -1,7 +1,7 @@
 -- What is known of the names of a link, as the functions of `NameTable` look at it.
 use Rattle.std.specs.Prelude.{List, map}
 use Rattle.elf_object_type.specs.Object.{ObjectValue}
-use Rattle.elf_link_positions.specs.Slots.{name_position}
+use Rattle.elf_link_names.specs.Slots.{name_position}
 use Rattle.elf_link_names.specs.declared.name_table.NameTable.TheInside.{Inside}
 use Rattle.elf_link_names.specs.KnownNames.{AreAllKnown}
 use Rattle.elf_link_names.specs.NameNumbers.{AreNameNumbers}

@@ -1,7 +1,7 @@
 -- The resolved names of a link, as the functions of `Resolution` look at them.
 use Rattle.std.specs.Prelude.{length, map}
 use Rattle.elf_link_files.specs.Commons.{AreSymbols}
-use Rattle.elf_link_positions.specs.Slots.{name_position}
+use Rattle.elf_link_names.specs.Slots.{name_position}
 use Rattle.elf_link_names.specs.Binds.{AllBound}
 use Rattle.elf_link_names.specs.ChosenCommons.{AreChosen, HaveChosen}
 use Rattle.elf_link_names.specs.KnownNames.{AreAllKnown, first_site}

@@ -8,17 +8,17 @@ ghost use Rattle.elf_link_names.specs.Binds.{not_weak as not_weak_row};
 ghost use Rattle.elf_link_names.specs.KnownNames.{AreAllKnown, AreKnownBefore, IsBlock, IsCommonBest, IsKnownBefore, IsLargerOf, IsNotedAt, SomeBefore, first_or, known_at};
 ghost use Rattle.elf_link_names.specs.Lookups.{IsSymbolLookup};
 ghost use Rattle.elf_link_names.specs.NameNumbers.{AreNameNumbers, IsNameNumber, IsNumberRow, KeepsPositions};
-ghost use Rattle.elf_link_positions.specs.Slots.{name_position};
+ghost use Rattle.elf_link_names.specs.Slots.{name_position};
 ghost use Rattle.elf_field.specs.Abi.{STB_LOCAL};
 ghost use Rattle.elf_link_files.specs.Symbols.{IsCommon, IsNotWeak, IsStrong};
 ghost use Rattle.elf_object_type.specs.Object.{binding as binding_of};
 
 use crate::known_table::KnownTable;
 use crate::lookups::{BLOCK, block_lookups};
+use crate::name_index::{Lookup, NameIndex};
 use elf_field::abi::*;
 use elf_link_files::files::symbol_count;
 use elf_link_files::{InputSymbol, Inputs, SymbolId};
-use elf_link_positions::{Lookup, NamePositions};
 use elf_object_type::Symbol;
 use std::alloc::{AllocError, Global};
 
@@ -52,7 +52,7 @@ pub struct Known {
 #[derive(Drop)]
 pub struct KnownNames<'a> {
     /// The position of each name in `known`.
-    pub positions: NamePositions<'a>,
+    pub positions: NameIndex<'a>,
     /// What is known of each.
     pub known: KnownTable,
 }
@@ -276,7 +276,7 @@ pub(crate) fn known_names<'a>(
     ensures names { IfOk result (λ both. AreAllKnown inputs.now (name_position both.0.positions) both.0.known) }
     ensures numbers { IfOk result (λ both. AreNameNumbers inputs.now (name_position both.0.positions) (map (λ row. row.items) both.1.items)) }
 {
-    let positions = NamePositions::new(alloc, all_symbol_count(inputs))?;
+    let positions = NameIndex::new(alloc, all_symbol_count(inputs))?;
     let known = KnownTable::new(alloc);
     let mut names = KnownNames { positions, known };
     let mut numbers = Vec::with_capacity(alloc, inputs.file_count())?;

@@ -3,22 +3,36 @@
 //!
 //! [`judge`](judge::judge) returns the [`Resolution`] of the names, or the first of those rules that is broken. Begin there: it asks
 //! rules 1 to 7 (`file_rules`), makes one pass over all symbols (`known_names`), and asks rules 8 and 9 of the names (`name_rules`).
+//! Where a name stands among those that are known, a [`NameIndex`] tells: a table by hash, and an ordered map for the few whose places in
+//! the table are taken. It knows nothing of ELF.
+//!
+//! ```
+//! let mut index = NameIndex::new(alloc, 2)?;
+//! assert_eq!(rt; index.place(b"main", 0)?, None);
+//! assert_eq!(rt; index.place(b"main", 1)?, Some(0));
+//! assert_eq!(rt; index.get(b"main"), Some(0));
+//! ```
 #![tactic(auto)]
 
 mod bind;
 mod choice;
 mod commons;
 mod file_rules;
+mod hashing;
 pub mod judge;
 mod known_names;
 mod known_table;
 mod listing;
 mod lookups;
+mod name_index;
 mod name_rules;
 mod name_table;
 mod named_symbol;
+mod ordered;
 mod ranks;
 mod resolution;
+mod slots;
 
 pub use choice::Choice;
+pub use name_index::NameIndex;
 pub use resolution::{Resolution, ResolutionParts};

@@ -3,11 +3,13 @@
 ghost use Rattle.std.specs.Prelude.{◌≤◌, ◌+◌, ◌-◌, ◌<◌, length};
 ghost use Rattle.elf_link_files.specs.Files.{object_at};
 ghost use Rattle.elf_link_names.specs.Lookups.{AreBlockHashes, AreBlockLookups, IsSymbolHash};
-ghost use Rattle.elf_link_positions.specs.Slots.{name_position};
+ghost use Rattle.elf_link_names.specs.Slots.{name_position};
 
+use crate::hashing::hash_of;
 use crate::known_names::is_local;
+use crate::name_index::{Lookup, NameIndex};
+use crate::slots::Slot;
 use elf_link_files::{InputSymbol, Inputs, SymbolId};
-use elf_link_positions::{Lookup, NamePositions, Slot, hash_of};
 
 /// How many symbols a block has at most.
 pub(crate) const BLOCK: usize = 64;
@@ -39,7 +41,7 @@ fn block_hashes(inputs: &Inputs<'_, '_>, file: usize, start: usize, end: usize) 
 }
 
 /// The slot where the search for each hash begins. It is only a hint, so no contract says which one it is.
-fn first_slots(positions: &NamePositions<'_>, hashes: &[u64; BLOCK]) -> [Slot; BLOCK] {
+fn first_slots(positions: &NameIndex<'_>, hashes: &[u64; BLOCK]) -> [Slot; BLOCK] {
     let mut slots = [Slot::FREE; BLOCK];
     for step in 0..BLOCK {
         slots[step] = positions.first_slot(hashes[step]);
@@ -50,7 +52,7 @@ fn first_slots(positions: &NamePositions<'_>, hashes: &[u64; BLOCK]) -> [Slot; B
 /// The lookups of the names of the symbols of a file from `start` to before `end`.
 pub(crate) fn block_lookups(
     inputs: &Inputs<'_, '_>,
-    positions: &NamePositions<'_>,
+    positions: &NameIndex<'_>,
     file: usize,
     start: usize,
     end: usize,

@@ -7,7 +7,7 @@ ghost use Rattle.elf_link_files.specs.Discarded.{AreDiscardMarks};
 ghost use Rattle.elf_link_files.specs.Ids.{IsSymbolIn, symbol_with};
 ghost use Rattle.elf_link_files.specs.Listing.{Lists};
 ghost use Rattle.elf_object_type.specs.ObjectView.{symbol_value};
-ghost use Rattle.elf_link_positions.specs.Slots.{name_position};
+ghost use Rattle.elf_link_names.specs.Slots.{name_position};
 ghost use Rattle.elf_link_names.specs.declared.choice.Choice.TheVariants.{Common};
 ghost use Rattle.elf_link_names.specs.Binds.{AllBound, Binds, entries};
 ghost use Rattle.elf_link_names.specs.ChosenCommons.{AreChosen, IsCommonOf};
@@ -20,9 +20,9 @@ use crate::bind::choice_of;
 use crate::choice::Choice;
 use crate::known_names::KnownNames;
 use crate::listing::live_sections;
+use crate::name_index::NameIndex;
 use crate::name_table::NameTable;
 use elf_link_files::{Chosen, Inputs, Site, SymbolId};
-use elf_link_positions::NamePositions;
 use elf_object_type::{Object, Symbol};
 use std::alloc::{AllocError, Global};
 use std::marker::Model;
@@ -57,7 +57,7 @@ pub struct ResolutionParts<'a> {
     /// A mark for each section of each file, whether it is discarded.
     pub marks: Vec<Vec<bool>>,
     /// The number of each name.
-    pub positions: NamePositions<'a>,
+    pub positions: NameIndex<'a>,
     /// For each symbol of each file that is not local the number of its name.
     pub numbers: Vec<Vec<usize>>,
 }

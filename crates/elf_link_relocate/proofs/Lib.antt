@@ -16,6 +16,7 @@ mod AnyOptions
 mod Ready
 mod OneByte
 mod SomeByte
+mod SomeLinked
 mod MemoryLaws
 mod SharedAddresses
 mod Ascending

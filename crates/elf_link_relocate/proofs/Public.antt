@@ -4,3 +4,4 @@ pub use Rattle.elf_link_relocate.proofs.AnyOptions.{any_options, without_entry}
 pub use Rattle.elf_link_relocate.proofs.MemoryLaws.{field_in_content, memory_bytes, memory_in, memory_there, memory_zero, some_byte}
 pub use Rattle.elf_link_relocate.proofs.OneByte.{one_byte}
 pub use Rattle.elf_link_relocate.proofs.Ready.{ready_of}
+pub use Rattle.elf_link_relocate.proofs.SomeLinked.{some_linked}

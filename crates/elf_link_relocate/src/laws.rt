@@ -34,6 +34,12 @@ pub fn one_relocation_fault()
         ((x : Option (ℕ × Site)) → FirstAmong (applied_entry_rules fs m rules) x → ⊥) → ⊥ }
 {}
 
+/// In a map of the files, where none of rules 1 to 16 stands, it can't be that no value is the relocated bytes of the link.
+pub fn some_linked()
+    ensures { (fs : List ObjectValue) (m : LinkMapValue) (rules : List RelocRule) → IsMapButOptions fs m → FirstAmong (applied_entry_rules fs m rules) None →
+        ((l : LinkedValue) → IsLinked fs m rules l → ⊥) → ⊥ }
+{}
+
 /// In a map of the files, where none of rules 1 to 16 stands, the memory of a link has one byte at each address, or none.
 pub fn one_byte()
     ensures { (fs : List ObjectValue) (m : LinkMapValue) (rules : List RelocRule) → IsMapButOptions fs m → FirstAmong (applied_entry_rules fs m rules) None →

@@ -1,4 +1,5 @@
 -- The words of this crate's contracts.
+pub mod AllIndexTables
 pub mod Signature
 pub mod DynamicStrings
 pub mod TableRules

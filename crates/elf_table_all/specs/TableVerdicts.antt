@@ -1,21 +1,11 @@
--- The verdicts on all tables of a file, and its index tables.
+-- The verdicts on all tables of a file.
 use Rattle.std.specs.Prelude.{◌≡◌, ℕ, ◌<◌, Option, None, Some, List, length, get_or}
 use Rattle.elf_image_rules.specs.Rows.{FirstIn}
 use Rattle.elf_image_outline.specs.Image.{ImageValue}
-use Rattle.elf_table_symbols.specs.declared.index_tables.IndexTables.{IndexTables}
-use Rattle.elf_table_symbols.specs.IndexTable.{AreIndexTables}
-use Rattle.elf_table_symbols.specs.Sections.{Sections, count, section, sections_of}
+use Rattle.elf_table_symbols.specs.Sections.{Sections, section, sections_of}
 use Rattle.elf_table_symbols.specs.TableKind.{kind_of}
 use Rattle.elf_table_symbols.specs.declared.table_kind.TableKind.{TableKind}
 use Rattle.elf_table_all.specs.TableRules.{table_rules}
-
-abbrev pub no_index_tables : IndexTables
-no_index_tables = record { first = None; second = None }
-
--- for each section the first two index tables, of those below `end`, of a symbol table in it
-pub record AreAllIndexTables (f : Sections) (end : ℕ) (all : List IndexTables) : Type 0 where
-  pub long : length all ≡ count f
-  pub right : (i : ℕ) → i < count f → AreIndexTables f i end (get_or all i no_index_tables)
 
 -- for each of the first `end` sections the first rule that the table in it breaks, with its lowest offset: None where it
 -- breaks none, or the section holds no table

@@ -14,6 +14,7 @@
 //! ```
 #![tactic(auto)]
 
+mod index_tables;
 mod laws;
 mod tables;
 mod verdicts;

@@ -13,17 +13,17 @@ ghost use Rattle.elf_table_lists.specs.Relocations.{relocations_of};
 ghost use Rattle.elf_table_all.specs.DynamicStrings.{dynamic_strings};
 ghost use Rattle.elf_table_all.specs.Signature.{signature_name};
 ghost use Rattle.elf_table_all.specs.TableRules.{table_rules};
-ghost use Rattle.elf_table_all.specs.TableVerdicts.{AreAllIndexTables, AreVerdicts, HasSoundTable};
+ghost use Rattle.elf_table_all.specs.TableVerdicts.{AreVerdicts, HasSoundTable};
 
+use crate::index_tables::AllIndexTables;
 use crate::verdicts::all_verdicts;
-use elf_field::abi::*;
 use elf_image_rules::Broken;
 use elf_image_type::Image;
 use elf_table_hash::{Hash, sound_hash};
 use elf_table_lists::{
     Dynamic, Group, Notes, Relocs, section_relocs, sound_dynamic, sound_group, sound_notes,
 };
-use elf_table_symbols::{IndexTables, Symbols, sound_symbols};
+use elf_table_symbols::{Symbols, Verdicts, sound_symbols};
 use std::alloc::{AllocError, Global};
 use std::marker::Model;
 
@@ -33,9 +33,9 @@ use std::marker::Model;
 #[derive(Drop)]
 pub struct Tables<'i, 'a> {
     image: &'i Image<'a>,
+    index_tables: AllIndexTables,
     // For each section.
-    index_tables: Vec<IndexTables>,
-    verdicts: Vec<Result<(), Broken<u64>>>,
+    verdicts: Verdicts,
 }
 
 impl<'i, 'a> Model for Tables<'i, 'a> {
@@ -50,12 +50,13 @@ impl<'i, 'a> Model for Tables<'i, 'a> {
 }
 
 impl<'i, 'a> Tables<'i, 'a> {
-    /// Those of this image, all of them judged. It takes memory for each section header; the error comes only where it is refused.
+    /// Those of this image, all of them judged. The error comes only if an allocation fails. They keep an entry for each table that breaks
+    /// a rule, and one for each symbol table that has an index table; a section group or a hash table can take memory while it is judged.
     pub fn new(alloc: Global, image: &'i Image<'a>) -> Result<Tables<'i, 'a>, AllocError>
         ensures image { IfOk result (λ tables. tables.image ≡ image.entry.now) }
         ensures verdicts { IfOk result (λ tables. AreVerdicts (sections_of image.entry.now) (length image.entry.now.sections) tables.verdicts) }
     {
-        let index_tables = all_index_tables(alloc, image)?;
+        let index_tables = AllIndexTables::new(alloc, image)?;
         let verdicts = all_verdicts(alloc, image, &index_tables)?;
         Ok(Tables {
             image,
@@ -71,7 +72,7 @@ impl<'i, 'a> Tables<'i, 'a> {
         ensures kept { fault_of result ≡ get_or self.now.verdicts i None }
         ensures fault { FirstIn (table_rules (sections_of self.now.image) i) (fault_of result) }
     {
-        self.verdicts[i]
+        self.verdicts.get(i)
     }
 
     /// The symbol table that section `i` holds, where `i` is below the image's count of section headers, the section is of the
@@ -80,7 +81,7 @@ impl<'i, 'a> Tables<'i, 'a> {
         requires { HasSoundTable self.now i kind.SymbolTable }
         ensures { result ≡ symbols_of (sections_of self.now.image) i }
     {
-        sound_symbols(self.image, i, self.index_tables[i])
+        sound_symbols(self.image, i, self.index_tables.of(i))
     }
 
     /// The relocation section `i`, under the same conditions.
@@ -140,20 +141,4 @@ impl<'i, 'a> Tables<'i, 'a> {
     {
         self.image.content(self.image.section(i).sh_link as usize)
     }
-}
-
-// The first two index tables of a symbol table in each section.
-fn all_index_tables(alloc: Global, image: &Image<'_>) -> Result<Vec<IndexTables>, AllocError>
-    ensures { IfOk result (λ all. AreAllIndexTables (sections_of image.now) (length image.now.sections) all.items) }
-{
-    let mut all = Vec::new(alloc);
-    all.resize(image.section_count(), IndexTables::NONE)?;
-    for j in 0..image.section_count() {
-        let section = image.section(j);
-        let link = section.sh_link as usize;
-        if section.sh_type == SHT_SYMTAB_SHNDX && link < image.section_count() {
-            all[link] = all[link].with(j);
-        }
-    }
-    Ok(all)
 }

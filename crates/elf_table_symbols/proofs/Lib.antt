@@ -6,3 +6,4 @@ mod OwnRuleLemmas
 pub mod Public
 mod SymbolLists
 mod TableKinds
+mod VerdictLists

@@ -13,8 +13,9 @@ use Rattle.elf_table_symbols.specs.Sections.{Sections, count, section}
 use Rattle.elf_table_symbols.specs.StringRules.{linked_string_rules}
 use Rattle.elf_table_symbols.specs.SymbolParts.{SymbolPartsValue, symbol_parts}
 use Rattle.elf_table_symbols.specs.SymbolRules.{entry, entry_count, index_table_rules, place_rules, rest_rules, symbol_entry_rules, symbol_table_rules}
-use Rattle.elf_table_symbols.specs.Symbols.{IsReadable, symbol_entry_in, symbols_in}
+use Rattle.elf_table_symbols.specs.Symbols.{IsReadable, SymbolEntryValue, symbol_entry_in, symbols_in}
 use Rattle.elf_table_symbols.specs.SymbolView.{no_symbol_entry}
+use Rattle.elf_table_symbols.specs.declared.symbols.Symbols.TheInside.{Inside}
 use Rattle.elf_table_symbols.proofs.OwnRuleLemmas.{link_there}
 
 pub length_symbols : (o : Order) (table names words : List ℕ) → length (symbols_in o table names words) ≡ entry_count table
@@ -26,6 +27,17 @@ pub symbol_get : (o : Order) (table names words : List ℕ) (j : ℕ) → j < en
 unfolding symbols_in
 symbol_get o table names words j within =
     get_or-map-range_with_len (symbol_entry_in o table names words) 0 (entry_count table) j j no_symbol_entry within (zero-add j)
+
+-- ---- a list of symbols, by its fields
+
+-- a symbol of it is an entry of the content
+pub symbol_within : (a : Inside) (symbols : List SymbolEntryValue) (j : ℕ) → symbols_in a.order a.table.now a.names.now a.words.now ≡ symbols → j < length symbols →
+    j < entry_count a.table.now
+symbol_within a symbols j is within = rw (← is, length_symbols a.order a.table.now a.names.now a.words.now) at within
+
+pub symbol_at : (a : Inside) (symbols : List SymbolEntryValue) (j : ℕ) → symbols_in a.order a.table.now a.names.now a.words.now ≡ symbols → j < length symbols →
+    get_or symbols j no_symbol_entry ≡ symbol_entry_in a.order a.table.now a.names.now a.words.now j
+symbol_at a symbols j is within = rw (← is) (symbol_get a.order a.table.now a.names.now a.words.now j (symbol_within a symbols j is within))
 
 -- ---- a table that breaks no rule
 

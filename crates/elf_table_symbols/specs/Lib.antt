@@ -12,3 +12,4 @@ pub mod SymbolView
 pub mod Symbols
 pub mod SymbolsLeft
 pub mod TableKind
+pub mod VerdictsView

@@ -1,6 +1,5 @@
 -- The verdicts on symbol tables that are known when a table that links to one is judged.
-use Rattle.std.specs.Prelude.{◌≡◌, ℕ, ◌<◌, Option, None, Some, List, length, get_or, map}
-use Rattle.elf_image_rules.specs.Broken.{fault_of}
+use Rattle.std.specs.Prelude.{◌≡◌, ℕ, ◌<◌, Option, None, Some, List, length, get_or}
 use Rattle.elf_image_rules.specs.Rows.{FirstIn}
 use Rattle.elf_table_symbols.specs.declared.symbol_verdicts.SymbolVerdicts.{SymbolVerdicts}
 use Rattle.elf_table_symbols.specs.declared.symbol_verdicts.SymbolVerdicts.TheVariants.{All, Unknown}
@@ -16,5 +15,5 @@ pub record AreSymbolVerdicts (f : Sections) (end : ℕ) (verdicts : List (Option
 
 -- each that is known is the first rule that the symbol table breaks, with its lowest offset
 abbrev pub AreKnown : Sections → SymbolVerdicts → Type 0
-AreKnown f (All verdicts) = AreSymbolVerdicts f (count f) (map fault_of verdicts.now)
+AreKnown f (All verdicts) = AreSymbolVerdicts f (count f) verdicts.now
 AreKnown f Unknown = Unit {0}

@@ -26,6 +26,7 @@ mod symbol_words;
 mod symbols;
 mod table_kind;
 mod table_section;
+mod verdicts;
 
 pub use index_tables::IndexTables;
 pub use own_rules::judge_own_rules;
@@ -37,3 +38,4 @@ pub use symbol_words::{entry, word};
 pub use symbols::{SymbolIter, Symbols, sound_symbols};
 pub use table_kind::TableKind;
 pub use table_section::{LinkedTable, TableSection};
+pub use verdicts::Verdicts;

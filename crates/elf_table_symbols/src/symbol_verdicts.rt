@@ -9,13 +9,14 @@ ghost use Rattle.elf_table_symbols.specs.TableKind.{IsSymbolType};
 use crate::index_tables::index_tables_of;
 use crate::symbol_rules::judge_symbol_table;
 use crate::table_section::{LinkedTable, TableSection};
+use crate::verdicts::Verdicts;
 use elf_image_rules::Broken;
 
 /// Which verdicts on symbol tables are known.
 #[derive(Clone, Copy, Drop)]
 pub enum SymbolVerdicts<'a> {
     /// Those on the symbol table in each section.
-    All(&'a [Result<(), Broken<u64>>]),
+    All(&'a Verdicts),
     /// None: a symbol table is judged when its verdict is asked for.
     Unknown,
 }
@@ -30,7 +31,7 @@ impl SymbolVerdicts<'_> {
     {
         let index = linked.link();
         match self {
-            SymbolVerdicts::All(symbols) => symbols[index],
+            SymbolVerdicts::All(symbols) => symbols.get(index),
             SymbolVerdicts::Unknown => {
                 let image = linked.table.image;
                 let table = TableSection { image, index };

@@ -1,12 +1,17 @@
--- The words of the contracts that this door shows, for the contracts of those who stand on it.
-pub use Rattle.elf_tool_base.specs.Ending
-pub use Rattle.elf_tool_base.specs.Opener
+-- The words of the contracts that this public crate shows, for the contracts of those who stand on it.
+pub mod FileLink
+pub mod SaysOne
+pub use Rattle.elf_tool_words.specs.Command
+pub use Rattle.elf_tool_check.specs.Ending
+pub use Rattle.elf_tool_words.specs.Number
+pub use Rattle.elf_tool_check.specs.Opener
+pub use Rattle.elf_tool_words.specs.Words
 pub use Rattle.elf_tool_check.specs.Check
 pub use Rattle.elf_tool_check_source.specs.CheckSource
 pub use Rattle.elf_tool_link.specs.Link
-pub use Rattle.elf_tool_map.specs.Map
-pub use Rattle.elf_tool_map.specs.MapLines
-pub use Rattle.elf_tool_objects.specs.ObjectFiles
+pub use Rattle.elf_tool_link.specs.Map
+pub use Rattle.elf_tool_link.specs.MapLines
+pub use Rattle.elf_tool_link.specs.ObjectFiles
 pub use Rattle.elf_tool_program.specs.Opening
 pub use Rattle.elf_tool_program.specs.Program
 pub use Rattle.elf_tool_program.specs.Rules
@@ -21,6 +26,3 @@ pub use Rattle.elf_tool_text.specs.Fault
 pub use Rattle.elf_tool_text.specs.Inputs
 pub use Rattle.elf_tool_text.specs.Line
 pub use Rattle.elf_tool_text.specs.Output
-pub use Rattle.elf_tool_words.specs.Command
-pub use Rattle.elf_tool_words.specs.Number
-pub use Rattle.elf_tool_words.specs.Words

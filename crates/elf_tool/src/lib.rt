@@ -1,5 +1,6 @@
 //! The program `elfmap` without its surroundings: its engines over any reader or source and any writer, the words of its command line,
-//! files of relocation rules, and [`run`], the whole program over its words and an [`Opener`] of files.
+//! files of relocation rules, and [`run`], the whole program over its words and an [`Opener`] of files. [`laws`] has what holds of the texts
+//! of the commands.
 //!
 //! ```
 //! // The first word is the program's name; `files` opens names, `out` and `err` take what is written.
@@ -8,13 +9,13 @@
 //! ```
 #![tactic(auto)]
 
+pub mod laws;
+
 pub use elf_link_field::{Form, Range, RelocRule, Width};
 pub use elf_link_files::Options;
-pub use elf_tool_base::{OpenFault, Opener, Status};
-pub use elf_tool_check::check;
+pub use elf_tool_check::{OpenFault, Opener, Status, check};
 pub use elf_tool_check_source::check_source;
-pub use elf_tool_link::link;
-pub use elf_tool_map::map;
+pub use elf_tool_link::{link, map};
 pub use elf_tool_program::run;
 pub use elf_tool_rewrite::rewrite;
 pub use elf_tool_rule_file::{RulesFault, read_rules};

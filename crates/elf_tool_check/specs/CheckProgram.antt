@@ -3,9 +3,9 @@ use Rattle.std.specs.Prelude.{◌≡◌, ◌⊎◌, ℕ, Bool, List, Option}
 use Rattle.std.specs.Io.KnownBytes.{Keeps}
 use Rattle.clap.specs.Walk.{Text}
 use Rattle.elf_tool_check.specs.Check.{IsChecked}
-use Rattle.elf_tool_base.specs.Ending.{EndsFile, EndsWords}
-use Rattle.elf_tool_base.specs.declared.ending.Status.{Status}
-use Rattle.elf_tool_base.specs.declared.ending.Status.TheVariants.{Usage}
+use Rattle.elf_tool_check.specs.Ending.{EndsFile, EndsWords}
+use Rattle.elf_tool_check.specs.declared.ending.Status.{Status}
+use Rattle.elf_tool_check.specs.declared.ending.Status.TheVariants.{Usage}
 use Rattle.elf_tool_words.specs.Words.{IsAskedBy, IsRefusedBy}
 use Rattle.elf_tool_words.specs.declared.words.Request.{Request}
 use Rattle.elf_tool_words.specs.declared.words.Request.TheVariants.{Check, CheckSource, Show, Rewrite, Map, Link}

@@ -1,3 +1,5 @@
 -- The words of this crate's contracts.
 pub mod Check
 pub mod CheckProgram
+pub mod Ending
+pub mod Opener

@@ -1,19 +1,26 @@
 //! The command `check` by itself, from the words of a command line to an exit status: its engine, [`check`], and [`run_check`], the
-//! program that has this command alone. `elf_tool_program`, the program with all commands, takes `check_file` from here.
+//! program that has this command alone; and what all commands share: the [`Opener`] of files, the exit [`Status`], and what a program
+//! prints on standard error. `elf_tool_program`, the program with all commands, takes `check_file` from here.
 //!
 //! ```
 //! // A header alone is a file of 64 bytes without sections and segments.
 //! let mut out = Vec::new(alloc);
 //! assert_eq!(rt; check(alloc, &mut header.as_slice(), &mut out), Ok(Verdict::Done));
 //! assert_eq!(rt; out.as_slice(), b"ok 64 0 0\n".as_slice());
+//! // A file that can't be opened ends the program with status 3, and its name stands on standard error.
+//! assert_eq!(rt; unopened(OpenFault::Refused, "no-such-file", &mut err), Status::Failed);
 //! ```
 #![tactic(auto)]
 
+mod ending;
 mod engine;
 mod machine;
+mod opener;
 mod program;
 
 pub use elf_tool_text::{Refusal, ToolFault, Verdict};
+pub use ending::{Status, fail, misused, no_request, refuse_words, status_of, unopened};
 pub use engine::check;
 pub use machine::{check_on_machine, words_of};
+pub use opener::{MachineFiles, OpenFault, Opener};
 pub use program::{check_file, run_check};

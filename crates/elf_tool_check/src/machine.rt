@@ -1,10 +1,11 @@
 //! The program that has `check` alone on the machine, and the machine's words.
 ghost use Rattle.std.specs.Prelude.{◌≡◌};
-ghost use Rattle.elf_tool_base.specs.Ending.{code_of};
-ghost use Rattle.elf_tool_base.specs.declared.ending.Status.{Status as Ending};
+ghost use Rattle.elf_tool_check.specs.Ending.{code_of};
+ghost use Rattle.elf_tool_check.specs.declared.ending.Status.{Status as Ending};
 
+use crate::ending::refuse_words;
+use crate::opener::MachineFiles;
 use crate::program::run_check;
-use elf_tool_base::{MachineFiles, refuse_words};
 use std::{env, io};
 
 /// Runs the program that has `check` alone over the machine's words and files, standard output and standard error. Answers the exit

@@ -1,12 +1,13 @@
 //! The program that has the command `check` alone.
 ghost use Rattle.std.specs.Prelude.{◌≡◌, map as map_list};
 ghost use Rattle.elf_tool_check.specs.Check.{IsChecked};
-ghost use Rattle.elf_tool_base.specs.Ending.{EndsFile, code_of};
+ghost use Rattle.elf_tool_check.specs.Ending.{EndsFile, code_of};
 ghost use Rattle.elf_tool_check.specs.CheckProgram.{EndsCheck};
-ghost use Rattle.elf_tool_base.specs.declared.ending.Status.{Status as Ending};
+ghost use Rattle.elf_tool_check.specs.declared.ending.Status.{Status as Ending};
 
+use crate::ending::{Status, misused, no_request, status_of, unopened};
 use crate::engine::check;
-use elf_tool_base::{Opener, Status, misused, no_request, status_of, unopened};
+use crate::opener::Opener;
 use elf_tool_words::{Request, read_words};
 use std::alloc::Global;
 use std::convert::AsStr;

@@ -6,7 +6,7 @@ use Rattle.elf_image_outline.specs.Image.{IsImage}
 use Rattle.elf_image_outline.specs.Outline.{OutlineValue, image_in}
 use Rattle.elf_image_rules.specs.ImageRules.{IsFault}
 use Rattle.elf_image_rules.specs.declared.broken.Broken.{Broken}
-use Rattle.elf_tool_base.specs.Ending.{Call}
+use Rattle.elf_tool_check.specs.Ending.{Call}
 use Rattle.elf_tool_check.specs.Check.{CheckSays}
 use Rattle.elf_tool_text.specs.Engine.{Prints}
 use Rattle.elf_tool_text.specs.Line.{ok_line, refused_line}

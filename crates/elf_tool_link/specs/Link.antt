@@ -10,9 +10,9 @@ use Rattle.elf_link_relocate.specs.RelocationRules.{applied_entry_rules}
 use Rattle.elf_link_field.specs.declared.rule.RelocRule.{RelocRule}
 use Rattle.elf_exec.specs.Executable.{IsExecFile, IsExecutable}
 use Rattle.elf_exec.specs.ExecWriting.{IsTooLongFor}
-use Rattle.elf_tool_objects.specs.ObjectFiles.{AreObjectFiles, IsFirstRefused}
-use Rattle.elf_tool_objects.specs.declared.mapped.Unlinked.{Unlinked}
-use Rattle.elf_tool_objects.specs.declared.mapped.Unlinked.TheVariants as unlinked
+use Rattle.elf_tool_link.specs.ObjectFiles.{AreObjectFiles, IsFirstRefused}
+use Rattle.elf_tool_link.specs.declared.mapped.Unlinked.{Unlinked}
+use Rattle.elf_tool_link.specs.declared.mapped.Unlinked.TheVariants as unlinked
 use Rattle.elf_tool_text.specs.Engine.{Prints}
 use Rattle.elf_tool_text.specs.Inputs.{AreRead, FailsReading}
 use Rattle.elf_tool_text.specs.declared.fault.Refusal.TheVariants.{File, Link, TooLong}

@@ -1,15 +1,28 @@
-//! The engine of `elfmap link`, over any readers and any writer: [`link`] reads each file whole, links them, and writes the executable.
+//! The engines of `elfmap map` and `elfmap link`, over any readers and any writer. [`map`] reads each file whole, links them without
+//! writing a linked file, and writes where each part would stand, and with relocation rules the bytes of each; [`map_files`] has the
+//! files' bytes. [`link`] reads each file whole, links them, and writes the executable; [`link_files`] has the files' bytes.
+//!
+//! What files are objects, and their link map, both ask `mapped_files`: it answers them, or what is refused, in an `Unlinked`.
 //!
 //! ```
 //! // `bytes` are those of an object file. A base that is no multiple of the page is the first of the link's rules.
 //! let options = Options { base: 0x1001, page: 0x1000, entry: Some(b"main") };
+//! let verdict = map(alloc, &mut [bytes], &options, None, &mut out);
+//! assert_eq!(rt; out.as_slice(), b"refused 1 0 0 0\n".as_slice());
 //! let verdict = link(alloc, &mut [bytes], &options, &[], &mut out)?;
 //! assert_eq!(rt; verdict, Verdict::Refused(Refusal::Link { rule: 1, file: 0, index: 0, entry: 0 }));
 //! ```
 #![tactic(auto)]
 
-mod engine;
+mod bytes_lines;
+mod linking;
+mod map_lines;
+mod map_text;
+mod mapped;
+mod mapping;
+mod object_files;
 
 pub use elf_link_map::Options;
 pub use elf_tool_text::{Refusal, ToolFault, Verdict};
-pub use engine::{link, link_files};
+pub use linking::{link, link_files};
+pub use mapping::{map, map_files};

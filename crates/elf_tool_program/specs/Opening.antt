@@ -1,6 +1,6 @@
 -- Several files that are opened by their names.
 use Rattle.std.specs.Prelude.{◌≡◌, ℕ, ◌<◌, Bool, List, [], get_or, length, None, Option, Some, IfSome}
-use Rattle.elf_tool_base.specs.Opener.{IsOpenFault}
+use Rattle.elf_tool_check.specs.Opener.{IsOpenFault}
 use Rattle.elf_tool_program.specs.declared.opening.Unopened.{Unopened}
 
 -- the files of these names were opened in order: each reader has the bytes of its file, where these are known

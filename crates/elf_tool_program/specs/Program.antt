@@ -4,9 +4,9 @@ use Rattle.std.specs.Io.KnownBytes.{Keeps}
 use Rattle.clap.specs.Walk.{Text}
 use Rattle.elf_tool_check.specs.Check.{IsChecked}
 use Rattle.elf_tool_check_source.specs.CheckSource.{IsSourceChecked}
-use Rattle.elf_tool_base.specs.Ending.{EndsFile, EndsWords, ending_of}
+use Rattle.elf_tool_check.specs.Ending.{EndsFile, EndsWords, ending_of}
 use Rattle.elf_tool_link.specs.Link.{IsLinkCall}
-use Rattle.elf_tool_map.specs.Map.{IsMapped}
+use Rattle.elf_tool_link.specs.Map.{IsMapped}
 use Rattle.elf_tool_rewrite.specs.Rewrite.{IsRewritten}
 use Rattle.elf_tool_show.specs.Show.{IsShown}
 use Rattle.elf_link_files.specs.declared.options.Options.{Options}
@@ -17,8 +17,8 @@ use Rattle.elf_tool_words.specs.Words.{IsAskedBy, IsRefusedBy}
 use Rattle.elf_tool_text.specs.declared.fault.ToolFault.{ToolFault}
 use Rattle.elf_tool_text.specs.declared.fault.Verdict.{Verdict}
 use Rattle.elf_tool_program.specs.declared.opening.Unopened.{Unopened}
-use Rattle.elf_tool_base.specs.declared.ending.Status.{Status}
-use Rattle.elf_tool_base.specs.declared.ending.Status.TheVariants.{Usage, Failed}
+use Rattle.elf_tool_check.specs.declared.ending.Status.{Status}
+use Rattle.elf_tool_check.specs.declared.ending.Status.TheVariants.{Usage, Failed}
 use Rattle.elf_tool_program.specs.declared.rules.NoRules.{NoRules}
 use Rattle.elf_tool_program.specs.declared.rules.NoRules.TheVariants as no_rules
 use Rattle.elf_tool_words.specs.declared.words.Request.{Request}

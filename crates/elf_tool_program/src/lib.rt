@@ -14,11 +14,9 @@ mod program;
 mod rules;
 
 pub use elf_link_field::{Form, Range, RelocRule, Width};
-pub use elf_tool_base::{MachineFiles, OpenFault, Opener, Status, refuse_words};
-pub use elf_tool_check::check;
+pub use elf_tool_check::{MachineFiles, OpenFault, Opener, Status, check, refuse_words};
 pub use elf_tool_check_source::check_source;
-pub use elf_tool_link::link;
-pub use elf_tool_map::{Options, map};
+pub use elf_tool_link::{Options, link, map};
 pub use elf_tool_rewrite::rewrite;
 pub use elf_tool_rule_file::{RulesFault, read_rules};
 pub use elf_tool_show::show;

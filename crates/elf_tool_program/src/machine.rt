@@ -1,11 +1,10 @@
 //! The program on the machine.
 ghost use Rattle.std.specs.Prelude.{◌≡◌};
-ghost use Rattle.elf_tool_base.specs.Ending.{code_of};
-ghost use Rattle.elf_tool_base.specs.declared.ending.Status.{Status as Ending};
+ghost use Rattle.elf_tool_check.specs.Ending.{code_of};
+ghost use Rattle.elf_tool_check.specs.declared.ending.Status.{Status as Ending};
 
 use crate::program::run;
-use elf_tool_base::{MachineFiles, refuse_words};
-use elf_tool_check::words_of;
+use elf_tool_check::{MachineFiles, refuse_words, words_of};
 
 /// Runs the program over the machine's words and files, standard output and standard error. Answers
 /// the exit status, as [`run`] does.

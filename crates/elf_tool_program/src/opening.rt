@@ -2,7 +2,7 @@
 ghost use Rattle.std.specs.Prelude.{IfErr, IfOk, map};
 ghost use Rattle.elf_tool_program.specs.Opening.{AreOpened, IsUnopened};
 
-use elf_tool_base::{OpenFault, Opener};
+use elf_tool_check::{OpenFault, Opener};
 use std::alloc::Global;
 
 /// Why files are not all open: the one of the name at this position gave no reader.

@@ -5,7 +5,7 @@ ghost use Rattle.elf_tool_program.specs.Rules.{GivesNoRules, GivesRules, ReadsNo
 use elf_image_rules::MAX_LEN;
 use elf_image_stream::{Fault, read_to_end};
 use elf_link_field::RelocRule;
-use elf_tool_base::{OpenFault, Opener};
+use elf_tool_check::{OpenFault, Opener};
 use elf_tool_rule_file::{RulesFault, read_rules};
 use std::alloc::Global;
 use std::io::Read;

@@ -2,8 +2,7 @@
 ghost use Rattle.std.specs.Prelude.{◌≡◌, ℕ, List, Some};
 ghost use Rattle.elf_field.specs.Bytes.{IsBytes};
 
-use elf_image_copy::{CopyFault, copy_image};
-use elf_image_outline::scan;
+use elf_image_outline::{CopyFault, copy_image, scan};
 use elf_image_stream::{Fault, Source, WriteFault};
 use elf_image_type::{parse, write};
 use elf_object_file::write_object;

@@ -1,8 +1,7 @@
 //! Files copied whole, as read and edited.
 use crate::against::Against;
 use elf_field::Order;
-use elf_image_copy::copy_image;
-use elf_image_outline::scan;
+use elf_image_outline::{copy_image, scan};
 use elf_image_stream::Bytes;
 use std::process::Abort;
 use std::test::Fail;

@@ -1,7 +1,6 @@
 //! Copies of the object of a call, stopped by a call of the source or of the writer.
 use crate::against::Against;
-use elf_image_copy::{CopyFault, copy_image};
-use elf_image_outline::{Outline, scan};
+use elf_image_outline::{CopyFault, Outline, copy_image, scan};
 use elf_image_stream::Bytes;
 use std::process::Abort;
 use std::test::Fail;

@@ -4,8 +4,7 @@ ghost use Rattle.std.specs.Prelude.{◌<◌, length};
 
 use elf_extent::{Counted, Extent, next_place, sweep};
 use elf_field::{Order, Record, Shdr};
-use elf_image_copy::copy_image;
-use elf_image_outline::{Outline, scan};
+use elf_image_outline::{Outline, copy_image, scan};
 use elf_image_rules::verdict;
 use elf_image_stream::{Bytes, Seeking, Source};
 use elf_image_type::{Image, parse, write};

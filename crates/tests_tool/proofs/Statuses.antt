@@ -9,8 +9,8 @@ use Rattle.elf_field.specs.Bytes.{IsBytes}
 use Rattle.elf_image_rules.specs.ImageRules.{IsFault}
 use Rattle.elf_tool_check.specs.Check.{CheckSays}
 use Rattle.elf_tool_check_source.specs.CheckSource.{IsSourceChecked}
-use Rattle.elf_tool_base.specs.Ending.{code_of, ending_of}
-use Rattle.elf_tool_base.specs.declared.ending.Status.{Status}
+use Rattle.elf_tool_check.specs.Ending.{code_of, ending_of}
+use Rattle.elf_tool_check.specs.declared.ending.Status.{Status}
 use Rattle.elf_tool_text.specs.Engine.{IsFileCall, IsReadWhole, Report}
 use Rattle.elf_tool_show.specs.Show.{ShowSays}
 use Rattle.elf_tool_text.specs.declared.fault.Refusal.TheVariants.{File, Link, TooLong}

@@ -54,8 +54,8 @@ def try_file(path: str) -> str:
     show = run(PROGRAM, "show", "--", path)
     if show.returncode:
         return f"{path}: show ended with status {show.returncode}"
-    back = run(output_of("example_roundtrip"), path)
-    return "accepted" if back.returncode == 0 and back.stdout == read_bytes(path) else f"{path}: example_roundtrip does not give it back"
+    back = run(output_of("example_edit"), path)
+    return "accepted" if back.returncode == 0 and back.stdout == read_bytes(path) else f"{path}: example_edit does not give it back"
 
 
 def count_ends(tally: Tally, ends: list[str], good: Iterable[str]) -> None:
@@ -216,7 +216,7 @@ def real_objects(tally: Tally, options: Namespace) -> None:
         tally.count(len(WAYS), linked(folder))
 
 
-ROUNDTRIP, ELFMAP = crates_of("elfmap", "example_roundtrip"), crates_of("elfmap")
+ROUNDTRIP, ELFMAP = crates_of("elfmap", "example_edit"), crates_of("elfmap")
 TOOLS = ("gcc", "g++", "clang", "readelf", "eu-elflint")
 FILES, OBJECTS = ((number("count", it, "so many of them"), flag("all", "all of this machine")) for it in (2000, 4000))
 ABOUT = "objects of this machine and its compilers through `rewrite`, beside readelf and eu-elflint"

@@ -4,7 +4,7 @@ use Rattle.std.proofs.Common.{◌≡◌, ◌≤◌, ℕ, List, ap, arith, length
 use Rattle.elf_field.specs.declared.order.Order.{Order}
 use Rattle.elf_table_lists.specs.Notes.{note_at, note_end}
 use Rattle.elf_table_lists.proofs.Public.{note_in_file}
-use Rattle.elf_c_room.specs.Room.{extent_in}
+use Rattle.elf_c_parts.specs.Room.{extent_in}
 use Rattle.elf_c.specs.Places.{NoteStandsAt}
 use Rattle.elf_c.specs.Tables.{slot_bytes}
 use Rattle.elf_c.proofs.NoteLengths.{note_end_above}

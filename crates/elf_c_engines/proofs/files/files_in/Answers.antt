@@ -1,7 +1,7 @@
 use Rattle.std.proofs.Common.{ℕ, List, Bor, arith, length}
 use Rattle.elf_image_rules.specs.Tables.{bytes_in}
-use Rattle.elf_c_room.specs.Room.{extent_in}
-use Rattle.elf_c_room.specs.declared.room.Slot.{Slot}
+use Rattle.elf_c_parts.specs.Room.{extent_in}
+use Rattle.elf_c_parts.specs.declared.room.Slot.{Slot}
 use Rattle.elf_c_engines.proofs.FilesPlaced.{first_outside, more_bytes, more_within}
 use Rattle.elf_c_engines.proofs.files.files_in.Goals as goal
 

@@ -1,7 +1,7 @@
 use Rattle.std.proofs.Common.{◌≡◌, length, map, take}
 use Rattle.std.specs.List.{All}
 use Rattle.elf_image_rules.specs.Tables.{bytes_in}
-use Rattle.elf_c_room.specs.Room.{extent_in}
+use Rattle.elf_c_parts.specs.Room.{extent_in}
 use Rattle.elf_c_engines.specs.FilesIn.{LiesWithin}
 use Rattle.elf_c_engines.proofs.files.files_in.Given as goal
 

@@ -1,7 +1,7 @@
 use Rattle.std.proofs.Common.{◌≢◌, ℕ, List, Some, Result, Ok, Err, MatchResult, inr, refl}
-use Rattle.elf_c_room.specs.declared.room.Slot.{Slot}
+use Rattle.elf_c_parts.specs.declared.room.Slot.{Slot}
 use Rattle.elf_link_field.specs.declared.rule.RelocRule.{RelocRule}
-use Rattle.elf_tool_map.specs.Map.{MapSays}
+use Rattle.elf_tool_link.specs.Map.{MapSays}
 use Rattle.elf_tool_rule_file.specs.File.{AreRules}
 use Rattle.elf_tool_text.specs.declared.fault.Verdict.{Verdict}
 use Rattle.elf_c_engines.specs.declared.answer.CallFault.{CallFault}

@@ -5,7 +5,7 @@ use Rattle.elf_link_files.specs.Files.{object_at}
 use Rattle.elf_link_files.proofs.Public.{each_more}
 use Rattle.elf_link_names.specs.KnownNames.{AreKnownBefore}
 use Rattle.elf_link_names.specs.NameNumbers.{IsNumberRow}
-use Rattle.elf_link_positions.specs.Slots.{name_position}
+use Rattle.elf_link_names.specs.Slots.{name_position}
 use Rattle.elf_link_names.proofs.NameNumbers.{rows_kept}
 use Rattle.elf_link_names.proofs.Tabled.{names_file}
 use Rattle.elf_link_names.proofs.known_names.known_names.Goals as goal

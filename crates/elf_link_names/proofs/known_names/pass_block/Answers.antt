@@ -2,7 +2,7 @@
 use Rattle.std.proofs.Common.{arith}
 use Rattle.elf_link_files.proofs.Public.{each_more}
 use Rattle.elf_link_names.specs.NameNumbers.{IsNameNumber}
-use Rattle.elf_link_positions.specs.Slots.{name_position}
+use Rattle.elf_link_names.specs.Slots.{name_position}
 use Rattle.elf_link_names.proofs.NameNumbers.{keeps_on, row_kept}
 use Rattle.elf_link_names.proofs.known_names.pass_block.Goals as goal
 

@@ -3,7 +3,7 @@ use Rattle.std.proofs.lemmas.List.{length-set}
 use Rattle.elf_object_type.specs.Object.{SymbolValue}
 use Rattle.elf_link_files.specs.Files.{symbol_in}
 use Rattle.elf_link_names.specs.Lookups.{IsSymbolHash, IsSymbolLookup, no_lookup}
-use Rattle.elf_link_positions.specs.Slots.{name_position}
+use Rattle.elf_link_names.specs.Slots.{name_position}
 use Rattle.elf_link_names.proofs.LookedUp.{block_next, found_of}
 use Rattle.elf_link_names.proofs.lookups.block_lookups.Goals as goal
 

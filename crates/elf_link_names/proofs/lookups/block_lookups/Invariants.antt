@@ -1,7 +1,7 @@
 use Rattle.std.proofs.Common.{◌≡◌, ◌≤◌, ◌-◌, length}
 use Rattle.elf_link_names.specs.declared.lookups.TheConstants.{BLOCK}
 use Rattle.elf_link_names.specs.Lookups.{AreBlockLookups}
-use Rattle.elf_link_positions.specs.Slots.{name_position}
+use Rattle.elf_link_names.specs.Slots.{name_position}
 use Rattle.elf_link_names.proofs.lookups.block_lookups.Given as goal
 
 -- the lookups so far

@@ -1,8 +1,6 @@
-use Rattle.std.proofs.Common.{map}
-use Rattle.elf_image_rules.specs.Broken.{fault_of}
 use Rattle.elf_table_symbols.specs.Sections.{sections_of}
 use Rattle.elf_table_symbols.specs.LinkedVerdicts.{AreSymbolVerdicts}
 use Rattle.elf_table_all.proofs.verdicts.symbol_verdicts.Given as goal
 
 abbrev pub invariant-loop-i : goal.invariant-loop-i
-invariant-loop-i l = AreSymbolVerdicts (sections_of l.image) l.i (map fault_of l.verdicts.items)
+invariant-loop-i l = AreSymbolVerdicts (sections_of l.image) l.i l.verdicts

@@ -1,7 +1,7 @@
 use Rattle.std.proofs.Common.{◌≡◌, length, map, rules, arith}
 use Rattle.std.specs.Prelude.{Some, vec_len}
 use Rattle.std.proofs.lemmas.List.{length-map}
-use Rattle.elf_link_positions.specs.Slots.{name_position}
+use Rattle.elf_link_names.specs.Slots.{name_position}
 use Rattle.elf_link_map.specs.LinkMapView.{named_value}
 use Rattle.elf_link_map.proofs.Naming.{position_found}
 use Rattle.elf_link_map.proofs.names.Names.binding.Goals as goal

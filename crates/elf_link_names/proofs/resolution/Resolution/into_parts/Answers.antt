@@ -1,4 +1,4 @@
-use Rattle.elf_link_positions.specs.Slots.{name_position}
+use Rattle.elf_link_names.specs.Slots.{name_position}
 use Rattle.elf_link_names.proofs.Tabled.{whole_firsts, whole_places}
 use Rattle.elf_link_names.proofs.resolution.Resolution.into_parts.Goals as goal
 

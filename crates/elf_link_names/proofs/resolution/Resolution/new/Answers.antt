@@ -1,6 +1,6 @@
 use Rattle.std.proofs.Common.{List, map, length, subst}
 use Rattle.elf_link_files.specs.declared.chosen.Chosen.{Chosen}
-use Rattle.elf_link_positions.specs.Slots.{name_position}
+use Rattle.elf_link_names.specs.Slots.{name_position}
 use Rattle.elf_link_names.specs.KnownNames.{first_site}
 use Rattle.elf_link_names.specs.Numbers.{AreRanks}
 use Rattle.elf_link_names.proofs.ChosenCommons.{chosen_symbols, have_chosen}

@@ -1,5 +1,5 @@
 use Rattle.std.proofs.Common.{◌≡◌, rules}
-use Rattle.elf_link_positions.specs.Slots.{name_position}
+use Rattle.elf_link_names.specs.Slots.{name_position}
 use Rattle.elf_link_names.proofs.Numbers.{number_found}
 use Rattle.elf_link_names.proofs.resolution.Resolution.number.Goals as goal
 

@@ -1,3 +1,0 @@
--- The lemmas of this crate.
-mod Out
-mod PartsOut

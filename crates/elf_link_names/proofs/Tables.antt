@@ -1,0 +1,281 @@
+-- Names that stand in slots, and behind them in a map. A name whose slots tell that it stands in none has no entry, since an entry's slot is
+-- behind taken ones.
+use Rattle.std.proofs.Common.{◌≡◌, ℕ, zero, suc, ◌<◌, ◌+◌, ◌-◌, ◌⊎◌, Bool, true, false, List, [], ◌∷◌, ◌++◌, length, get_or, set, inl, inr, refl, sym, ◌∙◌, ap, subst, arith, get_or-set_other, get_or-set_same}
+use Rattle.std.specs.Prelude.{◌≢◌, cond, if◌then◌else◌, is_some, MatchOption, Option, None, Some}
+use Rattle.std.specs.Str.{bytes_eq}
+use Rattle.std.proofs.lemmas.Bool.{cases_eq, cases_lt}
+use Rattle.std.proofs.Math.Seq.{get_or-append_seam}
+use Rattle.std.proofs.lemmas.List.{get_or_append_left, length-append, length-set}
+use Rattle.std.proofs.lemmas.Slice.Eq.{bytes_eq-Decides}
+use Rattle.elf_link_names.specs.declared.slots.Entry.{Entry}
+use Rattle.elf_link_names.specs.declared.slots.Seen.TheVariants.{Free, Here, Taken}
+use Rattle.elf_link_names.specs.declared.slots.Slot.{Slot}
+use Rattle.elf_link_names.specs.declared.slots.TheConstants.{MOST_NAMES, MOST_STEPS}
+use Rattle.elf_link_names.specs.Ordered.{IsPlaced}
+use Rattle.elf_link_names.specs.Slots.{AreTables, AreSlotsTaken, IsEnd, IsFound, IsInNone, LeadsTo, SlotsTell, numbered_entry, entry_position, free_slot, home, entry_name, name_hash, no_name_entry, or_else, slot_from, upper_of}
+
+pub is_same : (n q : List ℕ) → n ≡ q → bytes_eq n q ≡ true
+is_same n q same = (bytes_eq-Decides n q).1 same
+
+pub not_same : (n q : List ℕ) → n ≢ q → bytes_eq n q ≡ false
+not_same n q apart = told (bytes_eq n q) refl where
+  told : (b : Bool) → bytes_eq n q ≡ b → bytes_eq n q ≡ false
+  told true is = absurd (apart ((bytes_eq-Decides n q).0 is))
+  told false is = is
+
+-- ---- where the entries say that a name stands
+
+pub no_position : (es : List Entry) (q : List ℕ) → ((k : ℕ) → k < length es → entry_name es k ≢ q) → entry_position es q ≡ None
+no_position [] q none = refl
+no_position (e ∷ es) q none =
+    rw (not_same e.name.now q (none 0 (omega arith))) (no_position es q (λ k lt. none (suc k) (omega arith)))
+
+pub first_position : (es : List Entry) (q : List ℕ) (k : ℕ) → k < length es → entry_name es k ≡ q → ((j : ℕ) → j < k → entry_name es j ≢ q) →
+    entry_position es q ≡ Some (get_or es k no_name_entry).position
+first_position [] q k lt is first = absurd (omega arith)
+first_position (e ∷ es) q zero lt is first = rw (is_same e.name.now q is) refl
+first_position (e ∷ es) q (suc k) lt is first =
+    rw (not_same e.name.now q (first 0 (omega arith))) (first_position es q k (omega arith) is (λ j below. first (suc j) (omega arith)))
+
+by_first : (b : Bool) (p : ℕ) (old now more : Option ℕ) → now ≡ or_else old more → (if b then Some p else now) ≡ or_else (if b then Some p else old) more
+by_first true p old now more is = refl
+by_first false p old now more is = is
+
+pub position_more : (es : List Entry) (e : Entry) (q : List ℕ) →
+    entry_position (es ++ e ∷ []) q ≡ or_else (entry_position es q) (if bytes_eq e.name.now q then Some e.position else None)
+position_more [] e q = refl
+position_more (d ∷ es) e q = by_first (bytes_eq d.name.now q) d.position (entry_position es q) _ _ (position_more es e q)
+
+-- ---- what its slots tell of a name
+
+absent : (slots : List Slot) (es : List Entry) (more : List ℕ → Option ℕ) → AreTables slots es more → (q : List ℕ) (n : ℕ) → IsEnd slots (home slots q) n →
+    IsInNone slots es (home slots q) (upper_of (name_hash q)) q n → (k : ℕ) → k < length es → entry_name es k ≢ q
+absent slots es more tables q n end none k lt same =
+    let (s, few, taken, is) = subst (λ (m : List ℕ). IsFound slots m (k + 1)) same (tables.found k lt) in
+    let number : (slot_from slots (home slots q) s).number ≡ k + 1 = ap (λ (x : Slot). x.number) is in
+    elim (cases_lt s n) [
+      | inl below ↦ none s below (ap (λ (x : Slot). x.upper) is, rw number (ap (λ (i : ℕ). entry_name es i) (omega arith) ∙ same))
+      | inr from ↦ elim end [
+        | inl last ↦ absurd (omega arith)
+        | inr free ↦ elim (cases_lt n s) [
+          | inl before ↦ (let some = taken n before in absurd (omega arith))
+          | inr at ↦ (let here : n ≡ s = omega arith in let free_here = subst (λ (i : ℕ). (slot_from slots (home slots q) i).number ≡ 0) here free in absurd (omega arith))
+        ]
+      ]
+    ]
+
+pub absent_free : (slots : List Slot) (es : List Entry) (more : List ℕ → Option ℕ) → AreTables slots es more → (q : List ℕ) (at : ℕ) → SlotsTell slots es q (Free at) →
+    (k : ℕ) → k < length es → entry_name es k ≢ q
+absent_free slots es more tables q at (few, (s, below, is, free, taken, none)) = absent slots es more tables q s (inr free) none
+
+pub absent_taken : (slots : List Slot) (es : List Entry) (more : List ℕ → Option ℕ) → AreTables slots es more → (q : List ℕ) → SlotsTell slots es q Taken →
+    (k : ℕ) → k < length es → entry_name es k ≢ q
+absent_taken slots es more tables q (taken, (n, end, none)) = absent slots es more tables q n end none
+
+pub here_position : (slots : List Slot) (es : List Entry) (more : List ℕ → Option ℕ) → AreTables slots es more → (q : List ℕ) (position : ℕ) →
+    SlotsTell slots es q (Here position) → entry_position es q ≡ Some position
+here_position slots es more tables q position (k, lt, is, at) =
+    first_position es q k lt is (λ j below same. (let one = tables.once j k (omega arith) lt (same ∙ sym is) in omega arith)) ∙ ap Some (sym at)
+
+-- a slot that leads to a name's entry tells its position
+pub looked_up : (slots : List Slot) (es : List Entry) (more : List ℕ → Option ℕ) → AreTables slots es more → (slot : Slot) (upper : ℕ) (q : List ℕ) (found : Option ℕ) →
+    MatchOption found (¬ LeadsTo es slot upper q) (λ p. LeadsTo es slot upper q × (p ≡ (numbered_entry es slot.number).position)) →
+    MatchOption found (¬ LeadsTo es slot upper q) (λ p. or_else (entry_position es q) (more q) ≡ Some p)
+looked_up slots es more tables slot upper q None none = none
+looked_up slots es more tables slot upper q (Some p) ((some, within, of_name), at) =
+    ap (λ (found : Option ℕ). or_else found (more q)) (here_position slots es more tables q p (slot.number - 1, omega arith, of_name.1, at))
+
+-- where a slot is free and numbers last, the map has no such name
+pub not_behind : (slots : List Slot) (es : List Entry) (more : List ℕ → Option ℕ) → AreTables slots es more → (q : List ℕ) (at : ℕ) → SlotsTell slots es q (Free at) →
+    more q ≡ None
+not_behind slots es more tables q at (few, (s, below, is, free, taken, none)) = told (more q) refl where
+  told : (m : Option ℕ) → more q ≡ m → more q ≡ None
+  told None same = same
+  told (Some p) same = (let some = tables.behind few q p same s below in absurd (omega arith))
+
+-- ---- a name that finds a free slot takes it
+
+-- the slots, where this one is taken by the next number
+abbrev pub with_number : List Slot → List Entry → List ℕ → ℕ → List Slot
+with_number slots es n at = set slots at (record { upper = upper_of (name_hash n); number = length es + 1 })
+
+-- a slot that is taken stays so
+stays_taken : (slots : List Slot) (es : List Entry) (n : List ℕ) (at i : ℕ) → at < length slots → 0 < (get_or slots i free_slot).number →
+    0 < (get_or (with_number slots es n at) i free_slot).number
+stays_taken slots es n at i inside some = elim (cases_eq i at) [
+  | inl same ↦ rw (same, get_or-set_same slots at (record { upper = upper_of (name_hash n); number = length es + 1 }) free_slot inside) (omega arith)
+  | inr other ↦ rw (get_or-set_other slots at i (record { upper = upper_of (name_hash n); number = length es + 1 }) free_slot other) some
+]
+
+-- the place of the free slot is one of the slots
+at_inside : (slots : List Slot) (q : List ℕ) (s : ℕ) → MOST_STEPS < length slots → s < MOST_STEPS → home slots q + s < length slots
+at_inside slots q s room few = omega arith
+
+module _ (slots : List Slot) (es : List Entry) (more : List ℕ → Option ℕ) (tables : AreTables slots es more) (e : Entry) (at : ℕ)
+    (tells : SlotsTell slots es e.name.now (Free at)) where
+  inside : at < length slots
+  inside = (let (last, (s, few, is, free, taken, none)) = tells in rw is (at_inside slots e.name.now s tables.room few))
+
+  has_none : (k : ℕ) → k < length es → entry_name es k ≢ e.name.now
+  has_none = absent_free slots es more tables e.name.now at tells
+
+  old_name : (k : ℕ) → k < length es → entry_name (es ++ e ∷ []) k ≡ entry_name es k
+  old_name k lt = ap (λ (x : Entry). x.name.now) (get_or_append_left es (e ∷ []) no_name_entry k lt)
+
+  new_name : entry_name (es ++ e ∷ []) (length es) ≡ e.name.now
+  new_name = ap (λ (x : Entry). x.name.now) (get_or-append_seam es e [] no_name_entry)
+
+  -- each of a name's slots that was taken still is
+  still_taken : (q : List ℕ) (m : ℕ) → AreSlotsTaken slots (home slots q) m → AreSlotsTaken (with_number slots es e.name.now at) (home (with_number slots es e.name.now at) q) m
+  still_taken q m taken s lt =
+      rw (length-set slots at (record { upper = upper_of (name_hash e.name.now); number = length es + 1 }))
+      (stays_taken slots es e.name.now at (home slots q + s) inside (taken s lt))
+
+  -- the slot of an old name is another one, and of the new one this
+  old_found : (k : ℕ) → k < length es → IsFound slots (entry_name es k) (k + 1) → IsFound (with_number slots es e.name.now at) (entry_name es k) (k + 1)
+  old_found k lt (s, few, taken, is) =
+      let (last, (free_at, below, place, free, before, none)) = tells in
+      let number : (slot_from slots (home slots (entry_name es k)) s).number ≡ k + 1 = ap (λ (x : Slot). x.number) is in
+      let other : home slots (entry_name es k) + s ≢ at = (λ same.
+      let here : (get_or slots (home slots (entry_name es k) + s) free_slot).number ≡ 0 = ap (λ (i : ℕ). (get_or slots i free_slot).number) (same ∙ place) ∙ free in
+      absurd (omega arith)) in (
+        s,
+        few,
+        still_taken (entry_name es k) s taken,
+        rw (length-set slots at (record { upper = upper_of (name_hash e.name.now); number = length es + 1 }))
+            (get_or-set_other slots at (home slots (entry_name es k) + s) (record { upper = upper_of (name_hash e.name.now); number = length es + 1 }) free_slot other ∙ is),
+      )
+
+  new_found : IsFound (with_number slots es e.name.now at) e.name.now (length es + 1)
+  new_found =
+      let (last, (s, few, place, free, before, none)) = tells in (
+        s,
+        few,
+        still_taken e.name.now s before,
+        rw (length-set slots at (record { upper = upper_of (name_hash e.name.now); number = length es + 1 }), sym place)
+            (get_or-set_same slots at (record { upper = upper_of (name_hash e.name.now); number = length es + 1 }) free_slot inside),
+      )
+
+  -- a number is that of an old entry or of the new one
+  old_or_new : (k : ℕ) → k < length (es ++ e ∷ []) → (k < length es) ⊎ (k ≡ length es)
+  old_or_new k lt =
+      let long = length-append es (e ∷ []) in
+      elim (cases_lt k (length es)) [ inl below ↦ inl below | inr from ↦ inr (omega arith) ]
+
+  all_found : (k : ℕ) → k < length (es ++ e ∷ []) → IsFound (with_number slots es e.name.now at) (entry_name (es ++ e ∷ []) k) (k + 1)
+  all_found k lt = elim (old_or_new k lt) [
+    | inl old ↦ subst (λ (m : List ℕ). IsFound (with_number slots es e.name.now at) m (k + 1)) (sym (old_name k old)) (old_found k old (tables.found k old))
+    | inr new ↦ (
+        let named : entry_name (es ++ e ∷ []) k ≡ e.name.now = ap (λ (i : ℕ). entry_name (es ++ e ∷ []) i) new ∙ new_name in
+        subst (λ (i : ℕ). IsFound (with_number slots es e.name.now at) (entry_name (es ++ e ∷ []) k) (i + 1)) (sym new)
+        (subst (λ (m : List ℕ). IsFound (with_number slots es e.name.now at) m (length es + 1)) (sym named) new_found)
+        )
+  ]
+
+  all_once : (j k : ℕ) → j < length (es ++ e ∷ []) → k < length (es ++ e ∷ []) → entry_name (es ++ e ∷ []) j ≡ entry_name (es ++ e ∷ []) k → j ≡ k
+  all_once j k in_j in_k same = elim (old_or_new j in_j) [
+    | inl old_j ↦ elim (old_or_new k in_k) [
+      | inl old_k ↦ tables.once j k old_j old_k (sym (old_name j old_j) ∙ same ∙ old_name k old_k)
+      | inr new_k ↦ absurd (has_none j old_j (sym (old_name j old_j) ∙ same ∙ ap (λ (i : ℕ). entry_name (es ++ e ∷ []) i) new_k ∙ new_name))
+    ]
+    | inr new_j ↦ elim (old_or_new k in_k) [
+      | inl old_k ↦ absurd (has_none k old_k (sym (old_name k old_k) ∙ sym same ∙ ap (λ (i : ℕ). entry_name (es ++ e ∷ []) i) new_j ∙ new_name))
+      | inr new_k ↦ new_j ∙ sym new_k
+    ]
+  ]
+
+  pub entered : AreTables (with_number slots es e.name.now at) (es ++ e ∷ []) more
+  entered =
+      let last = tells.0 in
+      let long = length-append es (e ∷ []) in
+      let new : Slot = record { upper = upper_of (name_hash e.name.now); number = length es + 1 } in record {
+        room = rw (length-set slots at new) tables.room;
+        known = λ i. elim (cases_eq i at) [
+          | inl same ↦ rw (same, get_or-set_same slots at new free_slot inside) (omega arith)
+          | inr other ↦ rw (get_or-set_other slots at i new free_slot other) (let old = tables.known i in omega arith)
+        ];
+        found = all_found;
+        once = all_once;
+        apart = λ q p k is lt same. elim (old_or_new k lt) [
+          | inl old ↦ tables.apart q p k is old (sym (old_name k old) ∙ same)
+          | inr k_new ↦ (
+              let named : e.name.now ≡ q = sym new_name ∙ sym (ap (λ (i : ℕ). entry_name (es ++ e ∷ []) i) k_new) ∙ same in
+              let none : more e.name.now ≡ None = not_behind slots es more tables e.name.now at tells in
+              let never : None ≡ Some p = sym none ∙ ap more named ∙ is in
+              cc
+              )
+        ];
+        behind = λ few q p is. still_taken q MOST_STEPS (tables.behind last q p is);
+      }
+
+-- ---- where names stand then
+
+pub placed_free : (es : List Entry) (more : List ℕ → Option ℕ) (e : Entry) → ((k : ℕ) → k < length es → entry_name es k ≢ e.name.now) →
+    IsPlaced None e.name.now e.position (λ q. or_else (entry_position es q) (more q)) (λ q. or_else (entry_position (es ++ e ∷ []) q) (more q))
+placed_free es more e none q = rw (position_more es e q) (by_name (bytes_eq e.name.now q) refl) where
+  by_name : (b : Bool) → bytes_eq e.name.now q ≡ b →
+      or_else (or_else (entry_position es q) (if b then Some e.position else None)) (more q) ≡ cond b (Some e.position) (or_else (entry_position es q) (more q))
+  by_name true is =
+      let same = (bytes_eq-Decides e.name.now q).0 is in
+      rw (no_position es q (λ k lt named. none k lt (named ∙ sym same))) refl
+  by_name false is = either (entry_position es q) where
+    either : (x : Option ℕ) → or_else (or_else x None) (more q) ≡ or_else x (more q)
+    either None = refl
+    either (Some p) = refl
+
+-- a name that has no entry is placed in the map
+either_way : (t : Bool) (x : Option ℕ) → x ≡ cond t x x
+either_way true x = refl
+either_way false x = refl
+
+by_entry : (found there : Option ℕ) (n q : List ℕ) (next : ℕ) (old now : Option ℕ) → (n ≡ q → found ≡ None) →
+    now ≡ cond (is_some there) old (cond (bytes_eq n q) (Some next) old) →
+    or_else found now ≡ cond (is_some there) (or_else found old) (cond (bytes_eq n q) (Some next) (or_else found old))
+by_entry None there n q next old now none is = is
+by_entry (Some p) there n q next old now none is =
+    rw (not_same n q (λ same. (let never : Some p ≡ None = none same in cc))) (either_way (is_some there) (Some p))
+
+pub placed_behind : (es : List Entry) (old now : List ℕ → Option ℕ) (there : Option ℕ) (n : List ℕ) (next : ℕ) → ((k : ℕ) → k < length es → entry_name es k ≢ n) →
+    IsPlaced there n next old now → IsPlaced there n next (λ q. or_else (entry_position es q) (old q)) (λ q. or_else (entry_position es q) (now q))
+placed_behind es old now there n next none placed q =
+    by_entry (entry_position es q) there n q next (old q) (now q) (λ same. no_position es q (λ k lt named. none k lt (named ∙ sym same))) (placed q)
+
+-- a name of the map is an old one of it, or the one that was placed
+old_or_placed : (old now : List ℕ → Option ℕ) (there : Option ℕ) (n q : List ℕ) (next p : ℕ) → IsPlaced there n next old now → now q ≡ Some p →
+    (old q ≡ Some p) ⊎ (n ≡ q)
+old_or_placed old now there n q next p placed is = by_there there (placed q) where
+  by_name : (b : Bool) → bytes_eq n q ≡ b → now q ≡ cond b (Some next) (old q) → (old q ≡ Some p) ⊎ (n ≡ q)
+  by_name true same at = inr ((bytes_eq-Decides n q).0 same)
+  by_name false other at = inl (sym at ∙ is)
+
+  by_there : (there : Option ℕ) → now q ≡ cond (is_some there) (old q) (cond (bytes_eq n q) (Some next) (old q)) → (old q ≡ Some p) ⊎ (n ≡ q)
+  by_there None at = by_name (bytes_eq n q) refl at
+  by_there (Some k) at = inl (sym at ∙ is)
+
+pub tables_behind : (slots : List Slot) (es : List Entry) (old now : List ℕ → Option ℕ) (there : Option ℕ) (n : List ℕ) (next : ℕ) → AreTables slots es old →
+    ((k : ℕ) → k < length es → entry_name es k ≢ n) → (length es < MOST_NAMES → AreSlotsTaken slots (home slots n) MOST_STEPS) → IsPlaced there n next old now →
+    AreTables slots es now
+tables_behind slots es old now there n next tables none taken placed = record {
+  room = tables.room;
+  known = tables.known;
+  found = tables.found;
+  once = tables.once;
+  apart = λ q p k is lt named. elim (old_or_placed old now there n q next p placed is) [
+    | inl before ↦ tables.apart q p k before lt named
+    | inr same ↦ none k lt (named ∙ sym same)
+  ];
+  behind = λ few q p is. elim (old_or_placed old now there n q next p placed is) [
+    | inl before ↦ tables.behind few q p before
+    | inr same ↦ subst (λ (m : List ℕ). AreSlotsTaken slots (home slots m) MOST_STEPS) same (taken few)
+  ];
+}
+
+pub tables_same : (slots : List Slot) (es : List Entry) (old now : List ℕ → Option ℕ) → AreTables slots es old → ((q : List ℕ) → now q ≡ old q) → AreTables slots es now
+tables_same slots es old now tables same = record {
+  room = tables.room;
+  known = tables.known;
+  found = tables.found;
+  once = tables.once;
+  apart = λ q p k is lt. tables.apart q p k (sym (same q) ∙ is) lt;
+  behind = λ few q p is. tables.behind few q p (sym (same q) ∙ is);
+}

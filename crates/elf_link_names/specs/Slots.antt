@@ -1,0 +1,129 @@
+-- Names by position, in slots by hash, with a map behind them.
+use Rattle.std.specs.Prelude.{◌≡◌, ◌≢◌, ◌⊎◌, ℕ, ◌<◌, ◌≤◌, ◌+◌, ◌-◌, ◌/◌, ◌%◌, ◌^◌, if◌then◌else◌, Option, None, Some, List, [], ◌∷◌, IfSome, get_or, length}
+use Rattle.std.specs.Str.{bytes_eq}
+use Rattle.std.specs.Borrow.{Bor}
+use Rattle.std.specs.Hash.FoldHasher as folding
+use Rattle.elf_link_names.specs.declared.name_index.Lookup.{Lookup}
+use Rattle.elf_link_names.specs.declared.name_index.NameIndex.TheInside.{Inside}
+use Rattle.elf_link_names.specs.declared.slots.Entry.{Entry}
+use Rattle.elf_link_names.specs.declared.slots.Seen.{Seen}
+use Rattle.elf_link_names.specs.declared.slots.Seen.TheVariants.{Free, Here, Taken}
+use Rattle.elf_link_names.specs.declared.slots.Slot.{Slot}
+use Rattle.elf_link_names.specs.declared.slots.TheConstants.{MOST_NAMES, MOST_STEPS}
+use Rattle.elf_link_names.specs.Ordered.{position_among, position_by}
+
+-- the hash of a name, and the upper half of a hash
+unfoldable pub name_hash : List ℕ → ℕ
+name_hash name = folding.finish (folding.write folding.initial name)
+
+abbrev pub upper_of : ℕ → ℕ
+upper_of hash = hash / 2 ^ 32
+
+-- the place of a hash among so many, by its lower half
+abbrev pub place_among : ℕ → ℕ → ℕ
+place_among hash count = hash % 2 ^ 32 % count
+
+-- those that stand for a slot and an entry that aren't there
+abbrev pub free_slot : Slot
+free_slot = record { upper = 0; number = 0 }
+
+abbrev pub no_name_entry : Entry
+no_name_entry = record { name = record { ref_ptr = (0, 0); now = [] }; position = 0 }
+
+-- the entry of a number, which counts from 1
+abbrev pub numbered_entry : List Entry → ℕ → Entry
+numbered_entry entries number = get_or entries (number - 1) no_name_entry
+
+-- slot s from a place on, and that the first n of them are taken
+abbrev pub slot_from : List Slot → ℕ → ℕ → Slot
+slot_from slots place s = get_or slots (place + s) free_slot
+
+abbrev pub AreSlotsTaken : List Slot → ℕ → ℕ → Type 0
+AreSlotsTaken slots place n = (s : ℕ) → s < n → 0 < (slot_from slots place s).number
+
+-- a slot is the one of this name, whose hash has this upper half
+abbrev pub IsOfName : List Entry → Slot → ℕ → List ℕ → Type 0
+IsOfName entries slot upper name = (slot.upper ≡ upper) × ((numbered_entry entries slot.number).name.now ≡ name)
+
+-- a slot leads to the entry of this name
+abbrev pub LeadsTo : List Entry → Slot → ℕ → List ℕ → Type 0
+LeadsTo entries slot upper name = (0 < slot.number) × (slot.number ≤ length entries) × IsOfName entries slot upper name
+
+-- none of the first n slots from a place on is
+abbrev pub IsInNone : List Slot → List Entry → ℕ → ℕ → List ℕ → ℕ → Type 0
+IsInNone slots entries place upper name n = (s : ℕ) → s < n → ¬ IsOfName entries (slot_from slots place s) upper name
+
+-- each slot that is taken has a number of these entries
+abbrev pub AreEntryNumbers : List Slot → ℕ → Type 0
+AreEntryNumbers slots count = (i : ℕ) → (get_or slots i free_slot).number ≤ count
+
+-- what the slots from a place on tell of a name: the first of them that is free; or its position; or that all are others'
+abbrev pub Sees : List Slot → List Entry → ℕ → ℕ → List ℕ → Seen → Type 0
+Sees slots entries place upper name (Free at) = (s : ℕ) × (s < MOST_STEPS) × (at ≡ place + s) × ((slot_from slots place s).number ≡ 0)
+    × AreSlotsTaken slots place s × IsInNone slots entries place upper name s
+Sees slots entries place upper name (Here position) =
+    (k : ℕ) × (k < length entries) × ((get_or entries k no_name_entry).name.now ≡ name) × (position ≡ (get_or entries k no_name_entry).position)
+Sees slots entries place upper name Taken = AreSlotsTaken slots place MOST_STEPS × IsInNone slots entries place upper name MOST_STEPS
+
+-- the first slot of a name: the last slots are no name's first one
+abbrev pub home : List Slot → List ℕ → ℕ
+home slots name = place_among (name_hash name) (length slots - MOST_STEPS)
+
+-- the slots from a place on end at slot n: it is the last of a name, or free
+abbrev pub IsEnd : List Slot → ℕ → ℕ → Type 0
+IsEnd slots place n = (n ≡ MOST_STEPS) ⊎ ((slot_from slots place n).number ≡ 0)
+
+-- what its slots tell of a name: that it may take a free one; or its position; or that it stands in none, and as long as there are numbers
+-- all of them are taken
+abbrev pub SlotsTell : List Slot → List Entry → List ℕ → Seen → Type 0
+SlotsTell slots entries name (Free at) = (length entries < MOST_NAMES) × Sees slots entries (home slots name) (upper_of (name_hash name)) name (Free at)
+SlotsTell slots entries name (Here position) = Sees slots entries (home slots name) (upper_of (name_hash name)) name (Here position)
+SlotsTell slots entries name Taken = (length entries < MOST_NAMES → AreSlotsTaken slots (home slots name) MOST_STEPS)
+    × ((n : ℕ) × IsEnd slots (home slots name) n × IsInNone slots entries (home slots name) (upper_of (name_hash name)) name n)
+
+-- a name stands in one of its slots, by its number, behind slots that are taken
+abbrev pub IsFound : List Slot → List ℕ → ℕ → Type 0
+IsFound slots name number = (s : ℕ) × (s < MOST_STEPS) × AreSlotsTaken slots (home slots name) s
+    × (slot_from slots (home slots name) s ≡ record { upper = upper_of (name_hash name); number = number })
+
+-- the name of entry k, from 0 on
+abbrev pub entry_name : List Entry → ℕ → List ℕ
+entry_name entries k = (get_or entries k no_name_entry).name.now
+
+-- each entry is found, and no other has its name; a name of the map is none of an entry, and as long as there are numbers all of its slots
+-- are taken
+pub record AreTables (slots : List Slot) (entries : List Entry) (more : List ℕ → Option ℕ) : Type 0 where
+  pub room : MOST_STEPS < length slots
+  pub known : AreEntryNumbers slots (length entries)
+  pub found : (k : ℕ) → k < length entries → IsFound slots (entry_name entries k) (k + 1)
+  pub once : (j k : ℕ) → j < length entries → k < length entries → entry_name entries j ≡ entry_name entries k → j ≡ k
+  pub apart : (q : List ℕ) (p k : ℕ) → more q ≡ Some p → k < length entries → entry_name entries k ≢ q
+  pub behind : length entries < MOST_NAMES → (q : List ℕ) (p : ℕ) → more q ≡ Some p → AreSlotsTaken slots (home slots q) MOST_STEPS
+
+abbrev pub HasNameTables : Inside → Type 0
+HasNameTables p = AreTables p.slots.items p.entries.items (position_by p.more)
+
+-- what the positions are read from
+pub record Positions : Type 0 where
+  pub entries : List Entry
+  pub more : List (Bor (List ℕ) × ℕ)
+
+abbrev pub positions_value : Inside → Positions
+positions_value p = record { entries = p.entries.items; more = p.more.entries }
+
+-- where the entries say that a name stands; and the one or the other of two answers
+abbrev pub entry_position : List Entry → List ℕ → Option ℕ
+entry_position [] q = None
+entry_position (e ∷ es) q = if bytes_eq e.name.now q then Some e.position else entry_position es q
+
+abbrev pub or_else : Option ℕ → Option ℕ → Option ℕ
+or_else None other = other
+or_else (Some p) other = Some p
+
+-- where a name stands
+unfoldable pub name_position : Positions → List ℕ → Option ℕ
+name_position p q = or_else (entry_position p.entries q) (position_among p.more q)
+
+-- a name was looked up among these positions: this is its hash, and where its position was found, that is it
+abbrev pub IsLookup : (List ℕ → Option ℕ) → List ℕ → Lookup → Type 0
+IsLookup position name lookup = (lookup.hash ≡ name_hash name) × IfSome lookup.position (λ p. position name ≡ Some p)

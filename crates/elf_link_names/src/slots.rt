@@ -1,0 +1,113 @@
+//! Slots in which names stand by their hashes, and what they tell of a name.
+ghost use Rattle.std.specs.Prelude.{◌≡◌, ◌<◌, ◌≤◌, ◌+◌, MatchOption, length};
+ghost use Rattle.elf_link_names.specs.Slots.{AreEntryNumbers, IsOfName, LeadsTo, Sees, SlotsTell, numbered_entry, name_hash, upper_of as upper_of_hash};
+
+use crate::hashing::{home_of, upper_of};
+
+/// How many slots a name may stand in, one behind the other.
+pub(crate) const MOST_STEPS: usize = 8;
+
+/// How many names may have a number.
+const MOST_NAMES: usize = 0xffff_ffff;
+
+/// The number of a name among those that stand in slots, from 1 on, and 0 in a slot that is free; and the upper half of its hash, by which
+/// most other names are told from it without a look at them.
+#[derive(Clone, Copy, Debug)]
+pub struct Slot {
+    pub(crate) upper: u32,
+    pub(crate) number: u32,
+}
+
+impl Slot {
+    /// A free slot, which leads to no name.
+    pub const FREE: Slot = Slot {
+        upper: 0,
+        number: 0,
+    };
+}
+
+/// A name that stands in a slot, and its position.
+#[derive(Clone, Copy, Debug)]
+pub(crate) struct Entry<'a> {
+    pub(crate) name: &'a [u8],
+    pub(crate) position: usize,
+}
+
+/// What its slots tell of a name.
+#[derive(Clone, Copy)]
+pub(crate) enum Seen {
+    /// That it stands in none; this one is the first that is free.
+    Free(usize),
+    /// Its position.
+    Here(usize),
+    /// That it stands in none, and can take none: none is free, or there is no number left.
+    Taken,
+}
+
+/// The position of a name that has this hash, by a slot that is taken; `None` where the slot is another name's.
+fn position_by(slot: Slot, entries: &[Entry<'_>], upper: u32, name: &[u8]) -> Option<usize>
+    requires some { 0 < slot.number }
+    requires known { slot.number ≤ length entries.now }
+    ensures { MatchOption result (¬ IsOfName entries.now slot upper name.now)
+        (λ position. IsOfName entries.now slot upper name.now × (position ≡ (numbered_entry entries.now slot.number).position)) }
+{
+    if slot.upper != upper {
+        return None;
+    }
+    let entry = entries[slot.number as usize - 1];
+    if entry.name == name {
+        Some(entry.position)
+    } else {
+        None
+    }
+}
+
+/// The position of a name that has this hash, by a slot that was read at any time; `None` if the slot is free, or leads to another name.
+pub(crate) fn position_of(
+    slot: Slot,
+    entries: &[Entry<'_>],
+    hash: u64,
+    name: &[u8],
+) -> Option<usize>
+    ensures { MatchOption result (¬ LeadsTo entries.now slot (upper_of_hash hash) name.now)
+        (λ position. LeadsTo entries.now slot (upper_of_hash hash) name.now × (position ≡ (numbered_entry entries.now slot.number).position)) }
+{
+    if slot.number == 0 || slot.number as usize > entries.len() {
+        return None;
+    }
+    position_by(slot, entries, upper_of(hash), name)
+}
+
+/// What the slots from `home` on tell of a name whose hash has this upper half.
+fn look_from(slots: &[Slot], entries: &[Entry<'_>], home: usize, upper: u32, name: &[u8]) -> Seen
+    requires room { home + MOST_STEPS ≤ length slots.now }
+    requires known { AreEntryNumbers slots.now (length entries.now) }
+    ensures { Sees slots.now entries.now home upper name.now result }
+{
+    for step in 0..MOST_STEPS {
+        let slot = slots[home + step];
+        if slot.number == 0 {
+            return Seen::Free(home + step);
+        }
+        if let Some(position) = position_by(slot, entries, upper, name) {
+            return Seen::Here(position);
+        }
+    }
+    Seen::Taken
+}
+
+/// What its slots tell of a name of this hash. The last slots are no name's first one, so that each name has as many.
+pub(crate) fn look(slots: &[Slot], entries: &[Entry<'_>], hash: u64, name: &[u8]) -> Seen
+    requires room { MOST_STEPS < length slots.now }
+    requires known { AreEntryNumbers slots.now (length entries.now) }
+    requires hash { hash ≡ name_hash name.now }
+    ensures { SlotsTell slots.now entries.now name.now result }
+{
+    let home = home_of(hash, slots.len() - MOST_STEPS);
+    match look_from(slots, entries, home, upper_of(hash), name) {
+        Seen::Free(_) if entries.len() >= MOST_NAMES => Seen::Taken,
+        Seen::Free(at) => Seen::Free(at),
+        Seen::Here(position) => Seen::Here(position),
+        Seen::Taken => Seen::Taken,
+    }
+}

@@ -1,0 +1,25 @@
+-- The objects of the files are of numbers that the code's types hold, and keep their rules: so what holds of the executable of objects
+-- holds of theirs.
+use Rattle.std.proofs.Common.{ℕ, List, arith}
+use Rattle.elf_object_type.specs.Object.{ObjectValue}
+use Rattle.elf_link_field.specs.declared.rule.RelocRule.{RelocRule}
+use Rattle.elf_link_files.specs.declared.options.Options.{Options}
+use Rattle.elf_link_map.specs.LinkMap.{LinkMapValue}
+use Rattle.elf_exec.specs.Executable.{IsExecFile, IsExecutable, IsSoundLink}
+use Rattle.elf_exec.proofs.Public as exec
+use Rattle.elf_tool.specs.FileLink.{IsSoundFileLink}
+use Rattle.elf_tool.proofs.FilesObjects.{object_of_file}
+
+sound_link : (opt : Options) (rules : List RelocRule) (files : List (List ℕ)) (fs : List ObjectValue) (m : LinkMapValue) → IsSoundFileLink opt rules files fs m →
+    IsSoundLink fs m rules
+sound_link opt rules files fs m link = record {
+  objects = λ f lt. (object_of_file files fs f link.objects lt).0;
+  widths = λ f lt. (object_of_file files fs f link.objects lt).1;
+  map = (opt, link.map, link.linked);
+  page = (let (l, plan, of) = link.map in let same = of.page in let below = link.page in omega arith);
+  relocated = link.relocated;
+}
+
+pub executable : (opt : Options) (rules : List RelocRule) (files : List (List ℕ)) (fs : List ObjectValue) (m : LinkMapValue) (b : List ℕ) →
+    IsSoundFileLink opt rules files fs m → IsExecFile fs m rules b → IsExecutable fs m rules b
+executable opt rules files fs m b link file = exec.executable fs m rules b (sound_link opt rules files fs m link) file

@@ -1,0 +1,66 @@
+//! The laws on commands: what each of them says of its input is one verdict and one text. The executable of files is an image that loads the
+//! memory of their link, and a file of relocation rules gives at most one list of them or one bad line. Each is the contract of a function
+//! that does nothing, and the program does without them. Begin with [`one_check`].
+ghost use Rattle.std.specs.Prelude.{◌≡◌, ◌<◌, ◌^◌, ℕ, List, Option};
+ghost use Rattle.elf_field.specs.Bytes.{IsBytes};
+ghost use Rattle.elf_exec.specs.Executable.{IsExecFile, IsExecutable};
+ghost use Rattle.elf_link_field.specs.declared.rule.RelocRule.{RelocRule};
+ghost use Rattle.elf_link_files.specs.declared.options.Options.{Options};
+ghost use Rattle.elf_link_map.specs.LinkMap.{LinkMapValue};
+ghost use Rattle.elf_object_type.specs.Object.{ObjectValue};
+ghost use Rattle.elf_tool.specs.FileLink.{IsSoundFileLink};
+ghost use Rattle.elf_tool.specs.SaysOne.{AreFilesOfBytes, SaysOne, SaysSome};
+ghost use Rattle.elf_tool_check.specs.Check.{CheckSays};
+ghost use Rattle.elf_tool_link.specs.Link.{FilesLink};
+ghost use Rattle.elf_tool_link.specs.Map.{MapSays};
+ghost use Rattle.elf_tool_rewrite.specs.Rewrite.{RewriteSays};
+ghost use Rattle.elf_tool_rule_file.specs.File.{AreRules, IsBadLine};
+ghost use Rattle.elf_tool_show.specs.Show.{ShowSays};
+
+/// `check` says one verdict and one text, no second one and not none, of the bytes of a file.
+pub fn one_check()
+    ensures some { (b : List ℕ) → SaysSome (CheckSays b) }
+    ensures one { (b : List ℕ) → SaysOne (CheckSays b) }
+{}
+
+/// `show` says one verdict and one text, no second one and not none, of the bytes of a file.
+pub fn one_show()
+    ensures some { (b : List ℕ) → IsBytes b → SaysSome (ShowSays b) }
+    ensures one { (b : List ℕ) → SaysOne (ShowSays b) }
+{}
+
+/// `rewrite` says one verdict and one text, no second one and not none, of the bytes of a file.
+pub fn one_rewrite()
+    ensures some { (b : List ℕ) → IsBytes b → SaysSome (RewriteSays b) }
+    ensures one { (b : List ℕ) → SaysOne (RewriteSays b) }
+{}
+
+/// `map` says one verdict and one text, no second one and not none, of its options, the relocation rules, if any, and the bytes of its files.
+pub fn one_map()
+    ensures some { (opt : Options) (rules : Option (List RelocRule)) (files : List (List ℕ)) → AreFilesOfBytes files → SaysSome (MapSays opt rules files) }
+    ensures one { (opt : Options) (rules : Option (List RelocRule)) (files : List (List ℕ)) → SaysOne (MapSays opt rules files) }
+{}
+
+/// `link` says one verdict and one text, an executable or nothing, of its options, the relocation rules and the bytes of its files: no
+/// second one, and not none where the page is one that the code's type holds.
+pub fn one_link()
+    ensures some { (opt : Options) (rules : List RelocRule) (files : List (List ℕ)) → opt.page < 2 ^ 64 → AreFilesOfBytes files →
+        SaysSome (FilesLink opt rules files) }
+    ensures one { (opt : Options) (rules : List RelocRule) (files : List (List ℕ)) → SaysOne (FilesLink opt rules files) }
+{}
+
+/// From the bytes of the input files to memory: for files that are images denoting objects, options and relocation rules, where no rule of
+/// the link stands, the executable of the link is an image; it enters at the value of the entry symbol, or at 0 where none is named, and
+/// its loadable segments give an address a byte exactly where the memory of the link has that byte there. It is their only executable.
+pub fn executable()
+    ensures { (opt : Options) (rules : List RelocRule) (files : List (List ℕ)) (fs : List ObjectValue) (m : LinkMapValue) (b : List ℕ) →
+        IsSoundFileLink opt rules files fs m → IsExecFile fs m rules b → IsExecutable fs m rules b }
+{}
+
+/// Bytes are the lines of at most one list of relocation rules, and at most one of their lines is the one that is told as bad; and where
+/// they are the lines of a list, none is.
+pub fn one_rule_file()
+    ensures rules { (b : List ℕ) (rs ss : List RelocRule) → AreRules b rs → AreRules b ss → rs ≡ ss }
+    ensures line { (b : List ℕ) (m n : ℕ) → IsBadLine b m → IsBadLine b n → m ≡ n }
+    ensures apart { (b : List ℕ) (rs : List RelocRule) (n : ℕ) → AreRules b rs → IsBadLine b n → ⊥ }
+{}

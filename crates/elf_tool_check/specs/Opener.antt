@@ -1,0 +1,9 @@
+-- What an opener of files answers.
+use Rattle.std.specs.Prelude.{◌≡◌, Bool, false}
+use Rattle.elf_tool_check.specs.declared.opener.OpenFault.{OpenFault}
+use Rattle.elf_tool_check.specs.declared.opener.OpenFault.TheVariants.{Refused, OutOfMemory}
+
+-- why a file gave no reader: it is not known to open, or memory was refused
+abbrev pub IsOpenFault : Bool → OpenFault → Type 0
+IsOpenFault opens Refused = opens ≡ false
+IsOpenFault opens OutOfMemory = Unit {0}

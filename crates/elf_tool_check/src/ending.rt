@@ -1,0 +1,100 @@
+//! How a program ends: its exit status, and what it prints on standard error.
+ghost use Rattle.std.specs.Prelude.{◌≡◌, ◌≢◌};
+ghost use Rattle.std.specs.IoError.{error_kind};
+ghost use Rattle.std.specs.declared.io.ErrorKind.TheVariants.{InvalidData};
+ghost use Rattle.elf_tool_check.specs.Ending.{code_of, ending_of, unasked};
+ghost use Rattle.elf_tool_check.specs.declared.ending.Status.{Status as Ending};
+
+use crate::opener::OpenFault;
+use elf_tool_text::{ToolFault, Verdict};
+use elf_tool_words::WordsFault;
+use std::fmt::Display;
+use std::io;
+use std::io::Write;
+
+/// How the program ends. Its exit status is the position in this list, from 0.
+#[derive(Clone, Copy, Debug, PartialEq, Eq)]
+pub enum Status {
+    /// All that was asked is done.
+    Done,
+    /// What was read is refused, and standard output says why, for `rewrite` and `link` standard error.
+    Refused,
+    /// The words are not as the command takes them, or call for help, or a line of a file of rules is bad.
+    Usage,
+    /// A file could not be opened or read, the output could not be written, or memory was refused.
+    Failed,
+}
+
+/// The exit status where the machine gives no words: 2, wrong usage, where a word is not UTF-8, and
+/// else 3.
+pub fn refuse_words<E: Write>(error: &io::Error, err: &mut E) -> u8
+    ensures status { (status : Ending) × (result ≡ code_of status) }
+    ensures usage { error_kind error.now ≡ InvalidData → result ≡ code_of Status.Usage }
+    ensures failed { error_kind error.now ≢ InvalidData → result ≡ code_of Status.Failed }
+{
+    let status = match error.kind() {
+        io::ErrorKind::InvalidData => {
+            let _ = writeln!(err, "error: the words of the command line are not UTF-8");
+            Status::Usage
+        }
+        io::ErrorKind::OutOfMemory => fail(&ToolFault::OutOfMemory, err),
+        _ => fail(error, err),
+    };
+    status as u8
+}
+
+/// How the program ends where its words ask for nothing: as wrong usage, or for want of memory as failed.
+pub fn no_request<E: Write>(fault: &WordsFault, err: &mut E) -> Status
+    ensures { result ≡ unasked fault.now }
+{
+    match fault {
+        WordsFault::Words(error) => {
+            // This text ends with a line feed of its own.
+            let _ = write!(err, "{error}");
+            Status::Usage
+        }
+        WordsFault::TooManyFiles => misused("too many files", err),
+        WordsFault::BadNumber => misused("bad number", err),
+        WordsFault::OutOfMemory => fail(&ToolFault::OutOfMemory, err),
+    }
+}
+
+/// How it ends where what it was given is not what it takes, with this text.
+pub fn misused<T: Display + Copy, E: Write>(text: T, err: &mut E) -> Status
+    ensures { result ≡ Status.Usage }
+{
+    let _ = writeln!(err, "{text}");
+    Status::Usage
+}
+
+/// How it ends where the file of this name gave no reader.
+pub fn unopened<E: Write>(fault: OpenFault, file: &str, err: &mut E) -> Status
+    ensures { result ≡ Status.Failed }
+{
+    match fault {
+        OpenFault::Refused => {
+            let _ = writeln!(err, "cannot open {file}");
+            Status::Failed
+        }
+        OpenFault::OutOfMemory => fail(&ToolFault::OutOfMemory, err),
+    }
+}
+
+/// How it ends where an engine answered this.
+pub fn status_of<E: Write>(answer: Result<Verdict, ToolFault>, err: &mut E) -> Status
+    ensures { result ≡ ending_of answer }
+{
+    match answer {
+        Ok(Verdict::Done) => Status::Done,
+        Ok(Verdict::Refused(_)) => Status::Refused,
+        Err(fault) => fail(&fault, err),
+    }
+}
+
+/// How it ends where something failed, with its text.
+pub fn fail<F: Display, E: Write>(fault: &F, err: &mut E) -> Status
+    ensures { result ≡ Status.Failed }
+{
+    let _ = writeln!(err, "{fault}");
+    Status::Failed
+}

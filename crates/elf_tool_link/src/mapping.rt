@@ -1,0 +1,134 @@
+//! `map`: where the sections and names of files stand in their link.
+ghost use Rattle.std.specs.Prelude.{Some, option_copied, map as map_list};
+ghost use Rattle.elf_tool_text.specs.Engine.{Prints};
+ghost use Rattle.elf_tool_link.specs.Map.{IsMapped, IsThis, MapSays, RelocationSays, TellsUnlinked};
+ghost use Rattle.elf_tool_link.specs.MapLines.{refusal_line};
+
+use crate::bytes_lines::write_relocated;
+use crate::map_lines::push_refusal_line;
+use crate::map_text::map_text;
+use crate::mapped::{Unlinked, mapped_files};
+use crate::object_files::slices_of;
+use elf_image_stream::write_whole;
+use elf_link_field::RelocRule;
+use elf_link_map::Options;
+use elf_link_relocate::Mapped;
+use elf_tool_text::{Refusal, ToolFault, Verdict, read_inputs};
+use std::alloc::Global;
+use std::io::{Read, Write};
+
+/// Reads files whole, in order, links the objects that they denote, and writes the lines of their link map; with
+/// relocation rules the lines of the relocated bytes behind them, `bytes FILE SECTION HEX`, in order of placement.
+///
+/// A file that is refused, the first such one, is said by the line `file F refused R A` alone, with the first rule that it breaks,
+/// as an image or, with a number from 40 on, as an object, and its lowest offset; and files that do not link by the line
+/// `refused RULE FILE INDEX ENTRY` alone, with the first of the link's rules that stands.
+///
+/// The verdict is what the text says. Nothing is out after [`ToolFault::Read`], which carries how many bytes the reader that
+/// failed had given, and [`ToolFault::OutOfMemory`]; after [`ToolFault::Write`] exactly the first `written` bytes of the text are.
+/// All files are held in memory, their objects, the link map and its lines, and with relocation rules a copy of each live section
+/// with bits; the lines of the relocated bytes are made as they go out. The time is at most that of `object_of` for each file, of `map` and
+/// `relocate` of the library, and of the text.
+pub fn map<R: Read, W: Write>(
+    alloc: Global,
+    readers: &mut [R],
+    options: &Options<'_>,
+    rules: Option<&[RelocRule]>,
+    writer: &mut W,
+) -> Result<Verdict, ToolFault>
+    ensures { IsMapped options.now (option_copied rules.entry) (map_list R.remaining readers.old) (map_list R.remaining readers.new)
+        (W.contents writer.old) (W.contents writer.new) result }
+{
+    let files = read_inputs(alloc, readers)?;
+    let contents = slices_of(alloc, &files)?;
+    map_files(alloc, &contents, options, rules, writer)
+}
+
+/// Writes the same of files of these bytes, in order.
+///
+/// Nothing is out after [`ToolFault::OutOfMemory`]; after [`ToolFault::Write`] exactly the first `written` bytes of the text are; there is
+/// no other fault.
+pub fn map_files<W: Write>(
+    alloc: Global,
+    files: &[&[u8]],
+    options: &Options<'_>,
+    rules: Option<&[RelocRule]>,
+    writer: &mut W,
+) -> Result<Verdict, ToolFault>
+    ensures { Prints (MapSays options.now (option_copied rules.entry) (map_list (λ f. f.now) files.now)) (W.contents writer.old) (W.contents writer.new) result }
+{
+    match mapped_files(alloc, files, options) {
+        Ok(mapped) => answer_map(alloc, &mapped, rules, writer),
+        Err(unlinked) => tell_unlinked(alloc, unlinked, writer),
+    }
+}
+
+fn answer_map<W: Write>(
+    alloc: Global,
+    mapped: &Mapped<'_>,
+    rules: Option<&[RelocRule]>,
+    writer: &mut W,
+) -> Result<Verdict, ToolFault>
+    ensures { Prints (RelocationSays (option_copied rules.entry) mapped.now.objects mapped.now.map) (W.contents writer.old) (W.contents writer.new) result }
+{
+    match rules {
+        Some(rules) => answer_relocations(alloc, mapped, rules, writer),
+        None => {
+            let text = map_text(alloc, mapped.objects(), mapped.map())?;
+            tell(Verdict::Done, &text, writer)
+        }
+    }
+}
+
+fn answer_relocations<W: Write>(
+    alloc: Global,
+    mapped: &Mapped<'_>,
+    rules: &[RelocRule],
+    writer: &mut W,
+) -> Result<Verdict, ToolFault>
+    ensures { Prints (RelocationSays (Some rules.now) mapped.now.objects mapped.now.map) (W.contents writer.old) (W.contents writer.new) result }
+{
+    match mapped.relocated(alloc, rules) {
+        Ok(linked) => {
+            let text = map_text(alloc, mapped.objects(), mapped.map())?;
+            write_relocated(writer, &text, &linked)?;
+            Ok(Verdict::Done)
+        }
+        Err(fault) => tell_unlinked(alloc, fault.into(), writer),
+    }
+}
+
+// Says why files are not linked.
+fn tell_unlinked<W: Write>(
+    alloc: Global,
+    unlinked: Unlinked,
+    writer: &mut W,
+) -> Result<Verdict, ToolFault>
+    ensures { Prints (TellsUnlinked unlinked) (W.contents writer.old) (W.contents writer.new) result }
+{
+    match unlinked {
+        Unlinked::Refused(refusal) => tell_refusal(alloc, refusal, writer),
+        Unlinked::OutOfMemory => Err(ToolFault::OutOfMemory),
+    }
+}
+
+// Says what is refused.
+fn tell_refusal<W: Write>(
+    alloc: Global,
+    refusal: Refusal,
+    writer: &mut W,
+) -> Result<Verdict, ToolFault>
+    ensures { Prints (IsThis (Verdict.Refused refusal) (refusal_line refusal)) (W.contents writer.old) (W.contents writer.new) result }
+{
+    let mut text = Vec::new(alloc);
+    push_refusal_line(&mut text, refusal)?;
+    tell(Verdict::Refused(refusal), &text, writer)
+}
+
+// Writes what is said, and answers its verdict.
+fn tell<W: Write>(verdict: Verdict, text: &[u8], writer: &mut W) -> Result<Verdict, ToolFault>
+    ensures { Prints (IsThis verdict text.now) (W.contents writer.old) (W.contents writer.new) result }
+{
+    write_whole(writer, text)?;
+    Ok(verdict)
+}

@@ -1,2 +1,0 @@
--- Lemmas on objects read one after the other.
-pub mod ObjectFiles

@@ -1,3 +1,0 @@
--- The words of this crate's contracts.
-pub mod MappedFiles
-pub mod ObjectFiles
