@@ -157,7 +157,9 @@ def wrong_with(row: Row, library: str) -> str:
         seconds = run_row(row, library)[1]
     if seconds > MOST_SECONDS:
         return f"it takes {seconds:.2f} s"
-    lengths = sum(len(row.files[it.partition("=")[2]]) for it in row.needs if "=" in it)
+    # A file may be named by several words.
+    places = {place: name for place, _, name in (it.partition("=") for it in row.needs) if name}
+    lengths = sum(len(row.files[places[it]]) for it in row.words if it in places)
     most = LEAST_MEMORY + (SEEKING_MEMORY if "--seek" in row.words else MOST_MEMORY) * lengths
     if memory > most:
         return f"it asks for {memory} bytes, and not for {most} at most"
