@@ -8,7 +8,7 @@
 Each refusal has the rule's name, its sentence and what to do, as docs/RULES.md has them; which field, entry or byte is at the offset, and
 which sections and symbols it is about. Nothing in a FILE has to be sound: what is not there is left unsaid."""
 
-import argparse, mmap, re, sys, textwrap
+import argparse, functools, mmap, re, sys, textwrap
 from collections.abc import Iterator
 from typing import Any, Literal
 
@@ -277,6 +277,7 @@ def link_words(files: list[File], rule: int, file: int, index: int, entry: int) 
 # ---- the rules
 
 
+@functools.cache
 def rule_words(anchor: str) -> tuple[str, str, str, str] | None:
     """Of a rule of docs/RULES.md, by its anchor: its name, what it refuses, its sentence, and what to do."""
     head: list[str] = []
