@@ -2,6 +2,7 @@
 
 import functools, os, re
 from collections.abc import Iterator
+from dataclasses import dataclass, field, replace
 
 from .tree import TOP, libraries, matched, read_text, texts_of
 
@@ -19,13 +20,21 @@ IMPORT = re.compile(r"use Rattle\.([\w.]+)\.\{([^}]*)\}")
 DEFINITION = re.compile(r"(?:pub )?(?:abbrev|unfoldable|record|data) (?:pub )?([^\s(:]+)|(?:pub )?([^\s(:=]+) :")
 
 
+@dataclass
 class Item:
     """An item of a source: its doc comment, its text up to its contract, its clauses, and what is in it."""
 
-    def __init__(self, kind: str, name: str, source: str, docs: list[str], text: list[str]) -> None:
-        self.kind, self.name, self.source, self.docs, self.text = kind, name, source, docs, text
-        self.clauses, self.ghosts, self.traits, self.uses = list[str](), list[str](), list[str](), dict[str, tuple[str, str]]()
-        self.members, self.fields = list[Item](), list[tuple[list[str], str]]()
+    kind: str
+    name: str
+    source: str
+    docs: list[str]
+    text: list[str]
+    uses: Uses = field(default_factory=dict)
+    clauses: list[str] = field(default_factory=list)
+    ghosts: list[str] = field(default_factory=list)
+    traits: list[str] = field(default_factory=list)
+    members: "list[Item]" = field(default_factory=list)
+    fields: list[tuple[list[str], str]] = field(default_factory=list)
 
 
 def indent_of(line: str) -> int:
@@ -81,8 +90,8 @@ def unindented(lines: list[str]) -> list[str]:
     return [it[least:].rstrip() for it in lines]
 
 
-def signature_and_clauses(text: list[str]) -> tuple[list[str], list[str]]:
-    """A function's signature, and the clauses behind it."""
+def signature_and_clauses(text: list[str], uses: Uses) -> tuple[list[str], Uses, list[str]]:
+    """A function's signature, what its words mean, and the clauses after it."""
     head, clauses = list[str](), list[list[str]]()
     for line in text:
         word = line.strip()
@@ -96,7 +105,7 @@ def signature_and_clauses(text: list[str]) -> tuple[list[str], list[str]]:
             head.append(line.removesuffix(" {"))
             if line.endswith(" {"):
                 break
-    return unindented(head), ["\n".join(unindented(it)).removesuffix(";") for it in clauses]
+    return unindented(head), uses, ["\n".join(unindented(it)).removesuffix(";") for it in clauses]
 
 
 def imports(text: str) -> Uses:
@@ -115,12 +124,8 @@ def members_of(text: list[str], source: str, is_trait: bool, uses: Uses) -> Iter
     uses = {**uses, **imports("\n".join(lines))}
     for docs, _, part in blocks(lines):
         match = re.match(r"(pub )?(fn|const|type) (\w+)", part[0].strip())
-        if not match or not (match[1] or is_trait):
-            continue
-        item = Item(match[2], match[3], source, docs, [])
-        item.text, item.clauses = signature_and_clauses(part)
-        item.uses = uses
-        yield item
+        if match and (match[1] or is_trait):
+            yield Item(match[2], match[3], source, docs, *signature_and_clauses(part, uses))
 
 
 def ghosts_of(text: list[str]) -> list[str]:
@@ -142,17 +147,15 @@ def fields_of(text: list[str]) -> Iterator[tuple[list[str], str]]:
 
 
 def item_of(docs: list[str], marks: list[str], text: list[str], source: str, uses: Uses) -> Item:
-    match = matched(HEAD, text[0])
-    item = Item(match[1], match[2], source, docs, unindented(text))
-    item.uses = uses
-    if item.kind == "fn":
-        item.text, item.clauses = signature_and_clauses(text)
-    if item.kind in ("struct", "enum", "trait"):
-        derived = [it for it in marks if it.startswith("#[derive")]
-        item.text = derived + [text[0].rstrip().removesuffix(" {")]
-    if item.kind in ("struct", "enum"):
+    kind, name = matched(HEAD, text[0]).groups()
+    if kind == "fn":
+        return Item(kind, name, source, docs, *signature_and_clauses(text, uses))
+    item = Item(kind, name, source, docs, unindented(text), uses)
+    if kind in ("struct", "enum", "trait"):
+        item.text = [it for it in marks if it.startswith("#[derive")] + [text[0].rstrip().removesuffix(" {")]
+    if kind in ("struct", "enum"):
         item.fields = list(fields_of(text))
-    if item.kind == "trait":
+    if kind == "trait":
         item.members, item.ghosts = list(members_of(text, source, True, uses)), ghosts_of(text)
         item.uses = {**uses, **imports("\n".join(text))}
     return item
@@ -211,8 +214,7 @@ def shown_by(path: str) -> Iterator[tuple[int, str, str]]:
 
 def module_file(crate: str, words: tuple[str, ...]) -> str:
     """The file of a module of a crate."""
-    stem = f"crates/{crate}/src/{'/'.join(words)}"
-    return f"crates/{crate}/src/lib.rt" if not words else f"{stem}.rt"
+    return f"crates/{crate}/src/{'/'.join(words or ('lib',))}.rt"
 
 
 def found(crate: str, words: tuple[str, ...], name: str) -> tuple[str, str]:
@@ -246,16 +248,10 @@ def module(crate: str, words: tuple[str, ...]) -> Item:
     """A public module: its front doc, its constants, and the modules that it shows."""
     path = module_file(crate, words)
     front, items, _, _ = source(path)
-    item = Item("mod", words[-1], path, front, [f"pub mod {words[-1]}"])
-    item.members = [it for it in items.values() if it.kind in ("const", "fn")]
-    item.members += [renamed(item_of_place(crate, words, place), shown) for _, shown, place in shown_by(path)]
-    return item
-
-
-def renamed(item: Item, name: str) -> Item:
-    copy = Item(item.kind, name, item.source, item.docs, [f"pub mod {name}"])
-    copy.members = item.members
-    return copy
+    members = [it for it in items.values() if it.kind in ("const", "fn")]
+    for _, shown, place in shown_by(path):
+        members.append(replace(item_of_place(crate, words, place), name=shown, text=[f"pub mod {shown}"]))
+    return Item("mod", words[-1], path, front, [f"pub mod {words[-1]}"], members=members)
 
 
 def item_of_place(crate: str, words: tuple[str, ...], place: str) -> Item:
@@ -274,11 +270,14 @@ def items_of(crate: str) -> Iterator[Item]:
 # ---- the definitions
 
 
+@dataclass
 class Definition:
     """A definition of a file of specs/, with the comment above it and its own text."""
 
-    def __init__(self, name: str, path: str, comment: str, text: str) -> None:
-        self.name, self.path, self.comment, self.text = name, path, comment, text
+    name: str
+    path: str
+    comment: str
+    text: str
 
 
 @functools.cache
