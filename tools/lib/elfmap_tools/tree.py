@@ -3,7 +3,7 @@
 import contextlib, functools, os, re, subprocess, sys, threading, time
 from collections.abc import Iterable, Iterator, Mapping
 
-TOP = os.path.dirname(os.path.dirname(os.path.dirname(os.path.dirname(os.path.abspath(__file__)))))
+TOP = os.path.dirname(os.path.dirname(os.path.dirname(os.path.dirname(os.path.realpath(__file__)))))
 PROCESSORS = len(os.sched_getaffinity(0))
 PROGRAM = f"{TOP}/crates/elfmap/out/elfmap"
 RULES = f"{TOP}/rules/x86-64.rules"
