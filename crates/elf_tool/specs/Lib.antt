@@ -7,7 +7,7 @@ pub use Rattle.elf_tool_words.specs.Number
 pub use Rattle.elf_tool_check.specs.Opener
 pub use Rattle.elf_tool_words.specs.Words
 pub use Rattle.elf_tool_check.specs.Check
-pub use Rattle.elf_tool_check_source.specs.CheckSource
+pub use Rattle.elf_tool_program.specs.CheckSource
 pub use Rattle.elf_tool_link.specs.Link
 pub use Rattle.elf_tool_link.specs.Map
 pub use Rattle.elf_tool_link.specs.MapLines

@@ -1,2 +1,3 @@
--- Lemmas on the files that the program opens.
+-- Lemmas on the files that the program opens, and on what a scan answers.
 pub mod Opened
+mod Scanned

@@ -3,7 +3,7 @@ use Rattle.std.specs.Prelude.{◌≡◌, ◌⊎◌, ℕ, Bool, List, map, Option
 use Rattle.std.specs.Io.KnownBytes.{Keeps}
 use Rattle.clap.specs.Walk.{Text}
 use Rattle.elf_tool_check.specs.Check.{IsChecked}
-use Rattle.elf_tool_check_source.specs.CheckSource.{IsSourceChecked}
+use Rattle.elf_tool_program.specs.CheckSource.{IsSourceChecked}
 use Rattle.elf_tool_check.specs.Ending.{EndsFile, EndsWords, ending_of}
 use Rattle.elf_tool_link.specs.Link.{IsLinkCall}
 use Rattle.elf_tool_link.specs.Map.{IsMapped}

@@ -1,10 +1,14 @@
 //! The program `elfmap` with all its commands, without its surroundings: one call, [`run`], over its words, an [`Opener`] of files
-//! and the engines.
+//! and the engines. The engine of `check --seek` is here: [`check_source`] says what [`check`] says of the whole file, of a file that is
+//! sought and read, and reads no more of it than that takes.
 //!
 //! ```
 //! // The first word is the program's name; `files` opens names, `out` and `err` take what is written.
 //! let status = run(alloc, &["elfmap", "check", "header.elf"], &mut files, &mut out, &mut err);
 //! assert_eq!(rt; status, Status::Done as u8);
+//! let mut out = Vec::new(alloc);
+//! assert_eq!(rt; check_source(alloc, &mut Bytes(&header), &mut out), Ok(Verdict::Done));
+//! assert_eq!(rt; out.as_slice(), b"ok 64 0 0\n".as_slice());
 //! ```
 #![tactic(auto)]
 
@@ -12,10 +16,10 @@ mod machine;
 mod opening;
 mod program;
 mod rules;
+mod scan_check;
 
 pub use elf_link_field::{Form, Range, RelocRule, Width};
 pub use elf_tool_check::{MachineFiles, OpenFault, Opener, Status, check, refuse_words};
-pub use elf_tool_check_source::check_source;
 pub use elf_tool_link::{Options, link, map};
 pub use elf_tool_rewrite::rewrite;
 pub use elf_tool_rule_file::{RulesFault, read_rules};
@@ -24,3 +28,4 @@ pub use elf_tool_text::{Refusal, ToolFault, Verdict};
 pub use elf_tool_words::{Request, WordsFault, read_words};
 pub use machine::run_on_machine;
 pub use program::run;
+pub use scan_check::check_source;

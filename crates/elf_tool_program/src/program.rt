@@ -2,7 +2,7 @@
 ghost use Rattle.std.specs.Prelude.{◌≡◌, map as map_list, option_copied};
 ghost use Rattle.elf_tool_check.specs.Ending.{EndsFile, code_of, ending_of};
 ghost use Rattle.elf_tool_check.specs.declared.ending.Status.{Status as Ending};
-ghost use Rattle.elf_tool_check_source.specs.CheckSource.{IsSourceChecked};
+ghost use Rattle.elf_tool_program.specs.CheckSource.{IsSourceChecked};
 ghost use Rattle.elf_tool_rewrite.specs.Rewrite.{IsRewritten};
 ghost use Rattle.elf_tool_show.specs.Show.{IsShown};
 ghost use Rattle.elf_tool_link.specs.Link.{IsLinkCall};
@@ -11,11 +11,11 @@ ghost use Rattle.elf_tool_program.specs.Program.{EndsFiles, EndsLink, EndsMap, E
 
 use crate::opening::open_all;
 use crate::rules::{NoRules, rules_of};
+use crate::scan_check::check_source;
 use elf_link_field::RelocRule;
 use elf_tool_check::{
     OpenFault, Opener, Status, check_file, fail, misused, no_request, status_of, unopened,
 };
-use elf_tool_check_source::check_source;
 use elf_tool_link::{Options, link, map};
 use elf_tool_rewrite::rewrite;
 use elf_tool_rule_file::RulesFault;

@@ -18,6 +18,8 @@ use std::{env, fs, io};
 /// The exit status of what failed, and why it did.
 type Failed = (u8, &'static str);
 
+const UNWRITTEN: Failed = (3, "the image can't be written");
+
 fn main(rt: HostRuntime) -> io::Result<ExitCode> {
     let words: Vec<String> = env::args(&rt)?.collect(rt.alloc())?;
     if let Err((status, why)) = run(&rt, words.as_slice()) {
@@ -51,7 +53,7 @@ fn write_back<W: Write>(alloc: Global, bytes: &[u8], out: &mut W) -> Result<(), 
     let image = image_of(alloc, bytes)?;
     match write(&image, out) {
         Ok(()) => Ok(()),
-        Err(_) => Err((3, "the image can't be written")),
+        Err(_) => Err(UNWRITTEN),
     }
 }
 
@@ -72,7 +74,10 @@ fn edit<W: Write>(
     if image.set_flags(section, flags).is_err() {
         return Err((2, "the file has no section of this index"));
     }
-    write(&image, out).map_err(|_| (3, "the image can't be written"))
+    if write(&image, out).is_err() {
+        return Err(UNWRITTEN);
+    }
+    Ok(())
 }
 
 /// The image that these bytes are; or the exit status, and why there is none.

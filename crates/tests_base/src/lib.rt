@@ -1,6 +1,16 @@
-//! Tests of the small crates: records, string tables, relocations and files of rules.
+//! Tests of the crates that know no image: records, extents, relocations, string tables and files of rules; and of the verdict on a file.
 #![tactic(auto)]
 
+#[cfg(test)]
+mod accounts;
+#[cfg(test)]
+mod doubles;
+#[cfg(test)]
+mod extents;
+#[cfg(test)]
+mod image_rules;
+#[cfg(test)]
+mod places;
 #[cfg(test)]
 mod records;
 #[cfg(test)]
@@ -9,3 +19,5 @@ mod relocations;
 mod rule_files;
 #[cfg(test)]
 mod string_tables;
+#[cfg(test)]
+mod sweeps;

@@ -25,10 +25,13 @@ fn addend(order: Order, range: Range) -> i128 {
     addend_in(order, range, Width::W4, &bytes, 1)
 }
 
-// The field of four bytes that counts from -4, or from 4,294,967,292 where it has no negative numbers.
+// What each form counts; and the field of four bytes that counts from -4, or from 4,294,967,292 where it has no negative numbers.
 #[test]
-fn addends_in_the_field(rt: HostRuntime) {
-    let addends = [
+fn numbers_and_addends(rt: HostRuntime) {
+    let numbers = [
+        Form::Abs.number(0x2008, -4, 0x2000),
+        Form::Abs.number(0x2008, 4_294_967_292, 0x2000),
+        Form::Pc.number(0, -1, 0xffff_ffff_ffff_ffff),
         addend(Order::Little, Range::Signed),
         addend(Order::Little, Range::Wrap),
         addend(Order::Little, Range::Unsigned),
@@ -37,6 +40,9 @@ fn addends_in_the_field(rt: HostRuntime) {
         addend(Order::Big, Range::Unsigned),
     ];
     let expected = [
+        0x2004,
+        4_294_975_492,
+        -0x1_0000_0000_0000_0000,
         -4,
         -4,
         4_294_967_292,
@@ -44,17 +50,7 @@ fn addends_in_the_field(rt: HostRuntime) {
         -50_331_649,
         4_244_635_647,
     ];
-    assert_eq!(rt; addends, expected);
-}
-
-#[test]
-fn numbers_of_each_form(rt: HostRuntime) {
-    let numbers = [
-        Form::Abs.number(0x2008, -4, 0x2000),
-        Form::Abs.number(0x2008, 4_294_967_292, 0x2000),
-        Form::Pc.number(0, -1, 0xffff_ffff_ffff_ffff),
-    ];
-    assert_eq!(rt; numbers, [0x2004, 4_294_975_492, -0x1_0000_0000_0000_0000]);
+    assert_eq!(rt; numbers, expected);
 }
 
 /// What fields of this width admit at the borders of the signed numbers, at those of the unsigned ones, and
@@ -132,17 +128,6 @@ fn fields_in_both_orders(rt: HostRuntime) {
     assert_eq!(rt; fields, expected);
 }
 
-#[test]
-fn bytes_that_two_fields_have(rt: HostRuntime) {
-    let mut marks = [false; 8];
-    let answers = [
-        mark(&mut marks, 4, Width::W4),
-        mark(&mut marks, 0, Width::W4),
-        mark(&mut marks, 3, Width::W1),
-    ];
-    assert_eq!(rt; (answers, marks), ([false, false, true], [true; 8]));
-}
-
 /// A rule of this kind and form.
 fn rule(kind: u32, form: Form) -> RelocRule {
     RelocRule {
@@ -153,11 +138,23 @@ fn rule(kind: u32, form: Form) -> RelocRule {
     }
 }
 
+// Bytes that two fields have; and the first rule of a kind.
 #[test]
-fn the_first_rule_of_a_kind(rt: HostRuntime) {
+fn marks_and_rules(rt: HostRuntime) {
+    let mut marks = [false; 8];
+    let answers = [
+        mark(&mut marks, 4, Width::W4),
+        mark(&mut marks, 0, Width::W4),
+        mark(&mut marks, 3, Width::W1),
+    ];
     let rules = [rule(1, Form::Abs), rule(2, Form::Pc), rule(2, Form::None)];
+    let found = [rule_of(&rules, 2), rule_of(&rules, 3)];
     assert_eq!(rt;
-        [rule_of(&rules, 2), rule_of(&rules, 3)],
-        [Some(rule(2, Form::Pc)), None]
+        (answers, marks, found),
+        (
+            [false, false, true],
+            [true; 8],
+            [Some(rule(2, Form::Pc)), None]
+        )
     );
 }

@@ -44,7 +44,7 @@ fn assert_rules(
     Ok(())
 }
 
-// Each word of each place.
+// Each word of each place; and an empty file.
 #[test]
 fn rules_in_order(rt: HostRuntime) -> Result<(), RulesFault> {
     let file =
@@ -56,11 +56,7 @@ fn rules_in_order(rt: HostRuntime) -> Result<(), RulesFault> {
         rule(0, Form::None, Width::W1, Range::Signed),
         rule(2, Form::Abs, Width::W2, Range::Unsigned),
     ];
-    assert_rules(&rt, rt.alloc(), file, &expected)
-}
-
-#[test]
-fn an_empty_file(rt: HostRuntime) -> Result<(), RulesFault> {
+    assert_rules(&rt, rt.alloc(), file, &expected)?;
     assert_rules(&rt, rt.alloc(), b"", &[])
 }
 
@@ -117,21 +113,17 @@ fn other_blanks(rt: HostRuntime) -> Result<(), RulesFault> {
     assert_bad(&rt, rt.alloc(), &lines)
 }
 
+// A last line without its end, an empty line, and the first one of two bad lines.
 #[test]
-fn a_last_line_without_its_end(rt: HostRuntime) -> Result<(), RulesFault> {
+fn the_first_bad_line(rt: HostRuntime) -> Result<(), RulesFault> {
+    let two = b"1 abs 4 wrap\n2 abs 5 wrap\n3 abs 4 wrap\nbad\n";
     let lines = [
         bad_line(rt.alloc(), b"1 abs 4 wrap")?,
         bad_line(rt.alloc(), b"1 abs 4 wrap\n2 pc 4 wrap")?,
         bad_line(rt.alloc(), b"1 abs 4 wrap\n\n")?,
+        bad_line(rt.alloc(), two)?,
     ];
-    assert_eq!(rt; lines, [1, 2, 2]);
-    Ok(())
-}
-
-#[test]
-fn the_first_of_two_bad_lines(rt: HostRuntime) -> Result<(), RulesFault> {
-    let file = b"1 abs 4 wrap\n2 abs 5 wrap\n3 abs 4 wrap\nbad\n";
-    assert_eq!(rt; bad_line(rt.alloc(), file)?, 2);
+    assert_eq!(rt; lines, [1, 2, 2, 2]);
     Ok(())
 }
 

@@ -1,38 +1,134 @@
-//! `tests_calls CALL FILE`: calls of the library on a file, for scripts that compare what they say or make their reads and writes fail.
+//! Calls of the library, for tests that refuse growths, make reads and writes fail, or compare what the calls say.
 //!
-//! `write`, `object` and `copy` write the file again: its image, the object that it denotes, or by `copy_image` what is read where it has
-//! to be. They end as the program does: status 0 where all is out, 1 where a rule is broken, 3 with a line on standard error where memory,
-//! a read or a write failed. `changes` tells of the beginnings of the file, and of the files that differ from it in one byte, what each
-//! call says ([`changes::tell`]).
+//! `tests_calls growths RULES FILE..` makes each call that takes memory, of records and extents by themselves and of these files, and
+//! prints a line on each: which it was, and a number that tells its answer, or `out of memory`, or `refused`. Behind them it prints what is
+//! asked of the values that came out, which takes no memory. `tests_calls quiet N FILE..` makes each call that takes no memory N times on
+//! what these files are, and prints nothing of them.
+//!
+//! `tests_calls write FILE`, `object` and `copy` write the file again: its image, the object that it denotes, or by `copy_image` what is
+//! read where it has to be. They end as the program does: status 0 where all is out, 1 where a rule is broken, 3 with a line on standard
+//! error where memory, a read or a write failed. `tests_calls changes FILE` tells of the beginnings of the file, and of the files that
+//! differ from it in one byte, what each call says ([`changes::tell`]).
 #![tactic(auto)]
 
 mod changes;
+mod extents;
+mod images;
+mod links;
+mod objects;
+mod quiet;
+mod said;
+mod words;
 mod writing;
 
-use elf_image_stream::{Seeking, read_to_end};
+use elf_image_stream::{Fault, Seeking, read_to_end, resume};
+use said::{Said, of_fault, say};
+use std::alloc::Global;
+use std::io::{Read, Write};
 use std::process::ExitCode;
 use std::{env, fs, io};
 
 fn main(rt: HostRuntime) -> io::Result<ExitCode> {
-    let alloc = rt.alloc();
-    let words: Vec<String> = env::args(&rt)?.collect(alloc)?;
-    let [_, call, name] = words.as_slice() else {
+    let words: Vec<String> = env::args(&rt)?.collect(rt.alloc())?;
+    let [_, call, names @ ..] = words.as_slice() else {
         return Ok(ExitCode::from(2));
     };
+    match call.as_str() {
+        "growths" => growths(&rt, names),
+        "quiet" => quiet_calls(&rt, names),
+        call => match names {
+            [name] => written(&rt, call, name),
+            _ => Ok(ExitCode::from(2)),
+        },
+    }
+}
+
+/// The calls that take memory, on the files of these words; the first one names a file of relocation rules.
+fn growths(rt: &HostRuntime, words: &[String]) -> io::Result<ExitCode> {
+    let alloc = rt.alloc();
+    let mut out = rt.stdout();
+    let [rules, names @ ..] = words else {
+        return Ok(ExitCode::from(2));
+    };
+    extents::calls(alloc, &mut out);
+    words::calls(alloc, &mut out);
+    objects::calls(alloc, &mut out);
+    let Ok(rules) = read(alloc, &mut fs::open(rt, rules.as_str())?, &mut out) else {
+        return Ok(ExitCode::from(3));
+    };
+    let mut files = Vec::new(alloc);
+    for name in names {
+        let Ok(file) = read(alloc, &mut fs::open(rt, name.as_str())?, &mut out) else {
+            return Ok(ExitCode::from(3));
+        };
+        images::calls(alloc, &file, &mut out);
+        files.push(file)?;
+    }
+    links::calls(alloc, &files, &rules, &mut out);
+    Ok(ExitCode::from(0))
+}
+
+/// The calls that take no memory, so many times, as the first of these words says, on the files of the other ones.
+fn quiet_calls(rt: &HostRuntime, words: &[String]) -> io::Result<ExitCode> {
+    let alloc = rt.alloc();
+    let [times, names @ ..] = words else {
+        return Ok(ExitCode::from(2));
+    };
+    let Ok(times) = times.as_str().parse::<u32>() else {
+        return Ok(ExitCode::from(2));
+    };
+    let mut files = Vec::new(alloc);
+    for name in names {
+        files.push(fs::read(rt, name.as_str())?)?;
+    }
+    quiet::calls(alloc, files.as_slice(), times);
+    Ok(ExitCode::from(0))
+}
+
+/// A call that writes a file again, or tells of those that differ from it.
+fn written(rt: &HostRuntime, call: &str, name: &String) -> io::Result<ExitCode> {
+    let alloc = rt.alloc();
     let (mut out, mut err) = (rt.stdout(), rt.stderr());
-    if call.as_str() == "copy" {
-        let mut source = Seeking::new(fs::open(&rt, name.as_str())?);
+    if call == "copy" {
+        let mut source = Seeking::new(fs::open(rt, name.as_str())?);
         let ended = writing::copy(alloc, &mut source, &mut out);
         return Ok(ExitCode::from(writing::status(ended, &mut err)));
     }
     let mut bytes = Vec::new(alloc);
-    let ended = match read_to_end(&mut fs::open(&rt, name.as_str())?, &mut bytes) {
+    let ended = match read_to_end(&mut fs::open(rt, name.as_str())?, &mut bytes) {
         Err(fault) => Err(fault.into()),
-        Ok(()) => match call.as_str() {
+        Ok(()) => match call {
             "write" => writing::image(alloc, &bytes, &mut out),
             "object" => writing::object(alloc, &bytes, &mut out),
             _ => return Ok(ExitCode::from(changes::tell(alloc, &mut bytes, &mut out))),
         },
     };
     Ok(ExitCode::from(writing::status(ended, &mut err)))
+}
+
+/// All bytes of a reader. Where a growth is refused it is asked for once more, and nothing that was read is lost.
+fn read<R: Read, W: Write>(alloc: Global, reader: &mut R, out: &mut W) -> Result<Vec<u8>, Fault> {
+    let mut bytes = Vec::new(alloc);
+    let ended = match read_to_end(reader, &mut bytes) {
+        Err(Fault::OutOfMemory) => {
+            say(out, "read_to_end", Said::Memory);
+            resume(reader, &mut bytes)
+        }
+        ended => ended,
+    };
+    if let Err(fault) = ended {
+        say(out, "read_to_end", of_fault(fault));
+        return Err(fault);
+    }
+    say(out, "read_to_end", Said::Done(sum_of(&bytes)));
+    Ok(bytes)
+}
+
+/// A number that tells these bytes from others that a reading might give in their place.
+fn sum_of(bytes: &[u8]) -> u64 {
+    let mut sum = bytes.len() as u64;
+    for byte in bytes {
+        sum = sum.wrapping_mul(257).wrapping_add(*byte as u64);
+    }
+    sum
 }

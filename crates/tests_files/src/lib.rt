@@ -1,4 +1,4 @@
-//! Files for tests, given by their fields, in either byte order; and readers and writers that fail.
+//! Files for tests, given by their fields, in either byte order; and readers, sources and writers that give or take little, or fail.
 //!
 //! ```
 //! let mut file = [0; 64];
@@ -7,17 +7,21 @@
 //! ```
 #![tactic(auto)]
 
-mod fakes;
 mod image_files;
 mod object_files;
+mod readers;
+mod sources;
+mod writers;
 
 use elf_field::Order;
-pub use fakes::{Failure, PIECE, Pieces, Sink, Source};
 pub use image_files::{
     empty_contents, empty_object, filled_gap, header_alone, long_parts, one_section, one_segment,
     two_of_each,
 };
 pub use object_files::{callee, caller};
+pub use readers::{Failure, OnceFailingReader, PIECE, Pieces};
+pub use sources::PartialSource;
+pub use writers::{Counter, OnceFailingWriter, Sink};
 
 /// A field: its offset in the file, its width in bytes and its value.
 pub type Field = (u64, usize, u64);

@@ -1,8 +1,9 @@
 //! Images of the worked files: read, edited and written.
 ghost use Rattle.std.specs.Prelude.{◌<◌};
 
+use crate::scans::are_parts;
 use elf_field::Order;
-use elf_image_outline::{NoSection, Owner, Part, ReplaceFault};
+use elf_image_outline::{NoSection, ReplaceFault};
 use elf_image_stream::{Fault, read_to_end};
 use elf_image_type::{Image, parse, verdict, write};
 use std::alloc::Global;
@@ -14,10 +15,6 @@ use tests_files::{
 
 const LITTLE: Order = Order::Little;
 
-fn part(owner: Owner, start: u64, len: u64) -> Part {
-    Part { owner, start, len }
-}
-
 /// The image is written as these bytes.
 fn assert_written(rt: &impl Abort, alloc: Global, image: &Image<'_>, bytes: &[u8]) {
     let mut out = Vec::new(alloc);
@@ -25,39 +22,17 @@ fn assert_written(rt: &impl Abort, alloc: Global, image: &Image<'_>, bytes: &[u8
     assert_eq!(rt; (answer, out.as_slice()), (Ok(()), bytes));
 }
 
-/// The image of these bytes is written as the file.
-fn assert_written_back(
-    rt: &impl Abort,
-    alloc: Global,
-    bytes: &[u8],
-    file: &[u8],
-) -> Result<(), Fault> {
-    let image = parse(alloc, bytes)?;
+/// The image of this file, which is read a byte a call, is written as the file.
+fn assert_kept(rt: &impl Abort, alloc: Global, file: &[u8]) -> Result<(), Fault> {
+    let mut reader = Pieces {
+        bytes: file,
+        piece: 1,
+        failure: None,
+    };
+    let bytes = bytes_read(alloc, &mut reader)?;
+    let image = parse(alloc, &bytes)?;
     assert_written(rt, alloc, &image, file);
     Ok(())
-}
-
-/// The image of this file is written as the file.
-fn assert_kept(rt: &impl Abort, alloc: Global, file: &[u8]) -> Result<(), Fault> {
-    assert_written_back(rt, alloc, file, file)
-}
-
-/// The name of section `index`.
-fn name_of<'a>(image: &Image<'a>, index: usize) -> Option<&'a [u8]> {
-    if index < image.section_count() {
-        Some(image.name(index))
-    } else {
-        None
-    }
-}
-
-/// The content of section `index`.
-fn content_of<'a>(image: &Image<'a>, index: usize) -> Option<&'a [u8]> {
-    if index < image.section_count() {
-        Some(image.content(index))
-    } else {
-        None
-    }
 }
 
 /// Of section `index`: the length of its content and where it stands, and the size and the address in its header and where that stands.
@@ -86,31 +61,16 @@ fn segment_of(image: &Image<'_>, index: usize) -> Option<(u64, u64, u64)> {
     }
 }
 
-/// Whether the image of this file has these parts.
-fn has_parts(alloc: Global, file: &[u8], parts: &[Part]) -> Result<bool, Fault> {
-    let image = parse(alloc, file)?;
-    Ok(image.parts() == parts)
-}
+/// Of a file: its order, and whether its parts are those of the file of one section; its length, how many sections and segments it has,
+/// where its section header table stands, and its name table; its sections 1, 4 and 5; and its segments 0 and 1.
+type Told = (
+    (Order, bool),
+    [u64; 5],
+    [Option<(usize, u64, u64, u64, u64)>; 3],
+    [Option<(u64, u64, u64)>; 2],
+);
 
-#[test]
-fn tells_every_part_of_a_section(rt: HostRuntime) {
-    let parts = [
-        part(Owner::Header, 0, 64),
-        part(Owner::Content(1), 64, 1),
-        part(Owner::Gap, 65, 7),
-        part(Owner::Content(2), 72, 24),
-        part(Owner::Content(3), 96, 1),
-        part(Owner::Content(4), 97, 33),
-        part(Owner::Gap, 130, 6),
-        part(Owner::SectionTable, 136, 320),
-    ];
-    let has = has_parts(rt.alloc(), &one_section(LITTLE), &parts);
-    assert_eq!(rt; has, Ok(true));
-}
-
-/// The order of a file, its length, how many sections and segments it has, where its section header table stands, and its name table.
-fn header_told(alloc: Global, file: &[u8]) -> Result<(Order, [u64; 5]), Fault> {
-    let image = parse(alloc, file)?;
+fn told_by(image: &Image<'_>) -> Told {
     let numbers = [
         image.len() as u64,
         image.section_count() as u64,
@@ -118,65 +78,66 @@ fn header_told(alloc: Global, file: &[u8]) -> Result<(Order, [u64; 5]), Fault> {
         image.header().e_shoff,
         u64::from(image.name_table()),
     ];
-    Ok((image.order(), numbers))
+    let sections = [
+        section_of(image, 1),
+        section_of(image, 4),
+        section_of(image, 5),
+    ];
+    let segments = [segment_of(image, 0), segment_of(image, 1)];
+    let order = (image.order(), are_parts(image.parts()));
+    (order, numbers, sections, segments)
 }
 
-#[test]
-fn tells_the_header_of_a_file(rt: HostRuntime) {
-    let told = header_told(rt.alloc(), &one_section(Order::Big));
-    assert_eq!(rt; told, Ok((Order::Big, [456, 5, 0, 136, 4])));
-}
-
-/// What it tells of sections 1, 4 and 5.
-fn sections_told(
-    alloc: Global,
-    file: &[u8],
-) -> Result<[Option<(usize, u64, u64, u64, u64)>; 3], Fault> {
+/// The same of a file.
+fn told(alloc: Global, file: &[u8]) -> Result<Told, Fault> {
     let image = parse(alloc, file)?;
-    Ok([
-        section_of(&image, 1),
-        section_of(&image, 4),
-        section_of(&image, 5),
-    ])
+    Ok(told_by(&image))
 }
 
 #[test]
-fn tells_the_sections_of_a_file(rt: HostRuntime) {
-    let told = sections_told(rt.alloc(), &one_section(LITTLE));
+fn tells_the_header_sections_and_segments_of_a_file(rt: HostRuntime) {
+    let found = [
+        told(rt.alloc(), &one_section(LITTLE)),
+        told(rt.alloc(), &two_of_each(Order::Big)),
+    ];
     let text = Some((1, 64, 1, 0, 200));
     let names = Some((33, 97, 33, 0, 392));
-    assert_eq!(rt; told, Ok([text, names, None]));
+    let first = Some((4, 176, 4, 0x10b0, 256));
+    let segments = [Some((0x1000, 180, 180)), Some((0x20b8, 8, 16))];
+    let expected = [
+        Ok((
+            (LITTLE, true),
+            [456, 5, 0, 136, 4],
+            [text, names, None],
+            [None; 2],
+        )),
+        Ok((
+            (Order::Big, false),
+            [384, 3, 2, 192, 0],
+            [first, None, None],
+            segments,
+        )),
+    ];
+    assert_eq!(rt; found, expected);
 }
 
-/// What it tells of segments 0 and 1.
-fn segments_told(alloc: Global, file: &[u8]) -> Result<[Option<(u64, u64, u64)>; 2], Fault> {
-    let image = parse(alloc, file)?;
-    Ok([segment_of(&image, 0), segment_of(&image, 1)])
-}
-
-#[test]
-fn tells_the_segments_of_a_file(rt: HostRuntime) {
-    let told = segments_told(rt.alloc(), &two_of_each(Order::Big));
-    assert_eq!(rt; told, Ok([Some((0x1000, 180, 180)), Some((0x20b8, 8, 16))]));
-}
-
-/// A name and a content outlive the image that told them.
-fn first_name_and_content<'a>(
+/// The name and the content of section 1. They outlive the image that told them.
+fn name_and_content<'a>(
     alloc: Global,
     file: &'a [u8],
-) -> Result<(Option<&'a [u8]>, Option<&'a [u8]>), Fault> {
+) -> Result<Option<(&'a [u8], &'a [u8])>, Fault> {
     let image = parse(alloc, file)?;
-    Ok((name_of(&image, 1), content_of(&image, 1)))
+    if image.section_count() < 2 {
+        return Ok(None);
+    }
+    Ok(Some((image.name(1), image.content(1))))
 }
 
 #[test]
 fn a_name_and_a_content_outlive_the_image(rt: HostRuntime) {
     let file = one_section(LITTLE);
-    let told = first_name_and_content(rt.alloc(), &file);
-    assert_eq!(rt;
-        told,
-        Ok((Some(b".text".as_slice()), Some([0xc3].as_slice())))
-    );
+    let told = name_and_content(rt.alloc(), &file);
+    assert_eq!(rt; told, Ok(Some((b".text".as_slice(), [0xc3].as_slice()))));
 }
 
 /// The bytes that a reader gives of this file.
@@ -302,18 +263,6 @@ fn sets_the_entry_and_flags(rt: HostRuntime) -> Result<(), Fault> {
     let mut image = parse(rt.alloc(), &file)?;
     assert_sets(&rt, rt.alloc(), &mut image);
     Ok(())
-}
-
-#[test]
-fn reads_one_byte_at_a_time(rt: HostRuntime) -> Result<(), Fault> {
-    let file = one_section(LITTLE);
-    let mut reader = Pieces {
-        bytes: &file,
-        piece: 1,
-        failure: None,
-    };
-    let bytes = bytes_read(rt.alloc(), &mut reader)?;
-    assert_written_back(&rt, rt.alloc(), &bytes, &file)
 }
 
 /// The rule that `parse` tells, if any.

@@ -6,7 +6,7 @@ use std::alloc::Global;
 use tests_files::{Field, one_segment, set, set_header, two_of_each};
 
 /// The header and the program header of an executable: the one segment of code, which a call and what it calls make.
-const EXECUTABLE_OF_A_CALL: [Field; 12] = [
+const EXECUTABLE_OF_A_CALL: [Field; 17] = [
     (16, 2, 2),
     (24, 8, 0x1000),
     (32, 8, 64),
@@ -19,13 +19,16 @@ const EXECUTABLE_OF_A_CALL: [Field; 12] = [
     (88, 8, 0x1000),
     (96, 8, 7),
     (104, 8, 7),
+    (112, 8, 1),
+    (120, 1, 0xe8),
+    (121, 1, 1),
+    (125, 1, 0xc3),
+    (126, 1, 0xc3),
 ];
 
 fn executable_of_a_call() -> [u8; 127] {
     let mut file = [0; 127];
     set_header(&mut file, Order::Little, &EXECUTABLE_OF_A_CALL);
-    set(&mut file, Order::Little, &[(112, 8, 1)]);
-    file[120..127].copy_from_slice(b"\xe8\x01\0\0\0\xc3\xc3");
     file
 }
 
@@ -56,25 +59,6 @@ fn loaded(alloc: Global, file: &[u8], addresses: [u64; 6]) -> Result<[Option<u8>
     Ok(bytes_at(&image, addresses))
 }
 
-#[test]
-fn loads_the_code_of_an_executable(rt: HostRuntime) {
-    let addresses = [0xfff, 0x1000, 0x1001, 0x1006, 0x1007, u64::MAX];
-    let told = loaded(rt.alloc(), &executable_of_a_call(), addresses);
-    assert_eq!(rt;
-        told,
-        Ok([None, Some(0xe8), Some(1), Some(0xc3), None, None])
-    );
-}
-
-// A byte of each part of the file: the header, both tables, a content and a gap; and one that is not in the file.
-#[test]
-fn loads_each_part_of_a_file(rt: HostRuntime) {
-    let addresses = [0x1001, 0x1043, 0x10b0, 0x10b4, 0x110f, 0x20c7];
-    let told = loaded(rt.alloc(), &loaded_whole(), addresses);
-    let bytes = [b'E', 1, b't', b'g', 6, 0];
-    assert_eq!(rt; told, Ok(bytes.map(Some)));
-}
-
 /// What the image loads once its entry, flags, content and gaps are edited.
 fn loaded_of_edited(
     alloc: Global,
@@ -89,52 +73,88 @@ fn loaded_of_edited(
     Ok(bytes_at(&image, addresses))
 }
 
+// A byte of each part of the file: the header, both tables, a content and a gap; and one that is not in the file. The edited file has
+// another entry, content, flags and gap.
 #[test]
-fn loads_what_the_edited_file_would_have(rt: HostRuntime) {
-    let addresses = [0x101f, 0x1043, 0x10b0, 0x10b4, 0x110f, 0x20b8];
-    let told = loaded_of_edited(rt.alloc(), &loaded_whole(), addresses);
-    let bytes = [0x34, 1, b'T', 0, 7, b'd'];
-    assert_eq!(rt; told, Ok(bytes.map(Some)));
+fn loads_each_part_of_a_file(rt: HostRuntime) {
+    let file = loaded_whole();
+    let parts = [0x1001, 0x1043, 0x10b0, 0x10b4, 0x110f, 0x20c7];
+    let edits = [0x101f, 0x1043, 0x10b0, 0x10b4, 0x110f, 0x20b8];
+    let told = [
+        loaded(rt.alloc(), &file, parts),
+        loaded_of_edited(rt.alloc(), &file, edits),
+    ];
+    let expected = [
+        Ok([b'E', 1, b't', b'g', 6, 0].map(Some)),
+        Ok([0x34, 1, b'T', 0, 7, b'd'].map(Some)),
+    ];
+    assert_eq!(rt; told, expected);
 }
 
-// The first segment has no bytes in the file for the addresses that both have.
-#[test]
-fn loads_by_the_first_segment_that_has_the_address(rt: HostRuntime) {
-    let fields = [(104, 8, 0x200), (136, 8, 0x10b8), (160, 8, 0x200)];
-    let file = two_of_each_with(Order::Little, &fields);
-    let addresses = [0x10b3, 0x10b8, 0x11ff, 0x1200, 0x12b7, 0x12b8];
-    let told = loaded(rt.alloc(), &file, addresses);
-    assert_eq!(rt;
-        told,
-        Ok([Some(b't'), Some(0), Some(0), Some(0), Some(0), None])
-    );
-}
-
-#[test]
-fn loads_nothing_by_a_segment_of_another_type(rt: HostRuntime) {
-    let file = two_of_each_with(Order::Little, &[(64, 4, 4)]);
-    let addresses = [0x1000, 0x10b0, 0x20b8, 0x20bf, 0x20c0, 0x20c8];
-    let told = loaded(rt.alloc(), &file, addresses);
-    assert_eq!(rt;
-        told,
-        Ok([None, None, Some(b'd'), Some(b'a'), Some(0), None])
-    );
-}
-
-// The last address of a segment that goes on behind the largest one.
-#[test]
-fn loads_the_largest_address(rt: HostRuntime) {
+/// The file of one segment, which goes on behind the largest address.
+fn one_segment_at_the_end() -> [u8; 120] {
     let mut file = one_segment(Order::Little);
     let fields = [(80, 8, u64::MAX - 0xfff), (104, 8, u64::MAX)];
     set(&mut file, Order::Little, &fields);
-    let addresses = [
-        0,
-        0xfff,
-        u64::MAX - 0x1000,
-        u64::MAX - 0xfff,
-        u64::MAX - 0xf88,
-        u64::MAX,
+    file
+}
+
+/// The header and the program headers of an executable of four bytes of data, and of eight bytes that are not in the file.
+const DATA_AND_COMMONS: [Field; 18] = [
+    (16, 2, 2),
+    (32, 8, 64),
+    (54, 2, 56),
+    (56, 2, 2),
+    (64, 4, 1),
+    (68, 4, 6),
+    (72, 8, 176),
+    (80, 8, 0x2000),
+    (88, 8, 0x2000),
+    (96, 8, 4),
+    (104, 8, 4),
+    (120, 4, 1),
+    (124, 4, 6),
+    (136, 8, 0x3000),
+    (144, 8, 0x3000),
+    (160, 8, 8),
+    (168, 8, 0x1000),
+    (176, 1, 1),
+];
+
+fn data_and_commons() -> [u8; 180] {
+    let mut file = [0; 180];
+    set_header(&mut file, Order::Little, &DATA_AND_COMMONS);
+    file
+}
+
+// The code of an executable; two segments that have an address, of which the first one has no bytes in the file for it; one of another
+// type, which loads nothing; the last address of one that goes on behind it; and commons, which are 0.
+#[test]
+fn loads_by_segments(rt: HostRuntime) {
+    let code = [0xfff, 0x1000, 0x1001, 0x1006, 0x1007, u64::MAX];
+    let shared = [0x10b3, 0x10b8, 0x11ff, 0x1200, 0x12b7, 0x12b8];
+    let both = [(104, 8, 0x200), (136, 8, 0x10b8), (160, 8, 0x200)];
+    let second = [0x1000, 0x10b0, 0x20b8, 0x20bf, 0x20c0, 0x20c8];
+    let start = u64::MAX - 0xfff;
+    let commons = [0x1fff, 0x2000, 0x2003, 0x2004, 0x3007, 0x3008];
+    let last = [0, 0xfff, start - 1, start, start + 0x77, u64::MAX];
+    let told = [
+        loaded(rt.alloc(), &executable_of_a_call(), code),
+        loaded(rt.alloc(), &two_of_each_with(Order::Little, &both), shared),
+        loaded(
+            rt.alloc(),
+            &two_of_each_with(Order::Little, &[(64, 4, 4)]),
+            second,
+        ),
+        loaded(rt.alloc(), &one_segment_at_the_end(), last),
+        loaded(rt.alloc(), &data_and_commons(), commons),
     ];
-    let told = loaded(rt.alloc(), &file, addresses);
-    assert_eq!(rt; told, Ok([None, None, None, Some(0x7f), Some(0), Some(0)]));
+    let bytes = [
+        [None, Some(0xe8), Some(1), Some(0xc3), None, None],
+        [Some(b't'), Some(0), Some(0), Some(0), Some(0), None],
+        [None, None, Some(b'd'), Some(b'a'), Some(0), None],
+        [None, None, None, Some(0x7f), Some(0), Some(0)],
+        [None, Some(1), Some(0), None, Some(0), None],
+    ];
+    assert_eq!(rt; told, bytes.map(Ok));
 }

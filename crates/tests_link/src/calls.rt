@@ -1,9 +1,7 @@
-//! A function in one file that is called in another.
-use crate::parts::{GLOBAL, holds, list, mapped_by, object, relocs, rule, section, symbol};
+//! A function in one file that is called in another. Its bytes, and links of it that are refused, are in `cases/links.txt`.
+use crate::parts::{GLOBAL, list, mapped_by, object, relocs, section, symbol};
 use elf_field::Order;
-use elf_link_field::{Form, Range, Width};
-use elf_link_map::{Binding, LinkFault, LinkMap, Member, Named, Options, rules};
-use elf_link_relocate::relocate;
+use elf_link_map::{Binding, LinkMap, Member, Named, Options};
 use elf_object_type::{Body, Object, ObjectFault, Place, Relocation, Section, Symbol};
 use std::alloc::{AllocError, Global};
 use std::process::Abort;
@@ -40,31 +38,25 @@ fn caller(alloc: Global) -> Result<Object<'static>, ObjectFault> {
     object(alloc, Order::Little, sections, symbols)
 }
 
-/// `callee`, at this offset of its section.
-fn callee(alloc: Global, value: u64) -> Result<Object<'static>, ObjectFault> {
+/// `callee`, at the start of its section.
+fn callee(alloc: Global) -> Result<Object<'static>, ObjectFault> {
     let sections = list(alloc, [section(b".text", 6, 1, Body::Bits(1, b"\xc3"))])?;
-    let symbols = list(alloc, [symbol(b"callee", GLOBAL, Place::In(0), value)])?;
+    let symbols = list(alloc, [symbol(b"callee", GLOBAL, Place::In(0), 0)])?;
     object(alloc, Order::Little, sections, symbols)
 }
 
-/// Both.
-fn files(alloc: Global) -> Result<[Object<'static>; 2], ObjectFault> {
-    Ok([caller(alloc)?, callee(alloc, 0)?])
-}
-
-/// These options.
-fn options(page: u64, entry: Option<&[u8]>) -> Options<'_> {
-    Options {
+/// The link map of these objects, each output at its least place.
+fn linked<'a>(
+    alloc: Global,
+    objects: &[Object<'a>],
+    entry: Option<&[u8]>,
+) -> Result<LinkMap<'a>, Fail> {
+    let options = Options {
         base: 0x1000,
-        page,
+        page: 1,
         entry,
-    }
-}
-
-/// The link map of both.
-fn linked(alloc: Global, entry: Option<&[u8]>) -> Result<LinkMap<'static>, Fail> {
-    let objects = files(alloc)?;
-    Ok(mapped_by(alloc, &objects, &options(1, entry))?)
+    };
+    Ok(mapped_by(alloc, objects, &options)?)
 }
 
 /// The numbers of the first output: its address, its length and its flags, and how many members it has.
@@ -100,8 +92,13 @@ fn is_text(link: &LinkMap<'_>) -> bool {
     }
 }
 
-/// The map, without an owner.
-fn assert_placed(rt: &impl Abort, link: &LinkMap<'_>) {
+/// The binding to a global definition at symbol 0 of this file.
+fn strong(file: usize) -> Binding {
+    Binding::Strong { file, symbol: 0 }
+}
+
+/// The map, without an owner: where the sections stand, and what the names are bound to, in order.
+fn assert_mapped(rt: &impl Abort, link: &LinkMap<'_>) {
     let addresses = [
         link.address(0, 0),
         link.address(0, 1),
@@ -110,33 +107,6 @@ fn assert_placed(rt: &impl Abort, link: &LinkMap<'_>) {
     ];
     let numbers = [link.base(), link.page(), link.entry()];
     let counts = [link.outputs().len(), link.commons().len()];
-    assert_eq!(rt;
-        (output_of(link), is_text(link), addresses, numbers, counts),
-        (
-            Some((0x1000, 7, 6, 2)),
-            true,
-            [Some(0x1000), None, Some(0x1006), None],
-            [0x1000, 1, 0x1000],
-            [1, 0]
-        )
-    );
-}
-
-// The example of the root of `elf_link_map`.
-#[test]
-fn maps_two_files(rt: HostRuntime) -> Result<(), Fail> {
-    let link = linked(rt.alloc(), Some(b"main"))?;
-    assert_placed(&rt, &link);
-    Ok(())
-}
-
-/// The binding to a global definition at symbol 0 of this file.
-fn strong(file: usize) -> Binding {
-    Binding::Strong { file, symbol: 0 }
-}
-
-/// Its names, in order, and what each is bound to.
-fn assert_named(rt: &impl Abort, link: &LinkMap<'_>) {
     let bindings = [
         link.binding(b"main"),
         link.binding(b"callee"),
@@ -153,89 +123,50 @@ fn assert_named(rt: &impl Abort, link: &LinkMap<'_>) {
         },
     ];
     assert_eq!(rt;
-        (bindings, link.names(), link.entry()),
         (
-            [Some(strong(0)), Some(strong(1)), None],
-            names.as_slice(),
-            0
+            (output_of(link), is_text(link), addresses, numbers, counts),
+            (bindings, link.names())
+        ),
+        (
+            (
+                Some((0x1000, 7, 6, 2)),
+                true,
+                [Some(0x1000), None, Some(0x1006), None],
+                [0x1000, 1, 0x1000],
+                [1, 0]
+            ),
+            ([Some(strong(0)), Some(strong(1)), None], names.as_slice())
         )
     );
 }
 
+// The example of the root of `elf_link_map`.
 #[test]
-fn binds_each_name_once_in_order(rt: HostRuntime) -> Result<(), Fail> {
-    let link = linked(rt.alloc(), None)?;
-    assert_named(&rt, &link);
+fn maps_two_files(rt: HostRuntime) -> Result<(), Fail> {
+    let objects = [caller(rt.alloc())?, callee(rt.alloc())?];
+    let link = linked(rt.alloc(), &objects, Some(b"main"))?;
+    assert_mapped(&rt, &link);
     Ok(())
 }
 
-/// The fault of the link of these objects.
-fn fault_of(alloc: Global, objects: &[Object<'_>], entry: Option<&[u8]>) -> Option<LinkFault> {
-    mapped_by(alloc, objects, &options(1, entry)).err()
-}
-
-/// That of both files; and that of `callee` alone, at the last offset.
-fn faults(alloc: Global, entry: Option<&[u8]>) -> Result<[Option<LinkFault>; 2], ObjectFault> {
-    let objects = files(alloc)?;
-    let high = [callee(alloc, 0xffff_ffff_ffff_ffff)?];
-    Ok([
-        fault_of(alloc, &objects, entry),
-        fault_of(alloc, &high, entry),
-    ])
-}
-
-#[test]
-fn no_entry_is_answered_at_no_site(rt: HostRuntime) -> Result<(), Fail> {
-    let broken = Some(LinkFault::Rule {
-        rule: rules::NO_ENTRY,
-        file: 0,
-        index: 0,
-        entry: 0,
-    });
-    // Of no file; of one, or too high; and where none is asked for.
-    let found = [
-        faults(rt.alloc(), Some(b"nope"))?,
-        faults(rt.alloc(), Some(b"callee"))?,
-        faults(rt.alloc(), None)?,
-    ];
-    assert_eq!(rt; found, [[broken; 2], [None, broken], [None; 2]]);
-    Ok(())
-}
-
-/// How many outputs, commons and names the link of no files has.
-fn counts_of_none(alloc: Global) -> Result<[usize; 3], LinkFault> {
-    let none: [Object<'static>; 0] = [];
-    let link = mapped_by(alloc, &none, &options(0x1000, None))?;
-    Ok([
+/// How many outputs, commons and names a link has, and where it begins.
+fn counts_of(link: &LinkMap<'_>) -> ([usize; 3], u64) {
+    let counts = [
         link.outputs().len(),
         link.commons().len(),
         link.names().len(),
-    ])
+    ];
+    (counts, link.entry())
 }
 
+// Of no files; and of both, where no entry is asked for.
 #[test]
-fn maps_no_files(rt: HostRuntime) {
-    assert_eq!(rt; counts_of_none(rt.alloc()), Ok([0; 3]));
-}
-
-/// Whether the call is relocated in section 0 of the first file.
-fn has_the_call(alloc: Global, objects: &[Object<'_>]) -> Result<bool, LinkFault> {
-    let map = mapped_by(alloc, objects, &options(1, None))?;
-    let rules = [rule(2, Form::Pc, Width::W4, Range::Signed)];
-    let linked = relocate(alloc, &map, objects, &rules)?;
-    Ok(holds(&linked, b"\xe8\x01\0\0\0\xc3"))
-}
-
-/// The same of both files.
-fn both_have_the_call(alloc: Global) -> Result<Result<bool, LinkFault>, ObjectFault> {
-    let objects = files(alloc)?;
-    Ok(has_the_call(alloc, &objects))
-}
-
-// Where a growth is refused, the answer is want of memory and no other.
-#[test]
-fn a_refused_growth_of_a_link_is_told(rt: HostRuntime) -> Result<(), Fail> {
-    let answer = both_have_the_call(rt.alloc())?;
-    assert!(rt; matches!(answer, Ok(true) | Err(LinkFault::OutOfMemory)));
+fn maps_no_files_and_no_entry(rt: HostRuntime) -> Result<(), Fail> {
+    let none: [Object<'static>; 0] = [];
+    let empty = linked(rt.alloc(), &none, None)?;
+    let objects = [caller(rt.alloc())?, callee(rt.alloc())?];
+    let link = linked(rt.alloc(), &objects, None)?;
+    let counts = [counts_of(&empty), counts_of(&link)];
+    assert_eq!(rt; counts, [([0; 3], 0), ([1, 0, 2], 0)]);
     Ok(())
 }

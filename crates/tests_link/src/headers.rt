@@ -38,18 +38,16 @@ fn told(
     ))
 }
 
-/// The same of two objects.
-fn told_of_two(alloc: Global) -> Result<(Identity, u64, usize, usize), Fail> {
-    let objects = [empty(alloc, 3, 1)?, empty(alloc, 0, 0)?];
-    let rules = [rule(1, Form::Abs, Width::W4, Range::Signed)];
-    Ok(told(alloc, &objects, &rules)?)
-}
-
 // The identity is that of the first file, or zeros.
 #[test]
 fn has_the_identity_of_the_first_file(rt: HostRuntime) -> Result<(), Fail> {
     let none: [Object<'static>; 0] = [];
-    let found = [told_of_two(rt.alloc())?, told(rt.alloc(), &none, &[])?];
+    let objects = [empty(rt.alloc(), 3, 1)?, empty(rt.alloc(), 0, 0)?];
+    let rules = [rule(1, Form::Abs, Width::W4, Range::Signed)];
+    let found = [
+        told(rt.alloc(), &objects, &rules)?,
+        told(rt.alloc(), &none, &[])?,
+    ];
     let first = Identity {
         order: Order::Big,
         osabi: 3,

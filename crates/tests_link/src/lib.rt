@@ -1,11 +1,12 @@
-//! Tests of the link: of its map and of its relocated bytes what is told to code that calls them, and laws put together. Worked links, and
-//! one of each rule that breaks it, stand in `cases/links.txt`. Of its `parts` `tests_link_large` makes large links too.
+//! Tests of the link: what its map and its relocated bytes tell the code that calls them, laws put together, and links of many files,
+//! sections, names and fields, where a limit would hide. Hand-written links, and one for each rule that breaks it, are in
+//! `cases/links.txt`.
+//!
+//! `large_files` has the 66 files of one large link, which `large_link` tests. Each other module makes links of its own, from `parts`.
 #![tactic(auto)]
 
 #[cfg(test)]
 mod calls;
-#[cfg(test)]
-mod commons;
 #[cfg(test)]
 mod groups;
 #[cfg(test)]
@@ -13,9 +14,22 @@ mod hashers;
 #[cfg(test)]
 mod headers;
 #[cfg(test)]
+mod high_entries;
+#[cfg(test)]
+mod large_files;
+#[cfg(test)]
+mod large_link;
+#[cfg(test)]
+mod many_addends;
+#[cfg(test)]
+mod many_commons;
+#[cfg(test)]
+mod many_fields;
+#[cfg(test)]
+mod many_names;
+#[cfg(test)]
 mod memory;
+#[cfg(test)]
 mod parts;
 #[cfg(test)]
 mod standing;
-
-pub use parts::{GLOBAL, WEAK, data, holds, list, mapped, object, relocs, rule, symbol};

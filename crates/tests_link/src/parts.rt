@@ -1,5 +1,5 @@
 //! Objects, their link maps and relocation rules, by their parts.
-ghost use Rattle.std.specs.Prelude.{IfOk, None, OnOk};
+ghost use Rattle.std.specs.Prelude.{◌≤◌, IfOk, None, OnOk};
 ghost use Rattle.elf_link_map.specs.LinkFaults.{FirstOfLink};
 ghost use Rattle.elf_link_map.specs.LinkMap.{IsLinkMap};
 ghost use Rattle.elf_link_relocate.specs.MapFacts.{IsMapOfSome};
@@ -12,13 +12,18 @@ use elf_object_type::{
     Body, Info, Object, ObjectFault, ObjectParts, Place, Relocation, Section, Symbol,
 };
 use std::alloc::{AllocError, Global};
+use std::fmt::Write;
 use std::hash::{BuildHasherDefault, DefaultHasher};
+use std::test::Fail;
 
 /// The info of a global symbol.
-pub const GLOBAL: u8 = 0x10;
+pub(crate) const GLOBAL: u8 = 0x10;
 
 /// The info of a weak one.
-pub const WEAK: u8 = 0x20;
+pub(crate) const WEAK: u8 = 0x20;
+
+/// How many digits a numbered name has.
+pub(crate) const DIGITS: usize = 7;
 
 /// The size of an entry with its addend.
 const RELA_SIZE: u64 = 24;
@@ -38,7 +43,7 @@ pub(crate) fn section<'a>(name: &'a [u8], flags: u64, align: u64, body: Body<'a>
 }
 
 /// A section of data in memory, with these bytes.
-pub fn data<'a>(name: &'a [u8], content: &'a [u8]) -> Section<'a> {
+pub(crate) fn data<'a>(name: &'a [u8], content: &'a [u8]) -> Section<'a> {
     Section {
         name,
         flags: 3,
@@ -52,7 +57,7 @@ pub fn data<'a>(name: &'a [u8], content: &'a [u8]) -> Section<'a> {
 }
 
 /// A section of relocations, with their addends beside them.
-pub fn relocs<'a>(target: usize, entries: Vec<Relocation>) -> Section<'a> {
+pub(crate) fn relocs<'a>(target: usize, entries: Vec<Relocation>) -> Section<'a> {
     Section {
         name: b".rela",
         flags: 0,
@@ -70,7 +75,7 @@ pub fn relocs<'a>(target: usize, entries: Vec<Relocation>) -> Section<'a> {
 }
 
 /// A symbol.
-pub fn symbol<'a>(name: &'a [u8], info: u8, place: Place, value: u64) -> Symbol<'a> {
+pub(crate) fn symbol<'a>(name: &'a [u8], info: u8, place: Place, value: u64) -> Symbol<'a> {
     Symbol {
         name,
         info,
@@ -82,7 +87,7 @@ pub fn symbol<'a>(name: &'a [u8], info: u8, place: Place, value: u64) -> Symbol<
 }
 
 /// An object of these sections and symbols, for machine 62.
-pub fn object<'a>(
+pub(crate) fn object<'a>(
     alloc: Global,
     order: Order,
     sections: Vec<Section<'a>>,
@@ -101,12 +106,31 @@ pub fn object<'a>(
 }
 
 /// These items, in a vector.
-pub fn list<T: Drop, const N: usize>(alloc: Global, items: [T; N]) -> Result<Vec<T>, AllocError> {
+pub(crate) fn list<T: Drop, const N: usize>(
+    alloc: Global,
+    items: [T; N],
+) -> Result<Vec<T>, AllocError> {
     Ok(Vec::from_array(alloc, items)?)
 }
 
+/// Adds the lowest bytes of a number, this many, in this order.
+pub(crate) fn push_number(
+    order: Order,
+    number: u64,
+    count: usize,
+    bytes: &mut Vec<u8>,
+) -> Result<(), AllocError>
+    requires { count ≤ 8 }
+{
+    match order {
+        Order::Little => bytes.extend_from_slice(&number.to_le_bytes()[..count])?,
+        Order::Big => bytes.extend_from_slice(&number.to_be_bytes()[8 - count..])?,
+    }
+    Ok(())
+}
+
 /// The rule of a kind.
-pub fn rule(kind: u32, form: Form, width: Width, range: Range) -> RelocRule {
+pub(crate) fn rule(kind: u32, form: Form, width: Width, range: Range) -> RelocRule {
     RelocRule {
         kind,
         form,
@@ -115,8 +139,17 @@ pub fn rule(kind: u32, form: Form, width: Width, range: Range) -> RelocRule {
     }
 }
 
+/// The decimal digits of the positions below this count, `DIGITS` each, one after the other.
+pub(crate) fn numbered(alloc: Global, count: usize) -> Result<String, Fail> {
+    let mut names = String::new(alloc);
+    for position in 0..count {
+        write!(names, "{position:07}")?;
+    }
+    Ok(names)
+}
+
 /// Whether section 0 of the first file has these bytes.
-pub fn holds(linked: &Linked<'_, '_>, bytes: &[u8]) -> bool {
+pub(crate) fn holds(linked: &Linked<'_, '_>, bytes: &[u8]) -> bool {
     linked.bytes(0, 0) == Some(bytes)
 }
 
@@ -139,7 +172,7 @@ pub(crate) fn mapped_by<'a>(
 }
 
 /// That from this address on, each output at a multiple of 0x1000.
-pub fn mapped<'a>(
+pub(crate) fn mapped<'a>(
     alloc: Global,
     objects: &[Object<'a>],
     base: u64,

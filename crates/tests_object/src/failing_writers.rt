@@ -1,6 +1,5 @@
 //! Objects onto writers that take little or fail, and objects that are not written.
-use crate::writers::{Counter, Shelf, taking};
-use crate::written::{object, one_section, one_section_file, section};
+use crate::written::{object, section, text_object};
 use elf_field::Order;
 use elf_object_file::write_object;
 use elf_object_type::{Body, Object};
@@ -9,6 +8,7 @@ use std::alloc::Global;
 use std::io::ErrorKind;
 use std::process::Abort;
 use std::test::Fail;
+use tests_files::{Counter, OnceFailingWriter, one_section};
 
 /// Writes the object to a writer that takes so many bytes a call, and whose call of this number, behind so many bytes, alone fails, or
 /// takes nothing: that is the answer, and no call comes after it.
@@ -21,25 +21,21 @@ fn assert_stopped(
     out: u16,
     failure: Option<ErrorKind>,
 ) {
-    let mut writer = Shelf {
-        failing,
-        failure,
-        ..taking(alloc, piece)
-    };
+    let mut writer = OnceFailingWriter::new(alloc, piece, failing, failure);
     let answer = write_object(alloc, object, &mut writer);
     let written = u64::from(out);
-    let file = one_section_file(Order::Little);
+    let file = one_section(Order::Little);
     let is_out = Some(writer.bytes.as_slice()) == file.get(..out as usize);
     assert_eq!(rt;
-        (answer, is_out, writer.calls),
-        (Err(ObjectWriteFault::Io { written }), true, failing)
+        (answer, is_out, (writer.offers.len(), writer.flushes)),
+        (Err(ObjectWriteFault::Io { written }), true, (failing, 0))
     );
 }
 
 #[test]
 fn a_write_that_fails_is_not_tried_again(rt: HostRuntime) -> Result<(), Fail> {
     let alloc = rt.alloc();
-    let object = one_section(alloc, Order::Little)?;
+    let object = text_object(alloc, Order::Little)?;
     for out in 0..456 {
         let failing = out as usize + 1;
         let interrupted = Some(ErrorKind::Interrupted);
@@ -55,7 +51,7 @@ fn a_write_that_fails_is_not_tried_again(rt: HostRuntime) -> Result<(), Fail> {
 #[test]
 fn each_call_fails_alone(rt: HostRuntime) -> Result<(), Fail> {
     let alloc = rt.alloc();
-    let object = one_section(alloc, Order::Little)?;
+    let object = text_object(alloc, Order::Little)?;
     for (call, out) in [0, 64, 65, 72, 96, 97, 130, 136].iter().enumerate() {
         let failing = call.saturating_add(1);
         let failure = Some(ErrorKind::Other);
@@ -65,10 +61,10 @@ fn each_call_fails_alone(rt: HostRuntime) -> Result<(), Fail> {
 }
 
 /// What a write of an object of this alignment comes to, and how many bytes are out.
-fn outcome(alloc: Global, align: u64) -> Result<(Result<(), ObjectWriteFault>, usize), Fail> {
+fn outcome(alloc: Global, align: u64) -> Result<(Result<(), ObjectWriteFault>, u64), Fail> {
     let bits = section(b".text", 6, align, Body::Bits(1, b"\xc3"));
     let object = object(alloc, Order::Little, vec![in alloc; bits]?, Vec::new(alloc))?;
-    let mut writer = Counter { taken: 0 };
+    let mut writer = Counter { taken: 0, last: 0 };
     let answer = write_object(alloc, &object, &mut writer);
     Ok((answer, writer.taken))
 }

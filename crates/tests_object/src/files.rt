@@ -138,21 +138,8 @@ fn are_the_sections(sections: &[Section<'_>]) -> bool {
     }
 }
 
-/// The machine of the object of this file, and whether it has these sections.
-fn group_told(alloc: Global, file: &[u8]) -> Result<(u16, bool), Fault> {
-    let object = object_read(alloc, file)?;
-    Ok((object.machine(), are_the_sections(object.sections())))
-}
-
-#[test]
-fn tells_a_group_and_the_relocations_of_its_member(rt: HostRuntime) {
-    let told = group_told(rt.alloc(), &object(Order::Little));
-    assert_eq!(rt; told, Ok((62, true)));
-}
-
-/// Whether it has the one symbol behind symbol 0.
-fn has_the_symbol(alloc: Global, file: &[u8]) -> Result<bool, Fault> {
-    let object = object_read(alloc, file)?;
+/// Whether they are the one symbol behind symbol 0.
+fn are_the_symbols(symbols: &[Symbol<'_>]) -> bool {
     let symbol = Symbol {
         name: b"f",
         info: 0x12,
@@ -161,13 +148,26 @@ fn has_the_symbol(alloc: Global, file: &[u8]) -> Result<bool, Fault> {
         value: 0,
         size: 4,
     };
-    Ok(object.symbols() == [symbol].as_slice())
+    symbols == [symbol].as_slice()
+}
+
+/// The machine of the object of this file, and whether it has these sections and symbols.
+fn told(alloc: Global, file: &[u8]) -> Result<(u16, bool, bool), Fault> {
+    let object = object_read(alloc, file)?;
+    Ok((
+        object.machine(),
+        are_the_sections(object.sections()),
+        are_the_symbols(object.symbols()),
+    ))
 }
 
 #[test]
-fn tells_the_symbols_but_symbol_0(rt: HostRuntime) {
-    let has = has_the_symbol(rt.alloc(), &object(Order::Big));
-    assert_eq!(rt; has, Ok(true));
+fn tells_the_sections_and_the_symbols_but_symbol_0(rt: HostRuntime) {
+    let told = [
+        told(rt.alloc(), &object(Order::Little)),
+        told(rt.alloc(), &object(Order::Big)),
+    ];
+    assert_eq!(rt; told, [Ok((62, true, true)); 2]);
 }
 
 /// The fields that make section 3 a group too: the word at 72 is its flags, and that at 76 its member.

@@ -33,30 +33,23 @@ fn judged_twice(alloc: Global) -> Result<(), ObjectFault> {
     judged(alloc, list(alloc, [first, second, bits(0x200)])?)
 }
 
+// Two members; one at no position; one named twice, the group itself, one without the flag GROUP, and a member of an earlier group too.
 #[test]
-fn judges_the_positions_of_members(rt: HostRuntime) {
+fn wrong_members_are_answered_at_the_group(rt: HostRuntime) {
     let judged = [
         judged_group(rt.alloc(), [1, 2], 0x200),
         judged_group(rt.alloc(), [1, 9], 0x200),
-    ];
-    let past = ObjectFault::Section {
-        rule: rules::WRONG_POSITION,
-        position: 0,
-    };
-    assert_eq!(rt; judged, [Ok(()), Err(past)]);
-}
-
-#[test]
-fn wrong_membership_is_answered_at_the_group(rt: HostRuntime) {
-    // Named twice, the group itself, without the flag GROUP, and a member of an earlier group too.
-    let judged = [
         judged_group(rt.alloc(), [1, 1], 0x200),
         judged_group(rt.alloc(), [0, 1], 0x200),
         judged_group(rt.alloc(), [1, 2], 2),
         judged_twice(rt.alloc()),
     ];
+    let past = Err(ObjectFault::Section {
+        rule: rules::WRONG_POSITION,
+        position: 0,
+    });
     let rule = rules::WRONG_MEMBERSHIP;
     let first = Err(ObjectFault::Section { rule, position: 0 });
     let second = Err(ObjectFault::Section { rule, position: 1 });
-    assert_eq!(rt; judged, [first, first, first, second]);
+    assert_eq!(rt; judged, [Ok(()), past, first, first, first, second]);
 }

@@ -1,6 +1,13 @@
-//! Tests of objects: made from their parts, read from a file, and written. Each rule has one with the rule's name.
+//! Tests of objects: made from their parts, read from a file, and written; each rule of parts has a row with the rule's name. And of
+//! executables: their limits, and writers that take little or fail. Executables byte for byte are in `cases/links.txt`.
 #![tactic(auto)]
 
+#[cfg(test)]
+mod executable_limits;
+#[cfg(test)]
+mod executable_writers;
+#[cfg(test)]
+mod executables;
 #[cfg(test)]
 mod failing_writers;
 #[cfg(test)]
@@ -12,10 +19,10 @@ mod groups;
 #[cfg(test)]
 mod layouts;
 #[cfg(test)]
+mod linked;
+#[cfg(test)]
 mod many_symbols;
 #[cfg(test)]
 mod parts;
-#[cfg(test)]
-mod writers;
 #[cfg(test)]
 mod written;

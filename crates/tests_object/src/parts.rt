@@ -114,34 +114,6 @@ fn in_section(rule: u16, position: usize) -> Result<(), ObjectFault> {
     Err(ObjectFault::Section { rule, position })
 }
 
-#[test]
-fn accepts_parts_that_break_no_rule(rt: HostRuntime) {
-    let alloc = rt.alloc();
-    let judged = [
-        judged(alloc, true, 24),
-        judged(alloc, false, 16),
-        fault_of(alloc, Vec::new(alloc), Vec::new(alloc)),
-    ];
-    assert_eq!(rt; judged, [Ok(()); 3]);
-}
-
-#[test]
-fn zero_in_section_name_is_answered_at_the_section(rt: HostRuntime) {
-    let named = Section {
-        name: b"a\0",
-        ..bits(6)
-    };
-    let judged = judged_with(rt.alloc(), 1, named);
-    assert_eq!(rt; judged, in_section(rules::ZERO_IN_SECTION_NAME, 1));
-}
-
-#[test]
-fn wrong_bits_type_is_answered_at_the_section(rt: HostRuntime) {
-    let typed = section(6, 0, Body::Bits(11, b""));
-    let judged = judged_with(rt.alloc(), 0, typed);
-    assert_eq!(rt; judged, in_section(rules::WRONG_BITS_TYPE, 0));
-}
-
 /// The fault of the sections, with one of this alignment and address in the middle.
 fn judged_at(alloc: Global, align: u64, addr: u64) -> Result<(), ObjectFault> {
     let aligned = Section {
@@ -150,12 +122,6 @@ fn judged_at(alloc: Global, align: u64, addr: u64) -> Result<(), ObjectFault> {
         ..bits(6)
     };
     judged_with(alloc, 1, aligned)
-}
-
-#[test]
-fn wrong_alignment_is_answered_at_the_section(rt: HostRuntime) {
-    let judged = [judged_at(rt.alloc(), 3, 0), judged_at(rt.alloc(), 8, 4)];
-    assert_eq!(rt; judged, [in_section(rules::WRONG_ALIGNMENT, 1); 2]);
 }
 
 /// The fault of the sections, with these relocations behind them.
@@ -174,30 +140,43 @@ fn judged_relocs(
     judged_with(alloc, 2, section(0, entsize, relocs))
 }
 
+// Parts that break no rule; and each rule of sections, at the section that breaks it.
 #[test]
-fn wrong_position_is_answered_at_the_section(rt: HostRuntime) {
-    // A section without bits has no relocations.
-    let judged = judged_relocs(rt.alloc(), true, 24, 1, 0);
-    assert_eq!(rt; judged, in_section(rules::WRONG_POSITION, 2));
-}
-
-#[test]
-fn wrong_field_is_answered_at_the_section(rt: HostRuntime) {
-    // A number where the flag says section, entries of another size, and REL with an addend.
+fn each_rule_of_sections_is_answered_at_its_section(rt: HostRuntime) {
+    let alloc = rt.alloc();
+    let named = Section {
+        name: b"a\0",
+        ..bits(6)
+    };
     let judged = [
-        judged_with(rt.alloc(), 0, bits(0x46)),
-        judged_relocs(rt.alloc(), false, 24, 0, 0),
-        judged_relocs(rt.alloc(), false, 16, 0, -4),
+        judged(alloc, true, 24),
+        judged(alloc, false, 16),
+        fault_of(alloc, Vec::new(alloc), Vec::new(alloc)),
+        judged_with(alloc, 1, named),
+        judged_with(alloc, 0, section(6, 0, Body::Bits(11, b""))),
+        judged_at(alloc, 3, 0),
+        judged_at(alloc, 8, 4),
+        // A section without bits has no relocations.
+        judged_relocs(alloc, true, 24, 1, 0),
+        // A number where the flag says section, entries of another size, and REL with an addend.
+        judged_with(alloc, 0, bits(0x46)),
+        judged_relocs(alloc, false, 24, 0, 0),
+        judged_relocs(alloc, false, 16, 0, -4),
     ];
-    let rule = rules::WRONG_FIELD;
-    assert_eq!(rt;
-        judged,
-        [
-            in_section(rule, 0),
-            in_section(rule, 2),
-            in_section(rule, 2)
-        ]
-    );
+    let expected = [
+        Ok(()),
+        Ok(()),
+        Ok(()),
+        in_section(rules::ZERO_IN_SECTION_NAME, 1),
+        in_section(rules::WRONG_BITS_TYPE, 0),
+        in_section(rules::WRONG_ALIGNMENT, 1),
+        in_section(rules::WRONG_ALIGNMENT, 1),
+        in_section(rules::WRONG_POSITION, 2),
+        in_section(rules::WRONG_FIELD, 0),
+        in_section(rules::WRONG_FIELD, 2),
+        in_section(rules::WRONG_FIELD, 2),
+    ];
+    assert_eq!(rt; judged, expected);
 }
 
 /// The fault of an object of these two symbols.
@@ -215,25 +194,23 @@ fn at_symbol(rule: u16, position: usize) -> Result<(), ObjectFault> {
 }
 
 #[test]
-fn zero_in_symbol_name_is_answered_at_the_symbol(rt: HostRuntime) {
+fn each_rule_of_symbols_is_answered_at_its_symbol(rt: HostRuntime) {
+    let alloc = rt.alloc();
     let named = Symbol {
         name: b"f\0",
         ..symbol(0, Place::In(0))
     };
-    let judged = judged_symbols(rt.alloc(), named, symbol(1, Place::Undef));
-    assert_eq!(rt; judged, at_symbol(rules::ZERO_IN_SYMBOL_NAME, 0));
-}
-
-#[test]
-fn wrong_place_is_answered_at_the_symbol(rt: HostRuntime) {
     let past = symbol(0, Place::In(3));
-    let judged = judged_symbols(rt.alloc(), past, symbol(1, Place::Undef));
-    assert_eq!(rt; judged, at_symbol(rules::WRONG_PLACE, 0));
-}
-
-#[test]
-fn misplaced_local_is_answered_at_the_symbol(rt: HostRuntime) {
     let late = symbol(0, Place::Common);
-    let judged = judged_symbols(rt.alloc(), symbol(1, Place::Abs), late);
-    assert_eq!(rt; judged, at_symbol(rules::MISPLACED_LOCAL, 1));
+    let judged = [
+        judged_symbols(alloc, named, symbol(1, Place::Undef)),
+        judged_symbols(alloc, past, symbol(1, Place::Undef)),
+        judged_symbols(alloc, symbol(1, Place::Abs), late),
+    ];
+    let expected = [
+        at_symbol(rules::ZERO_IN_SYMBOL_NAME, 0),
+        at_symbol(rules::WRONG_PLACE, 0),
+        at_symbol(rules::MISPLACED_LOCAL, 1),
+    ];
+    assert_eq!(rt; judged, expected);
 }

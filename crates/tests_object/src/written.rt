@@ -5,7 +5,7 @@ use elf_object_file::write_object;
 use elf_object_type::{Body, Info, Object, ObjectParts, Place, Relocation, Section, Symbol};
 use std::alloc::{AllocError, Global};
 use std::test::Fail;
-use tests_files::{Field, set, set_header};
+use tests_files::{Field, one_section, set, set_header};
 
 /// An object of machine 62.
 pub(crate) fn object<'a>(
@@ -27,12 +27,7 @@ pub(crate) fn object<'a>(
 }
 
 /// A section without address and entries of its own.
-pub(crate) fn section(
-    name: &'static [u8],
-    flags: u64,
-    align: u64,
-    body: Body<'static>,
-) -> Section<'static> {
+pub(crate) fn section<'a>(name: &'a [u8], flags: u64, align: u64, body: Body<'a>) -> Section<'a> {
     Section {
         name,
         flags,
@@ -108,37 +103,9 @@ fn written(alloc: Global, object: &Object<'_>) -> Result<Vec<u8>, Fail> {
 
 // ---- one section
 
-pub(crate) fn one_section(alloc: Global, order: Order) -> Result<Object<'static>, Fail> {
+pub(crate) fn text_object(alloc: Global, order: Order) -> Result<Object<'static>, Fail> {
     let text = section(b".text", 6, 16, Body::Bits(1, b"\xc3"));
     object(alloc, order, vec![in alloc; text]?, Vec::new(alloc))
-}
-
-pub(crate) fn one_section_file(order: Order) -> [u8; 456] {
-    let mut file = [0; 456];
-    set_table(&mut file, order, 136, 5, 4);
-    set_bytes(&mut file, 64, b"\xc3");
-    set_bytes(&mut file, 97, b"\0.text\0.symtab\0.strtab\0.shstrtab\0");
-    set_section(&mut file, order, 200, [1, 1, 6, 64, 1, 0, 0, 16, 0]);
-    set_section(&mut file, order, 264, [7, 2, 0, 72, 24, 3, 1, 8, 24]);
-    set_section(&mut file, order, 328, [15, 3, 0, 96, 1, 0, 0, 1, 0]);
-    set_section(&mut file, order, 392, [23, 3, 0, 97, 33, 0, 0, 1, 0]);
-    file
-}
-
-/// Whether it is written as this file.
-fn is_written(alloc: Global, order: Order) -> Result<bool, Fail> {
-    let bytes = written(alloc, &one_section(alloc, order)?)?;
-    Ok(bytes.as_slice() == one_section_file(order).as_slice())
-}
-
-#[test]
-fn one_section_in_both_orders(rt: HostRuntime) -> Result<(), Fail> {
-    let found = [
-        is_written(rt.alloc(), Order::Little)?,
-        is_written(rt.alloc(), Order::Big)?,
-    ];
-    assert_eq!(rt; found, [true; 2]);
-    Ok(())
 }
 
 // ---- all fields of the header, links, places of symbols, and relocations without addends
@@ -250,18 +217,22 @@ fn many_fields_file(order: Order) -> [u8; 696] {
     file
 }
 
-/// Whether its object is written as this file.
-fn are_all_written(alloc: Global, order: Order) -> Result<bool, Fail> {
-    let bytes = written(alloc, &many_fields(alloc, order)?)?;
-    Ok(bytes.as_slice() == many_fields_file(order).as_slice())
+/// Whether both objects are written as their files.
+fn are_written(alloc: Global, order: Order) -> Result<[bool; 2], Fail> {
+    let text = written(alloc, &text_object(alloc, order)?)?;
+    let many = written(alloc, &many_fields(alloc, order)?)?;
+    Ok([
+        text.as_slice() == one_section(order).as_slice(),
+        many.as_slice() == many_fields_file(order).as_slice(),
+    ])
 }
 
 #[test]
-fn all_fields_of_an_object(rt: HostRuntime) -> Result<(), Fail> {
+fn objects_are_written_in_both_orders(rt: HostRuntime) -> Result<(), Fail> {
     let found = [
-        are_all_written(rt.alloc(), Order::Little)?,
-        are_all_written(rt.alloc(), Order::Big)?,
+        are_written(rt.alloc(), Order::Little)?,
+        are_written(rt.alloc(), Order::Big)?,
     ];
-    assert_eq!(rt; found, [true; 2]);
+    assert_eq!(rt; found, [[true; 2]; 2]);
     Ok(())
 }

@@ -43,41 +43,26 @@ fn names_one_library(dynamic: &Dynamic<'_>) -> bool {
     dynamic.len() == 1 && dynamic.entry(0) == library && dynamic.iter().count() == 1
 }
 
-/// The same of a file's section 1.
-fn file_names_one_library(alloc: Global, file: &[u8]) -> Result<bool, Fault> {
+/// The same of a file's section 1; and the library that its first entry names, which outlives the image.
+fn told(alloc: Global, file: &[u8]) -> Result<(bool, Option<&[u8]>), Fault> {
     let image = parse(alloc, file)?;
-    if image.section_count() < 2 {
-        return Ok(false);
+    if image.section_count() < 3 {
+        return Ok((false, None));
     }
     let dynamic = Dynamic::new(&image, 1)?;
-    Ok(names_one_library(&dynamic))
+    let strings = Strings::new(&image, 2)?;
+    let name = match dynamic.iter().next() {
+        Some(entry) => strings.get(entry.d_un),
+        None => None,
+    };
+    Ok((names_one_library(&dynamic), name))
 }
 
 #[test]
 fn tells_the_entries_before_the_end(rt: HostRuntime) {
-    let names = file_names_one_library(rt.alloc(), &dynamic());
-    assert_eq!(rt; names, Ok(true));
-}
-
-/// The library that the first entry of a file's section 1 names. It outlives the image.
-fn library_named(alloc: Global, file: &[u8]) -> Result<Option<&[u8]>, Fault> {
-    let image = parse(alloc, file)?;
-    if image.section_count() < 3 {
-        return Ok(None);
-    }
-    let dynamic = Dynamic::new(&image, 1)?;
-    let strings = Strings::new(&image, 2)?;
-    match dynamic.iter().next() {
-        Some(entry) => Ok(strings.get(entry.d_un)),
-        None => Ok(None),
-    }
-}
-
-#[test]
-fn the_name_of_a_library_outlives_the_image(rt: HostRuntime) {
     let file = dynamic();
-    let name = library_named(rt.alloc(), &file);
-    assert_eq!(rt; name, Ok(Some(b"libc".as_slice())));
+    let told = told(rt.alloc(), &file);
+    assert_eq!(rt; told, Ok((true, Some(b"libc".as_slice()))));
 }
 
 const ROWS: [Row; 8] = [

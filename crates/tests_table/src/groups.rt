@@ -69,42 +69,19 @@ fn has_one_member(group: &Group<'_>) -> bool {
         && group.iter().count() == 1
 }
 
-/// The same of a file's section 1.
-fn file_has_one_member(alloc: Global, file: &[u8]) -> Result<bool, Fault> {
-    let image = parse(alloc, file)?;
-    if image.section_count() < 2 {
-        return Ok(false);
-    }
-    let group = Group::new(alloc, &image, 1)?;
-    Ok(has_one_member(&group))
-}
-
-#[test]
-fn tells_a_group_and_its_members(rt: HostRuntime) {
-    let has = file_has_one_member(rt.alloc(), &group());
-    assert_eq!(rt; has, Ok(true));
-}
-
-/// The name of the group in a file's section 1, which is that of its signature. It outlives the image.
-fn group_name(alloc: Global, file: &[u8]) -> Result<Option<&[u8]>, Fault> {
+/// The same of a file's section 1; and the name of the group, which is that of its signature. It outlives the image.
+fn told(alloc: Global, file: &[u8]) -> Result<(bool, Option<&[u8]>), Fault> {
     let image = parse(alloc, file)?;
     if image.section_count() < 4 {
-        return Ok(None);
+        return Ok((false, None));
     }
     let group = Group::new(alloc, &image, 1)?;
     let symbols = Symbols::new(&image, 3)?;
     let signature = group.signature() as usize;
     if signature >= symbols.len() {
-        return Ok(None);
+        return Ok((false, None));
     }
-    Ok(Some(symbols.entry(signature).name))
-}
-
-#[test]
-fn the_name_of_a_group_outlives_the_image(rt: HostRuntime) {
-    let file = group();
-    let name = group_name(rt.alloc(), &file);
-    assert_eq!(rt; name, Ok(Some(b"f".as_slice())));
+    Ok((has_one_member(&group), Some(symbols.entry(signature).name)))
 }
 
 /// Whether section 1 of the file is refused when all tables are judged.
@@ -117,14 +94,18 @@ fn is_refused_with_the_other_tables(alloc: Global, file: &[u8]) -> Result<bool, 
     Ok(tables.verdict(1).is_err())
 }
 
+// The names of the signatures are cut in the second file: then the group is refused beside the other tables too.
 #[test]
-fn judges_a_group_with_the_other_tables(rt: HostRuntime) {
-    let mut file = group();
-    file[424] = 2;
-    let refused = is_refused_with_the_other_tables(rt.alloc(), &file);
-    assert_eq!(rt; refused, Ok(true));
-    let rule = rules::UNCLOSED_STRING_TABLE;
-    assert_breaks(&rt, rt.alloc(), &file, 1, Table::Group, rule, 129);
+fn tells_a_group_its_name_and_its_members(rt: HostRuntime) {
+    let file = group();
+    let mut cut = file;
+    cut[424] = 2;
+    let told = told(rt.alloc(), &file);
+    let refused = is_refused_with_the_other_tables(rt.alloc(), &cut);
+    assert_eq!(rt;
+        (told, refused),
+        (Ok((true, Some(b"f".as_slice()))), Ok(true))
+    );
 }
 
 const TYPE_AT: u64 = GROUP_HEADER + SH_TYPE_AT;
@@ -133,8 +114,9 @@ const SIZE_AT: u64 = GROUP_HEADER + SH_SIZE_AT;
 
 const INFO_AT: u64 = GROUP_HEADER + SH_INFO_AT;
 
-const ROWS: [Row; 13] = [
+const ROWS: [Row; 14] = [
     (&[(TYPE_AT, 4, 1)], rules::WRONG_TABLE_TYPE, TYPE_AT),
+    (&[(424, 1, 2)], rules::UNCLOSED_STRING_TABLE, 129),
     (
         &[(GROUP_HEADER + SH_ENTSIZE_AT, 8, 8)],
         rules::WRONG_ENTRY_SIZE,

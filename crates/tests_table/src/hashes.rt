@@ -63,17 +63,6 @@ fn hash() -> [u8; 464] {
     file
 }
 
-#[test]
-fn hashes_names(rt: HostRuntime) {
-    let hashes = [
-        elf_hash(b""),
-        elf_hash(b"printf"),
-        elf_hash(b"exit"),
-        elf_hash(b"syscall"),
-    ];
-    assert_eq!(rt; hashes, [0, 0x0779_05a6, 0x0006_cf04, 0x0b09_985c]);
-}
-
 /// Whether each name is found, and no other, after so many looks.
 fn finds_each_name(hash: &Hash<'_>) -> bool {
     let found = [
@@ -104,8 +93,17 @@ fn told(alloc: Global, file: &[u8]) -> Result<[bool; 2], Fault> {
 }
 
 #[test]
-fn finds_each_name_and_tells_the_words(rt: HostRuntime) {
-    assert_eq!(rt; told(rt.alloc(), &hash()), Ok([true; 2]));
+fn hashes_and_finds_each_name(rt: HostRuntime) {
+    let hashes = [
+        elf_hash(b""),
+        elf_hash(b"printf"),
+        elf_hash(b"exit"),
+        elf_hash(b"syscall"),
+    ];
+    assert_eq!(rt;
+        (hashes, told(rt.alloc(), &hash())),
+        ([0, 0x0779_05a6, 0x0006_cf04, 0x0b09_985c], Ok([true; 2]))
+    );
 }
 
 const SIZE_AT: u64 = HASH_HEADER + SH_SIZE_AT;
@@ -173,20 +171,19 @@ fn are_built(alloc: Global) -> Result<[bool; 2], HashFault> {
     ])
 }
 
+// None without a bucket, or of too many.
 #[test]
 fn builds_a_hash_table(rt: HostRuntime) {
-    assert_eq!(rt; are_built(rt.alloc()), Ok([true; 2]));
-}
-
-#[test]
-fn builds_none_without_a_bucket_or_of_too_many(rt: HostRuntime) {
     let none: [&[u8]; 1] = [b""];
     let faults = [
         build_hash(rt.alloc(), &none, 0).err(),
         build_hash(rt.alloc(), &none, 0x0100_0001).err(),
     ];
     assert_eq!(rt;
-        faults,
-        [Some(HashFault::NoBuckets), Some(HashFault::TooMany)]
+        (are_built(rt.alloc()), faults),
+        (
+            Ok([true; 2]),
+            [Some(HashFault::NoBuckets), Some(HashFault::TooMany)]
+        )
     );
 }

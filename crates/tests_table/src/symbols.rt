@@ -145,11 +145,6 @@ fn told(alloc: Global, file: &[u8]) -> Result<[bool; 3], Fault> {
     are_of_the_call(&image)
 }
 
-#[test]
-fn tells_each_relocation_symbol_and_string(rt: HostRuntime) {
-    assert_eq!(rt; told(rt.alloc(), &caller()), Ok([true; 3]));
-}
-
 /// Whether sections 0 and 3 of the file are kept when all tables are judged, None where they are not there.
 fn are_kept_with_the_other_tables(alloc: Global, file: &[u8]) -> Result<Option<[bool; 2]>, Fault> {
     let image = parse(alloc, file)?;
@@ -161,50 +156,41 @@ fn are_kept_with_the_other_tables(alloc: Global, file: &[u8]) -> Result<Option<[
 }
 
 #[test]
-fn judges_every_table_of_an_image(rt: HostRuntime) {
+fn tells_each_relocation_symbol_and_string(rt: HostRuntime) {
     let file = caller();
+    let told = told(rt.alloc(), &file);
     let kept = are_kept_with_the_other_tables(rt.alloc(), &file);
     let of_other_type = verdict_of(rt.alloc(), &file, 4, Table::Symbols).is_err();
-    assert_eq!(rt; (kept, of_other_type), (Ok(Some([true; 2])), true));
+    assert_eq!(rt;
+        (told, kept, of_other_type),
+        (Ok([true; 3]), Ok(Some([true; 2])), true)
+    );
 }
 
-/// What a table tells lives as long as the file's bytes: longer than the image and the table.
-fn name_of_symbol_2(alloc: Global, file: &[u8]) -> Result<&[u8], Fault> {
-    let image = parse(alloc, file)?;
-    if image.section_count() < 2 {
-        return Ok(&[]);
-    }
-    let symbols = Symbols::new(&image, 1)?;
-    if symbols.len() < 3 {
-        return Ok(&[]);
-    }
-    Ok(symbols.entry(2).name)
-}
-
-fn string_behind(alloc: Global, file: &[u8]) -> Result<Option<&[u8]>, Fault> {
+/// The name of symbol 2, and the string at 1. What a table tells lives as long as the file's bytes: longer than the image and the table.
+fn names_told(alloc: Global, file: &[u8]) -> Result<(&[u8], Option<&[u8]>), Fault> {
     let image = parse(alloc, file)?;
     if image.section_count() < 3 {
-        return Ok(None);
+        return Ok((&[], None));
     }
+    let symbols = Symbols::new(&image, 1)?;
     let strings = Strings::new(&image, 2)?;
-    Ok(strings.get(1))
+    if symbols.len() < 3 {
+        return Ok((&[], None));
+    }
+    Ok((symbols.entry(2).name, strings.get(1)))
 }
 
 #[test]
 fn names_outlive_the_image(rt: HostRuntime) {
     let file = symbols(Order::Little);
-    let name = name_of_symbol_2(rt.alloc(), &file);
-    let string = string_behind(rt.alloc(), &file);
+    let big = symbols(Order::Big);
+    let names = names_told(rt.alloc(), &file);
+    let verdict = verdict_of(rt.alloc(), &big, 1, Table::Symbols);
     assert_eq!(rt;
-        (name, string),
-        (Ok(b"b".as_slice()), Ok(Some(b"ab".as_slice())))
+        (names, verdict),
+        (Ok((b"b".as_slice(), Some(b"ab".as_slice()))), Ok(()))
     );
-}
-
-#[test]
-fn accepts_the_file_unbroken(rt: HostRuntime) {
-    let file = symbols(Order::Big);
-    assert_eq!(rt; verdict_of(rt.alloc(), &file, 1, Table::Symbols), Ok(()));
 }
 
 /// The type, the size and the count of locals of its symbol table.

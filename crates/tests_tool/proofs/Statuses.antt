@@ -8,7 +8,7 @@ use Rattle.clap.specs.Walk.{Row, Text, walked}
 use Rattle.elf_field.specs.Bytes.{IsBytes}
 use Rattle.elf_image_rules.specs.ImageRules.{IsFault}
 use Rattle.elf_tool_check.specs.Check.{CheckSays}
-use Rattle.elf_tool_check_source.specs.CheckSource.{IsSourceChecked}
+use Rattle.elf_tool_program.specs.CheckSource.{IsSourceChecked}
 use Rattle.elf_tool_check.specs.Ending.{code_of, ending_of}
 use Rattle.elf_tool_check.specs.declared.ending.Status.{Status}
 use Rattle.elf_tool_text.specs.Engine.{IsFileCall, IsReadWhole, Report}

@@ -1,20 +1,20 @@
 //! The program that has `check` alone: it refuses the other commands, and ends as the program with all commands does, which `cases/`
 //! shows too.
-use crate::program::{Folder, HEADER, ROOM, Ran, Shelf, assert_ran};
+use crate::program::{HEADER, LimitedWriter, OneFile, Outcome, ROOM, assert_ran};
 use elf_tool_check::run_check;
 use std::alloc::Global;
 
 /// What it comes to where `a.o` is a header.
-fn run_on(alloc: Global, words: &[&str]) -> Ran {
-    let mut files = Folder {
+fn run_on(alloc: Global, words: &[&str]) -> Outcome {
+    let mut files = OneFile {
         bytes: HEADER,
         piece: 7,
         failure: None,
     };
-    let mut out = Shelf::new(ROOM, None);
-    let mut err = Shelf::new(ROOM, None);
+    let mut out = LimitedWriter::new(ROOM, None);
+    let mut err = LimitedWriter::new(ROOM, None);
     let status = run_check(alloc, words, &mut files, &mut out, &mut err);
-    Ran { status, out, err }
+    Outcome { status, out, err }
 }
 
 #[test]

@@ -5,7 +5,7 @@ use elf_tool_program::{ToolFault, Verdict, check, show};
 use std::alloc::Global;
 use std::io::ErrorKind;
 use std::process::Abort;
-use tests_files::{PIECE, Sink, Source};
+use tests_files::{OnceFailingReader, PIECE, Sink};
 
 /// What `show` prints of it.
 const HEADER_TEXT: &[u8; 46] = b"file little 1 62 0x0 0x0\npart 0x0 0x40 header\n";
@@ -28,7 +28,7 @@ fn failure_of(k: usize) -> Option<ErrorKind> {
 
 /// The check of a header whose read of this number fails so: that is the answer, and no call comes after it.
 fn assert_read_fails(rt: &impl Abort, alloc: Global, call: usize, kind: ErrorKind) {
-    let mut reader = Source::new(HEADER, call, Some(kind));
+    let mut reader = OnceFailingReader::new(HEADER, call, Some(kind));
     let mut writer = Sink::new(100, None);
     let answer = check(alloc, &mut reader, &mut writer);
     let at = call.saturating_mul(PIECE) as u64;
@@ -57,7 +57,7 @@ fn a_read_that_fails_once_is_not_tried_again(rt: HostRuntime) {
 
 /// The check of a header whose read of this number gives no bytes says this, and reads no more.
 fn assert_ends(rt: &impl Abort, alloc: Global, call: usize, line: &str) {
-    let mut reader = Source::new(HEADER, call, None);
+    let mut reader = OnceFailingReader::new(HEADER, call, None);
     let mut writer = Sink::new(100, None);
     let is_done = check(alloc, &mut reader, &mut writer) == Ok(Verdict::Done);
     let calls = (reader.calls, reader.empty_calls);
@@ -111,7 +111,7 @@ fn assert_stopped(
 fn a_write_of_the_line_that_fails_once_is_not_tried_again(rt: HostRuntime) {
     for k in 0..8 {
         let call = k / 4;
-        let mut reader = Source::new(HEADER, 100, None);
+        let mut reader = OnceFailingReader::new(HEADER, 100, None);
         let mut writer = Sink::new(call, failure_of(k));
         let answer = check(rt.alloc(), &mut reader, &mut writer);
         assert_stopped(&rt, answer, &writer, call, b"ok 64 0 0\n");
@@ -123,7 +123,7 @@ fn a_write_of_the_line_that_fails_once_is_not_tried_again(rt: HostRuntime) {
 fn a_write_of_the_lines_that_fails_once_is_not_tried_again(rt: HostRuntime) {
     for k in 0..24 {
         let call = k / 4;
-        let mut reader = Source::new(HEADER, 100, None);
+        let mut reader = OnceFailingReader::new(HEADER, 100, None);
         let mut writer = Sink::new(call, failure_of(k));
         let answer = show(rt.alloc(), &mut reader, &mut writer);
         assert_stopped(&rt, answer, &writer, call, HEADER_TEXT);
@@ -132,7 +132,7 @@ fn a_write_of_the_lines_that_fails_once_is_not_tried_again(rt: HostRuntime) {
 
 #[test]
 fn a_text_that_goes_out_is_not_flushed(rt: HostRuntime) {
-    let mut reader = Source::new(HEADER, 100, None);
+    let mut reader = OnceFailingReader::new(HEADER, 100, None);
     let mut writer = Sink::new(100, None);
     let answer = show(rt.alloc(), &mut reader, &mut writer);
     assert_eq!(rt;

@@ -1,4 +1,4 @@
-//! The word for the file is the name that is opened, as it stands.
+//! The word for the file is the name that is opened, as it stands. More names that don't open are in `cases/worked.txt`.
 use crate::program::HEADER;
 use elf_image_stream::Bytes;
 use elf_tool_program::{MachineFiles, OpenFault, Opener, run};
@@ -69,26 +69,14 @@ fn opens_the_name_as_it_stands(rt: HostRuntime) {
         let words = ["elfmap", "check", "--seek", "--", name];
         assert_runs(&rt, rt.alloc(), &words, &mut files, 0, "ok 64 0 0\n", "");
     }
-}
-
-#[test]
-fn names_the_file_that_does_not_open(rt: HostRuntime) {
-    let rows = [
-        ("dir/a.o", "cannot open dir/a.o\n"),
-        (" a.o", "cannot open  a.o\n"),
-        ("a.o ", "cannot open a.o \n"),
-        ("\u{e4}.o", "cannot open \u{e4}.o\n"),
-        ("-a.o", "cannot open -a.o\n"),
-    ];
-    for (name, told) in rows {
-        let mut files = OneName {
-            name: "a.o",
-            fault: OpenFault::Refused,
-            asked: 0,
-        };
-        let words = ["elfmap", "show", "--", name];
-        assert_runs(&rt, rt.alloc(), &words, &mut files, 3, "", told);
-    }
+    let mut files = OneName {
+        name: "a.o",
+        fault: OpenFault::Refused,
+        asked: 0,
+    };
+    let words = ["elfmap", "show", "--", "\u{e4}.o"];
+    let told = "cannot open \u{e4}.o\n";
+    assert_runs(&rt, rt.alloc(), &words, &mut files, 3, "", told);
 }
 
 #[test]

@@ -1,5 +1,5 @@
 //! Tests of the program and its commands, over readers, writers and openers that fail, and of files of many sections and segments. What
-//! a command answers of a file whose reader and writer are sound stands in `cases/`; tests of `map` and `link` stand in `tests_tool_links`.
+//! a command answers of a file whose reader and writer are sound is in `cases/`.
 #![tactic(auto)]
 
 #[cfg(test)]
@@ -8,9 +8,12 @@ mod check_alone;
 mod failing_calls;
 #[cfg(test)]
 mod file_names;
+#[cfg(test)]
 mod known_files;
 #[cfg(test)]
 mod lines;
+#[cfg(test)]
+mod link_calls;
 #[cfg(test)]
 mod many_sections;
 #[cfg(test)]
@@ -23,7 +26,3 @@ mod rewrite_calls;
 mod said;
 #[cfg(test)]
 mod seeking;
-#[cfg(test)]
-mod words;
-
-pub use known_files::{KnownBytes, KnownFile, status_of_check, status_of_check_by_seeking};

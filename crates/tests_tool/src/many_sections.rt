@@ -1,115 +1,90 @@
-//! Objects of so many sections that their count, and then the index of their section name string
-//! table too, stand in section header 0.
-ghost use Rattle.std.specs.Prelude.{◌<◌, ◌≡◌, None, length};
+//! Objects of so many sections that their count, and then the index of their section name string table too, stand in section header 0.
+ghost use Rattle.std.specs.Prelude.{◌<◌};
 
-use crate::said::{assert_accepts, assert_lines, assert_written_back};
-use elf_field::{Ehdr, Order, Record, Shdr};
-use elf_image_stream::{Bytes, Failed, Failures, Fault, Source};
-use elf_image_type::{parse, verdict};
-use elf_tool_program::{Verdict, check_source, show};
+use crate::said::assert_lines;
+use elf_field::Order;
+use elf_image_stream::Fault;
+use elf_image_type::{parse, verdict, write};
+use elf_tool_program::{Verdict, check, check_source, show};
 use std::alloc::{AllocError, Global};
-use std::io;
-use std::io::Write;
 use std::process::Abort;
 use std::test::Fail;
-use tests_files::Sink;
+use tests_files::{OnceFailingWriter, PartialSource, Sink, set, set_header};
 
-/// The offset of the section header table: behind the symbol table's one entry, the empty string
-/// table, the name table and four bytes of padding.
+/// The offset of the section header table: behind the symbol table's one entry, the empty string table, the name table and four bytes of
+/// padding.
 const TABLE: u64 = 120;
 
-const NAMES: &[u8; 27] = b"\0.symtab\0.strtab\0.shstrtab\0";
-
-/// A section header with no name, flags or address.
-fn section(sh_name: u32, sh_type: u32, sh_offset: u64, sh_size: u64, sh_addralign: u64) -> Shdr {
-    Shdr {
-        sh_name,
-        sh_type,
-        sh_flags: 0,
-        sh_addr: 0,
-        sh_offset,
-        sh_size,
-        sh_link: 0,
-        sh_info: 0,
-        sh_addralign,
-        sh_entsize: 0,
-    }
-}
-
-fn push_section(file: &mut Vec<u8>, section: &Shdr) -> Result<(), AllocError> {
-    let mut bytes = [0; 64];
-    section.put(Order::Little, &mut bytes);
-    file.extend_from_slice(&bytes)
-}
-
-/// The header of an object of so many section headers, with the name table of index `names`.
-fn header(entries: u32, names: u32) -> Ehdr {
-    Ehdr {
-        e_ident: [0x7f, 0x45, 0x4c, 0x46, 2, 1, 1, 0, 0, 0, 0, 0, 0, 0, 0, 0],
-        e_type: 1,
-        e_machine: 62,
-        e_version: 1,
-        e_entry: 0,
-        e_phoff: 0,
-        e_shoff: TABLE,
-        e_flags: 0,
-        e_ehsize: 64,
-        e_phentsize: 0,
-        e_phnum: 0,
-        e_shentsize: 64,
-        e_shnum: if entries < 0xff00 { entries as u16 } else { 0 },
-        e_shstrndx: if names < 0xff00 { names as u16 } else { 0xffff },
-    }
-}
-
-/// Its section header 0, with the numbers that the header cannot hold.
-fn first_section(entries: u32, names: u32) -> Shdr {
-    let mut first = section(0, 0, 0, 0, 0);
-    if entries >= 0xff00 {
-        first.sh_size = entries as u64;
-    }
-    if names >= 0xff00 {
-        first.sh_link = names;
-    }
-    first
-}
-
-/// A little-endian object of `count` empty sections without names, and no symbols: the sections, a
-/// symbol table, its string table and the section name string table.
+/// A little-endian object of `count` empty sections without names, and no symbols: the sections, a symbol table, its string table and the
+/// section name string table.
 fn object(alloc: Global, count: u32) -> Result<Vec<u8>, AllocError>
     requires { count < 100000 }
 {
+    let entries = u64::from(count) + 4;
+    let names = u64::from(count) + 3;
     let mut file = Vec::new(alloc);
-    let mut bytes = [0; 64];
-    header(count + 4, count + 3).put(Order::Little, &mut bytes);
-    file.extend_from_slice(&bytes)?;
-    file.extend_from_slice(&[0; 25])?;
-    file.extend_from_slice(NAMES)?;
-    file.extend_from_slice(&[0; 4])?;
-
-    push_section(&mut file, &first_section(count + 4, count + 3))?;
-    let empty = section(0, 1, 64, 0, 1);
-    for _ in 0..count {
-        push_section(&mut file, &empty)?;
+    file.resize(120 + 64 * (count as usize + 4), 0)?;
+    let header = [
+        (40, 8, TABLE),
+        (58, 2, 64),
+        (60, 2, if entries < 0xff00 { entries } else { 0 }),
+        (62, 2, if names < 0xff00 { names } else { 0xffff }),
+        // The names `.symtab`, `.strtab` and `.shstrtab`.
+        (89, 8, 0x6261_746d_7973_2e00),
+        (97, 8, 0x6261_7472_7473_2e00),
+        (105, 8, 0x7472_7473_6873_2e00),
+        (113, 3, 0x6261),
+        // Section header 0, with the numbers that the header cannot hold.
+        (152, 8, if entries < 0xff00 { 0 } else { entries }),
+        (160, 4, if names < 0xff00 { 0 } else { names }),
+    ];
+    set_header(&mut file, Order::Little, &header);
+    for k in 0..count {
+        let at = TABLE + 64 * (u64::from(k) + 1);
+        let empty = [(at + 4, 4, 1), (at + 24, 8, 64), (at + 48, 8, 1)];
+        set(&mut file, Order::Little, &empty);
     }
-    let mut symbols = section(1, 2, 64, 24, 8);
-    symbols.sh_link = count + 2;
-    symbols.sh_info = 1;
-    symbols.sh_entsize = 24;
-    push_section(&mut file, &symbols)?;
-    push_section(&mut file, &section(9, 3, 88, 1, 1))?;
-    push_section(&mut file, &section(17, 3, 89, 27, 1))?;
+    set_tables(&mut file, TABLE + 64 * (u64::from(count) + 1), count);
     Ok(file)
 }
 
-/// How many sections the image of these bytes has, and the index of its name table.
-fn numbers_of(alloc: Global, bytes: &[u8]) -> Result<(u64, u32), Fault> {
-    let image = parse(alloc, bytes)?;
-    Ok((image.section_count() as u64, image.name_table()))
+/// Writes the section headers of the symbol table, its string table and the section name string table, from this offset on.
+fn set_tables(file: &mut [u8], at: u64, count: u32)
+    requires { at < 10000000 }
+{
+    let fields = [
+        (at, 4, 1),
+        (at + 4, 4, 2),
+        (at + 24, 8, 64),
+        (at + 32, 8, 24),
+        (at + 40, 4, u64::from(count) + 2),
+        (at + 44, 4, 1),
+        (at + 48, 8, 8),
+        (at + 56, 8, 24),
+        (at + 64, 4, 9),
+        (at + 68, 4, 3),
+        (at + 88, 8, 88),
+        (at + 96, 8, 1),
+        (at + 112, 8, 1),
+        (at + 128, 4, 17),
+        (at + 132, 4, 3),
+        (at + 152, 8, 89),
+        (at + 160, 8, 27),
+        (at + 176, 8, 1),
+    ];
+    set(file, Order::Little, &fields);
 }
 
-/// The object of `count` sections is accepted with this line, has its name table at this index, and
-/// is written back.
+/// How many sections the image of these bytes has, the index of its name table, and whether it is written as they are.
+fn image_told(alloc: Global, bytes: &[u8]) -> Result<(u64, u32, bool), Fault> {
+    let image = parse(alloc, bytes)?;
+    let mut written = Vec::new(alloc);
+    let is_written = write(&image, &mut written).is_ok() && written.as_slice() == bytes;
+    let count = image.section_count() as u64;
+    Ok((count, image.name_table(), is_written))
+}
+
+/// The object of `count` sections is accepted with this line, has its name table at this index, and is written back.
 fn assert_object(
     rt: &impl Abort,
     alloc: Global,
@@ -121,11 +96,19 @@ fn assert_object(
     requires { count < 100000 }
 {
     let file = object(alloc, count)?;
-    assert_eq!(rt; (file.len(), verdict(&file)), (len, None));
-    assert_accepts(rt, alloc, &file, line);
-    let numbers = numbers_of(alloc, &file)?;
-    assert_eq!(rt; numbers, (u64::from(count) + 4, names));
-    assert_written_back(rt, alloc, &file)?;
+    let mut said = Vec::new(alloc);
+    let checked = check(alloc, &mut file.as_slice(), &mut said);
+    let told = image_told(alloc, &file)?;
+    assert_eq!(rt;
+        (file.len(), verdict(&file), checked, said.as_slice(), told),
+        (
+            len,
+            None,
+            Ok(Verdict::Done),
+            line.as_bytes(),
+            (u64::from(count) + 4, names, true)
+        )
+    );
     Ok(())
 }
 
@@ -143,78 +126,30 @@ fn counts_in_the_header_and_in_section_header_0(rt: HostRuntime) -> Result<(), F
     Ok(())
 }
 
-/// Gives a byte a call.
-#[derive(Drop)]
-struct Bytewise<'a> {
-    bytes: &'a [u8],
-    failures: Failures,
-}
-
-impl Source for Bytewise<'_> {
-    ghost failures = { λ s. s.failures };
-
-    fn length(&mut self) -> Result<u64, Failed> {
-        Ok(self.bytes.len() as u64)
-    }
-
-    fn read_at(&mut self, at: u64, buf: &mut [u8]) -> Result<usize, Failed> {
-        let room = buf.len();
-        let count = Bytes(self.bytes).copy_at(at, &mut buf[..room.min(1)]);
-        self.failures = self.failures.and_read(at, room, &Ok(count));
-        Ok(count)
-    }
-}
-
 #[test]
 fn is_sought_by_a_byte_a_call(rt: HostRuntime) -> Result<(), Fail> {
     let file = object(rt.alloc(), 65_277)?;
     let mut out = Sink::new(1000, None);
-    let mut source = Bytewise {
-        bytes: &file,
-        failures: Failures::NONE,
-    };
+    let mut source = PartialSource::new(&file, 1);
     let answer = check_source(rt.alloc(), &mut source, &mut out);
     let line = b"ok 4178104 65281 0\n".as_slice();
     assert_eq!(rt; (answer, out.text()), (Ok(Verdict::Done), line));
     Ok(())
 }
 
-/// A writer that knows the longest piece that it was offered.
-#[derive(Drop)]
-struct Pieces {
-    text: Vec<u8>,
-    longest: usize,
-}
-
-impl Write for Pieces {
-    fn write(&mut self, buf: &[u8]) -> io::Result<usize> {
-        if self.text.extend_from_slice(buf).is_err() {
-            return Err(io::ErrorKind::OutOfMemory.into());
-        }
-        self.longest = self.longest.max(buf.len());
-        Ok(buf.len())
-    }
-
-    fn flush(&mut self) -> io::Result<()> {
-        Ok(())
-    }
-}
-
 /// The text is far longer than the pieces in which it goes out.
 #[test]
 fn shows_each_section(rt: HostRuntime) -> Result<(), Fail> {
     let file = object(rt.alloc(), 65_275)?;
-    let mut out = Pieces {
-        text: Vec::new(rt.alloc()),
-        longest: 0,
-    };
+    let mut out = OnceFailingWriter::new(rt.alloc(), usize::MAX, 0, None);
     let answer = show(rt.alloc(), &mut file.as_slice(), &mut out);
-    assert_eq!(rt; (answer, out.longest < 66_000), (Ok(Verdict::Done), true));
+    let are_short = out.offers.iter().all(|offer| *offer < 66_000);
+    assert_eq!(rt; (answer, are_short), (Ok(Verdict::Done), true));
     // The header's line, six parts, the sections, and a symbol.
     let lines = 1 + 6 + 65_279 + 1;
     let front = b"file little 1 62 0x0 0x0\npart 0x0 0x40 header\npart 0x40 0x18 content 65276\n";
     let end =
         b"\nsection 65278 3 0x0 0x0 0x59 0x1b 0 0 0x1 0x0 .shstrtab\nsymbol 65276 0 0 0 0 undef 0x0 0x0 -\n";
-    assert_lines(&rt, &out.text, lines, front, end);
+    assert_lines(&rt, &out.bytes, lines, front, end);
     Ok(())
 }

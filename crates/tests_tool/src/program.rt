@@ -22,13 +22,13 @@ pub(crate) const ROOM: usize = 800;
 
 /// Has one file, `a.o`.
 #[derive(Drop)]
-pub(crate) struct Folder<'a> {
+pub(crate) struct OneFile<'a> {
     pub bytes: &'a [u8],
     pub piece: usize,
     pub failure: Option<ErrorKind>,
 }
 
-impl<'a> Opener for Folder<'a> {
+impl<'a> Opener for OneFile<'a> {
     type Input = Pieces<'a>;
 
     type Seek = Bytes<'a>;
@@ -54,16 +54,16 @@ impl<'a> Opener for Folder<'a> {
 
 /// Takes a byte at a time, up to `room` of them, and then fails, or takes none. It needs no memory.
 #[derive(Drop)]
-pub(crate) struct Shelf {
+pub(crate) struct LimitedWriter {
     bytes: [u8; ROOM],
     len: usize,
     room: usize,
     failure: Option<ErrorKind>,
 }
 
-impl Shelf {
-    pub(crate) fn new(room: usize, failure: Option<ErrorKind>) -> Shelf {
-        Shelf {
+impl LimitedWriter {
+    pub(crate) fn new(room: usize, failure: Option<ErrorKind>) -> LimitedWriter {
+        LimitedWriter {
             bytes: [0; ROOM],
             len: 0,
             room,
@@ -76,7 +76,7 @@ impl Shelf {
     }
 }
 
-impl Write for Shelf {
+impl Write for LimitedWriter {
     fn write(&mut self, buf: &[u8]) -> io::Result<usize> {
         match buf.first() {
             Some(byte) if self.len < self.room.min(ROOM) => {
@@ -98,26 +98,26 @@ impl Write for Shelf {
 
 /// What a whole run came to.
 #[derive(Drop)]
-pub(crate) struct Ran {
+pub(crate) struct Outcome {
     pub status: u8,
-    pub out: Shelf,
-    pub err: Shelf,
+    pub out: LimitedWriter,
+    pub err: LimitedWriter,
 }
 
 fn run_on(
     alloc: Global,
     words: &[&str],
-    files: &mut Folder<'_>,
-    mut out: Shelf,
+    files: &mut OneFile<'_>,
+    mut out: LimitedWriter,
     err_room: usize,
-) -> Ran {
-    let mut err = Shelf::new(err_room, None);
+) -> Outcome {
+    let mut err = LimitedWriter::new(err_room, None);
     let status = run(alloc, words, files, &mut out, &mut err);
-    Ran { status, out, err }
+    Outcome { status, out, err }
 }
 
 /// It came to this status, and to these texts on the output and on standard error.
-pub(crate) fn assert_ran(rt: &impl Abort, ran: &Ran, status: u8, said: &str, complained: &str) {
+pub(crate) fn assert_ran(rt: &impl Abort, ran: &Outcome, status: u8, said: &str, complained: &str) {
     assert_eq!(rt;
         (ran.status, ran.out.text(), ran.err.text()),
         (status, said.as_bytes(), complained.as_bytes())
@@ -127,13 +127,19 @@ pub(crate) fn assert_ran(rt: &impl Abort, ran: &Ran, status: u8, said: &str, com
 #[test]
 fn a_failed_write_to_standard_error_changes_nothing(rt: HostRuntime) {
     for (name, status, said) in [("a.o", 0, "ok 64 0 0\n"), ("b.o", 3, "")] {
-        let mut files = Folder {
+        let mut files = OneFile {
             bytes: HEADER,
             piece: 7,
             failure: None,
         };
         let words = ["elfmap", "check", name];
-        let ran = run_on(rt.alloc(), &words, &mut files, Shelf::new(ROOM, None), 0);
+        let ran = run_on(
+            rt.alloc(),
+            &words,
+            &mut files,
+            LimitedWriter::new(ROOM, None),
+            0,
+        );
         assert_ran(&rt, &ran, status, said, "");
     }
 }
@@ -148,12 +154,18 @@ fn refuses_other_words(rt: HostRuntime) {
         &[],
     ];
     for words in rows {
-        let mut files = Folder {
+        let mut files = OneFile {
             bytes: HEADER,
             piece: 7,
             failure: None,
         };
-        let ran = run_on(rt.alloc(), words, &mut files, Shelf::new(ROOM, None), ROOM);
+        let ran = run_on(
+            rt.alloc(),
+            words,
+            &mut files,
+            LimitedWriter::new(ROOM, None),
+            ROOM,
+        );
         let told = ran.err.text().ends_with(b"try '--help'.\n");
         assert_eq!(rt;
             (ran.status, ran.out.text(), told),
@@ -164,12 +176,18 @@ fn refuses_other_words(rt: HostRuntime) {
 
 /// The check of a file whose reader fails so behind ten bytes.
 fn assert_read_fails(rt: &impl Abort, alloc: Global, kind: ErrorKind) {
-    let mut files = Folder {
+    let mut files = OneFile {
         bytes: &HEADER[..10],
         piece: 3,
         failure: Some(kind),
     };
-    let ran = run_on(alloc, &CHECK, &mut files, Shelf::new(ROOM, None), ROOM);
+    let ran = run_on(
+        alloc,
+        &CHECK,
+        &mut files,
+        LimitedWriter::new(ROOM, None),
+        ROOM,
+    );
     assert_ran(rt, &ran, 3, "", "read failed at 10\n");
 }
 
@@ -183,12 +201,18 @@ fn a_failed_read_is_told_with_its_place(rt: HostRuntime) {
 fn assert_write_fails(rt: &impl Abort, alloc: Global, room: usize, failure: Option<ErrorKind>)
     requires { room < 10 }
 {
-    let mut files = Folder {
+    let mut files = OneFile {
         bytes: HEADER,
         piece: 1,
         failure: None,
     };
-    let ran = run_on(alloc, &CHECK, &mut files, Shelf::new(room, failure), ROOM);
+    let ran = run_on(
+        alloc,
+        &CHECK,
+        &mut files,
+        LimitedWriter::new(room, failure),
+        ROOM,
+    );
     let mut told = *b"write failed after N\n";
     told[19] = b"0123456789"[room];
     assert_eq!(rt;
@@ -207,7 +231,7 @@ fn a_failed_write_is_told_with_what_is_out(rt: HostRuntime) {
 
 /// The status and the text that the program ends with where the machine gives no words.
 fn assert_refused(rt: &impl Abort, kind: ErrorKind, status: u8, told: &str) {
-    let mut err = Shelf::new(ROOM, None);
+    let mut err = LimitedWriter::new(ROOM, None);
     let ended = refuse_words(&io::Error::from(kind), &mut err);
     assert_eq!(rt; (ended, err.text()), (status, told.as_bytes()));
 }
@@ -224,12 +248,18 @@ fn words_that_the_machine_does_not_give(rt: HostRuntime) {
 // Where a growth is refused, the answer is want of memory, and nothing is out.
 #[test]
 fn a_refused_growth_leaves_nothing_out(rt: HostRuntime) {
-    let mut files = Folder {
+    let mut files = OneFile {
         bytes: HEADER,
         piece: 64,
         failure: None,
     };
-    let ran = run_on(rt.alloc(), &CHECK, &mut files, Shelf::new(ROOM, None), ROOM);
+    let ran = run_on(
+        rt.alloc(),
+        &CHECK,
+        &mut files,
+        LimitedWriter::new(ROOM, None),
+        ROOM,
+    );
     let (status, said, complained) = match ran.status {
         0 => (0, "ok 64 0 0\n", ""),
         _ => (3, "", "out of memory\n"),
@@ -246,11 +276,11 @@ segment 0 1 0x5 0x0 0x1000 0x1000 0x78 0x78 0x1000
 
 /// `show` of the file, onto an output whose room is too small.
 fn assert_show_fails(rt: &impl Abort, alloc: Global, mut file: &[u8], room: usize) {
-    let mut shelf = Shelf::new(room, Some(ErrorKind::Other));
-    let answer = show(alloc, &mut file, &mut shelf);
+    let mut writer = LimitedWriter::new(room, Some(ErrorKind::Other));
+    let answer = show(alloc, &mut file, &mut writer);
     let written = room as u64;
     assert_eq!(rt;
-        (answer, Some(shelf.text())),
+        (answer, Some(writer.text())),
         (
             Err(ToolFault::Write { written }),
             ONE_SEGMENT_TEXT.as_bytes().get(..room)

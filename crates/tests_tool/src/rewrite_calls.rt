@@ -3,7 +3,7 @@ use elf_tool_program::{ToolFault, Verdict, rewrite};
 use std::alloc::Global;
 use std::io::ErrorKind;
 use std::process::Abort;
-use tests_files::{Failure, PIECE, Sink, Source, empty_object};
+use tests_files::{Failure, OnceFailingReader, PIECE, Sink, empty_object};
 
 /// How many calls give the 376 bytes of the empty object; one more asks for the end.
 const READS: usize = 47;
@@ -11,7 +11,7 @@ const READS: usize = 47;
 /// The reader fails at this call.
 fn assert_read_fails(rt: &impl Abort, alloc: Global, call: usize) {
     let file = empty_object();
-    let mut reader = Source::new(&file, call, Some(ErrorKind::Interrupted));
+    let mut reader = OnceFailingReader::new(&file, call, Some(ErrorKind::Interrupted));
     let mut writer = Sink::new(1000, None);
     let answer = rewrite(alloc, &mut reader, &mut writer);
     let at = call.saturating_mul(PIECE) as u64;
@@ -59,7 +59,7 @@ fn a_write_that_fails_is_told_with_what_is_out(rt: HostRuntime) {
 #[test]
 fn a_refused_growth_leaves_nothing_out(rt: HostRuntime) {
     let file = empty_object();
-    let mut reader = Source::new(&file, 1000, None);
+    let mut reader = OnceFailingReader::new(&file, 1000, None);
     let mut writer = Sink::new(1000, None);
     let answer = rewrite(rt.alloc(), &mut reader, &mut writer);
     let (answers, whole) = match answer {

@@ -13,7 +13,7 @@ Nothing is tried again; a file is opened once, nothing is read into no space, no
 `tests_calls` the calls `write`, `object` and `copy` are tried in the same way: what `copy` has written before a failed `read` is the
 beginning of the file.
 
-`tests_growths` makes the calls of the library one by one, with the Nth growth refused, and with that and all after it: each call answers
+By `growths` it makes the calls of the library one by one, with the Nth growth refused, and with that and all after it: each call answers
 out of memory or what it answers with enough; a reading goes on where a growth was refused, and loses nothing; what takes no memory answers
 as ever, and made three times it grows as much as made not at all."""
 
@@ -38,7 +38,7 @@ FAILURES = [("malloc", "fail"), ("open", "fail"), ("read", "fail"), ("read", "in
 FAILURES += [("lseek", "interrupt"), ("write", "fail"), ("write", "interrupt"), ("write", "nothing"), ("write", "cut")]
 # The calls of `tests_calls`, which ends with an error of std's where it can't have its words or its file.
 OWN = ("write", "object", "copy")
-CALLS, GROWTHS = output_of("tests_calls"), output_of("tests_growths")
+CALLS = output_of("tests_calls")
 # Files by hand, those of a link together, with a symbol at which its executable can begin.
 BY_HAND: dict[tuple[str, ...], str] = {("one_section",): "", ("many_sections",): "", ("call_0", "call_1"): "main"}
 BY_HAND |= {("common_0", "common_1", "common_2"): "x", ("groups_0", "groups_1"): "f", ("hash",): ""}
@@ -127,7 +127,7 @@ def opened_once(folder: str, words: list[str], files: list[str], program: str) -
 
 def quiet(folder: str, names: Iterable[str]) -> Result:
     """What is wrong with the calls that take no memory, on these files: made three times they grow as much as made not at all."""
-    counts = [ended(folder, ["quiet", times, *names], "count 1 nothing", GROWTHS) for times in ("0", "3")]
+    counts = [ended(folder, ["quiet", times, *names], "count 1 nothing", CALLS) for times in ("0", "3")]
     same = counts[0] == counts[1] and counts[0][0][0] == 0 and counts[0][1][2:]
     return 1, [] if same else [f"quiet {' '.join(names)}: {counts}"]
 
@@ -166,12 +166,12 @@ def wrong_growths(ample: list[bytes], found: list[bytes]) -> str:
     return "" if place == len(ample) or refused else "lines are missing"
 
 
-def grown(folder: str, words: list[str], how: str, first: int) -> Result:
-    """Each growth of the calls of the library refused, from the one of this number on: how many were, and what was wrong."""
-    (sound, output, _), _ = ended(folder, words, program=GROWTHS)
-    ample, count, wrong = output.split(b"\n")[:-1], first - 1, list[str]()
+def grown(folder: str, words: list[str], how: str) -> Result:
+    """Each growth of the calls of the library refused: how many were, and what was wrong."""
+    (sound, output, _), _ = ended(folder, words, program=CALLS)
+    ample, count, wrong = output.split(b"\n")[:-1], 0, list[str]()
     while True:
-        (status, out, err), report = ended(folder, words, f"malloc {count + 1} {how}", GROWTHS)
+        (status, out, err), report = ended(folder, words, f"malloc {count + 1} {how}", CALLS)
         lines = out.split(b"\n")[:-1]
         if not report:
             return count, wrong + ([] if lines == ample else [f"{' '.join(words)}: another answer without a refused growth"])
@@ -184,14 +184,11 @@ def grown(folder: str, words: list[str], how: str, first: int) -> Result:
 
 
 def growths(folder: str) -> Iterator[Result]:
-    """First the growths that no file is needed for, then those of the files by hand."""
-    count, wrong = grown(folder, [], "fail", 1)
-    yield count, wrong
+    """The growths of the calls that need no file, and of those on the files by hand."""
     for names in BY_HAND:
         # A file of 4 MB takes its time.
         for how in ("fail",) if names == ("many_sections",) else ("fail", "rest"):
-            last, wrong = grown(folder, ["rules", *names], how, count + 1)
-            yield last - count, wrong
+            yield grown(folder, ["growths", "rules", *names], how)
     for those in [*BY_HAND, ("caller.o", "callee.o"), ("full.o",), ("/bin/true",)]:
         yield quiet(folder, those)
 
@@ -236,5 +233,5 @@ def failing_calls(tally: Tally, options: Namespace) -> None:
             tally.count(count, wrong)
 
 
-CRATES = crates_of("elfmap", "tests_growths", "tests_calls")
+CRATES = crates_of("elfmap", "tests_calls")
 TESTS = [Test("failing-calls", "every call of the C library failing once", failing_calls, ("cc",), CRATES, family="fuzz")]

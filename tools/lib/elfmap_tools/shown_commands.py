@@ -30,7 +30,7 @@ SKIPPED = {
     "tools/dev prove elf_image_rules": LONG,
     "tools/dev check elf_extent  # a crate": LONG,
     "tools/dev check elf_extent members_by_start  # a function, and what it calls; here sorted by the index in place of the start": LONG,
-    "tools/dev check tests_image_rules --test refuses_headers": LONG,
+    "tools/dev check tests_base --test finds_the_next_place": LONG,
     f"man -l {ARCHIVE}/share/man/man1/elfmap.1": "it shows a page; tools/test release has it formatted",
     "bench/run": MEASURED,
     "bench/growth crates/elfmap/out/elfmap": MEASURED,

@@ -1,2 +1,0 @@
--- The words of this crate's contracts.
-pub mod CheckSource

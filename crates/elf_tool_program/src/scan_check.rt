@@ -1,0 +1,85 @@
+//! `check` over a source: the same verdict, of what the check needs to read alone.
+ghost use Rattle.std.specs.Prelude.{◌≡◌, ℕ, List, Ok, Some, IfErr, IfOk, string_bytes};
+ghost use Rattle.elf_field.specs.Bytes.{IsBytes};
+ghost use Rattle.elf_image_rules.specs.Broken.{fault_of};
+ghost use Rattle.elf_image_stream.specs.Source.{Remembers};
+ghost use Rattle.elf_tool_check.specs.Check.{verdict_of};
+ghost use Rattle.elf_tool_program.specs.CheckSource.{IsScanStopped, IsScanned, IsSourceSaid, check_failure, line_of_scan};
+
+use elf_image_outline::{Outline, scan};
+use elf_image_rules::Broken;
+use elf_image_stream::{Fault, Source, write_whole};
+use elf_tool_text::line::{ok_line, refused_line};
+use elf_tool_text::{Refusal, ToolFault, Verdict};
+use std::alloc::{AllocError, Global};
+use std::io::Write;
+
+/// Reads the header, the two tables and the ends of the section name string table of a source, and no other byte, and writes the line that
+/// [`check`](elf_tool_check::check) writes on the whole file.
+///
+/// The verdict is what the line says. Nothing is out after [`ToolFault::Read`] and after [`ToolFault::OutOfMemory`]; after
+/// [`ToolFault::Write`] exactly the first `written` bytes of the line are. [`ToolFault::Read`] has the offset that a call of the source was
+/// asked for which failed (0 for a failed `length`), or which gave no byte where the length says that there is one; after such a call
+/// nothing else is answered. Time and memory are those of [`scan`](elf_image_outline::scan), and a line.
+pub fn check_source<S: Source, W: Write>(
+    alloc: Global,
+    source: &mut S,
+    writer: &mut W,
+) -> Result<Verdict, ToolFault>
+    ensures kept { S.content source.new ≡ S.content source.old }
+    ensures failures { Remembers (check_failure result) (S.failures source.old) (S.failures source.new) }
+    ensures said { IsSourceSaid (S.content source.old) (W.contents writer.old) (W.contents writer.new) result }
+{
+    let judged = judged_by_scan(alloc, source)?;
+    let line = line_on_scan(alloc, &judged)?;
+    write_whole(writer, line.as_bytes())?;
+    Ok(verdict_on_scan(&judged))
+}
+
+/// The outline of a source that breaks no rule, or the first one that it breaks.
+fn judged_by_scan<S: Source>(
+    alloc: Global,
+    source: &mut S,
+) -> Result<Result<Outline, Broken<u64>>, ToolFault>
+    ensures kept { S.content source.new ≡ S.content source.old }
+    ensures failures { Remembers (check_failure result) (S.failures source.old) (S.failures source.new) }
+    ensures stopped { IfErr result IsScanStopped }
+    ensures told { (b : List ℕ) → S.content source.old ≡ Some b → IsBytes b → IfOk result (IsScanned b) }
+{
+    match scan(alloc, source) {
+        Ok(outline) => Ok(Ok(outline)),
+        Err(Fault::Rule { rule, at }) => Ok(Err(Broken { rule, at })),
+        Err(Fault::Io { at }) => Err(ToolFault::Read { at }),
+        Err(Fault::OutOfMemory) => Err(ToolFault::OutOfMemory),
+    }
+}
+
+fn line_on_scan(alloc: Global, judged: &Result<Outline, Broken<u64>>) -> Result<String, AllocError>
+    ensures { IfOk result (λ line. string_bytes line ≡ line_of_scan judged.now) }
+{
+    match judged {
+        Ok(outline) => line_on_outline(alloc, outline),
+        Err(broken) => refused_line(alloc, broken.rule, broken.at),
+    }
+}
+
+fn line_on_outline(alloc: Global, outline: &Outline) -> Result<String, AllocError>
+    ensures { IfOk result (λ line. string_bytes line ≡ line_of_scan (Ok outline.now)) }
+{
+    let sections = outline.section_count() as u64;
+    let segments = outline.segment_count() as u64;
+    ok_line(alloc, outline.len() as usize, sections, segments)
+}
+
+fn verdict_on_scan(judged: &Result<Outline, Broken<u64>>) -> Verdict
+    ensures { result ≡ verdict_of (fault_of judged.now) }
+{
+    match judged {
+        Ok(_) => Verdict::Done,
+        Err(broken) => Verdict::Refused(Refusal::File {
+            file: 0,
+            rule: broken.rule,
+            at: broken.at,
+        }),
+    }
+}

@@ -1,0 +1,202 @@
+//! The large link: where its outputs and sections stand, what its names are bound to, and its fields.
+use crate::large_files::{
+    FILES, LINKS, LONG, OUTPUTS, SECTIONS, address_of, digits, files, long_name, name_of,
+    short_name,
+};
+use crate::parts::{list, mapped, push_number, rule};
+use elf_field::Order;
+use elf_link_field::{Form, Range, Width};
+use elf_link_map::{Binding, LinkFault, LinkMap, Named, Output};
+use elf_link_relocate::{Linked, relocate};
+use elf_object_type::Object;
+use std::alloc::{AllocError, Global};
+use std::test::Fail;
+
+/// How many sections go to an output, and their bytes: 264 is six times 40 and 24.
+fn size_of(output: u16) -> (usize, u64) {
+    if output < 24 {
+        (7, 7 * 16)
+    } else {
+        (6, 6 * 16)
+    }
+}
+
+/// Whether an output has its name, its place and its members.
+fn stands(output: &Output<'_>, digits: &[u8], base: u64, number: u16) -> bool {
+    output.name == short_name(digits, number)
+        && output.address == address_of(base, number)
+        && (output.members.len(), output.length) == size_of(number)
+}
+
+/// The first output that is not as it has to be.
+fn first_wrong_output(link: &LinkMap<'_>, digits: &[u8], base: u64) -> Option<u16> {
+    let outputs = link.outputs();
+    for number in 0..OUTPUTS {
+        match outputs.get(number as usize) {
+            Some(output) if stands(output, digits, base, number) => {}
+            _ => return Some(number),
+        }
+    }
+    None
+}
+
+/// The first section, by its number, that does not stand where it has to.
+fn first_wrong_section(link: &LinkMap<'_>, base: u64) -> Option<u16> {
+    for number in 0..SECTIONS {
+        let address = link.address(number as usize / 4, number as usize % 4);
+        if address != Some(address_of(base, number)) {
+            return Some(number);
+        }
+    }
+    None
+}
+
+/// How many names there are: 17 a file.
+const NAMES: u16 = 1_122;
+
+/// The definition of a name, at this symbol.
+fn definition(file: u8, index: u8) -> Binding {
+    let (file, symbol) = (file as usize, index as usize);
+    if index == LONG {
+        Binding::Weak { file, symbol }
+    } else {
+        Binding::Strong { file, symbol }
+    }
+}
+
+/// The name at this position of all, with its binding: the names of each file in order, and of each those of its symbols.
+fn named_at(digits: &[u8], position: u16) -> Named<'_> {
+    let (file, index) = ((position / 17 % 256) as u8, (position % 17) as u8);
+    Named {
+        name: name_of(digits, file, index),
+        binding: definition(file, index),
+    }
+}
+
+/// The first name that is not bound to its definition, in the list or when it is looked up.
+fn first_wrong_name(link: &LinkMap<'_>, digits: &[u8]) -> Option<u16> {
+    let names = link.names();
+    for position in 0..NAMES {
+        let named = named_at(digits, position);
+        if names.get(position as usize) != Some(&named)
+            || link.binding(named.name) != Some(named.binding)
+        {
+            return Some(position);
+        }
+    }
+    None
+}
+
+/// The bytes of section 1 of a file, its five fields. The first one is of symbol 5, five bytes behind it, counts from itself and adds -6,
+/// which is -1. The second one holds its addend alone. The third one is of symbol 16, 16 bytes behind the start of section 0. The last two
+/// are of the name that file 0 defines at the start of its section 0: the one counts from itself, four bytes behind the start of its
+/// section, and adds -4; the other one adds 1.
+fn wanted(alloc: Global, order: Order, base: u64, file: u8) -> Result<Vec<u8>, AllocError> {
+    let zeroth = address_of(base, 4 * file as u16);
+    let own = address_of(base, 4 * file as u16 + 1);
+    let first = address_of(base, 0);
+    let mut bytes = list(alloc, [0xff, file.wrapping_add(100)])?;
+    push_number(order, zeroth.wrapping_add(16), 2, &mut bytes)?;
+    push_number(
+        order,
+        first.wrapping_sub(own).wrapping_sub(8),
+        4,
+        &mut bytes,
+    )?;
+    push_number(order, first.wrapping_add(1), 8, &mut bytes)?;
+    Ok(bytes)
+}
+
+/// The first file whose fields do not hold their numbers.
+fn first_wrong_file(
+    alloc: Global,
+    linked: &Linked<'_, '_>,
+    order: Order,
+    base: u64,
+) -> Result<Option<u8>, AllocError> {
+    for file in 0..FILES {
+        let bytes = wanted(alloc, order, base, file)?;
+        if linked.bytes(file as usize, 1) != Some(bytes.as_slice()) {
+            return Ok(Some(file));
+        }
+    }
+    Ok(None)
+}
+
+/// Of a large link: how many outputs it has, and the first wrong one; the first section that stands elsewhere; how many names it has, and
+/// the first one that is bound otherwise; and the first file whose fields do not hold their numbers.
+type Told = (
+    (usize, Option<u16>),
+    Option<u16>,
+    (usize, Option<u16>),
+    Option<u8>,
+);
+
+/// What the link of these objects, the files of the large link, tells.
+fn told_of(
+    alloc: Global,
+    objects: &[Object<'_>],
+    digits: &[u8],
+    order: Order,
+    base: u64,
+) -> Result<Told, LinkFault> {
+    let rules = [
+        rule(1, Form::Pc, Width::W1, Range::Signed),
+        rule(2, Form::Abs, Width::W1, Range::Unsigned),
+        rule(3, Form::Abs, Width::W2, Range::Wrap),
+        rule(4, Form::Pc, Width::W4, Range::Signed),
+        rule(5, Form::Abs, Width::W8, Range::Unsigned),
+    ];
+    let link = mapped(alloc, objects, base, None)?;
+    let linked = relocate(alloc, &link, objects, &rules)?;
+    let field = first_wrong_file(alloc, &linked, order, base)?;
+    let output = first_wrong_output(&link, digits, base);
+    let name = first_wrong_name(&link, digits);
+    Ok((
+        (link.outputs().len(), output),
+        first_wrong_section(&link, base),
+        (link.names().len(), name),
+        field,
+    ))
+}
+
+/// The same of the large link in this order, from this address on.
+fn told(alloc: Global, order: Order, base: u64) -> Result<Told, Fail> {
+    let digits = digits(alloc)?;
+    let objects = files(alloc, digits.as_bytes(), order)?;
+    Ok(told_of(alloc, &objects, digits.as_bytes(), order, base)?)
+}
+
+#[test]
+fn everything_stands_where_it_has_to(rt: HostRuntime) -> Result<(), Fail> {
+    for (order, base) in LINKS {
+        let told = told(rt.alloc(), order, base)?;
+        assert_eq!(rt; told, ((40, None), None, (1_122, None), None));
+    }
+    Ok(())
+}
+
+/// Where the program begins that is linked from 2^63 on, with the long name of this file as its entry.
+fn entry_at(alloc: Global, file: u8) -> Result<u64, Fail> {
+    let digits = digits(alloc)?;
+    let objects = files(alloc, digits.as_bytes(), Order::Big)?;
+    let entry = Some(long_name(digits.as_bytes(), file));
+    let link = mapped(alloc, &objects, 0x8000_0000_0000_0000, entry)?;
+    Ok(link.entry())
+}
+
+// Symbol 16 of file f has the value 16 in its section 0, which is number 4 f: in output 20, 24, 28 or 0, behind one or six others.
+#[test]
+fn begins_at_long_names_that_are_bound_weakly(rt: HostRuntime) -> Result<(), Fail> {
+    let rows = [
+        (15, 0x8000_0000_0001_4020),
+        (16, 0x8000_0000_0001_8020),
+        (17, 0x8000_0000_0001_c020),
+        (60, 0x8000_0000_0000_0070),
+    ];
+    for (file, want) in rows {
+        let entry = entry_at(rt.alloc(), file)?;
+        assert_eq!(rt; entry, want);
+    }
+    Ok(())
+}

@@ -1,0 +1,448 @@
+//! `map` and `link` over readers and writers that fail at one call alone, over files that don't open, and over what they reject: what is
+//! told is exact, and what is out is the text or its beginning.
+use elf_image_stream::Bytes;
+use elf_tool_program::{
+    Form, OpenFault, Opener, Options, Range, Refusal, RelocRule, ToolFault, Verdict, Width, link,
+    map, run,
+};
+use std::alloc::Global;
+use std::io::ErrorKind;
+use std::process::Abort;
+use tests_files::{Failure, OnceFailingReader, PIECE, Sink, callee, caller};
+
+/// The executable of the two files at 0x1000: the header, one program header, and the bytes of `.text` behind them.
+const EXECUTABLE: [u8; 127] = [
+    0x7f, 0x45, 0x4c, 0x46, 2, 1, 1, 0, 0, 0, 0, 0, 0, 0, 0, 0, // e_ident
+    2, 0, 62, 0, 1, 0, 0, 0, // e_type, e_machine, e_version
+    0, 0x10, 0, 0, 0, 0, 0, 0, // e_entry
+    64, 0, 0, 0, 0, 0, 0, 0, // e_phoff
+    0, 0, 0, 0, 0, 0, 0, 0, // e_shoff
+    0, 0, 0, 0, 64, 0, 56, 0, 1, 0, 0, 0, 0, 0, 0, 0, // e_flags, e_ehsize, e_phentsize, e_phnum
+    1, 0, 0, 0, 5, 0, 0, 0, // p_type, p_flags
+    120, 0, 0, 0, 0, 0, 0, 0, // p_offset
+    0, 0x10, 0, 0, 0, 0, 0, 0, // p_vaddr
+    0, 0x10, 0, 0, 0, 0, 0, 0, // p_paddr
+    7, 0, 0, 0, 0, 0, 0, 0, // p_filesz
+    7, 0, 0, 0, 0, 0, 0, 0, // p_memsz
+    1, 0, 0, 0, 0, 0, 0, 0, // p_align
+    0xe8, 1, 0, 0, 0, 0xc3, 0xc3,
+];
+
+/// What `map` says of the two files.
+const LINES: &[u8] =
+    b"output 0x1000 0x7 bits 0x6 .text\nmember 0x1000 0x6 0 0\nmember 0x1006 0x1 1 0\nname 0x1000 strong main\nname 0x1006 strong callee\n";
+
+/// And by the rule of the call.
+const RULED: &[u8] =
+    b"output 0x1000 0x7 bits 0x6 .text\nmember 0x1000 0x6 0 0\nmember 0x1006 0x1 1 0\nname 0x1000 strong main\nname 0x1006 strong callee\nbytes 0 0 e801000000c3\nbytes 1 0 c3\n";
+
+/// A field of four bytes that counts from itself.
+const CALL: [RelocRule; 1] = [RelocRule {
+    kind: 2,
+    form: Form::Pc,
+    width: Width::W4,
+    range: Range::Signed,
+}];
+
+const OPTIONS: Options<'static> = Options {
+    base: 0x1000,
+    page: 1,
+    entry: None,
+};
+
+/// The program begins at `main`.
+const ENTERED: Options<'static> = Options {
+    entry: Some(b"main"),
+    ..OPTIONS
+};
+
+/// The reader of the second file fails at this call, of either command.
+fn assert_read_fails(rt: &impl Abort, alloc: Global, call: usize) {
+    let (first, second) = (caller(), callee());
+    let failure = Some(ErrorKind::Interrupted);
+    let mut mapped = [
+        OnceFailingReader::new(&first, 1000, None),
+        OnceFailingReader::new(&second, call, failure),
+    ];
+    let mut linked = [
+        OnceFailingReader::new(&first, 1000, None),
+        OnceFailingReader::new(&second, call, failure),
+    ];
+    let mut writer = Sink::new(1000, None);
+    let answers = [
+        map(alloc, &mut mapped, &OPTIONS, None, &mut writer),
+        link(alloc, &mut linked, &ENTERED, &CALL, &mut writer),
+    ];
+    let at = call.saturating_mul(PIECE) as u64;
+    assert_eq!(rt;
+        (answers, writer.calls),
+        ([Err(ToolFault::Read { at }); 2], 0)
+    );
+}
+
+#[test]
+fn a_read_that_fails_is_told_with_its_place_in_its_file(rt: HostRuntime) {
+    for call in 0..20 {
+        assert_read_fails(&rt, rt.alloc(), call);
+    }
+}
+
+#[test]
+fn no_reader_behind_one_that_fails_is_called(rt: HostRuntime) {
+    let (first, second) = (caller(), callee());
+    let mut readers = [
+        OnceFailingReader::new(&first, 3, Some(ErrorKind::Other)),
+        OnceFailingReader::new(&second, 1000, None),
+    ];
+    let mut writer = Sink::new(1000, None);
+    let answer = map(rt.alloc(), &mut readers, &OPTIONS, None, &mut writer);
+    let calls = (readers[0].calls, readers[1].calls);
+    assert_eq!(rt; (answer, calls), (Err(ToolFault::Read { at: 24 }), (4, 0)));
+}
+
+/// The two commands, and the first of them by the rule of the call.
+#[derive(Clone, Copy)]
+enum Command {
+    Map,
+    MapByRules,
+    Link,
+}
+
+/// What the command writes of the two files.
+fn text_of(command: Command) -> &'static [u8] {
+    match command {
+        Command::Map => LINES,
+        Command::MapByRules => RULED,
+        Command::Link => &EXECUTABLE,
+    }
+}
+
+/// The writer fails so at this call: what is out is the beginning of the text, and its length is told.
+fn assert_write_fails(
+    rt: &impl Abort,
+    alloc: Global,
+    command: Command,
+    call: usize,
+    failure: Failure,
+) {
+    let (first, second) = (caller(), callee());
+    let mut writer = Sink::new(call, failure);
+    let files = &mut [first.as_slice(), second.as_slice()];
+    let answer = match command {
+        Command::Map => map(alloc, files, &OPTIONS, None, &mut writer),
+        Command::MapByRules => map(alloc, files, &OPTIONS, Some(&CALL), &mut writer),
+        Command::Link => link(alloc, files, &ENTERED, &CALL, &mut writer),
+    };
+    let written = writer.text().len() as u64;
+    let begins = text_of(command).starts_with(writer.text());
+    assert_eq!(rt;
+        (answer, begins, writer.calls),
+        (
+            Err(ToolFault::Write { written }),
+            true,
+            call.saturating_add(1)
+        )
+    );
+}
+
+#[test]
+fn a_write_that_fails_is_told_with_what_is_out(rt: HostRuntime) {
+    let calls = [
+        (Command::Map, 16),
+        (Command::MapByRules, 20),
+        (Command::Link, 16),
+    ];
+    for (command, count) in calls {
+        for call in 0..count {
+            assert_write_fails(&rt, rt.alloc(), command, call, Some(ErrorKind::Other));
+            assert_write_fails(&rt, rt.alloc(), command, call, None);
+        }
+    }
+}
+
+#[test]
+fn the_executable_goes_out_without_a_flush(rt: HostRuntime) {
+    let (first, second) = (caller(), callee());
+    let mut writer = Sink::new(1000, None);
+    let files = &mut [first.as_slice(), second.as_slice()];
+    let answer = link(rt.alloc(), files, &ENTERED, &CALL, &mut writer);
+    assert_eq!(rt;
+        (answer, writer.text(), writer.empty_calls, writer.flushes),
+        (Ok(Verdict::Done), EXECUTABLE.as_slice(), 0, 0)
+    );
+}
+
+// Where a growth is refused, the answer is want of memory with nothing out.
+#[test]
+fn a_refused_growth_leaves_nothing_out(rt: HostRuntime) {
+    let (first, second) = (caller(), callee());
+    let mut writer = Sink::new(1000, None);
+    let files = &mut [first.as_slice(), second.as_slice()];
+    let answer = map(rt.alloc(), files, &OPTIONS, None, &mut writer);
+    let (answers, whole) = match answer {
+        Ok(Verdict::Done) => (Ok(Verdict::Done), LINES),
+        _ => (Err(ToolFault::OutOfMemory), b"".as_slice()),
+    };
+    assert_eq!(rt; (answer, writer.text()), (answers, whole));
+}
+
+// Rule 10 of the link map: no words of `map` ask for an entry.
+#[test]
+fn an_entry_that_no_file_has_is_refused(rt: HostRuntime) {
+    let (first, second) = (caller(), callee());
+    let mut writer = Sink::new(1000, None);
+    let entered = Options {
+        entry: Some(b"nope"),
+        ..OPTIONS
+    };
+    let files = &mut [first.as_slice(), second.as_slice()];
+    let answer = map(rt.alloc(), files, &entered, None, &mut writer);
+    let refusal = Refusal::Link {
+        rule: 10,
+        file: 0,
+        index: 0,
+        entry: 0,
+    };
+    assert_eq!(rt;
+        (answer, writer.text()),
+        (
+            Ok(Verdict::Refused(refusal)),
+            b"refused 10 0 0 0\n".as_slice()
+        )
+    );
+}
+
+/// Holds a file of rules under the name `r`, whose reader fails at one call, an object under names that begin with `whole`, and `no ELF`
+/// under `short`; opens no name that begins with `no`; and has a file under any other name, whose reader fails at its first call.
+#[derive(Drop)]
+struct NamedFiles<'a> {
+    rules: &'a [u8],
+    object: &'a [u8],
+    fails_at: usize,
+    /// How many files were asked for.
+    asked: usize,
+}
+
+impl<'a> Opener for NamedFiles<'a> {
+    type Input = OnceFailingReader<'a>;
+
+    type Seek = Bytes<'a>;
+
+    fn reader(&mut self, name: &str) -> Result<OnceFailingReader<'a>, OpenFault> {
+        self.asked = self.asked.saturating_add(1);
+        if name == "r" {
+            return Ok(OnceFailingReader::new(self.rules, self.fails_at, Some(ErrorKind::Other)));
+        }
+        if name.starts_with("no") {
+            return Err(OpenFault::Refused);
+        }
+        if name.starts_with("whole") {
+            return Ok(OnceFailingReader::new(self.object, 1000, None));
+        }
+        if name == "short" {
+            return Ok(OnceFailingReader::new(b"no ELF", 1000, None));
+        }
+        Ok(OnceFailingReader::new(b"", 0, Some(ErrorKind::Other)))
+    }
+
+    // Neither command seeks in a file.
+    fn source(&mut self, _name: &str) -> Result<Bytes<'a>, OpenFault> {
+        Err(OpenFault::Refused)
+    }
+}
+
+/// The words, what the file of rules holds, the call of its reader that fails, and then: how many files were asked
+/// for, and the text on standard error.
+type Row = (
+    &'static [&'static str],
+    &'static [u8],
+    usize,
+    usize,
+    &'static str,
+);
+
+const RULES: &[u8] = b"2 pc 4 signed\n";
+
+const ROWS: [Row; 11] = [
+    (
+        &[
+            "elfmap", "map", "--base", "0", "--page", "1", "--rules", "r", "a.o",
+        ],
+        RULES,
+        0,
+        1,
+        "read failed at 0\n",
+    ),
+    (
+        &[
+            "elfmap", "map", "--base", "0", "--page", "1", "--rules", "r", "a.o",
+        ],
+        RULES,
+        1,
+        1,
+        "read failed at 8\n",
+    ),
+    (
+        &[
+            "elfmap", "map", "--base", "0", "--page", "1", "--rules", "r", "a.o",
+        ],
+        b"2 pc 4 signed",
+        9,
+        1,
+        "bad rule line 1\n",
+    ),
+    (
+        &[
+            "elfmap", "map", "--base", "0", "--page", "1", "--rules", "no", "a.o",
+        ],
+        b"",
+        9,
+        1,
+        "cannot open no\n",
+    ),
+    (
+        &[
+            "elfmap", "map", "--base", "0", "--page", "1", "--rules", "r", "no-a",
+        ],
+        RULES,
+        9,
+        2,
+        "cannot open no-a\n",
+    ),
+    (
+        &[
+            "elfmap", "map", "--base", "0", "--page", "1", "a.o", "no-b", "no-c",
+        ],
+        b"",
+        9,
+        2,
+        "cannot open no-b\n",
+    ),
+    (
+        &[
+            "elfmap", "map", "--base", "0", "--page", "1", "a.o", "b.o", "c.o",
+        ],
+        b"",
+        9,
+        3,
+        "read failed at 0\n",
+    ),
+    (
+        &[
+            "elfmap", "link", "--base", "0", "--page", "1", "--entry", "callee", "--rules", "r",
+            "whole", "short",
+        ],
+        RULES,
+        9,
+        3,
+        "file 1 refused 2 6\n",
+    ),
+    (
+        &[
+            "elfmap",
+            "link",
+            "--base",
+            "0",
+            "--page",
+            "1",
+            "--entry",
+            "callee",
+            "--rules",
+            "r",
+            "whole",
+            "whole-again",
+        ],
+        RULES,
+        9,
+        3,
+        "refused 8 1 0 0\n",
+    ),
+    (
+        &[
+            "elfmap",
+            "link",
+            "--base",
+            "0",
+            "--page",
+            "3",
+            "--entry",
+            "callee",
+            "--rules",
+            "r",
+            "whole",
+            "whole-again",
+        ],
+        RULES,
+        9,
+        3,
+        "refused 1 0 0 0\n",
+    ),
+    (
+        &[
+            "elfmap",
+            "link",
+            "--base",
+            "0",
+            "--page",
+            "one",
+            "--entry",
+            "callee",
+            "--rules",
+            "r",
+            "whole",
+            "whole-again",
+        ],
+        RULES,
+        9,
+        0,
+        "bad number\n",
+    ),
+];
+
+fn assert_ends(rt: &impl Abort, alloc: Global, object: &[u8], row: &Row) {
+    let (words, rules, fails_at, asked, told) = *row;
+    let mut files = NamedFiles {
+        rules,
+        object,
+        fails_at,
+        asked: 0,
+    };
+    let mut out = Sink::new(1000, None);
+    let mut err = Sink::new(1000, None);
+    let status = run(alloc, words, &mut files, &mut out, &mut err);
+    assert_eq!(rt;
+        (status == 0, out.calls, files.asked, err.text()),
+        (false, 0, asked, told.as_bytes())
+    );
+}
+
+// The file of rules is opened, read and tested before a file to link is opened; all files are opened, in order, before one is read; and
+// what is refused is told on standard error alone.
+#[test]
+fn files_are_opened_in_order(rt: HostRuntime) {
+    let object = callee();
+    for row in &ROWS {
+        assert_ends(&rt, rt.alloc(), &object, row);
+    }
+}
+
+#[test]
+fn each_file_is_opened_once_and_nothing_is_flushed(rt: HostRuntime) {
+    let object = callee();
+    let words = [
+        "elfmap", "map", "--base", "4096", "--page", "1", "--rules", "r", "whole",
+    ];
+    let mut files = NamedFiles {
+        rules: b"2 pc 4 signed\n",
+        object: &object,
+        fails_at: 1000,
+        asked: 0,
+    };
+    let mut out = Sink::new(1000, None);
+    let mut err = Sink::new(1000, None);
+    let status = run(rt.alloc(), &words, &mut files, &mut out, &mut err);
+    assert_eq!(rt;
+        (status, files.asked, out.empty_calls, out.flushes, err.calls),
+        (0, 2, 0, 0, 0)
+    );
+}
