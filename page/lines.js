@@ -1,6 +1,6 @@
 "use strict";
 // lines.js MODULE LAYOUT FILE..: of each file what the page's reader tells of it, in the lines that `elfmap show` prints; for
-// scripts/page-test to compare. Groups have no lines here. Run by node.
+// tools/test page to compare. Groups have no lines here. Run by node.
 const fs = require("fs");
 const vm = require("vm");
 

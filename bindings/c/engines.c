@@ -7,7 +7,7 @@
  *   engines map BASE PAGE RULES FILE..         RULES is a file, or - for no relocation rules
  *   engines link BASE PAGE ENTRY RULES FILE..
  *                                              writes the status and the numbers of the outcome in a line, and behind it what the engine
- *                                              says, for scripts/c-engines to compare with the cases
+ *                                              says, for tools/test c-library to compare with the cases
  *
  * Each call is tried with a room that is ample, one that is just as long as is wanted, one that is a byte shorter, and one of no bytes; and
  * with memory that is refused at the first request, at the second, and so on. With OVER_MALLOC the memory is that of memory.c, of which

@@ -1,5 +1,5 @@
 /*
- * What the library tells of a file, line by line, for scripts/c-library to compare with the second judge: a part of test.c, whose functions
+ * What the library tells of a file, line by line, for tools/test c-library to compare with the reference: a part of test.c, whose functions
  * and section types it uses.
  */
 #ifndef TELLING_H

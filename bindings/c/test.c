@@ -2,7 +2,7 @@
  * Tests of the library for C.
  *
  *   test            checks every export on bytes that stand here; the last line is 'N passed, M failed'
- *   test FILE..     prints what the library tells of each file, for scripts/c-library to compare with the second judge
+ *   test FILE..     prints what the library tells of each file, for tools/test c-library to compare with the reference implementation
  *
  * The bytes of a file stand between two pages that can't be read, so that a read before or behind them ends the program.
  */

@@ -1,4 +1,4 @@
-"""The rules by their numbers. Made by `scripts/rules-table` from docs/RULES.md."""
+"""The rules by their numbers. Made by `tools/release tables` from docs/RULES.md."""
 
 # The name and the sentence of each rule of files.
 RULES = {

@@ -1,5 +1,5 @@
-"""What the package tells of many files is what the second judge of the repository tells
-of them; and what a caller sees beside that."""
+"""What the package says of many files is what the reference implementation of the repository
+says of them; and what a caller sees beside that."""
 
 import array
 import doctest
@@ -16,8 +16,8 @@ import elfmap
 from elfmap import build
 
 PACKAGE = Path(__file__).resolve().parents[1]
-sys.path.insert(0, str(build.REPOSITORY / "scripts"))
-import judged  # noqa: E402
+sys.path.insert(0, str(build.REPOSITORY / "tools" / "lib"))
+from elfmap_tools import told as reference  # noqa: E402
 
 
 def small_file():
@@ -65,7 +65,7 @@ def told(content):
         *(line("section", *it) for it in file.sections),
         *(line("segment", *it) for it in file.segments),
     ]
-    return lines if len(content) > judged.LONG else lines + more_lines(file, content)
+    return lines if len(content) > reference.LONG else lines + more_lines(file, content)
 
 
 def more_lines(file, content):
@@ -107,7 +107,7 @@ def rewrite_line(content):
 
 
 def comparable(lines, expected):
-    """Lines without those of entries of tables that the judge refuses."""
+    """Lines without those of entries of tables that the reference refuses."""
     broken = {it.split()[1] for it in expected if it.startswith("broken ")}
     entries = "symbol", "relocation", "dynamic", "note"
     own = [it for it in lines if it.split()[0] not in entries or it.split()[1] not in broken]
@@ -115,14 +115,14 @@ def comparable(lines, expected):
 
 
 class JudgedTest(unittest.TestCase):
-    def test_tells_what_the_second_judge_tells(self):
+    def test_says_what_the_reference_says(self):
         broken = set()
-        for number, content in enumerate(judged.files()):
+        for number, content in enumerate(reference.files()):
             with self.subTest(file=number, size=len(content)):
-                lines, expected = comparable(told(content), judged.told(content))
+                lines, expected = comparable(told(content), reference.told(content))
                 if lines != expected:
                     other = [it for it in zip(lines, expected) if it[0] != it[1]][:1]
-                    self.fail(f"the package and the judge: {str(other):.800}")
+                    self.fail(f"the package and the reference: {str(other):.800}")
                 if lines[0].startswith("refused"):
                     broken.add(int(lines[0].split()[1]))
         self.assertEqual(broken, set(range(2, 34)), "rule 1 wants a longer file")

@@ -1,4 +1,4 @@
-//! The rules by their names. Made by `scripts/rules-table` from docs/RULES.md.
+//! The rules by their names. Made by `tools/release tables` from docs/RULES.md.
 
 /// Rule 1: the file is refused because it is longer than 2^30 bytes.
 pub const TOO_LONG: u16 = 1;

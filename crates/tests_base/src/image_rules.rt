@@ -1,5 +1,5 @@
 //! Two calls of elf_image_rules. A file that breaks each of its rules is in `cases/image_rules.txt`, except rule 1, which takes a file of
-//! more than 2^30 bytes: `scripts/explain-test` has one.
+//! more than 2^30 bytes: `tools/test explain` has one.
 use elf_field::Order;
 use elf_image_rules::{Broken, judge_by_sorting, rules, verdict};
 use std::alloc::Global;

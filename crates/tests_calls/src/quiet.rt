@@ -1,4 +1,4 @@
-//! The calls that take no memory, each made so many times: `scripts/failing-calls` counts the growths, which have to be as many as where
+//! The calls that take no memory, each made so many times: `tools/test failing-calls` counts the growths, which have to be as many as where
 //! none of them is made.
 ghost use Rattle.std.specs.Prelude.{◌<◌, length};
 

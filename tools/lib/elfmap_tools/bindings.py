@@ -1,0 +1,115 @@
+"""`tools/test bindings`: the crate in bindings/rust by `cargo test`, and the package in bindings/python by unittest, over the library of
+`tools/release library`; what both declare of the library is what include/elfmap.h declares. Nothing is fetched, and nothing is written but
+in a temporary folder."""
+
+import ctypes, os, re, sys, tempfile
+from argparse import Namespace
+from collections.abc import Mapping
+from typing import Any
+
+from .library import ENGINES, FOLDER, VERDICTS, packed
+from .suite import Tally, Test, crates_of, environment
+from .tree import TOP, Texts, read_text, said
+
+sys.path.insert(0, f"{TOP}/bindings/python")
+from elfmap import _library  # noqa: E402
+
+Structs = dict[str, list[tuple[str, str]]]
+Calls = dict[str, list[str]]
+# The structs of C as Rust and Python name them, and Rust's numbers as C has them.
+STRUCTS = {
+    "Fault": "elfmap_fault", "Extent": "elfmap_extent", "Numbers": "elfmap_file", "Header": "elfmap_header", "SectionHeader": "elfmap_section",
+    "Section": "elfmap_section", "ProgramHeader": "elfmap_segment", "Segment": "elfmap_segment", "Table": "elfmap_table",
+    "SymbolEntry": "elfmap_symbol", "Symbol": "elfmap_symbol", "Relocation": "elfmap_relocation", "Dynamic": "elfmap_dynamic",
+    "NoteEntry": "elfmap_note", "Note": "elfmap_note", "Piece": "elfmap_part", "Part": "elfmap_part", "Outcome": "elfmap_outcome",
+    "LinkOptions": "elfmap_options",
+}  # fmt: skip
+NUMBERS = {"u8": "uint8_t", "u16": "uint16_t", "u32": "uint32_t", "u64": "uint64_t", "i64": "int64_t", "usize": "size_t"}
+
+
+def in_c() -> tuple[Structs, Calls]:
+    """The structs of the header, each with the names and types of its fields, and the calls, each with the types of its parameters."""
+    text = re.sub(r"/\*.*?\*/", "", read_text("include/elfmap.h"), flags=re.S)
+    found = re.findall(r"^struct (\w+) \{(.*?)^\};", text, re.M | re.S)
+    fields = {tag: re.findall(r"((?:struct )?\w+) (\w+)(\[\d+\])?;", body) for tag, body in found}
+    structs = {tag: [(name, kind + size) for kind, name, size in own] for tag, own in fields.items()}
+    calls = re.findall(r"^(?:bool|uint32_t) (\w+)\((.*?)\);", text, re.M | re.S)
+    return structs, {name: [re.sub(r"\w+$", "", it.strip()).strip() for it in given.split(",")] for name, given in calls}
+
+
+def rust_type(kind: str) -> str:
+    """A type of Rust as C has it."""
+    array = re.fullmatch(r"\[(\w+); (\d+)\]", kind)
+    if array:
+        return f"{NUMBERS[array[1]]}[{array[2]}]"
+    ((pointer, name),) = re.findall(r"^(\*const |\*mut |&mut |&|)(\w+)$", kind)
+    own = NUMBERS.get(name) or f"struct {STRUCTS[name]}"
+    return f"{'' if 'mut' in pointer else 'const '}{own} *" if pointer else own
+
+
+def in_rust() -> tuple[Structs, Calls]:
+    text = read_text("bindings/rust/src/raw.rs")
+    found = re.findall(r"^#\[repr\(C\)\]\npub\S* struct (\w+) \{(.*?)^\}", text, re.M | re.S)
+    fields = {STRUCTS[name]: re.findall(r"^    pub (\w+): (.+),$", body, re.M) for name, body in found}
+    structs = {tag: [(field, rust_type(kind)) for field, kind in own] for tag, own in fields.items()}
+    calls = re.findall(r"^    fn (\w+)\((.*?)\) -> (?:bool|u32);", text, re.M | re.S)
+    return structs, {name: [rust_type(it) for it in re.findall(r"\w+: ([^,]+)", given)] for name, given in calls}
+
+
+def python_type(kind: str, is_slice: bool = False) -> Any:
+    """A type of C as ctypes has it: what a slice begins at is an address, but for one of structs."""
+    ((name, size),) = re.findall(r"^(?:const )?(?:struct )?(\w+)(.*)$", kind)
+    own = next((getattr(_library, it) for it, tag in STRUCTS.items() if tag == name and hasattr(_library, it)), None)
+    number = own or getattr(ctypes, f"c_{name.removesuffix('_t') if name != 'size_t' else name}")
+    if "*" in size:
+        return ctypes.c_void_p if is_slice and not own else ctypes.POINTER(number)
+    return number * int(size[1:-1]) if size else number
+
+
+def python_parameters(kinds: list[str]) -> list[Any]:
+    """The types of the parameters of a call."""
+    return [python_type(kind, after == "size_t") for kind, after in zip(kinds, [*kinds[1:], None])]
+
+
+def is_within(own: Mapping[str, object], declared: Mapping[str, object]) -> bool:
+    """What a binding declares, something at least, is declared so by the header, which may have more."""
+    return bool(own) and all(declared.get(name) == it for name, it in own.items())
+
+
+def declarations(tally: Tally) -> None:
+    structs, calls = in_c()
+    rust_structs, rust_calls = in_rust()
+    same = is_within(rust_structs, structs) and is_within(rust_calls, calls)
+    tally.check(same, "bindings/rust/src/raw.rs declares other than include/elfmap.h")
+    own = {tag: getattr(_library, it)._fields_ for it, tag in STRUCTS.items() if hasattr(_library, it)}
+    python_structs = {tag: [(name, python_type(kind)) for name, kind in structs[tag]] for tag in own}
+    python_calls = {name: python_parameters(calls[name]) for name in _library.CALLS}
+    same = is_within(own, python_structs) and is_within(_library.CALLS, python_calls)
+    tally.check(same, "bindings/python/elfmap/_library.py declares other than include/elfmap.h")
+
+
+def count_run(tally: Tally, ran: Texts, passed: int, failed: int) -> None:
+    """What a run of tests counted. One that ends otherwise has failed, and what it said is printed."""
+    if ran.returncode and not failed:
+        failed = 1
+    tally.count(passed + failed, [ran.stdout] * bool(failed) + ["the same"] * (failed - 1))
+
+
+def bindings(tally: Tally, options: Namespace) -> None:
+    declarations(tally)
+    packed()
+    with tempfile.TemporaryDirectory(prefix="bindings-") as room:
+        cargo = {"CARGO_HOME": f"{room}/cargo", "CARGO_TARGET_DIR": f"{room}/target", "CARGO_INCREMENTAL": "0"}
+        env = environment(ELFMAP_LIB_DIR=FOLDER, XDG_CACHE_HOME=f"{room}/cache", PYTHONDONTWRITEBYTECODE="1", **cargo)
+        ran = said(sys.executable, "-m", "unittest", folder=f"{TOP}/bindings/python", env=env)
+        count = sum(int(it) for it in re.findall(r"^Ran (\d+) tests?", ran.stdout, re.M))
+        # A test of many files fails for each of them.
+        failed = min(count, sum(int(it) for it in re.findall(r"(?:failures|errors)=(\d+)", ran.stdout)))
+        count_run(tally, ran, count - failed, failed)
+        ran = said("cargo", "test", "--frozen", "--no-fail-fast", folder=f"{TOP}/bindings/rust", env=env)
+        found = re.findall(r"^test result: .* (\d+) passed; (\d+) failed;", ran.stdout, re.M)
+        count_run(tally, ran, sum(int(it) for it, _ in found), sum(int(it) for _, it in found))
+
+
+CRATES = crates_of(VERDICTS, ENGINES)
+TESTS = [Test("bindings", "the bindings for Rust and Python, and what they declare", bindings, ("cc", "ar", "objcopy", "cargo"), CRATES)]

@@ -1,0 +1,213 @@
+"""`tools/dev prove` and `tools/dev check`: proves the libraries below a crate and builds it; and the loop while one writes."""
+
+import argparse, fcntl, functools, os, re, resource, shutil, sys, tempfile, time
+from concurrent.futures import Future, ThreadPoolExecutor
+
+from .kit import RLIBS, FolderOf, built_below, is_built_by_prove, is_current, kit, link_words, said_by, sum_of, words
+from .tree import PROCESSORS, TOP, below, deps, is_program, libraries, read_text, said, static_libraries, texts_of, write
+
+MOST_JOBS = 8
+# A library has a job for each processor where less than this part of all texts can be proved beside it.
+LITTLE_BESIDE = 0.18
+# A chain of libraries, each of which needs the one before, is long from this part of the longest one's texts on.
+LONG_CHAIN = 0.85
+
+
+def run(command: list[str], crate: str) -> None:
+    """Runs a command in the crate's folder, and prints what it said at its end and in one piece."""
+    ended = said(*command, folder=f"{TOP}/crates/{crate}")
+    print(ended.stdout, end="", flush=True)
+    if ended.returncode:
+        raise SystemExit(f"prove: {crate} was not built")
+
+
+@functools.cache
+def size_of(crate: str) -> int:
+    """The length of its texts, which roughly gives the time of a check of it."""
+    return sum(map(os.path.getsize, texts_of(crate)))
+
+
+class Build:
+    """A build of what a crate needs, and of the crate, if it is a program or a library for C."""
+
+    def __init__(self, target: str) -> None:
+        self.target, self.crates = target, below(target)
+        self.chains_below: dict[str, int] = {}
+        for it in self.crates:
+            self.chains_below[it] = size_of(it) + max((self.chains_below[dep] for dep in deps(it)), default=0)
+        self.rlibs: dict[str, Future[None]] = {}
+
+    def share_beside(self, crate: str) -> float:
+        """Which part of the libraries, by their texts, neither needs this one nor is needed by it."""
+        beside = [it for it in self.crates if it != crate and it not in below(crate) and crate not in below(it)]
+        return sum(map(size_of, beside)) / sum(map(size_of, self.crates))
+
+    def chain_above(self, crate: str) -> int:
+        """The texts of the longest chain of libraries that begins with this one."""
+        return size_of(crate) + max((self.chain_above(it) for it in self.crates if crate in deps(it)), default=0)
+
+    def jobs_of(self, crate: str) -> int:
+        """A library beside which little can be proved has a job for each processor, one on a long chain half as many, any other one has
+        one: each job costs processor time too."""
+        most = min(MOST_JOBS, PROCESSORS)
+        if self.share_beside(crate) < LITTLE_BESIDE:
+            return most
+        is_long = self.chains_below[crate] + self.chain_above(crate) - size_of(crate) >= LONG_CHAIN * max(self.chains_below.values())
+        return max(1, most // 2) if is_long else 1
+
+    def library(self, crate: str) -> None:
+        """Builds a library when those below it are built; one that was built from the same texts is kept."""
+        for dep in deps(crate):
+            self.rlibs[dep].result()
+        if is_built_by_prove(crate):
+            return
+        made = f"{RLIBS}/{crate}.sum"
+        if os.path.exists(made):
+            os.remove(made)
+        command = [f"{kit()}/bin/rattle", "build", *words(crate, "src/lib.rt", lambda _: RLIBS), "--statements"]
+        run([*command, "--jobs", str(self.jobs_of(crate)), "-o", f"{RLIBS}/{crate}.rlib"], crate)
+        write(made, sum_of(crate))
+
+    def output(self, folder_of: FolderOf) -> None:
+        """Builds the program, or the library for C."""
+        crate, out = self.target, f"{TOP}/crates/{self.target}/out"
+        os.makedirs(out, exist_ok=True)
+        command, toolchain = [f"{kit()}/bin/rattle", "build"], ["--toolchain", f"{kit()}/toolchain"]
+        if is_program(crate):
+            jobs = ["--jobs", str(min(MOST_JOBS, PROCESSORS))]
+            run([*command, *words(crate, "src/main.rt", folder_of), *toolchain, *jobs, "-o", f"{out}/{crate}.o"], crate)
+            run(link_words(f"{out}/{crate}", f"{out}/{crate}.o"), crate)
+        elif crate in static_libraries():
+            run([*command, *words(crate, "src/lib.rt", folder_of), *toolchain, "-o", f"{out}/lib{crate}.a"], crate)
+
+    def all(self) -> None:
+        os.makedirs(RLIBS, exist_ok=True)
+        folder_of, lacking = built_below([self.target])
+        # Over the libraries that the gate built, where it did.
+        if self.target in static_libraries() and not lacking:
+            return self.output(folder_of)
+        # One run at a time: another one waits here, and then finds the libraries built.
+        with open(f"{RLIBS}/lock", "w", encoding="ascii") as lock, ThreadPoolExecutor(max(1, len(self.crates))) as pool:
+            fcntl.flock(lock, fcntl.LOCK_EX)
+            # In the order of `below`, so that those that a crate waits for are in `rlibs`.
+            for crate in self.crates:
+                self.rlibs[crate] = pool.submit(self.library, crate)
+            for it in self.rlibs.values():
+                it.result()
+            self.output(lambda _: RLIBS)
+
+
+def output_of(crate: str) -> str:
+    """The path of the program or the library for C that is built of a crate."""
+    return f"{TOP}/crates/{crate}/out/" + (f"lib{crate}.a" if crate in static_libraries() else crate)
+
+
+def built(crate: str) -> str:
+    """The program or the library for C of a crate, built if it is older than a text."""
+    path = output_of(crate)
+    if not is_current(crate, path):
+        Build(crate).all()
+    return path
+
+
+def prove(options: argparse.Namespace) -> int:
+    if options.crate not in libraries():
+        raise SystemExit(f"prove: {options.crate} is no crate of crates.txt")
+    Build(options.crate).all()
+    return 0
+
+
+# ---- the inner loop
+
+# What a check says of what is proved, and of its own work.
+QUIET = re.compile(
+    r"(fn|struct|enum|union|impl|trait|const|static) \S+: (proved|assumed)"
+    r"|(crate|library|statements|logic|axioms|linked|by-macro|hides) |(logic|only|tests)[:=]|so far:"
+    r"|(\S+: )?note: large solution|note: antt's advice|$"
+)
+WIDTH = 300
+# A test with its comment, as `rt fmt` lays it out: it ends with the brace below its attribute.
+TEST = re.compile(r"^(?: *///.*\n)*( *)#\[test\]\n(?:.*\n)*?\1(?:pub )?fn (\w+)(?:.*\n)*?(?:\1}|.*{})\n", re.M)
+COUNTS = re.compile(r"^only=(\d+) proved=(\d+)$", re.M)
+
+
+def open_lines(output: str) -> list[str]:
+    """The lines on what is not proved, and why, their beginnings; and of tests how each ended."""
+    lines = [it for it in output.splitlines() if not QUIET.match(it) and not it.startswith("  = ")]
+    return [it if len(it) <= WIDTH else f"{it[:WIDTH]} .." for it in lines]
+
+
+def end_of(output: str) -> str:
+    """How a check ended, in words."""
+    counts = COUNTS.search(output)
+    if counts:
+        return f"{counts[2]} of {counts[1]} functions proved"
+    whole = re.search(r"^logic=proved .*?functions=(\d+)", output, re.M)
+    return f"proved, {whole[1]} functions" if whole else "NOT PROVED"
+
+
+def is_proved(output: str) -> bool:
+    counts = COUNTS.search(output)
+    return counts[1] == counts[2] if counts else bool(re.search(r"^logic=proved", output, re.M))
+
+
+def checked(crate: str, root: str, folder_of: FolderOf, functions: list[str]) -> str:
+    """What the check says of a crate, or of these functions of it and those that they call."""
+    folder = f"{TOP}/crates/{crate}"
+    os.makedirs(f"{folder}/out/loop", exist_ok=True)
+    only = [word for it in functions for word in ("--only", it)]
+    return said_by([f"{kit()}/bin/rattle", "check", *words(crate, root, folder_of), "--incremental", "out/loop", *only], folder)
+
+
+def without_other_tests(folder: str, name: str) -> list[str]:
+    """Takes each test whose name does not hold this one out of the texts of this folder: the names of those that stay."""
+    kept: list[str] = []
+
+    def left(match: re.Match[str]) -> str:
+        kept.extend([match[2]] if name in match[2] else [])
+        return match[0] if name in match[2] else ""
+
+    for at, _, names in os.walk(f"{folder}/src"):
+        for path in (f"{at}/{it}" for it in names if it.endswith(".rt")):
+            write(path, TEST.sub(left, read_text(path)))
+    return kept
+
+
+def tested(crate: str, root: str, folder_of: FolderOf, name: str) -> tuple[bool, str]:
+    """Proves and builds the tests of this name alone, in a copy of the crate, and runs them."""
+    kept = f"{TOP}/crates/{crate}/out/loop"
+    os.makedirs(kept, exist_ok=True)
+    with tempfile.TemporaryDirectory(prefix="one-test-") as room:
+        for part in ("src", "specs", "proofs"):
+            if os.path.isdir(f"{TOP}/crates/{crate}/{part}"):
+                shutil.copytree(f"{TOP}/crates/{crate}/{part}", f"{room}/{part}")
+        if not without_other_tests(room, name):
+            raise SystemExit(f"check: {crate} has no test whose name holds {name}")
+        command = [f"{kit()}/bin/rattle", "build", *words(crate, root, folder_of), "--test", "--incremental", kept]
+        output = said_by([*command, "--toolchain", f"{kit()}/toolchain", "-o", "tests.o"], room)
+        if not os.path.isfile(f"{room}/tests.o"):
+            return False, output
+        output += said_by(link_words("tests", "tests.o"), room)
+        ran = said(f"{kit()}/bin/rattle-test", "--seconds", "60", "tests", folder=room)
+        return ran.returncode == 0, output + ran.stdout
+
+
+def check(options: argparse.Namespace) -> int:
+    crate, begun = options.crate, time.monotonic()
+    if crate not in libraries() or options.test and options.function:
+        raise SystemExit("usage: tools/dev check CRATE [FUNCTION.. | --test NAME], a crate of crates.txt")
+    folder_of, lacking = built_below([crate])
+    if lacking:
+        print(f"check: these libraries below {crate} are not built, or were changed since: {' '.join(lacking)}", file=sys.stderr)
+        raise SystemExit(f"check: build them with `tools/dev prove {crate}`")
+    root = "src/main.rt" if is_program(crate) else "src/lib.rt"
+    if options.test:
+        is_well, output = tested(crate, root, folder_of, options.test)
+    else:
+        output = checked(crate, root, folder_of, options.function)
+        is_well = is_proved(output)
+    write(f"{TOP}/crates/{crate}/out/check.log", output)
+    print("".join(f"{line}\n" for line in open_lines(output)), end="")
+    used = resource.getrusage(resource.RUSAGE_CHILDREN)
+    print(f"check: {crate}: {end_of(output)}; {time.monotonic() - begun:.0f} s, {used.ru_utime + used.ru_stime:.0f} of a processor")
+    return 0 if is_well else 1

@@ -1,0 +1,282 @@
+"""`tools/test c-library`: the libraries for C, of the crates elf_c (verdicts, records and tables, without memory) and elf_c_engines (show,
+rewrite, map and link, with the three functions of memory under the names that include/elfmap.h gives them):
+
+- each struct of the header has the fields of the library's struct, of their types and sizes, at their offsets, and each call its
+  parameters; the libraries export what the header declares, by names that begin with `elfmap_`, and need nothing, or the three functions
+  and some of C's on bytes;
+- bindings/c/test.c passes, and says of each file of cases/*.txt, and of some of the machine's own, what the reference implementation says;
+- bindings/c/engines.c passes, and answers what each case of the commands show, rewrite, map and link says.
+
+They are compiled by cc, and by clang with its checks of addresses and of undefined behavior, and the header by c++ too."""
+
+import os, re, tempfile
+from argparse import Namespace
+from collections.abc import Iterable, Iterator
+from concurrent.futures import ThreadPoolExecutor
+
+from .building import built
+from .cases import Case, all_cases, case_files, put_needs
+from .library import ENGINES, FUNCTIONS, RENAMED, VERDICTS, packed
+from .packages import SANITIZERS
+from .reference import shown
+from .suite import Tally, Test, crates_of, number
+from .told import c_lines
+from .tree import PROCESSORS, TOP, libraries, read_bytes, read_text, run, said, texts_of, write
+
+HEADER_TEXT = read_text("include/elfmap.h")
+C = f"{TOP}/bindings/c"
+WARNINGS = ["-std=c99", "-pedantic", "-Wall", "-Wextra", "-Werror", f"-I{TOP}/include"]
+COMPILERS = {"cc": ["-O2"], "clang": ["-O1", "-g", "-fsanitize=address,undefined", "-fno-sanitize-recover=all"]}
+MACHINE_FILES = ["/bin/true", "/bin/ls", "/lib/x86_64-linux-gnu/libc.so.6", "/usr/lib/x86_64-linux-gnu/crt1.o"]
+# The result of the calls of each library.
+RESULTS = {VERDICTS: "bool", ENGINES: "uint32_t"}
+# Rattle's types as C has them.
+NUMBER = {"u8": "uint8_t", "u16": "uint16_t", "u32": "uint32_t", "u64": "uint64_t", "i64": "int64_t", "bool": "bool"}
+# The struct of the header that a program fills in itself.
+OF_PROGRAM = "struct elfmap_block"
+STRUCT = re.compile(r"`(struct elfmap_\w+)`[^\n]*\n#\[repr\(C\)\]\n#\[derive[^\n]*\npub struct (\w+) \{\n(.*?)^\}", re.M | re.S)
+EXPORT = re.compile(r'#\[unsafe\(no_mangle\)\]\npub extern "C" fn (\w+)\((.*?)\) -> (\w+)', re.S)
+# The tag in C, the name in Rattle, and the fields with their types as C has them.
+Struct = tuple[str, str, list[tuple[str, str]]]
+
+# ---- the header beside the texts of the library
+
+
+def text_of(crates: Iterable[str]) -> str:
+    """The code of these crates."""
+    return "\n".join(read_text(it) for crate in crates for it in texts_of(crate) if it.endswith(".rt"))
+
+
+def structs_in(text: str) -> Iterator[Struct]:
+    """The structs that C shares: of each its name in C, its name in Rattle, and its fields with their types as C has them."""
+    sizes, kinds = {"EI_NIDENT": 16}, {**NUMBER, **{name: tag for tag, name, _ in STRUCT.findall(text)}}
+    for tag, name, body in STRUCT.findall(text):
+        fields = re.findall(r"^    pub (\w+): (\[?)(\w+)(?:; (\w+)\])?,", body, re.M)
+        yield tag, name, [(field, kinds[kind] + (f"[{sizes[size]}]" if array else "")) for field, array, kind, size in fields]
+
+
+def parameters(text: str, tags: dict[str, str]) -> str:
+    """The parameters of an export, as C has them: a slice is a pointer and a length."""
+    found = []
+    for reference, is_slice, kind in re.findall(r"\w+: (&mut |&|)(\[?)(\w+)\]?", text):
+        if kind == "Global":
+            continue  # An allocator passes nothing in C.
+        kind = tags.get(kind) or NUMBER[kind]
+        found.append(f"{'const ' if reference == '&' else ''}{kind} {'*' if reference else ''}")
+        found += ["size_t"] if is_slice else []
+    return ", ".join(found)
+
+
+def compared(text: str) -> tuple[str, list[Struct]]:
+    """C that compiles only where the header says what the library's texts say."""
+    shared = list(structs_in(text))
+    tags = {name: tag for tag, name, _ in shared}
+    lines = ['#include "elfmap.h"']
+    for tag, name, fields in shared:
+        members = " ".join(f"{kind.partition('[')[0]} {field}{''.join(kind.partition('[')[1:])};" for field, kind in fields)
+        lines.append(f"struct own_{name} {{ {members} }};")
+        same = [f"sizeof({tag}) == sizeof(struct own_{name})"]
+        same += [f"offsetof({tag}, {field}) == offsetof(struct own_{name}, {field})" for field, _ in fields]
+        same += [f"sizeof((({tag} *) 0)->{field}) == sizeof({kind})" for field, kind in fields]
+        lines += [f"typedef char {name}_{k}[({it}) ? 1 : -1];" for k, it in enumerate(same)]
+        types = "".join(
+            f"const {kind.partition('[')[0]} *{field} = {'' if '[' in kind else '&'}it->{field}; (void) {field}; " for field, kind in fields
+        )
+        lines += [f"void types_of_{name}(const {tag} *it);", f"void types_of_{name}(const {tag} *it) {{ {types}}}"]
+    lines += [f"{NUMBER[result]} {name}({parameters(given, tags)});" for name, given, result in EXPORT.findall(text)]
+    return "\n".join([*lines, ""]), shared
+
+
+def compare_header(tally: Tally, room: str) -> None:
+    """The header and the texts of the library say the same."""
+    made, shared = compared(text_of(it for it in libraries() if it == VERDICTS or it.startswith(f"{VERDICTS}_")))
+    ran = said("cc", *WARNINGS, "-fsyntax-only", write(f"{room}/compared.c", made))
+    tally.check(ran.returncode == 0, f"the header says other than the library's texts:\n{ran.stdout}")
+    structs = re.findall(r"^(struct elfmap_\w+) \{\n(.*?)^\};", HEADER_TEXT, re.M | re.S)
+    fields = {tag: re.findall(r"^    (?:struct )?\w+ (\w+)(?:\[\d+\])?;", body, re.M) for tag, body in structs if tag != OF_PROGRAM}
+    own = {tag: [field for field, _ in fields] for tag, _, fields in shared}
+    tally.check(fields == own, f"the structs of the header have the fields {fields}, and those of the library {own}")
+    for crate, result in RESULTS.items():
+        exported, declared = sorted(name for name, *_ in EXPORT.findall(text_of([crate]))), declared_in(result)
+        tally.check(declared == exported, f"{crate} exports {exported}, and the header declares {declared}")
+
+
+def declared_in(result: str) -> list[str]:
+    """The calls of the library that the header declares with this result."""
+    return sorted(re.findall(rf"^{result} (elfmap_\w+)\(", HEADER_TEXT, re.M))
+
+
+def compare_names(tally: Tally, library: str, crate: str, needs: set[str], may_need: set[str]) -> None:
+    """The library exports what the header declares, and needs these names, and at most some more."""
+    names = [it.split() for it in said("nm", "-g", library).stdout.splitlines() if " " in it]
+    defined, needed = sorted(it[-1] for it in names if it[-2] != "U"), {it[-1] for it in names if it[-2] == "U"}
+    tally.check(defined == declared_in(RESULTS[crate]), f"{crate} exports {defined}, and the header declares {declared_in(RESULTS[crate])}")
+    tally.check(needed - may_need == needs, f"{crate} needs {sorted(needed)}")
+
+
+# ---- what the libraries answer
+
+
+def compiled(tally: Tally, compiler: str, program: str, *words: str) -> bool:
+    """Compiles a test and runs it: whether it could be compiled."""
+    made = said(compiler, *WARNINGS, *COMPILERS[compiler], *words, "-o", program)
+    if not tally.check(made.returncode == 0, f"{compiler} does not build {words[0]}:\n{made.stdout}"):
+        return False
+    ran = said(program)
+    is_passed = ran.returncode == 0 and re.search(r"^\d+ passed, 0 failed$", ran.stdout, re.M)
+    return tally.check(is_passed, f"{words[0]} by {compiler}:\n{ran.stdout}") or True
+
+
+def compare_files(tally: Tally, program: str, files: dict[str, list[str]]) -> None:
+    """The test prints the lines of each file twice, of its bytes in two places."""
+    found = said(program, *files).stdout.split("-- ")[1:]
+    if tally.check(len(found) == 2 * len(files), f"{program} tells of {len(found) // 2} files, not of {len(files)}: {found[-1:]}"):
+        for k, (path, right) in enumerate(files.items()):
+            both = [it.rstrip("\n").split("\n")[1:] for it in found[2 * k : 2 * k + 2]]
+            other: list[str] = next((lines for lines in both if lines != right), [])
+            tally.check(both == [right, right], f"{path}: {[pair for pair in zip(other, right) if pair[0] != pair[1]][:2]}")
+
+
+DONE, REFUSED, NOT_LINKED, TOO_LONG, BAD_RULES = 0, 1, 2, 3, 6
+COMMANDS = ("show", "rewrite", "map", "link")
+ON_BYTES = {"bcmp", "memchr", "memcmp", "memcpy", "memmove", "memset", "strlen"}
+# The status, the numbers and the text of an answer in C.
+Answer = tuple[int, tuple[int, int, int, int], bytes]
+
+
+def numbers_of(line: str) -> tuple[int, tuple[int, int, int, int]]:
+    """The numbers of a line on what is refused, as the outcome has them: the offset or entry, the file, the index, and the rule."""
+    one = re.fullmatch(r"(?:file (\d+) )?refused (\d+) (\d+)", line)
+    if one:
+        return REFUSED, (int(one[3]), int(one[1] or 0), 0, int(one[2]))
+    rule, file, index, entry = map(int, line.removeprefix("refused ").split())
+    return NOT_LINKED, (entry, file, index, rule)
+
+
+def answer_of(case: Case) -> Answer | None:
+    """The case's answer in C; None where the words or the files are wrong, not the rules."""
+    if case.status == 0:
+        return DONE, (0, 0, 0, 0), case.out
+    if case.status == 2:
+        bad = re.fullmatch(r"bad rule line (\d+)", case.err.decode().rstrip("\n"))
+        return (BAD_RULES, (int(bad[1]), 0, 0, 0), b"") if bad else None
+    if case.status == 1:
+        line = (case.out if case.words[0] in ("show", "map") else case.err).decode().rstrip("\n")
+        return (TOO_LONG, (0, 0, 0, 0), b"") if line == "too long" else (*numbers_of(line), case.out)
+    return None
+
+
+def call_of(case: Case, room: str) -> list[str] | None:
+    """The words of the test for a case whose files are written into a folder; None where it needs a file that is none."""
+    given = dict(it.partition("=")[::2] for it in case.needs)
+    options, files, rest = dict[str, str](), list[str](), iter(case.words[1:])
+    for it in rest:
+        if it.startswith("--"):
+            options[it] = next(rest)
+        else:
+            files.append(it)
+    used = [*files, *([options["--rules"]] if "--rules" in options else [])]
+    if "--seek" in case.words or not all(given.get(it) for it in used):
+        return None
+    paths = [f"{room}/{it}" for it in files]
+    if case.words[0] in ("show", "rewrite"):
+        return [case.words[0], *paths]
+    entry = [options["--entry"]] if case.words[0] == "link" else []
+    rules = f"{room}/{options['--rules']}" if "--rules" in options else "-"
+    return [case.words[0], options["--base"], options["--page"], *entry, rules, *paths]
+
+
+def try_call(tally: Tally, program: str, call: list[str], right: Answer, what: str) -> None:
+    ran = run(program, *call)
+    line, _, text = ran.stdout.partition(b"\n")
+    status, numbers, right_text = right
+    head = " ".join(map(str, [status, len(right_text), *numbers])).encode()
+    said = f"{ran.returncode} {line!r} {text[:200]!r}, and not {head!r} {right_text[:200]!r} {ran.stderr.decode(errors='replace')[:2000]}"
+    tally.check((ran.returncode, line, text) == (0, head, right_text), f"{what}: {said}")
+
+
+def try_engines(tally: Tally, program: str) -> None:
+    """What the engines answer of the cases, and of files of the machine."""
+    tried = dict.fromkeys(COMMANDS, 0)
+    for cases in all_cases().values():
+        for case in (it for it in cases.cases if it.words[:1] and it.words[0] in COMMANDS):
+            right = answer_of(case)
+            with tempfile.TemporaryDirectory(prefix="c-engines-") as room:
+                call = call_of(case, room) if right else None
+                if call and right:
+                    put_needs(room, case.needs, cases.files)
+                    try_call(tally, program, call, right, f"elfmap {' '.join(case.words)} with {' '.join(case.needs)}")
+                    tried[case.words[0]] += 1
+    tally.check(all(tried.values()), f"of the cases were tried {tried}")
+    for path in filter(os.path.isfile, MACHINE_FILES):
+        try_call(tally, program, ["show", path], (DONE, (0, 0, 0, 0), shown(read_bytes(path)).encode()), f"elfmap show {path}")
+
+
+def c_library(tally: Tally, options: Namespace) -> None:
+    verdicts = built(VERDICTS)
+    with tempfile.TemporaryDirectory(prefix="c-library-") as room:
+        compare_header(tally, room)
+        compare_names(tally, verdicts, VERDICTS, set(), set())
+        paths = [write(f"{room}/{name}", content) for content, name in case_files().items()]
+        files = {path: c_lines(read_bytes(path)) for path in [*paths, *filter(os.path.isfile, MACHINE_FILES)]}
+        engines = f"{room}/lib{ENGINES}.a"
+        ran = said("objcopy", *RENAMED, built(ENGINES), engines)
+        tally.check(ran.returncode == 0, f"objcopy: {ran.stdout}")
+        compare_names(tally, engines, ENGINES, {f"elfmap_{it}" for it in FUNCTIONS}, ON_BYTES)
+        for compiler in COMPILERS:
+            program = f"{room}/test-{compiler}"
+            if compiled(tally, compiler, program, f"{C}/test.c", verdicts):
+                compare_files(tally, program, files)
+            if compiled(tally, compiler, f"{program}-engines", f"{C}/engines.c", engines, verdicts):
+                try_engines(tally, f"{program}-engines")
+        if compiled(tally, "cc", f"{room}/over-malloc", f"{C}/engines.c", "-DOVER_MALLOC", f"{C}/memory.c", engines, verdicts):
+            try_engines(tally, f"{room}/over-malloc")
+        ran = said("c++", "-Wall", "-Wextra", "-Werror", "-fsyntax-only", "-x", "c++", f"{TOP}/include/elfmap.h")
+        tally.check(ran.returncode == 0, f"the header in C++:\n{ran.stdout}")
+
+
+# ---- laws: what the library says of changed files agrees with itself
+
+# As many files as laws.c takes, and as long.
+MOST, LONGEST = 256, 1 << 16
+MADE = ["-c -O1", "-c -O0 -ffunction-sections", "-x c++ -c -O1 -g", "-nostdlib -static -Wl,-e,answer"]
+MADE += ["-shared -nostdlib -fPIC -Wl,--hash-style=sysv -Wl,-soname,answer.so"]
+
+
+def files_for_laws(room: str) -> Iterator[str]:
+    """What cc makes of a few lines of C, and the files of the cases that are accepted."""
+    for k, words in enumerate(MADE):
+        made = said("cc", *words.split(), f"{TOP}/cases/sources/answer_twice.c", "-o", f"{room}/made-{k}")
+        if made.returncode:
+            raise SystemExit(f"cc {words}: {made.stdout}")
+        yield f"{room}/made-{k}"
+    sound = (it for it in case_files() if 64 <= len(it) <= LONGEST and c_lines(it)[0] == "verdict kept")
+    for k, content in enumerate(sorted(sound, key=lambda it: (-len(set(it)), it))):
+        yield write(f"{room}/case-{k}", content)
+
+
+def laws(tally: Tally, options: Namespace) -> None:
+    with tempfile.TemporaryDirectory(prefix="laws-") as room:
+        made = said("cc", "-O2", *WARNINGS, f"{C}/laws.c", packed(), "-o", f"{room}/laws")
+        if made.returncode:
+            return tally.fail(f"laws.c is not compiled:\n{made.stdout}")
+        files = list(files_for_laws(room))[:MOST]
+        counts = [options.count // PROCESSORS + (k < options.count % PROCESSORS) for k in range(PROCESSORS)]
+        words = [[f"{room}/laws", str(it), str(options.seed * PROCESSORS + k), *files] for k, it in enumerate(counts)]
+        with ThreadPoolExecutor(PROCESSORS) as pool:
+            for ran in pool.map(lambda it: said(*it, folder=os.getcwd()), words):
+                found = re.search(r"^(\d+) of them are accepted\n(\d+) passed, (\d+) failed$", ran.stdout, re.M)
+                if tally.check(found and ran.returncode in (0, 1), f"a run ended with {ran.returncode}:\n{ran.stdout}") and found:
+                    lines = [it.removeprefix("laws: ") for it in ran.stdout.splitlines() if it.startswith("laws: ")]
+                    failed = int(found[3])
+                    tally.count(int(found[2]) + failed, lines[:failed] + ["more of them"] * (failed - len(lines)))
+
+
+BOTH = crates_of(VERDICTS, ENGINES)
+TOOLS = ("cc", "c++", "clang", "nm", "objcopy", SANITIZERS)
+COPIES = (number("count", 20000, "so many copies"), number("seed", 1, "the same seed makes the same copies"))
+ABOUT = "bytes of files changed; what the library for C says of each copy agrees with itself (bindings/c/laws.c)"
+TESTS = [
+    Test("c-library", "the libraries for C, and the header, by cc and by clang with its checks", c_library, TOOLS, BOTH),
+    Test("laws", ABOUT, laws, ("cc", "ar", "objcopy"), BOTH, True, options=COPIES),
+]

@@ -1,0 +1,308 @@
+"""`tools/dev doc`: one page of the whole library, for a browser. For each of the crates that `elf` shows it has the front doc and each public
+item: signature, doc comment, and contract as it is in the source, where each word that is a definition of specs/ leads to that definition,
+at the end of the page with its comment and text. It fails where an item has no doc comment or is not in the page once."""
+
+import argparse, collections, functools, re, sys
+from collections.abc import Callable
+from html import escape
+
+from .sources import DOORS, Definition, Item, Uses, definition, definitions, items_of, module_file, source
+from .suite import Tally, Test
+from .tree import matched, read_text
+
+# Where a word leads to, and its title.
+Place = tuple[str, str] | None
+MARK = re.compile(r"`([^`]+)`|\[(`?)([^\]`]+)`?\](?:\(([^)]*)\))?")
+WORD = re.compile(r"(?<![\w.])[^\W\d]\w*")
+
+
+class Page:
+    """What is on the page: an anchor for each item by its door and name, and the definitions that were led to."""
+
+    def __init__(self) -> None:
+        self.doors = {door: list(items_of(f"elf_{door}")) for door in DOORS}
+        self.anchors: dict[tuple[str, str], str] = {}
+        self.wanted: dict[tuple[str, str], Definition] = {}
+        self.faults: list[str] = []
+        homes: dict[tuple[str, str, str], str] = {}
+        for door, items in self.doors.items():
+            self.anchors[door, door] = door
+            for item in items:
+                # An item that several doors show has its place at the first one.
+                home = homes.setdefault((item.source, item.name, item.kind), door)
+                self.add(door, f"{home}.{item.name}", item.name, item)
+
+    def add(self, door: str, anchor: str, path: str, item: Item) -> None:
+        self.anchors[door, path] = anchor
+        for name in (name_of(text) for _, text in item.fields):
+            self.anchors[door, f"{path}::{name}"] = f"{anchor}.{name}"
+        for it in item.members:
+            self.add(door, f"{anchor}.{it.name}", f"{path}::{it.name}", it)
+
+    def want(self, found: Definition) -> str:
+        """The anchor of a definition, which is then on the page, as those are that its text names."""
+        if (found.path, found.name) not in self.wanted:
+            self.wanted[found.path, found.name] = found
+            for other in filter(None, (named_in(found.path, word) for word in WORD.findall(found.text))):
+                self.want(other)
+        return anchor_of(found)
+
+    def glossary(self) -> str:
+        """The definitions that contracts name, and those that these name, by file."""
+        parts, path = [], ""
+        for found in sorted(self.wanted.values(), key=lambda it: it.path):
+            if found.path != path:
+                path = found.path
+                parts.append(f'<h4 class="place">{path}</h4>')
+            name, said = escape(found.name), Door(self, "").marked(said_of(found))
+            text = linked(found.text, functools.partial(place_in, found))
+            head = f'<div data-names="{name}"><details id="{escape(anchor_of(found))}"><summary><code>{name}</code> {said}</summary>'
+            parts.append(f"{head}<pre>{text}</pre></details></div>")
+        return "\n".join(['<section><h2 id="definitions">Definitions</h2>', *parts, "</section>"])
+
+    def whole(self) -> str:
+        doors = [Door(self, door).section() for door in DOORS]
+        return f"""<!DOCTYPE html>
+<html lang="en">
+<head><meta charset="utf-8"><meta name="viewport" content="width=device-width, initial-scale=1">
+<title>elfmap</title><style>{read_text("page/doc.css")}</style></head>
+<body>
+<h1>elfmap</h1>
+{Door(self, "").told(source(module_file("elf", ()))[0])}
+<input id="filter" placeholder="a name" aria-label="show what has this name" hidden>
+{self.contents()}
+{chr(10).join(doors)}
+{self.glossary()}
+<script>{read_text("page/doc.js")}</script>
+</body>
+</html>"""
+
+    def contents(self) -> str:
+        lines = []
+        for door, items in self.doors.items():
+            names = ", ".join(f'<a href="#{self.anchors[door, it.name]}">{it.name}</a>' for it in items)
+            lines.append(f'<p><a href="#{door}"><b>{door}</b></a>: {names}</p>')
+        return f'<nav>{"".join(lines)}<p><a href="#definitions"><b>definitions</b></a></p></nav>'
+
+
+def anchor_of(found: Definition) -> str:
+    crate, _, rest = found.path.removeprefix("crates/").removesuffix(".antt").partition("/specs/")
+    return f"{crate}/{rest.replace('/', '.')}.{found.name}"
+
+
+def name_of(text: str) -> str:
+    """The name of a field or a variant."""
+    return matched(r"\w+", text)[0]
+
+
+def named_in(path: str, word: str) -> Definition | None:
+    """The definition that a word in a file of specs/ stands for."""
+    own, uses = definitions(path)
+    return own.get(word) or (definition(*uses[word]) if word in uses else None)
+
+
+def place_in(found: Definition, word: str) -> Place:
+    """Where a word of a definition leads to."""
+    other = named_in(found.path, word)
+    return (anchor_of(other), said_of(other) or other.text) if other and other is not found else None
+
+
+def cells(line: str) -> list[str]:
+    """The cells of a line of a table."""
+    return [it.strip() for it in line.strip("| ").split(" | ")]
+
+
+def linked(text: str, place_of: Callable[[str], Place]) -> str:
+    """A text of code, each word of it with the anchor and the title that it has, if it has one."""
+    found, at = [], 0
+    for word in WORD.finditer(text):
+        anchor, title = place_of(word[0]) or ("", "")
+        if anchor:
+            said = f' title="{escape(title)}"' if title else ""
+            found += [escape(text[at : word.start()]), f'<a href="#{escape(anchor)}"{said}>{escape(word[0])}</a>']
+            at = word.end()
+    return "".join([*found, escape(text[at:])])
+
+
+def said_of(found: Definition) -> str:
+    """What is said of a definition: the comment above it, or else its line in docs/DEFINITIONS.md or docs/RULES.md."""
+    return found.comment or table_words().get(found.name, "")
+
+
+@functools.cache
+def table_words() -> dict[str, str]:
+    """The sentence for each word of the tables of docs/RULES.md and docs/DEFINITIONS.md."""
+    rules = [cells(line) for line in read_text("docs/RULES.md").splitlines() if line.startswith("| <a id=")]
+    words = {re.findall(r"`(\w+)`", row[1])[0]: f"rule {row[0].rpartition('>')[2]}: {row[2]}" for row in rules}
+    rows = [cells(line) for line in read_text("docs/DEFINITIONS.md").splitlines() if line.startswith("| `")]
+    return words | {word: row[1] for row in rows for word in re.findall(r"`([^`]+)`", row[0])}
+
+
+class Door:
+    """The part of the page that is of a public crate."""
+
+    def __init__(self, page: Page, name: str) -> None:
+        self.page, self.name = page, name
+
+    def anchor(self, path: str, owner: str = "") -> str:
+        """Where a path of a doc comment or a signature leads to; nowhere where that is not on the page."""
+        words = [owner if it == "Self" else it for it in path.split("::") if it != "crate" and not it.startswith("elf_")]
+        names = ("::".join(words[-2:]), words[0] if words else "")
+        anchors = (self.page.anchors.get((door, name), "") for name in names for door in (self.name, *DOORS))
+        return next(filter(None, anchors), "")
+
+    # ---- doc comments
+
+    def marked(self, text: str, owner: str = "") -> str:
+        """A paragraph with its code and its links."""
+        found, at = [], 0
+        for mark in MARK.finditer(text):
+            found.append(escape(text[at : mark.start()]))
+            found.append(f"<code>{escape(mark[1])}</code>" if mark[1] else self.link(mark, owner))
+            at = mark.end()
+        return "".join([*found, escape(text[at:])])
+
+    def link(self, mark: re.Match[str], owner: str) -> str:
+        words = f"<code>{escape(mark[3])}</code>" if mark[2] else escape(mark[3])
+        anchor = self.anchor(mark[4] or mark[3], owner)
+        if not anchor:
+            return words if mark[2] or mark[4] else escape(mark[0])
+        return f'<a href="#{escape(anchor)}">{words}</a>'
+
+    def told(self, docs: list[str], owner: str = "") -> str:
+        """A doc comment: paragraphs, tables, lists and code."""
+        parts, lines = [], list(docs)
+        while lines:
+            if lines[0].startswith("```"):
+                end = next(at for at in range(1, len(lines)) if lines[at].startswith("```"))
+                parts.append(f"<pre>{escape(chr(10).join(lines[1:end]))}</pre>")
+                lines = lines[end + 1 :]
+                continue
+            end = next((at for at, line in enumerate(lines) if not line or line.startswith("```")), len(lines))
+            parts += [self.block(lines[:end], owner)] if end else []
+            lines = lines[end + (end < len(lines) and not lines[end]) :]
+        return "\n".join(parts)
+
+    def block(self, lines: list[str], owner: str) -> str:
+        if lines[0].startswith("| "):
+            rows = [[f"<td>{self.marked(it, owner)}</td>" for it in cells(line)] for line in lines if not line.startswith("|--")]
+            return f"<table>{''.join(f'<tr>{chr(10).join(row)}</tr>' for row in rows)}</table>"
+        if lines[0].startswith("- "):
+            return f"<ul>{''.join(f'<li>{self.marked(it, owner)}</li>' for it in chr(10).join(lines)[2:].split(chr(10) + '- '))}</ul>"
+        return f"<p>{self.marked(chr(10).join(lines), owner)}</p>"
+
+    # ---- signatures and contracts
+
+    def signature(self, item: Item) -> str:
+        """The signature, where the types of the library lead to their place."""
+        own = item.name
+        return f"<pre>{linked(chr(10).join(item.text), lambda it: (self.anchor(it), '') if it[0].isupper() and it != own else None)}</pre>"
+
+    def place_by(self, uses: Uses, word: str) -> Place:
+        """Where a word of a contract leads to, by the `ghost use` lines of its source."""
+        place, name = uses.get(word, ("", ""))
+        if ".declared." in place:
+            return self.anchor(re.sub(r"\.TheVariants$", "", place).rsplit(".", 1)[-1]), ""
+        found = definition(place, name) if place else None
+        return (self.page.want(found), said_of(found) or found.text) if found else None
+
+    def contract(self, item: Item) -> str:
+        """The clauses, or of a type what its value and its invariant are."""
+        lines = [*item.ghosts, *item.clauses]
+        kinds = collections.Counter(it.split()[0] for it in item.clauses)
+        head = "what it is in the logic" if item.ghosts else "contract: " + ", ".join(f"{count} {kind}" for kind, count in kinds.items())
+        text = linked(chr(10).join(lines), functools.partial(self.place_by, item.uses))
+        return f"<details><summary>{head}</summary><pre>{text}</pre></details>" if lines else ""
+
+    # ---- items
+
+    def check_doc(self, item: Item, docs: list[str], name: str = "") -> None:
+        if not "".join(docs).strip():
+            self.page.faults.append(f"{item.source}: {self.name}: {item.name}{name} has no doc comment")
+
+    def fields(self, item: Item) -> str:
+        """The public fields of a struct, or the variants of an enum, each in one line."""
+        lines = []
+        for docs, text in item.fields:
+            self.check_doc(item, docs, f"::{name_of(text)}")
+            anchor = self.page.anchors[self.name, f"{item.name}::{name_of(text)}"]
+            line = " ".join(it.strip() for it in text.splitlines() if not it.strip().startswith("///"))
+            code = escape(re.sub(r",? \}$", " }", line))
+            lines.append(f'<dt id="{anchor}"><code>{code}</code></dt><dd>{self.told(docs, item.name)}</dd>')
+        return f"<dl>{''.join(lines)}</dl>" if lines else ""
+
+    def member(self, item: Item, owner: Item) -> str:
+        self.check_doc(item, item.docs)
+        anchor = self.page.anchors[self.name, f"{owner.name}::{item.name}"]
+        return f"""<div class="member" data-names="{owner.name} {item.name}"><h4 id="{anchor}"><a href="#{anchor}">{item.name}</a></h4>
+{self.signature(item)}
+{self.told(item.docs, owner.name)}
+{self.contract(item)}</div>"""
+
+    def constants(self, item: Item) -> str:
+        """The constants of a module in a table, and then those of each module in it."""
+        rows = "".join(self.constant(it, item.name) for it in item.members if it.kind != "mod")
+        parts = [f"<table>{rows}</table>"] if rows else []
+        for it in (it for it in item.members if it.kind == "mod"):
+            self.check_doc(it, it.docs)
+            path = f"{item.name}::{it.name}"
+            inner = "\n".join(self.constant(own, path) for own in it.members)
+            parts.append(f'<h4 id="{self.page.anchors[self.name, path]}">{path}</h4>{self.told(it.docs)}<table>{inner}</table>')
+        return "\n".join(parts)
+
+    def constant(self, item: Item, path: str) -> str:
+        self.check_doc(item, item.docs)
+        _, _, value = " ".join(it.strip() for it in item.text).removesuffix(";").partition(" = ")
+        anchor, said = self.page.anchors[self.name, f"{path}::{item.name}"], self.marked(" ".join(item.docs))
+        return f'<tr id="{anchor}"><td><code>{item.name}</code></td><td><code>{escape(value)}</code></td><td>{said}</td></tr>'
+
+    def traits(self, item: Item) -> str:
+        anchors = [(f"<code>{escape(it)}</code>", self.anchor(re.sub("<.*", "", it))) for it in item.traits]
+        named = ", ".join(f'<a href="#{anchor}">{it}</a>' if anchor else it for it, anchor in anchors)
+        return f'<p class="place">Has the traits {named}.</p>' if named else ""
+
+    def article(self, item: Item) -> str:
+        anchor = self.page.anchors[self.name, item.name]
+        self.check_doc(item, item.docs)
+        members = "\n".join(self.member(it, item) for it in item.members) if item.kind != "mod" else self.constants(item)
+        return f"""<article data-names="{" ".join([item.name, *(it.name for it in item.members)])}">
+<h3 id="{anchor}"><span class="kind">{item.kind}</span> <a href="#{anchor}">{item.name}</a></h3>
+{self.signature(item)}
+{self.told(item.docs, item.name)}
+{self.fields(item)}
+{self.contract(item)}
+{self.traits(item)}
+<p class="place">{item.source}</p>
+{members}</article>"""
+
+    def section(self) -> str:
+        anchors = [(it, self.page.anchors[self.name, it.name]) for it in self.page.doors[self.name]]
+        others = [f'<a href="#{anchor}"><code>{it.name}</code></a>' for it, anchor in anchors if not anchor.startswith(f"{self.name}.")]
+        also = f"<p>It shows too: {', '.join(others)}.</p>" if others else ""
+        front = self.told(source(module_file(f"elf_{self.name}", ()))[0])
+        own = (self.article(it) for it, anchor in anchors if anchor.startswith(f"{self.name}."))
+        return "\n".join([f'<section><h2 id="{self.name}">elf::{self.name}</h2>{front}{also}', *own, "</section>"])
+
+
+def made() -> tuple[str, list[str]]:
+    """The page, and what is wrong with it."""
+    page = Page()
+    text = page.whole()
+    ids = collections.Counter(re.findall(r' id="([^"]+)"', text))
+    wrong = [f"{anchor} is in the page {ids[anchor]} times" for anchor in sorted(set(page.anchors.values())) if ids[anchor] != 1]
+    leads = set(re.findall(r' href="#([^"]+)"', text))
+    return text, [*page.faults, *wrong, *(f"{anchor} is nowhere in the page" for anchor in sorted(leads - set(ids)))]
+
+
+def main(options: argparse.Namespace) -> int:
+    text, faults = made()
+    print(text)
+    print("".join(f"doc: {it}\n" for it in faults), end="", file=sys.stderr)
+    return 1 if faults else 0
+
+
+def doc(tally: Tally, options: argparse.Namespace) -> None:
+    tally.count(1, made()[1][:1])
+
+
+TESTS = [Test("doc", "each public item has a doc comment, and is in the page of `tools/dev doc` once", doc)]

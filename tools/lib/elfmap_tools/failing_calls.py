@@ -1,0 +1,237 @@
+"""`tools/test failing-calls`: every call of the C library that elfmap makes, failing once. A small library, `failing.c`, which is loaded
+before the C library, refuses the Nth `malloc` or `realloc`, or fails, cuts or interrupts the Nth `open`, `read`, `lseek`, or `write` to
+standard output, for N from 1 until the program ends without it; the next call would succeed. What has to come:
+
+  a call that is refused memory: `out of memory` and status 3, with nothing on standard output, or for `show` a beginning of its text; or
+    all that comes with enough memory, where the program can do without;
+  a call of `open`: `cannot open NAME` and status 3, with nothing on standard output;
+  a call of `read` or `lseek`: `read failed at K` and status 3, where K is the offset that was to be read, and nothing on standard output;
+  a call of `write`: `write failed after K` and status 3, and the first K bytes are written;
+  a `read` or `write` of one byte, or all of them: all that comes else.
+
+Nothing is tried again; a file is opened once, nothing is read into no space, nothing empty is written, and nothing is synchronized. Of
+`tests_calls` the calls `write`, `object` and `copy` are tried in the same way: what `copy` has written before a failed `read` is the
+beginning of the file.
+
+By `growths` it makes the calls of the library one by one, with the Nth growth refused, and with that and all after it: each call answers
+out of memory or what it answers with enough; a reading goes on where a growth was refused, and loses nothing; what takes no memory answers
+as ever, and made three times it grows as much as made not at all."""
+
+import os, re, struct, tempfile
+from argparse import Namespace
+from collections.abc import Iterable, Iterator
+
+from .building import output_of
+from .making import full_object
+
+from .reference import (
+    ALLOC, COMMON, HASH, PROGBITS, WRITE, edited, group, object_file, relocations, section, symbol, text, words as number_words,
+)  # fmt: skip
+from .suite import Tally, Test, crates_of, environment
+from .tree import PROGRAM, RULES, TOP, read_text, run, write
+
+CALLER = "int callee(int); extern int shared; int common; int main(void) { return callee(1) + shared + common; }\n"
+CALLEE = "static int calls; int shared = 2; int callee(int x) { return calls += x; }\n"
+# The lines of `show` on it are longer than a piece of output.
+MANY = "".join(f'.section .text.f{i},"ax",@progbits\nf{i}: call g{i}\n' for i in range(500))
+FAILURES = [("malloc", "fail"), ("open", "fail"), ("read", "fail"), ("read", "interrupt"), ("read", "cut"), ("lseek", "fail")]
+FAILURES += [("lseek", "interrupt"), ("write", "fail"), ("write", "interrupt"), ("write", "nothing"), ("write", "cut")]
+# The calls of `tests_calls`, which ends with an error of std's where it can't have its words or its file.
+OWN = ("write", "object", "copy")
+CALLS = output_of("tests_calls")
+# Files by hand, those of a link together, with a symbol at which its executable can begin.
+BY_HAND: dict[tuple[str, ...], str] = {("one_section",): "", ("many_sections",): "", ("call_0", "call_1"): "main"}
+BY_HAND |= {("common_0", "common_1", "common_2"): "x", ("groups_0", "groups_1"): "f", ("hash",): ""}
+PLACE = ["--base", "0x400000", "--page", "0x1000"]
+# How a call ended: its status, and what it printed.
+Ending = tuple[int, bytes, bytes]
+Result = tuple[int, list[str]]
+
+
+def files_by_hand() -> dict[str, bytes]:
+    grouped = [group([1]), text(flags=0x206, name=b".text.f")]
+    undefined = [symbol(it, None) for it in (b"printf", b"exit", b"a")]
+    table = section(b".hash", HASH, number_words("little", 2, 4, 1, 3, 0, 2, 0, 0), ALLOC, 4, 4)
+    call = b"\xe8\0\0\0\0"
+    main, f = [symbol(b"main", 0), symbol(b"callee", None)], symbol(b"f", 1)
+    return {
+        "one_section": object_file([text(align=16)]),
+        "many_sections": object_file([section(b"", PROGBITS)] * 65277),
+        "call_0": object_file([text(call + b"\xc3"), relocations([(1, 2, 2, 2**64 - 4)], 0)], main),
+        "call_1": object_file([text()], [symbol(b"callee", 0)]),
+        "common_0": object_file([section(b".data", PROGBITS, struct.pack("<I", 1), WRITE | ALLOC, 4)], [symbol(b"x", 0, 0x20)]),
+        "common_1": object_file([], [symbol(b"x", None, value=4, size=4, reserved=COMMON)]),
+        "common_2": object_file([], [symbol(b"x", None, value=2, size=8, reserved=COMMON)]),
+        "groups_0": object_file(grouped, [f]),
+        "groups_1": object_file([*grouped, text(call), relocations([(1, 1, 2, 2**64 - 4)], 2)], [f]),
+        "hash": edited(object_file([table], undefined), ("sh_link", 1, 2)),
+    }
+
+
+def failing_library(folder: str) -> str:
+    """Makes the library in which calls fail, and which counts them: its path."""
+    library = f"{folder}/failing.so"
+    if not os.path.exists(library):
+        made = run("cc", "-shared", "-fPIC", "-O1", "-w", "-o", library, f"{TOP}/cases/sources/failing.c")
+        if made.returncode:
+            raise SystemExit(f"failing.c is not compiled: {made.stderr!r}")
+    return library
+
+
+def make_files(folder: str) -> None:
+    failing_library(folder)
+    sources = {"caller.c": CALLER, "callee.c": CALLEE, "many.s": MANY}
+    for name, source in sources.items():
+        write(f"{folder}/{name}", source)
+        run("cc", "-c", "-O1", "-fcommon", "-fno-pic", name, "-o", f"{name[:-2]}.o", folder=folder)
+    for name, content in {"refused": b"no ELF file\n", "full.o": full_object(), "rules": b"2 pc 4 signed\n", **files_by_hand()}.items():
+        write(f"{folder}/{name}", content)
+
+
+def ended(folder: str, words: list[str], call: str = "", program: str = PROGRAM) -> tuple[Ending, list[str]]:
+    """How the program ended, and what the library says of the call that failed."""
+    report = f"{folder}/told"
+    if os.path.exists(report):
+        os.remove(report)
+    around = environment(LD_PRELOAD=f"{folder}/failing.so", FAILING_CALL=f"{call} {report}")
+    it = run(program, *words, folder=folder, env=around)
+    lines = read_text(report).split("\n")[:-1] if os.path.exists(report) else []
+    return (it.returncode, it.stdout, it.stderr), lines
+
+
+def wrong_with(kind: str, how: str, words: list[str], ample: Ending, found: Ending, offset: int) -> str:
+    """What is wrong with how the program ended where a call of this kind failed at an offset; nothing where it is right."""
+    status, out, err = found
+    if how in ("cut", "bytes"):
+        return "" if found == ample else "another answer"
+    if words[0] in OWN and kind in ("malloc", "open") and (status, out) == (1, b"") and err.startswith(b"Error: "):
+        return ""
+    if kind == "malloc":
+        begun = out == b"" or words[0] == "show" and ample[1].startswith(out)
+        return "" if found == ample or (status, err) == (3, b"out of memory\n") and begun else "it is not out of memory"
+    if kind == "open":
+        return "" if status == 3 and out == b"" and re.fullmatch(rb"cannot open \S+\n", err) else "it does not say that it can't open"
+    if kind == "write":
+        right = (3, ample[1][:offset], f"write failed after {offset}\n".encode())
+        return "" if found == right else "no failed write"
+    begun = out == b"" or words[0] == "copy" and ample[1].startswith(out) and out != ample[1]
+    return "" if begun and (status, err) == (3, f"read failed at {offset}\n".encode()) else "no failed read"
+
+
+def opened_once(folder: str, words: list[str], files: list[str], program: str) -> Result:
+    """What is wrong with how many files are opened, and with calls in vain."""
+    _, report = ended(folder, words, "count 1 nothing", program)
+    right = [f"opened {len(files)}", "vain 0"]
+    return 1, [] if report[:2] == right else [f"{' '.join(words)}: {' '.join(report)}, and not {' '.join(right)}"]
+
+
+def quiet(folder: str, names: Iterable[str]) -> Result:
+    """What is wrong with the calls that take no memory, on these files: made three times they grow as much as made not at all."""
+    counts = [ended(folder, ["quiet", times, *names], "count 1 nothing", CALLS) for times in ("0", "3")]
+    same = counts[0] == counts[1] and counts[0][0][0] == 0 and counts[0][1][2:]
+    return 1, [] if same else [f"quiet {' '.join(names)}: {counts}"]
+
+
+def tried(folder: str, words: list[str], kind: str, how: str, program: str = PROGRAM) -> Result:
+    """Each call of a kind failing, one after the other: how many were, and what was wrong."""
+    ample, _ = ended(folder, words, program=program)
+    count, wrong = 0, list[str]()
+    while True:
+        found, report = ended(folder, words, f"{kind} {count + 1} {how}", program)
+        if not report:
+            return count, wrong + ([] if found == ample else [f"{' '.join(words)}: without a failing call: another answer"])
+        count += 1
+        why = wrong_with(kind, how, words, ample, found, int(report[0].split()[1]))
+        if not why and any(it.startswith("again") for it in report):
+            why = "it was tried again"
+        if why:
+            wrong.append(f"{' '.join(words)}: {kind} {count} {how}: {why}: {found}"[:300])
+        if how == "bytes":
+            # All calls at once.
+            return count, wrong
+
+
+def wrong_growths(ample: list[bytes], found: list[bytes]) -> str:
+    """What is wrong with the lines on the calls of the library where growths were refused; nothing where they are right."""
+    place, refused = 0, False
+    for line in found:
+        call = line.partition(b" ")[0]
+        is_out = line.endswith(b" out of memory")
+        same = [k for k in range(place, len(ample)) if (ample[k].startswith(call + b" ") if is_out else ample[k] == line)]
+        # What needs a call that was refused memory is not made.
+        if not same or same[0] > place and not refused:
+            return f"{line!r}"
+        # A reading that was refused memory is tried once more, and has its line again.
+        place, refused = same[0] + (not is_out or call != b"read_to_end"), refused or is_out
+    return "" if place == len(ample) or refused else "lines are missing"
+
+
+def grown(folder: str, words: list[str], how: str) -> Result:
+    """Each growth of the calls of the library refused: how many were, and what was wrong."""
+    (sound, output, _), _ = ended(folder, words, program=CALLS)
+    ample, count, wrong = output.split(b"\n")[:-1], 0, list[str]()
+    while True:
+        (status, out, err), report = ended(folder, words, f"malloc {count + 1} {how}", CALLS)
+        lines = out.split(b"\n")[:-1]
+        if not report:
+            return count, wrong + ([] if lines == ample else [f"{' '.join(words)}: another answer without a refused growth"])
+        count += 1
+        # The program ends where a growth of its own is refused, or a file can't be read.
+        gave_up = status == 1 and b"OutOfMemory" in err or status == 3 and lines[-1:] == [b"read_to_end out of memory"]
+        why = wrong_growths(ample[: len(lines)] if gave_up and lines == ample[: len(lines)] else ample, lines)
+        if why or status != sound and not gave_up:
+            wrong.append(f"{' '.join(words)}: growth {count} {how}: {why or status} {err[:100]!r}")
+
+
+def growths(folder: str) -> Iterator[Result]:
+    """The growths of the calls that need no file, and of those on the files by hand."""
+    for names in BY_HAND:
+        # A file of 4 MB takes its time.
+        for how in ("fail",) if names == ("many_sections",) else ("fail", "rest"):
+            yield grown(folder, ["growths", "rules", *names], how)
+    for those in [*BY_HAND, ("caller.o", "callee.o"), ("full.o",), ("/bin/true",)]:
+        yield quiet(folder, those)
+
+
+def calls_by_hand() -> Iterator[list[str]]:
+    """Each command on the files by hand: the words of each call."""
+    for names, entry in BY_HAND.items():
+        yield from ([*words, name] for words in (["check"], ["check", "--seek"], ["show"], ["rewrite"]) for name in names)
+        for words in (["map", *PLACE], ["map", *PLACE, "--rules", RULES], ["link", *PLACE, "--entry", entry, "--rules", RULES]):
+            yield [*words, *names]
+
+
+def calls() -> Iterator[tuple[str, list[str], list[str]]]:
+    """Of each call the program, the words, and the files among them."""
+    alone = ("call_0", "caller.o", "many.o", "full.o", "refused", "/bin/true")
+    yield from ((PROGRAM, words, [name]) for words in (["check"], ["check", "--seek"], ["show"], ["rewrite"]) for name in alone)
+    both, broken = ["caller.o", "callee.o"], ["caller.o", "refused", "callee.o"]
+    none, with_rules = list[str](), ["--rules", RULES]
+    for more, files in ((none, both), (with_rules, both), (with_rules, ["full.o"]), (none, ["many.o"]), (none, broken)):
+        yield PROGRAM, ["map", *PLACE, *more], files
+    yield from ((PROGRAM, ["link", *PLACE, "--entry", "main", *with_rules], files) for files in (both, ["caller.o"], broken))
+    yield from ((CALLS, [call], [name]) for call in OWN for name in ("call_0", "caller.o", "full.o", "refused"))
+
+
+def tries(folder: str) -> Iterator[Result]:
+    for program, words, files in calls():
+        opened = [*(it for it in words if it == RULES), *files]
+        words = [*words, *files]
+        yield opened_once(folder, words, opened, program)
+        # A source that returns nothing where there is more is a file that shrank.
+        shrinks = [("read", "nothing")] if "--seek" in words or "copy" in words else []
+        for kind, how in [*FAILURES, *shrinks, ("read", "bytes"), ("write", "bytes")]:
+            yield tried(folder, words, kind, how, program)
+    yield from (tried(folder, words, "malloc", "fail") for words in calls_by_hand())
+    yield from growths(folder)
+
+
+def failing_calls(tally: Tally, options: Namespace) -> None:
+    with tempfile.TemporaryDirectory() as folder:
+        make_files(folder)
+        for count, wrong in tries(folder):
+            tally.count(count, wrong)
+
+
+CRATES = crates_of("elfmap", "tests_calls")
+TESTS = [Test("failing-calls", "every call of the C library failing once", failing_calls, ("cc",), CRATES, family="fuzz")]

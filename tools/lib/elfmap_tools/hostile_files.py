@@ -1,0 +1,222 @@
+"""`tools/test hostile-files`: the cases of cases/ that have files, tables made to do harm among them (cases/hostile.txt), large objects and large
+files, through the commands of the program. No call takes a second of the processor, or asks for more than a MiB of memory and 128 times as
+many bytes as its files have, all growths together; `check --seek` for no more than a MiB and twice as many bytes as the tables have. The
+large files have up to 4 MB, but for sparse ones of up to 2^30 bytes, whose tables are far from the header: there `check` and `check --seek`
+have to find them. `failing.c` counts what is asked for. The answers of large objects are the reference implementation's."""
+
+import os, random, struct, subprocess, tempfile
+from argparse import Namespace
+from collections.abc import Callable, Iterator
+from dataclasses import dataclass, field
+from typing import Any
+
+from .cases import all_cases, put_needs
+from .failing_calls import failing_library
+from .making import hash_content, note_content
+
+from .reference import (
+    ALLOC, DYNSYM, HASH, NOTE, PROGBITS, STRTAB, SYMTAB_SHNDX, File, check, edited, group, mapped, object_file, relocations, rewritten,
+    section, shown, symbol, text, words,
+)  # fmt: skip
+from .suite import Tally, Test, crates_of, environment
+from .tree import PROGRAM, read_bytes, read_text, run, write
+
+MOST_SECONDS = 1.0
+LEAST_MEMORY, MOST_MEMORY, SEEKING_MEMORY = 1 << 20, 128, 2
+LITTLE, GLOBAL, WEAK, IN_GROUP = "little", 0x10, 0x20, 0x206
+# The status, and both outputs.
+Answer = tuple[int, bytes, bytes]
+
+
+@dataclass
+class Row:
+    """A call with these words, in a folder with these files, and its answer, or a check of its output."""
+
+    words: list[str]
+    right: Answer | Callable[[bytes], bool]
+    files: dict[str, bytearray] = field(default_factory=dict)
+    needs: list[str] = field(default_factory=list)
+
+
+def row(command: str, *files: bytes, out: bytes | Callable[[bytes], bool] | None = None) -> Row:
+    """A row of files f0, f1 and so on, with the answer of the reference implementation, if none is given."""
+    names = {f"f{k}": bytearray(it) for k, it in enumerate(files)}
+    right = (0, out, b"") if isinstance(out, bytes) else out or reference_answer(command.split(), files)
+    needs = [f"{it}={it}" for it in names]
+    return Row([*command.split(), *names], right, {**names, "r": bytearray(b"2 pc 4 signed\n")}, [*needs, "r=r"])
+
+
+def reference_answer(words: list[str], files: tuple[bytes, ...]) -> Answer:
+    """What the reference answers of files that nothing refuses."""
+    if words[0] == "map":
+        numbers = dict(zip(words[1::2], words[2::2]))
+        rules = b"2 pc 4 signed\n" if "--rules" in numbers else None
+        lines = mapped(files, int(numbers["--base"], 0), int(numbers["--page"], 0), rules)
+        return int(lines.startswith("refused ")), lines.encode("latin1"), b""
+    if words[0] == "rewrite":
+        refusal, written = rewritten(files[0]) or ("", b"")
+        return int(bool(refusal)), written, refusal.encode()
+    return 0, (check(files[0]) + "\n").encode() if words[0] == "check" else shown(files[0]).encode("latin1"), b""
+
+
+def loaded(names: list[bytes], hash_words: bytes, strings: bytes = b"") -> bytes:
+    """Dynamic symbols of these names with their strings, sections 2 and 1, and a hash table of these words, section 3."""
+    strings = strings or b"\0" + b"".join(it + b"\0" for it in names[1:])
+    at, entries = 1, bytes(24)
+    for it in names[1:]:
+        entries += struct.pack("<IBBHQQ", at if it else 0, GLOBAL, 0, 0, 0, 0)
+        at += len(it) + 1
+    symbols = section(b".dynsym", DYNSYM, entries, ALLOC, 8, 24, 0, 1)
+    return object_file([section(b".dynstr", STRTAB, strings), symbols, section(b".hash", HASH, hash_words, ALLOC, 4, 4, 1)])
+
+
+def many_rows() -> Iterator[Row]:
+    """Objects of a few hundred sections, groups of many members, an index table, notes and a hash table of a thousand symbols."""
+    chance = random.Random("many")
+    plain = [text(bytes(k % 7), IN_GROUP if k % 3 else 6, b".text.%d" % k, 2 ** (k % 5)) for k in range(280)]
+    groups = [group([10 + p for p in range(280) if p % 3 and p % 10 == g], g + 1) for g in range(10)]
+    fields = [relocations([(0, 1 + k % 20, 2, k)], 14 + 7 * k, b".rela.text.%d" % k) for k in range(10)]
+    own_notes = section(b".note", NOTE, b"".join(note_content(chance, LITTLE) for _ in range(40)), ALLOC, 4)
+    symbols = [symbol(b"signature %d" % k, 10 + k, WEAK) for k in range(10)] + [symbol(b"name%d" % k, 10 + k) for k in range(270)]
+    sections = [*groups, *plain, *fields, own_notes]
+    file = object_file(sections, symbols)
+    indexes = section(b".symtab_shndx", SYMTAB_SHNDX, bytes(4 * len(symbols) + 4), 0, 4, 4)
+    indexed = edited(object_file([*sections, indexes], symbols), ("sh_link", len(sections) + 1, len(sections) + 2))
+    for it in (file, indexed):
+        for command in ("check", "check --seek", "show", "rewrite", "map --base 0x400000 --page 0x1000", "map --rules r --base 0 --page 1"):
+            yield row(command, it)
+    yield row("map --base 0 --page 1", file, indexed)
+    names = [b""] + [b"symbol %d" % k for k in range(999)]
+    for buckets in (1, 37, 100):
+        yield row("show", loaded(names, hash_content(LITTLE, names, buckets)))
+    yield row("show", loaded(names, hash_content(LITTLE, names[:500] + names[501:] + [b"other"], 37)))
+    # A symbol in a section whose index is kept in the index table.
+    far = object_file([section(b"", PROGBITS)] * 65300, [symbol(b"far", 65299), symbol(b"near", 3)])
+    yield row("rewrite", far, out=far)
+    yield row("check --seek", far, out=b"ok %d 65305 0\n" % len(far))
+
+
+def large_rows() -> Iterator[Row]:
+    """Files of up to 4 MB whose tables cost the most; the reference is too slow for them."""
+    # An alignment for which the file would be too long.
+    yield Row(
+        ["rewrite", "f"], (1, b"", b"too long\n"), {"f": bytearray(edited(object_file([text(b"")]), ("sh_addralign", 1, 2**63)))}, ["f=f"]
+    )
+    # Groups of one signature, each of one section.
+    count = 32760
+    sections = [group([count + k]) for k in range(count)] + [text(b"", IN_GROUP, b"f")] * count
+    file = object_file(sections, [symbol(b"f", count)])
+    yield row("rewrite", file, out=file)
+    lines = [b"output 0x0 0x0 bits 0x6 f", b"member 0x0 0x0 0 %d" % count]
+    lines += [*(b"discarded 0 %d" % k for k in range(count + 1, 2 * count)), b"name 0x0 strong f", b""]
+    yield row("map --base 0 --page 1", file, out=b"\n".join(lines))
+    # 65,535 groups without members, of one signature.
+    file = object_file([group([])] * 65535, [symbol(b"f", None, WEAK)])
+    yield row("rewrite", file, out=file)
+    yield row("map --base 0 --page 1", file, out=b"name 0x0 zero f\n")
+    # A chain through all symbols, all of one name, and one that comes back.
+    count = 130000
+    file = loaded([b""] * count, words(LITTLE, 1, count, count - 1, 0, 0, *range(1, count - 1)), b"\0a\0")
+    yield row("check", file, out=b"ok %d 7 0\n" % len(file))
+    yield row("show", file, out=lambda output: b"\nhash 3 1 130000\n" in output)
+    bucket = File(file).section(3).sh_offset + 8
+    yield row("show", edited(file, ((3, 16, 4), count - 1)), out=lambda output: b"\nrefused 3 68 %d\n" % bucket in output)
+
+
+# ---- the calls
+
+
+def counting(library: str, report: str) -> dict[str, str]:
+    """The environment of a call in which the library counts what it asks for, and reports it in a file."""
+    return environment(LD_PRELOAD=library, FAILING_CALL=f"count 1 nothing {report}")
+
+
+def asked(report: str) -> int:
+    """How many bytes a call asked for."""
+    return int(dict(line.split() for line in read_text(report).splitlines())["asked"])
+
+
+def run_row(row: Row, library: str) -> tuple[Answer, float, int]:
+    """The answer, the seconds of the processor, and the bytes that were asked for."""
+    with tempfile.TemporaryDirectory(prefix="hostile-") as folder, tempfile.TemporaryDirectory() as beside:
+        put_needs(folder, row.needs, row.files)
+        with open(f"{beside}/out", "wb") as out, open(f"{beside}/err", "wb") as err:
+            # It shares this process's memory until it is the program, so no time goes into copying that.
+            more: Any = {"cwd": folder, "env": counting(library, f"{beside}/told"), "stdin": subprocess.DEVNULL}
+            child = subprocess.Popen([PROGRAM, *row.words], stdout=out, stderr=err, **more)
+            _, status, used = os.wait4(child.pid, 0)
+            child.returncode = os.waitstatus_to_exitcode(status)
+        answer = child.returncode, read_bytes(f"{beside}/out"), read_bytes(f"{beside}/err")
+        return answer, used.ru_utime + used.ru_stime, asked(f"{beside}/told")
+
+
+def wrong_with(row: Row, library: str) -> str:
+    answer, seconds, memory = run_row(row, library)
+    if seconds > MOST_SECONDS:
+        # A machine with much to do beside it may take longer once.
+        seconds = run_row(row, library)[1]
+    if seconds > MOST_SECONDS:
+        return f"it takes {seconds:.2f} s"
+    # A file may be named by several words.
+    places = {place: name for place, _, name in (it.partition("=") for it in row.needs) if name}
+    lengths = sum(len(row.files[places[it]]) for it in row.words if it in places)
+    most = LEAST_MEMORY + (SEEKING_MEMORY if "--seek" in row.words else MOST_MEMORY) * lengths
+    if memory > most:
+        return f"it asks for {memory} bytes, and not for {most} at most"
+    status, out, err = answer
+    if callable(row.right):
+        return "" if (status, err) == (0, b"") and row.right(out) else f"status {status}, {out[-80:]!r}"
+    right_status, right, right_err = row.right
+    if (status, out) == (right_status, right) and (err == right_err or status > 1 and not right_err):
+        return ""
+    return f"{(status, out[:80], err[:80])}, and not {(right_status, right[:80], right_err[:80])}"
+
+
+def case_rows() -> Iterator[Row]:
+    for cases in all_cases().values():
+        yield from (Row(it.words, (it.status, it.out, it.err), cases.files, it.needs) for it in cases.cases if it.needs)
+
+
+# ---- tables far from the header
+
+# Where the section headers begin: beyond 24 bits, beyond 29, and so that the file is as long as one may be.
+FAR = (2**24 + 8, 2**29 + 8, 2**30 - 136)
+
+
+def far_file(name: str, at: int, order: str) -> int:
+    """Writes a sparse file of a header, far from it two section headers, and a name table of one byte after them; how long it is."""
+    mark, data = ("<", 1) if order == LITTLE else (">", 2)
+    header = b"\x7fELF\2" + bytes([data, 1, *[0] * 9]) + struct.pack(f"{mark}HHIQQQIHHHHHH", 1, 62, 1, 0, 0, at, 0, 64, 0, 0, 64, 2, 1)
+    with open(name, "wb") as it:
+        it.write(header)
+        it.seek(at + 64)
+        it.write(struct.pack(f"{mark}IIQQQQIIQQ", 0, 3, 0, 0, at + 128, 1, 0, 0, 1, 0))
+        it.truncate(at + 136)
+    return at + 136
+
+
+def far_tables(tally: Tally, folder: str, library: str) -> None:
+    for order, at in ((order, at) for order in (LITTLE, "big") for at in FAR):
+        right = f"ok {far_file(f'{folder}/f', at, order)} 2 0\n".encode()
+        for command in (["check"], ["check", "--seek"]):
+            output = run(PROGRAM, *command, f"{folder}/f", env=counting(library, f"{folder}/told")).stdout
+            memory, most = asked(f"{folder}/told"), LEAST_MEMORY + (0 if "--seek" in command else MOST_MEMORY * at)
+            os.remove(f"{folder}/told")
+            what = f"{' '.join(command)} of a table at {at}, {order}"
+            tally.check(output == right and memory <= most, f"{what}: {output!r}, and not {right!r}; {memory} bytes, and not {most}")
+
+
+def hostile_files(tally: Tally, options: Namespace) -> None:
+    with tempfile.TemporaryDirectory(prefix="hostile-") as folder:
+        library = failing_library(folder)
+        for number, it in enumerate(it for rows in (case_rows, many_rows, large_rows) for it in rows()):
+            why = wrong_with(it, library)
+            tally.check(not why, f"row {number}, {' '.join(it.words)} with {' '.join(it.needs)}: {why}")
+        far_tables(tally, folder, library)
+
+
+CRATES = crates_of("elfmap")
+# It looks at the time of the processor, which other work on it lengthens.
+TESTS = [
+    Test("hostile-files", "tables made to do harm, and large files: answers, time and memory", hostile_files, ("cc",), CRATES, True, "fuzz")
+]

@@ -1,0 +1,134 @@
+"""`tools/test instructions`: counts the instructions of each command on generated files (bench/made.py), and compares the counts with the
+numbers in bench/instructions. So a command that got slower fails on a busy machine too, where seconds say little.
+
+A row is a command and its input. It fails if its count is more than 3 % above its stored number, if no number is stored, or if the command
+does not end with status 0. A stored number without a row fails, and so does a command of `elfmap --help` without a row. If a count is more
+than 3 % below its stored number, a line says so, and the row passes. `--store` stores the counts, if every command ended with status 0.
+
+valgrind counts (its tool callgrind). It interprets the program, so the same run always has the same count. It counts each byte of
+`rep movsb` and `rep stosb`. The program runs in its own folder, with relative names, the same environment, and the same routines of the C
+library on every processor. With another version of the C library or of valgrind the counts are slightly different."""
+
+import fcntl, os, re, shutil, subprocess, sys, tempfile
+from argparse import Namespace
+from collections.abc import Callable
+from typing import Any
+
+from .suite import Tally, Test, crates_of, flag
+from .tree import PROGRAM, TOP, read_bytes, read_text, said, write
+
+sys.path.insert(0, f"{TOP}/bench")
+import made  # noqa: E402
+
+STORED = f"{TOP}/bench/instructions"
+HEAD = "# The instructions of each command and input. `tools/test instructions --store` writes this file.\n"
+PERCENT, LONGEST = 3, 300
+PLACE = ["--base", "0x400000", "--page", "0x1000"]
+PIPE, PIPE_LENGTH = "/dev/stdin", 1 << 20
+# The words of each command; its files follow. RULES and ENTRY are replaced by those of the input.
+COMMANDS = {
+    "check": ["check"], "check of a pipe": ["check", PIPE], "check --seek": ["check", "--seek"], "show": ["show"], "rewrite": ["rewrite"],
+    "map": ["map", *PLACE], "map --rules": ["map", *PLACE, "--rules", "RULES"],
+    "link": ["link", *PLACE, "--entry", "ENTRY", "--rules", "RULES"],
+}  # fmt: skip
+# Each input, its length in bytes, and the commands that run on it. What goes through a pipe has at most PIPE_LENGTH bytes.
+ROWS: list[tuple[Callable[[int], Any], int, list[str]]] = [
+    (made.scattered_sections, 1000000, ["check", "check of a pipe", "check --seek", "show", "rewrite"]),
+    (made.distinct_names, 640000, ["show", "rewrite"]),
+    (made.relocations_in_order, 1280000, ["show", "rewrite"]),
+    (made.groups_of_one, 680000, ["show", "rewrite"]),
+    (made.hash_chain, 640000, ["show"]),
+    (made.dynamic, 60000, ["show"]),
+    (made.notes, 240000, ["show"]),
+    (made.empty_sections_of_many_names, 1440000, ["map"]),
+    (made.commons_of_many_names, 640000, ["map"]),
+    (made.definitions_and_relocations, 2000000, ["map", "map --rules", "link"]),
+    (made.falling_relocations, 500000, ["map --rules", "link"]),
+]
+# The C library chooses its routines by the processor and its caches. These features of processors are switched off. The last comma has to
+# be there: without it the library reads beyond the end of the list.
+FEATURES = "AVX512F AVX512VL AVX2 AVX BMI1 BMI2 LZCNT MOVBE RTM ERMS FSRM AVX_Fast_Unaligned_Load Fast_Unaligned_Load Fast_Unaligned_Copy"
+TUNABLES = ["glibc.cpu.hwcaps=" + "".join(f"-{it}," for it in FEATURES.split()), "glibc.cpu.x86_data_cache_size=32768"]
+TUNABLES += ["glibc.cpu.x86_shared_cache_size=1048576", "glibc.cpu.x86_non_temporal_threshold=786432"]
+ENVIRONMENT = {"LC_ALL": "C", "GLIBC_TUNABLES": ":".join(TUNABLES)}
+# The count of a row, or what is wrong with how it ended.
+Count = tuple[int, str]
+
+
+def written(folder: str, make: Callable[[int], Any], length: int) -> list[str]:
+    """The names of the files of an input, which it writes below a folder, with a file of rules beside them."""
+    files, names = make(length), []
+    os.mkdir(f"{folder}/{make.__name__}")
+    for number, file in enumerate(files if isinstance(files, list) else [files]):
+        names.append(f"{make.__name__}/{number:02}.o")
+        write(f"{folder}/{names[-1]}", bytes(file.bytes()))
+    write(f"{folder}/{make.__name__}/rules", getattr(make, "rules", made.RULES))
+    return names
+
+
+def filled_pipe(path: str) -> int:
+    """A pipe that has a whole file before it is read, so that the same reads return the same lengths."""
+    source, target = os.pipe()
+    fcntl.fcntl(target, fcntl.F_SETPIPE_SZ, PIPE_LENGTH)
+    os.set_blocking(target, False)
+    with open(target, "wb") as pipe:
+        pipe.write(read_bytes(path))
+    return source
+
+
+def counted(folder: str, command: str, make: Callable[[int], Any], names: list[str]) -> Count:
+    own = {"RULES": f"{make.__name__}/rules", "ENTRY": getattr(make, "entry", "name")}
+    tool = [shutil.which("valgrind") or "valgrind", "--tool=callgrind", "--callgrind-out-file=/dev/null"]
+    words = [*tool, "./program", *(own.get(it, it) for it in COMMANDS[command])]
+    is_piped = PIPE in words
+    source = filled_pipe(f"{folder}/{names[0]}") if is_piped else os.open(os.devnull, os.O_RDONLY)
+    try:
+        words += [] if is_piped else names
+        ended = subprocess.run(
+            words, cwd=folder, env=ENVIRONMENT, stdin=source, stdout=subprocess.DEVNULL, stderr=subprocess.PIPE, timeout=LONGEST
+        )
+    except subprocess.TimeoutExpired:
+        return 0, f"it takes more than {LONGEST} s"
+    finally:
+        os.close(source)
+    found = re.findall(rb"^==\d+== Collected : (\d+)$", ended.stderr, re.M)
+    if ended.returncode or len(found) != 1:
+        lines = b" ".join(it for it in ended.stderr.splitlines() if not it.startswith(b"=="))
+        return 0, f"it ended with status {ended.returncode}: {lines[:200]!r}"
+    return int(found[0]), ""
+
+
+def all_counted() -> dict[str, Count]:
+    """The count of each row."""
+    counts: dict[str, Count] = {}
+    with tempfile.TemporaryDirectory(prefix="elfmap-instructions.") as folder:
+        shutil.copy(PROGRAM, f"{folder}/program")
+        for make, length, commands in ROWS:
+            names = written(folder, make, length)
+            counts |= {f"{it}: {make.__name__}": counted(folder, it, make, names) for it in commands}
+    return counts
+
+
+def instructions(tally: Tally, options: Namespace) -> None:
+    counts = all_counted()
+    if options.store and not any(why for _, why in counts.values()):
+        write(STORED, HEAD + "".join(f"{count:10} {row}\n" for row, (count, _) in counts.items()))
+    lines = [line.split(maxsplit=1) for line in read_text(STORED).splitlines() if not line.startswith("#")]
+    stored = {row: int(count) for count, row in lines}
+    for row, (count, why) in counts.items():
+        if why or row not in stored:
+            tally.fail(f"{row}: {why or f'{count:,}; no number is stored'}")
+            continue
+        what = f"{row}: {count:,}, {abs(count / stored[row] - 1):.1%}"
+        tally.check(count * 100 <= stored[row] * (100 + PERCENT), f"{what} above the stored {stored[row]:,}")
+        if count * 100 < stored[row] * (100 - PERCENT):
+            tally.note(f"{what} below the stored {stored[row]:,}; --store keeps that")
+    tally.check(not set(stored) - set(counts), f"stored numbers without a row: {set(stored) - set(counts)}")
+    listed = re.findall(r"^  (\w+) ", said(PROGRAM, "--help").stdout.partition("Commands:\n")[2].partition("\n\n")[0], re.M)
+    used = {COMMANDS[it][0] for _, _, commands in ROWS for it in commands}
+    tally.check(listed and not set(listed) - used, f"commands of --help without a row: {set(listed) - used or 'none is listed'}")
+    tally.note(f"{sum(count for count, _ in counts.values()):,} in {len(counts)} rows")
+
+
+ABOUT, STORE = "the instructions of each command, beside the stored numbers", flag("store", "store the new numbers")
+TESTS = [Test("instructions", ABOUT, instructions, ("valgrind",), crates_of("elfmap"), options=(STORE,))]

@@ -1,0 +1,226 @@
+"""`tools/test real-files` and `tools/test real-objects`: files of this machine. A part of them is tried, the same each time: those whose
+paths have the least sums. `--all` tries each."""
+
+import hashlib, mmap, os, re, shutil, struct, tempfile
+from argparse import Namespace
+from collections import Counter
+from collections.abc import Iterable, Iterator
+from concurrent.futures import ThreadPoolExecutor
+from functools import partial
+from typing import Any
+
+from .building import output_of
+from .reference import GROUP, NOBITS, NULL, REL, RELA, SYMTAB, SYMTAB_SHNDX, File
+from .suite import Tally, Test, crates_of, flag, number
+from .tree import PROCESSORS, PROGRAM, TOP, files_below, read_bytes, run, write
+
+ELF_64 = b"\x7fELF\x02"
+
+
+def some(paths: Iterable[str], options: Namespace) -> list[str]:
+    """So many of these paths, those of the least sums."""
+    ordered = sorted(paths, key=lambda it: hashlib.sha256(it.encode(errors="surrogateescape")).digest())
+    return ordered if options.all else ordered[: options.count]
+
+
+def begins_as(path: str, front: bytes) -> bool:
+    try:
+        with open(path, "rb") as it:
+            return it.read(len(front)) == front
+    except OSError:
+        return False
+
+
+# ---- whole files
+
+
+def files() -> Iterator[str]:
+    """Each file once, by its device and number, that begins as an ELF file of class 64 does."""
+    seen = set()
+    for path in (path for top in ("/usr/bin", "/usr/lib") for path in files_below(top)):
+        about = os.stat(path)
+        if (about.st_dev, about.st_ino) not in seen and begins_as(path, ELF_64):
+            seen.add((about.st_dev, about.st_ino))
+            yield path
+
+
+def try_file(path: str) -> str:
+    """What became of one file: 'accepted', 'refused', or what is wrong."""
+    check = run(PROGRAM, "check", "--", path)
+    if check.returncode == 1 and check.stdout.startswith(b"refused "):
+        return "refused"
+    if check.returncode or not check.stdout.startswith(b"ok "):
+        return f"{path}: check ended with status {check.returncode}: {check.stdout[:80]!r} {check.stderr[:80]!r}"
+    show = run(PROGRAM, "show", "--", path)
+    if show.returncode:
+        return f"{path}: show ended with status {show.returncode}"
+    back = run(output_of("example_edit"), path)
+    return "accepted" if back.returncode == 0 and back.stdout == read_bytes(path) else f"{path}: example_edit does not give it back"
+
+
+def count_ends(tally: Tally, ends: list[str], good: Iterable[str]) -> None:
+    """Counts how files ended, and prints how many did how."""
+    counts = Counter(ends)
+    tally.count(len(ends), [it for it in ends if it not in good])
+    tally.note(", ".join(f"{counts[it]} {it}" for it in sorted(good) if counts[it]))
+
+
+def real_files(tally: Tally, options: Namespace) -> None:
+    with ThreadPoolExecutor(PROCESSORS) as pool:
+        count_ends(tally, list(pool.map(try_file, some(files(), options))), {"accepted", "refused"})
+
+
+# ---- objects
+
+
+Place = tuple[str, int, int]
+
+
+def members(path: str) -> Iterator[Place]:
+    """The members of an archive, as `ar` makes it, that are ELF files of class 64, each as its place in the file; none of another file."""
+    with open(path, "rb") as file, mmap.mmap(file.fileno(), 0, access=mmap.ACCESS_READ) as data:
+        at = 8
+        while data[:8] == b"!<arch>\n" and at + 60 <= len(data):
+            size = int(data[at + 48 : at + 58])
+            if data[at + 60 : at + 65] == ELF_64:
+                yield path, at + 60, size
+            at += 60 + size + size % 2
+
+
+def objects_of(path: str) -> list[Place]:
+    """The objects in a file: it, or the members of an archive."""
+    try:
+        if path.endswith(".a"):
+            return list(members(path))
+        with open(path, "rb") as it:
+            front = it.read(18)
+        return [(path, 0, os.path.getsize(path))] if front[:5] == ELF_64 and front[16:18] in (b"\1\0", b"\0\1") else []
+    except (OSError, ValueError):
+        return []
+
+
+def content_of(place: Place) -> bytes:
+    with open(place[0], "rb") as it:
+        it.seek(place[1])
+        return it.read(place[2])
+
+
+SOURCES = ("main.c", "part.c", "templates.cc", "many.s")
+# Several ways of compiling, with debugging sections and many sections among them.
+WAYS = ("-O0", "-O2 -g", "-Os -ffunction-sections -fdata-sections", "-O2 -fPIC -fcommon")
+
+
+def compiled(folder: str) -> Iterator[str]:
+    """What the compilers make of the sources."""
+    for name in SOURCES[:3]:
+        shutil.copy(f"{TOP}/cases/sources/{name}", folder)
+    write(f"{folder}/many.s", "".join(f'.section s{i},"ax"\nnop\n' for i in range(500)))
+    for way, compiler, name in ((way, compiler, name) for way in range(len(WAYS)) for compiler in ("gcc", "clang") for name in SOURCES):
+        out = f"{folder}/{name}.{compiler}.{way}.o"
+        if run(compiler, *WAYS[way].split(), "-c", f"{folder}/{name}", "-o", out).returncode == 0:
+            yield out
+
+
+def sections(data: bytes) -> list[tuple[int, Any]]:
+    """The sections that an object keeps: of each its index, and name, type, flags, address, alignment, entry size and content."""
+    f = File(data)
+    left_out = {0, f.name_table} | {i for i, it in f.sections() if it.sh_type in (NULL, SYMTAB, SYMTAB_SHNDX)}
+    left_out |= {it.sh_link for _, it in f.sections() if it.sh_type == SYMTAB}
+    names = f.content(f.name_table) if f.name_table else b"\0"
+
+    def own(i: int, it: Any) -> object:
+        # Entries and words hold indexes: readelf lists these.
+        content = it.sh_size if it.sh_type in (NOBITS, RELA, REL, GROUP) else f.content(i)
+        name = names[it.sh_name :].partition(b"\0")[0]
+        return name, it.sh_type, it.sh_flags, it.sh_addr, it.sh_addralign, it.sh_entsize, content
+
+    return [(i, own(i, it)) for i, it in f.sections() if i not in left_out]
+
+
+def listed(path: str, data: bytes) -> list[str]:
+    """What readelf lists of symbols, relocations and groups, with positions for section indexes and without offsets; symbol 0 and the heads
+    of tables left out, since an object without a symbol table gets one."""
+    position = {index: place for place, (index, _) in enumerate(sections(data))}
+    lines = []
+    for line in run("readelf", "-W", "-s", "-r", "-g", path).stdout.decode("utf-8", "replace").splitlines():
+        words = line.split()
+        if not words or words[0] in ("Symbol", "Num:", "0:"):
+            continue
+        if len(words) > 6 and words[0].rstrip(":").isdigit() and words[6].isdigit():
+            words[6] = f"@{position.get(int(words[6]), 'none')}"
+            line = " ".join(words)
+        line = re.sub(r"\[ *(\d+)\]", lambda it: f"@{position.get(int(it[1]), 'none')}", line)
+        lines.append(re.sub(r" at offset 0x[0-9a-f]+", "", line))
+    return lines
+
+
+def findings(path: str) -> Counter[str]:
+    """What eu-elflint finds, without numbers."""
+    lines = run("eu-elflint", "--gnu-ld", path).stdout.decode("utf-8", "replace").splitlines()
+    return Counter(re.sub(r"\d+", "N", it) for it in lines if it != "No errors")
+
+
+def wrong_rewrite(before: str, after: str, data: bytes, written: bytes) -> str:
+    """What is wrong with what was written for an object."""
+    if run(PROGRAM, "check", after).returncode:
+        return "what is written is refused"
+    if run(PROGRAM, "rewrite", after).stdout != written:
+        return "what is written is not itself when it is written again"
+    if [it for _, it in sections(data)] != [it for _, it in sections(written)]:
+        return "other sections"
+    if listed(before, data) != listed(after, written):
+        return "readelf lists other symbols, relocations or groups"
+    more = findings(after) - findings(before)
+    return f"eu-elflint finds more: {more}" if more else ""
+
+
+def try_object(folder: str, numbered: tuple[int, Place]) -> str:
+    """What became of one object: 'written', 'refused by rule N', or what is wrong."""
+    count, place = numbered
+    data, name = content_of(place), f"{place[0]}({place[1]})"
+    before, after = write(f"{folder}/{count}.before", data), f"{folder}/{count}.after"
+    first = run(PROGRAM, "rewrite", before)
+    refused = re.fullmatch(rb"refused (\d+) \d+\n", first.stderr)
+    wrong = f"rewrite ended with status {first.returncode}: {first.stderr[:80]!r}" if first.returncode or first.stderr else ""
+    if not wrong:
+        wrong = wrong_rewrite(before, write(after, first.stdout), data, first.stdout)
+        os.remove(after)
+    os.remove(before)
+    if first.returncode == 1 and refused and not first.stdout:
+        return f"refused by rule {refused[1].decode()}"
+    return f"{name}: {wrong}" if wrong else "written"
+
+
+def linked(folder: str) -> Iterator[str]:
+    """Programs of two files that went through `rewrite`, linked and run: each prints what it printed before."""
+    for way in range(len(WAYS)):
+        prints = []
+        for is_rewritten in (False, True):
+            parts = [f"{folder}/{name}.gcc.{way}.o" for name in SOURCES[:2]]
+            if is_rewritten:
+                parts = [write(f"{it}.after.o", run(PROGRAM, "rewrite", it).stdout) for it in parts]
+            made = run("gcc", "-no-pie", *parts, "-o", f"{folder}/program")
+            prints.append((made.returncode, made.stderr if made.returncode else run(f"{folder}/program").stdout))
+        if prints[0] != prints[1] or prints[0][0]:
+            yield f"a program of rewritten files prints another text: {prints}"
+
+
+def real_objects(tally: Tally, options: Namespace) -> None:
+    with tempfile.TemporaryDirectory(prefix="elfmap-objects.") as folder:
+        below = [it for it in files_below("/usr/lib") if it.endswith((".o", ".a"))]
+        found = {f"{path}({at})": (path, at, size) for it in below for path, at, size in objects_of(it)}
+        objects = [place for path in compiled(folder) for place in objects_of(path)] + [found[it] for it in some(found, options)]
+        with ThreadPoolExecutor(PROCESSORS) as pool:
+            ends = list(pool.map(partial(try_object, folder), enumerate(objects)))
+        count_ends(tally, ends, {"written", *(it for it in ends if re.fullmatch(r"refused by rule \d+", it))})
+        tally.count(len(WAYS), linked(folder))
+
+
+ROUNDTRIP, ELFMAP = crates_of("elfmap", "example_edit"), crates_of("elfmap")
+TOOLS = ("gcc", "g++", "clang", "readelf", "eu-elflint")
+FILES, OBJECTS = ((number("count", it, "so many of them"), flag("all", "all of this machine")) for it in (2000, 4000))
+ABOUT = "objects of this machine and its compilers through `rewrite`, beside readelf and eu-elflint"
+TESTS = [
+    Test("real-files", "ELF files of this machine through `check`, `show` and back", real_files, (), ROUNDTRIP, True, options=FILES),
+    Test("real-objects", ABOUT, real_objects, TOOLS, ELFMAP, True, options=OBJECTS),
+]

@@ -1,0 +1,256 @@
+"""Mutation tests: the check has to refuse each bug, at the function that it is planted in.
+
+A bug is a paragraph of crates/CRATE/mutations.txt: `[NAME]`, `function: PATH`, the function as the check names it, without the crate, which
+must not be proved with the bug, and the lines of an edit, `file:`, `old:` and `new:`. Bugs are planted several at a time, each in a function
+of its own. If a check cannot tell, because all that it has against a function is that it calls another one that is open too, or because
+proof files name what the bug took away, the next check decides, and at last one of this bug alone.
+
+A check reads only the functions that have a bug, and those that they call: that is why it takes less than `rt ci` does for an edit in
+must-fail/, which costs a check of its crate. In the gate only those with the line `gate: yes` are planted, over the libraries as `rt ci` has
+just left them. A library of the program that has none of them, and no edit in must-fail/ either, has failed: nothing shows there that its
+contracts refuse a wrong body."""
+
+import os, re, shutil, tempfile
+from argparse import Namespace
+from collections.abc import Iterable
+from concurrent.futures import ThreadPoolExecutor, as_completed
+
+from .kit import FolderOf, built_below, gate_folder, kit, said_by, words
+from .suite import Tally, Test, flag
+from .tree import PROCESSORS, TOP, below, libraries, read_text, write
+
+
+class Edit:
+    """A bug of mutations.txt, or an edit of must-fail/, which names no function."""
+
+    def __init__(self, crate: str, name: str, lines: list[str], is_bug: bool) -> None:
+        self.crate, self.name, self.is_bug = crate, name, is_bug
+        self.pairs, self.function, self.is_for_gate = list[tuple[str, str, str]](), "", False
+        file = old = ""
+        for key, _, text in (line.partition(":") for line in lines):
+            text = text.removeprefix(" ")
+            if key == "function":
+                self.function = f"{crate}::{text}"
+            elif key == "gate":
+                self.is_for_gate = text == "yes"
+            elif key == "file":
+                file = text
+            elif key == "old":
+                old = text
+            elif key == "new":
+                self.pairs.append((file, old, text))
+
+    def texts(self, folder: str) -> tuple[dict[str, str], str]:
+        """What it makes of the crate's texts in this folder, by file; or why it can't be planted."""
+        made: dict[str, str] = {}
+        for file, old, new in self.pairs:
+            if file not in made:
+                if not os.path.isfile(f"{folder}/{file}"):
+                    return {}, f"there is no file {file}"
+                made[file] = read_text(f"{folder}/{file}")
+            if made[file].count(old) != 1:
+                return {}, f"an 'old:' text stands {made[file].count(old)} times in {file}, and not once"
+            made[file] = made[file].replace(old, new)
+        if not self.pairs or self.is_bug and not self.function:
+            return {}, "it has no 'function:' line, or no pair"
+        return made, ""
+
+    def plant(self, folder: str) -> str:
+        """Changes the crate's text, or says why it can't be changed so."""
+        made, why = self.texts(folder)
+        for file, text in made.items():
+            write(f"{folder}/{file}", text)
+        return why
+
+
+def bugs_of(crate: str) -> list[Edit]:
+    """The bugs in the list of a crate."""
+    path = f"{TOP}/crates/{crate}/mutations.txt"
+    paragraphs: dict[str, list[str]] = {}
+    for line in read_text(path).split("\n") if os.path.isfile(path) else []:
+        if line.startswith("[") and line.endswith("]"):
+            name = line[1:-1]
+            if name in paragraphs:
+                raise SystemExit(f"{path}: [{name}] stands twice")
+            paragraphs[name] = []
+        elif line:
+            paragraphs[name].append(line)
+    return [Edit(crate, name, lines, True) for name, lines in paragraphs.items()]
+
+
+def must_fail_of(crate: str) -> list[Edit]:
+    """The edits in must-fail/ of a crate."""
+    path = f"{TOP}/crates/{crate}/must-fail"
+    names = sorted(it for it in os.listdir(path) if it.endswith(".edit")) if os.path.isdir(path) else []
+    return [Edit(crate, name, read_text(f"{path}/{name}").split("\n"), False) for name in names]
+
+
+# ---- what the check says of planted bugs
+
+
+def copy_of(crate: str, folder: str) -> None:
+    """Copies a crate's text, and what an earlier check kept of it."""
+    kept = f"{TOP}/crates/{crate}/out/incremental"
+    for part in ("src", "specs", "proofs"):
+        if os.path.isdir(f"{TOP}/crates/{crate}/{part}"):
+            shutil.copytree(f"{TOP}/crates/{crate}/{part}", f"{folder}/{part}")
+    shutil.copytree(f"{folder}/src", f"{folder}/as_it_is")
+    if os.path.isdir(kept):
+        shutil.copytree(kept, f"{folder}/kept")
+    os.makedirs(f"{folder}/kept", exist_ok=True)
+
+
+def check(crate: str, functions: Iterable[str], folder: str, folder_of: FolderOf) -> str:
+    """What the checker says of these functions of the crate as its text in the folder is, and of those that they call."""
+    only = [word for it in functions for word in ("--only", it.removeprefix(f"{crate}::"))]
+    root = "src/lib.rt" if os.path.isfile(f"{folder}/src/lib.rt") else "src/main.rt"
+    return said_by([f"{kit()}/bin/rattle", "check", *words(crate, root, folder_of), "--incremental", "kept", *only], folder)
+
+
+def came_to_its_end(said: str) -> bool:
+    """Whether the checker could read the text and came to its end."""
+    return bool(re.search(r"^only=", said, re.M))
+
+
+def line_of(bug: Edit, said: str) -> str:
+    """What the check says of the bug's function."""
+    lines: list[str] = re.findall(rf"^fn {re.escape(bug.function)}: (.*)$", said, re.M)
+    return lines[0] if lines and came_to_its_end(said) else ""
+
+
+def split_by_lost_names(said: str) -> tuple[list[str], list[str]]:
+    """What the check has against the text: first that proof files name what it no longer has, which says nothing of a contract; then
+    the rest."""
+    told: list[str] = re.findall(r"^(?:note: \S+:\d+:\d+: |\S+:\d+:\d+: error: ).*$", said, re.M)
+    lost = [it for it in told if re.match(r"(\./)?proofs/.*(has no field|is not in scope|has no `|was not admitted)", it)]
+    return lost, [it for it in told if it not in lost]
+
+
+def is_in_proof_of(bug: Edit, told: str) -> bool:
+    """Whether this is told of the proof files of the bug's function."""
+    return f"proofs/{bug.function.removeprefix(f'{bug.crate}::').replace('::', '/')}/" in told
+
+
+def verdict(bug: Edit, said: str, others: Iterable[Edit]) -> str:
+    """ "refused", or why not; nothing if other bugs that were planted too leave it open."""
+    line = line_of(bug, said)
+    if not line:
+        return f"the check came to no verdict on {bug.function}: {said.strip()[-300:]}"
+    if line == "proved":
+        return "NOT REFUSED: its function is still proved"
+    lost, rest = split_by_lost_names(said)
+    others = list(others)
+    if others:
+        # A proof takes the functions that it calls by their contracts: what the check doesn't prove of this one is due to its own text.
+        is_own = "it calls" not in line or "did not prove" in line
+        is_lost = any(not any(is_in_proof_of(other, it) for other in others) for it in lost)
+        return "refused" if is_own and not is_lost else ""
+    if lost and not rest:
+        return "NOT REFUSED: proof files name what it took away, and no more"
+    # What it calls and is open has to be a closure in it: no other function of the text has a bug.
+    inside = f"::{bug.function.rsplit('::', 1)[1]}::"
+    is_own = "it calls" not in line or any(inside in name for name in re.findall("`([^`]+)`", line))
+    return "refused" if is_own else "NOT REFUSED: another function than its own is open"
+
+
+# ---- many bugs
+
+
+def pick(bugs: list[Edit]) -> list[Edit]:
+    """As many of the bugs as are in different functions and take no text from one another."""
+    taken: set[object] = set()
+    picked = []
+    for bug in bugs:
+        places: set[object] = {bug.function, *((file, old) for file, old, _ in bug.pairs)}
+        if not taken & places:
+            taken |= places
+            picked.append(bug)
+    return picked
+
+
+def planted(picked: list[Edit], folder: str, folder_of: FolderOf) -> dict[Edit, str]:
+    """How each of these bugs ended, planted together; nothing for one that is still open."""
+    alone = len(picked) == 1
+    whys = {bug: bug.plant(folder) for bug in picked}
+    # What another bug made of the text may be why one can't be planted: it waits for its turn.
+    if not alone:
+        whys = {bug: why for bug, why in whys.items() if not why}
+    said = "" if any(whys.values()) else check(picked[0].crate, [bug.function for bug in whys], folder, folder_of)
+    # A text that the check can't read says nothing of the other bugs in it: each is planted alone.
+    if not alone and not came_to_its_end(said):
+        return {}
+    return {bug: why or verdict(bug, said, whys.keys() - {bug}) for bug, why in whys.items()}
+
+
+def try_all(left: list[Edit], folder_of: FolderOf) -> list[tuple[Edit, str]]:
+    """Tries the bugs of a crate, as many at a time as it can: how each ended."""
+    ends: list[tuple[Edit, str]] = []
+    alone = False
+    with tempfile.TemporaryDirectory(prefix="mutations-") as folder:
+        copy_of(left[0].crate, folder)
+        while left:
+            shutil.rmtree(f"{folder}/src")
+            shutil.copytree(f"{folder}/as_it_is", f"{folder}/src")
+            ended = planted(left[:1] if alone else pick(left), folder, folder_of)
+            ends += [(bug, end) for bug, end in ended.items() if end]
+            alone = not any(ended.values())
+            left = [bug for bug in left if not ended.get(bug)]
+    return ends
+
+
+def plant_all(tally: Tally, bugs: list[list[Edit]], folder_of: FolderOf) -> None:
+    """Tries the bugs of these crates, some crates at a time."""
+    with ThreadPoolExecutor(min(4, PROCESSORS)) as pool:
+        for tried in as_completed([pool.submit(try_all, those, folder_of) for those in bugs]):
+            ends = sorted(tried.result(), key=lambda end: end[0].name)
+            tally.count(len(ends), (f"{bug.crate}: {bug.name}: {end}" for bug, end in ends if end != "refused"))
+            tally.note(f"{ends[0][0].crate}: {sum(end == 'refused' for _, end in ends)} of {len(ends)} refused")
+
+
+def fit_all(tally: Tally, crates: Iterable[str]) -> None:
+    """Whether the edits, those of must-fail/ too, fit the texts that they change."""
+    for crate in crates:
+        for edit in must_fail_of(crate) + bugs_of(crate):
+            why = edit.texts(f"{TOP}/crates/{crate}")[1]
+            tally.check(not why, f"{crate}: {edit.name}: {why}")
+
+
+def has_wrong_body(crate: str) -> bool:
+    """Whether the gate tries a wrong body of this library."""
+    return bool(must_fail_of(crate)) or any(it.is_for_gate for it in bugs_of(crate))
+
+
+def mutations(tally: Tally, options: Namespace) -> None:
+    crates = options.crates or sorted(libraries())
+    unknown = [it for it in crates if it not in libraries()]
+    if unknown:
+        return tally.fail(f"no crate of crates.txt: {' '.join(unknown)}")
+    if options.fit:
+        fit_all(tally, crates)
+    else:
+        everything = options.all or bool(options.crates)
+        bugs = [[it for it in bugs_of(crate) if it.is_for_gate or everything] for crate in crates]
+        bugs = [it for it in bugs if it]
+        folder_of, lacking = built_below([it[0].crate for it in bugs]) if everything else (gate_folder, [])
+        if lacking:
+            return tally.fail(f"not built: {' '.join(lacking)}; `tools/dev prove CRATE` builds the libraries below a crate")
+        plant_all(tally, bugs, folder_of)
+    if not options.crates:
+        for crate in below("elfmap"):
+            why = "nothing in must-fail/, and no bug with 'gate: yes': the gate tries no wrong body of it"
+            tally.check(has_wrong_body(crate), f"{crate}: {why}")
+
+
+TESTS = [
+    Test(
+        "mutations",
+        "the check refuses each bug of mutations.txt with 'gate: yes'; of CRATE.., or with --all of every crate, each bug",
+        mutations,
+        alone=True,
+        options=(
+            flag("all", "plant all bugs"),
+            flag("fit", "plant none: only say whether each edit fits the text that it changes"),
+            ("crates", {"nargs": "*", "metavar": "CRATE", "help": "the crates whose bugs are planted, all of them"}),
+        ),
+    )
+]

@@ -1,0 +1,153 @@
+"""Checks of the texts of crates/ that need nothing built: `tools/test names`, `must-not-compile` and `launcher`."""
+
+import collections, glob, os, re, shutil, tempfile
+from argparse import Namespace
+from collections.abc import Iterator
+
+from .suite import Tally, Test
+from .tree import TOP, below, crate_lines, read_text, run, said, write
+
+# ---- names: one name of a definition means one thing in the whole repository
+
+# A definition begins a line with its kind, or, as laws do, with its name and its type; a constructor has a line of its own.
+DEFINITIONS = re.compile(r"^(?:pub )?(?:abbrev|unfoldable|record|data) (?:pub )?([^\s(:]+)|^(?:pub )?([^\s(:]+) :", re.M)
+DATA = re.compile(r"^(?:pub )?data .*\n((?:  .*\n)+)", re.M)
+CONSTRUCTORS = re.compile(r"^  ([^\s(:]+) :", re.M)
+
+
+def names_in(text: str) -> Iterator[tuple[str, int]]:
+    """The names that a file of definitions has, each with its offset."""
+    for found in DEFINITIONS.finditer(text):
+        yield found[1] or found[2], found.start()
+    for block in DATA.finditer(text):
+        for found in CONSTRUCTORS.finditer(text, block.start(1), block.end(1)):
+            yield found[1], found.start()
+
+
+def names(tally: Tally, options: Namespace) -> None:
+    places = collections.defaultdict(list)
+    for path in sorted(glob.glob("crates/*/specs/**/*.antt", root_dir=TOP, recursive=True)):
+        text = read_text(path)
+        for name, offset in names_in(text):
+            places[name].append((path, text.count("\n", 0, offset) + 1))
+    several = {name: own for name, own in sorted(places.items()) if len({path.split("/")[1] for path, _ in own}) > 1}
+    for name, own in several.items():
+        tally.fail(f"{name}: {', '.join(f'{path}:{line}' for path, line in own)}")
+    tally.check(places and not several, "a name is defined in more than one crate")
+
+
+# ---- must-not-compile: what borrows from a file's bytes must not outlive them
+
+CRATE_HEAD = "//! What must not outlive the bytes of its file: none of this compiles.\n#![tactic(auto)]\n\n"
+CASE = """//! It borrows from bytes that are gone when it is out.
+use elf_image_type::parse;
+{uses}
+use std::alloc::Global;
+
+pub fn gone<'a>(alloc: Global) -> Option<{kind}> {{
+    let mut bytes = [0u8; 64];
+    bytes[0] = 0x7f;
+    match parse(alloc, &bytes) {{
+        Ok(image) if image.section_count() > 0 => {body},
+        _ => None,
+    }}
+}}
+"""
+# A file of the crate: what goes out, its type, what it uses, and how it is had of an image of bytes that are the function's own.
+CASES = (
+    ("content", "&'a [u8]", "", "Some(image.content(0))"),
+    ("name", "&'a [u8]", "", "Some(image.name(0))"),
+    ("image", "elf_image_type::Image<'a>", "", "Some(image)"),
+    ("symbols", "Symbols<'a>", "use elf_table_symbols::Symbols;", "Symbols::new(&image, 0).ok()"),
+    ("strings", "Strings<'a>", "use elf_table_symbols::Strings;", "Strings::new(&image, 0).ok()"),
+    ("notes", "Notes<'a>", "use elf_table_lists::Notes;", "Notes::new(&image, 0).ok()"),
+    ("dynamic", "Dynamic<'a>", "use elf_table_lists::Dynamic;", "Dynamic::new(&image, 0).ok()"),
+    ("group", "Group<'a>", "use elf_table_lists::Group;", "Group::new(alloc, &image, 0).ok()"),
+    ("object", "Object<'a>", "use elf_object_reader::object_of; use elf_object_type::Object;", "object_of(alloc, &image).ok()"),
+)
+
+
+def must_not_compile(tally: Tally, options: Namespace) -> None:
+    """The crate is made in a copy of the repository; the check has to have an error of the borrow checker in each of its files."""
+    direct = sorted(set(re.findall(r"use (elf_\w+)::", " ".join([CASE, *(uses for _, _, uses, _ in CASES)]))))
+    needs = list(dict.fromkeys(it for crate in direct for it in [*below(crate), crate]))
+    with tempfile.TemporaryDirectory(prefix="must-not-compile-") as copy:
+        shutil.copy(f"{TOP}/HANDLES", copy)
+        for it in needs:
+            shutil.copytree(f"{TOP}/crates/{it}", f"{copy}/crates/{it}", ignore=shutil.ignore_patterns("out"))
+        lines = [f"{' '.join(head)}: {' '.join(rest)}" for head, rest in crate_lines() if head[0] in needs]
+        write(f"{copy}/crates.txt", "\n".join([*lines, f"outlives: {' '.join(direct)}", ""]))
+        source = f"{copy}/crates/outlives/src"
+        os.makedirs(source)
+        write(f"{source}/lib.rt", CRATE_HEAD + "".join(f"pub mod {name};\n" for name, *_ in CASES))
+        for name, kind, uses, body in CASES:
+            write(f"{source}/{name}.rt", CASE.format(kind=kind, uses=uses, body=body))
+        output = said("rt", "check", folder=f"{copy}/crates/outlives").stdout
+    for name, *_ in CASES:
+        tally.check(re.search(rf"{name}\.rt:.*borrow-e0(505|515|597)", output), f"the borrow checker did not refuse {name}")
+    if tally.failed:
+        tally.note(output[-2000:])
+
+
+# ---- launcher: what ./elfmap builds and runs for which words
+
+# A stand-in for tools/dev whose programs print their name and their words.
+DEV = """#!/bin/sh
+top=${0%/tools/dev}
+echo "$2" >> "$top/built"
+if [ -e "$top/changes" ]; then "$top/replace"; fi
+if [ -e "$top/fails" ]; then exit 1; fi
+printf '#!/bin/sh\\necho "%s" "$@"\\n' "$2" > "$top/crates/$2/out/$2"
+chmod +x "$top/crates/$2/out/$2"
+"""
+# As git and most editors write a file. A file's time counts in steps of some milliseconds.
+REPLACE = """#!/bin/sh
+cd "${0%/*}/crates/elf_field/src" && sleep 0.1 && cp lib.rt lib.rt.new && mv lib.rt.new lib.rt
+"""
+# Of each call its status, what is built, what is printed, and its words; a word in capitals is done before it.
+CALLS = (
+    (0, "elfmap_check", "elfmap_check check a.o", "check a.o"),
+    (0, "-", "elfmap_check check -- -a.o", "check -- -a.o"),
+    (0, "elfmap", "elfmap check", "check"),
+    (0, "-", "elfmap check a.o", "check a.o"),
+    (0, "-", "elfmap show a.o", "show a.o"),
+    # What is changed while a program is built is in no program: the next call builds again.
+    (0, "elfmap_check", "elfmap_check check a.o", "CHANGES check a.o"),
+    (0, "elfmap_check", "elfmap_check check a.o", "STEADY check a.o"),
+    (0, "-", "elfmap_check check a.o", "check a.o"),
+    (0, "elfmap", "elfmap", ""),
+    (3, "elfmap", "", "FAILS show a.o"),
+)
+
+
+def launcher(tally: Tally, options: Namespace) -> None:
+    with tempfile.TemporaryDirectory(prefix="launcher-") as tree:
+        os.makedirs(f"{tree}/tools")
+        os.makedirs(f"{tree}/crates/elf_field/src")
+        shutil.copy(f"{TOP}/elfmap", tree)
+        write(f"{tree}/crates/elf_field/src/lib.rt", "\n")
+        for path, text in ((f"{tree}/tools/dev", DEV), (f"{tree}/replace", REPLACE)):
+            os.chmod(write(path, text), 0o755)
+        os.symlink(f"{tree}/elfmap", f"{tree}/link")
+        for status, built, output, words in CALLS:
+            given = words.split()
+            before = given.pop(0) if given and given[0].isupper() else ""
+            if before == "STEADY":
+                os.remove(f"{tree}/changes")
+            elif before:
+                write(f"{tree}/{before.lower()}", "")
+                run(f"{tree}/replace")
+            write(f"{tree}/built", "")
+            ended = run(f"{tree}/link", *given, folder="/")
+            found = (ended.returncode, read_text(f"{tree}/built").strip() or "-", ended.stdout.decode().strip())
+            tally.check(found == (status, built, output), f"elfmap {words}: {found}, and not {(status, built, output)}")
+    # It looks at the times of these folders alone.
+    inner = [it for it in glob.glob(f"{TOP}/crates/elf*/src/*") if os.path.isdir(it)]
+    tally.check(not inner, f"./elfmap does not see changes in {inner}")
+
+
+TESTS = [
+    Test("names", "each name of a definition is in one crate", names),
+    Test("must-not-compile", "what borrows from a file's bytes and outlives them is refused by the borrow checker", must_not_compile),
+    Test("launcher", "what ./elfmap builds and runs for which words", launcher),
+]

@@ -1,0 +1,68 @@
+"""The commands that tests start, the Debian packages that have them, and `tools/test setup`, which installs those that are missing."""
+
+import glob, os, re, shutil, subprocess, sys
+from collections.abc import Iterable
+
+from .tree import run
+
+KLIBC = "/usr/lib/klibc/lib/libc.a"
+# Debian's clang brings its checks of addresses and of undefined behavior only as a recommended package.
+SANITIZERS = "/usr/lib/llvm-*/lib/clang/*/lib/linux/libclang_rt.asan-x86_64.a"
+# The commands of each package, by their first words, or a file that has to be there.
+COMMANDS = {
+    "binutils": "ar as ld nm objcopy readelf", "binaryen": "wasm-opt", "black": "black", "cargo-web": "cargo", "chromium": "chromium",
+    "clang": "clang", "elfutils": "eu-elflint", "g++": "c++ g++", "gcc": "cc gcc", "git": "git", "groff": "groff",
+    "libclang-rt-14-dev": SANITIZERS, "libklibc-dev": KLIBC, "lld": "ld.lld", "llvm": "llvm-objcopy", "man-db": "man", "mypy": "mypy",
+    "nodejs": "node", "pkg-config": "pkg-config", "rustc-web": "rustc", "valgrind": "valgrind",
+}  # fmt: skip
+PACKAGES = {command: package for package, commands in COMMANDS.items() for command in commands.split()}
+# The machines of rules/, by the names of qemu's program and of the compiler.
+MACHINES = {"aarch64": "aarch64", "riscv64": "riscv64", "s390x": "s390x", "ppc64": "powerpc64"}
+for qemu, target in MACHINES.items():
+    PACKAGES |= {f"{target}-linux-gnu-gcc": f"gcc-{target}-linux-gnu", f"{target}-linux-gnu-ld": f"gcc-{target}-linux-gnu"}
+    PACKAGES[f"qemu-{qemu}"] = "qemu-user"
+# The first cargo that has the edition of the crate in bindings/rust.
+LEAST = {"cargo": (1, 85)}
+
+
+def is_there(command: str) -> bool:
+    """Whether a command, or a file, is on this machine, and not too old."""
+    if command.startswith("/"):
+        return bool(glob.glob(command))
+    if not shutil.which(command) or command not in LEAST:
+        return shutil.which(command) is not None
+    version = re.search(rb"(\d+)\.(\d+)", run(command, "--version").stdout)
+    return version is not None and (int(version[1]), int(version[2])) >= LEAST[command]
+
+
+def missing(commands: Iterable[str]) -> list[str]:
+    return [it for it in commands if not is_there(it)]
+
+
+def words_of(lacking: Iterable[str]) -> str:
+    """What to say of missing commands: the package of each, and how to get it."""
+    return ", ".join(f"there is no {it} (package {PACKAGES[it]})" for it in lacking) + "; `tools/test setup` installs it"
+
+
+def setup(commands: Iterable[str]) -> bool:
+    """Installs the packages of the commands that are missing: whether all are there then."""
+    lacking = missing(commands)
+    packages = sorted({PACKAGES[it] for it in lacking})
+    if not packages:
+        return True
+    if not shutil.which("apt-get"):
+        print(f"setup: there is no apt-get, which would install {' '.join(packages)}", file=sys.stderr)
+        return False
+    words = [] if os.geteuid() == 0 else ["sudo"]
+    words += ["env", "DEBIAN_FRONTEND=noninteractive", "apt-get"]
+    subprocess.run([*words, "update"], stdin=subprocess.DEVNULL, stdout=subprocess.DEVNULL)
+    print(f"setup: installs {' '.join(packages)}", flush=True)
+    install = [*words, "install", "-y", "--no-install-recommends"]
+    if subprocess.run([*install, *packages], stdin=subprocess.DEVNULL, stdout=subprocess.DEVNULL).returncode:
+        # One package that can't be had keeps none of the others away.
+        for it in packages:
+            subprocess.run([*install, it], stdin=subprocess.DEVNULL, stdout=subprocess.DEVNULL)
+    left = missing(lacking)
+    if left:
+        print(f"setup: still {words_of(left)}", file=sys.stderr)
+    return not left

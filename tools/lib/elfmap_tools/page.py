@@ -1,0 +1,119 @@
+"""`tools/release page`: a page for a browser on which a file is dropped, and that shows its verdict and what each of its bytes belongs to. It
+is one file, which needs no network: the library for C as a WebAssembly module, and the scripts of page/.
+
+The module is made of the same proved crates as the library for C: the kit's compiler makes it for a memory of 64-bit addresses, which not
+every browser has, and wasm-opt (of binaryen) lowers it to one of 32-bit addresses."""
+
+import argparse, base64, json, os, re, shutil, tempfile
+from typing import Any
+
+from .browser import Browser
+from .explain import rule_words
+from .kit import built_below, is_current, kit, words
+from .library import VERDICTS as CRATE, wanted
+from .tree import TOP, read_bytes, read_text, write
+
+Structs = dict[str, dict[str, Any]]
+TARGET = "wasm64-unknown-unknown"
+OUT = f"{TOP}/crates/{CRATE}/out"
+MODULE = f"{OUT}/{CRATE}.wasm"
+LOWERED = "--enable-memory64 --enable-bulk-memory --enable-sign-ext --enable-nontrapping-float-to-int --enable-mutable-globals".split()
+LOWERED += ["--enable-multivalue", "--memory64-lowering"]
+WIDTHS = {"uint8_t": 1, "uint16_t": 2, "uint32_t": 4, "uint64_t": 8, "int64_t": 8}
+# What is proved of images: other commands answer the rules of tables, objects and links.
+IMAGE_RULES = range(1, 34)
+
+
+def module() -> str:
+    """The path of the module, which is made where it is older than the library's texts."""
+    if is_current(CRATE, MODULE):
+        return MODULE
+    folder_of, lacking = built_below([CRATE])
+    if lacking:
+        raise SystemExit(f"page: tools/dev prove {CRATE} builds {', '.join(lacking)} first")
+    if not shutil.which("wasm-opt"):
+        raise SystemExit("page: there is no wasm-opt, of the package binaryen")
+    os.makedirs(OUT, exist_ok=True)
+    target, folder = ["--target", TARGET, "--toolchain", f"{kit()}/toolchain"], f"{TOP}/crates/{CRATE}"
+    wanted(f"{kit()}/bin/rattle", "build", *words(CRATE, "src/lib.rt", folder_of), *target, "-o", f"{OUT}/wide.a", folder=folder)
+    wanted(f"{kit()}/bin/rattle-link", *target, "-o", f"{OUT}/wide.wasm", f"{OUT}/wide.a", folder=folder)
+    wanted("wasm-opt", *LOWERED, f"{OUT}/wide.wasm", "-o", MODULE)
+    return MODULE
+
+
+# ---- what the page's scripts are given
+
+
+def field_of(kind: str, name: str, count: str, at: int, structs: Structs) -> tuple[dict[str, Any], int]:
+    """A field at the first offset from `at` on that fits it, and its alignment."""
+    if kind.startswith("struct "):
+        inner = structs[kind[7:]]
+        width, align, more = inner["size"], inner["align"], dict[str, Any](struct=kind[7:])
+    else:
+        width, align, more = WIDTHS[kind], WIDTHS[kind], dict[str, Any]()
+    at = -(-at // align) * align
+    more |= {"count": int(count)} if count else {}
+    more |= {"signed": True} if kind.startswith("int") else {}
+    return {"name": name, "at": at, "width": width, **more}, align
+
+
+def layout() -> Structs:
+    """The structs of include/elfmap.h: the size of each, and its fields with their offsets, as C lays them out."""
+    header = re.sub(r"/\*.*?\*/", "", read_text("include/elfmap.h"), flags=re.S)
+    structs: Structs = {}
+    for tag, body in re.findall(r"^struct (\w+) \{(.*?)^\};", header, re.M | re.S):
+        if "void *" in body:
+            continue  # It belongs to the engines, which the page has not.
+        at, widest, fields = 0, 1, list[dict[str, Any]]()
+        for kind, name, count in re.findall(r"((?:struct )?\w+) (\w+)(?:\[(\d+)\])?;", body):
+            field, align = field_of(kind, name, count, at, structs)
+            fields.append(field)
+            at, widest = field["at"] + field["width"] * field.get("count", 1), max(widest, align)
+        structs[tag] = {"size": -(-at // widest) * widest, "align": widest, "fields": fields}
+    return structs
+
+
+def rules() -> dict[int, list[str]]:
+    """Of each rule its name, why a file is refused, and what to do, as docs/RULES.md has them."""
+    found = {}
+    for number in IMAGE_RULES:
+        name, refused, sentence, advice = rule_words(f"image-{number}") or ("", "", "", "")
+        found[number] = [name, *(it.replace("`", "") for it in (f"{refused} {sentence}", advice))]
+    return found
+
+
+def constant(name: str, value: object) -> str:
+    return f"const {name} = {json.dumps(value, separators=(',', ':'))};\n"
+
+
+def page() -> str:
+    code = base64.b64encode(read_bytes(module())).decode("ascii")
+    common = read_text("page/words.js")
+    worker = constant("LAYOUT", layout()) + read_text("page/reader.js") + common + read_text("page/worker.js")
+    script = constant("LAYOUT", layout()) + constant("RULES", rules()) + constant("MODULE", code) + common + read_text("page/draw.js")
+    if "</script" in worker + script:
+        raise SystemExit("page: a script ends its own element")
+    made = read_text("page/page.html")
+    for name, text in (("@STYLE@", read_text("page/style.css")), ("@WORKER@", worker), ("@SCRIPT@", script)):
+        made = made.replace(name, text, 1)
+    return made
+
+
+def main(options: argparse.Namespace) -> int:
+    print(module() if options.module else page(), end="\n" if options.module else "")
+    return 0
+
+
+def picture(options: argparse.Namespace) -> int:
+    """`tools/release page-picture FILE PICTURE.png`: what the page looks like in chromium with a file on it."""
+    with tempfile.TemporaryDirectory(prefix="page-picture-") as room:
+        browser = Browser()
+        try:
+            browser.open(write(f"{room}/elfmap.html", page()))
+            browser.choose("#chosen", os.path.abspath(options.file))
+            if not browser.wait("document.body.dataset.ready"):
+                raise SystemExit(f"page-picture: {options.file} is not shown: {browser.text('#said')}")
+            write(options.picture, browser.screen(1000, 760))
+        finally:
+            browser.close()
+    return 0

@@ -1,0 +1,249 @@
+"""`tools/test page`: the page that `tools/release page` makes.
+
+- In node: what the page's reader says of files of this machine, of cases/ and of changed copies of them is what `elfmap show` prints, line
+  by line, but for the lines of tables that `show` refuses, and those of groups.
+- In chromium, by its debugger: a sound file, a refused one, an empty one, what is no file at all; by keys alone; what the tree for readers
+  of the screen has; that no message is in the console; that an object of 1,000,000 symbols is validated in less than 200 ms."""
+
+import json, os, random, tempfile
+from argparse import Namespace
+
+from .browser import Browser, colours
+from .cases import case_files
+from .library import VERDICTS as CRATE
+from .page import layout, module, page
+from .suite import Tally, Test, crates_of, number
+from .tree import PROGRAM, TOP, read_bytes, said, write
+
+MACHINE_FILES = ["/bin/true", "/bin/ls", "/usr/lib/gcc/x86_64-linux-gnu/12/crtbegin.o"]
+MACHINE_FILES += [f"/usr/lib/x86_64-linux-gnu/{it}" for it in ("crt1.o", "Scrt1.o", "crti.o", "libdl.so.2", "libutil.so.1")]
+LONGEST = 1 << 17
+
+# ---- in node
+
+
+def changed(content: bytes, choose: random.Random) -> bytes:
+    """A copy with a few bytes changed, most of them in its header and tables; or cut."""
+    made = bytearray(content)
+    if choose.random() < 0.1:
+        return bytes(made[: choose.randrange(len(made))])
+    table = int.from_bytes(made[40:48], "big" if made[5] == 2 else "little")
+    for _ in range(choose.choice((1, 1, 2, 4))):
+        from_, to = choose.choice(((0, 64), (table, len(made)), (0, len(made)))) if 0 < table < len(made) else (0, len(made))
+        made[choose.randrange(from_, min(to, len(made)))] = choose.choice((0, 1, 2, 7, 255, choose.randrange(256)))
+    return bytes(made)
+
+
+def changed_files(room: str, whole: list[str], count: int) -> list[str]:
+    choose = random.Random(48)
+    short = [it for it in map(read_bytes, whole) if 64 <= len(it) <= LONGEST]
+    return [write(f"{room}/changed-{k}", changed(choose.choice(short), choose)) for k in range(count)]
+
+
+def comparable(shown: str) -> tuple[list[str], set[str]]:
+    """The lines of `show` without those of groups, and the sections whose tables it refuses."""
+    lines = shown.splitlines()
+    refused = {it.split()[1] for it in lines if it.startswith("refused ") and len(it.split()) == 4}
+    return [it for it in lines if it.split()[0] != "group" and not (it.startswith("refused ") and it.split()[1] in refused)], refused
+
+
+def in_node(tally: Tally, room: str, count: int) -> None:
+    write(f"{room}/layout.json", json.dumps(layout()))
+    os.mkdir(f"{room}/files")
+    contents = dict(case_files())
+    for path in filter(os.path.isfile, MACHINE_FILES):
+        contents.setdefault(read_bytes(path), path.replace("/", "-"))
+    files = [write(f"{room}/files/{name}", content) for content, name in contents.items()]
+    files += changed_files(f"{room}/files", files, count)
+    told: dict[str, list[str]] = {}
+    for k in range(0, len(files), 500):
+        ran = said("node", f"{TOP}/page/lines.js", module(), f"{room}/layout.json", *files[k : k + 500])
+        for it in f"\n{ran.stdout}".split("\n-- ")[1:]:
+            path, _, text = it.partition("\n")
+            told[path] = text.splitlines()
+        if not tally.check(ran.returncode == 0, f"node: {ran.stdout[-600:]}"):
+            return
+    for path in files:
+        lines, refused = comparable(said(PROGRAM, "show", path).stdout)
+        own = [
+            it for it in told[path] if not (it.split()[0] in ("symbol", "reloc", "note", "dynamic", "hash") and it.split()[1] in refused)
+        ]
+        tally.check(own == lines, f"{path}: {[pair for pair in zip(own, lines) if pair[0] != pair[1]][:2] or (len(own), len(lines))}")
+
+
+# ---- in chromium
+
+SYMBOLS = 1_000_000
+MOST_MILLISECONDS = 200
+SOUND = "Sound: this file keeps all 33 rules of an ELF-64 file."
+ROWS = "[...document.querySelectorAll('#table tbody tr')]"
+# What the tree for readers of the screen has: a role and a name.
+READ = (
+    "heading Verdict, heading Map of the file, heading Tables, heading Bytes, tablist Kinds of tables, searchbox Filter, columnheader name"
+)
+SOURCE = 'int limit = 3; int work(int); const char *name(void) { return "answer"; } int answer(int x) { return x < limit ? work(x) : 42; }'
+
+
+class InChromium:
+    """The page in a browser."""
+
+    def __init__(self, tally: Tally, browser: Browser, room: str) -> None:
+        self.check, self.note, self.room = tally.check, tally.note, room
+        self.browser, self.text, self.value, self.click, self.wait = browser, browser.text, browser.value, browser.click, browser.wait
+
+    def waits(self, expression: str, why: str) -> None:
+        self.check(self.wait(expression), why)
+
+    def opens(self, tab: str, words: str) -> None:
+        """Chooses a tab, and waits until its table is there."""
+        self.click(f"#tab-{tab}")
+        self.waits(
+            f"document.querySelector('#table-words').textContent.startsWith('{words}')", f"the tab {tab}: {self.text('#table-words')}"
+        )
+
+    def show(self, path: str, is_dropped: bool = False) -> None:
+        """Opens a file in the page, and waits until it is shown."""
+        before = self.value("document.body.dataset.ready ?? '0'")
+        self.browser.drop(path) if is_dropped else self.browser.choose("#chosen", path)
+        self.waits(f"(document.body.dataset.ready ?? '0') !== '{before}'", f"{path} is not shown")
+
+    def sound_file(self, path: str) -> None:
+        self.show(path)
+        self.check(self.text("#verdict") == SOUND, f"{path}: {self.text('#verdict')}")
+        lines = said(PROGRAM, "show", path).stdout.splitlines()
+        parts = sum(it.startswith("part ") for it in lines)
+        self.check(f"{parts} parts." in self.text("#map-words"), f"{path} has {parts} parts: {self.text('#map-words')}")
+        sections = [it.split()[-1] for it in lines if it.startswith("section ")]
+        rows = self.value(f"{ROWS}.map((it) => it.children[1].textContent)")
+        self.check(rows == [{"-": "(no name)"}.get(it, it) for it in sections[:100]], f"{path} has the sections {sections}: {rows}")
+        front = self.text("#bytes tbody tr td")
+        self.check(front.startswith("7f 45 4c 46 02"), f"the bytes of {path}: {front}")
+
+    def links(self) -> None:
+        """A relocation leads to its symbol, a symbol to its section, a section to its bytes."""
+        self.opens("relocations", "Relocations")
+        name = self.text("#table tbody tr td:nth-child(4)").split(" ", 1)
+        self.click("#table tbody tr td:nth-child(4) a")
+        selected = "document.querySelector('#tab-symbols').ariaSelected === 'true'"
+        self.waits(f"document.querySelector('tr.shown') && {selected}", "no symbol is shown")
+        self.check(self.text("tr.shown td") == name[0], f"the relocation's symbol is {name}, and {self.text('tr.shown')} is shown")
+        row = self.value(f"{ROWS}.findIndex((it) => it.children[6].querySelector('a'))") + 1
+        place = self.text(f"#table tbody tr:nth-child({row}) td:nth-child(7)").split()[0]
+        self.click(f"#table tbody tr:nth-child({row}) td:nth-child(7) a")
+        self.waits(f"document.querySelector('tr.shown td')?.textContent === '{place}'", f"section {place} is not shown")
+        self.click("tr.shown td a")
+        self.waits("document.querySelector('#bytes mark')", "the bytes of the section are not marked")
+
+    def filtered(self) -> None:
+        self.opens("symbols", "Symbols")
+        self.value(
+            "document.querySelector('#filter').value = 'global'; document.querySelector('#filter').dispatchEvent(new Event('input'))"
+        )
+        self.waits("document.querySelector('#table-words').textContent.includes('found among')", "nothing is found")
+        bindings = self.value(f"{ROWS}.map((it) => it.children[5].textContent)")
+        self.check(bindings and set(bindings) == {"GLOBAL"}, f"the filter finds {bindings}")
+
+    def by_keys(self) -> None:
+        """To the map, along it, into a part and out again, without a mouse."""
+        press = self.browser.press
+        self.value("document.querySelector('#chosen').focus()")
+        press("Tab")
+        self.check(self.value("document.activeElement.parentElement.id") == "map", "the tabulator does not lead to the map")
+        press("ArrowRight")
+        label, words = self.value("document.activeElement.ariaLabel"), self.text("#map-words")
+        self.check(words == label, f"the arrow leads to {label}, and the words are {words}")
+        press("Enter")
+        self.waits("document.querySelector('#map [aria-current=true]')", "the part is not chosen")
+        scale, before = "document.querySelector('#map-scale').textContent", self.text("#map-scale")
+        self.click("#zoom-in")
+        self.waits(f"{scale} !== '{before}'", "there is no zoom")
+        self.value("document.querySelector('#map button').focus()")
+        press("Escape")
+        press("Escape")
+        self.click("#zoom-whole")
+        self.waits(f"{scale} === '{before}'", "there is no way back")
+
+    def for_readers(self) -> None:
+        """What a reader of the screen is told."""
+        tree = self.browser.tree()
+        wanted = [(role, name) for role, _, name in (it.partition(" ") for it in READ.split(", "))]
+        missing = {*wanted, ("group", "The parts of the file, to scale")} - {*tree}
+        self.check(not missing, f"the tree has no {missing}")
+        nameless = [it for it in tree if it[0] in ("button", "tab", "link", "textbox", "searchbox", "combobox") and not it[1]]
+        self.check(not nameless, f"the tree has {len(nameless)} things to press without a name: {nameless[:3]}")
+
+    def on_screens(self) -> None:
+        """The colours of the map are seen, light and dark; and a screen of 360 points is wide enough."""
+        for dark in (False, True):
+            seen = colours(self.browser.screen(1200, 1000, dark))
+            for colour in ("6b7689", "c0504d", "4f81bd"):
+                self.check(seen.get(bytes.fromhex(colour), 0) > 100, f"the colour {colour} is not seen, dark: {dark}")
+            ground = max(seen, key=seen.__getitem__)
+            self.check((sum(ground) < 200) == dark, f"the ground is {ground.hex()}, dark: {dark}")
+        self.browser.screen(360, 800)
+        self.check(self.value("document.documentElement.scrollWidth") <= 360, "a screen of 360 points is too small")
+        self.browser.screen(1200, 1000)
+
+    def refused_files(self, path: str) -> None:
+        content = read_bytes(path)
+        size = content[:52] + b"\x3f" + content[53:]
+        files = {"magic": b"\0" + content[1:], "empty": b"", "size": size, "picture": b"<svg xmlns='http://www.w3.org/2000/svg'/>" * 4}
+        for name, made in files.items():
+            file = write(f"{self.room}/{name}", made)
+            _, rule, at = said(PROGRAM, "check", file).stdout.split()
+            self.show(file, is_dropped=True)
+            verdict = self.text("#verdict")
+            is_said = verdict.startswith(f"Refused by rule {rule}, ") and f" at {int(at):#x}: " in verdict
+            self.check(is_said, f"{name}: {verdict}, and check says {rule} {at}")
+            self.check(rule == {"magic": "3", "empty": "2", "picture": "3"}.get(name, rule), f"{name} breaks rule {rule}")
+            mark = self.value("document.querySelector('#bytes mark')?.textContent ?? ''")
+            self.check(name != "size" or "e_ehsize" in self.text("#advice") + mark, f"{name}: {self.text('#advice')}")
+            # As digits and as letters.
+            marks = self.value("document.querySelectorAll('#bytes mark').length")
+            self.check(marks == (2 if made else 0), f"{name}: {marks} marks, and one field")
+
+    def folder(self) -> None:
+        os.mkdir(f"{self.room}/folder")
+        self.browser.drop(f"{self.room}/folder")
+        self.waits("/folder/.test(document.querySelector('#said').textContent)", f"of a folder is said: {self.text('#said')}")
+
+    def million(self) -> None:
+        path = f"{self.room}/million.o"
+        write(f"{self.room}/million.s", "".join(f".globl name_{k}\nname_{k}={k}\n" for k in range(SYMBOLS)))
+        made = said("cc", "-c", f"{self.room}/million.s", "-o", path)
+        if self.check(made.returncode == 0, f"the object is not made: {made.stdout[:200]}"):
+            self.show(path)
+            took = float(self.value("document.body.dataset.took"))
+            self.note(f"an object of {SYMBOLS:,} symbols, {os.path.getsize(path) / 2**20:.0f} MiB, was validated in {took:.1f} ms")
+            self.check(took < MOST_MILLISECONDS, f"that took {took} ms")
+            self.opens("symbols", "Symbols 1 to 100 of 1,000,")
+
+
+def in_chromium(tally: Tally, room: str) -> None:
+    html, file = write(f"{room}/elfmap.html", page()), f"{room}/object.o"
+    said("cc", "-c", "-O1", write(f"{room}/object.c", SOURCE), "-o", file)
+    browser = Browser()
+    try:
+        browser.open(html)
+        it = InChromium(tally, browser, room)
+        it.sound_file(file)
+        for part in (it.links, it.filtered, it.by_keys, it.for_readers, it.on_screens):
+            part()
+        it.sound_file("/bin/true")
+        tally.check(not browser.value("document.querySelector('#memory-section').hidden"), "an executable has no bar by address")
+        it.refused_files(file)
+        it.folder()
+        it.million()
+        tally.check(not browser.messages, f"the console says {browser.messages[:3]}")
+    finally:
+        browser.close()
+
+
+def try_page(tally: Tally, options: Namespace) -> None:
+    with tempfile.TemporaryDirectory(prefix="page-test-") as room:
+        in_node(tally, room, options.count)
+        in_chromium(tally, room)
+
+
+ABOUT, TOOLS = "the page for a browser, in node beside `elfmap show`, and in chromium", ("node", "wasm-opt", "chromium", "cc")
+TESTS = [Test("page", ABOUT, try_page, TOOLS, crates_of("elfmap", CRATE), True, "", (number("count", 3000, "so many changed files"),))]

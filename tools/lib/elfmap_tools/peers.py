@@ -1,0 +1,186 @@
+"""`tools/dev peers > docs/PEERS.md`: what other tools say of files that elfmap refuses; and `tools/dev shared-tails PROGRAM FILE..`, how much
+shorter string tables are whose names share their tails.
+
+For each rule of images, tables and objects there are up to FILES_A_RULE files that break it first. They are files that cc made, with one
+byte changed, which the other tools take without a word as they were; where no such change is found for a rule, files of cases/*.txt; of
+rules 1 and 40 there are none. The reference implementation says which rule a file breaks. Nothing else is judged here: a tool is called, and
+its status and what it writes become a word. Tools that are not installed have no column."""
+
+import argparse, os, random, re, shutil, subprocess, tempfile
+from collections.abc import Iterator
+from concurrent.futures import ThreadPoolExecutor
+
+from .cases import all_cases
+from .explain import rule_words
+from .machine_files import content_of, objects_of
+from .reference import SYMTAB, File, object_verdict, shown, verdict
+from .tree import TOP, read_bytes, run, write
+
+FILES_A_RULE = 2
+# So many bytes are changed, one at a time.
+CHANGES = 30000
+# How cc makes the files that are changed: an object, one with groups and debug information, an executable, and a library with a hash table.
+MADE = {"an object": "-c -O1", "an object of C++": "-x c++ -c -O1 -g", "an executable": "-nostdlib -static -O1"}
+MADE |= {"a library": "-shared -nostdlib -fPIC -O1 -Wl,--hash-style=sysv -Wl,-soname,answer.so"}
+# Each tool, and how it is called; its version it says by --version.
+TOOLS = {
+    "readelf": "readelf -aW a.o", "eu-readelf": "eu-readelf -a a.o", "eu-elflint": "eu-elflint --gnu-ld a.o",
+    "llvm-readobj": "llvm-readobj --all a.o", "objcopy": "objcopy a.o b.o", "ld -r": "ld -r a.o -o b.o", "lld -r": "ld.lld -r a.o -o b.o",
+}  # fmt: skip
+# The rules by the command that answers them, and where docs/RULES.md has them.
+KINDS = {"check": ("image", range(1, 34)), "show": ("table", range(40, 70)), "rewrite": ("object", range(70, 80))}
+HEAD = """# What other tools say
+
+For each rule of elfmap but 1 and 40 up to {most} files that break it first, and what other tools say of them, as `tools/dev peers` found it.
+The files are objects, an executable and a library that cc made of a few lines of C, each with one byte changed; of these files without a
+change the tools say what the first rows tell. For rules marked with * they are made files of `cases/`, which may be odd in other ways too.
+The other tools have other tasks: many of these files are no mistake for them, and elfmap's rules are its own.
+
+Rules 1 and 40 have no row: files that break rule 1 are longer than 1 GiB, and no command answers rule 40.
+
+- *silent*: the tool ended with status 0, and wrote no warning.
+- *warns*: it ended with status 0, and wrote something to standard error, or the word `warning` or `error` to standard output.
+- *refuses*: it ended with another status.
+- *killed*: a signal ended it.
+
+elfmap refuses each of these files, by this rule and the lowest offset where it is broken: `check` by rules 1 to 33, `show` a table by rules
+40 to 69, `rewrite` an object by rules 70 to 79.
+"""
+Files = dict[int, list[bytes]]
+
+
+def note(found: Files, rule: int | None, content: bytes) -> None:
+    own = found.setdefault(rule, []) if rule is not None else []
+    if content not in own and len(own) < FILES_A_RULE:
+        own.append(content)
+
+
+def refused_by(answer: str) -> int | None:
+    """The rule by which an answer refuses something, None where it doesn't."""
+    found = re.search(r"^refused (?:\d+ )?(\d+) \d+$", answer, re.M)
+    return int(found[1]) if found else None
+
+
+def case_files() -> Files:
+    """Of each rule the first files of the cases that break it."""
+    found: Files = {}
+    for cases in all_cases().values():
+        for it in cases.cases:
+            # `rewrite` tells a refusal on standard error.
+            is_one = it.words[:1] and it.words[0] in KINDS and len(it.words) == 2 and len(it.needs) == 1
+            rule = refused_by((it.out + it.err).decode("latin1")) if is_one else None
+            if rule is not None and rule in KINDS[it.words[0]][1]:
+                note(found, rule, bytes(cases.files[it.needs[0].partition("=")[2]]))
+    return found
+
+
+def made_files() -> Iterator[tuple[str, bytes]]:
+    """The files that cc makes."""
+    with tempfile.TemporaryDirectory(prefix="peers-") as room:
+        for name, words in MADE.items():
+            made = run("cc", *words.split(), f"{TOP}/cases/sources/answer_peers.c", "-o", "made", folder=room)
+            if made.returncode:
+                raise SystemExit(f"peers: {name} is not made: {made.stderr.decode()}")
+            yield name, read_bytes(f"{room}/made")
+
+
+def first_rule(content: bytes) -> int | None:
+    """The first rule that a file breaks: of images, else of its tables, else of objects."""
+    broken = verdict(content)
+    rule = broken[0] if broken else refused_by(shown(content))
+    if rule is None and content[16:18] == b"\1\0":
+        broken = object_verdict(content)
+        return broken[0] if broken else None
+    return rule
+
+
+def changed_files(whole: list[bytes]) -> Files:
+    """Of each rule the first files with one byte changed that break it."""
+    choose, found = random.Random(8), dict[int, list[bytes]]()
+    for _ in range(CHANGES):
+        content = bytearray(choose.choice(whole))
+        table = int.from_bytes(content[40:48], "little")
+        start, end = choose.choice(((0, 64), (table, len(content)), (64, table)))
+        at = choose.randrange(start, end)
+        value = choose.choice((0, 1, 2, 255, content[at] ^ 1, content[at] ^ 128))
+        if value != content[at]:
+            content[at] = value
+            note(found, first_rule(bytes(content)), bytes(content))
+    return found
+
+
+def said_of(tool: str, content: bytes) -> str:
+    with tempfile.TemporaryDirectory(prefix="peers-") as room:
+        write(f"{room}/a.o", content)
+        try:
+            ran = run(*TOOLS[tool].split(), folder=room, timeout=60)
+        except subprocess.TimeoutExpired:
+            return "takes over a minute"
+    if ran.returncode:
+        return "killed" if ran.returncode < 0 else "refuses"
+    return "warns" if ran.stderr.strip() or re.search(rb"\b(warning|error)\b", ran.stdout, re.I) else "silent"
+
+
+def row(title: str, contents: list[bytes], tools: list[str]) -> str:
+    cells = [
+        list(dict.fromkeys(said)) if len(set(said)) == 1 else said for said in ([said_of(it, own) for own in contents] for it in tools)
+    ]
+    return f"| {title} | {len(contents)} | {' | '.join(', '.join(it) for it in cells)} |"
+
+
+def title_of(rule: int) -> str:
+    kind = next(kind for kind, rules in KINDS.values() if rule in rules)
+    return f"{rule} `{(rule_words(f'{kind}-{rule}') or ('',))[0]}`"
+
+
+def peers(options: argparse.Namespace) -> int:
+    tools = [it for it, words in TOOLS.items() if shutil.which(words.split()[0])]
+    made = list(made_files())
+    changed, rest = changed_files([content for _, content in made]), case_files()
+    print(HEAD.format(most=FILES_A_RULE))
+    for it in tools:
+        print(f"- `{TOOLS[it]}`: {run(TOOLS[it].split()[0], '--version').stdout.decode().strip().splitlines()[0].strip()}")
+    print(f"\n| rule | files | {' | '.join(f'`{it}`' for it in tools)} |\n|---|---|{'---|' * len(tools)}")
+    for name, content in made:
+        print(row(f"none: {name}", [content], tools))
+    rules = sorted(changed.keys() | rest.keys())
+    for rule in rules:
+        print(row(title_of(rule) + ("" if rule in changed else " *"), changed.get(rule) or rest[rule], tools))
+    print(f"\n{sum(len(changed.get(it) or rest[it]) for it in rules)} files.")
+    return 0
+
+
+# ---- shared tails
+
+
+def lengths(content: bytes) -> tuple[int, int]:
+    """The bytes of the two string tables of a file that was written, the last sections, and of those with each distinct name once."""
+    f = File(content)
+    last = f.section_count - 1
+    strings, names = f.content(last - 1), f.content(last)
+    symbols = next(i for i, it in f.sections() if it.sh_type == SYMTAB)
+    at = {strings: [f.number(f.section(symbols).sh_offset + 24 * k, 4) for k in range(f.section(symbols).sh_size // 24)]}
+    at[names] = [*(at[strings] if names == strings else []), *(it.sh_name for _, it in f.sections())]
+    once = {text: {text[k : text.index(b"\0", k)] for k in places} for text, places in at.items()}
+    return len(strings) + len(names), sum(1 + sum(len(it) + 1 for it in found if it) for found in once.values())
+
+
+def rewritten(program: str, content: bytes) -> bytes | None:
+    """What is written for an object, or None for one that is refused."""
+    with tempfile.TemporaryDirectory() as room:
+        ran = run(program, "rewrite", write(f"{room}/f", content))
+    return None if ran.returncode else ran.stdout
+
+
+def shared_tails(options: argparse.Namespace) -> int:
+    """Of each file, an object or an archive, a row of the table in docs/PERFORMANCE.md: how many of its objects `rewrite` takes, the bytes of
+    the two string tables of all that it writes, and those of tables that hold each distinct name once."""
+    print("| objects of | objects | each name once | tails shared | |")
+    print("|---|---|---|---|---|")
+    for path in options.file:
+        with ThreadPoolExecutor() as pool:
+            found = pool.map(lambda it: rewritten(os.path.abspath(options.program), content_of(it)), objects_of(path))
+            written = [it for it in found if it is not None]
+        shared, once = (sum(it) for it in zip(*map(lengths, written)))
+        print(f"| `{os.path.basename(path)}` | {len(written):,} | {once:,} | {shared:,} | {100 * (shared / once - 1):+.1f} % |")
+    return 0

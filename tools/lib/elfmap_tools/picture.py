@@ -1,0 +1,225 @@
+"""`tools/dev picture FILE > FILE.svg`: a picture of the bytes of a file, as `elfmap show FILE` prints them, for a browser. Each part has a row:
+where it begins, how long it is, whose it is, and its bytes, drawn to scale in a bar as long as the file; a bar of a part too short to be seen
+is drawn two points wide. Gaps are hatched, and say whether their first bytes are zeros. In a file without sections, as an executable that
+elfmap links, what a gap has of loadable segments is theirs, with their addresses; a segment that takes memory alone has a row after all
+parts. Of a file of more than 300 parts the largest 150 have rows, and each run of others has one together. `tools/dev picture - [TITLE]` reads
+the lines of `show` from standard input.
+
+The program is ./elfmap of this tree, or what ELFMAP names. docs/picture.svg is of the object that `gcc -c -O1` (12.2) makes of
+cases/sources/answer.c."""
+
+import argparse, os, sys
+from collections.abc import Iterator
+from xml.sax.saxutils import escape
+
+from .tree import TOP, run
+
+MOST, LARGEST = 300, 150
+ROW, HEAD, LEFT, WIDTH, SHORTEST = 20, 118, 640, 520, 2
+COLUMNS = (("begins at", 96, "end"), ("bytes", 196, "end"), ("owner", 212, "start"), ("name", 330, "start"), ("holds", 520, "start"))
+
+# What a section holds, by its type; of type PROGBITS and its like, by its flags.
+TYPES = {
+    2: "symbols", 3: "strings", 4: "relocations", 5: "hash table", 6: "dynamic array", 7: "notes", 9: "relocations", 11: "symbols",
+    14: "addresses", 15: "addresses", 17: "group", 18: "indexes",
+}  # fmt: skip
+COLOURS = {
+    "header and tables": "#4c566a", "code": "#c0504d", "data": "#e0a030", "constants": "#7f9f3f", "symbols and strings": "#4f81bd",
+    "relocations": "#8064a2", "other": "#8aa0a8", "several parts": "#b9c4c9", "gap": "url(#gap)",
+}  # fmt: skip
+FILE_TYPES = {0: "no type", 1: "relocatable", 2: "executable", 3: "shared", 4: "core"}
+
+
+class Part:
+    def __init__(self, start: int, length: int, owner: str, name: str = "", holds: str = "", colour: str = "header and tables") -> None:
+        self.start, self.length, self.owner, self.name, self.holds, self.colour = start, length, owner, name, holds, colour
+
+
+# ---- what the lines tell
+
+
+def content(words: list[str]) -> tuple[str, str, str]:
+    """What a section's line says of its content: its name, what it holds, and its colour."""
+    kind, flags, name = int(words[2]), int(words[3], 16), words[-1]
+    if kind in TYPES:
+        colour = "relocations" if kind in (4, 9) else "symbols and strings" if kind in (2, 3, 5, 11, 18) else "other"
+        return name, TYPES[kind], colour
+    colour = "code" if flags & 4 else "data" if flags & 1 else "constants" if flags & 2 else "other"
+    return name, colour, colour
+
+
+def gap(front: str, length: int) -> str:
+    """What a gap holds, as far as its line tells it: the first 16 bytes."""
+    if set(front) <= {"0"}:
+        return "zeros" if length <= 16 else "16 zeros, …"
+    return front[:12] + ("…" if length > 6 else "")
+
+
+class Load:
+    """A loadable segment, by its line."""
+
+    def __init__(self, words: list[str]) -> None:
+        self.owner, self.flags = f"segment {words[1]}", int(words[3], 16)
+        self.start, self.address, _, self.length, self.size = (int(it, 16) for it in words[4:9])
+
+    def name(self) -> str:
+        return f"0x{self.address:x} to 0x{self.address + self.size:x}"
+
+    def part(self, start: int, end: int) -> Part:
+        kind = "code" if self.flags & 1 else "data" if self.flags & 2 else "constants"
+        letters = "".join(letter for bit, letter in ((4, "R"), (2, "W"), (1, "X")) if self.flags & bit)
+        return Part(start, end - start, self.owner, self.name(), f"{kind if end > start else 'zeros in memory'} {letters}", kind)
+
+
+def among_loads(part: Part, loads: list[Load]) -> Iterator[Part]:
+    """A gap, cut where loadable segments begin and end."""
+    edges = sorted(
+        {
+            part.start,
+            part.start + part.length,
+            *(edge for it in loads for edge in (it.start, it.start + it.length) if 0 < edge - part.start < part.length),
+        }
+    )
+    for start, end in zip(edges, edges[1:]):
+        owner = next((it for it in loads if it.start <= start and end <= it.start + it.length), None)
+        whole = (start, end - start) == (part.start, part.length)
+        yield owner.part(start, end) if owner else part if whole else Part(start, end - start, "gap", "", "", "gap")
+
+
+def read(lines: list[str]) -> tuple[list[Part], str]:
+    """The parts of the file, and the head of the picture."""
+    rows = [it.split() for it in lines]
+    if not rows or rows[0][0] != "file":
+        raise SystemExit(f"picture: these are no lines of `elfmap show`: {' '.join(rows[0]) if rows else 'none'}")
+    sections = {int(it[1]): content(it) for it in rows if it[0] == "section"}
+    loads = [Load(it) for it in rows if it[0] == "segment" and it[2] == "1"] if not sections else []
+    parts = []
+    for words in rows:
+        if words[0] != "part":
+            continue
+        start, length, owner = int(words[1], 16), int(words[2], 16), words[3]
+        if owner == "content":
+            parts.append(Part(start, length, f"section {words[4]}", *sections[int(words[4])]))
+        elif owner == "gap":
+            parts += among_loads(Part(start, length, "gap", "", gap(words[4], length), "gap"), loads)
+        else:
+            title = {"header": "header", "segments": "program table", "sections": "section table"}[owner]
+            parts.append(Part(start, length, title))
+    parts += [it.part(it.start, it.start) for it in loads if not it.length]
+    head = f"{FILE_TYPES.get(int(rows[0][2]), 'type ' + rows[0][2])}, machine {rows[0][3]}, {rows[0][1]}-endian"
+    return parts, head
+
+
+def folded(parts: list[Part]) -> list[Part]:
+    """The rows: the parts themselves, or the largest ones, and one for each run of others."""
+    if len(parts) <= MOST:
+        return parts
+    least = sorted((it.length for it in parts), reverse=True)[LARGEST - 1]
+    rows, run = list[Part](), list[Part]()
+    ends: list[Part | None] = [*parts, None]
+    for part in ends:
+        if part and (part.length <= least and part.owner.split()[0] in ("section", "gap")):
+            run.append(part)
+            continue
+        rows += run if len(run) < 2 else [together(run)]
+        run = []
+        if part:
+            rows.append(part)
+    return rows
+
+
+def together(run: list[Part]) -> Part:
+    sections = [it for it in run if it.colour != "gap"]
+    owner = counted(len(sections), "section") if len(sections) != 1 else sections[0].owner
+    name = "" if not sections else sections[0].name if len(sections) == 1 else f"{sections[0].name} … {sections[-1].name}"
+    start = run[0].start
+    return Part(start, run[-1].start + run[-1].length - start, owner, name, counted(len(run) - len(sections), "gap"), "several parts")
+
+
+# ---- the picture
+
+
+def text(x: float, y: int, words: str, anchor: str = "start", more: str = "") -> str:
+    return f'<text x="{x}" y="{y}" text-anchor="{anchor}"{more}>{escape(words)}</text>'
+
+
+def cut(words: str, most: int) -> str:
+    """The words, without their middle where they are too long."""
+    half = (most - 1) // 2
+    return words if len(words) <= most else words[:half] + "…" + words[half - most + 1 :]
+
+
+def counted(number: int, what: str) -> str:
+    return f"{number:,} {what}{'s' if number != 1 else ''}"
+
+
+def bar(part: Part, total: int, y: int, height: int) -> str:
+    """The bytes of a part, in a bar as long as the file."""
+    if not part.length:
+        return ""
+    width = max(part.length / total * WIDTH, SHORTEST)
+    x = min(LEFT + part.start / total * WIDTH, LEFT + WIDTH - width)
+    words = f"{part.owner} {part.name}: {part.length:,} bytes from 0x{part.start:x}".replace(" :", ":")
+    colour = "#d09a20" if part.colour == "gap" and width < 6 else COLOURS[part.colour]
+    return f'<rect x="{x:.2f}" y="{y}" width="{width:.2f}" height="{height}" fill="{colour}"><title>{escape(words)}</title></rect>'
+
+
+def row(part: Part, total: int, number: int) -> list[str]:
+    y = HEAD + ROW * number
+    shade = [f'<rect x="12" y="{y}" width="{LEFT + WIDTH}" height="{ROW}" fill="#f4f6f7"/>'] if number % 2 else []
+    cells = (f"0x{part.start:x}", f"{part.length:,}", part.owner, cut(part.name, 25), cut(part.holds, 16))
+    more = ' fill="#9a6a00"' if part.colour == "gap" else ""
+    return (
+        shade + [text(x, y + 14, it, anchor, more) for it, (_, x, anchor) in zip(cells, COLUMNS) if it] + [bar(part, total, y + 3, ROW - 6)]
+    )
+
+
+def legend(parts: list[Part]) -> list[str]:
+    used, x, drawn = {it.colour for it in parts}, 20, []
+    for name, colour in COLOURS.items():
+        if name in used:
+            drawn += [f'<rect x="{x}" y="46" width="12" height="12" fill="{colour}"/>', text(x + 17, 56, name)]
+            x += 34 + 7 * len(name)
+    return drawn
+
+
+def picture(title: str, parts: list[Part], head: str) -> str:
+    total = sum(it.length for it in parts)
+    rows = folded(parts)
+    gaps = [it.length for it in parts if it.colour == "gap"]
+    bottom = HEAD + ROW * len(rows)
+    counts = f"{total:,} bytes in {len(parts):,} parts, {sum(gaps):,} of them in {counted(len(gaps), 'gap')}; {head}"
+    lines = [
+        f'<svg xmlns="http://www.w3.org/2000/svg" width="{LEFT + WIDTH + 24}" height="{bottom + 30}" viewBox="0 0 {LEFT + WIDTH + 24} {bottom + 30}" font-family="ui-monospace, DejaVu Sans Mono, Menlo, Consolas, monospace" font-size="12" fill="#20262e">',
+        '<defs><pattern id="gap" width="5" height="5" patternUnits="userSpaceOnUse" patternTransform="rotate(45)"><rect width="5" height="5" fill="#fff3d6"/><rect width="2" height="5" fill="#d09a20"/></pattern></defs>',
+        f'<rect width="{LEFT + WIDTH + 24}" height="{bottom + 30}" fill="#ffffff"/>',
+        text(20, 28, cut(title, 60), more=' font-size="16" font-weight="bold"'),
+        text(LEFT + WIDTH, 28, counts, "end"),
+        *legend(rows),
+        *[text(x, HEAD - 8, it, anchor, ' font-weight="bold"') for it, x, anchor in COLUMNS],
+        text(LEFT, HEAD - 8, "0x0"),
+        text(LEFT + WIDTH, HEAD - 8, f"0x{total:x}", "end"),
+        f'<rect x="{LEFT - 0.5}" y="{HEAD - 45.5}" width="{WIDTH + 1}" height="21" fill="none" stroke="#8aa0a8"/>',
+        *[bar(it, total, HEAD - 45, 20) for it in rows],
+    ]
+    for number, part in enumerate(rows):
+        lines += row(part, total, number)
+    lines.append(f'<path d="M{LEFT - 0.5} {HEAD - 2}V{bottom + 4}M{LEFT + WIDTH + 0.5} {HEAD - 2}V{bottom + 4}" stroke="#c5ced3"/>')
+    lines.append(
+        text(20, bottom + 20, "Bars are drawn to scale; what is too short to be seen is drawn two points wide.", more=' fill="#66727a"')
+    )
+    return "\n".join(it for it in lines if it) + "\n</svg>\n"
+
+
+def main(options: argparse.Namespace) -> int:
+    file = options.file
+    if file == "-":
+        shown = sys.stdin.buffer.read()
+    else:
+        ended = run(os.environ.get("ELFMAP", f"{TOP}/elfmap"), "show", "--", file)
+        shown = ended.stdout
+        if ended.returncode:
+            raise SystemExit(f"picture: elfmap show ended with status {ended.returncode}: {shown.decode().strip()}")
+    parts, head = read(shown.decode("ascii").splitlines())
+    print(picture(" ".join(options.title) or (os.path.basename(file) if file != "-" else "standard input"), parts, head), end="")
+    return 0

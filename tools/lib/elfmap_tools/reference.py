@@ -1,0 +1,179 @@
+"""The reference implementation (reference/), as the tools call it: written in Python from the rules' words in docs/RULES.md alone. Its
+modules have no types, so what they answer gets its type here. And small objects and files, made by their parts."""
+
+import sys
+from collections.abc import Callable, Sequence
+from typing import Any, cast
+
+from .tree import TOP
+
+sys.dont_write_bytecode = True
+sys.path.insert(0, f"{TOP}/reference")
+import executable, image, link, objects, records, show, tables  # noqa: E402
+
+Broken = tuple[int, int]
+File: Any = records.File
+Value: Any = objects.Value
+laid: Callable[[Any], bytes] = objects.laid
+record: Callable[..., bytes] = objects.record
+elf_hash: Callable[[bytes], int] = tables.elf_hash
+ENTRY_SIZE: dict[int, int] = tables.ENTRY_SIZE
+symbols: Callable[[Any, int], list[Any]] = tables.symbols
+notes: Callable[[Any, int], list[tuple[int, int, int, int]]] = tables.notes
+padded: Callable[[int], int] = tables.padded
+is_section: Callable[[Any, int], bool] = tables.is_section
+entries_before_null: Callable[[Any, int], Any] = tables.entries_before_null
+parts: Callable[[Any], Any] = show.parts
+Layout = dict[str, tuple[int, int]]
+HEADER: Layout = records.HEADER
+SECTION_HEADER: Layout = records.SECTION_HEADER
+PROGRAM_HEADER: Layout = records.PROGRAM_HEADER
+SYMBOL: Layout = records.SYMBOL
+RELOCATION: Layout = records.RELOCATION
+DYNAMIC: Layout = records.DYNAMIC
+NULL, PROGBITS, SYMTAB, STRTAB, RELA, HASH, DYNAMIC_SECTION, NOTE, NOBITS, REL = range(10)
+DYNSYM, GROUP, SYMTAB_SHNDX, LOAD = 11, 17, 18, 1
+WRITE, ALLOC, EXEC, INFO_LINK, IN_GROUP = 1, 2, 4, 0x40, 0x200
+UNDEF, ABS, COMMON, XINDEX = 0, 0xFFF1, 0xFFF2, 0xFFFF
+
+
+# ---- what it answers
+
+
+def verdict(content: bytes) -> Broken | None:
+    """The first image rule that a file breaks, and where."""
+    return cast("Broken | None", image.verdict(content))
+
+
+def object_verdict(content: bytes) -> Broken | None:
+    return cast("Broken | None", objects.verdict(content))
+
+
+def table_verdict(file: Any, index: int) -> Broken | None:
+    return cast("Broken | None", tables.verdict(file, index))
+
+
+def section_of_symbol(file: Any, table: int, index: int) -> int:
+    """The index of the section of a symbol that the index table has."""
+    return cast(int, tables.index_words(file, table)[index][1])
+
+
+def rule_name(rule: int) -> str:
+    """The name of an image rule, in small letters."""
+    return cast(str, image.RULES[rule - 1][1].__name__)
+
+
+def check(content: bytes) -> str:
+    """The line of `elfmap check`."""
+    return cast(str, image.check(content))
+
+
+def shown(content: bytes) -> str:
+    """The lines of `elfmap show`."""
+    return cast(str, show.show(content))
+
+
+def rewritten(content: bytes) -> tuple[str, bytes] | None:
+    """What `elfmap rewrite` prints on standard error, and what it writes; None where the reference leaves it open."""
+    return cast("tuple[str, bytes] | None", objects.rewrite(content))
+
+
+def mapped(contents: Sequence[bytes], base: int, page: int, rules: bytes | None = None) -> str:
+    """The lines of `elfmap map`, by a file of rules if one is given."""
+    return cast(str, link.map_lines(contents, base, page, None if rules is None else link.rules_of(rules)))
+
+
+def linked(contents: Sequence[bytes], base: int, page: int, rules: bytes, entry: bytes) -> tuple[str, bytes]:
+    """What `elfmap link` prints on standard error, and what it writes."""
+    return cast("tuple[str, bytes]", executable.answer(contents, base, page, link.rules_of(rules), entry))
+
+
+def entries_of(contents: Sequence[bytes]) -> list[bytes]:
+    """The names of the files that an executable may begin at."""
+    _, it = link.judged(contents, 0x400000, 0x1000)
+    return [name for name in it.entries if link.value_of(it, it.at, it.common_at, name)[1] != "zero"] if hasattr(it, "at") else []
+
+
+def link_refusal(contents: Sequence[bytes], base: int, page: int, rules: bytes) -> object:
+    """What is wrong with a link, None where nothing is."""
+    return link.judged(contents, base, page, link.rules_of(rules))[0]
+
+
+# ---- objects by their parts
+
+
+def words(order: str, *numbers: int) -> bytes:
+    return b"".join(it.to_bytes(4, cast(Any, order)) for it in numbers)
+
+
+def section(
+    name: bytes,
+    type: int,
+    body: Any = b"",
+    flags: int = 0,
+    align: int = 1,
+    entsize: int = 0,
+    link: int | None = None,
+    info: int = 0,
+    addr: int = 0,
+) -> Any:
+    """A section. The body is bytes, the size of one without, the entries of relocations, or the flags and members of a group."""
+    return Value(name=name, type=type, flags=flags, addr=addr, align=align, entsize=entsize, link=link, info=info, body=body)
+
+
+def symbol(name: bytes, section: int | None, info: int = 0x10, value: int = 0, size: int = 0, reserved: int = UNDEF, other: int = 0) -> Any:
+    """A symbol in the section at this position, or of this reserved index."""
+    return Value(name=name, info=info, other=other, value=value, size=size, section=section, reserved=reserved)
+
+
+def object_file(sections: Sequence[Any], symbols: Sequence[Any] = (), order: str = "little") -> bytes:
+    """The file of an object, in its canonical layout: after its own sections .symtab, .strtab and .shstrtab."""
+    return laid(Value(order=order, osabi=0, abi=0, machine=62, flags=0, sections=list(sections), symbols=list(symbols)))
+
+
+def relocations(entries: list[tuple[int, int, int, int]], target: int, name: bytes = b".rela.text", flags: int = 0) -> Any:
+    """A section of relocations of the one at this position: of each entry its offset, symbol, kind and addend."""
+    return section(name, RELA, entries, flags, 8, 24, info=target)
+
+
+def group(members: list[int], signature: int = 1, flags: int = 1) -> Any:
+    """A group of the sections at these positions."""
+    return section(b".group", GROUP, (flags, members), 0, 4, 4, info=signature)
+
+
+def text(content: bytes = b"\xc3", flags: int = ALLOC | EXEC, name: bytes = b".text", align: int = 1) -> Any:
+    return section(name, PROGBITS, content, flags, align)
+
+
+Edit = tuple[Any, ...]
+
+
+def place_of(file: bytes, *where: Any) -> tuple[int, int]:
+    """Where a field is, and how many bytes it has: one of the header by its name, of a section or program header by its name and index,
+    or a triple of a section (0 for the file), an offset in its content, and a width."""
+    if isinstance(where[0], tuple):
+        index, at, width = where[0]
+        return (File(file).section(index).sh_offset if index else 0) + at, width
+    name, *rest = where
+    if not rest:
+        return HEADER[name]
+    layout, start = (
+        (SECTION_HEADER, File(file).section(rest[0])) if name.startswith("sh_") else (PROGRAM_HEADER, File(file).segment(rest[0]))
+    )
+    return start.at(name), layout[name][1]
+
+
+def edited(file: bytes, *edits: Edit) -> bytes:
+    """A file with fields set: of each edit the place, as above, and the number. All places are those of the file before any edit."""
+    new = bytearray(file)
+    for *where, number in edits:
+        at, width = place_of(file, *where)
+        new[at : at + width] = number.to_bytes(width, File(file).order)
+    return bytes(new)
+
+
+def with_segments(file: bytes, *segments: dict[str, int]) -> bytes:
+    """A file with a program header table after it."""
+    order = File(file).order
+    table = b"".join(record(order, PROGRAM_HEADER, **it) for it in segments)
+    return edited(file, ("e_phoff", len(file)), ("e_phentsize", 56), ("e_phnum", len(segments))) + table

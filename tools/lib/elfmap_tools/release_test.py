@@ -1,0 +1,202 @@
+"""`tools/test release`: packs a release of what is built, unpacks the archive in an empty folder, and there, with nothing on the PATH but
+/usr/bin and /bin:
+
+- the archive has the files that it is to have, and comes out the same, byte for byte, a second time;
+- each link of its pages leads to a file of the archive, but for those into crates/, which the repository alone has;
+- bin/elfmap gives its words to the program, from wherever a link to it is, with settings of memory where there are none;
+- the program accepts /bin/true and refuses changed copies of it, and its usage is what README.md and the manual page say;
+- the library exports names that begin with `elfmap_` alone, and needs of the C library no more than its memory;
+- bindings/c/sections.c and symbols.c, compiled as include/elfmap.h says, say of these files what `elfmap show` and `elfmap check` say;
+- so do bindings/rust/examples/symbols.rs by cargo, which builds outside of the archive, and bindings/python/examples/symbols.py;
+- `man` and `groff` format the manual page without a warning."""
+
+import glob, os, re, shutil, subprocess, sys, tempfile
+from argparse import Namespace
+from collections.abc import Mapping
+
+from .library import ENGINES, VERDICTS
+from .release import pack
+from .suite import Tally, Test, crates_of
+from .tree import TOP, Texts, files_below, read_bytes, read_text, write
+
+VERSION = "0-test"
+NAME = f"elfmap-{VERSION}-x86_64-linux"
+TRUE = "/bin/true"
+COMPILE = "cc -std=c99 program.c $(pkg-config --cflags --libs elfmap)"
+FILES = [
+    "elfmap.html", "README.md", "CONTRIBUTING.md", "VERSION", "bin/elfmap", "doc/elfmap-doc.html", "elfmap", "include/elfmap.h",
+    "lib/libelfmap.a", "lib/pkgconfig/elfmap.pc", "share/man/man1/elfmap.1",
+]  # fmt: skip
+# The folders of which the archive has what git has.
+FOLDERS = ["bindings/c", "docs", "rules"]
+# The path of a link that is relative, without the place in its page.
+LINK = re.compile(r"\]\((?!https?:)([^)#\s]+)")
+# What the engines of the library take of the C library.
+MEMORY = {"malloc", "realloc", "free", "memcpy", "memmove", "memset"}
+SECTIONS = ["NAME", "SYNOPSIS", "DESCRIPTION", "COMMANDS", "EXIT STATUS", "FILES", "EXAMPLES", "SEE ALSO"]
+PLAIN = {"PATH": "/usr/bin:/bin", "LC_ALL": "C.UTF-8", "MANWIDTH": "80"}
+
+
+def ran(*command: str, folder: str, env: Mapping[str, str] = PLAIN) -> Texts:
+    return subprocess.run(command, cwd=folder, env=env, stdin=subprocess.DEVNULL, capture_output=True, text=True, errors="replace")
+
+
+class Release:
+    """A release that is unpacked: its folder, an empty one elsewhere, and copies of a file that are refused."""
+
+    def __init__(self, tally: Tally, room: str) -> None:
+        self.check, self.tally = tally.check, tally
+        self.folder, self.room = f"{room}/empty/{NAME}", f"{room}/elsewhere"
+        for it in ("first", "second", "empty", "elsewhere"):
+            os.mkdir(f"{room}/{it}")
+        first, second = pack(f"{room}/first", VERSION), pack(f"{room}/second", VERSION)
+        self.check(read_bytes(first) == read_bytes(second), "the archive is another one the second time")
+        self.check(ran("tar", "xf", first, folder=f"{room}/empty").returncode == 0, "tar does not unpack the archive")
+        names = {it[len(self.folder) + 1 :] for it in files_below(self.folder)}
+        # What git has in these folders; of the crate and the package without their tests.
+        listed = ran("git", "ls-files", "docs", "rules", "bindings", folder=TOP).stdout.split()
+        texts = {it for it in listed if not re.search(r"^bindings/(rust|python)/(tests/|\.gitignore)|^bindings/[^/]*$", it)}
+        wanted = {*FILES, *texts}
+        self.check(names == wanted, f"the archive lacks {sorted(wanted - names)}, and has beyond that {sorted(names - wanted)}")
+        self.check(self.text("VERSION") == f"{VERSION}\n", "the file VERSION has not the version")
+        whole = read_bytes(TRUE)
+        header = [int.from_bytes(whole[40:48], "little") + 64 * k + 24 for k in (1, 2)]
+        overlap = whole[: header[1]] + whole[header[0] : header[0] + 8] + whole[header[1] + 8 :]
+        copies = {"magic": b"\0" + whole[1:], "cut": whole[:-1], "short": whole[:40], "overlap": overlap}
+        self.broken = [write(f"{room}/{name}", content) for name, content in copies.items()]
+
+    def text(self, path: str) -> str:
+        return read_text(f"{self.folder}/{path}")
+
+    def elfmap(self, *words: str) -> Texts:
+        return ran("./elfmap", *words, folder=self.folder)
+
+    def links(self) -> None:
+        """The relative links of the archive's pages."""
+        for page in sorted(glob.glob("**/*.md", root_dir=self.folder, recursive=True)):
+            links = {os.path.normpath(os.path.join(os.path.dirname(page), it)) for it in LINK.findall(self.text(page))}
+            own = (it for it in links if not it.startswith("crates/"))
+            broken = sorted(it for it in own if it.startswith("..") or not os.path.exists(f"{self.folder}/{it}"))
+            self.check(not broken, f"{page} has links to {broken}, which the archive lacks")
+
+    def program(self) -> None:
+        accepted = self.elfmap("check", TRUE)
+        right = (0, ["ok", str(os.path.getsize(TRUE))])
+        self.check((accepted.returncode, accepted.stdout.split()[:2]) == right, f"check {TRUE}: {accepted}")
+        for path in self.broken:
+            refused = self.elfmap("check", path)
+            self.check(refused.returncode == 1 and re.fullmatch(r"refused \d+ \d+\n", refused.stdout), f"check {path}: {refused}")
+
+    def runner(self) -> None:
+        """bin/elfmap gives its words to the program, by a link too, with settings of memory in an environment that has none."""
+        os.makedirs(f"{self.room}/copy/bin")
+        shutil.copy(f"{self.folder}/bin/elfmap", f"{self.room}/copy/bin/elfmap")
+        os.chmod(write(f"{self.room}/copy/elfmap", '#!/bin/sh\necho "$GLIBC_TUNABLES" "$@"\nexit 3\n'), 0o755)
+        os.symlink(f"{self.room}/copy/bin/elfmap", f"{self.room}/link")
+        for path in ("copy/bin/elfmap", "./link"):
+            made = ran(path, "show", "a b", folder=self.room)
+            settings, _, words = made.stdout.partition(" ")
+            self.check((made.returncode, words) == (3, "show a b\n"), f"{path} ends with {made}")
+            self.check(settings.startswith("glibc.malloc.hugetlb=1:"), f"{path} sets '{settings}'")
+            kept = ran(path, folder=self.room, env={**PLAIN, "GLIBC_TUNABLES": "own"})
+            self.check(kept.stdout == "own\n", f"{path} sets in place of the settings there are: {kept}")
+        answer = ran("bin/elfmap", "check", TRUE, folder=self.folder)
+        self.check(answer.stdout == self.elfmap("check", TRUE).stdout, f"bin/elfmap check {TRUE}: {answer}")
+
+    def usage(self) -> None:
+        """README.md and the manual page have the usage of each command that the program has."""
+        listed = self.elfmap("--help").stderr.partition("Commands:")[2].partition("Options:")[0]
+        commands, section = re.findall(r"^  (\w+) ", listed, re.M), self.text("README.md").partition("\n## The commands\n")[2]
+        usages = re.findall(r"^    (elfmap (\w+) .*)", section, re.M)
+        self.check(
+            [it for _, it in usages] == commands, f"the program has the commands {commands}, and README.md {[it for _, it in usages]}"
+        )
+        synopses = re.findall(r'^\.SY "(.*)"\n((?:.*\n)*?)\.YS', self.text("share/man/man1/elfmap.1"), re.M)
+        by_page = {head: re.sub(r"\\f.|\\(?=[- ])", "", f"{head} {rest}".replace("\n", " ")) for head, rest in synopses}
+        for usage, command in usages:
+            own = usage_by_help(self.elfmap(command, "--help").stderr)
+            self.check(words_of(own) == words_of(usage), f"the program's usage is '{own}', and README.md has '{usage}'")
+            page = by_page.get(f"elfmap {command}", "")
+            self.check(words_of(page) == words_of(usage), f"the manual page has '{page}', and README.md '{usage}'")
+
+    def names(self) -> None:
+        """What the library exports and needs."""
+        names = [it.split() for it in ran("nm", "-g", "lib/libelfmap.a", folder=self.folder).stdout.splitlines() if " " in it]
+        defined = [it[-1] for it in names if it[-2] != "U"]
+        self.check(defined and all(it.startswith("elfmap_") for it in defined), f"the library exports {defined}")
+        needed = {it[-1] for it in names if it[-2] == "U"} - set(defined)
+        self.check(needed <= MEMORY, f"the library needs {sorted(needed)}")
+
+    def by_show(self, kind: str, number: int, name: int) -> str:
+        """The lines of the programs that list sections or symbols, by those of `elfmap show`."""
+        found = (it.split(" ") for it in self.elfmap("show", TRUE).stdout.splitlines() if it.startswith(f"{kind} "))
+        return "".join(f"{it[number]} {'' if it[name] == '-' else it[name]}\n" for it in found)
+
+    def lister(self, *command: str, wanted: str = "", env: Mapping[str, str] = PLAIN) -> None:
+        """A program that lists what a file has, and says the rule that a refused one breaks."""
+        listed, wanted = ran(*command, TRUE, folder=self.room, env=env), wanted or self.by_show("symbol", 7, 9)
+        self.check((listed.returncode, listed.stdout) == (0, wanted), f"{command} {TRUE}: {listed}")
+        for path in self.broken:
+            refused, right = ran(*command, path, folder=self.room, env=env), self.elfmap("check", path)
+            self.check((refused.returncode, refused.stdout) == (1, right.stdout), f"{command} {path}: {refused}, and check: {right}")
+
+    def c(self) -> None:
+        """sections.c and symbols.c, compiled by the words of the header in a folder elsewhere."""
+        self.check(f" {COMPILE}\n" in self.text("include/elfmap.h"), f"include/elfmap.h does not say '{COMPILE}'")
+        env = PLAIN | {"PKG_CONFIG_PATH": f"{self.folder}/lib/pkgconfig"}
+        version = ran("pkg-config", "--modversion", "elfmap", folder=self.room, env=env)
+        self.check(version.stdout == f"{VERSION}\n", f"pkg-config says the version {version.stdout}{version.stderr}")
+        for name, wanted in (("sections", self.by_show("section", 6, 11)), ("symbols", "")):
+            shutil.copy(f"{self.folder}/bindings/c/{name}.c", f"{self.room}/program.c")
+            built = ran("sh", "-c", f"{COMPILE} -Wall -Wextra -Werror -o {name}", folder=self.room, env=env)
+            if self.check(built.returncode == 0, f"{name}.c is not compiled:\n{built.stdout}{built.stderr}"):
+                self.lister(f"./{name}", wanted=wanted)
+
+    def rust(self) -> None:
+        path = f"{os.path.dirname(shutil.which('cargo') or '')}:{PLAIN['PATH']}"
+        env = {**os.environ, "PATH": path, "CARGO_TARGET_DIR": f"{self.room}/target"}
+        built = ran("cargo", "build", "--frozen", "--example", "symbols", folder=f"{self.folder}/bindings/rust", env=env)
+        if self.check(built.returncode == 0, f"the crate's example is not built:\n{built.stdout}{built.stderr}"):
+            self.lister(f"{self.room}/target/debug/examples/symbols")
+
+    def python(self) -> None:
+        env = {"PYTHONPATH": f"{self.folder}/bindings/python", "PYTHONDONTWRITEBYTECODE": "1", "XDG_CACHE_HOME": f"{self.room}/cache"}
+        self.lister(sys.executable, f"{self.folder}/bindings/python/examples/symbols.py", env={**PLAIN, **env})
+
+    def manual(self) -> None:
+        page = "share/man/man1/elfmap.1"
+        self.check(re.findall(r"^\.SH (.*)", self.text(page), re.M) == SECTIONS, f"the manual page has other sections than {SECTIONS}")
+        self.check(f'"elfmap {VERSION}"' in self.text(page), "the manual page has not the version")
+        readers = [["groff", "-man", "-Tutf8", "-ww", page]]
+        # Where an image was made without manual pages, `man` may be a text that says so.
+        if re.match(r"man [\d.]+$", ran("man", "--version", folder="/").stdout):
+            readers.append(["man", "--warnings", "-l", page])
+        else:
+            self.tally.note("skipped: what man would say, which is no reader of pages here")
+        for command in readers:
+            shown = ran(*command, folder=self.folder)
+            is_shown = shown.returncode == 0 and not shown.stderr and "ELFMAP(1)" in shown.stdout
+            self.check(is_shown, f"{command}: {shown.stderr or shown.stdout[:200]}")
+
+
+def words_of(usage: str) -> list[str]:
+    """The words and options of a usage, in any order."""
+    return sorted(re.findall(r"\[[^\]]*\]|--\w+ [A-Z]+|\S+", usage))
+
+
+def usage_by_help(said: str) -> str:
+    """The usage that the program prints, with its options in place of [OPTIONS]."""
+    (usage,) = re.findall(r"Usage: (.*)", said)
+    options = [it for it in re.findall(r"^ +(?:-\w, )?(--\w+(?: <\w+>)?)", said, re.M) if it != "--help" and it not in usage]
+    return re.sub(r"[<>]", "", usage.replace("[OPTIONS]", " ".join(f"[{it}]" for it in options)))
+
+
+def release(tally: Tally, options: Namespace) -> None:
+    with tempfile.TemporaryDirectory(prefix="release-test-") as room:
+        it = Release(tally, room)
+        for part in (it.links, it.program, it.runner, it.usage, it.names, it.c, it.rust, it.python, it.manual):
+            part()
+
+
+TOOLS = ("cc", "ar", "objcopy", "nm", "git", "pkg-config", "cargo", "groff", "man", "wasm-opt")
+TESTS = [Test("release", "what a release has, and that all of it works", release, TOOLS, crates_of("elfmap", VERDICTS, ENGINES))]

@@ -1,0 +1,115 @@
+"""`tools/release tables`: the names of the rules of files, objects and links, as docs/RULES.md has them, for the faults of the crates: each
+`src/rule_names.rt`; and with their sentences for the bindings: bindings/rust/src/rules.rs and bindings/python/elfmap/_rules.py.
+`tools/test rules-tables` fails where one of them differs."""
+
+import argparse, glob, itertools, textwrap
+from collections.abc import Iterable, Iterator
+
+from .explain import rule_words
+from .suite import Tally, Test
+from .tree import TOP, read_text, write
+
+MADE = "Made by `tools/release tables` from docs/RULES.md."
+# Of a rule its number, its name and its sentence.
+Rule = tuple[int, str, str]
+
+
+def rules_of(kind: str, numbers: Iterable[int]) -> Iterator[Rule]:
+    for number in numbers:
+        rule = rule_words(f"{kind}-{number}")
+        if not rule:
+            return
+        yield number, rule[0], f"{rule[1]} {rule[2]}"
+
+
+def file_rules() -> list[Rule]:
+    """Those of files: of images, of tables, and of objects."""
+    return [*rules_of("image", range(1, 34)), *rules_of("table", range(40, 70)), *rules_of("object", range(70, 80))]
+
+
+def link_rules() -> list[Rule]:
+    return list(rules_of("link", itertools.count(1)))
+
+
+def filled(text: str, width: int) -> list[str]:
+    return textwrap.wrap(text, width, break_long_words=False, break_on_hyphens=False)
+
+
+def pieces(text: str) -> list[str]:
+    """Text in pieces for a literal of several lines, of which each but the last one ends with a space."""
+    *before, last = filled(text.replace("\\", "\\\\").replace('"', '\\"'), 76)
+    return [*(f"{it} " for it in before), last]
+
+
+def rust_constants(rules: Iterable[Rule], indent: str = "") -> Iterator[str]:
+    for number, name, sentence in rules:
+        comment = (f"{indent}/// {it}" for it in filled(f"Rule {number}: {sentence}.", 90 - len(indent)))
+        yield from ("", *comment, f"{indent}pub const {name}: u16 = {number};")
+
+
+def rust_table(name: str, rules: list[Rule]) -> Iterator[str]:
+    yield from ("", "#[rustfmt::skip]", f"pub(crate) const {name}: [(u16, &str, &str); {len(rules)}] = [")
+    for number, word, sentence in rules:
+        literal = "\\\n         ".join(pieces(sentence))
+        yield from ("    (", f"        {number},", f'        "{word}",', f'        "{literal}",', "    ),")
+    yield "];"
+
+
+def rust() -> str:
+    lines = [f"//! The rules by their names. {MADE}", *rust_constants(file_rules())]
+    lines += ["", "/// The rules of a link of objects.", "pub mod link {", *list(rust_constants(link_rules(), "    "))[1:], "}"]
+    lines += ["", "// The number, the name and the sentence of each rule, by ascending numbers: of files, and of links."]
+    lines += list(rust_table("TABLE", file_rules()))[1:]
+    return "\n".join([*lines, *rust_table("LINK_TABLE", link_rules()), ""])
+
+
+def python_table(name: str, words: str, rules: list[Rule]) -> Iterator[str]:
+    yield from ("", f"# {words}", f"{name} = {{")
+    for number, word, sentence in rules:
+        *before, last = pieces(sentence)
+        yield from (f"    {number}: (", f'        "{word}",', *(f'        "{it}"' for it in before), f'        "{last}",', "    ),")
+    yield "}"
+
+
+def python() -> str:
+    lines = [f'"""The rules by their numbers. {MADE}"""']
+    lines += python_table("RULES", "The name and the sentence of each rule of files.", file_rules())
+    return "\n".join([*lines, *python_table("LINK_RULES", "Those of each rule of links.", link_rules()), ""])
+
+
+def rattle(words: str, rules: list[Rule]) -> str:
+    """A function that returns the names by their numbers."""
+    names = {number: name for number, name, _ in rules}
+    lines = [f"//! The names of rules by their numbers. {MADE}", ""]
+    lines.append(f"/// The name of a rule of {words}, as `{rules[0][1]}` of 1; empty where no rule has the number.")
+    lines += ["pub fn rule_name(rule: u16) -> &'static str {", "    match NAMES.get(rule as usize) {", "        Some(name) => name,"]
+    lines += ['        None => "",', "    }", "}", "", f"const NAMES: [&str; {max(names) + 1}] = ["]
+    return "\n".join([*lines, *(f'    "{names.get(number, "")}",' for number in range(max(names) + 1)), "];", ""])
+
+
+def tables() -> dict[str, str]:
+    """What each file has to be."""
+    of_crates = {
+        "image": rattle("images (1 to 33), tables (40 to 69) and files read as objects (70 to 79)", file_rules()),
+        "object": rattle("objects", list(rules_of("object", range(1, 10)))),
+        "link": rattle("the link", link_rules()),
+    }
+    paths = glob.glob("crates/elf_*/src/rule_names.rt", root_dir=TOP)
+    found = {it: of_crates[it.split("/")[1].split("_")[1]] for it in sorted(paths)}
+    return {"bindings/rust/src/rules.rs": rust(), "bindings/python/elfmap/_rules.py": python(), **found}
+
+
+def main(options: argparse.Namespace) -> int:
+    for path, text in tables().items():
+        write(f"{TOP}/{path}", text)
+    return 0
+
+
+def rules_tables(tally: Tally, options: argparse.Namespace) -> None:
+    for path, text in tables().items():
+        # The first line says by what the file is made.
+        is_same = read_text(path).partition("\n")[2] == text.partition("\n")[2]
+        tally.check(is_same, f"{path} is not what docs/RULES.md says; `tools/release tables` makes it anew")
+
+
+TESTS = [Test("rules-tables", "the tables of rules in the crates and the bindings are those of docs/RULES.md", rules_tables)]

@@ -1,0 +1,258 @@
+"""`tools/test shown-commands`: runs the commands that README.md, CONTRIBUTING.md, docs/*.md and bindings/*/README.md show, and compares what they
+print with what is below them.
+
+A command is a line of a code block that begins with `$ `, or with `>>> ` for Python; below it are the lines that it prints, on standard
+output and standard error. There a line `..` means lines left out, and ` ..` at the end of a line the rest of it. A page's commands run in its
+order in a folder of their own, with the program as ./elfmap, the folders of the repository, the archive of a release of the version VERSION,
+the `lib` and `include` of that, and the file answer.c of cases/sources/. A `cat` of a file that isn't there writes it, with the lines below.
+Commands within prose are not looked at.
+
+Skipped are the commands of SKIPPED, by their text, those of tools of other versions than README.md names, those on files of the machine of
+other lengths, what is not built, and what needs a file that such a command makes. A code line that begins as a command does has to have
+its `$ `, and the tools that a page names and what it links to have to be there."""
+
+import glob, os, re, shutil, subprocess, sys, tempfile
+from argparse import Namespace
+from collections.abc import Iterator
+
+from .library import ENGINES, VERDICTS
+from .release import pack
+from .suite import Tally, Test, crates_of, environment
+from .tree import PROGRAM, TOP, read_text, run, write
+
+FOLDERS = ["bench", "bindings", "cases", "crates", "docs", "reference", "rules", "scripts", "tools"]
+ARCHIVE = "elfmap-VERSION-x86_64-linux"
+LONGEST = 60
+# Commands that are not run here, and why.
+LONG, MEASURED = "it proves, for minutes or seconds, with the Rattle kit", "it measures, for minutes"
+SKIPPED = {
+    "rt ci": LONG,
+    "tools/dev prove elf_image_rules": LONG,
+    "tools/dev check elf_extent  # a crate": LONG,
+    "tools/dev check elf_extent members_by_start  # a function, and what it calls; here sorted by the index in place of the start": LONG,
+    "tools/dev check tests_base --test finds_the_next_place": LONG,
+    f"man -l {ARCHIVE}/share/man/man1/elfmap.1": "it shows a page; tools/test release has it formatted",
+    "bench/run": MEASURED,
+    "bench/growth crates/elfmap/out/elfmap": MEASURED,
+    "bench/library": MEASURED,
+}
+# Tools whose output depends on their version, and the packages by which README.md names that.
+PACKAGES = {"gcc": "gcc", "readelf": "binutils", "objcopy": "binutils", "ld": "binutils", "eu-elflint": "elfutils", "llvm-objcopy": "LLVM"}
+# Files of the machine, and how long they are where the pages' lines were printed (Debian 12).
+MACHINE_FILES = {"/bin/true": 35664}
+# What commands make, and the file of the repository that has to be the same.
+PICTURES = {"answer.svg": "docs/picture.svg"}
+# A code line that begins so is a command.
+COMMAND_LIKE = re.compile(r"(?:\./|scripts/|tools/|bench/|\.ci/|rt |tar |man |gcc |cc |cargo |python3 )")
+
+# ---- the pages
+
+
+def blocks(text: str) -> list[list[str]]:
+    """The code blocks of a page, indented or fenced, each as a list of its lines."""
+    found: list[list[str]] = [[]]
+    fence: int | None = None
+    is_open = True
+    for line in text.split("\n"):
+        if re.match(r" *```", line):
+            fence = None if fence is not None else len(line) - len(line.lstrip())
+            found.append([])
+        elif fence is not None:
+            found[-1].append(line[fence:])
+        elif line.startswith("    ") and (found[-1] or is_open):
+            found[-1].append(line[4:])
+        elif line and found[-1]:
+            found.append([])
+        elif found[-1]:
+            found[-1].append("")
+        # An indented line is code behind an empty one alone; elsewhere it goes on with a paragraph or an item.
+        is_open = not line
+    return [it for it in found if it]
+
+
+def commands(lines: list[str]) -> list[tuple[str, str]]:
+    """The commands of a block, each with the lines that stand below it."""
+    found: list[tuple[str, list[str]]] = []
+    for line in lines:
+        if line.startswith("$ "):
+            found.append((line[2:], []))
+        elif found and found[-1][0].endswith("\\") and not found[-1][1]:
+            found[-1] = (found[-1][0][:-1] + line.strip(), [])
+        elif found:
+            found[-1][1].append(line)
+    return [(command, "\n".join(shown).rstrip("\n")) for command, shown in found]
+
+
+def is_as_shown(said: str, shown: str) -> bool:
+    """Whether a command said what a page shows."""
+    pattern = ""
+    for line in shown.split("\n") if shown else []:
+        if line == "..":
+            pattern += r"(?:.*\n)*"
+        elif line.endswith(" .."):
+            pattern += re.escape(line.rpartition(" ")[0]) + r".*\n"
+        else:
+            pattern += re.escape(line) + r"\n"
+    return re.fullmatch(pattern, said + "\n" if said and not said.endswith("\n") else said) is not None
+
+
+def anchors(text: str) -> set[str]:
+    """The names of the places of a page that a link can lead to."""
+    heads = [re.sub(r"[^\w\- ]", "", it.lower()).replace(" ", "-") for it in re.findall(r"^#+ (.*)", text, re.M)]
+    return {*heads, *re.findall(r'<a id="([^"]*)"', text)}
+
+
+def broken_links(page: str, text: str) -> Iterator[str]:
+    """The links of a page that lead to no file of the repository, or to no place in it."""
+    for link in re.findall(r"\]\(([^)\s]+)\)", text):
+        path, _, anchor = link.partition("#")
+        target = os.path.join(os.path.dirname(page), path) if path else page
+        is_there = link.startswith("https://") or os.path.exists(target) and (not anchor or anchor in anchors(read_text(target)))
+        if not is_there:
+            yield link
+
+
+# ---- what a command needs
+
+
+def words_of(command: str) -> list[str]:
+    return re.findall(r"[^\s|&;<>()]+", command)
+
+
+def tools_of(command: str) -> list[str]:
+    """The programs that a command starts, by their first words, in substitutions too."""
+    starts = re.findall(r"(?:^|[|;&(]\s*)([^\s|&;<>()]+)", command)
+    return [it for it in starts if it in PACKAGES]
+
+
+def made_by(command: str) -> set[str]:
+    """The files that a command makes, as its words tell them: objects of C, outputs, and copies."""
+    objects = {it[:-2] + ".o" for it in words_of(command) if it.endswith(".c")}
+    return objects | set(re.findall(r"(?:> *|-o |\bcp \S+ |objcopy \S+ )([^\s>&|]+)", command))
+
+
+def version_of(tool: str) -> str:
+    found = re.search(r"\d+\.\d[.\d]*", run(tool, "--version").stdout.decode(errors="replace"))
+    return found[0] if found else "unknown"
+
+
+class Page:
+    """A page, and the folder in which its commands run."""
+
+    def __init__(self, tally: Tally, path: str, folder: str) -> None:
+        self.tally, self.path, self.folder = tally, path, folder
+        self.name = os.path.relpath(path, TOP)
+        self.text = read_text(path)
+        # Files that are missing or others, as a command that makes them was skipped, and why.
+        self.lacking: dict[str, str] = {}
+        self.environment = environment(LC_ALL="C.UTF-8", ELFMAP=PROGRAM, XDG_CACHE_HOME=f"{folder}/.cache", HOME=folder)
+
+    def foreign(self, tool: str) -> str:
+        """Why what a tool says can't be compared."""
+        package = PACKAGES[tool]
+        named, own = re.search(rf"\b{package} (\d+(?:\.\d+)+)", read_text("README.md")), version_of(tool)
+        if named and f"{own}.".startswith(f"{named[1]}."):
+            return ""
+        return f"with {package} {own}, not {named[1] if named else 'named in README.md'}"
+
+    def why_skipped(self, command: str) -> str:
+        if command in SKIPPED:
+            return SKIPPED[command]
+        for why in filter(None, map(self.foreign, tools_of(command))):
+            return why
+        for path in (os.path.normpath(it) for it in words_of(command)):
+            if path in self.lacking:
+                return self.lacking[path]
+            if path in MACHINE_FILES and (not os.path.isfile(path) or os.path.getsize(path) != MACHINE_FILES[path]):
+                return f"{path} is not {MACHINE_FILES[path]} bytes long"
+            if re.match(r"crates/\w+/out/", path) and not os.path.exists(f"{self.folder}/{path}"):
+                return f"{path} is not built"
+        return ""
+
+    def skip(self, command: str, why: str) -> None:
+        self.tally.note(f"skipped in {self.name}, {why}: {command}")
+
+    def run(self, command: str) -> str:
+        """What a command says. The variables that it exports and the folder that it goes to stay for the next one."""
+        state = f"{self.folder}/.state"
+        before = f'. "{state}"' if os.path.exists(state) else ":"
+        script = f'{before}\n{command}\nstatus=$?\n{{ export -p; printf "cd %q\\n" "$PWD"; }} > "{state}"\nexit $status'
+        pipes = {"stdin": subprocess.DEVNULL, "stdout": subprocess.PIPE, "stderr": subprocess.STDOUT}
+        words = ["bash", "-c", script]
+        try:
+            ran = subprocess.run(words, cwd=self.folder, env=self.environment, timeout=LONGEST, **pipes)  # type: ignore[call-overload]
+        except subprocess.TimeoutExpired:
+            return f"it took more than {LONGEST} s\n"
+        return str(ran.stdout.decode("utf-8", "replace"))
+
+    def try_command(self, command: str, shown: str) -> None:
+        why = self.why_skipped(command)
+        if why:
+            self.skip(command, why)
+            self.lacking |= dict.fromkeys(made_by(command), why) if command not in SKIPPED else {}
+            return
+        only = command.split()
+        if only[0] == "cat" and len(only) == 2 and not os.path.exists(f"{self.folder}/{only[1]}"):
+            write(f"{self.folder}/{only[1]}", shown + "\n")
+        said = self.run(command)
+        self.tally.check(is_as_shown(said, shown), f"{self.name} shows below '{command}':\n{shown}\nand it says:\n{said}")
+
+    def try_python(self, lines: list[str]) -> None:
+        """The lines of a block of Python, as doctest has them."""
+        text = "\n".join(lines)
+        lacks = next((why for name, why in self.lacking.items() if f'"{name}"' in text), "")
+        if lacks:
+            return self.skip(">>> ..", lacks)
+        write(f"{self.folder}/shown.txt", re.sub(r" \.\.$", " ...", text, flags=re.M) + "\n")
+        env = {**self.environment, "PYTHONPATH": f"{self.folder}/{ARCHIVE}/bindings/python", "PYTHONDONTWRITEBYTECODE": "1"}
+        ran = run(sys.executable, "-m", "doctest", "-o", "ELLIPSIS", "shown.txt", folder=self.folder, env=env)
+        self.tally.check(
+            ran.returncode == 0, f"{self.name} shows other lines of Python than there are:\n{(ran.stdout + ran.stderr).decode()}"
+        )
+
+    def try_all(self) -> None:
+        for lines in blocks(self.text):
+            bare = [it for it in lines if COMMAND_LIKE.match(it)] if not any(it.startswith("$ ") for it in lines) else []
+            if bare:
+                self.tally.fail(f"{self.name} has a command without its '$ ': {bare[0]}")
+            for command, shown in commands(lines):
+                self.try_command(command, shown)
+            # The pages of the bindings are tried by their own tests.
+            if any(it.startswith(">>> ") for it in lines) and not self.name.startswith("bindings/"):
+                self.try_python(lines)
+        for made, kept in PICTURES.items():
+            if os.path.exists(f"{self.folder}/{made}"):
+                self.tally.check(read_text(f"{self.folder}/{made}") == read_text(kept), f"{kept} is not the {made} of {self.name}")
+        named = {it.rstrip(".,:;") for it in re.findall(r"`((?:scripts|tools|bench|reference)/[\w./-]*)", self.text)}
+        gone = sorted(it for it in named if not os.path.exists(f"{TOP}/{it}"))
+        self.tally.check(not gone, f"{self.name} names what is not there: {gone}")
+        links = list(broken_links(self.path, self.text))
+        self.tally.check(not links, f"{self.name} has links that lead nowhere: {links}")
+
+
+def furnish(folder: str, archive: str) -> None:
+    os.mkdir(folder)
+    os.symlink(PROGRAM, f"{folder}/elfmap")
+    for it in FOLDERS:
+        os.symlink(f"{TOP}/{it}", f"{folder}/{it}")
+    shutil.copy(f"{TOP}/cases/sources/answer.c", folder)
+    shutil.copy(archive, folder)
+    subprocess.run(["tar", "xf", archive, "--strip-components=1", f"{ARCHIVE}/lib", f"{ARCHIVE}/include"], cwd=folder, check=True)
+
+
+def shown_commands(tally: Tally, options: Namespace) -> None:
+    others = sorted(glob.glob(f"{TOP}/docs/*.md") + glob.glob(f"{TOP}/bindings/*/README.md"))
+    pages = [f"{TOP}/README.md", f"{TOP}/CONTRIBUTING.md", *others]
+    every = [command for path in pages for lines in blocks(read_text(path)) for command, _ in commands(lines)]
+    for command in SKIPPED:
+        tally.check(command in every, f"no page shows the command that is skipped: {command}")
+    with tempfile.TemporaryDirectory(prefix="shown-commands-") as room:
+        archive = pack(room, "VERSION")
+        for number, path in enumerate(pages):
+            furnish(f"{room}/{number}", archive)
+            Page(tally, path, f"{room}/{number}").try_all()
+
+
+TOOLS = (*PACKAGES, "cc", "ar", "pkg-config", "wasm-opt")
+CRATES = crates_of("elfmap", VERDICTS, ENGINES)
+TESTS = [Test("shown-commands", "the commands that the pages show print what is below them", shown_commands, TOOLS, CRATES)]

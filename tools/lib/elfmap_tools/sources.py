@@ -1,0 +1,317 @@
+"""The public items of the crates, and the definitions that their contracts name, read from the sources as `rt fmt` lays them out."""
+
+import functools, os, re
+from collections.abc import Iterator
+from dataclasses import dataclass, field, replace
+
+from .tree import TOP, libraries, matched, read_text, texts_of
+
+# The comment lines and the attributes above a text, and its lines.
+Block = tuple[list[str], list[str], list[str]]
+# What words of the logic mean: of each a path and a name there.
+Uses = dict[str, tuple[str, str]]
+# The public crates, in the order of the table at the head of the crate `elf`.
+DOORS = [it for it in re.findall(r"^//! \| \[`(\w+)`\]", read_text("crates/elf/src/lib.rt"), re.M) if f"elf_{it}" in libraries()]
+HEAD = re.compile(r"pub (fn|struct|enum|trait|const|mod|use|type) (\w+)")
+CLAUSE = re.compile(r"(requires|ensures)\b")
+# What holds no bracket that counts: strings, characters, comments.
+LITERAL = re.compile(r"""b?"(?:\\.|[^"\\])*"|b?'(?:\\.[^']*|[^'\\])'|//.*""")
+IMPORT = re.compile(r"use Rattle\.([\w.]+)\.\{([^}]*)\}")
+DEFINITION = re.compile(r"(?:pub )?(?:abbrev|unfoldable|record|data) (?:pub )?([^\s(:]+)|(?:pub )?([^\s(:=]+) :")
+
+
+@dataclass
+class Item:
+    """An item of a source: its doc comment, its text up to its contract, its clauses, and what is in it."""
+
+    kind: str
+    name: str
+    source: str
+    docs: list[str]
+    text: list[str]
+    uses: Uses = field(default_factory=dict)
+    clauses: list[str] = field(default_factory=list)
+    ghosts: list[str] = field(default_factory=list)
+    traits: list[str] = field(default_factory=list)
+    members: "list[Item]" = field(default_factory=list)
+    fields: list[tuple[list[str], str]] = field(default_factory=list)
+
+
+def indent_of(line: str) -> int:
+    return len(line) - len(line.lstrip(" "))
+
+
+def balance(line: str) -> int:
+    bare = LITERAL.sub("", line)
+    return sum(bare.count(it) for it in "([{") - sum(bare.count(it) for it in ")]}")
+
+
+def end_of(lines: list[str], start: int, ends: str | tuple[str, ...]) -> int:
+    """Behind the last line of what begins at `start`: all brackets are closed, and it ends as such a text ends."""
+    level, indent = 0, indent_of(lines[start])
+    for at in range(start, len(lines)):
+        level += balance(lines[at])
+        bare = LITERAL.sub("", lines[at]).rstrip()
+        if level <= 0 and (bare.endswith(ends) or (bare.endswith("}") and indent_of(lines[at]) == indent)):
+            return at + 1
+    return len(lines)
+
+
+def blocks(lines: list[str], ends: str | tuple[str, ...] = ";") -> Iterator[Block]:
+    """The texts of one level, each with the comment lines and attributes above it."""
+    at, docs, marks = 0, [], []
+    while at < len(lines):
+        word = lines[at].strip()
+        if word.startswith("///"):
+            docs.append(word[3:].removeprefix(" "))
+        elif word.startswith("//"):
+            marks.append(word)
+        elif word.startswith("#["):
+            end = next(k for k in range(at, len(lines)) if balance("".join(lines[at : k + 1])) == 0)
+            marks.append(" ".join(it.strip() for it in lines[at : end + 1]))
+            at = end
+        elif word:
+            end = end_of(lines, at, ends)
+            yield docs, marks, lines[at:end]
+            at, docs, marks = end - 1, [], []
+        else:
+            docs, marks = [], []
+        at += 1
+
+
+def inside(text: list[str]) -> list[str]:
+    """The lines between the braces of a text."""
+    first = next((at for at, line in enumerate(text) if line.rstrip().endswith("{")), len(text))
+    return text[first + 1 : -1]
+
+
+def unindented(lines: list[str]) -> list[str]:
+    least = min((indent_of(it) for it in lines if it.strip()), default=0)
+    return [it[least:].rstrip() for it in lines]
+
+
+def signature_and_clauses(text: list[str], uses: Uses) -> tuple[list[str], Uses, list[str]]:
+    """A function's signature, what its words mean, and the clauses after it."""
+    head, clauses = list[str](), list[list[str]]()
+    for line in text:
+        word = line.strip()
+        if word in ("{", "{}", ";") or (not clauses and word == "where"):
+            break
+        if CLAUSE.match(word):
+            clauses.append([line])
+        elif clauses:
+            clauses[-1].append(line)
+        else:
+            head.append(line.removesuffix(" {"))
+            if line.endswith(" {"):
+                break
+    return unindented(head), uses, ["\n".join(unindented(it)).removesuffix(";") for it in clauses]
+
+
+def imports(text: str) -> Uses:
+    """What the words of the logic in a text stand for, by its `use` lines: a path and a name there."""
+    found = {}
+    for path, names in IMPORT.findall(text):
+        for word in names.split(","):
+            name, _, alias = word.strip().partition(" as ")
+            found[alias or name] = (path, name)
+    return found
+
+
+def members_of(text: list[str], source: str, is_trait: bool, uses: Uses) -> Iterator[Item]:
+    """The public functions of an impl, or all of a trait."""
+    lines = inside(text)
+    uses = {**uses, **imports("\n".join(lines))}
+    for docs, _, part in blocks(lines):
+        match = re.match(r"(pub )?(fn|const|type) (\w+)", part[0].strip())
+        if match and (match[1] or is_trait):
+            yield Item(match[2], match[3], source, docs, *signature_and_clauses(part, uses))
+
+
+def ghosts_of(text: list[str]) -> list[str]:
+    """The lines of a text that are of the logic alone, with their comments."""
+    found = []
+    for _, marks, part in blocks(inside(text)):
+        if part[0].strip().startswith("ghost ") and not part[0].strip().startswith("ghost use"):
+            comments = [it.replace("// ", "-- ", 1) for it in marks if it.startswith("//")]
+            found.append("\n".join([*comments, *unindented(part)]).removesuffix(";"))
+    return found
+
+
+def fields_of(text: list[str]) -> Iterator[tuple[list[str], str]]:
+    """The public fields of a struct or the variants of an enum, each with its doc."""
+    is_enum = "enum " in text[0]
+    for docs, _, part in blocks(inside(text), ","):
+        if is_enum or part[0].strip().startswith("pub "):
+            yield docs, "\n".join(unindented(part)).rstrip(",").removeprefix("pub ")
+
+
+def item_of(docs: list[str], marks: list[str], text: list[str], source: str, uses: Uses) -> Item:
+    kind, name = matched(HEAD, text[0]).groups()
+    if kind == "fn":
+        return Item(kind, name, source, docs, *signature_and_clauses(text, uses))
+    item = Item(kind, name, source, docs, unindented(text), uses)
+    if kind in ("struct", "enum", "trait"):
+        item.text = [it for it in marks if it.startswith("#[derive")] + [text[0].rstrip().removesuffix(" {")]
+    if kind in ("struct", "enum"):
+        item.fields = list(fields_of(text))
+    if kind == "trait":
+        item.members, item.ghosts = list(members_of(text, source, True, uses)), ghosts_of(text)
+        item.uses = {**uses, **imports("\n".join(text))}
+    return item
+
+
+@functools.cache
+def source(path: str) -> tuple[list[str], dict[str, Item], list[tuple[list[str], list[str]]], Uses]:
+    """The front doc of a source file, its public items by their names, and its impls."""
+    lines = read_text(path).splitlines()
+    front = [it[3:].removeprefix(" ") for it in lines if it.startswith("//!")]
+    items, impls, outer = {}, [], []
+    for docs, marks, text in blocks([it for it in lines if not it.startswith(("//!", "#!["))]):
+        if text[0].startswith("impl"):
+            impls.append((docs, text))
+        elif "use " in text[0][:10]:
+            outer += text
+        elif HEAD.match(text[0]):
+            items[matched(HEAD, text[0])[2]] = (docs, marks, text)
+    uses = imports("\n".join(outer))
+    return front, {name: item_of(*it, path, uses) for name, it in items.items()}, impls, uses
+
+
+def sources_of(crate: str) -> list[str]:
+    return [it[len(TOP) + 1 :] for it in texts_of(crate) if it.endswith(".rt") and it.startswith(f"{TOP}/crates/{crate}/src/")]
+
+
+def with_impls(item: Item, crate: str) -> Item:
+    """An item with the public functions of all its impls, the traits that it has, and its ghost view."""
+    for path in sorted(sources_of(crate), key=lambda it: it != item.source):
+        _, _, impls, uses = source(path)
+        for docs, text in impls:
+            head = re.match(r"impl(?:<.*?>)? (?:([\w:]+)(?:<.*>)? for )?(\w+)(?:<.*>)? \{", text[0])
+            if not head or head[2] != item.name:
+                continue
+            if not head[1]:
+                item.members += members_of(text, path, False, uses)
+            elif head[1] == "Model":
+                item.ghosts += ghosts_of(text)
+                item.uses = {**item.uses, **uses, **imports("\n".join(text))}
+            else:
+                item.traits.append(re.sub(r"^impl(<.*?>)? | for .*", "", text[0]))
+    return item
+
+
+# ---- what a crate shows
+
+
+def shown_by(path: str) -> Iterator[tuple[int, str, str]]:
+    """What a file shows of others by `pub use`: each name with its path, and in front the offset of the line."""
+    for line in re.finditer(r"^pub use (?:([\w:]+)::\{([^}]*)\}|([\w:]+(?: as \w+)?));", read_text(path), re.M):
+        for word in (line[2] or line[3]).split(","):
+            place, _, alias = word.strip().partition(" as ")
+            if place:
+                yield line.start(), alias or place.rsplit("::", 1)[-1], f"{line[1]}::{place}" if line[1] else place
+
+
+def module_file(crate: str, words: tuple[str, ...]) -> str:
+    """The file of a module of a crate."""
+    return f"crates/{crate}/src/{'/'.join(words or ('lib',))}.rt"
+
+
+def found(crate: str, words: tuple[str, ...], name: str) -> tuple[str, str]:
+    """The crate and the file in which a name of a module is defined."""
+    path = module_file(crate, words)
+    if name in source(path)[1]:
+        return crate, path
+    for _, shown, place in shown_by(path):
+        if shown == name:
+            return followed(crate, words, place)
+    raise LookupError(f"{path}: there is no {name}")
+
+
+def followed(crate: str, words: tuple[str, ...], place: str) -> tuple[str, str]:
+    first, *rest = place.split("::")
+    if os.path.isdir(f"{TOP}/crates/{first}"):
+        return found(first, tuple(rest[:-1]), rest[-1])
+    return found(crate, (*words, first, *rest[:-1]), rest[-1])
+
+
+@functools.cache
+def item_at(crate: str, path: str, name: str) -> Item:
+    item = source(path)[1][name]
+    if item.kind == "mod":
+        return module(crate, (name,))
+    return with_impls(item, crate) if item.kind in ("struct", "enum") else item
+
+
+@functools.cache
+def module(crate: str, words: tuple[str, ...]) -> Item:
+    """A public module: its front doc, its constants, and the modules that it shows."""
+    path = module_file(crate, words)
+    front, items, _, _ = source(path)
+    members = [it for it in items.values() if it.kind in ("const", "fn")]
+    for _, shown, place in shown_by(path):
+        members.append(replace(item_of_place(crate, words, place), name=shown, text=[f"pub mod {shown}"]))
+    return Item("mod", words[-1], path, front, [f"pub mod {words[-1]}"], members=members)
+
+
+def item_of_place(crate: str, words: tuple[str, ...], place: str) -> Item:
+    where, path = followed(crate, words, place)
+    return item_at(where, path, place.rsplit("::", 1)[-1])
+
+
+def items_of(crate: str) -> Iterator[Item]:
+    """The items that a crate shows, in the order of its lib.rt."""
+    path = module_file(crate, ())
+    modules = [(line.start(), line[1], None) for line in re.finditer(r"^pub mod (\w+);", read_text(path), re.M)]
+    for _, shown, place in sorted([*modules, *shown_by(path)], key=lambda it: it[0]):
+        yield item_of_place(crate, (), place) if place else item_at(crate, path, shown)
+
+
+# ---- the definitions
+
+
+@dataclass
+class Definition:
+    """A definition of a file of specs/, with the comment above it and its own text."""
+
+    name: str
+    path: str
+    comment: str
+    text: str
+
+
+@functools.cache
+def definitions(path: str) -> tuple[dict[str, Definition], Uses]:
+    """The definitions of a file of specs/ by their names, constructors among them, and what it takes from other files."""
+    if not os.path.isfile(f"{TOP}/{path}"):
+        return {}, {}
+    found, comment, text = dict[str, Definition](), list[str](), list[str]()
+    for line in [*read_text(path).splitlines(), ""]:
+        if text and (not line or line.startswith("--")):
+            add_definition(found, path, comment, text)
+            comment, text = [], []
+        if not line:
+            comment = []
+        elif line.startswith("--"):
+            comment.append(line[2:].strip())
+        elif text or DEFINITION.match(line):
+            text.append(line)
+    return found, imports(read_text(path))
+
+
+def add_definition(found: dict[str, Definition], path: str, comment: list[str], text: list[str]) -> None:
+    match = matched(DEFINITION, text[0])
+    said = " ".join(it for it in comment if not it.startswith("--"))
+    it = Definition(match[1] or match[2], path, said, "\n".join(text))
+    found[it.name] = it
+    if " data " in f" {text[0]}":
+        found.update({name: it for name in re.findall(r"^  (?:pub )?([^\s(:]+) :", it.text, re.M)})
+
+
+def definition(place: str, name: str) -> Definition | None:
+    """The definition that a name of a path of the logic stands for; None where it is none of the repository's specs/."""
+    crate, _, rest = place.partition(".specs.")
+    found, uses = definitions(f"crates/{crate}/specs/{rest.replace('.', '/')}.antt")
+    if name in found:
+        return found[name]
+    return definition(*uses[name]) if name in uses else None

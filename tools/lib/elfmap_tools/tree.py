@@ -1,0 +1,127 @@
+"""The folders of the repository, its crates, and what every tool does: read and write files, run commands, show that it still runs."""
+
+import contextlib, functools, os, re, subprocess, sys, threading, time
+from collections.abc import Iterable, Iterator, Mapping
+
+TOP = os.path.dirname(os.path.dirname(os.path.dirname(os.path.dirname(os.path.realpath(__file__)))))
+PROCESSORS = len(os.sched_getaffinity(0))
+PROGRAM = f"{TOP}/crates/elfmap/out/elfmap"
+RULES = f"{TOP}/rules/x86-64.rules"
+Ended = subprocess.CompletedProcess[bytes]
+Texts = subprocess.CompletedProcess[str]
+
+
+def read_bytes(path: str) -> bytes:
+    with open(path, "rb") as file:
+        return file.read()
+
+
+def read_text(path: str) -> str:
+    """The text of a file; a relative path is one of the repository."""
+    with open(os.path.join(TOP, path), encoding="utf-8") as file:
+        return file.read()
+
+
+def write(path: str, content: bytes | str) -> str:
+    """Writes a file, and returns its path."""
+    with open(path, "wb") as file:
+        file.write(content.encode() if isinstance(content, str) else content)
+    return path
+
+
+def matched(pattern: str | re.Pattern[str], text: str) -> re.Match[str]:
+    """A match at the beginning of a text, which has to be there."""
+    found = re.match(pattern, text)
+    assert found, text
+    return found
+
+
+def run(*words: str, folder: str | None = None, env: Mapping[str, str] | None = None, timeout: float | None = None) -> Ended:
+    """Runs a command without input: its status, and the bytes of both its outputs."""
+    return subprocess.run(words, cwd=folder, env=env, timeout=timeout, stdin=subprocess.DEVNULL, capture_output=True)
+
+
+def said(*words: str, folder: str | None = None, env: Mapping[str, str] | None = None) -> Texts:
+    """Runs a command without input: its status, and both its outputs as one text."""
+    return subprocess.run(
+        words, cwd=folder or TOP, env=env, stdin=subprocess.DEVNULL, stdout=subprocess.PIPE, stderr=subprocess.STDOUT, errors="replace"
+    )
+
+
+def files_below(folder: str) -> Iterator[str]:
+    """The regular files below a folder, in the order of their names; links and what can't be read are left out."""
+    for at, folders, names in os.walk(folder):
+        folders.sort()
+        yield from (path for path in (f"{at}/{it}" for it in sorted(names)) if os.path.isfile(path) and not os.path.islink(path))
+
+
+@contextlib.contextmanager
+def progress(name: str) -> Iterator[None]:
+    """While the block runs, for longer than ten seconds, standard error has a line that counts them, if it is a terminal."""
+    ended, begun = threading.Event(), time.monotonic()
+
+    def count() -> None:
+        wait = 10.0
+        while not ended.wait(wait):
+            wait = 1.0
+            print(f"\r{name}: {time.monotonic() - begun:.0f} s ", end="", file=sys.stderr, flush=True)
+        if wait < 10:
+            print("\r\033[K", end="", file=sys.stderr, flush=True)
+
+    thread = threading.Thread(target=count, daemon=True)
+    if sys.stderr.isatty():
+        thread.start()
+    try:
+        yield
+    finally:
+        ended.set()
+        if thread.is_alive():
+            thread.join()
+
+
+# ---- the crates, by their lines in crates.txt
+
+
+@functools.cache
+def crate_lines() -> list[tuple[list[str], list[str]]]:
+    """Of each line of crates.txt the words before the colon, the crate's name first, and the libraries after it."""
+    lines = [line.split("#")[0].partition(":") for line in read_text("crates.txt").splitlines()]
+    return [(head.split(), rest.split()) for head, _, rest in lines if head.strip()]
+
+
+@functools.cache
+def libraries() -> dict[str, list[str]]:
+    """The libraries that each crate of the repository names."""
+    return {head[0]: rest for head, rest in crate_lines()}
+
+
+@functools.cache
+def static_libraries() -> set[str]:
+    """The crates that crates.txt makes archives for C."""
+    return {head[0] for head, _ in crate_lines() if "staticlib" in head[1:]}
+
+
+def is_program(crate: str) -> bool:
+    return os.path.isfile(f"{TOP}/crates/{crate}/src/main.rt")
+
+
+def deps(name: str) -> list[str]:
+    """The crates of the repository that this one names."""
+    return [it for it in libraries()[name] if it in libraries()]
+
+
+@functools.cache
+def below(name: str) -> list[str]:
+    """The crates of the repository below this one, each after those that it needs itself."""
+    return list(dict.fromkeys(it for dep in deps(name) for it in [*below(dep), dep]))
+
+
+@functools.cache
+def texts_of(crate: str) -> list[str]:
+    """The files of its code, definitions and proofs, in order."""
+    return sorted(path for part in ("src", "specs", "proofs") for path in files_below(f"{TOP}/crates/{crate}/{part}"))
+
+
+def is_newer(path: str, crates: Iterable[str]) -> bool:
+    """Whether a built file is there, and at least as new as every text of these crates."""
+    return os.path.isfile(path) and all(os.path.getmtime(it) <= os.path.getmtime(path) for crate in crates for it in texts_of(crate))
