@@ -13,6 +13,7 @@ from pathlib import Path
 from typing import NamedTuple, Optional
 
 from elfmap._rules import RULES
+from elfmap._sources import reason_of
 
 
 class Finding(NamedTuple):
@@ -153,7 +154,7 @@ class Baseline:
             known = [(it["path"], it["rule"], tuple(it["sections"])) for it in entries]
             return cls(known)
         except OSError as fault:
-            raise BadWord(f"{path}: {(fault.strerror or str(fault)).lower()}") from None
+            raise BadWord(f"{path}: {reason_of(fault)}") from None
         except (ValueError, KeyError, TypeError, RecursionError):
             raise BadWord(f"{path} is no baseline") from None
 

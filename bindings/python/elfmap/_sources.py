@@ -17,7 +17,8 @@ from elfmap import _library
 
 # The longest file that keeps rule 1, and one byte more.
 LONGEST = 2**30 + 1
-_BLOCK = 1 << 16
+# How much is read at once: at the beginning, which tells what a file is, and elsewhere.
+_FIRST_BLOCK, _BLOCK = 512, 1 << 16
 _NORESERVE = getattr(mmap, "MAP_NORESERVE", 0x4000)
 _LEAST_ROOM = 1 << 20
 
@@ -31,7 +32,7 @@ class Unreadable(Exception):
 
 
 def reason_of(fault: OSError) -> str:
-    return (fault.strerror or str(fault)).lower()
+    return fault.strerror.lower() if fault.strerror else str(fault)
 
 
 class Source:
@@ -52,7 +53,8 @@ class Source:
         start, end, _ = place.indices(self._size)
         within = start - self._block_start
         if not (0 <= within and end - self._block_start <= len(self._block)):
-            self._block = self._read(start, max(end - start, min(_BLOCK, self._size - start)))
+            block = min(_BLOCK if start else _FIRST_BLOCK, self._size - start)
+            self._block = self._read(start, max(end - start, block))
             self._block_start, within = start, 0
         return self._block[within : within + max(end - start, 0)]
 

@@ -314,12 +314,7 @@ def explain(file: Words, rule: int, at: int, table: Optional[int] = None) -> Tol
     """Why a rule is broken at an offset, of an image or of the table in a section."""
     if rule == SHARED_BYTE:
         return _shared_byte(file, at)
-    found = list(file.places(at, file.related(table) if table is not None else ()))
-    wanted = [kind for kind, rules in PARTS.items() if rule in rules] or list(PARTS)
-    found = [it for it in found if it.kind in wanted] or found
-    end = Place("end", None, f"the file ends there, with {len(file.data)} bytes")
-    none = Place("gap", None, "in no part of the file")
-    found = found or [end if at >= len(file.data) else none]
+    found = _found(file, rule, at, file.related(table) if table is not None else ())
     indexes = [it.section for it in found if it.section]
     words = [it.words for it in found]
     if table is not None and table not in indexes:
@@ -327,6 +322,15 @@ def explain(file: Words, rule: int, at: int, table: Optional[int] = None) -> Tol
         words.insert(0, f"the table in {file.typed_words(table)}")
     names = [file.section_name(it) or f"section {it}" for it in indexes]
     return Told(f"{'; '.join(words)}; {reason(rule)}; {ADVICE[rule]}", names)
+
+
+def _found(file: Words, rule: int, at: int, near: Iterable[int]) -> list[Place]:
+    """What holds the offset, and of it that which the rule looks at."""
+    if at >= len(file.data):
+        return [Place("end", None, f"the file ends there, with {len(file.data)} bytes")]
+    found = list(file.places(at, near))
+    wanted = [kind for kind, rules in PARTS.items() if rule in rules] or list(PARTS)
+    return [it for it in found if it.kind in wanted] or found or [Place("gap", None, "in no part of the file")]
 
 
 def _shared_byte(file: Words, at: int) -> Told:
