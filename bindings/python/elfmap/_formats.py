@@ -140,7 +140,8 @@ def _sarif_rule(rule: int, name: str) -> dict[str, Any]:
 def _sarif_result(it: Finding, position: int) -> dict[str, Any]:
     region = {"byteOffset": it.start + it.offset, **({} if it.rule == _TOO_SHORT else {"byteLength": 1})}
     location: dict[str, Any] = {"physicalLocation": {**_artifact(it.file), "region": region}}
-    names = [{"name": name, "kind": "section"} for name in it.sections]
+    # The schema asks for locations that differ; the names of sections need not.
+    names = [{"name": name, "kind": "section"} for name in dict.fromkeys(it.sections)]
     member = [{"name": printable(it.path), "kind": "member"}] if it.path != it.file else []
     if names or member:
         location["logicalLocations"] = [*member, *names]

@@ -82,12 +82,14 @@ class Walk:
             self._unreadable(folder, fault)
 
     def _entry(self, entry: os.DirEntry[bytes]) -> Iterator[Found | bytes]:
-        if entry.is_symlink() or self._excluded.match(entry.path):
+        if self._excluded.match(entry.path):
             return
         try:
             found = entry.stat(follow_symlinks=False)
         except OSError as fault:
             self._unreadable(entry.path, fault)
+            return
+        if stat.S_ISLNK(found.st_mode):
             return
         if stat.S_ISDIR(found.st_mode):
             if _identity(found) not in self._named:

@@ -4,7 +4,6 @@ What is expected is what docs/RULES.md says of such a file, or the description o
 format: SARIF 2.1.0, the layouts of archives.
 """
 
-import ast
 import contextlib
 import json
 import os
@@ -16,7 +15,6 @@ import struct
 import subprocess
 import sys
 import tempfile
-import time
 import unittest
 from pathlib import Path
 from unittest import mock
@@ -24,15 +22,25 @@ from urllib.parse import unquote_to_bytes
 from xml.etree import ElementTree
 
 import elfmap
-from elfmap import _advice, _archives, _checks, _findings, _formats, _rules, _sources, _walk, _words, _workers, build, lint
+from elfmap import _advice, _archives, _checks, _findings, _formats
+from elfmap import _rules, _sources, _walk, _words, _workers, build, lint
 from elfmap._inspect import Depth, Inspector
 
 PACKAGE = Path(__file__).resolve().parents[1]
 RULES = build.REPOSITORY / "docs/RULES.md"
+PROGRAM = [sys.executable, "-m", "elfmap.lint"]
+ENVIRONMENT = {**os.environ, "PYTHONPATH": os.pathsep.join([str(PACKAGE), os.environ.get("PYTHONPATH", "")])}
 SHARED = (
     b"offset 0x72: SHARED_BYTE (33): the content of .text [0x40, 0x73) and of .data [0x72, 0x76) "
     b"share byte 0x72; every byte of a file belongs to one of its parts"
 )
+
+
+def setUpModule():
+    # The tests change the folder, and the library may be named by a path from here.
+    elfmap.check(GOOD)
+    if "ELFMAP_LIB_DIR" in ENVIRONMENT:
+        ENVIRONMENT["ELFMAP_LIB_DIR"] = os.path.abspath(ENVIRONMENT["ELFMAP_LIB_DIR"])
 
 
 class Made:
@@ -378,6 +386,8 @@ class FormatTest(Case):
             uri = place["physicalLocation"]["artifactLocation"]["uri"]
             self.assertRegex(uri, r"^(file:///)?[A-Za-z0-9._~/%-]+$")
             self.assertGreaterEqual(place["physicalLocation"]["region"]["byteOffset"], 0)
+            logical = [json.dumps(it, sort_keys=True) for it in place["logicalLocations"]]
+            self.assertEqual(len(logical), len(set(logical)))
 
     def test_junit(self):
         os.rename("a/bad.o", b"a/\xff<&\"'>\x01.o")
@@ -495,9 +505,7 @@ class OptionTest(Case):
         self.assertIn("-(" + LONG.decode() + ")", self.paths("-", stdin=GNU))
 
     def test_a_pipe_as_standard_input(self):
-        command = [sys.executable, "-m", "elfmap.lint", "-"]
-        environment = {**os.environ, "PYTHONPATH": os.pathsep.join([str(PACKAGE), os.environ.get("PYTHONPATH", "")])}
-        ran = subprocess.run(command, input=SHARING, stdout=subprocess.PIPE, env=environment)
+        ran = subprocess.run([*PROGRAM, "-"], input=SHARING, stdout=subprocess.PIPE, env=ENVIRONMENT)
         self.assertEqual((ran.returncode, ran.stdout.splitlines()[0]), (1, b"-: " + SHARED))
 
 
@@ -530,11 +538,9 @@ class StatusTest(Case):
 
     def test_a_pipe_that_is_closed(self):
         self.put(bad__o=SHARING)
-        command = [sys.executable, "-m", "elfmap.lint", *["bad.o", "good.o"][:1]]
-        environment = {**os.environ, "PYTHONPATH": os.pathsep.join([str(PACKAGE), os.environ.get("PYTHONPATH", "")])}
         reading, writing = os.pipe()
         os.close(reading)
-        ran = subprocess.run(command, stdout=writing, stderr=subprocess.PIPE, env=environment)
+        ran = subprocess.run([*PROGRAM, "bad.o"], stdout=writing, stderr=subprocess.PIPE, env=ENVIRONMENT)
         os.close(writing)
         self.assertEqual((ran.returncode, ran.stderr), (1, b""))
 
