@@ -21,10 +21,9 @@ from elfmap._words import DYNSYM, SYMTAB, Words
 # DYNAMIC, NOTE, REL, DYNSYM, GROUP and SYMTAB_SHNDX.
 _TABLE_TYPES = {2, 3, 4, 5, 6, 7, 9, 11, 17, 18}
 _REFUSED = b"\nrefused "
-_LEAST_EXTENTS = 256
-_LEAST_TEXT = 1 << 20
-# What is longer is given back after a file.
-_MOST_TEXT = 1 << 24
+# How much room there is for each file. What is above the most is given back after one.
+_LEAST_EXTENTS, _MOST_EXTENTS = 256, 1 << 16
+_LEAST_TEXT, _MOST_TEXT = 1 << 20, 1 << 24
 TOO_LONG_AS_OBJECT = 0
 
 
@@ -100,6 +99,8 @@ class Checks:
     # ---- What is judged
 
     def _image(self, size: int) -> Optional[Fault]:
+        if len(self._extents) > _MOST_EXTENTS:
+            self._extents = (_library.Extent * _LEAST_EXTENTS)()
         fault = _library.Fault()
         while not self._library.elfmap_verdict_in(self._room.address, size, self._extents, len(self._extents), fault):
             if fault.rule != _library.SHORT_ROOM:

@@ -128,7 +128,7 @@ class Room:
             self._drop()
             self._grow(max(size, _LEAST_ROOM))
         elif self._used > self.FRONT:
-            self._memory.madvise(mmap.MADV_DONTNEED, 0, _pages(self._used))
+            self._memory.madvise(mmap.MADV_DONTNEED, 0, self._used)
         self._used = size
 
     def _drop(self) -> None:
@@ -146,7 +146,3 @@ class Room:
             raise Unreadable("there is no memory for a file of this length") from None
         self.view = memoryview(self._memory)
         self.address = _library.address_of(self.view)
-
-
-def _pages(size: int) -> int:
-    return (size + mmap.PAGESIZE - 1) // mmap.PAGESIZE * mmap.PAGESIZE
