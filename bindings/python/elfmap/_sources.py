@@ -17,8 +17,8 @@ from elfmap import _library
 
 # The longest file that keeps rule 1, and one byte more.
 LONGEST = 2**30 + 1
-# How much is read at once: at the beginning, which tells what a file is, and elsewhere.
-_FIRST_BLOCK, _BLOCK = 512, 1 << 16
+# How much is read at once, and how much of it is held.
+_HEAD, _BLOCK, _MOST_BLOCKS = 512, 1 << 16, 16
 _NORESERVE = getattr(mmap, "MAP_NORESERVE", 0x4000)
 _LEAST_ROOM = 1 << 20
 
@@ -42,8 +42,8 @@ class Source:
         self.handle = handle
         self.start = start
         self._size = size
-        self._block = b""
-        self._block_start = 0
+        self._head: Optional[bytes] = None
+        self._blocks: dict[int, bytes] = {}
 
     def __len__(self) -> int:
         return self._size
@@ -51,12 +51,24 @@ class Source:
     def __getitem__(self, place: slice) -> bytes:
         """A slice of the bytes, shorter where the file has become shorter."""
         start, end, _ = place.indices(self._size)
-        within = start - self._block_start
-        if not (0 <= within and end - self._block_start <= len(self._block)):
-            block = min(_BLOCK if start else _FIRST_BLOCK, self._size - start)
-            self._block = self._read(start, max(end - start, block))
-            self._block_start, within = start, 0
-        return self._block[within : within + max(end - start, 0)]
+        if start < end <= _HEAD:
+            # Of most files no more is asked for: they are no ELF files.
+            if self._head is None:
+                self._head = self._read(0, min(_HEAD, self._size))
+            return self._head[start:end]
+        number = start // _BLOCK
+        if end > (number + 1) * _BLOCK or end <= start:
+            return self._read(start, end - start)
+        within = start - number * _BLOCK
+        return self._block(number)[within : within + end - start]
+
+    def _block(self, number: int) -> bytes:
+        if number not in self._blocks:
+            if len(self._blocks) == _MOST_BLOCKS:
+                del self._blocks[next(iter(self._blocks))]
+            start = number * _BLOCK
+            self._blocks[number] = self._read(start, min(_BLOCK, self._size - start))
+        return self._blocks[number]
 
     def _read(self, start: int, count: int) -> bytes:
         try:

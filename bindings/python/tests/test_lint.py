@@ -5,6 +5,7 @@ format: SARIF 2.1.0, the layouts of archives.
 """
 
 import contextlib
+import io
 import json
 import os
 import re
@@ -530,6 +531,17 @@ class StatusTest(Case):
         self.assertIn(SHARED, out)
         self.assertEqual(said, b"elfmap-lint: none: no such file or directory\n")
         self.assertTrue(out.endswith(b"; 1 unreadable\n"))
+
+    def test_progress_is_shown_on_a_terminal_alone(self):
+        for is_terminal in (False, True):
+            said = io.StringIO()
+            with mock.patch.object(said, "isatty", return_value=is_terminal), mock.patch.object(sys, "stderr", said):
+                progress = lint.Progress()
+                with mock.patch("time.monotonic", return_value=2.0**40):
+                    progress.tell(_findings.Report(checked=7))
+                progress.end()
+            self.assertEqual("7 files checked" in said.getvalue(), is_terminal)
+            self.assertEqual(bool(said.getvalue()), is_terminal)
 
     def test_nothing_to_check(self):
         self.put(text=b"no ELF file")
