@@ -8,7 +8,6 @@ import os
 import re
 from collections import Counter
 from collections.abc import Iterable, Sequence
-from dataclasses import dataclass, field
 from pathlib import Path
 from typing import NamedTuple, Optional
 
@@ -39,19 +38,19 @@ class Unread(NamedTuple):
     reason: str
 
 
-@dataclass
 class Report:
     """What a run, or a part of it, has found."""
 
-    checked: int = 0
-    no_elf: int = 0
-    class_32: int = 0
-    irregular: int = 0
-    suppressed: int = 0
-    findings: list[Finding] = field(default_factory=list)
-    unreadable: list[Unread] = field(default_factory=list)
-    # The files and members that were checked, where a format wants them.
-    names: list[bytes] = field(default_factory=list)
+    def __init__(self, checked: int = 0, unreadable: Iterable[Unread] = ()) -> None:
+        self.checked = checked
+        self.no_elf = 0
+        self.class_32 = 0
+        self.irregular = 0
+        self.suppressed = 0
+        self.findings: list[Finding] = []
+        self.unreadable: list[Unread] = list(unreadable)
+        # The files and members that were checked, where a format wants them.
+        self.names: list[bytes] = []
 
     def add(self, other: Report) -> None:
         self.checked += other.checked

@@ -3,10 +3,9 @@
 from __future__ import annotations
 
 import json
-import os
 from collections.abc import Callable, Iterable, Iterator
 from itertools import groupby
-from typing import Any, Optional
+from typing import Any
 from urllib.parse import quote_from_bytes
 
 from elfmap._advice import ADVICE

@@ -11,15 +11,17 @@ from __future__ import annotations
 
 import argparse
 import os
+import signal
 import stat
 import sys
 import tempfile
 import time
-from collections.abc import Iterable, Iterator, Sequence
+from collections.abc import Iterator, Sequence
+from itertools import chain
 from typing import BinaryIO, Optional
 
 from elfmap import _library
-from elfmap._findings import BadWord, Baseline, Finding, Globs, Ignored, Report, Unread, baseline_text
+from elfmap._findings import BadWord, Baseline, Globs, Ignored, Report, Unread, baseline_text
 from elfmap._inspect import Depth, Inspector
 from elfmap._sources import reason_of, standard_input
 from elfmap._walk import Walk, chunks
@@ -126,12 +128,13 @@ class Run:
         """In this process where there is little to do, or else in several."""
         first, second = next(tasks, None), next(tasks, None)
         some = [it for it in (first, second) if it is not None]
+        every = chain(some, tasks)
         if self._jobs == 1 or len(some) < 2:
             work = self._work()
-            for paths in (*some, *tasks):
+            for paths in every:
                 self._add(work(paths))
         else:
-            Pool(self._work, self._jobs, self._add).run(_chained(some, tasks))
+            Pool(self._work, self._jobs, self._add).run(every)
 
     def _tools(self) -> Inspector:
         options = self._options
@@ -188,11 +191,6 @@ class Run:
             _said(b"no ELF file was checked")
             return FOUND
         return FOUND if self.report.findings else CLEAN
-
-
-def _chained(first: Iterable[list[bytes]], rest: Iterator[list[bytes]]) -> Iterator[list[bytes]]:
-    yield from first
-    yield from rest
 
 
 class Output:
@@ -255,8 +253,7 @@ def script() -> None:
     try:
         status = main()
     except KeyboardInterrupt:
-        status = 130
-    # What standard output may still hold can't be written to a pipe that is closed.
+        status = 128 + signal.SIGINT
     sys.exit(status)
 
 
