@@ -107,7 +107,7 @@ def _shown(name: bytes) -> str:
 
 
 def members(source: Source, path: bytes) -> Iterator[Member]:
-    """The members in their order. Raises Damaged behind those that are whole."""
+    """The members in their order. Raises Damaged after the last whole one."""
     return _Archive(source, path).members()
 
 

@@ -3,7 +3,7 @@
 Of a file that is longer than a few pages not all bytes are read. The rules of images look
 at the header, at the two tables of headers, and at the first and the last byte of the
 section name string table; those of tables and objects also at the contents of sections
-that hold tables. Whatever stands elsewhere, the verdict is the same.
+that hold tables. The verdict does not depend on any other byte.
 """
 
 from __future__ import annotations
@@ -36,7 +36,7 @@ class Fault(NamedTuple):
 
 
 class Checks:
-    """Judges one file after another, in the same memory."""
+    """Checks one file after another, in the same memory."""
 
     def __init__(self, tables: bool, objects: bool) -> None:
         self._tables = tables
@@ -96,7 +96,7 @@ class Checks:
         table = self._room.view[file.e_shoff : file.e_shoff + 64 * file.sections] if file.e_shoff else b""
         return [(start, length) for kind, start, length in record.iter_unpack(table) if kind in _TABLE_TYPES]
 
-    # ---- What is judged
+    # ---- The verdicts
 
     def _image(self, size: int) -> Optional[Fault]:
         if len(self._extents) > _MOST_EXTENTS:
@@ -123,7 +123,7 @@ class Checks:
         return [Fault(rule, at, _owner(words, it) if words else it[0]) for (rule, at), it in groups.items()]
 
     def _refused(self, size: int) -> Iterator[tuple[int, int, int]]:
-        """What `elfmap show` refuses: a section, a rule and an offset in each line."""
+        """The lines `refused I R A` of `elfmap show`: a section, a rule and an offset."""
         length = self._show(size)
         start = self._text.find(_REFUSED, 0, length)
         while start >= 0:

@@ -1,4 +1,4 @@
-"""What is found, and what of it is not told: by a rule's name, or by a baseline."""
+"""Findings, and how they are suppressed: by a rule's name, or by a baseline."""
 
 from __future__ import annotations
 
@@ -18,7 +18,7 @@ from elfmap._sources import reason_of
 class Finding(NamedTuple):
     """A rule that is broken, at an offset of a file or of a member of an archive.
 
-    `path` is how it is told, as `lib.a(member.o)`; `file` has the bytes, from `start` on.
+    `path` is printed, as `lib.a(member.o)`. The bytes are in `file`, from `start` on.
     """
 
     path: bytes
@@ -82,7 +82,7 @@ class Report:
 
 
 class BadWord(ValueError):
-    """A word of the command line that says nothing."""
+    """A usage error."""
 
 
 class Globs:
@@ -118,7 +118,7 @@ def rule_number(word: str) -> int:
 
 
 class Ignored:
-    """Rules that are not told, or not of paths that a glob matches."""
+    """Rules that are suppressed, or suppressed where a glob matches the path."""
 
     def __init__(self, words: Iterable[str]) -> None:
         globs: dict[int, list[str]] = {}

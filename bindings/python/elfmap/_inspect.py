@@ -1,4 +1,4 @@
-"""What is told of files by their paths: of each file, or of each member of an archive."""
+"""Checks files by their paths, and each member of those that are archives."""
 
 from __future__ import annotations
 
@@ -22,7 +22,7 @@ _TOO_LONG = (
 
 
 class Depth(NamedTuple):
-    """How much of a file is judged, and what of it is told."""
+    """How much of a file is checked, and what is reported."""
 
     tables: bool = False
     objects: bool = False

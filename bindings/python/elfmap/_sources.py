@@ -1,7 +1,7 @@
 """Files whose bytes are read where they are asked for, and the memory that holds them.
 
 No file is mapped. A mapped file that another process cuts short ends this one by SIGBUS,
-whatever its size; a read of it returns too few bytes, and is told as such.
+whatever its size. A read of it returns too few bytes, which is an error like any other.
 """
 
 from __future__ import annotations

@@ -24,8 +24,8 @@ class Walk:
     """Goes through files and folders, and counts what it passes by in a report.
 
     A symbolic link that is named is followed, one in a folder is not. Of hard links the
-    path that is first in order is told. Only these, and the files and folders that are
-    named, are remembered, so that a folder may have any number of files.
+    path that sorts first is used. Only hard links, and what is named, are remembered: a
+    folder may have any number of files.
     """
 
     def __init__(self, names: Iterable[bytes], excluded: Globs, report: Report) -> None:

@@ -294,8 +294,8 @@ def _note_words(file: Words, start: int, end: int, at: int) -> str:
             return f"note {position}: {'its name' if at < after else 'its descriptor'}"
         start = after + (desc + 3) // 4 * 4
         if start >= end:
-            return "behind the last note"
-    return f"a note behind the first {_MOST_NOTES}"
+            return "after the last note"
+    return f"a note after the first {_MOST_NOTES}"
 
 
 def reason(rule: int) -> str:

@@ -18,7 +18,7 @@ Tools = Callable[[], Work]
 
 
 class Worker:
-    """A process that reads a list of paths, and answers a report, again and again."""
+    """A process that reads lists of paths, and writes a report for each."""
 
     def __init__(self, tools: Tools, others: list[Worker]) -> None:
         task_out, task_in = os.pipe()
@@ -45,7 +45,7 @@ class Worker:
             pass  # It has ended: so its report does too.
 
     def report(self) -> Optional[Report]:
-        """What it answers, None where it has ended."""
+        """Its report, None if it has ended."""
         try:
             found = pickle.load(self.reports)
         except (EOFError, pickle.UnpicklingError):
@@ -60,7 +60,7 @@ class Worker:
                 pass  # What it was given last is still in the buffer.
 
     def end(self) -> int:
-        """Waits for its end, which it comes to without tasks, and tells its signal."""
+        """Closes its tasks, waits for its end, and returns the signal that ended it."""
         self.close()
         _, status = os.waitpid(self.pid, 0)
         return os.WTERMSIG(status) if os.WIFSIGNALED(status) else 0

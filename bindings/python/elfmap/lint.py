@@ -1,10 +1,10 @@
-"""elfmap-lint: which ELF-64 files of folders and archives break a rule, and where.
+"""elfmap-lint: finds the ELF-64 files of directories and archives that break a rule.
 
     elfmap-lint [OPTIONS] PATH...
 
-Prints a line for each finding, and a summary. The status is 0 where nothing is found, 1
-where something is, 2 for words that it can't read, and 3 where a file can't be read; the
-others are checked all the same.
+Prints a line for each finding, and a summary. The status is 0 if nothing is found, 1 if
+something is, 2 for a usage error, and 3 if a file can't be read. The other files are
+checked all the same.
 """
 
 from __future__ import annotations
@@ -38,29 +38,29 @@ _STANDARD_INPUT = b"-"
 def _parser() -> argparse.ArgumentParser:
     parser = argparse.ArgumentParser(
         prog="elfmap-lint",
-        description="Checks the ELF-64 files among files, folders and .a archives.",
+        description="Checks all ELF-64 files of files, directories and .a archives.",
         epilog="Status: 0 clean, 1 findings, 2 usage, 3 something can't be read.",
     )
     add = parser.add_argument
-    add("paths", metavar="PATH", nargs="*", help="a file, a folder, an archive, or - for standard input")
-    add("--files0-from", metavar="FILE", help="take more PATHs from FILE, each ended by a zero byte; - is standard input")
-    add("--exclude", metavar="GLOB", action="append", default=[], help="leave out files and folders of such a name, or with a / path")
-    add("--class32", choices=("skip", "fail"), default="skip", help="what to do with files of class 32 (default: skip)")
+    add("paths", metavar="PATH", nargs="*", help="a file, a directory, an archive, or - for standard input")
+    add("--files0-from", metavar="FILE", help="read more PATHs from FILE, each ended by a zero byte; - is standard input")
+    add("--exclude", metavar="GLOB", action="append", default=[], help="skip files and directories of such names; with a / GLOB is of the whole path")
+    add("--class32", choices=("skip", "fail"), default="skip", help="skip files of class 32, or report them (default: skip)")
     add("--tables", action="store_true", help="check the tables too: symbols, relocations, groups, notes, dynamic arrays, hash tables")
     add("--object", action="store_true", help="check what `elfmap rewrite` and `link` need of an object")
-    add("--ignore", metavar="RULE[:GLOB]", action="append", default=[], help="don't tell this rule, or not of such paths")
-    add("--baseline", metavar="FILE", help="don't tell the findings that FILE has")
-    add("--write-baseline", metavar="FILE", help="write the findings into FILE, and tell none")
+    add("--ignore", metavar="RULE[:GLOB]", action="append", default=[], help="suppress this rule, or only where the path matches")
+    add("--baseline", metavar="FILE", help="suppress the findings that FILE lists")
+    add("--write-baseline", metavar="FILE", help="write the findings to FILE, and suppress all of them")
     add("--format", choices=FORMATS, default="text", help="default: text")
-    add("-0", dest="zero", action="store_true", help="end each record by a zero byte, and leave paths as they are")
-    add("-o", dest="output", metavar="FILE", help="write into FILE, whole or not at all")
-    add("-j", dest="jobs", metavar="N", type=int, default=0, help="use N processes (default: as many as processors)")
-    add("--fail-on-empty", action="store_true", help="status 1 where no ELF file was checked")
+    add("-0", dest="zero", action="store_true", help="end each record with a zero byte, and print paths as they are")
+    add("-o", dest="output", metavar="FILE", help="write to FILE, completely or not at all")
+    add("-j", dest="jobs", metavar="N", type=int, default=0, help="use N processes (default: one for each processor)")
+    add("--fail-on-empty", action="store_true", help="end with status 1 if no ELF file was checked")
     return parser
 
 
 def _said(words: bytes) -> None:
-    """Tells something on standard error."""
+    """Prints a message on standard error."""
     try:
         sys.stderr.buffer.write(b"elfmap-lint: " + words + b"\n")
         sys.stderr.flush()
@@ -88,7 +88,7 @@ class Progress:
 
 
 class Run:
-    """What the words ask for, done once."""
+    """One run of the program."""
 
     def __init__(self, options: argparse.Namespace) -> None:
         self._options = options
@@ -103,16 +103,16 @@ class Run:
     def _check_words(self) -> None:
         options = self._options
         if not options.paths and options.files0_from is None:
-            raise BadWord("which PATH? (--help tells more)")
+            raise BadWord("PATH is missing; see --help")
         if options.jobs < 0:
-            raise BadWord("-j takes a number from 1 on")
+            raise BadWord("-j needs a positive number")
         if options.zero and options.format in _OF_ONE_DOCUMENT:
-            raise BadWord(f"-0 is of records, and {options.format} is one document")
+            raise BadWord(f"-0 needs a format of records; {options.format} is one document")
         if options.files0_from == "-" and "-" in options.paths:
             raise BadWord("standard input can't be both a PATH and the list of them")
 
     def check(self) -> None:
-        """Puts all that is found into the report, by paths."""
+        """Fills the report, in the order of paths."""
         _library.library()
         names = [os.fsencode(it) for it in self._options.paths]
         if _STANDARD_INPUT in names:
@@ -151,7 +151,7 @@ class Run:
         self._progress.tell(self.report)
 
     def _listed(self) -> list[bytes]:
-        """The PATHs of a list."""
+        """The PATHs of --files0-from."""
         path = self._options.files0_from
         if path is None:
             return []
@@ -194,7 +194,7 @@ class Run:
 
 
 class Output:
-    """Standard output, or a file that is there as a whole or not at all."""
+    """Standard output, or a file that is written completely or not at all."""
 
     def __init__(self, path: Optional[str]) -> None:
         self._path = path
@@ -229,7 +229,7 @@ class Output:
 
 
 def main(words: Optional[Sequence[str]] = None) -> int:
-    """Does what the words ask for, and answers the status."""
+    """Runs the program, and returns its status."""
     options = _parser().parse_args(words)
     try:
         run = Run(options)
@@ -240,7 +240,7 @@ def main(words: Optional[Sequence[str]] = None) -> int:
         run.check()
         run.tell()
     except BrokenPipeError:
-        pass  # Nobody reads on: there is nobody to be told.
+        pass  # The reader has gone.
     except OSError as fault:
         name = f"{fault.filename}: " if fault.filename else ""
         _said(f"{name}{reason_of(fault)}".encode("utf-8", "surrogateescape"))
