@@ -383,7 +383,7 @@ class File:
     def _call(self, name: str, *words: Any, of: tuple[Any, ...] = ()) -> bool:
         # The length of a view that was released is an error, before its bytes are read.
         call = getattr(_library.library(), name)
-        return call(*of, self._address, len(self._view), *words)
+        return bool(call(*of, self._address, len(self._view), *words))
 
     def _judge(self) -> None:
         """Raises Refused where a rule is broken."""
@@ -409,14 +409,14 @@ class File:
     def _section(self, index: int) -> Section:
         fields = _fields(self._filled(_library.Section, "elfmap_section", index))
         it = self._filled(_library.Extent, "elfmap_name", index)
-        section = Section(*fields, bytes(self._at(it.start, it.len)), None)
+        section = Section._make([*fields, bytes(self._at(it.start, it.len)), None])
         if section.sh_type in (_SHT_NULL, _SHT_NOBITS):
             return section
         return section._replace(content=self._at(section.sh_offset, section.sh_size))
 
     def _segment(self, index: int) -> Segment:
         fields = _fields(self._filled(_library.Segment, "elfmap_segment", index))
-        segment = Segment(*fields, None)
+        segment = Segment._make([*fields, None])
         if segment.p_type == _PT_NULL:
             return segment
         return segment._replace(content=self._at(segment.p_offset, segment.p_filesz))

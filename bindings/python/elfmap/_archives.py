@@ -1,0 +1,132 @@
+"""The members of `.a` archives: those of GNU, thin ones and those of BSD.
+
+A member has a header of 60 bytes, at an even offset:
+
+    name 16, time 12, user 6, group 6, mode 8, size 10, and "`" with a line feed
+
+GNU closes a name by `/`, and keeps a long one in the member `//`, where `/N` names it
+by its offset. BSD puts a long name before the content, where `#1/N` gives its length.
+A thin archive has the paths of its members, and nothing else of them.
+"""
+
+from __future__ import annotations
+
+import os
+import re
+from collections.abc import Iterator
+from typing import NamedTuple, Optional
+
+from elfmap._sources import Source, Unreadable
+
+MAGIC, THIN_MAGIC = b"!<arch>\n", b"!<thin>\n"
+_HEADER = 60
+_LONG_NAME = re.compile(rb"/(\d+)(?::(\d+))?$")
+_BSD_NAME = re.compile(rb"#1/(\d+)$")
+_INDEXES = (b"/", b"/SYM64/")
+_BSD_INDEX = b"__.SYMDEF"
+
+
+class Member(NamedTuple):
+    """A member, and where its bytes are: in the archive, or in the file `path`.
+
+    `header` is where its own header is. Of a member in another archive that a thin one
+    names, `origin` is where the header is there.
+    """
+
+    name: bytes
+    header: int
+    start: int
+    size: int
+    path: Optional[bytes] = None
+    origin: Optional[int] = None
+
+
+class Damaged(Unreadable):
+    """The archive can't be followed from an offset on."""
+
+    def __init__(self, at: int, reason: str) -> None:
+        super().__init__(f"the archive is damaged at offset {at:#x}: {reason}")
+
+
+class _Archive:
+    def __init__(self, source: Source, path: bytes) -> None:
+        self.source = source
+        self.is_thin = source[:8] == THIN_MAGIC
+        self._folder = os.path.dirname(path)
+        self._names: Optional[tuple[int, int]] = None
+
+    def members(self) -> Iterator[Member]:
+        at = 8
+        while at < len(self.source):
+            name, size = self._header(at)
+            is_special = name in _INDEXES or name == b"//"
+            end = at + _HEADER + (size if is_special or not self.is_thin else 0)
+            if end > len(self.source):
+                raise Damaged(at, f"the member {_shown(name)} ends past the end of the archive")
+            if name == b"//":
+                self._names = at + _HEADER, size
+            elif not is_special:
+                member = self._member(name, at, size)
+                if not member.name.startswith(_BSD_INDEX):
+                    yield member
+            at = end + end % 2
+
+    def _header(self, at: int) -> tuple[bytes, int]:
+        header = self.source[at : at + _HEADER]
+        size = header[48:58].rstrip()
+        if len(header) < _HEADER:
+            raise Damaged(at, "less than a member's header is left")
+        if header[58:] != b"`\n" or not size.isdigit():
+            raise Damaged(at, "there is no member's header")
+        return header[:16].rstrip(b" "), int(size)
+
+    def _member(self, name: bytes, at: int, size: int) -> Member:
+        start, long_name, bsd_name = at + _HEADER, _LONG_NAME.match(name), _BSD_NAME.match(name)
+        if bsd_name and not self.is_thin:
+            length = int(bsd_name[1])
+            if length > size:
+                raise Damaged(at, "the name is longer than the member")
+            own = self.source[start : start + length].rstrip(b"\0")
+            return Member(own, at, start + length, size - length)
+        own = self._long_name(at, int(long_name[1])) if long_name else name[: -name.endswith(b"/") or None]
+        if not self.is_thin:
+            return Member(own, at, start, size)
+        origin = int(long_name[2]) if long_name and long_name[2] else None
+        return Member(own, at, 0, size, os.path.join(self._folder, own), origin)
+
+    def _long_name(self, at: int, position: int) -> bytes:
+        start, size = self._names or (0, 0)
+        if position >= size:
+            raise Damaged(at, "there is no such long name")
+        name = self.source[start + position : start + min(size, position + 4096)].partition(b"\n")[0]
+        return name[:-1] if name.endswith(b"/") else name
+
+
+def _shown(name: bytes) -> str:
+    return ascii(name.decode("ascii", "backslashreplace"))
+
+
+def members(source: Source, path: bytes) -> Iterator[Member]:
+    """The members in their order. Raises Damaged after the last whole one."""
+    return _Archive(source, path).members()
+
+
+class Nested:
+    """Archives within thin ones, of which the last one's members are remembered."""
+
+    def __init__(self) -> None:
+        self._path: Optional[bytes] = None
+        self._members: dict[int, Member] = {}
+
+    def member(self, source: Source, path: bytes, origin: int) -> Member:
+        """The member whose header is at the origin."""
+        if self._path != path:
+            self._path, self._members = path, {}
+            self._members.update((it.header, it) for it in members(source, path))
+        if origin not in self._members:
+            raise Damaged(origin, "there is no member that the thin archive names")
+        return self._members[origin]
+
+
+def is_archive(source: Source) -> bool:
+    return source[:8] in (MAGIC, THIN_MAGIC)

@@ -1,0 +1,173 @@
+"""Findings, and how they are suppressed: by a rule's name, or by a baseline."""
+
+from __future__ import annotations
+
+import fnmatch
+import json
+import os
+import re
+from collections import Counter
+from collections.abc import Iterable, Sequence
+from pathlib import Path
+from typing import NamedTuple, Optional
+
+from elfmap._rules import RULES
+from elfmap._sources import reason_of
+
+
+class Finding(NamedTuple):
+    """A rule that is broken, at an offset of a file or of a member of an archive.
+
+    `path` is printed, as `lib.a(member.o)`. The bytes are in `file`, from `start` on.
+    """
+
+    path: bytes
+    offset: int
+    rule: int
+    name: str
+    message: str
+    sections: tuple[str, ...]
+    file: bytes
+    start: int
+
+
+class Unread(NamedTuple):
+    """What can't be read, or not to its end, and why."""
+
+    path: bytes
+    reason: str
+
+
+class Report:
+    """What a run, or a part of it, has found."""
+
+    def __init__(self, checked: int = 0, unreadable: Iterable[Unread] = ()) -> None:
+        self.checked = checked
+        self.no_elf = 0
+        self.class_32 = 0
+        self.irregular = 0
+        self.suppressed = 0
+        self.findings: list[Finding] = []
+        self.unreadable: list[Unread] = list(unreadable)
+        # The files and members that were checked, where a format wants them.
+        self.names: list[bytes] = []
+
+    def add(self, other: Report) -> None:
+        self.checked += other.checked
+        self.no_elf += other.no_elf
+        self.class_32 += other.class_32
+        self.irregular += other.irregular
+        self.suppressed += other.suppressed
+        self.findings += other.findings
+        self.unreadable += other.unreadable
+        self.names += other.names
+
+    def sort(self) -> None:
+        """By paths, so that it does not matter which part was done first."""
+        self.findings.sort()
+        self.unreadable.sort()
+        self.names.sort()
+
+    def summary(self) -> dict[str, int]:
+        return {
+            "checked": self.checked,
+            "findings": len(self.findings),
+            "files_with_findings": len({it.path for it in self.findings}),
+            "suppressed": self.suppressed,
+            "not_elf": self.no_elf,
+            "class_32": self.class_32,
+            "not_regular": self.irregular,
+            "unreadable": len(self.unreadable),
+        }
+
+
+class BadWord(ValueError):
+    """A usage error."""
+
+
+class Globs:
+    """Shell patterns: one with a slash is of a whole path, any other of a name in it."""
+
+    def __init__(self, globs: Iterable[str]) -> None:
+        words = [os.fsencode(it) for it in globs]
+        self._whole = _pattern([it for it in words if b"/" in it])
+        self._names = _pattern([it for it in words if b"/" not in it])
+
+    def match(self, path: bytes) -> bool:
+        name = path.rstrip(b"/").rpartition(b"/")[2]
+        return bool((self._whole and self._whole.match(path)) or (self._names and self._names.match(name)))
+
+
+def _pattern(globs: Sequence[bytes]) -> Optional[re.Pattern[bytes]]:
+    if not globs:
+        return None
+    # The translation is one of text: in Latin-1 each byte is a letter.
+    text = "|".join(fnmatch.translate(it.decode("latin-1")) for it in globs)
+    return re.compile(text.encode("latin-1"))
+
+
+_NUMBERS = {name: number for number, (name, _) in RULES.items()}
+
+
+def rule_number(word: str) -> int:
+    """The number of a rule, by its number or its name."""
+    number = int(word) if word.isdecimal() and word.isascii() else _NUMBERS.get(word.upper().replace("-", "_"), 0)
+    if number not in RULES:
+        raise BadWord(f"there is no rule {word!r}")
+    return number
+
+
+class Ignored:
+    """Rules that are suppressed, or suppressed where a glob matches the path."""
+
+    def __init__(self, words: Iterable[str]) -> None:
+        globs: dict[int, list[str]] = {}
+        for word in words:
+            rule, colon, glob = word.partition(":")
+            globs.setdefault(rule_number(rule), []).append(glob if colon else "*")
+        self._globs = {rule: Globs(it) for rule, it in globs.items()}
+
+    def match(self, finding: Finding) -> bool:
+        globs = self._globs.get(finding.rule)
+        return globs is not None and (globs.match(finding.path) or globs.match(finding.file))
+
+
+# What of a finding stays the same where its file is built again: no offset.
+Known = tuple[str, str, tuple[str, ...]]
+
+
+def _known(finding: Finding) -> Known:
+    return os.fsdecode(finding.path), finding.name, finding.sections
+
+
+class Baseline:
+    """Findings that were there before, each as often as it was."""
+
+    def __init__(self, known: Iterable[Known]) -> None:
+        self._known = Counter(known)
+
+    @classmethod
+    def read(cls, path: str) -> Baseline:
+        try:
+            entries = json.loads(Path(path).read_bytes())["findings"]
+            known = [(it["path"], it["rule"], tuple(it["sections"])) for it in entries]
+            return cls(known)
+        except OSError as fault:
+            raise BadWord(f"{path}: {reason_of(fault)}") from None
+        except (ValueError, KeyError, TypeError, RecursionError):
+            raise BadWord(f"{path} is no baseline") from None
+
+    def match(self, finding: Finding) -> bool:
+        known = _known(finding)
+        if self._known[known] <= 0:
+            return False
+        self._known[known] -= 1
+        return True
+
+
+def baseline_text(findings: Iterable[Finding]) -> bytes:
+    entries = [
+        {"path": path, "rule": rule, "sections": list(sections)}
+        for path, rule, sections in map(_known, findings)
+    ]
+    return json.dumps({"version": 1, "findings": entries}, indent=1).encode("ascii") + b"\n"

@@ -1,0 +1,200 @@
+"""A report as text, as lines of JSON, as SARIF 2.1.0, as JUnit XML, and for GitHub."""
+
+from __future__ import annotations
+
+import json
+from collections.abc import Callable, Iterable, Iterator
+from itertools import groupby
+from typing import Any
+from urllib.parse import quote_from_bytes
+
+from elfmap._advice import ADVICE
+from elfmap._findings import Finding, Report, Unread
+from elfmap._rules import RULES
+from elfmap._words import printable
+
+# What ends a record: a line feed, or a zero byte.
+Format = Callable[[Report, bytes], Iterable[bytes]]
+_TOO_SHORT = 2
+
+
+def one_line(path: bytes) -> bytes:
+    """A path without its control characters, so that it stays in one line."""
+    return b"".join(b"\\x%02x" % it if it < 32 or it == 127 else bytes([it]) for it in path)
+
+
+def _encoded(text: str) -> bytes:
+    return text.encode("utf-8", "backslashreplace")
+
+
+def _counted(count: int, what: str) -> str:
+    return f"{count} {what}" if count == 1 else f"{count} {what}s"
+
+
+def summary_words(report: Report) -> str:
+    it = report.summary()
+    skipped = [
+        f"{it['not_elf']} not ELF" if it["not_elf"] else "",
+        f"{it['class_32']} of class 32" if it["class_32"] else "",
+        f"{it['not_regular']} not regular" if it["not_regular"] else "",
+    ]
+    words = f"{_counted(it['findings'], 'finding')} in {it['files_with_findings']} of {_counted(it['checked'], 'ELF file')}"
+    words += f", {it['suppressed']} suppressed" if it["suppressed"] else ""
+    words += f"; skipped: {', '.join(filter(None, skipped))}" if any(skipped) else ""
+    return words + (f"; {it['unreadable']} unreadable" if it["unreadable"] else "")
+
+
+def sentence(finding: Finding) -> str:
+    return f"offset {finding.offset:#x}: {finding.name} ({finding.rule}): {finding.message}"
+
+
+# ---- Records, each by itself
+
+
+def text(report: Report, end: bytes) -> Iterator[bytes]:
+    for it in report.findings:
+        path = it.path if end == b"\0" else one_line(it.path)
+        yield path + b": " + _encoded(sentence(it)) + end
+    yield _encoded(summary_words(report)) + end
+
+
+def _path_of(path: bytes) -> dict[str, str]:
+    """A path for JSON, and its bytes where these are no UTF-8."""
+    try:
+        return {"path": path.decode("utf-8")}
+    except UnicodeDecodeError:
+        return {"path": path.decode("utf-8", "backslashreplace"), "path_hex": path.hex()}
+
+
+def jsonl(report: Report, end: bytes) -> Iterator[bytes]:
+    for it in report.findings:
+        numbers = {"offset": it.offset, "rule": it.rule, "name": it.name}
+        words = {"sections": list(it.sections), "message": it.message}
+        yield _json({**_path_of(it.path), **numbers, **words}) + end
+    for lost in report.unreadable:
+        yield _json({**_path_of(lost.path), "unreadable": lost.reason}) + end
+    yield _json({"summary": report.summary()}) + end
+
+
+def _json(value: dict[str, Any]) -> bytes:
+    return json.dumps(value).encode("ascii")
+
+
+def github(report: Report, end: bytes) -> Iterator[bytes]:
+    """Workflow commands, of which each becomes an annotation."""
+    for it in report.findings:
+        message = f"{printable(it.path)}: {sentence(it)}"
+        yield _command("error", it.file, f"{it.name} ({it.rule})", message) + end
+    for lost in report.unreadable:
+        message = f"{printable(lost.path)}: {lost.reason}"
+        yield _command("error", lost.path, "unreadable", message) + end
+    yield _encoded(summary_words(report)) + end
+
+
+def _command(level: str, path: bytes, title: str, message: str) -> bytes:
+    def escaped(words: str, more: str = "") -> str:
+        return "".join(f"%{ord(it):02X}" if it in "%\r\n" + more else it for it in words)
+
+    file = path.decode("utf-8", "backslashreplace")
+    words = f"file={escaped(file, ':,')},title={escaped(title, ':,')}::{escaped(message)}"
+    return _encoded(f"::{level} {words}")
+
+
+# ---- SARIF
+
+
+def sarif(report: Report, end: bytes) -> Iterator[bytes]:
+    rules = sorted({(it.rule, it.name) for it in report.findings})
+    positions = {rule: position for position, (rule, _) in enumerate(rules)}
+    driver = {"name": "elfmap-lint", "rules": [_sarif_rule(rule, name) for rule, name in rules]}
+    run = {
+        "tool": {"driver": driver},
+        "invocations": [
+            {
+                "executionSuccessful": not report.unreadable,
+                "toolExecutionNotifications": [_notification(it) for it in report.unreadable],
+            }
+        ],
+        "results": [_sarif_result(it, positions[it.rule]) for it in report.findings],
+        "properties": report.summary(),
+    }
+    schema = "https://json.schemastore.org/sarif-2.1.0.json"
+    yield json.dumps({"$schema": schema, "version": "2.1.0", "runs": [run]}, indent=1).encode("ascii")
+    yield b"\n"
+
+
+def _sarif_rule(rule: int, name: str) -> dict[str, Any]:
+    words = {"id": name}
+    if rule not in RULES:
+        return words
+    advice = ADVICE[rule]
+    return {
+        **words,
+        "shortDescription": {"text": f"rule {rule}: {RULES[rule][1]}"},
+        "help": {"text": advice},
+        "defaultConfiguration": {"level": "error"},
+    }
+
+
+def _sarif_result(it: Finding, position: int) -> dict[str, Any]:
+    region = {"byteOffset": it.start + it.offset, **({} if it.rule == _TOO_SHORT else {"byteLength": 1})}
+    location: dict[str, Any] = {"physicalLocation": {**_artifact(it.file), "region": region}}
+    # The schema asks for locations that differ; the names of sections need not.
+    names = [{"name": name, "kind": "section"} for name in dict.fromkeys(it.sections)]
+    member = [{"name": printable(it.path), "kind": "member"}] if it.path != it.file else []
+    if names or member:
+        location["logicalLocations"] = [*member, *names]
+    message = {"text": f"offset {it.offset:#x}: {it.message}"}
+    return {"ruleId": it.name, "ruleIndex": position, "level": "error", "message": message, "locations": [location]}
+
+
+def _notification(it: Unread) -> dict[str, Any]:
+    location = {"physicalLocation": _artifact(it.path)}
+    message = {"text": f"{printable(it.path)}: {it.reason}"}
+    return {"level": "error", "message": message, "locations": [location]}
+
+
+def _artifact(path: bytes) -> dict[str, Any]:
+    """A path as a URI: an absolute one with its scheme, any other one relative."""
+    scheme = "file://" if path.startswith(b"/") else ""
+    return {"artifactLocation": {"uri": scheme + quote_from_bytes(path, safe="/")}}
+
+
+# ---- JUnit
+
+
+def junit(report: Report, end: bytes) -> Iterator[bytes]:
+    """A testcase for each file and each member that was checked, or can't be read."""
+    findings = {path: list(it) for path, it in groupby(report.findings, lambda it: it.path)}
+    unreadable = {path: list(it) for path, it in groupby(report.unreadable, lambda it: it.path)}
+    names = sorted({*report.names, *findings, *unreadable})
+    counts = f'tests="{len(names)}" failures="{len(findings)}" errors="{len(unreadable)}"'
+    yield b'<?xml version="1.0" encoding="UTF-8"?>\n'
+    yield _encoded(f'<testsuites {counts}>\n<testsuite name="elfmap-lint" {counts}>\n')
+    for path in names:
+        yield _encoded(_testcase(path, findings.get(path, []), unreadable.get(path, [])))
+    yield b"</testsuite>\n</testsuites>\n"
+
+
+def _testcase(path: bytes, findings: list[Finding], unreadable: list[Unread]) -> str:
+    case = f'<testcase classname="elfmap-lint" name="{_xml(printable(path))}"'
+    inner = ""
+    if findings:
+        lines = "\n".join(_xml(sentence(it)) for it in findings)
+        first = f'type="{findings[0].name}" message="{_xml(sentence(findings[0]))}"'
+        inner += f"<failure {first}>{lines}</failure>"
+    if unreadable:
+        reasons = _xml("; ".join(it.reason for it in unreadable))
+        inner += f'<error type="unreadable" message="{reasons}"/>'
+    return f"{case}>{inner}</testcase>\n" if inner else f"{case}/>\n"
+
+
+def _xml(words: str) -> str:
+    for letter, escaped in (("&", "&amp;"), ("<", "&lt;"), (">", "&gt;"), ('"', "&quot;")):
+        words = words.replace(letter, escaped)
+    return words
+
+
+FORMATS: dict[str, Format] = {"text": text, "jsonl": jsonl, "sarif": sarif, "junit": junit, "github": github}
+# Those of one record a line, or a zero byte.
+OF_RECORDS = ("text", "jsonl", "github")

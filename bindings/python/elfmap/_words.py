@@ -1,0 +1,346 @@
+"""What is at an offset of a file, in words; and why a rule is broken there.
+
+Nothing of the file has to be sound: a number that isn't there is 0, a name that isn't
+there is empty. The bytes are asked for by slices, so a file need not be in memory.
+"""
+
+from __future__ import annotations
+
+import ctypes
+import struct
+from collections.abc import Iterable, Iterator
+from typing import NamedTuple, Optional, Protocol
+
+from elfmap import _library
+from elfmap._advice import ADVICE
+from elfmap._rules import RULES
+
+
+class Bytes(Protocol):
+    def __len__(self) -> int: ...
+    def __getitem__(self, place: slice) -> bytes: ...
+
+
+# The offset and the width of each field of a record.
+Layout = dict[str, tuple[int, int]]
+
+
+def _layout(record: type[ctypes.Structure]) -> Layout:
+    """That of a struct of include/elfmap.h that has the fields where the file has them."""
+    fields = [(it[0], getattr(record, it[0])) for it in record._fields_]
+    return {name: (field.offset, field.size) for name, field in fields}
+
+
+SECTION = _layout(_library.Section)
+SEGMENT = _layout(_library.Segment)
+HEADER: Layout = {
+    "the magic number": (0, 4),
+    "the class in e_ident": (4, 1),
+    "the data encoding in e_ident": (5, 1),
+    "the version in e_ident": (6, 1),
+    "the rest of e_ident": (7, 9),
+    **{name: at for name, at in _layout(_library.Header).items() if name != "e_ident"},
+}
+SYMBOL: Layout = {
+    "st_name": (0, 4),
+    "st_info": (4, 1),
+    "st_other": (5, 1),
+    "st_shndx": (6, 2),
+    "st_value": (8, 8),
+    "st_size": (16, 8),
+}
+DYNAMIC = _layout(_library.Dynamic)
+NOTE: Layout = {"namesz": (0, 4), "descsz": (4, 4), "type": (8, 4)}
+_IN_HEX = "flags addr off align entry value st_info r_info filesz memsz shndx".split()
+
+NULL, SYMTAB, STRTAB, RELA, HASH, DYNAMIC_SECTION, NOTE_SECTION = 0, 2, 3, 4, 5, 6, 7
+NOBITS, REL, DYNSYM, GROUP, SYMTAB_SHNDX, XINDEX = 8, 9, 11, 17, 18, 0xFFFF
+_TYPES = "NULL PROGBITS SYMTAB STRTAB RELA HASH DYNAMIC NOTE NOBITS REL SHLIB DYNSYM"
+TYPES = {**dict(enumerate(_TYPES.split())), GROUP: "GROUP", SYMTAB_SHNDX: "SYMTAB_SHNDX"}
+ENTRY_SIZES = {SYMTAB: 24, DYNSYM: 24, RELA: 24, REL: 16, DYNAMIC_SECTION: 16, GROUP: 4, SYMTAB_SHNDX: 4, HASH: 4}
+# Where a rule's offset is. Any other rule's may be in each of these.
+PARTS = {
+    "header": {*range(3, 13), 15, 16, 18, 19, 21, 70, 71},
+    "section": {13, 14, 17, 20, 22, 23, 24, 30, 32, 40, 42, 43, 44, 46, 49, 50, 53, 55, 57, 63, 65, 72, 73, 74, 76, 78, 79},
+    "segment": {25, 26, 27, 28, 29},
+    "content": {31, 41, 47, 48, 51, 52, 54, 56, 58, 59, 60, 61, 62, 64, 66, 67, 68, 69, 75, 77},
+}
+SHARED_BYTE = 33
+_HEADERS_AT_ONCE = 1024
+# Notes have no index: more than these are not counted.
+_MOST_NOTES = 100_000
+
+
+class Place(NamedTuple):
+    """What holds an offset: of which kind it is, of which section, and in words."""
+
+    kind: str
+    section: Optional[int]
+    words: str
+
+
+class Words:
+    """A file's bytes, and what they are in words."""
+
+    def __init__(self, data: Bytes) -> None:
+        self.data = data
+        self.order = ">" if data[5:6] == b"\2" else "<"
+        self.table, names, segments = self.number(40, 8), self.number(62, 2), self.number(56, 2)
+        counted = self.number(60, 2) or self.number(self.table + 32, 8)
+        self.count = min(counted, len(data) // 64) if self.table else 0
+        self.names = self.section(0, "sh_link") if names == XINDEX else names
+        self.segments = min(self.section(0, "sh_info") if segments == XINDEX else segments, len(data) // 56)
+        self._index_tables: Optional[dict[int, int]] = None
+
+    def number(self, at: int, width: int) -> int:
+        found = self.data[at : at + width].ljust(width, b"\0") if 0 <= at < len(self.data) else b""
+        return int.from_bytes(found, "big" if self.order == ">" else "little")
+
+    def section(self, index: int, field: str) -> int:
+        """A field of a section header, 0 where there is no such section."""
+        at, width = SECTION[field]
+        return self.number(self.table + 64 * index + at, width) if index < self.count else 0
+
+    def content(self, index: int) -> tuple[int, int]:
+        """Where the content of a section begins and ends, if it has bytes in the file."""
+        start, kind = self.section(index, "sh_offset"), self.section(index, "sh_type")
+        return start, start + (0 if kind in (NULL, NOBITS) else self.section(index, "sh_size"))
+
+    def headers(self) -> Iterator[tuple[int, ...]]:
+        """All section headers: their index, and then their fields."""
+        record = struct.Struct(f"{self.order}2I4Q2I2Q")
+        for first in range(0, self.count, _HEADERS_AT_ONCE):
+            start = self.table + 64 * first
+            block = self.data[start : start + 64 * min(_HEADERS_AT_ONCE, self.count - first)]
+            for index, fields in enumerate(record.iter_unpack(block[: len(block) // 64 * 64]), first):
+                yield (index, *fields)
+
+    def holding(self, at: int, near: Iterable[int] = ()) -> list[int]:
+        """The sections whose content has an offset; those nearby are looked at first."""
+        found = [it for it in dict.fromkeys(near) if self.content(it)[0] <= at < self.content(it)[1]]
+        return found or [
+            index
+            for index, _, kind, _, _, start, size, *_ in self.headers()
+            if index and start <= at < start + size and kind not in (NULL, NOBITS)
+        ]
+
+    def index_table(self, symbols: int) -> int:
+        """The first index table of a symbol table, 0 where there is none."""
+        if self._index_tables is None:
+            self._index_tables = {}
+            for index, _, kind, _, _, _, _, link, *_ in self.headers():
+                if kind == SYMTAB_SHNDX:
+                    self._index_tables.setdefault(link, index)
+        return self._index_tables.get(symbols, 0)
+
+    def related(self, index: int) -> list[int]:
+        """The sections that hold what the rules of a table look at."""
+        links = [index, self.section(index, "sh_link")]
+        symbols = [it for it in links if self.section(it, "sh_type") in (SYMTAB, DYNSYM)]
+        links.append(self.section(links[1], "sh_link"))
+        return [it for it in (*links, *map(self.index_table, symbols)) if it]
+
+    def string(self, table: int, at: int) -> str:
+        """The name at an offset of a string table, in letters that can be printed."""
+        start, end = self.content(table)
+        is_there = 0 < table < self.count and start + at < end
+        name = self.data[start + at : min(end, start + at + 4096)] if is_there else b""
+        return printable(name.split(b"\0")[0])
+
+    def section_name(self, index: int) -> str:
+        return self.string(self.names, self.section(index, "sh_name"))
+
+    def symbol(self, table: int, index: int, field: str) -> int:
+        """A field of a symbol, 0 where there is none."""
+        at, width = SYMBOL[field]
+        start, end = self.content(table)
+        return self.number(start + 24 * index + at, width) if start + 24 * index + 24 <= end else 0
+
+    # ---- in words
+
+    def section_words(self, index: int) -> str:
+        if index >= self.count:
+            return f"section {index}, which isn't there"
+        return f"section {index} {self.section_name(index) or '(no name)'}"
+
+    def typed_words(self, index: int) -> str:
+        kind = self.section(index, "sh_type")
+        typed = f" of type {TYPES.get(kind, hex(kind))}" if index < self.count else ""
+        return self.section_words(index) + typed
+
+    def symbol_name(self, table: int, index: int) -> str:
+        name = self.string(self.section(table, "sh_link"), self.symbol(table, index, "st_name"))
+        if not name and self.symbol(table, index, "st_info") & 15 == 3:
+            return f"of section {self.section_name(self.symbol(table, index, 'st_shndx'))}"
+        return name or "(no name)"
+
+    def symbol_words(self, table: int, index: int) -> str:
+        start, end = self.content(table)
+        is_there = start + 24 * index + 24 <= end
+        return f"symbol {index} {self.symbol_name(table, index)}" if is_there else f"symbol {index}, which isn't there"
+
+    def field_words(self, record: Layout, start: int, at: int) -> str:
+        """The field of a record that holds an offset, and its value."""
+        for name, (begins, width) in record.items():
+            if begins <= at - start < begins + width:
+                if name.startswith("the "):
+                    return f"{name}, which is {self.data[start + begins : start + begins + width].hex(' ')}"
+                value = self.number(start + begins, width)
+                is_hex = any(it in name for it in _IN_HEX) and value > 9
+                return f"{name}, which is {hex(value) if is_hex else value}"
+        return "no field"
+
+    def header_words(self, index: int) -> str:
+        """What a section header is about: its section, and those that it names."""
+        kind, link, info = (self.section(index, it) for it in ("sh_type", "sh_link", "sh_info"))
+        words = [f"the section header of {self.typed_words(index)}" if index else "section header 0"]
+        words += [f"its link is {self.typed_words(link)}"] if link and kind != NULL else []
+        words += [f"it relocates {self.section_words(info)}"] if kind in (REL, RELA) else []
+        words += [f"signed by {self.symbol_words(link, info)}"] if kind == GROUP else []
+        return "; ".join(words)
+
+    def content_words(self, index: int, at: int) -> str:
+        start, end = self.content(index)
+        place = f"the content of {self.section_words(index)} [{start:#x}, {end:#x})"
+        return f"{place}: {entry_words(self, index, at)}"
+
+    def places(self, at: int, near: Iterable[int] = ()) -> Iterator[Place]:
+        """All that holds an offset."""
+        if at < 64:
+            yield Place("header", None, f"the header: {self.field_words(HEADER, 0, at)}")
+        if self.table <= at < self.table + 64 * self.count:
+            index = (at - self.table) // 64
+            field = self.field_words(SECTION, self.table + 64 * index, at)
+            yield Place("section", index, f"{self.header_words(index)}: {field}")
+        table = self.number(32, 8)
+        if table and table <= at < table + 56 * self.segments:
+            index = (at - table) // 56
+            yield Place("segment", None, f"program header {index}: {self.field_words(SEGMENT, table + 56 * index, at)}")
+        for index in self.holding(at, near):
+            yield Place("content", index, self.content_words(index, at))
+
+    def owners(self, at: int) -> Iterator[tuple[Optional[int], str, int, int]]:
+        """The parts that a byte belongs to: of which section, in words, and from where to where."""
+        table = self.number(32, 8)
+        parts = [
+            ("the ELF header", 0, 64),
+            ("the section header table", self.table, self.table + 64 * self.count),
+            ("the program header table", table, table + 56 * self.segments if table else 0),
+        ]
+        for words, start, end in parts:
+            if start <= at < end:
+                yield None, words, start, end
+        for index in self.holding(at):
+            yield index, self.section_name(index) or f"section {index}", *self.content(index)
+
+
+def printable(name: bytes) -> str:
+    letters = name.decode("utf-8", "backslashreplace")
+    return "".join(it if it.isprintable() else ascii(it)[1:-1] for it in letters)
+
+
+def entry_words(file: Words, index: int, at: int) -> str:
+    """The entry of the table in a section that holds an offset."""
+    kind, (start, end), link = file.section(index, "sh_type"), file.content(index), file.section(index, "sh_link")
+    size = ENTRY_SIZES.get(kind, 1)
+    position = (at - start) // size
+    begins = start + position * size
+    if kind in (SYMTAB, DYNSYM):
+        return _symbol_entry(file, index, position, at)
+    if kind in (RELA, REL):
+        named = file.symbol_words(link, file.number(begins + 8, 8) >> 32)
+        place = f"{file.number(begins, 8):#x} of {file.section_words(file.section(index, 'sh_info'))}"
+        return f"relocation {position}, of {named}, at {place}"
+    if kind == DYNAMIC_SECTION:
+        return f"entry {position}, of tag {file.number(begins, 8)}: {file.field_words(DYNAMIC, begins, at)}"
+    if kind == NOTE_SECTION:
+        return _note_words(file, start, end, at)
+    if kind in (GROUP, SYMTAB_SHNDX, HASH):
+        return _word_entry(file, index, position, file.number(begins, 4))
+    return f"byte {position}" + "".join(f": {it:#04x}" for it in file.data[at : at + 1])
+
+
+def _symbol_entry(file: Words, index: int, position: int, at: int) -> str:
+    section = file.symbol(index, position, "st_shndx")
+    defined = f", defined in {file.section_words(section)}" if 0 < section < 0xFF00 else ""
+    field = file.field_words(SYMBOL, file.content(index)[0] + 24 * position, at)
+    return f"{file.symbol_words(index, position)}{defined}: {field}"
+
+
+def _word_entry(file: Words, index: int, position: int, value: int) -> str:
+    """A word of a group, an index table or a hash table."""
+    kind, link = file.section(index, "sh_type"), file.section(index, "sh_link")
+    if kind == GROUP:
+        signature = f"of the group that {file.symbol_words(link, file.section(index, 'sh_info'))} signs"
+        return f"the member {file.section_words(value)} {signature}" if position else f"the flags, {value}, {signature}"
+    if kind == SYMTAB_SHNDX:
+        return f"the word of {file.symbol_words(link, position)}: {value}"
+    buckets = file.number(file.content(index)[0], 4)
+    if position < 2:
+        return f"the number of {('buckets', 'chain words')[position]}, {value}"
+    if position < 2 + buckets:
+        return f"bucket {position - 2}, which begins with {file.symbol_words(link, value)}"
+    return f"the chain word of {file.symbol_words(link, position - 2 - buckets)}: {value}"
+
+
+def _note_words(file: Words, start: int, end: int, at: int) -> str:
+    """The part of a note that holds an offset, in a section of notes."""
+    for position in range(_MOST_NOTES):
+        name, desc = (file.number(start + it, 4) for it in (0, 4))
+        after = start + 12 + (name + 3) // 4 * 4
+        if at < start + 12:
+            return f"note {position}: {file.field_words(NOTE, start, at)}"
+        if at < after + (desc + 3) // 4 * 4:
+            return f"note {position}: {'its name' if at < after else 'its descriptor'}"
+        start = after + (desc + 3) // 4 * 4
+        if start >= end:
+            return "after the last note"
+    return f"a note after the first {_MOST_NOTES}"
+
+
+def reason(rule: int) -> str:
+    """What a rule refuses, without the words that begin each sentence."""
+    return RULES[rule][1].partition(" because ")[2]
+
+
+class Told(NamedTuple):
+    """Why a rule is broken, and the names of the sections that this is about."""
+
+    message: str
+    sections: list[str]
+
+
+def explain(file: Words, rule: int, at: int, table: Optional[int] = None) -> Told:
+    """Why a rule is broken at an offset, of an image or of the table in a section."""
+    if rule == SHARED_BYTE:
+        return _shared_byte(file, at)
+    found = _found(file, rule, at, file.related(table) if table is not None else ())
+    indexes = [it.section for it in found if it.section]
+    words = [it.words for it in found]
+    if table is not None and table not in indexes:
+        indexes.insert(0, table)
+        words.insert(0, f"the table in {file.typed_words(table)}")
+    names = [file.section_name(it) or f"section {it}" for it in indexes]
+    return Told(f"{'; '.join(words)}; {reason(rule)}; {ADVICE[rule]}", names)
+
+
+def _found(file: Words, rule: int, at: int, near: Iterable[int]) -> list[Place]:
+    """What holds the offset, and of it that which the rule looks at."""
+    if at >= len(file.data):
+        return [Place("end", None, f"the file ends there, with {len(file.data)} bytes")]
+    found = list(file.places(at, near))
+    wanted = [kind for kind, rules in PARTS.items() if rule in rules] or list(PARTS)
+    return [it for it in found if it.kind in wanted] or found or [Place("gap", None, "in no part of the file")]
+
+
+def _shared_byte(file: Words, at: int) -> Told:
+    """Both owners of a byte, or all of them."""
+    names: list[str] = []
+    parts: list[str] = []
+    for section, words, start, end in file.owners(at):
+        lead = "" if not section else "of " if names else "the content of "
+        parts.append(f"{lead}{words} [{start:#x}, {end:#x})")
+        names += [words] if section else []
+    *before, last = parts or ["no part"]
+    owners = f"{', '.join(before)} and {last}" if before else last
+    return Told(f"{owners} share byte {at:#x}; {ADVICE[SHARED_BYTE]}", names)

@@ -1,0 +1,261 @@
+"""elfmap-lint: finds the ELF-64 files of directories and archives that break a rule.
+
+    elfmap-lint [OPTIONS] PATH...
+
+Prints a line for each finding, and a summary. The status is 0 if nothing is found, 1 if
+something is, 2 for a usage error, and 3 if a file can't be read. The other files are
+checked all the same.
+"""
+
+from __future__ import annotations
+
+import argparse
+import os
+import signal
+import stat
+import sys
+import tempfile
+import time
+from collections.abc import Iterator, Sequence
+from itertools import chain
+from typing import BinaryIO, Optional
+
+from elfmap import _library
+from elfmap._findings import BadWord, Baseline, Globs, Ignored, Report, Unread, baseline_text
+from elfmap._inspect import Depth, Inspector
+from elfmap._sources import reason_of, standard_input
+from elfmap._walk import Walk, chunks
+from elfmap._workers import Pool, Work
+
+CLEAN, FOUND, USAGE, UNREADABLE = range(4)
+FORMATS = ("text", "jsonl", "sarif", "junit", "github")
+_OF_ONE_DOCUMENT = ("sarif", "junit")
+# What a process is given at once: enough to do for a millisecond or more.
+_MOST_FILES, _MOST_BYTES = 64, 16 << 20
+_STANDARD_INPUT = b"-"
+
+
+def _parser() -> argparse.ArgumentParser:
+    parser = argparse.ArgumentParser(
+        prog="elfmap-lint",
+        description="Checks all ELF-64 files of files, directories and .a archives.",
+        epilog="Status: 0 clean, 1 findings, 2 usage, 3 something can't be read.",
+    )
+    add = parser.add_argument
+    add("paths", metavar="PATH", nargs="*", help="a file, a directory, an archive, or - for standard input")
+    add("--files0-from", metavar="FILE", help="read more PATHs from FILE, each ended by a zero byte; - is standard input")
+    add("--exclude", metavar="GLOB", action="append", default=[], help="skip files and directories of such names; with a / GLOB is of the whole path")
+    add("--class32", choices=("skip", "fail"), default="skip", help="skip files of class 32, or report them (default: skip)")
+    add("--tables", action="store_true", help="check the tables too: symbols, relocations, groups, notes, dynamic arrays, hash tables")
+    add("--object", action="store_true", help="check what `elfmap rewrite` and `link` need of an object")
+    add("--ignore", metavar="RULE[:GLOB]", action="append", default=[], help="suppress this rule, or only where the path matches")
+    add("--baseline", metavar="FILE", help="suppress the findings that FILE lists")
+    add("--write-baseline", metavar="FILE", help="write the findings to FILE, and suppress all of them")
+    add("--format", choices=FORMATS, default="text", help="default: text")
+    add("-0", dest="zero", action="store_true", help="end each record with a zero byte, and print paths as they are")
+    add("-o", dest="output", metavar="FILE", help="write to FILE, completely or not at all")
+    add("-j", dest="jobs", metavar="N", type=int, default=0, help="use N processes (default: one for each processor)")
+    add("--fail-on-empty", action="store_true", help="end with status 1 if no ELF file was checked")
+    return parser
+
+
+def _said(words: bytes) -> None:
+    """Prints a message on standard error."""
+    try:
+        sys.stderr.buffer.write(b"elfmap-lint: " + words + b"\n")
+        sys.stderr.flush()
+    except OSError:
+        pass
+
+
+class Progress:
+    """How many files were checked, on a terminal alone."""
+
+    def __init__(self) -> None:
+        self._is_shown = sys.stderr.isatty()
+        self._next = time.monotonic() + 0.3
+
+    def tell(self, report: Report) -> None:
+        if self._is_shown and time.monotonic() >= self._next:
+            self._next = time.monotonic() + 0.1
+            sys.stderr.write(f"\r{report.checked} files checked, {len(report.findings)} findings\x1b[K")
+            sys.stderr.flush()
+
+    def end(self) -> None:
+        if self._is_shown:
+            sys.stderr.write("\r\x1b[K")
+            sys.stderr.flush()
+
+
+class Run:
+    """One run of the program."""
+
+    def __init__(self, options: argparse.Namespace) -> None:
+        self._options = options
+        self._excluded = Globs(options.exclude)
+        self._ignored = Ignored(options.ignore)
+        self._baseline = Baseline.read(options.baseline) if options.baseline else None
+        self._jobs = options.jobs or len(os.sched_getaffinity(0))
+        self._progress = Progress()
+        self.report = Report()
+        self._check_words()
+
+    def _check_words(self) -> None:
+        options = self._options
+        if not options.paths and options.files0_from is None:
+            raise BadWord("PATH is missing; see --help")
+        if options.jobs < 0:
+            raise BadWord("-j needs a positive number")
+        if options.zero and options.format in _OF_ONE_DOCUMENT:
+            raise BadWord(f"-0 needs a format of records; {options.format} is one document")
+        if options.files0_from == "-" and "-" in options.paths:
+            raise BadWord("standard input can't be both a PATH and the list of them")
+
+    def check(self) -> None:
+        """Fills the report, in the order of paths."""
+        _library.library()
+        names = [os.fsencode(it) for it in self._options.paths]
+        if _STANDARD_INPUT in names:
+            self._add(self._tools().source(_STANDARD_INPUT, standard_input()))
+        named = (it for it in names if it != _STANDARD_INPUT)
+        walk = Walk([*named, *self._listed()], self._excluded, self.report)
+        self._check_all(chunks(walk, _MOST_FILES, _MOST_BYTES))
+        self._progress.end()
+        self.report.sort()
+        self._drop_suppressed()
+
+    def _check_all(self, tasks: Iterator[list[bytes]]) -> None:
+        """In this process where there is little to do, or else in several."""
+        first, second = next(tasks, None), next(tasks, None)
+        some = [it for it in (first, second) if it is not None]
+        every = chain(some, tasks)
+        if self._jobs == 1 or len(some) < 2:
+            work = self._work()
+            for paths in every:
+                self._add(work(paths))
+        else:
+            Pool(self._work, self._jobs, self._add).run(every)
+
+    def _tools(self) -> Inspector:
+        options = self._options
+        return Inspector(Depth(options.tables, options.object, options.class32 == "fail", options.format == "junit"))
+
+    def _work(self) -> Work:
+        return self._tools().files
+
+    def _add(self, report: Report) -> None:
+        kept = [it for it in report.findings if not self._ignored.match(it)]
+        report.suppressed += len(report.findings) - len(kept)
+        report.findings = kept
+        self.report.add(report)
+        self._progress.tell(self.report)
+
+    def _listed(self) -> list[bytes]:
+        """The PATHs of --files0-from."""
+        path = self._options.files0_from
+        if path is None:
+            return []
+        try:
+            with open(0 if path == "-" else path, "rb", closefd=path != "-") as it:
+                names = it.read().split(b"\0")
+        except OSError as fault:
+            self.report.unreadable.append(Unread(os.fsencode(path), reason_of(fault)))
+            return []
+        return names[:-1] if not names[-1] else names
+
+    def _drop_suppressed(self) -> None:
+        report, options = self.report, self._options
+        found = report.findings
+        if options.write_baseline:
+            with Output(options.write_baseline) as it:
+                it.write(baseline_text(found))
+        known = self._baseline
+        report.findings = [it for it in found if not (options.write_baseline or known and known.match(it))]
+        report.suppressed += len(found) - len(report.findings)
+
+    def tell(self) -> None:
+        """Writes the report in its format."""
+        from elfmap import _formats
+
+        for lost in self.report.unreadable:
+            _said(_formats.one_line(lost.path) + b": " + lost.reason.encode())
+        end = b"\0" if self._options.zero else b"\n"
+        with Output(self._options.output) as it:
+            for part in _formats.FORMATS[self._options.format](self.report, end):
+                it.write(part)
+
+    def status(self) -> int:
+        if self.report.unreadable:
+            return UNREADABLE
+        if self._options.fail_on_empty and not self.report.checked:
+            _said(b"no ELF file was checked")
+            return FOUND
+        return FOUND if self.report.findings else CLEAN
+
+
+class Output:
+    """Standard output, or a file that is written completely or not at all."""
+
+    def __init__(self, path: Optional[str]) -> None:
+        self._path = path
+        self._made: Optional[str] = None
+
+    def __enter__(self) -> BinaryIO:
+        self._file = self._opened()
+        return self._file
+
+    def _opened(self) -> BinaryIO:
+        if self._path is None:
+            return open(1, "wb", closefd=False)
+        if os.path.exists(self._path) and not stat.S_ISREG(os.stat(self._path).st_mode):
+            return open(self._path, "wb")
+        # The file that a link names is written, not the link.
+        self._path = os.path.realpath(self._path)
+        handle, self._made = tempfile.mkstemp(prefix=".elfmap-lint-", dir=os.path.dirname(self._path))
+        mask = os.umask(0)
+        os.umask(mask)
+        os.fchmod(handle, 0o666 & ~mask)
+        return os.fdopen(handle, "wb")
+
+    def __exit__(self, kind: object, *_: object) -> None:
+        try:
+            self._file.close()
+            if self._made and self._path and kind is None:
+                os.replace(self._made, self._path)
+                self._made = None
+        finally:
+            if self._made:
+                os.unlink(self._made)
+
+
+def main(words: Optional[Sequence[str]] = None) -> int:
+    """Runs the program, and returns its status."""
+    options = _parser().parse_args(words)
+    try:
+        run = Run(options)
+    except BadWord as fault:
+        _said(str(fault).encode("utf-8", "surrogateescape"))
+        return USAGE
+    try:
+        run.check()
+        run.tell()
+    except BrokenPipeError:
+        pass  # The reader has gone.
+    except OSError as fault:
+        name = f"{fault.filename}: " if fault.filename else ""
+        _said(f"{name}{reason_of(fault)}".encode("utf-8", "surrogateescape"))
+        return UNREADABLE
+    return run.status()
+
+
+def script() -> None:
+    """The console script."""
+    try:
+        status = main()
+    except KeyboardInterrupt:
+        status = 128 + signal.SIGINT
+    sys.exit(status)
+
+
+if __name__ == "__main__":
+    script()

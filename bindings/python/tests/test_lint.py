@@ -1,0 +1,755 @@
+"""elfmap-lint: what it tells of files that are made here by hand.
+
+What is expected is what docs/RULES.md says of such a file, or the description of the
+format: SARIF 2.1.0, the layouts of archives.
+"""
+
+import contextlib
+import io
+import json
+import os
+import re
+import shutil
+import signal
+import stat
+import struct
+import subprocess
+import sys
+import tempfile
+import unittest
+from pathlib import Path
+from unittest import mock
+from urllib.parse import unquote_to_bytes
+from xml.etree import ElementTree
+
+import elfmap
+from elfmap import _advice, _archives, _checks, _findings, _formats
+from elfmap import _rules, _sources, _walk, _words, _workers, build, lint
+from elfmap._inspect import Depth, Inspector
+
+PACKAGE = Path(__file__).resolve().parents[1]
+RULES = build.REPOSITORY / "docs/RULES.md"
+PROGRAM = [sys.executable, "-m", "elfmap.lint"]
+ENVIRONMENT = {**os.environ, "PYTHONPATH": os.pathsep.join([str(PACKAGE), os.environ.get("PYTHONPATH", "")])}
+SHARED = (
+    b"offset 0x72: SHARED_BYTE (33): the content of .text [0x40, 0x73) and of .data [0x72, 0x76) "
+    b"share byte 0x72; every byte of a file belongs to one of its parts"
+)
+
+
+def setUpModule():
+    # The tests change the folder, and the library may be named by a path from here.
+    elfmap.check(GOOD)
+    if "ELFMAP_LIB_DIR" in ENVIRONMENT:
+        ENVIRONMENT["ELFMAP_LIB_DIR"] = os.path.abspath(ENVIRONMENT["ELFMAP_LIB_DIR"])
+
+
+class Made:
+    """A relocatable file: its sections, and at its end their names and headers.
+
+    A section is a name, a type, a content, and fields by their names.
+    """
+
+    FIELDS = dict(name=0, type=4, flags=8, addr=16, offset=24, size=32, link=40, info=44, align=48, entsize=56)
+
+    def __init__(self, *sections):
+        names, self.data, rows = b"\0", bytearray(64), [bytes(64)]
+        for name, kind, content, fields in sections:
+            self.data += bytes(-len(self.data) % 8)
+            rows.append(self.row(len(names), kind, len(self.data), len(content), fields))
+            self.data += content
+            names += name + b"\0"
+        own = len(names)
+        names += b".shstrtab\0"
+        rows.append(self.row(own, 3, len(self.data), len(names), {}))
+        self.names = len(self.data)
+        self.data += names
+        self.data += bytes(-len(self.data) % 8)
+        self.table = len(self.data)
+        self.data += b"".join(rows)
+        counts = 64, 0, 0, 64, len(rows), len(rows) - 1
+        self.data[:64] = struct.pack("<16sHHIQQQIHHHHHH", b"\x7fELF\2\1\1", 1, 62, 1, 0, 0, self.table, 0, *counts)
+
+    def row(self, name, kind, offset, size, fields):
+        it = dict(flags=0, addr=0, size=size, link=0, info=0, align=1, entsize=0) | fields
+        places = it["addr"], offset, it["size"], it["link"], it["info"], it["align"], it["entsize"]
+        return struct.pack("<IIQQQQIIQQ", name, kind, it["flags"], *places)
+
+    def with_field(self, index, field, value):
+        """Its bytes, with a field of a section header changed."""
+        data, at = bytearray(self.data), self.table + 64 * index + self.FIELDS[field]
+        width = 4 if field in ("name", "type", "link", "info") else 8
+        data[at : at + width] = value.to_bytes(width, "little")
+        return bytes(data)
+
+    def with_bytes(self, at, content):
+        data = bytearray(self.data)
+        data[at : at + len(content)] = content
+        return bytes(data)
+
+
+def text(name=b".text", content=b"\x90" * 0x33):
+    return name, 1, content, {}
+
+
+def symbols(link, *rows, info=1):
+    """A symbol table: of each symbol its st_name, st_info and st_shndx."""
+    content = bytes(24) + b"".join(struct.pack("<IBBHQQ", *(name, kind, 0, section, 0, 0)) for name, kind, section in rows)
+    return b".symtab", 2, content, dict(link=link, info=info, entsize=24)
+
+
+def relocations(link, *named):
+    content = b"".join(struct.pack("<QQq", 0, symbol << 32 | 2, 0) for symbol in named)
+    return b".rela.text", 4, content, dict(link=link, info=1, entsize=24)
+
+
+GOOD = bytes(Made(text()).data)
+# .text has the bytes from 0x40 to below 0x73, and .data four bytes from 0x72 on.
+SHARING = Made(text(), (b".data", 1, b"\1\2\3\4", {})).with_field(2, "offset", 0x72)
+# Symbol 1 is of section 99, which isn't there (rule 51), and two sections link to the table.
+BROKEN_SYMBOLS = bytes(
+    Made(text(), symbols(3, (1, 0x10, 99)), (b".strtab", 3, b"\0f\0", {}), relocations(2, 1), relocations(2, 1)).data
+)
+CLASS_32 = b"\x7fELF\1\1\1" + bytes(64)
+
+
+def archive_member(name, content, ending=b"/"):
+    header = b"%-16s%-12d%-6d%-6d%-8o%-10d`\n" % (name + ending, 0, 0, 0, 0o644, len(content))
+    return header + content + b"\n" * (len(content) % 2)
+
+
+LONG = b"a name of more than sixteen letters.o"
+GNU = (
+    b"!<arch>\n"
+    + archive_member(b"", bytes(4))
+    + archive_member(b"/", LONG + b"/\n")
+    + archive_member(b"good.o", GOOD)
+    + archive_member(b"/0", SHARING, b"")
+    + archive_member(b"odd", b"no ELF file")
+)
+BSD = (
+    b"!<arch>\n"
+    + archive_member(b"__.SYMDEF SORTED", bytes(8), b"")
+    + archive_member(b"#1/40", LONG.ljust(40, b"\0") + SHARING, b"")
+    + archive_member(b"good.o", GOOD, b"")
+)
+
+
+def thin(*names):
+    table = b"".join(it + b"/\n" for it in names)
+    starts = [table.index(it + b"/\n") for it in names]
+    # The size is that of the file, whose bytes are elsewhere.
+    headers = (archive_member(b"/%d" % it, b"", b"") for it in starts)
+    return b"!<thin>\n" + archive_member(b"/", table) + b"".join(headers)
+
+
+class Case(unittest.TestCase):
+    def setUp(self):
+        folder = tempfile.TemporaryDirectory(prefix="elfmap-lint-test-")
+        self.addCleanup(folder.cleanup)
+        before = os.getcwd()
+        os.chdir(folder.name)
+        self.addCleanup(os.chdir, before)
+
+    def put(self, **files):
+        """Files in the folder, whose names have a dot where the words have `__`."""
+        for name, content in files.items():
+            Path(name.replace("__", ".")).write_bytes(content)
+
+    def lint(self, *words, stdin=b""):
+        """The status, and what is told on standard output and standard error."""
+        with contextlib.ExitStack() as stack:
+            files = [stack.enter_context(tempfile.TemporaryFile()) for _ in range(3)]
+            files[0].write(stdin)
+            files[0].seek(0)
+            for number, file in enumerate(files):
+                saved = os.dup(number)
+                stack.callback(os.close, saved)
+                stack.callback(os.dup2, saved, number)
+                os.dup2(file.fileno(), number)
+            said = stack.enter_context(open(2, "w", closefd=False, errors="surrogateescape"))
+            stack.enter_context(mock.patch.object(sys, "stderr", said))
+            try:
+                status = lint.main(words)
+            except SystemExit as end:
+                status = end.code
+            said.flush()
+            return status, *(os.pread(it.fileno(), 1 << 24, 0) for it in files[1:])
+
+    def told(self, *words, stdin=b""):
+        """The lines of standard output."""
+        return self.lint(*words, stdin=stdin)[1].decode("utf-8", "surrogateescape").splitlines()
+
+    def assertSaid(self, words, status, lines, stdin=b""):
+        found, out, _ = self.lint(*words, stdin=stdin)
+        self.assertEqual((found, out.splitlines()), (status, lines))
+
+
+class WordsTest(Case):
+    def test_a_shared_byte(self):
+        self.put(bad__o=SHARING)
+        self.assertSaid(["bad.o"], 1, [b"bad.o: " + SHARED, b"1 finding in 1 of 1 ELF file"])
+
+    def test_a_byte_of_the_header(self):
+        self.put(bad__o=Made(text()).with_field(1, "offset", 0x3F))
+        owners = "the ELF header [0x0, 0x40) and the content of .text [0x3f, 0x72) share byte 0x3f"
+        self.assertIn(owners, self.told("bad.o")[0])
+
+    def test_a_field(self):
+        self.put(bad__o=Made(text()).with_field(1, "align", 3))
+        at = Made(text()).table + 64 + 48
+        words = (
+            f"bad.o: offset {at:#x}: WRONG_SECTION_ALIGNMENT (22): the section header of section 1 .text of type PROGBITS: "
+            "sh_addralign, which is 3; `sh_addralign` is neither 0 nor a power of two; give an alignment that is one"
+        )
+        self.assertEqual(self.told("bad.o")[0], words)
+
+    def test_a_file_that_ends_early(self):
+        self.put(bad__o=GOOD[:63])
+        words = "bad.o: offset 0x3f: TOO_SHORT (2): the file ends there, with 63 bytes; it is shorter than an ELF header, 64 bytes"
+        self.assertTrue(self.told("bad.o")[0].startswith(words))
+
+    def test_a_file_that_is_too_long(self):
+        with open("long", "wb") as it:
+            it.write(GOOD)
+            it.truncate(2**30 + 1)
+        self.assertTrue(self.told("long")[0].startswith("long: offset 0x40000000: TOO_LONG (1): "))
+
+    def test_names_that_are_no_text(self):
+        self.put(bad__o=Made(text(b"\xff\n")).with_field(1, "align", 3))
+        self.assertIn("section 1 \\xff\\n of type PROGBITS", self.told("bad.o")[0])
+
+    def test_the_advice_is_that_of_the_rules(self):
+        found, last = {}, ""
+        for line in RULES.read_text(encoding="utf-8").splitlines():
+            row = re.match(r'\| <a id="(image|table|object)-(\d+)"></a>', line)
+            if row and (row[1] != "object" or int(row[2]) >= 70):
+                cell = line.strip().strip("|").split(" | ")[4].strip()
+                last = last if cell == "the same" else cell
+                found[int(row[2])] = last
+        self.assertEqual(_advice.ADVICE, found)
+        self.assertEqual(set(found), set(_rules.RULES))
+
+    def test_each_rule_has_a_reason(self):
+        self.assertTrue(all(map(_words.reason, _rules.RULES)))
+
+    def test_any_bytes_have_words(self):
+        for data in (b"", b"\x7fELF", GOOD[:70], b"\x7fELF\2\2" + b"\xff" * 100, BROKEN_SYMBOLS[:-90]):
+            for rule in _rules.RULES:
+                for at in (0, 60, len(data), 2**64 - 1):
+                    for table in (None, 0, 1, 2**40):
+                        self.assertTrue(_words.explain(_words.Words(data), rule, at, table).message)
+
+
+class DepthTest(Case):
+    def test_a_symbol_table_is_told_once(self):
+        self.put(bad__o=BROKEN_SYMBOLS)
+        self.assertEqual(self.told("bad.o"), ["0 findings in 0 of 1 ELF file"])
+        lines = self.told("--tables", "bad.o")
+        self.assertEqual(len(lines), 2)
+        # Three sections have the content before it: 0x33 bytes from 0x40 on.
+        words = (
+            "bad.o: offset 0x96: WRONG_SYMBOL_SECTION (51): the content of section 2 .symtab [0x78, 0xa8): "
+            "symbol 1 f, defined in section 99, which isn't there: st_shndx, which is 0x63; "
+        )
+        self.assertTrue(lines[0].startswith(words), lines[0])
+
+    def test_each_table_with_its_own_fault(self):
+        parts = [text(), symbols(3, (1, 0x10, 1)), (b".strtab", 3, b"\0f\0", {}), relocations(2, 9), relocations(2, 1, 8)]
+        self.put(bad__o=bytes(Made(*parts).data))
+        found = [it.split(": ")[2] for it in self.told("--tables", "bad.o")[:-1]]
+        self.assertEqual(found, ["WRONG_RELOCATION_SYMBOL (54)"] * 2)
+
+    def test_what_an_object_needs(self):
+        executable = Made(text()).with_bytes(16, b"\2")
+        self.put(good__o=GOOD, run=executable)
+        self.assertEqual(self.lint(".")[0], 0)
+        words = "./run: offset 0x10: NOT_RELOCATABLE (70): the header: e_type, which is 2; `e_type` isn't REL; "
+        lines = self.told("--object", ".")
+        self.assertTrue(lines[0].startswith(words), lines[0])
+        self.assertEqual(len(lines), 2)
+
+    def test_a_fault_of_both_is_told_once(self):
+        self.put(bad__o=BROKEN_SYMBOLS)
+        self.assertEqual(len(self.told("--tables", "--object", "bad.o")), 2)
+
+    def test_what_is_not_read_does_not_matter(self):
+        """Each byte that is looked at, in a file that is longer than what is read whole."""
+        filler = (b".filler", 1, bytes(1 << 17), {})
+        parts = [filler, symbols(3, (1, 0x10, 1)), (b".strtab", 3, b"\0f\0", {}), relocations(2, 1)]
+        made = Made(*parts)
+        places = [*range(64), *range(made.names, len(made.data))]
+        checks = _checks.Checks(False, False)
+        for at in places:
+            for value in (0, 1, 0xFF):
+                data = made.with_bytes(at, bytes([value]))
+                self.assertEqual(self.image_fault(checks, data), self.refused(data), (at, value))
+
+    def test_tables_of_a_long_file(self):
+        filler = (b".filler", 1, bytes(1 << 17), {})
+        parts = [filler, symbols(3, (1, 0x10, 1)), (b".strtab", 3, b"\0f\0", {}), relocations(2, 1)]
+        made = Made(*parts)
+        checks = _checks.Checks(True, True)
+        for at in range(len(made.data) - 500, len(made.data)):
+            data = made.with_bytes(at, b"\xee")
+            shown = re.findall(r"^refused (?:\d+ )?(\d+) (\d+)$", elfmap.show(data), re.M)
+            told = {(it.rule, it.at) for it in self.faults(checks, data) if it.rule < 70}
+            self.assertLessEqual({(int(rule), int(place)) for rule, place in shown}, told | {self.refused(data)})
+
+    def faults(self, checks, data):
+        with tempfile.TemporaryFile() as it:
+            it.write(data)
+            it.flush()
+            return checks.faults(_sources.Source(it.fileno(), 0, len(data)))
+
+    def image_fault(self, checks, data):
+        return next(((it.rule, it.at) for it in self.faults(checks, data)), None)
+
+    def refused(self, data):
+        try:
+            elfmap.check(data)
+        except elfmap.Refused as fault:
+            return fault.rule, fault.offset
+        return None
+
+
+class FormatTest(Case):
+    def setUp(self):
+        super().setUp()
+        os.mkdir("a")
+        self.put(**{"a/bad__o": SHARING, "a/lib__a": GNU, "a/good__o": GOOD, "a/text": b"no ELF file"})
+
+    def test_text(self):
+        member = b"a/lib.a(" + LONG + b"): " + SHARED
+        summary = b"2 findings in 2 of 4 ELF files; skipped: 2 not ELF"
+        self.assertSaid(["a"], 1, [b"a/bad.o: " + SHARED, member, summary])
+
+    def test_records_that_end_by_zero(self):
+        os.rename("a/bad.o", b"a/b\n\xff")
+        records = self.lint("-0", "a")[1].split(b"\0")
+        self.assertEqual(len(records), 4)
+        self.assertEqual(records[0], b"a/b\n\xff: " + SHARED)
+        self.assertEqual(self.lint("a")[1].splitlines()[0], b"a/b\\x0a\xff: " + SHARED)
+
+    def test_jsonl(self):
+        lines = [json.loads(it) for it in self.told("--format", "jsonl", "a", "none")]
+        found = {"path": "a/bad.o", "offset": 0x72, "rule": 33, "name": "SHARED_BYTE", "sections": [".text", ".data"]}
+        message = SHARED.decode().partition("(33): ")[2]
+        self.assertEqual(lines[0], {**found, "message": message})
+        self.assertEqual(lines[2], {"path": "none", "unreadable": "no such file or directory"})
+        counts = dict(checked=4, findings=2, files_with_findings=2, suppressed=0, not_elf=2, class_32=0, not_regular=0, unreadable=1)
+        self.assertEqual(lines[3:], [{"summary": counts}])
+
+    def test_jsonl_of_a_path_that_is_no_text(self):
+        os.rename("a/bad.o", b"a/\xff")
+        found = [json.loads(it) for it in self.told("--format", "jsonl", "a")]
+        self.assertEqual([(it["path"], bytes.fromhex(it["path_hex"])) for it in found if "path_hex" in it], [("a/\\xff", b"a/\xff")])
+
+    def test_sarif(self):
+        os.rename("a/bad.o", b"a/b d\xff%.o")
+        status, out, _ = self.lint("--format", "sarif", "a", "none")
+        log = json.loads(out)
+        self.assertEqual(status, 3)
+        self.assert_sarif(log)
+        run = log["runs"][0]
+        places = [it["locations"][0]["physicalLocation"] for it in run["results"]]
+        files = [unquote_to_bytes(it["artifactLocation"]["uri"]) for it in places]
+        self.assertEqual(files, [b"a/b d\xff%.o", b"a/lib.a"])
+        self.assertEqual(places[0]["region"]["byteOffset"], 0x72)
+        # In the archive the member begins behind its header.
+        self.assertEqual(places[1]["region"]["byteOffset"], GNU.index(SHARING) + 0x72)
+        self.assertFalse(run["invocations"][0]["executionSuccessful"])
+        self.assertIn("none: no such file", run["invocations"][0]["toolExecutionNotifications"][0]["message"]["text"])
+
+    def assert_sarif(self, log):
+        """What the standard requires of a log (SARIF 2.1.0, 3.13 to 3.58)."""
+        self.assertEqual(log["version"], "2.1.0")
+        self.assertTrue(log["$schema"].endswith("sarif-2.1.0.json"))
+        self.assertLessEqual(set(log), {"$schema", "version", "runs"})
+        for run in log["runs"]:
+            self.assertLessEqual(set(run), {"tool", "invocations", "results", "properties"})
+            driver = run["tool"]["driver"]
+            self.assertEqual(driver["name"], "elfmap-lint")
+            rules = [it["id"] for it in driver["rules"]]
+            self.assertEqual(len(rules), len(set(rules)))
+            for it in run["invocations"]:
+                self.assertIsInstance(it["executionSuccessful"], bool)
+            for it in run["results"]:
+                self.assert_sarif_result(it, rules)
+
+    def assert_sarif_result(self, it, rules):
+        self.assertLessEqual(set(it), {"ruleId", "ruleIndex", "level", "message", "locations"})
+        self.assertEqual(rules[it["ruleIndex"]], it["ruleId"])
+        self.assertIn(it["level"], ("none", "note", "warning", "error"))
+        self.assertTrue(it["message"]["text"])
+        for place in it["locations"]:
+            self.assertLessEqual(set(place), {"physicalLocation", "logicalLocations"})
+            uri = place["physicalLocation"]["artifactLocation"]["uri"]
+            self.assertRegex(uri, r"^(file:///)?[A-Za-z0-9._~/%-]+$")
+            self.assertGreaterEqual(place["physicalLocation"]["region"]["byteOffset"], 0)
+            logical = [json.dumps(it, sort_keys=True) for it in place["logicalLocations"]]
+            self.assertEqual(len(logical), len(set(logical)))
+
+    def test_junit(self):
+        os.rename("a/bad.o", b"a/\xff<&\"'>\x01.o")
+        root = ElementTree.fromstring(self.lint("--format", "junit", "a", "none")[1])
+        suite = root[0]
+        self.assertEqual((root.tag, suite.tag), ("testsuites", "testsuite"))
+        cases = {it.get("name"): it for it in suite}
+        member = "a/lib.a(" + LONG.decode() + ")"
+        expected = {"a/good.o", "a/lib.a(good.o)", member, "a/\\xff<&\"'>\\x01.o", "none"}
+        self.assertEqual(set(cases), expected)
+        self.assertEqual([suite.get(it) for it in ("tests", "failures", "errors")], ["5", "2", "1"])
+        self.assertEqual(len(cases["a/good.o"]), 0)
+        failure = cases[member][0]
+        self.assertEqual((failure.tag, failure.get("type")), ("failure", "SHARED_BYTE"))
+        self.assertEqual(failure.text, SHARED.decode())
+        self.assertEqual(cases["none"][0].tag, "error")
+
+    def test_github(self):
+        os.rename("a/bad.o", "a/b:,%\n")
+        lines = self.told("--format", "github", "a")
+        message = f"a/b:,%25\\n: {SHARED.decode()}"
+        self.assertEqual(lines[0], f"::error file=a/b%3A%2C%25%0A,title=SHARED_BYTE (33)::{message}")
+
+    def test_one_document_has_no_records(self):
+        for it in ("sarif", "junit"):
+            self.assertEqual(self.lint("-0", "--format", it, "a")[0], 2)
+
+    def test_the_same_whatever_the_number_of_processes(self):
+        for number in range(200):
+            Path(f"a/{number}.o").write_bytes(SHARING if number % 3 else GOOD)
+        for it in ("text", "jsonl", "sarif", "junit", "github"):
+            alone = self.lint("--format", it, "-j1", "a", "none")
+            self.assertEqual(self.lint("--format", it, "-j3", "a", "none"), alone)
+
+
+class OptionTest(Case):
+    def setUp(self):
+        super().setUp()
+        os.makedirs("a/b")
+        self.put(**{"a/bad__o": SHARING, "a/b/bad__o": SHARING, "a/b/narrow": CLASS_32})
+
+    def paths(self, *words, **more):
+        return [it.split(": ")[0] for it in self.told(*words, **more)[:-1]]
+
+    def test_excluded(self):
+        self.assertEqual(self.paths("a"), ["a/b/bad.o", "a/bad.o"])
+        self.assertEqual(self.paths("--exclude", "b", "a"), ["a/bad.o"])
+        self.assertEqual(self.paths("--exclude", "a/b/*", "a"), ["a/bad.o"])
+        self.assertEqual(self.paths("--exclude", "*.o", "--exclude", "b", "a"), [])
+
+    def test_class_32(self):
+        self.assertIn("skipped: 1 of class 32", self.told("a")[-1])
+        lines = self.told("--class32=fail", "a/b/narrow")
+        self.assertTrue(lines[0].startswith("a/b/narrow: offset 0x4: WRONG_CLASS (4): "), lines)
+
+    def test_ignored(self):
+        for rule in ("33", "SHARED_BYTE", "shared_byte", "shared-byte"):
+            self.assertSaid(["--ignore", rule, "a"], 0, [b"0 findings in 0 of 2 ELF files, 2 suppressed; skipped: 1 of class 32"])
+        self.assertEqual(self.paths("--ignore", "33:a/b/*", "a"), ["a/bad.o"])
+        self.assertEqual(self.paths("--ignore", "22", "a"), ["a/b/bad.o", "a/bad.o"])
+        for rule in ("34", "NO_RULE", "", "0", "²"):
+            self.assertEqual(self.lint("--ignore", rule, "a")[0], 2)
+
+    def test_a_baseline(self):
+        status, out, _ = self.lint("--write-baseline", "known.json", "a/b")
+        self.assertEqual((status, out[:10]), (0, b"0 findings"))
+        self.assertEqual(self.paths("--baseline", "known.json", "a"), ["a/bad.o"])
+        # The same file, built again: the finding is at another place.
+        self.put(**{"a/b/bad__o": Made(text(content=bytes(0x35)), (b".data", 1, bytes(4), {})).with_field(2, "offset", 0x74)})
+        self.assertEqual(self.lint("--baseline", "known.json", "a/b")[0], 0)
+
+    def test_a_baseline_of_any_path(self):
+        os.rename("a/bad.o", b"a/\xff")
+        self.lint("--write-baseline", "known.json", "a")
+        self.assertEqual(self.lint("--baseline", "known.json", "a")[0], 0)
+
+    def test_what_is_no_baseline(self):
+        for content in (b"", b"[]", b"{}", b'{"findings": 3}', b'{"findings": [{}]}', b"[" * 100_000, b"\xff"):
+            self.put(known=content)
+            self.assertEqual(self.lint("--baseline", "known", "a")[0], 2)
+        self.assertEqual(self.lint("--baseline", "none", "a")[0], 2)
+
+    def test_an_output_file(self):
+        lines = self.lint("a")[1]
+        self.assertEqual(self.lint("-o", "out", "a"), (1, b"", b""))
+        self.assertEqual(Path("out").read_bytes(), lines)
+        self.assertEqual(stat.S_IMODE(os.stat("out").st_mode) & 0o600, 0o600)
+
+    def test_an_output_file_as_a_whole_or_not_at_all(self):
+        def cut(report, end):
+            yield b"a beginning"
+            raise OSError(28, "no space left on device")
+
+        self.put(out=b"before")
+        with mock.patch.dict(_formats.FORMATS, text=cut):
+            self.assertEqual(self.lint("-o", "out", "a")[0], 3)
+        self.assertEqual(Path("out").read_bytes(), b"before")
+        self.assertEqual(sorted(os.listdir()), ["a", "out"])
+        self.assertEqual(self.lint("-o", "none/out", "a")[0], 3)
+
+    def test_a_list_of_paths(self):
+        names = b"a/bad.o\0a/b\0"
+        self.put(names=names, open=names[:-1])
+        expected = ["a/b/bad.o", "a/bad.o"]
+        self.assertEqual(self.paths("--files0-from", "names"), expected)
+        self.assertEqual(self.paths("--files0-from", "open"), expected)
+        self.assertEqual(self.paths("--files0-from=-", stdin=names), expected)
+        self.assertEqual(self.paths("--files0-from=-", "a", stdin=names), expected)
+        self.assertEqual(self.lint("--files0-from", "none")[0], 3)
+        self.assertEqual(self.lint("--files0-from=-", "-", stdin=names)[0], 2)
+        self.assertEqual(self.lint("--files0-from=-", stdin=b"a/bad.o\0\0")[0], 3)
+
+    def test_standard_input(self):
+        self.assertSaid(["-"], 1, [b"-: " + SHARED, b"1 finding in 1 of 1 ELF file"], stdin=SHARING)
+        self.assertIn("-(" + LONG.decode() + ")", self.paths("-", stdin=GNU))
+
+    def test_a_pipe_as_standard_input(self):
+        ran = subprocess.run([*PROGRAM, "-"], input=SHARING, stdout=subprocess.PIPE, env=ENVIRONMENT)
+        self.assertEqual((ran.returncode, ran.stdout.splitlines()[0]), (1, b"-: " + SHARED))
+
+
+class StatusTest(Case):
+    def test_each(self):
+        self.put(good__o=GOOD, bad__o=SHARING)
+        for words, status in (
+            (["good.o"], 0),
+            (["good.o", "bad.o"], 1),
+            ([], 2),
+            (["--none", "good.o"], 2),
+            (["-j", "-1", "good.o"], 2),
+            (["-j", "x", "good.o"], 2),
+            (["none"], 3),
+            (["none", "good.o", "bad.o"], 3),
+        ):
+            self.assertEqual(self.lint(*words)[0], status, words)
+
+    def test_the_rest_is_checked(self):
+        self.put(bad__o=SHARING)
+        status, out, said = self.lint("none", "bad.o")
+        self.assertIn(SHARED, out)
+        self.assertEqual(said, b"elfmap-lint: none: no such file or directory\n")
+        self.assertTrue(out.endswith(b"; 1 unreadable\n"))
+
+    def test_progress_is_shown_on_a_terminal_alone(self):
+        for is_terminal in (False, True):
+            said = io.StringIO()
+            with mock.patch.object(said, "isatty", return_value=is_terminal), mock.patch.object(sys, "stderr", said):
+                progress = lint.Progress()
+                with mock.patch("time.monotonic", return_value=2.0**40):
+                    progress.tell(_findings.Report(checked=7))
+                progress.end()
+            self.assertEqual("7 files checked" in said.getvalue(), is_terminal)
+            self.assertEqual(bool(said.getvalue()), is_terminal)
+
+    def test_nothing_to_check(self):
+        self.put(text=b"no ELF file")
+        self.assertEqual(self.lint("text")[0], 0)
+        self.assertEqual(self.lint("--fail-on-empty", "text")[0], 1)
+
+    def test_a_pipe_that_is_closed(self):
+        self.put(bad__o=SHARING)
+        reading, writing = os.pipe()
+        os.close(reading)
+        ran = subprocess.run([*PROGRAM, "bad.o"], stdout=writing, stderr=subprocess.PIPE, env=ENVIRONMENT)
+        os.close(writing)
+        self.assertEqual((ran.returncode, ran.stderr), (1, b""))
+
+    def test_a_full_device(self):
+        self.put(bad__o=SHARING)
+        status, _, said = self.lint("-o", "/dev/full", "bad.o")
+        self.assertEqual((status, said), (3, b"elfmap-lint: no space left on device\n"))
+
+
+class ArchiveTest(Case):
+    def members(self, data, path=b"lib.a"):
+        """The names and contents of members, and whether the archive is whole."""
+        found = []
+        with tempfile.TemporaryFile() as it:
+            it.write(data)
+            it.flush()
+            source = _sources.Source(it.fileno(), 0, len(data))
+            try:
+                for member in _archives.members(source, path):
+                    found.append((member.name, data[member.start : member.start + member.size]))
+            except _sources.Unreadable:
+                return found, False
+        return found, True
+
+    def test_names_of_gnu(self):
+        expected = [(b"good.o", GOOD), (LONG, SHARING), (b"odd", b"no ELF file")]
+        self.assertEqual(self.members(GNU), (expected, True))
+
+    def test_names_of_bsd(self):
+        self.assertEqual(self.members(BSD), ([(LONG, SHARING), (b"good.o", GOOD)], True))
+
+    def test_cut_anywhere(self):
+        for data in (GNU, BSD):
+            whole, _ = self.members(data)
+            for length in range(8, len(data)):
+                found, _ = self.members(data[:length])
+                self.assertEqual(found, whole[: len(found)])
+        # Cut within a member, it is told as unreadable, and what is before is checked.
+        self.put(lib__a=GNU[:-3])
+        status, out, said = self.lint("lib.a")
+        self.assertIn(b"lib.a(" + LONG + b"): " + SHARED, out)
+        self.assertIn(b"lib.a: the archive is damaged at offset ", said)
+        self.assertEqual(status, 3)
+
+    def test_damaged(self):
+        for place, content in ((48, b"x"), (48, b" " * 10), (48, b"-1"), (58, b"x"), (48, b"9" * 10)):
+            data = bytearray(b"!<arch>\n" + archive_member(b"good.o", GOOD))
+            data[8 + place : 8 + place + len(content)] = content
+            self.assertEqual(self.members(bytes(data)), ([], False))
+        for name in (b"/9", b"#1/99999"):
+            data = b"!<arch>\n" + archive_member(name, b"x", b"")
+            self.assertEqual(self.members(data), ([], False))
+
+    def test_thin(self):
+        os.makedirs("a/b")
+        self.put(**{"a/lib__a": thin(b"b/bad.o", b"good.o", b"none.o"), "a/b/bad__o": SHARING, "a/good__o": GOOD})
+        status, out, said = self.lint("a/lib.a")
+        self.assertEqual(status, 3)
+        self.assertEqual(out.splitlines()[0], b"a/lib.a(b/bad.o): " + SHARED)
+        self.assertEqual(said, b"elfmap-lint: a/lib.a(none.o): no such file or directory\n")
+        found = json.loads(self.lint("--format", "sarif", "a/lib.a")[1])["runs"][0]["results"][0]
+        self.assertEqual(found["locations"][0]["physicalLocation"]["artifactLocation"]["uri"], "a/b/bad.o")
+
+    def test_a_thin_archive_of_what_is_no_file(self):
+        os.mkfifo("pipe")
+        self.put(lib__a=thin(b"pipe", b"."))
+        status, _, said = self.lint("lib.a")
+        self.assertEqual(status, 3)
+        self.assertEqual(said.count(b"it is no regular file"), 2)
+
+    def test_a_thin_archive_of_members_of_another_one(self):
+        origin = GNU.index(archive_member(b"/0", SHARING, b""))
+        table = archive_member(b"/", b"inner.a/\n")
+        outer = b"!<thin>\n" + table + archive_member(b"/0:%d" % origin, b"", b"") + archive_member(b"/0:9", b"", b"")
+        self.put(inner__a=GNU, outer__a=outer)
+        status, out, said = self.lint("outer.a")
+        self.assertEqual(out.splitlines()[0], b"outer.a(inner.a(" + LONG + b")): " + SHARED)
+        self.assertIn(b"damaged at offset 0x9", said)
+
+    @unittest.skipUnless(shutil.which("ar"), "ar is not installed")
+    def test_those_of_ar(self):
+        self.put(**{LONG.decode().replace(".", "__"): SHARING, "good__o": GOOD})
+        for words in ("rc", "rcT"):
+            subprocess.run(["ar", words, f"{words}.a", LONG, "good.o"], check=True)
+            self.assertEqual(self.lint(f"{words}.a")[1].splitlines()[0], words.encode() + b".a(" + LONG + b"): " + SHARED)
+        subprocess.run(["ar", "rcT", "outer.a", "rc.a"], check=True)
+        self.assertIn(LONG + b")): " + SHARED, self.lint("outer.a")[1])
+
+
+class TreeTest(Case):
+    def test_what_is_not_opened(self):
+        os.mkfifo("pipe")
+        self.put(bad__o=SHARING)
+        os.symlink("bad.o", "link.o")
+        os.symlink(".", "loop")
+        os.symlink("none", "dangling")
+        lines = [b"./bad.o: " + SHARED, b"1 finding in 1 of 1 ELF file; skipped: 1 not regular"]
+        self.assertSaid(["."], 1, lines)
+        self.assertEqual(self.lint("pipe")[0], 3)
+        self.assertEqual(self.lint("/dev/zero")[0], 3)
+
+    def test_links_that_are_named(self):
+        os.mkdir("a")
+        self.put(**{"a/bad__o": SHARING})
+        os.symlink("a", "folder")
+        os.symlink("a/bad.o", "file")
+        self.assertEqual(self.told("folder")[0][:14], "folder/bad.o: ")
+        self.assertEqual(self.told("file")[0][:6], "file: ")
+
+    def test_hard_links_once(self):
+        os.makedirs("z")
+        self.put(**{"z/bad__o": SHARING})
+        for name in ("b.o", "a.o", "c.o"):
+            os.link("z/bad.o", name)
+        lines = [b"./a.o: " + SHARED, b"1 finding in 1 of 1 ELF file"]
+        self.assertSaid(["."], 1, lines)
+        self.assertSaid([".", "z", "z/bad.o", "c.o"], 1, [lines[0], lines[1]])
+
+    def test_what_is_named_twice(self):
+        os.makedirs("a/b")
+        self.put(**{"a/b/bad__o": SHARING})
+        summary = b"1 finding in 1 of 1 ELF file"
+        for words in (["a", "a/b"], ["a/b", "a"], ["a", "a", "a/b/bad.o", "a/b/bad.o"]):
+            self.assertSaid(words, 1, [b"a/b/bad.o: " + SHARED, summary])
+
+    def test_names_of_any_bytes(self):
+        for it in range(1, 256):
+            if it not in b"/.":
+                Path(os.fsdecode(bytes([it]))).write_bytes(SHARING)
+        records = self.lint("-0", ".")[1].split(b"\0")
+        self.assertEqual(len(records), 253 + 2)
+        self.assertEqual(records[:-2], sorted(records[:-2]))
+        for it in ("text", "jsonl", "sarif", "junit", "github"):
+            self.assertEqual(self.lint("--format", it, ".")[0], 1)
+
+    def test_a_file_that_vanishes(self):
+        report = Inspector(Depth()).files([b"none"])
+        self.assertEqual(report.unreadable, [(b"none", "no such file or directory")])
+
+    def test_a_file_that_shrinks(self):
+        long = bytes(Made((b".filler", 1, bytes(1 << 18), {}), text()).data)
+        for data, kept in ((GOOD, 10), (GOOD, 0), (long, 1 << 17), (long, 100)):
+            with tempfile.TemporaryFile() as it:
+                it.write(data)
+                it.flush()
+                source = _sources.Source(it.fileno(), 0, len(data))
+                self.assertEqual(source[:4], b"\x7fELF")
+                it.truncate(kept)
+                with self.assertRaises(_sources.Unreadable) as raised:
+                    _checks.Checks(True, True).faults(source)
+                self.assertEqual(raised.exception.reason, "it became shorter while it was read")
+
+    def test_a_folder_that_vanishes(self):
+        os.makedirs("a/b")
+        report = _findings.Report()
+        found = iter(_walk.Walk([b"a"], _findings.Globs([]), report))
+        with mock.patch("os.scandir", side_effect=FileNotFoundError(2, "No such file or directory")):
+            self.assertEqual(list(found), [])
+        self.assertEqual(report.unreadable, [(b"a", "no such file or directory")])
+
+    def test_empty_files(self):
+        for number in range(3000):
+            os.close(os.open(f"{number}", os.O_CREAT | os.O_WRONLY))
+        with mock.patch("elfmap._inspect.opened", side_effect=AssertionError):
+            self.assertSaid(["."], 0, [b"0 findings in 0 of 0 ELF files; skipped: 3000 not ELF"])
+
+
+class WorkersTest(Case):
+    def test_a_process_that_ends(self):
+        """The file that ends it is told, and the others are checked."""
+
+        def work(paths):
+            if b"bad" in paths:
+                os.kill(os.getpid(), signal.SIGKILL)
+            return _findings.Report(checked=len(paths))
+
+        report = _findings.Report()
+        pool = _workers.Pool(lambda: work, 2, report.add)
+        pool.run(iter([[b"a", b"b"], [b"c", b"bad", b"d"], [b"e"]]))
+        self.assertEqual(report.checked, 5)
+        self.assertEqual(report.unreadable, [(b"bad", "the process that checked it ended by signal 9")])
+
+    def test_none_is_left(self):
+        _workers.Pool(lambda: lambda paths: _findings.Report(), 3, lambda it: None).run(iter([[b"a"]] * 5))
+        with self.assertRaises(ChildProcessError):
+            os.waitpid(-1, os.WNOHANG)
+
+
+class ExamplesTest(unittest.TestCase):
+    def test_their_words_are_those_of_the_program(self):
+        for name in ("pre-commit-hooks.yaml", "lint-workflow.yml"):
+            words = (PACKAGE / "examples" / name).read_text(encoding="utf-8")
+            calls = re.findall(r"elfmap-lint (--.*)", words)
+            self.assertTrue(calls or "elfmap-lint" in words)
+            for it in calls:
+                lint._parser().parse_args(it.split())
+
+
+if __name__ == "__main__":
+    unittest.main()
