@@ -195,7 +195,7 @@ class Words:
         kind, link, info = (self.section(index, it) for it in ("sh_type", "sh_link", "sh_info"))
         words = [f"the section header of {self.typed_words(index)}" if index else "section header 0"]
         words += [f"its link is {self.typed_words(link)}"] if link and kind != NULL else []
-        words += [f"it relocates {self.section_words(info)}"] if kind in (REL, RELA) else []
+        words += [f"it relocates {self.section_words(info)}"] if kind in (REL, RELA) and info else []
         words += [f"signed by {self.symbol_words(link, info)}"] if kind == GROUP else []
         return "; ".join(words)
 
