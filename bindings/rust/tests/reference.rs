@@ -129,6 +129,7 @@ fn told(bytes: &[u8]) -> Vec<String> {
         Err(Failure::Refused { refusal, .. }) => {
             format!("rewrite refused {} {}", refusal.rule, refusal.offset)
         }
+        Err(Failure::TooLong) => "rewrite too long".to_string(),
         Err(failure) => format!("rewrite {failure}"),
     });
     lines

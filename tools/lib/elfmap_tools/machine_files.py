@@ -146,7 +146,8 @@ def listed(path: str, data: bytes) -> list[str]:
         words = line.split()
         if not words or words[0] in ("Symbol", "Num:", "0:"):
             continue
-        if len(words) > 6 and words[0].rstrip(":").isdigit() and words[6].isdigit():
+        # Of a symbol: a relocation's line has no colon after its first number.
+        if len(words) > 6 and words[0].endswith(":") and words[0][:-1].isdigit() and words[6].isdigit():
             words[6] = f"@{position.get(int(words[6]), 'none')}"
             line = " ".join(words)
         line = re.sub(r"\[ *(\d+)\]", lambda it: f"@{position.get(int(it[1]), 'none')}", line)
