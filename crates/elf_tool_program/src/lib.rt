@@ -6,9 +6,9 @@
 //! // The first word is the program's name; `files` opens names, `out` and `err` take what is written.
 //! let status = run(alloc, &["elfmap", "check", "header.elf"], &mut files, &mut out, &mut err);
 //! assert_eq!(rt; status, Status::Done as u8);
-//! let mut out = Vec::new(alloc);
-//! assert_eq!(rt; check_source(alloc, &mut Bytes(&header), &mut out), Ok(Verdict::Done));
-//! assert_eq!(rt; out.as_slice(), b"ok 64 0 0\n".as_slice());
+//! let mut line = Vec::new(alloc);
+//! assert_eq!(rt; check_source(alloc, &mut Bytes(&header), &mut line), Ok(Verdict::Done));
+//! assert_eq!(rt; line.as_slice(), b"ok 64 0 0\n".as_slice());
 //! ```
 #![tactic(auto)]
 
