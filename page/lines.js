@@ -94,10 +94,12 @@ function hash_line(reader, section) {
     const linked = reader.section(section).sh_link;
     const count = Math.min(reader.table(linked)?.entries ?? 0, 50);
     for (let k = 1; k < count; k++) {
-        const place = reader.symbol(linked, k).name;
+        // What is linked may be no symbol table.
+        const place = reader.symbol(linked, k)?.name;
+        if (!place) return `hash ${section} lost symbol ${k}`;
         const name = reader.bytes(place.start, place.len).slice();
         const found = reader.find(section, name);
-        const other = found === null ? null : reader.symbol(linked, found).name;
+        const other = found === null ? null : reader.symbol(linked, found)?.name;
         const is_same = other && Buffer.compare(Buffer.from(name), Buffer.from(reader.bytes(other.start, other.len))) === 0;
         if (!is_same) return `hash ${section} lost symbol ${k}`;
     }
