@@ -28,4 +28,7 @@ module _ (p : PlacedExecValue) (placed : IsPlacedExec p) (link : IsSoundLink p.l
 
   pub exec_cut : (a b : Option (List ℕ)) (written : ℕ) → StoppedIn a b 0 (sent_text p) written → WritesExec p.linked a b (Err (record { written = written }))
   exec_cut a b written stopped =
-      (exec_text p, loadable, stopped_whole a b (exec_text p) written (subst (λ (s : List ℕ). StoppedIn a b 0 s written) (sym (text_is p placed)) stopped))
+      let long = length-exec p.linked p.places placed.ready placed.least in
+      let short = placed.short in
+      let of_text = subst (λ (s : List ℕ). StoppedIn a b 0 s written) (sym (text_is p placed)) stopped in
+      (exec_text p, loadable, stopped_whole a b (exec_text p) written (omega arith) of_text)

@@ -1,5 +1,5 @@
 -- Of texts that go out one after the other.
-use Rattle.std.proofs.Common.{◌≡◌, ◌∙◌, ℕ, ◌+◌, ◌<◌, ◌≤◌, List, [], ◌∷◌, ◌++◌, Option, Result, Ok, Err, length, take, drop, get_or, sym, ap, subst, arith, length-append, take_all, refl, zero-add}
+use Rattle.std.proofs.Common.{◌≡◌, ◌∙◌, ℕ, ◌+◌, ◌^◌, ◌<◌, ◌≤◌, List, [], ◌∷◌, ◌++◌, Option, Result, Ok, Err, length, take, drop, get_or, sym, ap, subst, arith, length-append, take_all, refl, zero-add}
 use Rattle.std.specs.List.{flat_map, range_with_len}
 use Rattle.std.specs.Io.KnownBytes.{Appends}
 use Rattle.std.proofs.KnownBytes.{Appends-nil, Appends-trans}
@@ -10,12 +10,8 @@ use Rattle.std.proofs.lemmas.List.Concat.{flat_map-append}
 use Rattle.elf_image_stream.specs.declared.fault.WriteFault.{WriteFault}
 use Rattle.elf_image_stream.specs.Chunks.{Sends, StoppedIn, WentOut}
 
-pub nothing_out : (a : Option (List ℕ)) (out : ℕ) → WentOut a a out [] out
-nothing_out a out = (omega arith, Appends-nil a)
-
--- the count would pass 2^64: nothing goes out
-pub stopped_at_once : (a : Option (List ℕ)) (out : ℕ) (text : List ℕ) → 0 < length text → StoppedIn a a out text out
-stopped_at_once a out text some = (0, omega arith, some, Appends-nil a)
+pub nothing_out : (a : Option (List ℕ)) (out : ℕ) → out < 2 ^ 64 → WentOut a a out [] out
+nothing_out a out fits = (omega arith, Appends-nil a)
 
 pub both_out : (a b c : Option (List ℕ)) (out mid all : ℕ) (s t : List ℕ) → WentOut a b out s mid → WentOut b c mid t all → WentOut a c out (s ++ t) all
 both_out a b c out mid all s t first second =
@@ -41,11 +37,16 @@ pub sends_behind : (a b c : Option (List ℕ)) (out mid : ℕ) (s t : List ℕ) 
 sends_behind a b c out mid s t (Ok all) first second = both_out a b c out mid all s t first second
 sends_behind a b c out mid s t (Err fault) first second = stopped_later a b c out mid fault.written s t first second
 
--- a text stopped from its first byte on
-pub stopped_whole : (a c : Option (List ℕ)) (text : List ℕ) (written : ℕ) → StoppedIn a c 0 text written → (written < length text) × Appends a c (take written text)
-stopped_whole a c text written (n, is, below, went) =
+-- the count is exact where the text is no longer than a count can tell
+pub stopped_whole : (a c : Option (List ℕ)) (text : List ℕ) (written : ℕ) → length text < 2 ^ 64 → StoppedIn a c 0 text written
+    → (written < length text) × Appends a c (take written text)
+stopped_whole a c text written short (n, is, below, went) =
     let same : n ≡ written = omega arith in
     subst (λ (k : ℕ). (k < length text) × Appends a c (take k text)) same (below, went)
+
+pub stopped_exactly : (a c : Option (List ℕ)) (text : List ℕ) (written : ℕ) → written < 2 ^ 64 → written < length text → Appends a c (take written text)
+    → StoppedIn a c 0 text written
+stopped_exactly a c text written fits below went = (written, omega arith, below, went)
 
 -- ---- numbers below an end
 

@@ -1,15 +1,17 @@
--- A text that goes out chunk by chunk, with the count of the bytes that are out.
+-- A text that goes out chunk by chunk, with the count of the bytes that are out: 2 ^ 64 - 1 where they are more.
 use Rattle.std.specs.Prelude.{◌≡◌, ℕ, ◌+◌, ◌<◌, List, length, take, Option, Result, MatchResult}
+use Rattle.std.specs.Io.Iter.{u64_saturate}
 use Rattle.std.specs.Io.KnownBytes.{Appends}
 use Rattle.elf_image_stream.specs.declared.fault.WriteFault.{WriteFault}
 
--- behind `out` bytes all of a text went out, which are `all` bytes then
+-- after `out` bytes all of a text went out, and `all` is the count of both
 abbrev pub WentOut : Option (List ℕ) → Option (List ℕ) → ℕ → List ℕ → ℕ → Type 0
-WentOut old new out text all = (all ≡ out + length text) × Appends old new text
+WentOut old new out text all = (all ≡ u64_saturate (out + length text)) × Appends old new text
 
--- behind `out` bytes only the first ones of a text went out, which are `written` bytes then
+-- after `out` bytes only the first ones of a text went out, and `written` is the count of both
 abbrev pub StoppedIn : Option (List ℕ) → Option (List ℕ) → ℕ → List ℕ → ℕ → Type 0
-StoppedIn old new out text written = (n : ℕ) × (written ≡ out + n) × (n < length text) × Appends old new (take n text)
+StoppedIn old new out text written =
+    (n : ℕ) × (written ≡ u64_saturate (out + n)) × (n < length text) × Appends old new (take n text)
 
 -- all of a text goes out, or the first bytes of it, fewer than all, and the writer failed
 abbrev pub Sends : Option (List ℕ) → Option (List ℕ) → ℕ → List ℕ → Result ℕ WriteFault → Type 0

@@ -7,20 +7,17 @@ use crate::fault::WriteFault;
 use crate::output::write_whole;
 use std::io::Write;
 
-/// Sends these bytes behind `out` others, and answers how many are out then.
+/// Sends these bytes after `out` others, and returns how many are out then: [`u64::MAX`] where there are more.
 ///
-/// [`WriteFault`] where a call of the writer fails, an interruption too, or takes 0 bytes of a rest that is not empty; and where 2^64 bytes
-/// and more would be out, before any of these goes out. It has the count of all bytes that are out.
+/// [`WriteFault`] where a call of the writer fails, an interruption too, or takes 0 bytes of a rest that is not empty. It has the count
+/// of all bytes that are out, in the same way.
 pub fn send<W: Write>(writer: &mut W, out: u64, bytes: &[u8]) -> Result<u64, WriteFault>
     ensures { Sends (W.contents writer.old) (W.contents writer.new) out bytes.now result }
 {
-    let Some(all) = out.checked_add(bytes.len() as u64) else {
-        return Err(WriteFault { written: out });
-    };
     match write_whole(writer, bytes) {
-        Ok(()) => Ok(all),
+        Ok(()) => Ok(out.saturating_add(bytes.len() as u64)),
         Err(fault) => Err(WriteFault {
-            written: out + fault.written,
+            written: out.saturating_add(fault.written),
         }),
     }
 }

@@ -7,7 +7,7 @@ ghost use Rattle.elf_tool_check.specs.Check.{CheckSays, IsChecked, file_sections
 ghost use Rattle.elf_tool_text.specs.Line.{ok_line as ok_line_of};
 
 use elf_image_rules::{Broken, JudgedRecords, judge_by_sorting};
-use elf_image_stream::write_whole;
+use elf_image_stream::send;
 use elf_tool_text::line::{ok_line, refused_line};
 use elf_tool_text::{Refusal, ToolFault, Verdict, read_input};
 use std::alloc::{AllocError, Global};
@@ -36,7 +36,7 @@ pub fn check<R: Read, W: Write>(
     let bytes = buf.as_slice();
     let judged = judge_by_sorting(alloc, bytes);
     let line = line_on(alloc, bytes, judged)?;
-    write_whole(writer, line.as_bytes())?;
+    send(writer, 0, line.as_bytes())?;
     Ok(verdict_on(judged))
 }
 

@@ -1,6 +1,5 @@
 //! The lines of relocated bytes, as they go out.
 ghost use Rattle.std.specs.Prelude.{◌≡◌, ◌++◌, ◌∷◌, length};
-ghost use Rattle.elf_image_stream.specs.Output.{Writes};
 ghost use Rattle.elf_tool_text.specs.Line.{blank, bytes_text};
 ghost use Rattle.std.specs.List.{flat_map};
 ghost use Rattle.elf_tool_link.specs.MapLines.{bytes_line, bytes_lines, member_bytes};
@@ -12,18 +11,17 @@ use elf_link_relocate::Linked;
 use elf_tool_text::sending::{send_decimal, send_hexadecimal, send_word};
 use std::io::Write;
 
-/// Writes a text and behind it the lines of the relocated bytes, or exactly the first `written` bytes of both together, fewer than
-/// all, and a fault. It takes no memory.
+/// Sends a text and after it the lines of the relocated bytes. It counts and fails as [`send`](elf_image_stream::send) does, and takes no
+/// memory.
 pub(crate) fn write_relocated<W: Write>(
     writer: &mut W,
     text: &[u8],
     linked: &Linked<'_, '_>,
-) -> Result<(), WriteFault>
-    ensures { Writes (W.contents writer.old) (W.contents writer.new) (text.now ++ bytes_lines linked.now) result }
+) -> Result<u64, WriteFault>
+    ensures { Sends (W.contents writer.old) (W.contents writer.new) 0 (text.now ++ bytes_lines linked.now) result }
 {
     let out = send(writer, 0, text)?;
-    send_relocated(writer, out, linked)?;
-    Ok(())
+    send_relocated(writer, out, linked)
 }
 
 /// Sends the lines of the relocated bytes, in order of placement.

@@ -9,7 +9,7 @@ use crate::map_lines::push_refusal_line;
 use crate::map_text::map_text;
 use crate::mapped::{Unlinked, mapped_files};
 use crate::object_files::slices_of;
-use elf_image_stream::write_whole;
+use elf_image_stream::send;
 use elf_link_field::RelocRule;
 use elf_link_map::Options;
 use elf_link_relocate::Mapped;
@@ -129,6 +129,6 @@ fn tell_refusal<W: Write>(
 fn tell<W: Write>(verdict: Verdict, text: &[u8], writer: &mut W) -> Result<Verdict, ToolFault>
     ensures { Prints (IsThis verdict text.now) (W.contents writer.old) (W.contents writer.new) result }
 {
-    write_whole(writer, text)?;
+    send(writer, 0, text)?;
     Ok(verdict)
 }

@@ -1,5 +1,5 @@
 -- Of a source that was scanned: what is said of it is what `check` says of its bytes.
-use Rattle.std.proofs.Common.{◌≡◌, ◌∙◌, ◌<◌, ℕ, List, length, take, Option, Some, Result, Ok, Err, ap, refl}
+use Rattle.std.proofs.Common.{◌≡◌, ◌∙◌, ℕ, List, length, Option, Some, Result, Ok, Err, ap, refl}
 use Rattle.std.specs.Io.KnownBytes.{Appends}
 use Rattle.std.proofs.lemmas.List.FromFn.{length-map-range_with_len}
 use Rattle.elf_field.specs.Bytes.{IsBytes}
@@ -9,6 +9,7 @@ use Rattle.elf_image_outline.specs.Outline.{OutlineValue, image_in}
 use Rattle.elf_image_rules.specs.Broken.{fault_of}
 use Rattle.elf_image_rules.specs.Tables.{program_header_count, section_header_count, sections, segments}
 use Rattle.elf_image_rules.specs.declared.broken.Broken.{Broken}
+use Rattle.elf_image_stream.specs.Chunks.{StoppedIn}
 use Rattle.elf_tool_check.specs.Check.{CheckSays, file_sections, file_segments, verdict_of}
 use Rattle.elf_tool_program.specs.CheckSource.{IsCheckLine, IsScanned, SourceSays, line_of_scan}
 use Rattle.elf_tool_text.specs.Engine.{Prints}
@@ -49,5 +50,5 @@ module _ (content old new : Option (List ℕ)) (judged : Result OutlineValue (Br
   pub said_whole : (verdict : Verdict) → verdict ≡ verdict_of (fault_of judged) → Appends old new bytes → Prints (SourceSays content) old new (Ok verdict)
   said_whole verdict same out = (bytes, rw (same, is) (source_says content judged told), out)
 
-  pub said_in_part : (written : ℕ) → written < length bytes → Appends old new (take written bytes) → Prints (SourceSays content) old new (Err (Write written))
-  said_in_part written short out = (verdict_of (fault_of judged), bytes, rw is (source_says content judged told), short, out)
+  pub said_in_part : (written : ℕ) → StoppedIn old new 0 bytes written → Prints (SourceSays content) old new (Err (Write written))
+  said_in_part written cut = (verdict_of (fault_of judged), bytes, rw is (source_says content judged told), cut)

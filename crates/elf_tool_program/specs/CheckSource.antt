@@ -27,7 +27,8 @@ IsCheckLine (Refused TooLong) text = ⊥
 abbrev pub SourceSays : Option (List ℕ) → Verdict → List ℕ → Type 0
 SourceSays content verdict text = IsCheckLine verdict text × ((b : List ℕ) → content ≡ Some b → IsBytes b → CheckSays b verdict text)
 
--- what is said is written, or exactly the first `written` bytes of it, or for want of memory and where a read failed nothing
+-- what is said is written, or exactly the first bytes of it, of which `written` is the count, or for want of memory and where a read
+-- failed nothing
 abbrev pub IsSourceSaid : Option (List ℕ) → Option (List ℕ) → Option (List ℕ) → Result Verdict ToolFault → Type 0
 IsSourceSaid content old new (Ok verdict) = Prints (SourceSays content) old new (Ok verdict)
 IsSourceSaid content old new (Err (Read at)) = Keeps old new

@@ -8,7 +8,7 @@ ghost use Rattle.elf_tool_program.specs.CheckSource.{IsScanStopped, IsScanned, I
 
 use elf_image_outline::{Outline, scan};
 use elf_image_rules::Broken;
-use elf_image_stream::{Fault, Source, write_whole};
+use elf_image_stream::{Fault, Source, send};
 use elf_tool_text::line::{ok_line, refused_line};
 use elf_tool_text::{Refusal, ToolFault, Verdict};
 use std::alloc::{AllocError, Global};
@@ -32,7 +32,7 @@ pub fn check_source<S: Source, W: Write>(
 {
     let judged = judged_by_scan(alloc, source)?;
     let line = line_on_scan(alloc, &judged)?;
-    write_whole(writer, line.as_bytes())?;
+    send(writer, 0, line.as_bytes())?;
     Ok(verdict_on_scan(&judged))
 }
 

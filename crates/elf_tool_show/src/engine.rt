@@ -10,7 +10,7 @@ ghost use Rattle.elf_tool_show.specs.ShowLines.{part_line};
 use crate::show_lines::{push_file_line, push_part_line, push_section_line, push_segment_line};
 use crate::show_tables::show_tables;
 use elf_image_outline::Part;
-use elf_image_stream::{Fault, write_whole};
+use elf_image_stream::{Fault, send};
 use elf_image_type::{Image, parse};
 use elf_table_all::Tables;
 use elf_tool_text::line::refused_line;
@@ -81,7 +81,7 @@ fn show_refusal<W: Write>(
     ensures { WritesText (refused_line_of rule at) (W.contents writer.old) (W.contents writer.new) result }
 {
     let line = refused_line(alloc, rule, at)?;
-    write_whole(writer, line.as_bytes())?;
+    send(writer, 0, line.as_bytes())?;
     Ok(())
 }
 

@@ -1,5 +1,5 @@
 -- Of a text that goes out in pieces.
-use Rattle.std.proofs.Common.{◌≡◌, ◌∙◌, ℕ, ◌+◌, ◌<◌, ◌≤◌, List, [], ◌∷◌, ◌++◌, Option, Result, Ok, Err, OnOk, length, take, drop, get_or, sym, ap, subst, arith, append_assoc, length-append, take_all}
+use Rattle.std.proofs.Common.{◌≡◌, ◌∙◌, ℕ, ◌+◌, ◌^◌, ◌<◌, ◌≤◌, List, [], ◌∷◌, ◌++◌, Option, Result, Ok, Err, OnOk, length, take, drop, get_or, sym, ap, subst, arith, append_assoc, length-append, take_all}
 use Rattle.std.specs.List.{flat_map}
 use Rattle.std.specs.Io.KnownBytes.{Appends}
 use Rattle.std.proofs.KnownBytes.{Appends-nil, Appends-trans}
@@ -14,8 +14,8 @@ use Rattle.elf_tool_text.specs.declared.fault.ToolFault.TheVariants.{Read, Write
 
 -- ---- one step after the other
 
-pub buffers_none : (a : Option (List ℕ)) (o : Output) → Buffers a a o o []
-buffers_none a o = record { out = []; went = Appends-nil a; rest = sym (append-nil o.pending.items); count = omega arith }
+pub buffers_none : (a : Option (List ℕ)) (o : Output) → o.written < 2 ^ 64 → Buffers a a o o []
+buffers_none a o fits = record { out = []; went = Appends-nil a; rest = sym (append-nil o.pending.items); count = omega arith }
 
 -- a line is pushed after what was sent
 pub buffers_line : (a b : Option (List ℕ)) (o p q : Output) (text line : List ℕ) → Buffers a b o p text
@@ -104,9 +104,8 @@ all_written a c o q text empty done sent =
 pub all_cut : (a c : Option (List ℕ)) (o : Output) (text : List ℕ) (fault : ToolFault) → o.pending.items ≡ [] → o.written ≡ 0 → IsCutShort a c o text fault
     → WritesPrefix text a c fault
 all_cut a c o text (Write written) empty none (n, count, below, went) =
-    let same : written ≡ n = omega arith in
     let whole : o.pending.items ++ text ≡ text = ap (λ (s : List ℕ). s ++ text) empty in
-    rw same (rw whole at below, rw whole at went)
+    (n, omega arith, rw whole at below, rw whole at went)
 all_cut a c o text OutOfMemory empty none (n, within, went) =
     let whole : o.pending.items ++ text ≡ text = ap (λ (s : List ℕ). s ++ text) empty in
     (n, rw whole at within, rw whole at went)

@@ -40,7 +40,7 @@ pub said_more : (Says More : Verdict → List ℕ → Type 0) (old new : Option 
     → (result : Result Verdict ToolFault) → Prints Says old new result → Prints More old new result
 said_more Says More old new more (Ok verdict) (text, says, out) = (text, more verdict text says, out)
 said_more Says More old new more (Err (Read at)) said = said
-said_more Says More old new more (Err (Write written)) (verdict, text, says, short, cut) = (verdict, text, more verdict text says, short, cut)
+said_more Says More old new more (Err (Write written)) (verdict, text, says, cut) = (verdict, text, more verdict text says, cut)
 said_more Says More old new more (Err OutOfMemory) said = said
 
 module _ (report : Report) (input rest old new : Option (List ℕ)) (read items : List ℕ) (count : ℕ) (same : read ≡ items) (long : length read ≡ count)
@@ -53,11 +53,11 @@ module _ (report : Report) (input rest old new : Option (List ℕ)) (read items 
     answered = inr (rw long whole, record { verdict = verdict; text = text; is = says; answer = refl; written = out });
   }
   answered_with (Err (Read at)) said = absurd said
-  answered_with (Err (Write written)) (verdict, text, says, short, cut) = record {
+  answered_with (Err (Write written)) (verdict, text, says, cut) = record {
     bytes = read;
     taken = rw same taken;
     limit = rw long limit;
-    answered = inr (rw long whole, record { verdict = verdict; text = text; is = says; answer = tt; written = (short, cut) });
+    answered = inr (rw long whole, record { verdict = verdict; text = text; is = says; answer = tt; written = cut });
   }
   answered_with (Err OutOfMemory) kept = record { bytes = read; taken = rw same taken; limit = rw long limit; answered = inl kept }
 

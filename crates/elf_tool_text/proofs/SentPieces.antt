@@ -57,5 +57,5 @@ pub said_as : (P Q : Verdict → List ℕ → Type 0) (old new : Option (List �
     ((v : Verdict) (t : List ℕ) → P v t → Q v t) → Prints P old new result → Prints Q old new result
 said_as P Q old new (Ok v) into (t, says, went) = (t, into v t says, went)
 said_as P Q old new (Err (Read at)) into says = absurd says
-said_as P Q old new (Err (Write written)) into (v, t, says, below, went) = (v, t, into v t says, below, went)
+said_as P Q old new (Err (Write written)) into (v, t, says, cut) = (v, t, into v t says, cut)
 said_as P Q old new (Err OutOfMemory) into says = says

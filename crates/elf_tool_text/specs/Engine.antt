@@ -1,7 +1,8 @@
 -- What an engine does between its reader and its writer, in the words that all engines share.
-use Rattle.std.specs.Prelude.{◌≡◌, ◌⊎◌, ℕ, ◌+◌, ◌<◌, ◌≤◌, List, length, take, Option, Result, Ok, Err, IfOk, MatchResult}
+use Rattle.std.specs.Prelude.{◌≡◌, ◌⊎◌, ℕ, ◌+◌, ◌≤◌, List, length, take, Option, Result, Ok, Err, IfOk, MatchResult}
 use Rattle.std.specs.Io.KnownBytes.{Appends, Consumes, IsAtEnd, Keeps}
 use Rattle.elf_image_rules.specs.HeaderRules.{MAX_LEN}
+use Rattle.elf_image_stream.specs.Chunks.{StoppedIn}
 use Rattle.elf_tool_text.specs.declared.fault.ToolFault.{ToolFault}
 use Rattle.elf_tool_text.specs.declared.fault.ToolFault.TheVariants.{Read, Write, OutOfMemory}
 use Rattle.elf_tool_text.specs.declared.fault.Verdict.{Verdict}
@@ -16,10 +17,10 @@ IsReadFaultAfter OutOfMemory count = Unit {0}
 abbrev pub IsReadWhole : Option (List ℕ) → List ℕ → Type 0
 IsReadWhole rest bytes = IsAtEnd rest ⊎ (length bytes ≡ MAX_LEN + 1)
 
--- a writer that held `old` holds `new`, with a beginning of a text behind it: after a failed write just its first
--- `written` bytes
+-- a writer that held `old` holds `new`, with a beginning of a text behind it: after a failed write just its first bytes, of which
+-- `written` is the count
 abbrev pub WritesPrefix : List ℕ → Option (List ℕ) → Option (List ℕ) → ToolFault → Type 0
-WritesPrefix text old new (Write written) = (written < length text) × Appends old new (take written text)
+WritesPrefix text old new (Write written) = StoppedIn old new 0 text written
 WritesPrefix text old new OutOfMemory = (count : ℕ) × (count ≤ length text) × Appends old new (take count text)
 WritesPrefix text old new (Read at) = ⊥
 
@@ -54,12 +55,12 @@ pub record IsFileCall (report : Report) (input rest old new : Option (List ℕ))
   pub limit : length bytes ≤ MAX_LEN + 1
   pub answered : WritesNothing bytes old new result ⊎ (IsReadWhole rest bytes × WritesReport (report bytes) old new result)
 
--- what is said is written, or exactly the first `written` bytes of it, or for want of memory nothing
+-- what is said is written, or exactly the first bytes of it, of which `written` is the count, or for want of memory nothing
 abbrev pub Prints : (Verdict → List ℕ → Type 0) → Option (List ℕ) → Option (List ℕ) → Result Verdict ToolFault → Type 0
 Prints Says old new (Ok verdict) = (text : List ℕ) × Says verdict text × Appends old new text
 Prints Says old new (Err (Read at)) = ⊥
 Prints Says old new (Err (Write written)) =
-    (verdict : Verdict) × (text : List ℕ) × Says verdict text × (written < length text) × Appends old new (take written text)
+    (verdict : Verdict) × (text : List ℕ) × Says verdict text × StoppedIn old new 0 text written
 Prints Says old new (Err OutOfMemory) = Keeps old new
 
 -- a call of an engine that takes all its memory before it writes: for want of memory nothing is written

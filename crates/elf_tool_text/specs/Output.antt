@@ -1,5 +1,6 @@
 -- What goes out of a text in large pieces.
 use Rattle.std.specs.Prelude.{◌≡◌, ℕ, ◌+◌, ◌<◌, ◌≤◌, List, ◌++◌, length, take, Option, Result, MatchResult}
+use Rattle.std.specs.Io.Iter.{u64_saturate}
 use Rattle.std.specs.Io.KnownBytes.{Appends}
 use Rattle.elf_tool_text.specs.declared.output.Output.{Output}
 use Rattle.elf_tool_text.specs.declared.fault.ToolFault.{ToolFault}
@@ -10,13 +11,13 @@ pub record Buffers (old new : Option (List ℕ)) (before after : Output) (text :
   pub out : List ℕ
   pub went : Appends old new out
   pub rest : out ++ after.pending.items ≡ before.pending.items ++ text
-  pub count : after.written ≡ before.written + length out
+  pub count : after.written ≡ u64_saturate (before.written + length out)
 
 -- of what was pending before and the text only the first bytes went out, of which a fault of writing has the
--- count, with all that was out before
+-- count, with all that was out before: 2 ^ 64 - 1 where they are more
 abbrev pub IsCutShort : Option (List ℕ) → Option (List ℕ) → Output → List ℕ → ToolFault → Type 0
 IsCutShort old new before text (Write written) =
-    (count : ℕ) × (written ≡ before.written + count) × (count < length (before.pending.items ++ text))
+    (count : ℕ) × (written ≡ u64_saturate (before.written + count)) × (count < length (before.pending.items ++ text))
     × Appends old new (take count (before.pending.items ++ text))
 IsCutShort old new before text OutOfMemory =
     (count : ℕ) × (count ≤ length (before.pending.items ++ text)) × Appends old new (take count (before.pending.items ++ text))

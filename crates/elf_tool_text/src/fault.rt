@@ -62,7 +62,7 @@ pub enum ToolFault {
     /// A call of a reader failed, after it had given `at` bytes.
     Read { at: u64 },
     /// A call of the writer failed or took nothing, with exactly the first `written` bytes of the
-    /// text out.
+    /// text out: at least so many where it is [`u64::MAX`].
     Write { written: u64 },
     /// A growth was refused.
     OutOfMemory,

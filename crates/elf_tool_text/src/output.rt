@@ -3,7 +3,7 @@ ghost use Rattle.std.specs.Prelude.{◌≡◌, ◌<◌, [], OnOk, length};
 ghost use Rattle.elf_tool_text.specs.Output.{IsBuffered};
 
 use crate::fault::ToolFault;
-use elf_image_stream::write_whole;
+use elf_image_stream::send;
 use std::alloc::Global;
 use std::io::Write;
 
@@ -15,7 +15,7 @@ const PIECE: usize = 65536;
 pub struct Output {
     /// What is yet to go out.
     pub pending: Vec<u8>,
-    /// How many bytes are out.
+    /// How many bytes are out: [`u64::MAX`] where they are more.
     pub written: u64,
 }
 
@@ -36,30 +36,22 @@ impl Output {
         ensures buffered { IsBuffered (W.contents writer.old) (W.contents writer.new) self.old self.new [] result }
         ensures short { OnOk result (length self.new.pending.items < PIECE) }
     {
+        // A proof has the range of a number once the code reads it.
+        let _written = self.written;
         if self.pending.len() < PIECE {
             return Ok(());
         }
         self.flush(writer)
     }
 
-    /// Lets all that is pending go out. Where the writer fails, [`ToolFault::Write`] has the count of all bytes that are out.
-    ///
-    /// A text of 2^64 bytes and more would end here, before the count of what is out no longer fits:
-    /// no file of at most 2^30 bytes has so long a text.
+    /// Lets all that is pending go out. Where the writer fails, [`ToolFault::Write`] has the count of all bytes that are out:
+    /// [`u64::MAX`] where they are more.
     pub fn flush<W: Write>(&mut self, writer: &mut W) -> Result<(), ToolFault>
         ensures buffered { IsBuffered (W.contents writer.old) (W.contents writer.new) self.old self.new [] result }
         ensures empty { OnOk result (self.new.pending.items ≡ []) }
     {
-        let written = self.written;
-        let Some(after) = written.checked_add(self.pending.len() as u64) else {
-            return Err(ToolFault::Write { written });
-        };
-        if let Err(fault) = write_whole(writer, self.pending.as_slice()) {
-            let written = written + fault.written;
-            return Err(ToolFault::Write { written });
-        }
+        self.written = send(writer, self.written, &self.pending)?;
         self.pending.clear();
-        self.written = after;
         Ok(())
     }
 }

@@ -1,5 +1,5 @@
-//! Words and digits that go out without memory, each call with the count of the bytes that are out. Each fails as [`send`] does, and the
-//! fault has the count of all bytes that are out: where the writer fails, or 2^64 bytes and more would be out.
+//! Words and digits that go out without memory, each call with the count of the bytes that are out. Each counts and fails as [`send`]
+//! does.
 ghost use Rattle.std.specs.Prelude.{◌≡◌, ◌∷◌, ◌<◌, ◌≤◌, length};
 ghost use Rattle.std.specs.Fmt.{decimal};
 ghost use Rattle.hex.specs.Hex.{encode_lower};

@@ -9,7 +9,7 @@ pub loop-next-init : goal.loop-next-init
 unfolding encode_with
 loop-next-init g c = record {
   within = omega arith;
-  out = nothing_out _ _;
+  out = nothing_out _ c.args.out (omega arith);
 }
 
 pub returns-in_err-all : goal.returns-in_err-all
