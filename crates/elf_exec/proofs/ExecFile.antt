@@ -13,8 +13,7 @@ use Rattle.elf_field.specs.declared.phdr.Phdr.{Phdr}
 use Rattle.elf_field.specs.Bytes.{IsBytes}
 use Rattle.elf_field.specs.Ehdr.{IsEhdr, ehdr_bytes}
 use Rattle.elf_field.specs.EhdrLaws.{ehdr_laws}
-use Rattle.elf_field.specs.Phdr.{IsPhdr, phdr_bytes}
-use Rattle.elf_field.specs.PhdrLaws.{phdr_laws}
+use Rattle.elf_field.specs.Phdr.{IsPhdr, phdr_bytes, phdr_laws}
 use Rattle.elf_field.proofs.RecordTableLaws.{IsBytes-table, length-table}
 use Rattle.elf_extent.specs.Place.{Fits, alignment}
 use Rattle.elf_extent.proofs.Public.{fits_length}

@@ -391,6 +391,10 @@ STT_TLS = 6
 abbrev pub REL_SIZE : ℕ
 REL_SIZE = 16
 
+-- offset of r_offset
+abbrev pub R_OFFSET_AT : ℕ
+R_OFFSET_AT = 0
+
 -- size of a relocation with an addend
 abbrev pub RELA_SIZE : ℕ
 RELA_SIZE = 24
@@ -413,6 +417,10 @@ R_ADDEND_AT = 16
 -- size of a program header
 abbrev pub PHDR_SIZE : ℕ
 PHDR_SIZE = 56
+
+-- offset of p_type
+abbrev pub P_TYPE_AT : ℕ
+P_TYPE_AT = 0
 
 -- offset of p_flags
 abbrev pub P_FLAGS_AT : ℕ
@@ -491,6 +499,10 @@ PF_R = 0x4
 -- size of an entry
 abbrev pub DYN_SIZE : ℕ
 DYN_SIZE = 16
+
+-- offset of d_tag
+abbrev pub D_TAG_AT : ℕ
+D_TAG_AT = 0
 
 -- offset of d_un
 abbrev pub D_UN_AT : ℕ

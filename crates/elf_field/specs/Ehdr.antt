@@ -3,40 +3,40 @@ use Rattle.std.specs.Prelude.{◌≡◌, ◌+◌, ◌<◌, ◌^◌, ℕ, List, [
 use Rattle.elf_field.specs.Abi.{EI_NIDENT, E_EHSIZE_AT, E_ENTRY_AT, E_FLAGS_AT, E_MACHINE_AT, E_PHENTSIZE_AT, E_PHNUM_AT, E_PHOFF_AT, E_SHENTSIZE_AT, E_SHNUM_AT, E_SHOFF_AT, E_SHSTRNDX_AT, E_TYPE_AT, E_VERSION_AT}
 use Rattle.elf_field.specs.declared.order.Order.{Order}
 use Rattle.elf_field.specs.declared.ehdr.Ehdr.{Ehdr}
-use Rattle.elf_field.specs.Bytes.{IsBytes, first_bytes, bytes_of, from, num}
+use Rattle.elf_field.specs.Bytes.{IsBytes, first_bytes, bytes_of, field}
 use Rattle.elf_field.specs.Layout.{AreAt, spelled}
 
--- the layout: each field's offset and width in bytes, in the list b from offset x, by a way of reading numbers
-abbrev pub ehdr_in : (ℕ → List ℕ → ℕ) → List ℕ → ℕ → Ehdr
-ehdr_in number b x = record {
-  e_ident = first_bytes EI_NIDENT (drop x b);
-  e_type = from number b (x + E_TYPE_AT) 2;
-  e_machine = from number b (x + E_MACHINE_AT) 2;
-  e_version = from number b (x + E_VERSION_AT) 4;
-  e_entry = from number b (x + E_ENTRY_AT) 8;
-  e_phoff = from number b (x + E_PHOFF_AT) 8;
-  e_shoff = from number b (x + E_SHOFF_AT) 8;
-  e_flags = from number b (x + E_FLAGS_AT) 4;
-  e_ehsize = from number b (x + E_EHSIZE_AT) 2;
-  e_phentsize = from number b (x + E_PHENTSIZE_AT) 2;
-  e_phnum = from number b (x + E_PHNUM_AT) 2;
-  e_shentsize = from number b (x + E_SHENTSIZE_AT) 2;
-  e_shnum = from number b (x + E_SHNUM_AT) 2;
-  e_shstrndx = from number b (x + E_SHSTRNDX_AT) 2;
+-- the identification, and the offset and the width in bytes of each number
+abbrev pub ehdr_of : List ℕ → (ℕ → ℕ → ℕ) → Ehdr
+ehdr_of ident number = record {
+  e_ident = ident;
+  e_type = number E_TYPE_AT 2;
+  e_machine = number E_MACHINE_AT 2;
+  e_version = number E_VERSION_AT 4;
+  e_entry = number E_ENTRY_AT 8;
+  e_phoff = number E_PHOFF_AT 8;
+  e_shoff = number E_SHOFF_AT 8;
+  e_flags = number E_FLAGS_AT 4;
+  e_ehsize = number E_EHSIZE_AT 2;
+  e_phentsize = number E_PHENTSIZE_AT 2;
+  e_phnum = number E_PHNUM_AT 2;
+  e_shentsize = number E_SHENTSIZE_AT 2;
+  e_shnum = number E_SHNUM_AT 2;
+  e_shstrndx = number E_SHSTRNDX_AT 2;
 }
 
--- the record at offset x of b, in an order
-abbrev pub ehdr_at : Order → List ℕ → ℕ → Ehdr
-ehdr_at o = ehdr_in (num o)
-
--- the widths of its numbers, which follow the identification bytes
-abbrev pub ehdr_widths : List ℕ
-ehdr_widths = 2 ∷ 2 ∷ 4 ∷ 8 ∷ 8 ∷ 8 ∷ 4 ∷ 2 ∷ 2 ∷ 2 ∷ 2 ∷ 2 ∷ 2 ∷ []
-
--- its numbers
+-- its numbers, which follow the identification
 abbrev pub ehdr_values : Ehdr → List ℕ
 ehdr_values v =
     v.e_type ∷ v.e_machine ∷ v.e_version ∷ v.e_entry ∷ v.e_phoff ∷ v.e_shoff ∷ v.e_flags ∷ v.e_ehsize ∷ v.e_phentsize ∷ v.e_phnum ∷ v.e_shentsize ∷ v.e_shnum ∷ v.e_shstrndx ∷ []
+
+-- their widths
+abbrev pub ehdr_widths : List ℕ
+ehdr_widths = ehdr_values (ehdr_of [] (λ k w. w))
+
+-- the record at offset x of b, in an order
+abbrev pub ehdr_at : Order → List ℕ → ℕ → Ehdr
+ehdr_at o b x = ehdr_of (first_bytes EI_NIDENT (drop x b)) (λ k w. field o b (x + k) w)
 
 -- its bytes, in an order: the identification, and then each number in its width
 abbrev pub ehdr_bytes : Order → Ehdr → List ℕ

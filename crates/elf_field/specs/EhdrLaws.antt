@@ -1,32 +1,29 @@
 -- The laws of Ehdr.
-use Rattle.std.proofs.Common.{◌≡◌, ◌≤◌, ◌+◌, ℕ, List, [], length, take, drop, slice_index, refl, sym, ap, ap₂, ◌∙◌, arith, lit≤, length-drop}
+use Rattle.std.proofs.Common.{◌≡◌, ◌≤◌, ◌+◌, ◌-◌, ℕ, List, [], length, take, drop, refl, sym, ap, ap₂, ◌∙◌, arith, rules, lit≤, length-drop}
 use Rattle.std.proofs.lemmas.List.{take_all}
 use Rattle.elf_field.specs.Abi.{EHDR_SIZE, EI_NIDENT}
 use Rattle.elf_field.specs.declared.order.Order.{Order}
 use Rattle.elf_field.specs.declared.ehdr.Ehdr.{Ehdr}
 use Rattle.elf_field.specs.Bytes.{IsBytes, bytes_of, first_bytes}
 use Rattle.elf_field.specs.BytesLaws.{IsBytes-drop, IsBytes-first_bytes, first_bytes-all, first_bytes-append, first_bytes-part, first_bytes-take, length-first_bytes}
-use Rattle.elf_field.specs.Layout.{FitWidths, fields_from, spelled, width_of}
+use Rattle.elf_field.specs.Layout.{FitWidths, fields_from, number_in, spelled, width_of}
 use Rattle.elf_field.specs.LayoutLaws.{AreAt-fields_from, FitWidths-fields_from, IsBytes-spelled, fields_from-part, fields_from-spelled, length-spelled, spelled-fields_from, spelled-front}
 use Rattle.elf_field.specs.Record.{IsRecord}
-use Rattle.elf_field.specs.Ehdr.{IsEhdr, IsEhdrAt, ehdr_at, ehdr_bytes, ehdr_values, ehdr_widths}
+use Rattle.elf_field.specs.Ehdr.{IsEhdr, IsEhdrAt, ehdr_at, ehdr_bytes, ehdr_of, ehdr_values, ehdr_widths}
 
-abbrev ehdr_of : List ℕ → List ℕ → Ehdr
-ehdr_of ident vs = record { e_ident = ident; e_type = slice_index vs 0; e_machine = slice_index vs 1; e_version = slice_index vs 2; e_entry = slice_index vs 3; e_phoff = slice_index vs 4; e_shoff = slice_index vs 5; e_flags = slice_index vs 6; e_ehsize = slice_index vs 7; e_phentsize = slice_index vs 8; e_phnum = slice_index vs 9; e_shentsize = slice_index vs 10; e_shnum = slice_index vs 11; e_shstrndx = slice_index vs 12 }
-
-pub ehdr_at-fields : (o : Order) (b : List ℕ) (x : ℕ) → ehdr_at o b x ≡ ehdr_of (first_bytes EI_NIDENT (drop x b)) (fields_from o b x EI_NIDENT ehdr_widths)
-ehdr_at-fields o b x = refl
-
-pub ehdr_values-at : (o : Order) (b : List ℕ) (x : ℕ) → IsBytes b → ehdr_values (ehdr_at o b x) ≡ fields_from o b x EI_NIDENT ehdr_widths
-ehdr_values-at o b x bytes = refl
+-- the header of this identification and of these numbers
+abbrev ehdr_made : List ℕ → List ℕ → Ehdr
+ehdr_made ident vs = ehdr_of ident (λ k w. number_in ehdr_widths vs (k - EI_NIDENT))
 
 ehdr_fit : (v : Ehdr) → IsEhdr v → FitWidths ehdr_widths (ehdr_values v)
-ehdr_fit v fits = (fits.e_type, (fits.e_machine, (fits.e_version, (fits.e_entry, (fits.e_phoff, (fits.e_shoff, (fits.e_flags, (fits.e_ehsize, (fits.e_phentsize, (fits.e_phnum, (fits.e_shentsize, (fits.e_shnum, (fits.e_shstrndx, tt)))))))))))))
+ehdr_fit v fits = search rules
 
 ehdr_valid : (o : Order) (b : List ℕ) (x : ℕ) → IsBytes b → IsEhdr (ehdr_at o b x)
 ehdr_valid o b x bytes =
-    let f = FitWidths-fields_from o b x EI_NIDENT ehdr_widths bytes in
-    record { e_ident = length-first_bytes EI_NIDENT (drop x b); e_ident_bytes = IsBytes-first_bytes EI_NIDENT (drop x b) (IsBytes-drop x b bytes); e_type = f.0; e_machine = f.1.0; e_version = f.1.1.0; e_entry = f.1.1.1.0; e_phoff = f.1.1.1.1.0; e_shoff = f.1.1.1.1.1.0; e_flags = f.1.1.1.1.1.1.0; e_ehsize = f.1.1.1.1.1.1.1.0; e_phentsize = f.1.1.1.1.1.1.1.1.0; e_phnum = f.1.1.1.1.1.1.1.1.1.0; e_shentsize = f.1.1.1.1.1.1.1.1.1.1.0; e_shnum = f.1.1.1.1.1.1.1.1.1.1.1.0; e_shstrndx = f.1.1.1.1.1.1.1.1.1.1.1.1.0 }
+    let numbers = FitWidths-fields_from o b x EI_NIDENT ehdr_widths bytes in
+    let long = length-first_bytes EI_NIDENT (drop x b) in
+    let are = IsBytes-first_bytes EI_NIDENT (drop x b) (IsBytes-drop x b bytes) in
+    search rules
 
 ehdr_gets_put : (o : Order) (v : Ehdr) → IsEhdr v → ehdr_at o (ehdr_bytes o v) 0 ≡ v
 ehdr_gets_put o v fits =
@@ -35,7 +32,7 @@ ehdr_gets_put o v fits =
     let long : length ident ≡ EI_NIDENT = length-first_bytes EI_NIDENT v.e_ident in
     let read : first_bytes EI_NIDENT (ehdr_bytes o v) ≡ v.e_ident =
     ap (first_bytes EI_NIDENT) (spelled-front o ident ehdr_widths (ehdr_values v)) ∙ first_bytes-append EI_NIDENT ident numbers long ∙ first_bytes-all EI_NIDENT v.e_ident fits.e_ident in
-    ap₂ ehdr_of read (fields_from-spelled o ident EI_NIDENT ehdr_widths (ehdr_values v) (ehdr_fit v fits) long)
+    ap₂ ehdr_made read (fields_from-spelled o ident EI_NIDENT ehdr_widths (ehdr_values v) (ehdr_fit v fits) long)
 
 ehdr_puts_got : (o : Order) (b : List ℕ) → length b ≡ EHDR_SIZE → IsBytes b → ehdr_bytes o (ehdr_at o b 0) ≡ b
 ehdr_puts_got o b long bytes =
@@ -46,7 +43,7 @@ pub ehdr_laws : IsRecord EHDR_SIZE ehdr_at ehdr_bytes IsEhdr
 ehdr_laws = record {
   gets_put = ehdr_gets_put;
   puts_got = ehdr_puts_got;
-  part = λ o b x. ap₂ ehdr_of (first_bytes-part EI_NIDENT EHDR_SIZE (drop x b) (lit≤ tt)) (fields_from-part o b EHDR_SIZE x EI_NIDENT ehdr_widths (lit≤ tt));
+  part = λ o b x. ap₂ ehdr_made (first_bytes-part EI_NIDENT EHDR_SIZE (drop x b) (lit≤ tt)) (fields_from-part o b EHDR_SIZE x EI_NIDENT ehdr_widths (lit≤ tt));
   length_is = λ o v. length-spelled o (first_bytes EI_NIDENT v.e_ident) ehdr_widths (ehdr_values v) refl ∙ ap (λ (k : ℕ). k + width_of ehdr_widths) (length-first_bytes EI_NIDENT v.e_ident);
   valid = ehdr_valid;
   are_bytes = λ o v fits. IsBytes-spelled o (first_bytes EI_NIDENT v.e_ident) ehdr_widths (ehdr_values v) (IsBytes-first_bytes EI_NIDENT v.e_ident fits.e_ident_bytes);

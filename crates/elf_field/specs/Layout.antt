@@ -1,7 +1,7 @@
 -- A record as a list of widths and a list of numbers: what all records have in common.
-use Rattle.std.specs.Prelude.{◌<◌, ◌+◌, ◌^◌, ℕ, List, [], ◌∷◌, ◌++◌, ⊤}
+use Rattle.std.specs.Prelude.{◌<◌, ◌+◌, ◌-◌, ◌==◌, ◌^◌, ℕ, if◌then◌else◌, List, [], ◌∷◌, ◌++◌, ⊤}
 use Rattle.elf_field.specs.declared.order.Order.{Order}
-use Rattle.elf_field.specs.Bytes.{At, field}
+use Rattle.elf_field.specs.Bytes.{At, bytes_of, field}
 
 -- how many bytes fields of these widths take
 abbrev pub width_of : List ℕ → ℕ
@@ -32,3 +32,37 @@ AreAt o b x k [] [] = ⊤
 AreAt o b x k [] (v ∷ vs) = ⊥
 AreAt o b x k (w ∷ ws) [] = ⊥
 AreAt o b x k (w ∷ ws) (v ∷ vs) = At o b (x + k) w v × AreAt o b x (k + w) ws vs
+
+-- the number at offset k of numbers that stand one after the other, 0 where none begins
+abbrev pub number_in : List ℕ → List ℕ → ℕ → ℕ
+number_in [] vs k = 0
+number_in (w ∷ ws) [] k = 0
+number_in (w ∷ ws) (v ∷ vs) k = if k == 0 then v else number_in ws vs (k - w)
+
+-- ---- a kind of record, of which only this is said of each: the rest is computed
+
+pub record Layout (A : Type 0) : Type 0 where
+  -- the record whose number at offset k, of w bytes, is (number k w)
+  pub of : (ℕ → ℕ → ℕ) → A
+  -- its numbers, in their order
+  pub values : A → List ℕ
+
+-- the widths of its numbers
+abbrev pub widths : {A : Type 0} → Layout A → List ℕ
+widths l = l.values (l.of (λ k w. w))
+
+-- the record with these numbers
+abbrev pub record_of : {A : Type 0} → Layout A → List ℕ → A
+record_of l vs = l.of (λ k w. number_in (widths l) vs k)
+
+-- the record at offset x of b, in an order
+abbrev pub record_at : {A : Type 0} → Layout A → Order → List ℕ → ℕ → A
+record_at l o b x = record_of l (fields_from o b x 0 (widths l))
+
+-- its bytes, in an order: each number in its width
+abbrev pub record_bytes : {A : Type 0} → Layout A → Order → A → List ℕ
+record_bytes l o v = spelled (bytes_of o) [] (widths l) (l.values v)
+
+-- its fields stand at their offsets from offset x of b
+abbrev pub StandsAt : {A : Type 0} → Layout A → Order → List ℕ → ℕ → A → Type 0
+StandsAt l o b x v = AreAt o b x 0 (widths l) (l.values v)

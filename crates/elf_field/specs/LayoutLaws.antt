@@ -1,11 +1,12 @@
 -- What holds of every record, said of its widths and numbers.
-use Rattle.std.proofs.Common.{◌≡◌, ◌≤◌, ◌<◌, ◌+◌, ◌^◌, ◌-◌, ℕ, List, [], ◌∷◌, ◌++◌, length, take, drop, refl, sym, ap, ap₂, ◌∙◌, arith, append_assoc, length-append, length-drop, zero-add}
+use Rattle.std.proofs.Common.{◌≡◌, ◌≤◌, ◌<◌, ◌+◌, ◌^◌, ◌-◌, ℕ, List, [], ◌∷◌, ◌++◌, length, take, drop, refl, sym, ap, ap₂, subst, ◌∙◌, arith, append_assoc, length-append, length-drop, zero-add}
 use Rattle.std.proofs.Math.Seq.{take-add}
-use Rattle.std.proofs.lemmas.List.{append-nil, drop-drop, drop-take, drop_at}
+use Rattle.std.proofs.lemmas.List.{append-nil, drop-drop, drop-take, drop_at, take_all}
 use Rattle.elf_field.specs.declared.order.Order.{Order}
 use Rattle.elf_field.specs.Bytes.{IsBytes, num, bytes_of, field}
-use Rattle.elf_field.specs.BytesLaws.{IsBytes-append, IsBytes-bytes_of, IsBytes-drop, bytes_of-num, length-bytes_of, num-bytes_of, num-lt, num-take}
-use Rattle.elf_field.specs.Layout.{AreAt, FitWidths, fields_from, spelled, width_of}
+use Rattle.elf_field.specs.BytesLaws.{IsBytes-append, IsBytes-bytes_of, IsBytes-drop, IsBytes-nil, bytes_of-num, length-bytes_of, num-bytes_of, num-lt, num-take}
+use Rattle.elf_field.specs.Layout.{AreAt, FitWidths, Layout, StandsAt, fields_from, record_at, record_bytes, record_of, spelled, width_of, widths}
+use Rattle.elf_field.specs.Record.{IsRecord}
 
 -- what stands in front stays in front
 pub spelled-front : (o : Order) (front ws vs : List ℕ) → spelled (bytes_of o) front ws vs ≡ front ++ spelled (bytes_of o) [] ws vs
@@ -93,3 +94,37 @@ FitWidths-fields_from o b x k (w ∷ ws) bytes =
 pub AreAt-fields_from : (o : Order) (b : List ℕ) (x k : ℕ) (ws : List ℕ) → x + (k + width_of ws) ≤ length b → AreAt o b x k ws (fields_from o b x k ws)
 AreAt-fields_from o b x k [] within = tt
 AreAt-fields_from o b x k (w ∷ ws) within = ((omega arith, refl), AreAt-fields_from o b x (k + w) ws (omega arith))
+
+-- ---- the laws of a kind of record, from what its layout computes to
+
+pub record IsLayout {A : Type 0} (l : Layout A) (size : ℕ) (IsValid : A → Type 0) : Type 0 where
+  -- its numbers take its size
+  pub wide : width_of (widths l) ≡ size
+  -- there are as many as widths
+  pub counted : (v : A) → SameCount (widths l) (l.values v)
+  -- its numbers make it
+  pub makes : (v : A) → IsValid v → record_of l (l.values v) ≡ v
+  -- what was made of numbers that stand in bytes has these numbers
+  pub made : (o : Order) (b : List ℕ) (x : ℕ) → FitWidths (widths l) (fields_from o b x 0 (widths l)) → l.values (record_at l o b x) ≡ fields_from o b x 0 (widths l)
+  -- it fits where its numbers fit their widths, and they where it does
+  pub fits : (v : A) → IsValid v → FitWidths (widths l) (l.values v)
+  pub valid : (o : Order) (b : List ℕ) (x : ℕ) → FitWidths (widths l) (fields_from o b x 0 (widths l)) → IsValid (record_at l o b x)
+
+module _ {A : Type 0} (l : Layout A) (size : ℕ) (IsValid : A → Type 0) (is : IsLayout l size IsValid) where
+  values-at : (o : Order) (b : List ℕ) (x : ℕ) → IsBytes b → l.values (record_at l o b x) ≡ fields_from o b x 0 (widths l)
+  values-at o b x bytes = is.made o b x (FitWidths-fields_from o b x 0 (widths l) bytes)
+
+  pub layout_laws : IsRecord size (record_at l) (record_bytes l) IsValid
+  layout_laws = let wide = is.wide in record {
+    gets_put = λ o v fits. ap (record_of l) (fields_from-spelled o [] 0 (widths l) (l.values v) (is.fits v fits) refl) ∙ is.makes v fits;
+    puts_got = λ o b long bytes. ap (spelled (bytes_of o) [] (widths l)) (values-at o b 0 bytes) ∙ spelled-fields_from o b 0 (widths l) bytes (omega arith) ∙ take_all (0 + width_of (widths l)) b (omega arith);
+    part = λ o b x. ap (record_of l) (fields_from-part o b size x 0 (widths l) (omega arith));
+    length_is = λ o v. length-spelled o [] (widths l) (l.values v) (is.counted v) ∙ (let e : 0 + width_of (widths l) ≡ size = omega arith in e);
+    valid = λ o b x bytes. is.valid o b x (FitWidths-fields_from o b x 0 (widths l) bytes);
+    are_bytes = λ o v fits. IsBytes-spelled o [] (widths l) (l.values v) IsBytes-nil;
+  }
+
+  pub layout_fields_at : (o : Order) (b : List ℕ) (x : ℕ) → x + size ≤ length b → IsBytes b → StandsAt l o b x (record_at l o b x)
+  layout_fields_at o b x within bytes =
+      let wide = is.wide in
+      subst (AreAt o b x 0 (widths l)) (sym (values-at o b x bytes)) (AreAt-fields_from o b x 0 (widths l) (omega arith))

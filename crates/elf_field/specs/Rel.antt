@@ -1,40 +1,45 @@
 -- A relocation without addend: one entry of a section of type REL. (gABI chapter 4, Relocation.)
-use Rattle.std.specs.Prelude.{◌+◌, ◌<◌, ◌^◌, ℕ, List, [], ◌∷◌}
-use Rattle.elf_field.specs.Abi.{R_INFO_AT}
+use Rattle.std.proofs.Common.{◌<◌, ◌^◌, ℕ, List, [], ◌∷◌, ◌≤◌, ◌+◌, length, refl, rules}
+use Rattle.elf_field.specs.Abi.{R_INFO_AT, R_OFFSET_AT, REL_SIZE}
 use Rattle.elf_field.specs.declared.order.Order.{Order}
 use Rattle.elf_field.specs.declared.rel.Rel.{Rel}
-use Rattle.elf_field.specs.Bytes.{bytes_of, from, num}
-use Rattle.elf_field.specs.Layout.{AreAt, spelled}
+use Rattle.elf_field.specs.Layout.{Layout, StandsAt, record_at, record_bytes}
+use Rattle.elf_field.specs.Bytes.{IsBytes}
+use Rattle.elf_field.specs.LayoutLaws.{IsLayout, layout_fields_at, layout_laws}
+use Rattle.elf_field.specs.Record.{IsRecord}
 
--- the layout: each field's offset and width in bytes, in the list b from offset x, by a way of reading numbers
-abbrev pub rel_in : (ℕ → List ℕ → ℕ) → List ℕ → ℕ → Rel
-rel_in number b x = record {
-  r_offset = from number b x 8;
-  r_info = from number b (x + R_INFO_AT) 8;
+-- the offset and the width in bytes of each field, and their order
+abbrev pub rel_layout : Layout Rel
+rel_layout = record {
+  of = λ number. record {
+    r_offset = number R_OFFSET_AT 8;
+    r_info = number R_INFO_AT 8;
+  };
+  values = λ v.
+      v.r_offset ∷ v.r_info ∷ [];
 }
 
--- the record at offset x of b, in an order
 abbrev pub rel_at : Order → List ℕ → ℕ → Rel
-rel_at o = rel_in (num o)
+rel_at = record_at rel_layout
 
--- the widths of its numbers
-abbrev pub rel_widths : List ℕ
-rel_widths = 8 ∷ 8 ∷ []
-
--- its numbers
-abbrev pub rel_values : Rel → List ℕ
-rel_values v =
-    v.r_offset ∷ v.r_info ∷ []
-
--- its bytes, in an order: each number in its width
 abbrev pub rel_bytes : Order → Rel → List ℕ
-rel_bytes o v = spelled (bytes_of o) [] rel_widths (rel_values v)
+rel_bytes = record_bytes rel_layout
 
--- its fields stand at their offsets from offset x of b
 abbrev pub IsRelAt : Order → List ℕ → ℕ → Rel → Type 0
-IsRelAt o b x v = AreAt o b x 0 rel_widths (rel_values v)
+IsRelAt = StandsAt rel_layout
 
 -- each field fits its width
 pub record IsRel (v : Rel) : Type 0 where
   pub r_offset : v.r_offset < 2 ^ 64
   pub r_info : v.r_info < 2 ^ 64
+
+-- its laws
+
+rel_is : IsLayout rel_layout REL_SIZE IsRel
+rel_is = record { wide = refl; counted = λ v. refl; makes = λ v fits. refl; made = λ o b x fits. refl; fits = λ v fits. search rules; valid = λ o b x fits. search rules }
+
+pub rel_laws : IsRecord REL_SIZE rel_at rel_bytes IsRel
+rel_laws = layout_laws rel_layout REL_SIZE IsRel rel_is
+
+pub rel_fields_at : (o : Order) (b : List ℕ) (x : ℕ) → x + REL_SIZE ≤ length b → IsBytes b → IsRelAt o b x (rel_at o b x)
+rel_fields_at = layout_fields_at rel_layout REL_SIZE IsRel rel_is

@@ -1,42 +1,36 @@
 -- A symbol: one entry of a symbol table. (gABI chapter 4, Symbol Table.)
-use Rattle.std.specs.Prelude.{◌+◌, ◌<◌, ◌^◌, ℕ, List, [], ◌∷◌}
-use Rattle.elf_field.specs.Abi.{ST_INFO_AT, ST_OTHER_AT, ST_SHNDX_AT, ST_SIZE_AT, ST_VALUE_AT}
+use Rattle.std.proofs.Common.{◌<◌, ◌^◌, ℕ, List, [], ◌∷◌, ◌≤◌, ◌+◌, length, refl, rules}
+use Rattle.elf_field.specs.Abi.{ST_INFO_AT, ST_NAME_AT, ST_OTHER_AT, ST_SHNDX_AT, ST_SIZE_AT, ST_VALUE_AT, SYM_SIZE}
 use Rattle.elf_field.specs.declared.order.Order.{Order}
 use Rattle.elf_field.specs.declared.sym.Sym.{Sym}
-use Rattle.elf_field.specs.Bytes.{bytes_of, from, num}
-use Rattle.elf_field.specs.Layout.{AreAt, spelled}
+use Rattle.elf_field.specs.Layout.{Layout, StandsAt, record_at, record_bytes}
+use Rattle.elf_field.specs.Bytes.{IsBytes}
+use Rattle.elf_field.specs.LayoutLaws.{IsLayout, layout_fields_at, layout_laws}
+use Rattle.elf_field.specs.Record.{IsRecord}
 
--- the layout: each field's offset and width in bytes, in the list b from offset x, by a way of reading numbers
-abbrev pub sym_in : (ℕ → List ℕ → ℕ) → List ℕ → ℕ → Sym
-sym_in number b x = record {
-  st_name = from number b x 4;
-  st_info = from number b (x + ST_INFO_AT) 1;
-  st_other = from number b (x + ST_OTHER_AT) 1;
-  st_shndx = from number b (x + ST_SHNDX_AT) 2;
-  st_value = from number b (x + ST_VALUE_AT) 8;
-  st_size = from number b (x + ST_SIZE_AT) 8;
+-- the offset and the width in bytes of each field, and their order
+abbrev pub sym_layout : Layout Sym
+sym_layout = record {
+  of = λ number. record {
+    st_name = number ST_NAME_AT 4;
+    st_info = number ST_INFO_AT 1;
+    st_other = number ST_OTHER_AT 1;
+    st_shndx = number ST_SHNDX_AT 2;
+    st_value = number ST_VALUE_AT 8;
+    st_size = number ST_SIZE_AT 8;
+  };
+  values = λ v.
+      v.st_name ∷ v.st_info ∷ v.st_other ∷ v.st_shndx ∷ v.st_value ∷ v.st_size ∷ [];
 }
 
--- the record at offset x of b, in an order
 abbrev pub sym_at : Order → List ℕ → ℕ → Sym
-sym_at o = sym_in (num o)
+sym_at = record_at sym_layout
 
--- the widths of its numbers
-abbrev pub sym_widths : List ℕ
-sym_widths = 4 ∷ 1 ∷ 1 ∷ 2 ∷ 8 ∷ 8 ∷ []
-
--- its numbers
-abbrev pub sym_values : Sym → List ℕ
-sym_values v =
-    v.st_name ∷ v.st_info ∷ v.st_other ∷ v.st_shndx ∷ v.st_value ∷ v.st_size ∷ []
-
--- its bytes, in an order: each number in its width
 abbrev pub sym_bytes : Order → Sym → List ℕ
-sym_bytes o v = spelled (bytes_of o) [] sym_widths (sym_values v)
+sym_bytes = record_bytes sym_layout
 
--- its fields stand at their offsets from offset x of b
 abbrev pub IsSymAt : Order → List ℕ → ℕ → Sym → Type 0
-IsSymAt o b x v = AreAt o b x 0 sym_widths (sym_values v)
+IsSymAt = StandsAt sym_layout
 
 -- each field fits its width
 pub record IsSym (v : Sym) : Type 0 where
@@ -46,3 +40,14 @@ pub record IsSym (v : Sym) : Type 0 where
   pub st_shndx : v.st_shndx < 2 ^ 16
   pub st_value : v.st_value < 2 ^ 64
   pub st_size : v.st_size < 2 ^ 64
+
+-- its laws
+
+sym_is : IsLayout sym_layout SYM_SIZE IsSym
+sym_is = record { wide = refl; counted = λ v. refl; makes = λ v fits. refl; made = λ o b x fits. refl; fits = λ v fits. search rules; valid = λ o b x fits. search rules }
+
+pub sym_laws : IsRecord SYM_SIZE sym_at sym_bytes IsSym
+sym_laws = layout_laws sym_layout SYM_SIZE IsSym sym_is
+
+pub sym_fields_at : (o : Order) (b : List ℕ) (x : ℕ) → x + SYM_SIZE ≤ length b → IsBytes b → IsSymAt o b x (sym_at o b x)
+sym_fields_at = layout_fields_at sym_layout SYM_SIZE IsSym sym_is

@@ -1,8 +1,7 @@
 //! The header of a file (gABI chapter 4, ELF Header).
 ghost use Rattle.std.specs.Prelude.{◌≡◌, length, ◌≤◌, take};
-ghost use Rattle.elf_field.specs.Layout.{spelled};
 ghost use Rattle.elf_field.specs.Bytes.{first_bytes};
-ghost use Rattle.elf_field.specs.Ehdr.{IsEhdr, IsEhdrAt, ehdr_at, ehdr_bytes, ehdr_in, ehdr_values, ehdr_widths};
+ghost use Rattle.elf_field.specs.Ehdr.{IsEhdr, IsEhdrAt, ehdr_at, ehdr_bytes};
 ghost use Rattle.elf_field.specs.EhdrLaws.{ehdr_fields_at, ehdr_laws};
 
 use crate::abi::{
@@ -13,7 +12,6 @@ use crate::abi::{
 use crate::number::{put_u16, put_u32, put_u64, u16_at, u32_at, u64_at};
 use crate::order::Order;
 use crate::record::Record;
-use byteorder::{BigEndian, ByteOrder, LittleEndian};
 
 /// The ELF header: a road map of the file, at its beginning.
 /// 64 bytes (gABI chapter 4, ELF Header).
@@ -68,46 +66,44 @@ impl Record for Ehdr {
 
     const SIZE: usize = EHDR_SIZE as usize;
 
-    #[tactic(auto, unfolding(crate::specs::Bytes::num))]
     fn get(order: Order, b: &[u8]) -> Self {
-        match order {
-            Order::Little => read::<LittleEndian>(b),
-            Order::Big => read::<BigEndian>(b),
+        Ehdr {
+            e_ident: ident_at(b),
+            e_type: u16_at(order, b, E_TYPE_AT),
+            e_machine: u16_at(order, b, E_MACHINE_AT),
+            e_version: u32_at(order, b, E_VERSION_AT),
+            e_entry: u64_at(order, b, E_ENTRY_AT),
+            e_phoff: u64_at(order, b, E_PHOFF_AT),
+            e_shoff: u64_at(order, b, E_SHOFF_AT),
+            e_flags: u32_at(order, b, E_FLAGS_AT),
+            e_ehsize: u16_at(order, b, E_EHSIZE_AT),
+            e_phentsize: u16_at(order, b, E_PHENTSIZE_AT),
+            e_phnum: u16_at(order, b, E_PHNUM_AT),
+            e_shentsize: u16_at(order, b, E_SHENTSIZE_AT),
+            e_shnum: u16_at(order, b, E_SHNUM_AT),
+            e_shstrndx: u16_at(order, b, E_SHSTRNDX_AT),
         }
     }
 
-    #[tactic(auto, unfolding(crate::specs::Bytes::bytes_of))]
     fn put(&self, order: Order, b: &mut [u8]) {
-        match order {
-            Order::Little => write::<LittleEndian>(self, b),
-            Order::Big => write::<BigEndian>(self, b),
-        }
+        put_ident(b, self.e_ident);
+        put_u16(order, b, E_TYPE_AT, self.e_type);
+        put_u16(order, b, E_MACHINE_AT, self.e_machine);
+        put_u32(order, b, E_VERSION_AT, self.e_version);
+        put_u64(order, b, E_ENTRY_AT, self.e_entry);
+        put_u64(order, b, E_PHOFF_AT, self.e_phoff);
+        put_u64(order, b, E_SHOFF_AT, self.e_shoff);
+        put_u32(order, b, E_FLAGS_AT, self.e_flags);
+        put_u16(order, b, E_EHSIZE_AT, self.e_ehsize);
+        put_u16(order, b, E_PHENTSIZE_AT, self.e_phentsize);
+        put_u16(order, b, E_PHNUM_AT, self.e_phnum);
+        put_u16(order, b, E_SHENTSIZE_AT, self.e_shentsize);
+        put_u16(order, b, E_SHNUM_AT, self.e_shnum);
+        put_u16(order, b, E_SHSTRNDX_AT, self.e_shstrndx);
     }
 
     fn fits(&self) {
         prove_fields(*self);
-    }
-}
-
-fn read<O: ByteOrder>(b: &[u8]) -> Ehdr
-    requires { length b.now ≡ EHDR_SIZE }
-    ensures { result ≡ ehdr_in O.number_of b.now 0 }
-{
-    Ehdr {
-        e_ident: ident_at(b),
-        e_type: u16_at::<O>(b, E_TYPE_AT),
-        e_machine: u16_at::<O>(b, E_MACHINE_AT),
-        e_version: u32_at::<O>(b, E_VERSION_AT),
-        e_entry: u64_at::<O>(b, E_ENTRY_AT),
-        e_phoff: u64_at::<O>(b, E_PHOFF_AT),
-        e_shoff: u64_at::<O>(b, E_SHOFF_AT),
-        e_flags: u32_at::<O>(b, E_FLAGS_AT),
-        e_ehsize: u16_at::<O>(b, E_EHSIZE_AT),
-        e_phentsize: u16_at::<O>(b, E_PHENTSIZE_AT),
-        e_phnum: u16_at::<O>(b, E_PHNUM_AT),
-        e_shentsize: u16_at::<O>(b, E_SHENTSIZE_AT),
-        e_shnum: u16_at::<O>(b, E_SHNUM_AT),
-        e_shstrndx: u16_at::<O>(b, E_SHSTRNDX_AT),
     }
 }
 
@@ -126,26 +122,6 @@ fn put_ident(b: &mut [u8], e_ident: [u8; EI_NIDENT])
     ensures { take EI_NIDENT b.new ≡ first_bytes EI_NIDENT e_ident }
 {
     b[..EI_NIDENT].copy_from_slice(&e_ident);
-}
-
-fn write<O: ByteOrder>(v: &Ehdr, b: &mut [u8])
-    requires { length b.old ≡ EHDR_SIZE }
-    ensures { b.new ≡ spelled O.bytes_of (first_bytes EI_NIDENT v.now.e_ident) ehdr_widths (ehdr_values v.now) }
-{
-    put_ident(b, v.e_ident);
-    put_u16::<O>(b, E_TYPE_AT, v.e_type);
-    put_u16::<O>(b, E_MACHINE_AT, v.e_machine);
-    put_u32::<O>(b, E_VERSION_AT, v.e_version);
-    put_u64::<O>(b, E_ENTRY_AT, v.e_entry);
-    put_u64::<O>(b, E_PHOFF_AT, v.e_phoff);
-    put_u64::<O>(b, E_SHOFF_AT, v.e_shoff);
-    put_u32::<O>(b, E_FLAGS_AT, v.e_flags);
-    put_u16::<O>(b, E_EHSIZE_AT, v.e_ehsize);
-    put_u16::<O>(b, E_PHENTSIZE_AT, v.e_phentsize);
-    put_u16::<O>(b, E_PHNUM_AT, v.e_phnum);
-    put_u16::<O>(b, E_SHENTSIZE_AT, v.e_shentsize);
-    put_u16::<O>(b, E_SHNUM_AT, v.e_shnum);
-    put_u16::<O>(b, E_SHSTRNDX_AT, v.e_shstrndx);
 }
 
 // A value's fields are within their widths because their types are.

@@ -1,80 +1,129 @@
-//! Numbers at offsets of a slice, in a byte order that the caller chose once.
+//! Numbers at offsets of a slice, in either byte order.
 
 ghost use Rattle.std.specs.Prelude.{◌≡◌, ◌+◌, ◌≤◌, ◌++◌, length, take};
 ghost use Rattle.std.specs.Int.{w64, cast_signed, cast_unsigned};
-ghost use Rattle.elf_field.specs.Bytes.{from};
+ghost use Rattle.elf_field.specs.Bytes.{bytes_of, field};
 
-use byteorder::ByteOrder;
+use crate::order::Order;
+use byteorder::{BigEndian, ByteOrder, LittleEndian};
 
-pub fn u8_at<O: ByteOrder>(b: &[u8], offset: u64) -> u8
+#[tactic(auto, unfolding(crate::specs::Bytes::num))]
+pub fn u8_at(order: Order, b: &[u8], offset: u64) -> u8
     requires { offset + 1 ≤ length b.now }
-    ensures { result ≡ from O.number_of b.now offset 1 }
+    ensures { result ≡ field order b.now offset 1 }
 {
-    O::read_uint(&b[offset as usize..], 1) as u8
+    match order {
+        Order::Little => LittleEndian::read_uint(&b[offset as usize..], 1) as u8,
+        Order::Big => BigEndian::read_uint(&b[offset as usize..], 1) as u8,
+    }
 }
 
-pub fn u16_at<O: ByteOrder>(b: &[u8], offset: u64) -> u16
+#[tactic(auto, unfolding(crate::specs::Bytes::num))]
+pub fn u16_at(order: Order, b: &[u8], offset: u64) -> u16
     requires { offset + 2 ≤ length b.now }
-    ensures { result ≡ from O.number_of b.now offset 2 }
+    ensures { result ≡ field order b.now offset 2 }
 {
-    O::read_u16(&b[offset as usize..])
+    match order {
+        Order::Little => LittleEndian::read_u16(&b[offset as usize..]),
+        Order::Big => BigEndian::read_u16(&b[offset as usize..]),
+    }
 }
 
-pub fn u32_at<O: ByteOrder>(b: &[u8], offset: u64) -> u32
+#[tactic(auto, unfolding(crate::specs::Bytes::num))]
+pub fn u32_at(order: Order, b: &[u8], offset: u64) -> u32
     requires { offset + 4 ≤ length b.now }
-    ensures { result ≡ from O.number_of b.now offset 4 }
+    ensures { result ≡ field order b.now offset 4 }
 {
-    O::read_u32(&b[offset as usize..])
+    match order {
+        Order::Little => LittleEndian::read_u32(&b[offset as usize..]),
+        Order::Big => BigEndian::read_u32(&b[offset as usize..]),
+    }
 }
 
-pub fn u64_at<O: ByteOrder>(b: &[u8], offset: u64) -> u64
+#[tactic(auto, unfolding(crate::specs::Bytes::num))]
+pub fn u64_at(order: Order, b: &[u8], offset: u64) -> u64
     requires { offset + 8 ≤ length b.now }
-    ensures { result ≡ from O.number_of b.now offset 8 }
+    ensures { result ≡ field order b.now offset 8 }
 {
-    O::read_u64(&b[offset as usize..])
+    match order {
+        Order::Little => LittleEndian::read_u64(&b[offset as usize..]),
+        Order::Big => BigEndian::read_u64(&b[offset as usize..]),
+    }
 }
 
-pub fn i64_at<O: ByteOrder>(b: &[u8], offset: u64) -> i64
+#[tactic(auto, unfolding(crate::specs::Bytes::num))]
+pub fn i64_at(order: Order, b: &[u8], offset: u64) -> i64
     requires { offset + 8 ≤ length b.now }
-    ensures { result ≡ cast_signed w64 (from O.number_of b.now offset 8) }
+    ensures { result ≡ cast_signed w64 (field order b.now offset 8) }
 {
-    O::read_i64(&b[offset as usize..])
+    match order {
+        Order::Little => LittleEndian::read_i64(&b[offset as usize..]),
+        Order::Big => BigEndian::read_i64(&b[offset as usize..]),
+    }
 }
 
 // Each `put` below says of the front of the slice that it grows by the number's bytes, so that a record's
 // fields, put in their order, are the slice.
 
-pub fn put_u8<O: ByteOrder>(b: &mut [u8], offset: u64, v: u8)
+#[tactic(auto, unfolding(crate::specs::Bytes::bytes_of))]
+pub fn put_u8(order: Order, b: &mut [u8], offset: u64, v: u8)
     requires { offset + 1 ≤ length b.old }
-    ensures { take (offset + 1) b.new ≡ take offset b.old ++ O.bytes_of 1 v }
+    ensures { take (offset + 1) b.new ≡ take offset b.old ++ bytes_of order 1 v }
 {
-    O::write_uint(&mut b[offset as usize..], v as u64, 1);
+    match order {
+        Order::Little => LittleEndian::write_uint(
+            &mut b[offset as usize..offset as usize + 1],
+            v as u64,
+            1,
+        ),
+        Order::Big => BigEndian::write_uint(
+            &mut b[offset as usize..offset as usize + 1],
+            v as u64,
+            1,
+        ),
+    }
 }
 
-pub fn put_u16<O: ByteOrder>(b: &mut [u8], offset: u64, v: u16)
+#[tactic(auto, unfolding(crate::specs::Bytes::bytes_of))]
+pub fn put_u16(order: Order, b: &mut [u8], offset: u64, v: u16)
     requires { offset + 2 ≤ length b.old }
-    ensures { take (offset + 2) b.new ≡ take offset b.old ++ O.bytes_of 2 v }
+    ensures { take (offset + 2) b.new ≡ take offset b.old ++ bytes_of order 2 v }
 {
-    O::write_u16(&mut b[offset as usize..], v);
+    match order {
+        Order::Little => LittleEndian::write_u16(&mut b[offset as usize..offset as usize + 2], v),
+        Order::Big => BigEndian::write_u16(&mut b[offset as usize..offset as usize + 2], v),
+    }
 }
 
-pub fn put_u32<O: ByteOrder>(b: &mut [u8], offset: u64, v: u32)
+#[tactic(auto, unfolding(crate::specs::Bytes::bytes_of))]
+pub fn put_u32(order: Order, b: &mut [u8], offset: u64, v: u32)
     requires { offset + 4 ≤ length b.old }
-    ensures { take (offset + 4) b.new ≡ take offset b.old ++ O.bytes_of 4 v }
+    ensures { take (offset + 4) b.new ≡ take offset b.old ++ bytes_of order 4 v }
 {
-    O::write_u32(&mut b[offset as usize..], v);
+    match order {
+        Order::Little => LittleEndian::write_u32(&mut b[offset as usize..offset as usize + 4], v),
+        Order::Big => BigEndian::write_u32(&mut b[offset as usize..offset as usize + 4], v),
+    }
 }
 
-pub fn put_u64<O: ByteOrder>(b: &mut [u8], offset: u64, v: u64)
+#[tactic(auto, unfolding(crate::specs::Bytes::bytes_of))]
+pub fn put_u64(order: Order, b: &mut [u8], offset: u64, v: u64)
     requires { offset + 8 ≤ length b.old }
-    ensures { take (offset + 8) b.new ≡ take offset b.old ++ O.bytes_of 8 v }
+    ensures { take (offset + 8) b.new ≡ take offset b.old ++ bytes_of order 8 v }
 {
-    O::write_u64(&mut b[offset as usize..], v);
+    match order {
+        Order::Little => LittleEndian::write_u64(&mut b[offset as usize..offset as usize + 8], v),
+        Order::Big => BigEndian::write_u64(&mut b[offset as usize..offset as usize + 8], v),
+    }
 }
 
-pub fn put_i64<O: ByteOrder>(b: &mut [u8], offset: u64, v: i64)
+#[tactic(auto, unfolding(crate::specs::Bytes::bytes_of))]
+pub fn put_i64(order: Order, b: &mut [u8], offset: u64, v: i64)
     requires { offset + 8 ≤ length b.old }
-    ensures { take (offset + 8) b.new ≡ take offset b.old ++ O.bytes_of 8 (cast_unsigned w64 v) }
+    ensures { take (offset + 8) b.new ≡ take offset b.old ++ bytes_of order 8 (cast_unsigned w64 v) }
 {
-    O::write_i64(&mut b[offset as usize..], v);
+    match order {
+        Order::Little => LittleEndian::write_i64(&mut b[offset as usize..offset as usize + 8], v),
+        Order::Big => BigEndian::write_i64(&mut b[offset as usize..offset as usize + 8], v),
+    }
 }

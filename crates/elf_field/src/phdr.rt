@@ -1,8 +1,5 @@
 //! Program headers (gABI chapter 5, Program Header).
-ghost use Rattle.std.specs.Prelude.{◌≡◌, length, []};
-ghost use Rattle.elf_field.specs.Layout.{spelled};
-ghost use Rattle.elf_field.specs.Phdr.{IsPhdr, IsPhdrAt, phdr_at, phdr_bytes, phdr_in, phdr_values, phdr_widths};
-ghost use Rattle.elf_field.specs.PhdrLaws.{phdr_fields_at, phdr_laws};
+ghost use Rattle.elf_field.specs.Phdr.{IsPhdr, IsPhdrAt, phdr_at, phdr_bytes, phdr_fields_at, phdr_laws};
 
 use crate::abi::{
     P_ALIGN_AT, P_FILESZ_AT, P_FLAGS_AT, P_MEMSZ_AT, P_OFFSET_AT, P_PADDR_AT, P_TYPE_AT,
@@ -11,7 +8,6 @@ use crate::abi::{
 use crate::number::{put_u32, put_u64, u32_at, u64_at};
 use crate::order::Order;
 use crate::record::Record;
-use byteorder::{BigEndian, ByteOrder, LittleEndian};
 
 /// A program header: one entry of the program header table, a segment.
 /// 56 bytes (gABI chapter 5, Program Header).
@@ -54,55 +50,33 @@ impl Record for Phdr {
 
     const SIZE: usize = PHDR_SIZE as usize;
 
-    #[tactic(auto, unfolding(crate::specs::Bytes::num))]
     fn get(order: Order, b: &[u8]) -> Self {
-        match order {
-            Order::Little => read::<LittleEndian>(b),
-            Order::Big => read::<BigEndian>(b),
+        Phdr {
+            p_type: u32_at(order, b, P_TYPE_AT),
+            p_flags: u32_at(order, b, P_FLAGS_AT),
+            p_offset: u64_at(order, b, P_OFFSET_AT),
+            p_vaddr: u64_at(order, b, P_VADDR_AT),
+            p_paddr: u64_at(order, b, P_PADDR_AT),
+            p_filesz: u64_at(order, b, P_FILESZ_AT),
+            p_memsz: u64_at(order, b, P_MEMSZ_AT),
+            p_align: u64_at(order, b, P_ALIGN_AT),
         }
     }
 
-    #[tactic(auto, unfolding(crate::specs::Bytes::bytes_of))]
     fn put(&self, order: Order, b: &mut [u8]) {
-        match order {
-            Order::Little => write::<LittleEndian>(self, b),
-            Order::Big => write::<BigEndian>(self, b),
-        }
+        put_u32(order, b, P_TYPE_AT, self.p_type);
+        put_u32(order, b, P_FLAGS_AT, self.p_flags);
+        put_u64(order, b, P_OFFSET_AT, self.p_offset);
+        put_u64(order, b, P_VADDR_AT, self.p_vaddr);
+        put_u64(order, b, P_PADDR_AT, self.p_paddr);
+        put_u64(order, b, P_FILESZ_AT, self.p_filesz);
+        put_u64(order, b, P_MEMSZ_AT, self.p_memsz);
+        put_u64(order, b, P_ALIGN_AT, self.p_align);
     }
 
     fn fits(&self) {
         prove_fields(*self);
     }
-}
-
-fn read<O: ByteOrder>(b: &[u8]) -> Phdr
-    requires { length b.now ≡ PHDR_SIZE }
-    ensures { result ≡ phdr_in O.number_of b.now 0 }
-{
-    Phdr {
-        p_type: u32_at::<O>(b, P_TYPE_AT),
-        p_flags: u32_at::<O>(b, P_FLAGS_AT),
-        p_offset: u64_at::<O>(b, P_OFFSET_AT),
-        p_vaddr: u64_at::<O>(b, P_VADDR_AT),
-        p_paddr: u64_at::<O>(b, P_PADDR_AT),
-        p_filesz: u64_at::<O>(b, P_FILESZ_AT),
-        p_memsz: u64_at::<O>(b, P_MEMSZ_AT),
-        p_align: u64_at::<O>(b, P_ALIGN_AT),
-    }
-}
-
-fn write<O: ByteOrder>(v: &Phdr, b: &mut [u8])
-    requires { length b.old ≡ PHDR_SIZE }
-    ensures { b.new ≡ spelled O.bytes_of [] phdr_widths (phdr_values v.now) }
-{
-    put_u32::<O>(b, P_TYPE_AT, v.p_type);
-    put_u32::<O>(b, P_FLAGS_AT, v.p_flags);
-    put_u64::<O>(b, P_OFFSET_AT, v.p_offset);
-    put_u64::<O>(b, P_VADDR_AT, v.p_vaddr);
-    put_u64::<O>(b, P_PADDR_AT, v.p_paddr);
-    put_u64::<O>(b, P_FILESZ_AT, v.p_filesz);
-    put_u64::<O>(b, P_MEMSZ_AT, v.p_memsz);
-    put_u64::<O>(b, P_ALIGN_AT, v.p_align);
 }
 
 // A value's fields are within their widths because their types are.

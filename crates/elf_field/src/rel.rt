@@ -1,14 +1,11 @@
 //! Relocations without addends (gABI chapter 4, Relocation).
-ghost use Rattle.std.specs.Prelude.{◌≡◌, length, ◌/◌, ◌%◌, ◌^◌, []};
-ghost use Rattle.elf_field.specs.Layout.{spelled};
-ghost use Rattle.elf_field.specs.Rel.{IsRel, IsRelAt, rel_at, rel_bytes, rel_in, rel_values, rel_widths};
-ghost use Rattle.elf_field.specs.RelLaws.{rel_fields_at, rel_laws};
+ghost use Rattle.std.specs.Prelude.{◌≡◌, ◌/◌, ◌%◌, ◌^◌};
+ghost use Rattle.elf_field.specs.Rel.{IsRel, IsRelAt, rel_at, rel_bytes, rel_fields_at, rel_laws};
 
 use crate::abi::{R_INFO_AT, R_OFFSET_AT, REL_SIZE};
 use crate::number::{put_u64, u64_at};
 use crate::order::Order;
 use crate::record::Record;
-use byteorder::{BigEndian, ByteOrder, LittleEndian};
 
 /// A relocation without addend: one entry of a section of type REL.
 /// 16 bytes (gABI chapter 4, Relocation).
@@ -57,43 +54,21 @@ impl Record for Rel {
 
     const SIZE: usize = REL_SIZE as usize;
 
-    #[tactic(auto, unfolding(crate::specs::Bytes::num))]
     fn get(order: Order, b: &[u8]) -> Self {
-        match order {
-            Order::Little => read::<LittleEndian>(b),
-            Order::Big => read::<BigEndian>(b),
+        Rel {
+            r_offset: u64_at(order, b, R_OFFSET_AT),
+            r_info: u64_at(order, b, R_INFO_AT),
         }
     }
 
-    #[tactic(auto, unfolding(crate::specs::Bytes::bytes_of))]
     fn put(&self, order: Order, b: &mut [u8]) {
-        match order {
-            Order::Little => write::<LittleEndian>(self, b),
-            Order::Big => write::<BigEndian>(self, b),
-        }
+        put_u64(order, b, R_OFFSET_AT, self.r_offset);
+        put_u64(order, b, R_INFO_AT, self.r_info);
     }
 
     fn fits(&self) {
         prove_fields(*self);
     }
-}
-
-fn read<O: ByteOrder>(b: &[u8]) -> Rel
-    requires { length b.now ≡ REL_SIZE }
-    ensures { result ≡ rel_in O.number_of b.now 0 }
-{
-    Rel {
-        r_offset: u64_at::<O>(b, R_OFFSET_AT),
-        r_info: u64_at::<O>(b, R_INFO_AT),
-    }
-}
-
-fn write<O: ByteOrder>(v: &Rel, b: &mut [u8])
-    requires { length b.old ≡ REL_SIZE }
-    ensures { b.new ≡ spelled O.bytes_of [] rel_widths (rel_values v.now) }
-{
-    put_u64::<O>(b, R_OFFSET_AT, v.r_offset);
-    put_u64::<O>(b, R_INFO_AT, v.r_info);
 }
 
 // A value's fields are within their widths because their types are.

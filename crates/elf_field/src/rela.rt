@@ -1,14 +1,11 @@
 //! Relocations with addends (gABI chapter 4, Relocation).
-ghost use Rattle.std.specs.Prelude.{◌≡◌, length, ◌/◌, ◌%◌, ◌^◌, []};
-ghost use Rattle.elf_field.specs.Layout.{spelled};
-ghost use Rattle.elf_field.specs.Rela.{IsRela, IsRelaAt, rela_at, rela_bytes, rela_in, rela_values, rela_widths};
-ghost use Rattle.elf_field.specs.RelaLaws.{rela_fields_at, rela_laws};
+ghost use Rattle.std.specs.Prelude.{◌≡◌, ◌/◌, ◌%◌, ◌^◌};
+ghost use Rattle.elf_field.specs.Rela.{IsRela, IsRelaAt, rela_at, rela_bytes, rela_fields_at, rela_laws};
 
 use crate::abi::{R_ADDEND_AT, R_INFO_AT, R_OFFSET_AT, RELA_SIZE};
 use crate::number::{i64_at, put_i64, put_u64, u64_at};
 use crate::order::Order;
 use crate::record::Record;
-use byteorder::{BigEndian, ByteOrder, LittleEndian};
 
 /// A relocation with addend: one entry of a section of type RELA.
 /// 24 bytes (gABI chapter 4, Relocation).
@@ -59,45 +56,23 @@ impl Record for Rela {
 
     const SIZE: usize = RELA_SIZE as usize;
 
-    #[tactic(auto, unfolding(crate::specs::Bytes::num))]
     fn get(order: Order, b: &[u8]) -> Self {
-        match order {
-            Order::Little => read::<LittleEndian>(b),
-            Order::Big => read::<BigEndian>(b),
+        Rela {
+            r_offset: u64_at(order, b, R_OFFSET_AT),
+            r_info: u64_at(order, b, R_INFO_AT),
+            r_addend: i64_at(order, b, R_ADDEND_AT),
         }
     }
 
-    #[tactic(auto, unfolding(crate::specs::Bytes::bytes_of))]
     fn put(&self, order: Order, b: &mut [u8]) {
-        match order {
-            Order::Little => write::<LittleEndian>(self, b),
-            Order::Big => write::<BigEndian>(self, b),
-        }
+        put_u64(order, b, R_OFFSET_AT, self.r_offset);
+        put_u64(order, b, R_INFO_AT, self.r_info);
+        put_i64(order, b, R_ADDEND_AT, self.r_addend);
     }
 
     fn fits(&self) {
         prove_fields(*self);
     }
-}
-
-fn read<O: ByteOrder>(b: &[u8]) -> Rela
-    requires { length b.now ≡ RELA_SIZE }
-    ensures { result ≡ rela_in O.number_of b.now 0 }
-{
-    Rela {
-        r_offset: u64_at::<O>(b, R_OFFSET_AT),
-        r_info: u64_at::<O>(b, R_INFO_AT),
-        r_addend: i64_at::<O>(b, R_ADDEND_AT),
-    }
-}
-
-fn write<O: ByteOrder>(v: &Rela, b: &mut [u8])
-    requires { length b.old ≡ RELA_SIZE }
-    ensures { b.new ≡ spelled O.bytes_of [] rela_widths (rela_values v.now) }
-{
-    put_u64::<O>(b, R_OFFSET_AT, v.r_offset);
-    put_u64::<O>(b, R_INFO_AT, v.r_info);
-    put_i64::<O>(b, R_ADDEND_AT, v.r_addend);
 }
 
 // A value's fields are within their widths because their types are.

@@ -1,8 +1,5 @@
 //! Section headers (gABI chapter 4, Sections).
-ghost use Rattle.std.specs.Prelude.{◌≡◌, length, []};
-ghost use Rattle.elf_field.specs.Layout.{spelled};
-ghost use Rattle.elf_field.specs.Shdr.{IsShdr, IsShdrAt, shdr_at, shdr_bytes, shdr_in, shdr_values, shdr_widths};
-ghost use Rattle.elf_field.specs.ShdrLaws.{shdr_fields_at, shdr_laws};
+ghost use Rattle.elf_field.specs.Shdr.{IsShdr, IsShdrAt, shdr_at, shdr_bytes, shdr_fields_at, shdr_laws};
 
 use crate::abi::{
     SH_ADDR_AT, SH_ADDRALIGN_AT, SH_ENTSIZE_AT, SH_FLAGS_AT, SH_INFO_AT, SH_LINK_AT, SH_NAME_AT,
@@ -11,7 +8,6 @@ use crate::abi::{
 use crate::number::{put_u32, put_u64, u32_at, u64_at};
 use crate::order::Order;
 use crate::record::Record;
-use byteorder::{BigEndian, ByteOrder, LittleEndian};
 
 /// A section header: one entry of the section header table.
 /// 64 bytes (gABI chapter 4, Sections).
@@ -58,59 +54,37 @@ impl Record for Shdr {
 
     const SIZE: usize = SHDR_SIZE as usize;
 
-    #[tactic(auto, unfolding(crate::specs::Bytes::num))]
     fn get(order: Order, b: &[u8]) -> Self {
-        match order {
-            Order::Little => read::<LittleEndian>(b),
-            Order::Big => read::<BigEndian>(b),
+        Shdr {
+            sh_name: u32_at(order, b, SH_NAME_AT),
+            sh_type: u32_at(order, b, SH_TYPE_AT),
+            sh_flags: u64_at(order, b, SH_FLAGS_AT),
+            sh_addr: u64_at(order, b, SH_ADDR_AT),
+            sh_offset: u64_at(order, b, SH_OFFSET_AT),
+            sh_size: u64_at(order, b, SH_SIZE_AT),
+            sh_link: u32_at(order, b, SH_LINK_AT),
+            sh_info: u32_at(order, b, SH_INFO_AT),
+            sh_addralign: u64_at(order, b, SH_ADDRALIGN_AT),
+            sh_entsize: u64_at(order, b, SH_ENTSIZE_AT),
         }
     }
 
-    #[tactic(auto, unfolding(crate::specs::Bytes::bytes_of))]
     fn put(&self, order: Order, b: &mut [u8]) {
-        match order {
-            Order::Little => write::<LittleEndian>(self, b),
-            Order::Big => write::<BigEndian>(self, b),
-        }
+        put_u32(order, b, SH_NAME_AT, self.sh_name);
+        put_u32(order, b, SH_TYPE_AT, self.sh_type);
+        put_u64(order, b, SH_FLAGS_AT, self.sh_flags);
+        put_u64(order, b, SH_ADDR_AT, self.sh_addr);
+        put_u64(order, b, SH_OFFSET_AT, self.sh_offset);
+        put_u64(order, b, SH_SIZE_AT, self.sh_size);
+        put_u32(order, b, SH_LINK_AT, self.sh_link);
+        put_u32(order, b, SH_INFO_AT, self.sh_info);
+        put_u64(order, b, SH_ADDRALIGN_AT, self.sh_addralign);
+        put_u64(order, b, SH_ENTSIZE_AT, self.sh_entsize);
     }
 
     fn fits(&self) {
         prove_fields(*self);
     }
-}
-
-fn read<O: ByteOrder>(b: &[u8]) -> Shdr
-    requires { length b.now ≡ SHDR_SIZE }
-    ensures { result ≡ shdr_in O.number_of b.now 0 }
-{
-    Shdr {
-        sh_name: u32_at::<O>(b, SH_NAME_AT),
-        sh_type: u32_at::<O>(b, SH_TYPE_AT),
-        sh_flags: u64_at::<O>(b, SH_FLAGS_AT),
-        sh_addr: u64_at::<O>(b, SH_ADDR_AT),
-        sh_offset: u64_at::<O>(b, SH_OFFSET_AT),
-        sh_size: u64_at::<O>(b, SH_SIZE_AT),
-        sh_link: u32_at::<O>(b, SH_LINK_AT),
-        sh_info: u32_at::<O>(b, SH_INFO_AT),
-        sh_addralign: u64_at::<O>(b, SH_ADDRALIGN_AT),
-        sh_entsize: u64_at::<O>(b, SH_ENTSIZE_AT),
-    }
-}
-
-fn write<O: ByteOrder>(v: &Shdr, b: &mut [u8])
-    requires { length b.old ≡ SHDR_SIZE }
-    ensures { b.new ≡ spelled O.bytes_of [] shdr_widths (shdr_values v.now) }
-{
-    put_u32::<O>(b, SH_NAME_AT, v.sh_name);
-    put_u32::<O>(b, SH_TYPE_AT, v.sh_type);
-    put_u64::<O>(b, SH_FLAGS_AT, v.sh_flags);
-    put_u64::<O>(b, SH_ADDR_AT, v.sh_addr);
-    put_u64::<O>(b, SH_OFFSET_AT, v.sh_offset);
-    put_u64::<O>(b, SH_SIZE_AT, v.sh_size);
-    put_u32::<O>(b, SH_LINK_AT, v.sh_link);
-    put_u32::<O>(b, SH_INFO_AT, v.sh_info);
-    put_u64::<O>(b, SH_ADDRALIGN_AT, v.sh_addralign);
-    put_u64::<O>(b, SH_ENTSIZE_AT, v.sh_entsize);
 }
 
 // A value's fields are within their widths because their types are.

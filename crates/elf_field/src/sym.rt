@@ -1,8 +1,6 @@
 //! Symbols (gABI chapter 4, Symbol Table).
-ghost use Rattle.std.specs.Prelude.{◌≡◌, length, ◌/◌, ◌%◌, []};
-ghost use Rattle.elf_field.specs.Layout.{spelled};
-ghost use Rattle.elf_field.specs.Sym.{IsSym, IsSymAt, sym_at, sym_bytes, sym_in, sym_values, sym_widths};
-ghost use Rattle.elf_field.specs.SymLaws.{sym_fields_at, sym_laws};
+ghost use Rattle.std.specs.Prelude.{◌≡◌, ◌/◌, ◌%◌};
+ghost use Rattle.elf_field.specs.Sym.{IsSym, IsSymAt, sym_at, sym_bytes, sym_fields_at, sym_laws};
 
 use crate::abi::{
     ST_INFO_AT, ST_NAME_AT, ST_OTHER_AT, ST_SHNDX_AT, ST_SIZE_AT, ST_VALUE_AT, SYM_SIZE,
@@ -10,7 +8,6 @@ use crate::abi::{
 use crate::number::{put_u8, put_u16, put_u32, put_u64, u8_at, u16_at, u32_at, u64_at};
 use crate::order::Order;
 use crate::record::Record;
-use byteorder::{BigEndian, ByteOrder, LittleEndian};
 
 /// A symbol: one entry of a symbol table.
 /// 24 bytes (gABI chapter 4, Symbol Table).
@@ -65,51 +62,29 @@ impl Record for Sym {
 
     const SIZE: usize = SYM_SIZE as usize;
 
-    #[tactic(auto, unfolding(crate::specs::Bytes::num))]
     fn get(order: Order, b: &[u8]) -> Self {
-        match order {
-            Order::Little => read::<LittleEndian>(b),
-            Order::Big => read::<BigEndian>(b),
+        Sym {
+            st_name: u32_at(order, b, ST_NAME_AT),
+            st_info: u8_at(order, b, ST_INFO_AT),
+            st_other: u8_at(order, b, ST_OTHER_AT),
+            st_shndx: u16_at(order, b, ST_SHNDX_AT),
+            st_value: u64_at(order, b, ST_VALUE_AT),
+            st_size: u64_at(order, b, ST_SIZE_AT),
         }
     }
 
-    #[tactic(auto, unfolding(crate::specs::Bytes::bytes_of))]
     fn put(&self, order: Order, b: &mut [u8]) {
-        match order {
-            Order::Little => write::<LittleEndian>(self, b),
-            Order::Big => write::<BigEndian>(self, b),
-        }
+        put_u32(order, b, ST_NAME_AT, self.st_name);
+        put_u8(order, b, ST_INFO_AT, self.st_info);
+        put_u8(order, b, ST_OTHER_AT, self.st_other);
+        put_u16(order, b, ST_SHNDX_AT, self.st_shndx);
+        put_u64(order, b, ST_VALUE_AT, self.st_value);
+        put_u64(order, b, ST_SIZE_AT, self.st_size);
     }
 
     fn fits(&self) {
         prove_fields(*self);
     }
-}
-
-fn read<O: ByteOrder>(b: &[u8]) -> Sym
-    requires { length b.now ≡ SYM_SIZE }
-    ensures { result ≡ sym_in O.number_of b.now 0 }
-{
-    Sym {
-        st_name: u32_at::<O>(b, ST_NAME_AT),
-        st_info: u8_at::<O>(b, ST_INFO_AT),
-        st_other: u8_at::<O>(b, ST_OTHER_AT),
-        st_shndx: u16_at::<O>(b, ST_SHNDX_AT),
-        st_value: u64_at::<O>(b, ST_VALUE_AT),
-        st_size: u64_at::<O>(b, ST_SIZE_AT),
-    }
-}
-
-fn write<O: ByteOrder>(v: &Sym, b: &mut [u8])
-    requires { length b.old ≡ SYM_SIZE }
-    ensures { b.new ≡ spelled O.bytes_of [] sym_widths (sym_values v.now) }
-{
-    put_u32::<O>(b, ST_NAME_AT, v.st_name);
-    put_u8::<O>(b, ST_INFO_AT, v.st_info);
-    put_u8::<O>(b, ST_OTHER_AT, v.st_other);
-    put_u16::<O>(b, ST_SHNDX_AT, v.st_shndx);
-    put_u64::<O>(b, ST_VALUE_AT, v.st_value);
-    put_u64::<O>(b, ST_SIZE_AT, v.st_size);
 }
 
 // A value's fields are within their widths because their types are.

@@ -8,11 +8,9 @@ use Rattle.elf_field.specs.Abi.{EHDR_SIZE, PHDR_SIZE, SHDR_SIZE}
 use Rattle.elf_field.specs.declared.shdr.Shdr.{Shdr}
 use Rattle.elf_field.specs.Bytes.{IsBytes}
 use Rattle.elf_field.specs.Ehdr.{ehdr_bytes}
-use Rattle.elf_field.specs.Shdr.{shdr_bytes}
-use Rattle.elf_field.specs.Phdr.{phdr_bytes}
+use Rattle.elf_field.specs.Shdr.{shdr_bytes, shdr_laws}
+use Rattle.elf_field.specs.Phdr.{phdr_bytes, phdr_laws}
 use Rattle.elf_field.specs.EhdrLaws.{ehdr_laws}
-use Rattle.elf_field.specs.ShdrLaws.{shdr_laws}
-use Rattle.elf_field.specs.PhdrLaws.{phdr_laws}
 use Rattle.elf_extent.specs.declared.extent.Extent.{Extent}
 use Rattle.elf_extent.specs.declared.extent.Piece.{Piece}
 use Rattle.elf_extent.specs.Account.{Accounts, IsOwned}

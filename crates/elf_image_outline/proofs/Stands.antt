@@ -14,11 +14,9 @@ use Rattle.elf_field.specs.BytesLaws.{IsBytes-append, IsBytes-nil, first_bytes-a
 use Rattle.elf_field.specs.Layout.{spelled}
 use Rattle.elf_field.specs.LayoutLaws.{spelled-front}
 use Rattle.elf_field.specs.Ehdr.{IsEhdr, ehdr_bytes, ehdr_values, ehdr_widths}
-use Rattle.elf_field.specs.Shdr.{IsShdr, shdr_bytes}
-use Rattle.elf_field.specs.Phdr.{IsPhdr, phdr_bytes}
+use Rattle.elf_field.specs.Shdr.{IsShdr, shdr_bytes, shdr_laws}
+use Rattle.elf_field.specs.Phdr.{IsPhdr, phdr_bytes, phdr_laws}
 use Rattle.elf_field.specs.EhdrLaws.{ehdr_laws}
-use Rattle.elf_field.specs.ShdrLaws.{shdr_laws}
-use Rattle.elf_field.specs.PhdrLaws.{phdr_laws}
 use Rattle.elf_extent.specs.declared.extent.Extent.{Extent}
 use Rattle.elf_image_rules.specs.Tables.{bytes_in, content_extent, header, order_of, program_header_count, section_header_count, sections, segments}
 use Rattle.elf_image_outline.specs.declared.part.Owner.{Owner}

@@ -12,11 +12,9 @@ use Rattle.elf_field.specs.declared.shdr.Shdr.{Shdr}
 use Rattle.elf_field.specs.Bytes.{IsBytes}
 use Rattle.elf_field.specs.BytesLaws.{IsBytes-drop, IsBytes-nil, IsBytes-take, first_bytes-take}
 use Rattle.elf_field.specs.Ehdr.{IsEhdr, ehdr_bytes}
-use Rattle.elf_field.specs.Shdr.{IsShdr, shdr_bytes}
-use Rattle.elf_field.specs.Phdr.{IsPhdr, phdr_bytes}
+use Rattle.elf_field.specs.Shdr.{IsShdr, shdr_bytes, shdr_laws}
+use Rattle.elf_field.specs.Phdr.{IsPhdr, phdr_bytes, phdr_laws}
 use Rattle.elf_field.specs.EhdrLaws.{ehdr_laws}
-use Rattle.elf_field.specs.ShdrLaws.{shdr_laws}
-use Rattle.elf_field.specs.PhdrLaws.{phdr_laws}
 use Rattle.elf_extent.specs.declared.extent.Extent.{Extent}
 use Rattle.elf_extent.specs.Account.{Accounts, IsOwned}
 use Rattle.elf_extent.proofs.Public.{accounts_le}

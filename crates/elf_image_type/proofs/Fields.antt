@@ -6,10 +6,8 @@ use Rattle.elf_field.specs.declared.shdr.Shdr.{Shdr}
 use Rattle.elf_field.specs.BytesLaws.{first_bytes-take}
 use Rattle.elf_field.specs.Ehdr.{IsEhdrAt}
 use Rattle.elf_field.specs.EhdrLaws.{ehdr_fields_at}
-use Rattle.elf_field.specs.Shdr.{IsShdrAt}
-use Rattle.elf_field.specs.ShdrLaws.{shdr_fields_at}
-use Rattle.elf_field.specs.Phdr.{IsPhdrAt}
-use Rattle.elf_field.specs.PhdrLaws.{phdr_fields_at}
+use Rattle.elf_field.specs.Shdr.{IsShdrAt, shdr_fields_at}
+use Rattle.elf_field.specs.Phdr.{IsPhdrAt, phdr_fields_at}
 use Rattle.elf_image_rules.specs.Tables.{header, order_of, phdr_offset, sections, segments, shdr_offset}
 use Rattle.elf_image_outline.specs.Image.{ImageValue, IsImage, no_program_header, no_section_header, program_header_of, section_header_of}
 use Rattle.elf_image_rules.proofs.Public.{sections_read_at}

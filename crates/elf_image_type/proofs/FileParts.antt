@@ -9,8 +9,8 @@ use Rattle.elf_field.specs.declared.ehdr.Ehdr.{Ehdr}
 use Rattle.elf_field.specs.declared.shdr.Shdr.{Shdr}
 use Rattle.elf_field.specs.Bytes.{IsBytes}
 use Rattle.elf_field.specs.EhdrLaws.{ehdr_laws}
-use Rattle.elf_field.specs.ShdrLaws.{shdr_laws}
-use Rattle.elf_field.specs.PhdrLaws.{phdr_laws}
+use Rattle.elf_field.specs.Shdr.{shdr_laws}
+use Rattle.elf_field.specs.Phdr.{phdr_laws}
 use Rattle.elf_field.proofs.RecordTableLaws.{length-table}
 use Rattle.elf_extent.specs.declared.extent.Extent.{Extent}
 use Rattle.elf_extent.specs.Extent.{AreDisjoint}

@@ -8,9 +8,8 @@ use Rattle.elf_field.specs.declared.ehdr.Ehdr.{Ehdr}
 use Rattle.elf_field.specs.declared.shdr.Shdr.{Shdr}
 use Rattle.elf_field.specs.Bytes.{IsBytes}
 use Rattle.elf_field.specs.Ehdr.{ehdr_bytes}
-use Rattle.elf_field.specs.Shdr.{IsShdr}
+use Rattle.elf_field.specs.Shdr.{IsShdr, shdr_laws}
 use Rattle.elf_field.specs.EhdrLaws.{ehdr_laws}
-use Rattle.elf_field.specs.ShdrLaws.{shdr_laws}
 use Rattle.elf_field.proofs.RecordTableLaws.{IsBytes-table, length-table}
 use Rattle.elf_extent.specs.Place.{Fits}
 use Rattle.elf_extent.proofs.Public.{above_from}

@@ -6,7 +6,7 @@ use Rattle.elf_field.specs.Abi.{SHF_INFO_LINK, SHT_NULL}
 use Rattle.elf_field.specs.Bytes.{IsBytes}
 use Rattle.elf_field.specs.BytesLaws.{IsBytes-drop, IsBytes-nil, IsBytes-take}
 use Rattle.elf_field.specs.Shdr.{IsShdr}
-use Rattle.elf_field.specs.SymLaws.{sym_laws}
+use Rattle.elf_field.specs.Sym.{sym_laws}
 use Rattle.elf_field.specs.declared.order.Order.{Order}
 use Rattle.elf_image_outline.specs.Image.{ImageValue, IsSoundImage, value_names}
 use Rattle.elf_image_type.specs.Strings.{string}

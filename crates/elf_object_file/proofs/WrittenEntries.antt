@@ -10,12 +10,9 @@ use Rattle.elf_field.specs.declared.order.Order.{Order}
 use Rattle.elf_field.specs.declared.rela.Rela.{Rela}
 use Rattle.elf_field.specs.declared.rel.Rel.{Rel}
 use Rattle.elf_field.proofs.RecordTableLaws.{length-table, record_at}
-use Rattle.elf_field.specs.Rel.{IsRel}
-use Rattle.elf_field.specs.RelLaws.{rel_laws}
-use Rattle.elf_field.specs.Rela.{IsRela}
-use Rattle.elf_field.specs.RelaLaws.{rela_laws}
-use Rattle.elf_field.specs.Sym.{IsSym}
-use Rattle.elf_field.specs.SymLaws.{sym_laws}
+use Rattle.elf_field.specs.Rel.{IsRel, rel_laws}
+use Rattle.elf_field.specs.Rela.{IsRela, rela_laws}
+use Rattle.elf_field.specs.Sym.{IsSym, sym_laws}
 use Rattle.elf_field.specs.Word.{IsWord, word_bytes}
 use Rattle.elf_field.specs.WordLaws.{word_laws}
 use Rattle.elf_image_type.specs.RelocatableFile.{long_number, short_index}

@@ -7,10 +7,11 @@ use Rattle.elf_field.specs.Abi.{SHT_NOBITS, SHT_NULL}
 use Rattle.std.proofs.lemmas.List.{map-append}
 use Rattle.elf_field.specs.Bytes.{IsBytes}
 use Rattle.elf_field.specs.BytesLaws.{IsBytes-append, IsBytes-bytes_of, IsBytes-cons, IsBytes-nil}
+use Rattle.elf_field.specs.Layout.{widths}
 use Rattle.elf_field.specs.LayoutLaws.{IsBytes-spelled}
-use Rattle.elf_field.specs.Rel.{rel_bytes, rel_values, rel_widths}
-use Rattle.elf_field.specs.Rela.{rela_bytes, rela_values, rela_widths}
-use Rattle.elf_field.specs.Sym.{sym_bytes, sym_values, sym_widths}
+use Rattle.elf_field.specs.Rel.{rel_bytes, rel_layout}
+use Rattle.elf_field.specs.Rela.{rela_bytes, rela_layout}
+use Rattle.elf_field.specs.Sym.{sym_bytes, sym_layout}
 use Rattle.elf_field.specs.Word.{word_bytes}
 use Rattle.elf_field.specs.declared.order.Order.{Order}
 use Rattle.elf_object_strings.specs.StringTable.{string_table}
@@ -68,8 +69,8 @@ IsBytes-flat f each [] = IsBytes-nil
 IsBytes-flat f each (x ∷ xs) = IsBytes-append (f x) (flat_map f xs) (each x) (IsBytes-flat f each xs)
 
 IsBytes-relocations : (order : Order) (rela : Bool) (entries : List Relocation) → IsBytes (relocation_bytes order rela entries)
-IsBytes-relocations order true entries = IsBytes-flat (rela_bytes order) (λ e. IsBytes-spelled order [] rela_widths (rela_values e) IsBytes-nil) (map rela_entry entries)
-IsBytes-relocations order false entries = IsBytes-flat (rel_bytes order) (λ e. IsBytes-spelled order [] rel_widths (rel_values e) IsBytes-nil) (map rel_entry entries)
+IsBytes-relocations order true entries = IsBytes-flat (rela_bytes order) (λ e. IsBytes-spelled order [] (widths rela_layout) (rela_layout.values e) IsBytes-nil) (map rela_entry entries)
+IsBytes-relocations order false entries = IsBytes-flat (rel_bytes order) (λ e. IsBytes-spelled order [] (widths rel_layout) (rel_layout.values e) IsBytes-nil) (map rel_entry entries)
 
 IsBytes-words : (order : Order) (words : List ℕ) → IsBytes (flat_map (word_bytes order) words)
 IsBytes-words order words = IsBytes-flat (word_bytes order) (λ word. IsBytes-bytes_of order 4 word) words
@@ -284,7 +285,7 @@ plain_fits o places written =
         align = omega arith;
         entsize = omega arith;
         space = omega arith;
-        bytes = IsBytes-flat (sym_bytes o.order) (λ e. IsBytes-spelled o.order [] sym_widths (sym_values e) IsBytes-nil) (null_symbol ∷ map (symbol_entry o) o.symbols);
+        bytes = IsBytes-flat (sym_bytes o.order) (λ e. IsBytes-spelled o.order [] (widths sym_layout) (sym_layout.values e) IsBytes-nil) (null_symbol ∷ map (symbol_entry o) o.symbols);
         taken = refl;
       };
       indexes = λ far. record {

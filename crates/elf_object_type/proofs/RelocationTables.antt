@@ -8,8 +8,8 @@ use Rattle.elf_field.specs.Abi.{relocation_size}
 use Rattle.elf_field.specs.Bytes.{IsBytes}
 use Rattle.elf_field.specs.Rel.{rel_at}
 use Rattle.elf_field.specs.Rela.{rela_at}
-use Rattle.elf_field.specs.RelLaws.{rel_laws}
-use Rattle.elf_field.specs.RelaLaws.{rela_laws}
+use Rattle.elf_field.specs.Rel.{rel_laws}
+use Rattle.elf_field.specs.Rela.{rela_laws}
 use Rattle.elf_field.specs.declared.order.Order.{Order}
 use Rattle.elf_object_type.specs.Object.{no_relocation}
 use Rattle.elf_object_type.specs.RelocationTable.{IsRelocationTable, listed_in, table_count, table_relocation, table_relocations}

@@ -3,8 +3,7 @@ use Rattle.std.proofs.Common.{◌≡◌, ◌<◌, ◌+◌, ◌*◌, ◌^◌, min
 use Rattle.std.specs.Prelude.{if◌then◌else◌, codes}
 use Rattle.std.specs.List.{flat_map}
 use Rattle.std.proofs.lemmas.List.{length-map, map-append}
-use Rattle.elf_field.specs.Sym.{sym_bytes}
-use Rattle.elf_field.specs.SymLaws.{sym_laws}
+use Rattle.elf_field.specs.Sym.{sym_bytes, sym_laws}
 use Rattle.elf_field.specs.Word.{word_bytes}
 use Rattle.elf_field.specs.WordLaws.{word_laws}
 use Rattle.elf_field.proofs.RecordTableLaws.{length-table}

@@ -8,7 +8,7 @@ use Rattle.elf_field.specs.declared.order.Order.{Order}
 use Rattle.elf_field.specs.declared.order.Order.TheVariants.{Little, Big}
 use Rattle.elf_field.specs.declared.shdr.Shdr.{Shdr}
 use Rattle.elf_field.proofs.RecordTableLaws.{length-table}
-use Rattle.elf_field.specs.ShdrLaws.{shdr_laws}
+use Rattle.elf_field.specs.Shdr.{shdr_laws}
 use Rattle.elf_extent.specs.Place.{Fits, end_of}
 use Rattle.elf_extent.proofs.Public.{fits_length, least_places, same_least}
 use Rattle.elf_image_type.specs.FileParts.{unaligned}

@@ -8,8 +8,7 @@ use Rattle.std.proofs.KnownBytes.{Appends-trans}
 use Rattle.std.proofs.lemmas.List.{append-nil, drop_more, get_or-append-add, get_or-map, get_or_append_left, length-map, length-replicate, take-append-le}
 use Rattle.elf_field.specs.Ehdr.{ehdr_bytes}
 use Rattle.elf_field.specs.EhdrLaws.{ehdr_laws}
-use Rattle.elf_field.specs.Shdr.{shdr_bytes}
-use Rattle.elf_field.specs.ShdrLaws.{shdr_laws}
+use Rattle.elf_field.specs.Shdr.{shdr_bytes, shdr_laws}
 use Rattle.elf_field.proofs.RecordTableLaws.{length-table}
 use Rattle.elf_field.specs.declared.order.Order.{Order}
 use Rattle.elf_field.specs.declared.order.Order.TheVariants.{Little, Big}

@@ -8,8 +8,8 @@ use Rattle.elf_field.specs.Abi.{SHT_NOBITS, relocation_size}
 use Rattle.elf_field.specs.declared.order.Order.{Order}
 use Rattle.std.specs.List.{flat_map}
 use Rattle.elf_field.specs.Word.{word_bytes}
-use Rattle.elf_field.specs.RelLaws.{rel_laws}
-use Rattle.elf_field.specs.RelaLaws.{rela_laws}
+use Rattle.elf_field.specs.Rel.{rel_laws}
+use Rattle.elf_field.specs.Rela.{rela_laws}
 use Rattle.elf_field.specs.WordLaws.{word_laws}
 use Rattle.elf_field.proofs.RecordTableLaws.{length-table}
 use Rattle.elf_object_type.specs.declared.relocation.Relocation.{Relocation}

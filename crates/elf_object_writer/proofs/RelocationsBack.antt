@@ -5,9 +5,9 @@ use Rattle.elf_field.proofs.RecordTableLaws.{entries_bytes}
 use Rattle.std.proofs.lemmas.Bool.{ne_eqb}
 use Rattle.elf_field.specs.Abi.{relocation_size}
 use Rattle.elf_field.specs.Rel.{rel_at, rel_bytes}
-use Rattle.elf_field.specs.RelLaws.{rel_laws}
+use Rattle.elf_field.specs.Rel.{rel_laws}
 use Rattle.elf_field.specs.Rela.{rela_at, rela_bytes}
-use Rattle.elf_field.specs.RelaLaws.{rela_laws}
+use Rattle.elf_field.specs.Rela.{rela_laws}
 use Rattle.elf_field.specs.declared.order.Order.{Order}
 use Rattle.elf_field.specs.declared.rel.Rel.{Rel}
 use Rattle.elf_field.specs.declared.rela.Rela.{Rela}

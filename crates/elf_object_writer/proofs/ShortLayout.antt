@@ -3,7 +3,7 @@ use Rattle.std.proofs.Common.{◌≡◌, ◌<◌, ◌≤◌, ◌+◌, ◌-◌, �
 use Rattle.std.specs.Prelude.{codes}
 use Rattle.std.proofs.lemmas.List.{get_or-map, length-map}
 use Rattle.elf_field.specs.Abi.{EHDR_SIZE, SHDR_SIZE}
-use Rattle.elf_field.specs.SymLaws.{sym_laws}
+use Rattle.elf_field.specs.Sym.{sym_laws}
 use Rattle.elf_field.specs.WordLaws.{word_laws}
 use Rattle.elf_field.proofs.RecordTableLaws.{length-table}
 use Rattle.elf_extent.specs.Place.{end_of}

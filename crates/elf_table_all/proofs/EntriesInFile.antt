@@ -5,13 +5,13 @@ use Rattle.elf_extent.specs.declared.extent.Extent.{Extent}
 use Rattle.elf_field.specs.declared.order.Order.{Order}
 use Rattle.elf_field.specs.Abi.{DYN_SIZE, RELA_SIZE, REL_SIZE, SYM_SIZE, WORD_SIZE}
 use Rattle.elf_field.specs.Dyn.{dyn_at}
-use Rattle.elf_field.specs.DynLaws.{dyn_laws}
+use Rattle.elf_field.specs.Dyn.{dyn_laws}
 use Rattle.elf_field.specs.Rel.{rel_at}
-use Rattle.elf_field.specs.RelLaws.{rel_laws}
+use Rattle.elf_field.specs.Rel.{rel_laws}
 use Rattle.elf_field.specs.Rela.{rela_at}
-use Rattle.elf_field.specs.RelaLaws.{rela_laws}
+use Rattle.elf_field.specs.Rela.{rela_laws}
 use Rattle.elf_field.specs.Sym.{sym_at}
-use Rattle.elf_field.specs.SymLaws.{sym_laws}
+use Rattle.elf_field.specs.Sym.{sym_laws}
 use Rattle.elf_field.specs.Word.{word_at}
 use Rattle.elf_field.specs.WordLaws.{word_laws}
 use Rattle.elf_field.proofs.RecordTableLaws.{record_of_part}

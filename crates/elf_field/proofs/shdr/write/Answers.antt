@@ -1,8 +1,0 @@
--- The fields, put in their order, are the whole slice: each put lets the front grow by its number.
-use Rattle.std.proofs.Common.{refl, sym, ◌∙◌, arith}
-use Rattle.std.proofs.lemmas.List.{take_all}
-use Rattle.elf_field.specs.Abi.{SHDR_SIZE}
-use Rattle.elf_field.proofs.shdr.write.Goals as goal
-
-pub returns : goal.returns
-returns g c = sym (take_all SHDR_SIZE c.put_u64-6.new.b (omega arith)) ∙ rw (c.put_u64-6.ensures, c.put_u64-5.ensures, c.put_u32-4.ensures, c.put_u32-3.ensures, c.put_u64-4.ensures, c.put_u64-3.ensures, c.put_u64-2.ensures, c.put_u64.ensures, c.put_u32-2.ensures, c.put_u32.ensures) refl
