@@ -28,9 +28,9 @@
 //! let image = parse(alloc, &bytes)?;
 //! ```
 //!
-//! A source, a row of extents and what opens files can be of one's own: the ghost members of the trait say what the value stands for, and the
-//! check asks of the methods what the trait promises of it. A source that counts the reads of another one, as the crate `example_copy` has it;
-//! a row of two extents; and a shelf with one file:
+//! A source, a row of extents and what opens files can be of one's own: the ghost members of the trait say what the value represents, and
+//! the check asks of the methods what the trait promises of it. A source that counts the reads of another one, as the crate `example_copy`
+//! has it; a row of two extents; and a shelf with one file:
 //!
 //! ```
 //! use elf::extent::{Extent, Row};

@@ -19,7 +19,7 @@ dynamic_get : (o : Order) (table : List ℕ) (n j : ℕ) → j < n → get_or (d
 unfolding dynamic_entries
 dynamic_get o table n j within = get_or-map-range_with_len (dynamic_entry o table) 0 n j j no_dynamic_entry within (zero-add j)
 
--- the index of the first entry that ends the array is how many stand before it
+-- the index of the first entry that ends the array is how many are before it
 pub length_before_null : (o : Order) (table : List ℕ) (end : ℕ) → end ≤ dynamic_entry_count table →
     ((k : ℕ) → k < end → IsNullEntry (dynamic_entry o table k) → ⊥) → (end < dynamic_entry_count table → IsNullEntry (dynamic_entry o table end)) →
     end ≡ entries_before_null o table
@@ -37,7 +37,7 @@ length_before_null o table end within before found =
     let first : position_or_len is_null_entry xs ≡ end = position_or_len_is is_null_entry xs end no_dynamic_entry inside other here in
     rw first (sym (length-take-le end xs inside))
 
--- an entry before it is the one that stands in the content
+-- an entry before it is the one that is in the content
 pub entry_before_null : (o : Order) (table : List ℕ) (j : ℕ) → j < entries_before_null o table → j < dynamic_entry_count table
 entry_before_null o table j before =
     let n = dynamic_entry_count table in

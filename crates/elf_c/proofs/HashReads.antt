@@ -1,4 +1,4 @@
--- The hash table that the numbers of a table tell of.
+-- The hash table that the numbers of a table describe.
 use Rattle.std.proofs.Common.{◌≡◌, ◌<◌, ◌≤◌, ◌+◌, ℕ, List, None, drop, length, zero, suc, inl, inr, refl, ap, subst, sym, ◌∙◌, arith}
 use Rattle.std.proofs.lemmas.Bool.{cases_eq}
 use Rattle.std.proofs.lemmas.List.{length-drop, length-take}

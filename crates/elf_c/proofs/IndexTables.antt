@@ -37,7 +37,7 @@ index_table_is f i found lowest =
 pub count_by_numbers : (f : File) (b : List ℕ) → IsFileOf f b → f.sections ≡ count (sections_in b)
 count_by_numbers f b is = ap (λ (g : File). g.sections) is.numbers ∙ sym (count_listed b)
 
--- so where section j is one and none before it is, its content stands at the place that is told
+-- so where section j is one and none before it is, its content is at the place that is reported
 pub first_index_place : (f : Sections) (i j : ℕ) (s : Shdr) (place : Slot) → j < count f → s ≡ section f j → extent_in place ≡ content_extent s →
     s.sh_type ≡ SHT_SYMTAB_SHNDX → s.sh_link ≡ i → ((k : ℕ) → k < j → IsIndexTable f i k → ⊥) → place ≡ index_place f (index_table f i)
 first_index_place f i j s place below same extent typed linked before =

@@ -16,7 +16,7 @@ listed_at b j below = get_or-map-range_with_len (segments b (header b)) 0 (file_
 pub length-listed : (b : List ℕ) → length (segments_listed b) ≡ (file_counts b).segments
 length-listed b = length-map-range_with_len (segments b (header b)) 0 (file_counts b).segments
 
--- what a segment gives an address: a byte of the file, or 0 behind its bytes there
+-- what a segment gives an address: a byte of the file, or 0 after its bytes there
 pub loaded_inside : (b : List ℕ) (s : Phdr) (x : ℕ) → x - s.p_vaddr < s.p_filesz → slice_index b (s.p_offset + (x - s.p_vaddr)) ≡ loaded b s x
 loaded_inside b s x lt =
     let test : nat_lt (x - s.p_vaddr) s.p_filesz ≡ true = grind (arith, nat_tests) in

@@ -26,7 +26,7 @@ pub note_offset_zero : (o : Order) (table : List ℕ) (x : ℕ) → note_offset 
 unfolding note_offset
 note_offset_zero o table x = refl
 
--- n notes begin in the content, and note n would begin behind it
+-- n notes begin in the content, and note n would begin after it
 pub no_more : (o : Order) (table : List ℕ) (n : ℕ) → length table ≤ note_offset o table 0 n → length (notes_in o table 0) ≤ n
 no_more o table n past =
     let notes : List NoteValue = notes_in o table 0 in

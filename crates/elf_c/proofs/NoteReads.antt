@@ -46,7 +46,7 @@ note_end_in_file o b e x within =
     let told : padded (descsz o t x) ≡ padded (descsz o b (e.start + x)) = ap padded descs in
     omega arith
 
--- and where what it holds stands there
+-- and where what it holds is there
 pub note_stands_in_file : (n : Note) (o : Order) (b : List ℕ) (e : Extent) (x : ℕ) → note_end o (bytes_in b e) x ≤ e.len →
     NoteStandsAt n o b 0 (e.start + x) → NoteStandsAt n o (bytes_in b e) e.start x
 unfolding namesz descsz note_end desc_start
@@ -113,7 +113,7 @@ note_there t b i k is =
     subst (λ (notes : List NoteValue). note_end o c (note_offset o c 0 k) ≤ length c ↔ (k < length notes)) (notes_by_numbers t b i is)
     (there_in o c k (whole_by_numbers t b i is))
 
--- behind a note that is cut there is none
+-- after a note that is cut there is none
 pub none_behind : (t : Table) (b : List ℕ) (i k j : ℕ) → IsTableOf NoteSection t b i → let o = order_named t.ei_data in let c = slot_bytes b t.content in
     k < j → length c < note_end o c (note_offset o c 0 k) → j < length (notes_of (sections_in b) i) → ⊥
 none_behind t b i k j is before cut below =

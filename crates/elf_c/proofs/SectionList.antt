@@ -13,7 +13,7 @@ use Rattle.elf_c.specs.Files.{HasEntry, IsFileOf, file_order}
 use Rattle.elf_c.specs.declared.shapes.File.{File}
 use Rattle.elf_c.proofs.FileEntries.{section_at, section_below}
 
--- there are as many as are counted, each is the one of its index, and its content is what stands at its offsets
+-- there are as many as are counted, each is the one of its index, and its content is what is at its offsets
 pub count_listed : (b : List ℕ) → count (sections_in b) ≡ (file_counts b).sections
 unfolding sections_in
 count_listed b = length-map-range_with_len (sections b (header b)) 0 (file_counts b).sections

@@ -53,7 +53,7 @@ name_in_table f b i entry table is read table_read typed some =
     ∙ ap (λ (s : Shdr). string (names b h) s.sh_name) read
     ∙ sym (name_of_other b i other)
 
--- ---- where it stands
+-- ---- where it is
 
 pub place_of_null : (b : List ℕ) (i : ℕ) (entry : Shdr) → entry ≡ sections b (header b) i → entry.sh_type ≡ 0 → no_place ≡ name_place b i
 place_of_null b i entry read null =

@@ -22,7 +22,7 @@ own_length_within m xs = let long = length-take m xs in omega arith
 length-take-within : (m : ℕ) (xs : List ℕ) → length (take m xs) ≤ m
 length-take-within m xs = let long = length-take m xs in omega arith
 
--- a string that is not empty stands in the file behind where its table begins
+-- a string that is not empty is in the file after where its table begins
 pub string_in_file : (b : List ℕ) (start len x : ℕ) → 0 < length (string (take len (drop start b)) x) →
     take (length (string (take len (drop start b)) x)) (drop (start + x) b) ≡ string (take len (drop start b)) x
 string_in_file b start len x some =

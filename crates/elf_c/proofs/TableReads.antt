@@ -1,4 +1,4 @@
--- What the numbers of a table of a file tell: its order, and the bytes that its entries are read from.
+-- What the numbers of a table of a file report: its order, and the bytes that its entries are read from.
 use Rattle.std.proofs.Common.{◌≡◌, ◌<◌, ◌≤◌, ◌+◌, ℕ, zero, suc, List, None, Option, Some, length, drop, inl, inr, refl, sym, subst, ap, ◌∙◌, arith}
 use Rattle.std.proofs.lemmas.Bool.{cases_eq, eqb-true}
 use Rattle.std.proofs.lemmas.List.{length-drop, length-take}

@@ -18,7 +18,7 @@ use Rattle.elf_c.specs.declared.shapes.Relocation.{Relocation}
 use Rattle.elf_c.specs.declared.shapes.Symbol.{Symbol}
 use Rattle.elf_c.specs.declared.shapes.Table.{Table}
 
--- the symbol that the struct tells, of a file with these bytes
+-- the symbol that the struct reports, of a file with these bytes
 abbrev pub symbol_told : List ℕ → Symbol → SymbolEntryValue
 symbol_told b s = record {
   name = slot_bytes b s.name;
@@ -65,11 +65,11 @@ relocation_shape r = record {
 abbrev pub dynamic_shape : Dyn → DynamicEntry
 dynamic_shape e = record { d_tag = e.d_tag; d_un = e.d_un }
 
--- the note that the struct tells, of a file with these bytes
+-- the note that the struct reports, of a file with these bytes
 abbrev pub note_told : List ℕ → Note → NoteValue
 note_told b n = record { note_type = n.n_type; name = slot_bytes b n.name; desc = slot_bytes b n.desc }
 
--- the note that stands for one that isn't there
+-- the note used for one that isn't there
 abbrev pub no_note_value : NoteValue
 no_note_value = record { note_type = 0; name = []; desc = [] }
 

@@ -1,4 +1,4 @@
--- The numbers of a file that its accessors need, and what they tell of it.
+-- The numbers of a file that its accessors need, and what they say about it.
 use Rattle.std.specs.Prelude.{◌≡◌, ◌≢◌, ◌<◌, ◌≤◌, ◌+◌, ◌*◌, ◌==◌, if◌then◌else◌, ℕ, List, [], length, slice_index}
 use Rattle.elf_field.specs.Abi.{EHDR_SIZE, EI_DATA, ELFDATA2MSB, SHDR_SIZE, SHT_NULL}
 use Rattle.elf_field.specs.Shdr.{shdr_at}

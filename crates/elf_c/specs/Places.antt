@@ -1,5 +1,5 @@
--- Where strings, the names of sections and what notes hold stand in a file.
--- (gABI chapter 4, Sections, String Table; chapter 5, Note Section.)
+-- Where strings, the names of sections and what notes hold are in a file. (gABI chapter 4, Sections, String Table; chapter 5, Note
+-- Section.)
 use Rattle.std.specs.Prelude.{◌≡◌, ℕ, ◌+◌, ◌-◌, ◌==◌, ◌||◌, if◌then◌else◌, List, length}
 use Rattle.elf_extent.specs.declared.extent.Extent.{Extent}
 use Rattle.elf_field.specs.Abi.{SHT_NULL}

@@ -1,5 +1,5 @@
--- The numbers of a table that the accessors of its entries need, and what they tell of it.
--- (gABI chapter 4, Sections, Symbol Table, Relocation; chapter 5, Note Section, Dynamic Section, Hash Table.)
+-- The numbers of a table that the accessors of its entries need, and what they say about it. (gABI chapter 4, Sections, Symbol Table,
+-- Relocation; chapter 5, Note Section, Dynamic Section, Hash Table.)
 use Rattle.std.specs.Prelude.{◌≡◌, ℕ, ◌<◌, List, Option, None, Some, length, slice_index}
 use Rattle.elf_field.specs.Abi.{EI_DATA}
 use Rattle.elf_image_rules.specs.ImageRules.{KeepsRecordRules}
@@ -20,7 +20,7 @@ use Rattle.elf_c_parts.specs.Room.{extent_in}
 use Rattle.elf_c_parts.specs.declared.room.Slot.{Slot}
 use Rattle.elf_c.specs.declared.shapes.Table.{Table}
 
--- the bytes that stand in a place, as far as they lie in the file
+-- the bytes that are in a place, as far as they lie in the file
 abbrev pub slot_bytes : List ℕ → Slot → List ℕ
 slot_bytes b place = bytes_in b (extent_in place)
 

@@ -1,6 +1,6 @@
--- What is told of a room that is too small for the verdict.
+-- What is reported of a room that is too small for the verdict.
 use Rattle.std.specs.Prelude.{ℕ}
 
--- what stands in place of a rule's number where the room is too small
+-- what is in place of a rule's number where the room is too small
 abbrev pub SHORT_ROOM : ℕ
 SHORT_ROOM = 0

@@ -29,7 +29,7 @@ use elf_table_lists::{dynamic_entry, dynamic_entry_count, relocation_at, relocat
 use elf_table_symbols::{TableKind, entry, word};
 
 /// Symbol `index` of a symbol table; false where there is none of this index, or its `st_shndx` is `SHN_XINDEX` and the index table has no
-/// word for it, and for a table of another kind. A name of no bytes is said to stand at offset 0.
+/// word for it, and for a table of another kind. A name of no bytes is said to be at offset 0.
 #[unsafe(no_mangle)]
 pub extern "C" fn elfmap_symbol(
     table: &Table,
@@ -87,8 +87,8 @@ fn symbol_of(table: &Table, bytes: &[u8], index: u64) -> Option<Symbol>
     })
 }
 
-/// The index of the section of symbol `j`, of this `st_shndx`, in a table with these words of its index table; None where it stands in a
-/// word that is not there.
+/// The index of the section of symbol `j`, of this `st_shndx`, in a table with these words of its index table; None where it is in a word
+/// that is not there.
 fn section_index_of(order: Order, words: &[u8], st_shndx: u16, j: u64) -> Option<u32>
     requires { j < 2 ^ 60 }
     ensures { SomeIff result (st_shndx ≡ shn_xindex → word_size * j + word_size ≤ length words.now)
@@ -157,8 +157,8 @@ pub extern "C" fn elfmap_dynamic(
     true
 }
 
-/// Where the string at an offset of the table's strings stands in the file, without its closing zero; false where the offset is not below
-/// their length, whatever the kind of the table. A string of no bytes is said to stand at offset 0.
+/// Where the string at an offset of the table's strings is in the file, without its closing zero; false where the offset is not below their
+/// length, whatever the kind of the table. A string of no bytes is said to be at offset 0.
 #[unsafe(no_mangle)]
 pub extern "C" fn elfmap_string(table: &Table, bytes: &[u8], offset: u64, place: &mut Slot) -> bool
     ensures there { IsTrue result ↔ (offset < length (slot_bytes bytes.now table.now.strings)) }

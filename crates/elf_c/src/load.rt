@@ -29,7 +29,7 @@ pub extern "C" fn elfmap_load(file: &File, bytes: &[u8], address: u64, byte: &mu
     }
 }
 
-/// The byte that the first loadable segment with this address gives it: that of the file, or 0 behind the segment's bytes there.
+/// The byte that the first loadable segment with this address gives it: that of the file, or 0 after the segment's bytes there.
 fn loaded_byte(file: &File, bytes: &[u8], address: u64) -> Option<u8>
     ensures { IsFileOf file.now bytes.now → LoadsFirst bytes.now (segments_listed bytes.now) address result }
 {

@@ -14,9 +14,9 @@ use elf_c_parts::Slot;
 use elf_field::abi::SHT_NULL;
 use elf_image_type::strings::string_at;
 
-/// Where the name of section `index` stands in the file, without its closing zero; false where there is no section of this index, or its
-/// header doesn't lie in the bytes, or that of the section name string table doesn't, where the name is looked for there. A name of no
-/// bytes is said to stand at offset 0.
+/// Where the name of section `index` is in the file, without its closing zero; false where there is no section of this index, or its header
+/// doesn't lie in the bytes, or that of the section name string table doesn't, where the name is looked for there. A name of no bytes is
+/// said to be at offset 0.
 #[unsafe(no_mangle)]
 pub extern "C" fn elfmap_name(file: &File, bytes: &[u8], index: u64, name: &mut Slot) -> bool
     ensures there { IsFileOf file.now bytes.now → IsTrue result ↔ (index < (file_counts bytes.now).sections) }
@@ -30,8 +30,8 @@ pub extern "C" fn elfmap_name(file: &File, bytes: &[u8], index: u64, name: &mut 
     put(name_of(file, bytes, index), name)
 }
 
-/// Where the name of section `index` stands: it is empty for a section header of type `SHT_NULL`, and where there is no section name
-/// string table or an empty one.
+/// Where the name of section `index` is: it is empty for a section header of type `SHT_NULL`, and where there is no section name string
+/// table or an empty one.
 fn name_of(file: &File, bytes: &[u8], index: u64) -> Option<Slot>
     ensures there { IsFileOf file.now bytes.now → IsSome result ↔ (index < (file_counts bytes.now).sections) }
     ensures value { IsFileOf file.now bytes.now →
@@ -48,7 +48,7 @@ fn name_of(file: &File, bytes: &[u8], index: u64) -> Option<Slot>
     Some(place_of_string(bytes, place_of_content(&table), section.sh_name as u64))
 }
 
-/// Where the string at an offset of a string table stands in the file; one of no bytes nowhere.
+/// Where the string at an offset of a string table is in the file; one of no bytes nowhere.
 pub fn place_of_string(bytes: &[u8], table: Slot, offset: u64) -> Slot
     ensures value { slot_bytes bytes.now result ≡ string (slot_bytes bytes.now table) offset }
     ensures stands { result ≡ string_place bytes.now (extent_in table) offset }

@@ -113,7 +113,7 @@ fn end_of_note(order: Order, content: &[u8], offset: u64) -> Option<usize>
     }
 }
 
-/// The note that begins at an offset of the file, where it is whole, behind which the next one begins at `next` of the section.
+/// The note that begins at an offset of the file, where it is whole, after which the next one begins at `next` of the section.
 #[tactic(auto, unfolding(elf_table_lists::specs::Notes::note_at, elf_table_lists::specs::Notes::note_end, elf_table_lists::specs::Notes::desc_start))]
 fn note_in(order: Order, bytes: &[u8], at: usize, next: usize) -> Note
     requires { note_end_of order bytes.now at ≤ length bytes.now }

@@ -1,4 +1,4 @@
-//! Where the records and the contents of a file stand, by numbers that may be any.
+//! Where the records and the contents of a file are, by numbers that may be any.
 ghost use Rattle.std.specs.Prelude.{◌≡◌, ◌<◌, ◌≤◌, ◌+◌, ◌*◌, SomeIff, length};
 ghost use Rattle.elf_field.specs.Abi.{PHDR_SIZE as phdr_size, SHDR_SIZE as shdr_size};
 ghost use Rattle.elf_field.specs.Phdr.{phdr_at};
@@ -29,7 +29,7 @@ pub fn order_of(ei_data: u8) -> Order
     }
 }
 
-/// Where entry `index` of a table of entries of this size stands in a file of `len` bytes; None where it doesn't lie in it.
+/// Where entry `index` of a table of entries of this size is in a file of `len` bytes; None where it doesn't lie in it.
 pub fn place_of(table: u64, size: u64, index: u64, len: usize) -> Option<usize>
     ensures { SomeIff result (table + size * index + size ≤ len) (table + size * index) }
 {
@@ -68,7 +68,7 @@ pub fn segment_of(file: &File, bytes: &[u8], index: u64) -> Option<Phdr>
     Some(get_at(order_of(file.ei_data), bytes, offset))
 }
 
-/// Where the content of a section stands.
+/// Where the content of a section is.
 pub fn place_of_content(section: &Shdr) -> Slot
     ensures { extent_in result ≡ content_extent section.now }
 {
@@ -79,7 +79,7 @@ pub fn place_of_content(section: &Shdr) -> Slot
     }
 }
 
-/// The bytes that stand in a place, as far as they lie in the file.
+/// The bytes that are in a place, as far as they lie in the file.
 pub fn bytes_of(bytes: &[u8], place: Slot) -> &[u8]
     ensures content { result.now ≡ slot_bytes bytes.now place }
     ensures inside { 0 < length result.now → place.start + length result.now ≤ length bytes.now }

@@ -172,7 +172,7 @@ pub struct Table {
 #[repr(C)]
 #[derive(Clone, Copy, Debug, PartialEq, Eq)]
 pub struct Symbol {
-    /// Where its name stands in the file, without its closing zero.
+    /// Where its name is in the file, without its closing zero.
     pub name: Slot,
     pub st_value: u64,
     pub st_size: u64,
@@ -190,7 +190,7 @@ pub struct Symbol {
 #[derive(Clone, Copy, Debug, PartialEq, Eq)]
 pub struct Relocation {
     pub r_offset: u64,
-    /// 0 in a section of type `SHT_REL`, where the addend stands in the bytes that are relocated.
+    /// 0 in a section of type `SHT_REL`, where the addend is in the bytes that are relocated.
     pub r_addend: i64,
     /// The index of the symbol, from the upper half of `r_info`.
     pub symbol: u32,
@@ -237,9 +237,9 @@ impl DynamicEntry {
 #[repr(C)]
 #[derive(Clone, Copy, Debug, PartialEq, Eq)]
 pub struct Note {
-    /// Where its name stands in the file, without its closing zero and its padding.
+    /// Where its name is in the file, without its closing zero and its padding.
     pub name: Slot,
-    /// Where its descriptor stands in the file, without its padding.
+    /// Where its descriptor is in the file, without its padding.
     pub desc: Slot,
     /// Where the next note begins, in bytes from the beginning of the section.
     pub next: u64,

@@ -43,8 +43,8 @@ fn table_of(file: &File, bytes: &[u8], index: u64) -> Option<Table>
     })
 }
 
-/// What a table of this kind in section `index`, which links to section `link`, is read by beside its own content: where its index table
-/// or its symbol table stands, and where its strings do.
+/// What a table of this kind in section `index`, which links to section `link`, is read by beside its own content: where its index table or
+/// its symbol table is, and where its strings are.
 fn linked_of(
     file: &File,
     bytes: &[u8],
@@ -82,8 +82,8 @@ fn linked_of(
     }
 }
 
-/// Where the index table of the symbol table in section `index` stands: the content of the first section of type `SHT_SYMTAB_SHNDX` that
-/// links to it; nowhere where there is none.
+/// Where the index table of the symbol table in section `index` is: the content of the first section of type `SHT_SYMTAB_SHNDX` that links
+/// to it; nowhere where there is none.
 fn place_of_index_table(file: &File, bytes: &[u8], index: u64) -> Slot
     ensures { IsFileOf file.now bytes.now → let f = sections_in bytes.now in result ≡ index_place f (index_table f index) }
 {

@@ -9,7 +9,7 @@ use crate::shapes::Fault;
 use elf_c_parts::{ShortRoom, Slot, verdict_in};
 use elf_image_rules::verdict;
 
-/// What stands in place of a rule's number where a room has too few extents: no rule has it.
+/// What is in place of a rule's number where a room has too few extents: no rule has it.
 pub const SHORT_ROOM: u16 = 0;
 
 /// Whether the file keeps all 33 rules: else the first one that it breaks, and the lowest offset.

@@ -16,13 +16,13 @@ use Rattle.elf_c_engines.specs.FilesIn.{AreFilesIn, IsFirstOutside}
 abbrev pub SaysOfFiles : (List (List ℕ) → Verdict → List ℕ → Type 0) → List ℕ → List Slot → Verdict → List ℕ → Type 0
 SaysOfFiles Says b places verdict text = (files : List (List ℕ)) × AreFilesIn b places files × Says files verdict text
 
--- or the first file doesn't that is told, or memory was refused
+-- or the first file doesn't that is reported, or an allocation failed
 abbrev pub LacksFile : List ℕ → List Slot → CallFault → Type 0
 LacksFile b places OutOfMemory = Unit {0}
 LacksFile b places (BadFiles file) = IsFirstOutside (length b) places file
 LacksFile b places (BadRules line) = ⊥
 
--- a text gives no relocation rules: the first line is told that is bad, or memory was refused
+-- a text gives no relocation rules: the first line is reported that is bad, or an allocation failed
 abbrev pub LacksRules : List ℕ → CallFault → Type 0
 LacksRules rules OutOfMemory = Unit {0}
 LacksRules rules (BadRules line) = IsBadLine rules line

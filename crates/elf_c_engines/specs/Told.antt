@@ -41,7 +41,7 @@ fault_numbers OutOfMemory = length_alone 0
 fault_numbers (BadRules line) = record { length = 0; at = line; file = 0; index = 0; rule = 0 }
 fault_numbers (BadFiles file) = record { length = 0; at = 0; file = file; index = 0; rule = 0 }
 
--- the text fits: it stands at the beginning of the room, which is as it was behind it, and the status and the numbers are the verdict's
+-- the text fits: it is at the beginning of the room, which is as it was after it, and the status and the numbers are the verdict's
 pub record IsPutInto (verdict : Verdict) (text old new : List ℕ) (outcome : Outcome) (code : ℕ) : Type 0 where
   pub fits : length text ≤ length old
   pub room : new ≡ text ++ drop (length text) old
@@ -55,7 +55,7 @@ pub record IsTooSmallFor (text old new : List ℕ) (outcome : Outcome) (code : �
   pub status : code ≡ small_room_status
   pub numbers : outcome ≡ length_alone (length text)
 
--- what an engine says is told to a caller whose room held `old` and holds `new`
+-- what an engine says is reported to a caller whose room held `old` and holds `new`
 abbrev pub IsTold : Verdict → List ℕ → List ℕ → List ℕ → Outcome → ℕ → Type 0
 IsTold verdict text old new outcome status = IsPutInto verdict text old new outcome status ⊎ IsTooSmallFor text old new outcome status
 
@@ -65,13 +65,13 @@ pub record IsWithoutAnswer (fault : CallFault) (old new : List ℕ) (outcome : O
   pub status : code ≡ fault_status fault
   pub numbers : outcome ≡ fault_numbers fault
 
--- a call of an engine: a verdict and a text are told that the engine says, or there is no answer for a fault that can come
+-- a call of an engine: a verdict and a text are reported that the engine says, or there is no answer for a fault that can come
 abbrev pub IsEngineCall : (Verdict → List ℕ → Type 0) → (CallFault → Type 0) → List ℕ → List ℕ → Outcome → ℕ → Type 0
 IsEngineCall Says Fails old new outcome status =
     ((verdict : Verdict) × (text : List ℕ) × Says verdict text × IsTold verdict text old new outcome status)
     ⊎ ((fault : CallFault) × Fails fault × IsWithoutAnswer fault old new outcome status)
 
--- the only fault is want of memory
+-- the only fault is out of memory
 abbrev pub IsWantOfMemory : CallFault → Type 0
 IsWantOfMemory OutOfMemory = Unit {0}
 IsWantOfMemory (BadRules line) = ⊥

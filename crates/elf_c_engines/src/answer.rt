@@ -21,18 +21,18 @@ const BAD_RULES: u32 = 6;
 
 const BAD_FILES: u32 = 7;
 
-/// `struct elfmap_outcome`: what a call tells beside its status. A number that tells nothing is 0.
+/// `struct elfmap_outcome`: what a call reports beside its status. A number that says nothing is 0.
 #[repr(C)]
 #[derive(Clone, Copy, Debug, PartialEq, Eq)]
 pub struct Outcome {
     /// How long the whole text or file is, in bytes, also where the room is shorter.
     pub length: u64,
-    /// Of a refused file the lowest offset at which it breaks the rule, in bytes; of files that don't link the entry at which the
-    /// rule stands, from 0; of bad rules the line, from 1.
+    /// Of a refused file the lowest offset at which it breaks the rule, in bytes; of files that don't link the entry at which the rule is
+    /// broken, from 0; of bad rules the line, from 1.
     pub at: u64,
     /// Which file, from 0.
     pub file: u64,
-    /// Of files that don't link the index in the file at which the rule stands, from 0.
+    /// Of files that don't link the index in the file at which the rule is broken, from 0.
     pub index: u64,
     /// The number of the rule.
     pub rule: u16,
@@ -45,11 +45,11 @@ pub(crate) enum CallFault {
     BadRules { line: usize },
     /// The extent of this file doesn't lie in the bytes, and each before it does. Files count from 0.
     BadFiles { file: usize },
-    /// A growth was refused.
+    /// An allocation failed.
     OutOfMemory,
 }
 
-/// Puts what an engine says into the room, if it is long enough for the text: else the room stays as it was. Answers the status.
+/// Puts what an engine says into the room, if it is long enough for the text: else the room stays as it was. Returns the status.
 pub(crate) fn tell(verdict: Verdict, text: &[u8], room: &mut [u8], outcome: &mut Outcome) -> u32
     ensures { IsTold verdict text.now room.old room.new outcome.new result }
 {
@@ -62,7 +62,7 @@ pub(crate) fn tell(verdict: Verdict, text: &[u8], room: &mut [u8], outcome: &mut
     status_of(verdict)
 }
 
-/// Ends a call without what an engine says. Answers the status.
+/// Ends a call without what an engine says. Returns the status.
 pub(crate) fn give_up(fault: CallFault, outcome: &mut Outcome) -> u32
     ensures status { result ≡ fault_status fault }
     ensures numbers { outcome.new ≡ fault_numbers fault }

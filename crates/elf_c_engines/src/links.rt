@@ -1,4 +1,4 @@
-//! Where the sections and names of files stand in their link, and the executable of it.
+//! Where the sections and names of files are in their link, and the executable of it.
 ghost use Rattle.std.specs.Prelude.{◌≡◌, [], MatchResult, option_copied};
 ghost use Rattle.elf_tool_link.specs.Link.{FilesLink};
 ghost use Rattle.elf_tool_link.specs.Map.{MapSays};

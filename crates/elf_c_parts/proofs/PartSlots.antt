@@ -61,7 +61,7 @@ held_past es i e read within none =
     let here : get_or es i e ≡ e = get_or_from_slice_get es i e e read in
     filter_more holds_any es i e within ∙ rw (here, test) (append-nil _)
 
--- the members that stand in the first slots, in another order
+-- the members that are in the first slots, in another order
 pub members_moved : (es : List Extent) (room front moved : List Part) (k : ℕ) → AreMembers es (length es) (map member_of_part (take k room)) →
     front ≡ take k room → IsPermutation front moved → AreMembers es (length es) (map member_of_part moved)
 members_moved es room front moved k given same permuted =

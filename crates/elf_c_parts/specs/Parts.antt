@@ -9,7 +9,7 @@ use Rattle.elf_c_parts.specs.declared.shapes.Part.{Part}
 use Rattle.elf_c_parts.specs.declared.shapes.PartsFault.{PartsFault}
 use Rattle.elf_c_parts.specs.declared.shapes.PartsFault.TheVariants.{Rule, ShortRoom}
 
--- what stands in place of an owner's index at a gap
+-- what is in place of an owner's index at a gap
 abbrev pub no_owner : ℕ
 no_owner = 2 ^ 64 - 1
 
@@ -46,7 +46,7 @@ pub record IsShortOfParts (b : List ℕ) (count wanted : ℕ) : Type 0 where
   pub wanted_all : wanted ≡ parts_wanted b
   pub short : count < wanted
 
--- why the parts of a file are not told in a room of so many
+-- why the parts of a file are not reported in a room of so many
 abbrev pub IsPartsRefusal : List ℕ → ℕ → PartsFault → Type 0
 IsPartsRefusal b count (Rule rule at) = IsFault b (Some (rule, at)) × HasPartsFor b count
 IsPartsRefusal b count (ShortRoom wanted) = IsShortOfParts b count wanted

@@ -32,7 +32,7 @@ pub fn put_account(records: &JudgedRecords, members: &[Part], parts: &mut [Part]
     put_gap(parts, count, at, records.bytes().len() as u64)
 }
 
-/// Writes the gap from `start` to `end`, if it is not empty, behind the first `count` parts: how many parts there are then.
+/// Writes the gap from `start` to `end`, if it is not empty, after the first `count` parts: how many parts there are then.
 fn put_gap(parts: &mut [Part], count: usize, start: u64, end: u64) -> usize
     requires order { start ≤ end }
     requires room { count < length parts.old }

@@ -10,10 +10,10 @@ use crate::shapes::{Part, PartsFault};
 use elf_image_rules::rules::SHARED_BYTE;
 use elf_image_rules::{FileExtents, JudgedRecords, judge_records};
 
-/// The parts of a file: how many there are. They stand in the first slots of the room, in ascending order, none of them empty, and hold
-/// each byte of the file exactly once: each extent that holds a byte, and each gap between them, as long as it can be.
+/// The parts of a file: how many there are. They are in the first slots of the room, in ascending order, none of them empty, and hold each
+/// byte of the file exactly once: each extent that holds a byte, and each gap between them, as long as it can be.
 ///
-/// Answers [`PartsFault::Rule`] where the file breaks one of the rules 1 to 33, and [`PartsFault::ShortRoom`] where it keeps rules 1 to 32
+/// Returns [`PartsFault::Rule`] where the file breaks one of the rules 1 to 33, and [`PartsFault::ShortRoom`] where it keeps rules 1 to 32
 /// and the room has fewer slots than three for each extent and one: rule 33 is not judged then. It takes n log n for any file, and no
 /// memory but the room: what it held is lost.
 pub fn parts_in(bytes: &[u8], room: &mut [Part]) -> Result<usize, PartsFault>

@@ -36,7 +36,7 @@ pub fn put_members(extents: &FileExtents, room: &mut [Part]) -> usize
     count
 }
 
-/// The lowest byte that two of these hold, each of which holds one. They stand in ascending order of their starts.
+/// The lowest byte that two of these hold, each of which holds one. They are in ascending order of their starts.
 pub fn lowest_double(members: &[Part]) -> Option<u64>
     requires ascending { IsNonDecreasingBy (λ part. part.start) members.now }
     requires nonempty { All (λ e. 0 < e.len) (map extent_of_part members.now) }

@@ -1,6 +1,6 @@
 //! A part of a file, and why a room holds none.
 
-/// What stands in place of an owner's index at a gap.
+/// What is in place of an owner's index at a gap.
 pub const GAP: u64 = u64::MAX;
 
 /// `struct elfmap_part`: the bytes at the offsets from `start` to below `start + len`, and what they belong to.
@@ -15,7 +15,7 @@ pub struct Part {
     pub owner: u64,
 }
 
-/// Why a file's parts are not told.
+/// Why a file's parts are not reported.
 #[derive(Clone, Copy, PartialEq, Eq, Debug)]
 pub enum PartsFault {
     /// The first rule that the file breaks, and the lowest offset at which it does, in bytes.

@@ -11,7 +11,7 @@ end_none parts from places none = rw (eq-eqb (length parts) 0 none) refl
 pub end_some : (parts : List (ℕ × ℕ)) (from : ℕ) (places : List ℕ) → 0 < length parts → file_end parts from places ≡ end_of parts places (length parts - 1)
 end_some parts from places some = rw (ne_eqb (length parts) 0 (λ none. omega arith)) refl
 
--- no part ends behind the last one
+-- no part ends after the last one
 end_last : (parts : List (ℕ × ℕ)) (from : ℕ) (places : List ℕ) (k : ℕ) → Fits parts from places → k < length parts →
     end_of parts places k ≤ end_of parts places (length parts - 1)
 end_last parts from places k fits lt = elim (cases_lt k (length parts - 1)) [

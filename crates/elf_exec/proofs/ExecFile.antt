@@ -154,7 +154,7 @@ module _ (fs : List ObjectValue) (m : LinkMapValue) (rules : List RelocRule) (li
         (omega arith, omega arith, subst (λ (k : ℕ). Fits (map unaligned contents) (EHDR_SIZE + k) places) (sym table_long) fit),
       )
 
-  -- each part stands at its place in the file, and ends in it
+  -- each part is at its place in the file, and ends in it
   part_stands : (k : ℕ) → k < length all_bytes → take (length (get_or all_bytes k [])) (drop (get_or all_places k 0) b) ≡ get_or all_bytes k []
   unfolding exec_bytes
   part_stands k lt =

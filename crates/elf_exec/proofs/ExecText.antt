@@ -1,4 +1,4 @@
--- The executable as it goes out: the header, the program header table and the bytes of the segments, each behind the zeros before it; these
+-- The executable as it goes out: the header, the program header table and the bytes of the segments, each after the zeros before it; these
 -- are memory's, and so it is the executable of the definition.
 use Rattle.std.proofs.Common.{◌≡◌, ◌<◌, ◌+◌, ◌-◌, ◌*◌, ◌⊎◌, ℕ, zero, suc, Bool, true, false, List, [], ◌∷◌, ◌++◌, length, map, get_or, replicate, refl, sym, ap, subst, ◌∙◌, inl, inr, arith, length-append}
 use Rattle.std.specs.Prelude.{slice_index}

@@ -1,4 +1,4 @@
--- What the proofs of those who stand on this crate may cite.
+-- What the proofs of those who build on this crate may cite.
 pub mod Public
 mod Rows
 mod Ends

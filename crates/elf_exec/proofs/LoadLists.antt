@@ -1,4 +1,4 @@
--- The segments of an executable stand in the order of the outputs, the commons last, and each of these that takes memory has one.
+-- The segments of an executable are in the order of the outputs, the commons last, and each of these that takes memory has one.
 use Rattle.std.proofs.Common.{◌≡◌, ◌<◌, ◌≤◌, ◌+◌, ℕ, zero, suc, Bool, true, cond, List, [], ◌∷◌, length, map, get_or, refl, sym, ◌∙◌, subst, arith}
 use Rattle.std.specs.List.{filter, range_with_len}
 use Rattle.std.proofs.lemmas.Bool.{cond_both, lt-ltb}
@@ -6,13 +6,13 @@ use Rattle.std.proofs.lemmas.List.FromFn.{get_or-map-range_with_len, length-map-
 use Rattle.elf_link_map.specs.LinkMap.{LinkMapValue}
 use Rattle.elf_exec.specs.Loads.{has_memory, load_at, load_in, loads, no_load}
 
--- ---- what passes a test stands in the same order
+-- ---- what passes a test is in the same order
 
 -- each item of ys is one of xs
 abbrev ArePicked : {A : Type 0} → A → List A → List A → Type 0
 ArePicked none xs ys = (j : ℕ) → j < length ys → (l : ℕ) × (l < length xs) × (get_or ys j none ≡ get_or xs l none)
 
--- of two of them the earlier one stands before the other
+-- of two of them the earlier one is before the other
 abbrev AreInOrder : {A : Type 0} → A → List A → List A → Type 0
 AreInOrder none xs ys = (i j : ℕ) → i < j → j < length ys →
     (k l : ℕ) × (k < l) × (l < length xs) × (get_or ys i none ≡ get_or xs k none) × (get_or ys j none ≡ get_or xs l none)

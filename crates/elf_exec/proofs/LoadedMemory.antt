@@ -78,7 +78,7 @@ module _ (fs : List ObjectValue) (m : LinkMapValue) (rules : List RelocRule) (li
       let empty = no_content (section_in fs p.file p.section).body (((outputs fs m rules link b file).members k lt).kind i i_in ∙ without) in
       omega arith))
 
-  -- contents stand before the commons
+  -- contents are before the commons
   no_content_behind : (x : ℕ) → 0 < length m.commons → (common_at m.commons 0).address ≤ x → HasContentAt fs m x → ⊥
   no_content_behind x some behind (f, s, k, (k_in, (a, there, at))) =
       let before = (stand fs m rules link b file).commons_behind f s a 0 there some in

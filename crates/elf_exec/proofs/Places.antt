@@ -1,4 +1,4 @@
--- Where the segments of an executable are: each at a multiple of the page, ends below 2^64, and begins behind those before it.
+-- Where the segments of an executable are: each at a multiple of the page, ends below 2^64, and begins after those before it.
 use Rattle.std.proofs.Common.{◌≡◌, ◌<◌, ◌≤◌, ◌+◌, ◌-◌, ◌^◌, ◌%◌, ℕ, Bool, true, false, List, [], ◌∷◌, length, refl, sym, ap, subst, inl, inr, arith}
 use Rattle.std.specs.Prelude.{bit_and, ◌==◌, if◌then◌else◌}
 use Rattle.std.proofs.lemmas.Bool.{cases_lt, le-ltb, lt-ltb}
@@ -29,7 +29,7 @@ pub commons_some : (k : ℕ) (cs : List CommonValue) → 0 < (commons_load k cs)
 commons_some k [] some = absurd (omega arith)
 commons_some k (c ∷ cs) some = omega arith
 
--- a common begins where an earlier one begins, or behind that
+-- a common begins where an earlier one begins, or after that
 pub commons_ascend : (fs : List ObjectValue) (m : LinkMapValue) (j k : ℕ) → StandApart fs m → j ≤ k → k < length m.commons →
     (common_at m.commons j).address ≤ (common_at m.commons k).address
 commons_ascend fs m j k stand le lt = elim (cases_lt j k) [
@@ -53,7 +53,7 @@ pub record LoadStands (m : LinkMapValue) (load : Load) : Type 0 where
   pub flags : load.flags < 2 ^ 32
   pub paged : load.address % m.page ≡ 0
 
--- output k, or the commons as position behind all outputs
+-- output k, or the commons as position after all outputs
 pub at_output : (m : LinkMapValue) (k : ℕ) → k < length m.outputs → load_at m k ≡ output_load k (output_at m k)
 at_output m k lt = rw (lt-ltb k (length m.outputs) lt) refl
 
@@ -61,7 +61,7 @@ pub at_commons : (m : LinkMapValue) (k : ℕ) → length m.outputs ≤ k → loa
 at_commons m k le = rw (le-ltb k (length m.outputs) le) refl
 
 module _ (fs : List ObjectValue) (m : LinkMapValue) (stand : StandApart fs m) (outputs : OutputsStand fs m) where
-  -- of what takes memory, an output begins where each output before it ends, or behind that, and so do the commons
+  -- of what takes memory, an output begins where each output before it ends, or after that, and so do the commons
   loads_ascend_at : (k l : ℕ) → k < l → l ≤ length m.outputs → 0 < (load_at m l).size → (load_at m k).address ≤ (load_at m l).address
   loads_ascend_at k l before le some =
       let here = at_output m k (omega arith) in

@@ -1,4 +1,4 @@
--- What the proofs of those who stand on this crate may cite: the laws of src/laws.rt, each under its name there; what each segment is; and
+-- What the proofs of those who build on this crate may cite: the laws of src/laws.rt, each under its name there; what each segment is; and
 -- whose each byte is of parts at their places.
 pub use Rattle.elf_exec.proofs.ExecLaws.{executable}
 pub use Rattle.elf_exec.proofs.OneExec.{one_exec, some_exec}

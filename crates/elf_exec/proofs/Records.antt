@@ -117,7 +117,7 @@ header_fits i entry count fits entry_fits few = record {
   e_shstrndx = omega arith;
 }
 
--- the program header table stands behind the header, where there is one
+-- the program header table is after the header, where there is one
 pub table_offset : (i : Identity) (entry count : ℕ) → 0 < count → (exec_header i entry count).e_phoff ≡ EHDR_SIZE
 table_offset i entry count some = rw (ne_eqb count 0 (λ none. omega arith)) refl
 

@@ -22,7 +22,7 @@ use Rattle.elf_exec.specs.PlacedExec.{IsPartsFault, IsPlacingFault}
 use Rattle.elf_exec.proofs.ExecText.{too_long}
 use Rattle.elf_exec.proofs.Rows.{same_pieces, spread_pieces}
 
--- zeros, and what stands behind them
+-- zeros, and what is after them
 pub padded_sent : (a b c : Option (List ℕ)) (out mid n k : ℕ) (s t : List ℕ) (result : Result ℕ WriteFault) → WentOut a b out (replicate n 0) mid → n ≡ k → s ≡ t →
     Sends b c mid s result → Sends a c out (replicate k 0 ++ t) result
 padded_sent a b c out mid n k s t result zeros padding same sends =
@@ -47,7 +47,7 @@ output_text l o =
     (λ k lt. ap (λ (s : List ℕ). length s) (content_at k lt))
     content_at
 
--- ---- where the segments stand
+-- ---- where the segments are
 
 pub commons_end : (l : LinkedValue) → IsReadyLink l → EndInTime l.map.commons
 commons_end l ready = (let (opt, is, sound) = ready.map in (parts_apart opt l.objects l.map is).commons_within)

@@ -34,7 +34,7 @@ object_bytes o s fits = elim (cases_lt s (length o.sections)) [
 no_object_fits : ObjectFits no_object
 no_object_fits = record { osabi = omega arith; abi = omega arith; machine = omega arith; flags = omega arith; sections = tt; symbols = tt }
 
--- also that which stands for a file that isn't there
+-- also that which represents a file that isn't there
 object_fits : (fs : List ObjectValue) (f : ℕ) → ObjectsFit fs → ObjectFits (object_at fs f)
 object_fits fs f fit = elim (cases_lt f (length fs)) [
   | inl lt ↦ fit f lt

@@ -21,7 +21,7 @@ use Rattle.elf_link_relocate.specs.Memory.{IsMemory}
 use Rattle.elf_exec.specs.declared.load.Load.{Load}
 use Rattle.elf_exec.specs.Loads.{load_in, loads}
 
--- ---- the parts behind the header and the program header table: the bytes of each segment
+-- ---- the parts after the header and the program header table: the bytes of each segment
 
 -- p_filesz: a segment without bits has none in the file
 abbrev pub file_size : Load → ℕ
@@ -70,8 +70,8 @@ encoding_of Big = ELFDATA2MSB
 abbrev pub identification_of : Identity → List ℕ
 identification_of i = MAGIC ++ (ELFCLASS64 ∷ encoding_of i.order ∷ EV_CURRENT ∷ i.osabi ∷ i.abi ∷ replicate (EI_NIDENT - EI_PAD) 0)
 
--- the header of a file with this entry and so many segments, whose program header table stands behind it; a table without entries
--- is none; there is no section header table
+-- the header of a file with this entry and so many segments, whose program header table is after it; a table without entries is none; there
+-- is no section header table
 abbrev pub exec_header : Identity → ℕ → ℕ → Ehdr
 exec_header i entry count = record {
   e_ident = identification_of i;

@@ -18,7 +18,7 @@ use Rattle.elf_exec.specs.Loads.{loads}
 abbrev pub IsExec : LinkedValue → List ℕ → Type 0
 IsExec l b = ExecLaid l.objects l.map l.rules b
 
--- there are more segments than e_phnum can tell (gABI chapter 5: PN_XNUM), or the executable is longer than the longest file
+-- there are more segments than e_phnum can report (gABI chapter 5: PN_XNUM), or the executable is longer than the longest file
 abbrev pub IsTooLongFor : List ObjectValue → LinkMapValue → List RelocRule → Type 0
 IsTooLongFor fs m rules = (PN_XNUM ≤ length (loads m)) ⊎ ((b : List ℕ) × ExecLaid fs m rules b × (MAX_LEN < length b))
 
@@ -33,7 +33,7 @@ IsLoadable l b = IsExecFile l.objects l.map l.rules b × IsExecutable l.objects 
 abbrev pub WritesExec : LinkedValue → Option (List ℕ) → Option (List ℕ) → Result Unit WriteFault → Type 0
 WritesExec l before after result = (b : List ℕ) × IsLoadable l b × Writes before after b result
 
--- each fault with when it comes, and what it leaves; want of memory says nothing else
+-- each fault with when it comes, and what it leaves; out of memory says nothing else
 abbrev pub IsExecFault : LinkedValue → Option (List ℕ) → Option (List ℕ) → ExecFault → Type 0
 IsExecFault l before after TooLong = (after ≡ before) × IsTooLong l
 IsExecFault l before after OutOfMemory = after ≡ before

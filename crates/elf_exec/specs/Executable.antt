@@ -19,8 +19,8 @@ use Rattle.elf_exec.specs.Loads.{loads}
 
 -- ---- the link
 
--- m is the map of these objects, and none of rules 1 to 16 of the link stands for them and these relocation rules; the objects keep their
--- own rules, and their numbers and the page fit the types that the code has for them
+-- m is the map of these objects, and none of rules 1 to 16 of the link is broken for them and these relocation rules; the objects keep
+-- their own rules, and their numbers and the page fit the types that the code has for them
 pub record IsSoundLink (fs : List ObjectValue) (m : LinkMapValue) (rules : List RelocRule) : Type 0 where
   pub objects : AreObjects fs
   pub widths : ObjectsFit fs
@@ -30,7 +30,7 @@ pub record IsSoundLink (fs : List ObjectValue) (m : LinkMapValue) (rules : List 
 
 -- ---- its executable
 
--- b is the executable of a link, and neither has it more segments than e_phnum can tell, nor is it longer than the longest file
+-- b is the executable of a link, and neither has it more segments than e_phnum can report, nor is it longer than the longest file
 pub record IsExecFile (fs : List ObjectValue) (m : LinkMapValue) (rules : List RelocRule) (b : List ℕ) : Type 0 where
   pub laid : ExecLaid fs m rules b
   pub few : length (loads m) < PN_XNUM

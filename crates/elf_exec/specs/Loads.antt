@@ -21,7 +21,7 @@ output_load k o = record { position = k; address = o.address; size = o.length; f
 abbrev pub zeros_load : ℕ → ℕ → ℕ → Load
 zeros_load k address size = record { position = k; address = address; size = size; flags = PF_R + PF_W; no_bits = true }
 
--- the commons, behind so many outputs: from where the first one begins to where the last one ends; without commons nothing
+-- the commons, after so many outputs: from where the first one begins to where the last one ends; without commons nothing
 abbrev pub commons_load : ℕ → List CommonValue → Load
 commons_load k cs =
     let first = common_at cs 0 in
@@ -38,7 +38,7 @@ has_memory load = nat_lt 0 load.size
 unfoldable pub loads : LinkMapValue → List Load
 loads m = filter has_memory (map (load_at m) (range_with_len 0 (length m.outputs + 1)))
 
--- the one that stands for one that isn't there
+-- the one used for one that isn't there
 abbrev pub no_load : Load
 no_load = record { position = 0; address = 0; size = 0; flags = 0; no_bits = true }
 

@@ -1,4 +1,4 @@
--- The executable in pieces, as it goes out: what stands at its place, with the zeros before it.
+-- The executable in pieces, as it goes out: what is at its place, with the zeros before it.
 use Rattle.std.specs.Prelude.{ℕ, zero, suc, ◌+◌, ◌-◌, if◌then◌else◌, List, [], ◌++◌, length, map, replicate, slice_index, unwrap_or}
 use Rattle.std.specs.List.{flat_map, range_with_len}
 use Rattle.elf_image_type.specs.FileParts.{spread}
@@ -13,12 +13,12 @@ use Rattle.elf_exec.specs.PlacedExec.{PlacedExecValue}
 
 -- ---- things in a row, each of a size and at its place
 
--- where the one before number k ends; the first one stands behind `from`
+-- where the one before number k ends; the first one is after `from`
 abbrev pub end_before : ℕ → (ℕ → ℕ) → (ℕ → ℕ) → ℕ → ℕ
 end_before from place size zero = from
 end_before from place size (suc k) = place k + size k
 
--- how far number k stands behind that
+-- how far number k is after that
 abbrev pub padding : ℕ → (ℕ → ℕ) → (ℕ → ℕ) → ℕ → ℕ
 padding from place size k = place k - end_before from place size k
 
@@ -62,7 +62,7 @@ load_contents l = map (load_content l) (loads l.map)
 abbrev pub exec_text : PlacedExecValue → List ℕ
 exec_text p = exec_bytes p.linked.objects p.linked.map p.places (load_contents p.linked)
 
--- behind the header and the program header table
+-- after the header and the program header table
 abbrev pub loads_text : PlacedExecValue → List ℕ
 loads_text p = flat_map (load_piece p) (range_with_len 0 (length (loads p.linked.map)))
 

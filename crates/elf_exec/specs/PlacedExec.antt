@@ -37,7 +37,7 @@ pub record HasLoads (ls : List Load) (p : PlacedExecValue) : Type 0 where
 
 -- ---- why there are none
 
--- parts at their least places end behind the longest file
+-- parts at their least places end after the longest file
 abbrev pub EndTooFar : List (ℕ × ℕ) → ℕ → Type 0
 EndTooFar parts from = (places : List ℕ) × Least parts from places × (MAX_LEN < file_end parts from places)
 

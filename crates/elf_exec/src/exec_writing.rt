@@ -18,12 +18,12 @@ use std::io::Write;
 /// answered are ready to be written where the map is one that `map` answered.
 ///
 /// [`ExecFault::TooLong`] comes exactly where there are 0xffff segments or more, or the file is longer than the longest one, 2^30 bytes;
-/// [`ExecFault::OutOfMemory`] only where memory is refused; both before the first byte is out. Any error of the writer, an interruption
+/// [`ExecFault::OutOfMemory`] only where an allocation fails; both before the first byte is out. Any error of the writer, an interruption
 /// too, is [`ExecFault::Io`], and so is a write that takes 0 bytes of a rest that is not empty. Nothing is tried again and nothing is
 /// flushed.
 ///
-/// Memory is taken for the segments, their places and the list of the parts alone. Relocated bytes are offered as they stand, and zeros
-/// and program headers are made as they go out. Linear in the bytes that go out, the members and the outputs.
+/// Memory is taken for the segments, their places and the list of the parts alone. Relocated bytes are offered as they are, and zeros and
+/// program headers are made as they go out. Linear in the bytes that go out, the members and the outputs.
 pub fn write_exec<W: Write>(
     alloc: Global,
     linked: &Linked<'_, '_>,

@@ -11,7 +11,7 @@ pub enum ExecFault {
     /// It has 0xffff segments or more, or is longer than the longest file, 2^30 bytes. Nothing is written.
     #[error("longer than 2^30 bytes, or too many segments")]
     TooLong,
-    /// A growth was refused. Nothing is written.
+    /// An allocation failed. Nothing is written.
     #[error("out of memory")]
     OutOfMemory,
     /// A call of the writer failed, or took none of the bytes that it was offered, after exactly the first `written` bytes

@@ -1,5 +1,5 @@
 //! The executable of a link (gABI chapter 4, ELF Header; chapter 5, Program Header): one file whose segments of type `PT_LOAD` are the
-//! memory of the link. Which segments there are, and where their bytes stand, is this project's profile.
+//! memory of the link. Which segments there are, and where their bytes are, is this project's profile.
 //!
 //! [`write_exec`] writes it for relocated bytes. That of no files is a header alone:
 //!

@@ -11,7 +11,7 @@ use std::alloc::{AllocError, Global};
 /// A stretch of memory that is a segment of type `PT_LOAD`: an output section, or the commons.
 #[derive(Clone, Copy, Debug, PartialEq, Eq)]
 pub struct Load {
-    /// The position of the output section; of the commons, which stand behind them, the number of output sections.
+    /// The position of the output section; of the commons, which are after them, the number of output sections.
     pub position: usize,
     /// Where it begins (`p_vaddr`).
     pub address: u64,
@@ -19,7 +19,7 @@ pub struct Load {
     pub size: u64,
     /// Its permissions (`p_flags`).
     pub flags: u32,
-    /// Whether all these bytes are 0, and none stands in the file.
+    /// Whether all these bytes are 0, and none is in the file.
     pub no_bits: bool,
 }
 
@@ -95,7 +95,7 @@ fn zeros_load(position: usize, address: u64, size: u64) -> Load
     }
 }
 
-/// How many bytes of a segment stand in the file (`p_filesz`).
+/// How many bytes of a segment are in the file (`p_filesz`).
 pub(crate) fn file_size(load: Load) -> u64
     ensures { result ≡ file_size load }
 {

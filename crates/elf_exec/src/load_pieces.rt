@@ -67,7 +67,7 @@ fn send_load<W: Write>(
     }
 }
 
-/// How far the bytes of a segment stand behind those of the one before it; those of the first one behind the program header table.
+/// How far the bytes of a segment are after those of the one before it; those of the first one after the program header table.
 fn load_padding(placed: &PlacedExec<'_, '_, '_>, k: usize) -> u64
     requires { k < length (loads placed.now.linked.map) }
     ensures { result ≡ load_padding placed.now k }

@@ -53,7 +53,7 @@ impl<'l, 'm, 'a, 'o, 'n> Chunks for MemberPieces<'l, 'm, 'a, 'o, 'n> {
     }
 }
 
-/// How far a member stands behind the one before it; the first one behind where its output begins.
+/// How far a member is after the one before it; the first one after where its output begins.
 fn member_padding(linked: &Linked<'_, '_>, output: &Output<'_>, k: usize) -> u64
     requires { k < length output.now.members.items }
     ensures { result ≡ member_padding linked.now (output_value output.now) k }

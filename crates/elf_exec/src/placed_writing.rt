@@ -37,7 +37,7 @@ fn write_header<W: Write>(writer: &mut W, placed: &PlacedExec<'_, '_, '_>) -> Re
     write_records(writer, linked.identity().order, &[header])
 }
 
-/// Sends what stands behind the header.
+/// Sends what is after the header.
 fn send_behind_header<W: Write>(
     writer: &mut W,
     placed: &PlacedExec<'_, '_, '_>,

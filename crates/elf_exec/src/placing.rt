@@ -1,4 +1,4 @@
-//! Where the bytes of the segments stand in an executable: each at the least place that its alignment allows.
+//! Where the bytes of the segments are in an executable: each at the least place that its alignment allows.
 ghost use Rattle.std.specs.Prelude.{◌≡◌, ◌+◌, ◌*◌, ◌<◌, ◌≤◌, IfErr, IfOk, length, map as map_list};
 ghost use Rattle.elf_extent.specs.Place.{EndsFit, Least};
 ghost use Rattle.elf_field.specs.Abi.{EHDR_SIZE, PHDR_SIZE, PN_XNUM};
@@ -59,7 +59,7 @@ fn load_part(page: u64, load: Load) -> (u64, u64)
     (file_size(load), if load.no_bits { 1 } else { page })
 }
 
-/// The least places of parts behind `from` bytes, where they end in time.
+/// The least places of parts after `from` bytes, where they end in time.
 fn place_parts(alloc: Global, parts: &[(u64, u64)], from: u64) -> Result<Vec<u64>, ExecFault>
     requires { from ≤ MAX_LEN }
     ensures least { IfOk result (λ places. Least parts.now from places.items) }

@@ -1,5 +1,4 @@
--- What an account tells: just one list meets it, each offset lies in one piece, and each extent
--- that holds a byte has its piece.
+-- What an account reports: just one list meets it, each offset lies in one piece, and each extent that holds a byte has its piece.
 use Rattle.std.proofs.Common.{◌≡◌, ℕ, zero, suc, ◌+◌, ◌<◌, ◌≤◌, List, [], ◌∷◌, Option, None, Some, inl, inr, refl, ap, sym, subst, ◌∙◌, arith}
 use Rattle.std.specs.Prelude.{slice_get}
 use Rattle.std.proofs.lemmas.Bool.{cases_lt}

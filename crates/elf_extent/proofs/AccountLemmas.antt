@@ -60,7 +60,7 @@ gap_cases start end =
           inr (ge, ap (λ b. cond b (gap ∷ []) []) test))
     ]
 
--- an account that goes on behind a gap
+-- an account that goes on after a gap
 pub gap_then : (es : List Extent) (total at end : ℕ) (rest : List Piece) → at ≤ end →
     (at < end → IsGap es total at (end - at)) → Accounts es total end rest →
     Accounts es total at (gap_between at end ++ rest)
@@ -176,7 +176,7 @@ walk_pushed es total ms i at ps gapped pushed d disjoint inside given up within 
     (sym (piece ∙ ap (λ qs. qs ++ member_piece (get_or ms i d) ∷ []) gap))
     (walk_on es total ms i at ps d disjoint inside given up within walk)
 
--- behind the last member there is a gap or nothing
+-- after the last member there is a gap or nothing
 pub walk_ends : (es : List Extent) (total : ℕ) (ms : List Member) (i at : ℕ) (ps : List Piece) →
     AreMembers es (length es) ms → length ms ≤ i → AccountsBelow es total ms i at ps →
     Accounts es total 0 (ps ++ gap_between at total)

@@ -1,4 +1,4 @@
--- How many members of a list of extents hold a byte: two or more exactly where it is held doubly, in whatever order they stand.
+-- How many members of a list of extents hold a byte: two or more exactly where it is held doubly, in whatever order they are.
 use Rattle.std.proofs.Common.{◌≡◌, ℕ, zero, suc, ◌+◌, ◌<◌, ◌≤◌, ◌⊎◌, true, false, cond, List, [], ◌∷◌, Option, inl, inr, refl, ap, sym, subst, ◌∙◌, arith}
 use Rattle.std.specs.Prelude.{filter, nat_le, nat_lt}
 use Rattle.std.specs.List.{All, sum_by}

@@ -1,5 +1,4 @@
--- What places that fit tell: no part begins below the start or before an earlier part's end, and
--- the least places are one list.
+-- What places that fit report: no part begins below the start or before an earlier part's end, and the least places are one list.
 use Rattle.std.proofs.Common.{◌≡◌, ℕ, zero, suc, ◌+◌, ◌<◌, ◌≤◌, List, [], ◌∷◌, length, get_or, ap, sym, ◌∙◌, arith, refl}
 use Rattle.std.proofs.lemmas.List.{ext_get_or}
 use Rattle.elf_extent.specs.Place.{Fits, Least, end_of}

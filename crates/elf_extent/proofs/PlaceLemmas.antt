@@ -94,7 +94,7 @@ least_places (p ∷ ps) cursor =
     let rest = least_places ps (first.0 + p.0) in
     (first.0 ∷ rest.0, least_cons p ps cursor first.0 rest.0 first.1 rest.1)
 
--- the first i parts have their least places, and the cursor stands at their end
+-- the first i parts have their least places, and the cursor is at their end
 pub record ArePlaced (parts : List Part) (from i cursor : ℕ) (places : List ℕ) : Type 0 where
   pub count : length places ≡ i
   pub fits : EndsFit parts places i
@@ -107,7 +107,7 @@ placed_none parts from = record {
   continues = λ rest least. least;
 }
 
--- further places behind the least place of part i are least places
+-- further places after the least place of part i are least places
 pub placed_then : (parts : List Part) (from i cursor x : ℕ) (places rest : List ℕ) (p : Part) →
     i < length parts → ArePlaced parts from i cursor places →
     IsLeastPlace cursor (get_or parts i p).1 x →
@@ -117,7 +117,7 @@ placed_then parts from i cursor x places rest p within placed here least =
     (subst (λ (ps : List Part). Least ps cursor (x ∷ rest)) (sym (drop_more parts i p within))
     (least_cons (get_or parts i p) (drop (i + 1) parts) cursor x rest here least))
 
--- where part i ends, behind the places of the parts before it
+-- where part i ends, after the places of the parts before it
 pub end_here : (parts : List Part) (i x : ℕ) (places rest : List ℕ) (p : Part) →
     length places ≡ i → i < length parts →
     end_of parts (places ++ x ∷ rest) i ≡ x + (get_or parts i p).0
@@ -184,7 +184,7 @@ no_place_at parts from i cursor places p within placed none =
     let past = none first.0 first.1.multiple first.1.from in
     overflow_at parts from i cursor first.0 places p within placed first.1 (omega arith)
 
--- behind the last part nothing is left
+-- after the last part nothing is left
 pub placed_all : (parts : List Part) (from i cursor : ℕ) (places : List ℕ) → length parts ≤ i →
     ArePlaced parts from i cursor places → Least parts from places
 placed_all parts from i cursor places done placed =

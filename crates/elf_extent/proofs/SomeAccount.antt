@@ -17,7 +17,7 @@ use Rattle.elf_extent.proofs.MembersLemmas.{members_more, members_none, members_
 
 -- ---- the members in ascending order, one extent after the other
 
--- before position i no member begins behind m, and from there on none before it
+-- before position i no member begins after m, and from there on none before it
 record IsRoomFor (ms : List Member) (m : Member) (i : ℕ) : Type 0 where
   within : i ≤ length ms
   low : (k : ℕ) (d : Member) → k < i → member_start (get_or ms k d) ≤ member_start m

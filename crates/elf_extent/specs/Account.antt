@@ -16,7 +16,7 @@ abbrev pub IsOwned : List Extent → ℕ → ℕ → ℕ → Option ℕ → Type
 IsOwned es total start len None = IsGap es total start len
 IsOwned es total start len (Some i) = slice_get es i ≡ Some (record { start = start; len = len })
 
--- the pieces stand one after the other from at to total, none of them empty
+-- the pieces are one after the other from at to total, none of them empty
 abbrev pub Accounts : List Extent → ℕ → ℕ → List Piece → Type 0
 Accounts es total at [] = at ≡ total
 Accounts es total at (p ∷ ps) =

@@ -56,7 +56,7 @@ pub record IsOverflowAt (parts : List (ℕ × ℕ)) (from index : ℕ) (places :
 abbrev pub AllFit : List (ℕ × ℕ) → ℕ → Type 0
 AllFit parts from = (places : List ℕ) × Least parts from places × EndsFit parts places (length parts)
 
--- each fault with when it comes; want of memory is told only of parts that all fit
+-- each fault with when it comes; out of memory is reported only of parts that all fit
 abbrev pub IsPlaceFault : List (ℕ × ℕ) → ℕ → PlaceFault → Type 0
 IsPlaceFault parts from (Overflow index) = (places : List ℕ) × IsOverflowAt parts from index places
 IsPlaceFault parts from OutOfMemory = AllFit parts from

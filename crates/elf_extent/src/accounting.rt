@@ -11,9 +11,8 @@ use std::alloc::Global;
 /// empty: each extent that holds a byte, with its index as owner, and each gap between them, as
 /// long as it can be. Offsets and `total` are in bytes.
 ///
-/// The extents share no byte and end at or below `total`. Takes n log n comparisons of starts, and
-/// memory for the extents that hold a byte and for the pieces. Answers [`OutOfMemory`] only where
-/// that was refused.
+/// The extents share no byte and end at or below `total`. Takes n log n comparisons of starts, and memory for the extents that hold a byte
+/// and for the pieces. Returns [`OutOfMemory`] only where that was refused.
 pub fn account(alloc: Global, extents: &[Extent], total: u64) -> Result<Vec<Piece>, OutOfMemory>
     requires disjoint { AreDisjoint extents.now }
     requires within { AreWithin extents.now total }
@@ -23,8 +22,8 @@ pub fn account(alloc: Global, extents: &[Extent], total: u64) -> Result<Vec<Piec
 }
 
 impl<'a> SortedExtents<'a> {
-    /// The [`account`] of these extents, which share no byte and end at or below `total`. Linear in
-    /// the extents; answers [`OutOfMemory`] only where memory was refused, which the pieces take.
+    /// The [`account`] of these extents, which share no byte and end at or below `total`. Linear in the extents; returns [`OutOfMemory`]
+    /// only where an allocation fails; the pieces take memory.
     pub fn account(&self, alloc: Global, total: u64) -> Result<Vec<Piece>, OutOfMemory>
         requires disjoint { AreDisjoint self.now }
         requires within { AreWithin self.now total }

@@ -11,7 +11,7 @@ use std::alloc::Global;
 /// The lowest offset, in bytes, that two members of the list hold, be they equal or not; None if
 /// there is none, so that they are disjoint. An extent of length 0 holds no byte.
 ///
-/// Takes n log n comparisons of starts, and memory for the extents that hold a byte. Answers
+/// Takes n log n comparisons of starts, and memory for the extents that hold a byte. Returns
 /// [`OutOfMemory`] only where that was refused.
 pub fn first_double(alloc: Global, extents: &[Extent]) -> Result<Option<u64>, OutOfMemory>
     ensures lowest { IfOk result (IsLowest (Doubly extents.now)) }

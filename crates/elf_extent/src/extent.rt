@@ -1,8 +1,8 @@
-//! An extent, a piece of an account, and want of memory.
+//! An extent, a piece of an account, and out of memory.
 
 use thiserror::Error;
 
-/// Memory was refused.
+/// An allocation failed.
 #[derive(Clone, Copy, PartialEq, Eq, Debug, Error)]
 #[error("out of memory")]
 pub struct OutOfMemory;

@@ -29,7 +29,7 @@ pub fn members_by_start(alloc: Global, extents: &[Extent]) -> Result<Vec<Member>
 const ANYWHERE: usize = 3;
 
 /// Sorts members by start. If all but the first few ascend, the stable sort is linear; in any other
-/// order it is the slower one. It takes a buffer, so the other one sorts if memory for that is refused.
+/// order it is the slower one. It takes a buffer, so the other one sorts if that allocation fails.
 fn sort_by_start(members: &mut Vec<Member>)
     ensures permutation { IsPermutation members.old.items members.new.items }
     ensures ascending { IsNonDecreasingBy (λ m. m.extent.start) members.new.items }

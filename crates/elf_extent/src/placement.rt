@@ -12,7 +12,7 @@ pub enum PlaceFault {
     /// part before it does.
     #[error("part {index} ends past the last offset")]
     Overflow { index: usize },
-    /// Memory was refused. Each part has a place.
+    /// An allocation failed. Each part has a place.
     #[error("out of memory")]
     OutOfMemory,
 }
@@ -34,9 +34,8 @@ pub fn next_place(cursor: u64, align: u64) -> Option<u64>
 /// The least places of the parts (size, alignment), in bytes: the first part is placed from `from`,
 /// each other one from the end of the one before it. The alignment 0 counts as 1.
 ///
-/// Answers [`PlaceFault::Overflow`] with the first part whose start or end does not fit a u64, and
-/// [`PlaceFault::OutOfMemory`] only where there is none and memory was refused. Linear in the parts;
-/// only the places take memory.
+/// Returns [`PlaceFault::Overflow`] with the first part whose start or end does not fit a u64, and
+/// [`PlaceFault::OutOfMemory`] only where there is none and an allocation failed. Linear in the parts; only the places take memory.
 pub fn place(alloc: Global, parts: &[(u64, u64)], from: u64) -> Result<Vec<u64>, PlaceFault>
     ensures least { IfOk result (λ places. Least parts.now from places.items) }
     ensures fits { IfOk result (λ places. EndsFit parts.now places.items (length parts.now)) }
@@ -60,7 +59,7 @@ pub fn place(alloc: Global, parts: &[(u64, u64)], from: u64) -> Result<Vec<u64>,
     Ok(places)
 }
 
-// The fault where memory was refused: an overflow, if any, comes before it.
+// The fault where an allocation failed: an overflow, if any, comes before it.
 fn fault_without_room(parts: &[(u64, u64)], from: u64) -> PlaceFault
     ensures { IsPlaceFault parts.now from result }
 {

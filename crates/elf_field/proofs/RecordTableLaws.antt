@@ -30,19 +30,19 @@ IsBytes-table laws o [] fit = IsBytes-nil
 IsBytes-table {bytes = bytes} laws o (v ∷ vs) fit =
     IsBytes-append (bytes o v) (flat_map (bytes o) vs) (laws.are_bytes o v fit.0) (IsBytes-table laws o vs fit.1)
 
--- the record whose bytes stand at a place is the one read there
+-- the record whose bytes are at a place is the one read there
 pub record_read : {A : Type 0} {size : ℕ} {at : Order → List ℕ → ℕ → A} {bytes : Order → A → List ℕ} {V : A → Type 0} →
     IsRecord size at bytes V → (o : Order) (b : List ℕ) (x : ℕ) (v : A) → V v → take size (drop x b) ≡ bytes o v → at o b x ≡ v
 record_read {at = at} laws o b x v fits stand = sym (laws.part o b x) ∙ ap (λ (s : List ℕ). at o s 0) stand ∙ laws.gets_put o v fits
 
--- the bytes of the record read at a place are those that stand there
+-- the bytes of the record read at a place are those that are there
 pub record_bytes : {A : Type 0} {size : ℕ} {at : Order → List ℕ → ℕ → A} {bytes : Order → A → List ℕ} {V : A → Type 0} →
     IsRecord size at bytes V → (o : Order) (b : List ℕ) (x : ℕ) → IsBytes b → x + size ≤ length b → bytes o (at o b x) ≡ take size (drop x b)
 record_bytes {size = size} {bytes = bytes} laws o b x are within =
     let there : size ≤ length (drop x b) = let e = length-drop x b in omega arith in
     ap (bytes o) (sym (laws.part o b x)) ∙ laws.puts_got o (take size (drop x b)) (length-take-le size (drop x b) there) (IsBytes-take size (drop x b) (IsBytes-drop x b are))
 
--- what stands first, and what stands behind it
+-- what is first, and what is after it
 front_of : (n m : ℕ) (s f g : List ℕ) → length f ≡ n → take (n + m) s ≡ f ++ g → take n s ≡ f
 front_of n m s f g long whole = sym (take-take n (n + m) s (omega arith)) ∙ ap (take n) whole ∙ take_at f g n long
 
@@ -52,7 +52,7 @@ rest_of n m s f g long whole = sym (drop-take n m s) ∙ ap (drop n) whole ∙ d
 next_place : (x size a : ℕ) → x + size * a + size ≡ x + size * (a + 1)
 next_place x size a = let e = mul-add size a 1 in let f : size * 1 ≡ size = mul-one size in omega arith
 
--- the records whose bytes stand one after the other are those read there
+-- the records whose bytes are one after the other are those read there
 pub entries_read : {A : Type 0} {size : ℕ} {at : Order → List ℕ → ℕ → A} {bytes : Order → A → List ℕ} {V : A → Type 0} →
     IsRecord size at bytes V → (o : Order) (b : List ℕ) (x a : ℕ) (vs : List A) → AllByRecursion V vs →
     take (size * length vs) (drop (x + size * a) b) ≡ flat_map (bytes o) vs →
@@ -68,7 +68,7 @@ entries_read {size = size} {at = at} {bytes = bytes} laws o b x a (v ∷ vs) fit
     let rest = entries_read laws o b x (a + 1) vs fit.1 (ap (take (size * length vs)) (sym moved) ∙ others) in
     ap₂ (λ (u : _) (us : List _). u ∷ us) (record_read laws o b y v fit.0 one) rest
 
--- the bytes of the records read one after the other are those that stand there
+-- the bytes of the records read one after the other are those that are there
 pub entries_bytes : {A : Type 0} {size : ℕ} {at : Order → List ℕ → ℕ → A} {bytes : Order → A → List ℕ} {V : A → Type 0} →
     IsRecord size at bytes V → (o : Order) (b : List ℕ) (x a n : ℕ) → IsBytes b → x + size * a + size * n ≤ length b →
     flat_map (bytes o) (map (λ i. at o b (x + size * i)) (range_with_len a n)) ≡ take (size * n) (drop (x + size * a) b)

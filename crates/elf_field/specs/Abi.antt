@@ -130,7 +130,7 @@ ET_DYN = 3
 abbrev pub ET_CORE : ℕ
 ET_CORE = 4
 
--- in e_phnum: the count stands in section header 0's sh_info
+-- in e_phnum: the count is in section header 0's sh_info
 abbrev pub PN_XNUM : ℕ
 PN_XNUM = 0xffff
 
@@ -152,8 +152,7 @@ SHN_ABS = 0xfff1
 abbrev pub SHN_COMMON : ℕ
 SHN_COMMON = 0xfff2
 
--- the index stands elsewhere: for e_shstrndx in section header 0's sh_link, for st_shndx in the symbol table's
--- section of type SHT_SYMTAB_SHNDX
+-- the index is elsewhere: for e_shstrndx in section header 0's sh_link, for st_shndx in the symbol table's section of type SHT_SYMTAB_SHNDX
 abbrev pub SHN_XINDEX : ℕ
 SHN_XINDEX = 0xffff
 
@@ -550,7 +549,7 @@ DT_RUNPATH = pos 29
 
 -- ---- Note: a note (chapter 5, Note Section)
 
--- size of what stands before a note's name: three words
+-- size of what is before a note's name: three words
 abbrev pub NHDR_SIZE : ℕ
 NHDR_SIZE = 12
 

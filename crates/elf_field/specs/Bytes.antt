@@ -14,12 +14,12 @@ first_bytes zero s = []
 first_bytes (suc n) [] = 0 ∷ first_bytes n []
 first_bytes (suc n) (a ∷ s) = a ∷ first_bytes n s
 
--- the number that the first w bytes stand for in an order
+-- the number that the first w bytes represent in an order
 unfoldable pub num : Order → ℕ → List ℕ → ℕ
 num Little = little_number
 num Big = big_number
 
--- the w bytes that stand for a number in an order
+-- the w bytes that represent a number in an order
 unfoldable pub bytes_of : Order → ℕ → ℕ → List ℕ
 bytes_of Little = little_bytes
 bytes_of Big = big_bytes
@@ -32,6 +32,6 @@ from number b x w = number w (drop x b)
 abbrev pub field : Order → List ℕ → ℕ → ℕ → ℕ
 field o = from (num o)
 
--- the field of width w at offset x lies within b, and its bytes stand for v
+-- the field of width w at offset x lies within b, and its bytes represent v
 abbrev pub At : Order → List ℕ → ℕ → ℕ → ℕ → Type 0
 At o b x w v = (x + w ≤ length b) × (field o b x w ≡ v)

@@ -112,7 +112,7 @@ unfolding num
 num-take Little w m s h = little_from-take 0 w m s (omega arith)
 num-take Big w m s h = big_from-take 0 w m s (omega arith)
 
--- ---- two lists of n bytes that stand for one number are one list
+-- ---- two lists of n bytes that represent one number are one list
 
 -- two numbers of two digits to the base p
 digits : (p a b r q : ℕ) → r < p → q < p → a * p + r ≡ b * p + q → a ≡ b
@@ -164,7 +164,7 @@ unfolding num
 same_bytes Little n s t p q bs bt e = same_little n s t p q bs bt e
 same_bytes Big n s t p q bs bt e = same_big n s t p q bs bt e
 
--- the bytes of the number that bytes stand for are these bytes
+-- the bytes of the number that bytes represent are these bytes
 pub bytes_of-num : (o : Order) (w : ℕ) (s : List ℕ) → IsBytes s → w ≤ length s → bytes_of o w (num o w s) ≡ take w s
 bytes_of-num o w s bytes long =
     let again = num-bytes_of o w (num o w s) [] (num-lt o w s bytes) in

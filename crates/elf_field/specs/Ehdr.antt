@@ -42,7 +42,7 @@ ehdr_at o b x = ehdr_of (first_bytes EI_NIDENT (drop x b)) (λ k w. field o b (x
 abbrev pub ehdr_bytes : Order → Ehdr → List ℕ
 ehdr_bytes o v = spelled (bytes_of o) (first_bytes EI_NIDENT v.e_ident) ehdr_widths (ehdr_values v)
 
--- its fields stand at their offsets from offset x of b
+-- its fields are at their offsets from offset x of b
 abbrev pub IsEhdrAt : Order → List ℕ → ℕ → Ehdr → Type 0
 IsEhdrAt o b x v = (take EI_NIDENT (drop x b) ≡ v.e_ident) × AreAt o b x EI_NIDENT ehdr_widths (ehdr_values v)
 

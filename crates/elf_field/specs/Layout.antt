@@ -13,7 +13,7 @@ abbrev pub fields_from : Order → List ℕ → ℕ → ℕ → List ℕ → Lis
 fields_from o b x k [] = []
 fields_from o b x k (w ∷ ws) = field o b (x + k) w ∷ fields_from o b x (k + w) ws
 
--- these bytes and behind them the numbers, each in its width, by a way of writing numbers
+-- these bytes and after them the numbers, each in its width, by a way of writing numbers
 abbrev pub spelled : (ℕ → ℕ → List ℕ) → List ℕ → List ℕ → List ℕ → List ℕ
 spelled put front [] vs = front
 spelled put front (w ∷ ws) [] = front
@@ -26,14 +26,14 @@ FitWidths [] (v ∷ vs) = ⊥
 FitWidths (w ∷ ws) [] = ⊥
 FitWidths (w ∷ ws) (v ∷ vs) = (v < 256 ^ w) × FitWidths ws vs
 
--- fields of these widths stand one after the other from offset x + k of b, for these numbers
+-- fields of these widths are one after the other from offset x + k of b, for these numbers
 abbrev pub AreAt : Order → List ℕ → ℕ → ℕ → List ℕ → List ℕ → Type 0
 AreAt o b x k [] [] = ⊤
 AreAt o b x k [] (v ∷ vs) = ⊥
 AreAt o b x k (w ∷ ws) [] = ⊥
 AreAt o b x k (w ∷ ws) (v ∷ vs) = At o b (x + k) w v × AreAt o b x (k + w) ws vs
 
--- the number at offset k of numbers that stand one after the other, 0 where none begins
+-- the number at offset k of numbers that are one after the other, 0 where none begins
 abbrev pub number_in : List ℕ → List ℕ → ℕ → ℕ
 number_in [] vs k = 0
 number_in (w ∷ ws) [] k = 0
@@ -63,6 +63,6 @@ record_at l o b x = record_of l (fields_from o b x 0 (widths l))
 abbrev pub record_bytes : {A : Type 0} → Layout A → Order → A → List ℕ
 record_bytes l o v = spelled (bytes_of o) [] (widths l) (l.values v)
 
--- its fields stand at their offsets from offset x of b
+-- its fields are at their offsets from offset x of b
 abbrev pub StandsAt : {A : Type 0} → Layout A → Order → List ℕ → ℕ → A → Type 0
 StandsAt l o b x v = AreAt o b x 0 (widths l) (l.values v)

@@ -8,7 +8,7 @@ use Rattle.elf_field.specs.BytesLaws.{IsBytes-append, IsBytes-bytes_of, IsBytes-
 use Rattle.elf_field.specs.Layout.{AreAt, FitWidths, Layout, StandsAt, fields_from, record_at, record_bytes, record_of, spelled, width_of, widths}
 use Rattle.elf_field.specs.Record.{IsRecord}
 
--- what stands in front stays in front
+-- what is in front stays in front
 pub spelled-front : (o : Order) (front ws vs : List ℕ) → spelled (bytes_of o) front ws vs ≡ front ++ spelled (bytes_of o) [] ws vs
 spelled-front o front [] vs = sym (append-nil front)
 spelled-front o front (w ∷ ws) [] = sym (append-nil front)
@@ -36,7 +36,7 @@ fields_from-spelled o front k (w ∷ ws) (v ∷ vs) fits long =
     let rest = fields_from-spelled o (front ++ bytes_of o w v) (k + w) ws vs fits.1 longer in
     ap₂ (λ (x : ℕ) (xs : List ℕ). x ∷ xs) (field-spelled o front k w v ws vs fits.0 long) rest
 
--- ---- bytes are written back from the numbers that they stand for
+-- ---- bytes are written back from the numbers that they represent
 
 pub spelled-fields_from : (o : Order) (b : List ℕ) (k : ℕ) (ws : List ℕ) → IsBytes b → k + width_of ws ≤ length b → spelled (bytes_of o) (take k b) ws (fields_from o b 0 k ws) ≡ take (k + width_of ws) b
 spelled-fields_from o b k [] bytes long = ap (λ (n : ℕ). take n b) (let e : k ≡ k + 0 = omega arith in e)
@@ -104,7 +104,7 @@ pub record IsLayout {A : Type 0} (l : Layout A) (size : ℕ) (IsValid : A → Ty
   pub counted : (v : A) → SameCount (widths l) (l.values v)
   -- its numbers make it
   pub makes : (v : A) → IsValid v → record_of l (l.values v) ≡ v
-  -- what was made of numbers that stand in bytes has these numbers
+  -- what was made of numbers that are in bytes has these numbers
   pub made : (o : Order) (b : List ℕ) (x : ℕ) → FitWidths (widths l) (fields_from o b x 0 (widths l)) → l.values (record_at l o b x) ≡ fields_from o b x 0 (widths l)
   -- it fits where its numbers fit their widths, and they where it does
   pub fits : (v : A) → IsValid v → FitWidths (widths l) (l.values v)

@@ -69,7 +69,7 @@ pub const ET_EXEC: u16 = 2;
 pub const ET_DYN: u16 = 3;
 /// A core file.
 pub const ET_CORE: u16 = 4;
-/// In `e_phnum`: the count stands in section header 0's `sh_info`.
+/// In `e_phnum`: the count is in section header 0's `sh_info`.
 pub const PN_XNUM: u16 = 0xffff;
 
 // ---- Special section indexes (chapter 4, Sections)
@@ -82,8 +82,8 @@ pub const SHN_LORESERVE: u16 = 0xff00;
 pub const SHN_ABS: u16 = 0xfff1;
 /// The symbol is a common block that has no place yet.
 pub const SHN_COMMON: u16 = 0xfff2;
-/// The index stands elsewhere: for `e_shstrndx` in section header 0's `sh_link`, for `st_shndx` in the symbol
-/// table's section of type `SHT_SYMTAB_SHNDX`.
+/// The index is elsewhere: for `e_shstrndx` in section header 0's `sh_link`, for `st_shndx` in the symbol table's section of type
+/// `SHT_SYMTAB_SHNDX`.
 pub const SHN_XINDEX: u16 = 0xffff;
 
 // ---- Shdr: a section header (chapter 4, Sections)
@@ -299,7 +299,7 @@ pub const DT_RUNPATH: i64 = 29;
 
 // ---- Note: a note (chapter 5, Note Section)
 
-/// Size of what stands before a note's name: three words.
+/// Size of what is before a note's name: three words.
 pub const NHDR_SIZE: u64 = 12;
 /// Offset of `namesz`, the name's size.
 pub const N_NAMESZ_AT: u64 = 0;

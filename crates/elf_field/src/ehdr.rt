@@ -37,13 +37,13 @@ pub struct Ehdr {
     pub e_ehsize: u16,
     /// Size of one entry of the program header table in bytes.
     pub e_phentsize: u16,
-    /// Number of entries of the program header table; 0xffff says that it stands in section header 0.
+    /// Number of entries of the program header table; 0xffff says that it is in section header 0.
     pub e_phnum: u16,
     /// Size of one entry of the section header table in bytes.
     pub e_shentsize: u16,
-    /// Number of entries of the section header table; 0 says that it stands in section header 0.
+    /// Number of entries of the section header table; 0 says that it is in section header 0.
     pub e_shnum: u16,
-    /// Section header table index of the section name string table; 0xffff says that it stands in section header 0.
+    /// Section header table index of the section name string table; 0xffff says that it is in section header 0.
     pub e_shstrndx: u16,
 }
 

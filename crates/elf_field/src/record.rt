@@ -17,7 +17,7 @@ pub trait Record {
     // the record's bytes
     ghost bytes: { Order → Self → List ℕ };
 
-    // the record's fields stand at their offsets from an offset of a list of bytes
+    // the record's fields are at their offsets from an offset of a list of bytes
     ghost IsAt: { Order → List ℕ → ℕ → Self → Type 0 };
 
     // each field fits its width
@@ -26,7 +26,7 @@ pub trait Record {
     /// The record's size in bytes.
     const SIZE: usize;
 
-    /// The record that `b` stands for: each field as it stands at its offset.
+    /// The record that `b` represents: each field as it is at its offset.
     fn get(order: Order, b: &[u8]) -> Self
         requires { length b.now ≡ SIZE }
         ensures { result ≡ at order b.now 0 };
@@ -43,7 +43,7 @@ pub trait Record {
     // What is written is read back, what is read is written back, and the other laws of records.
     ghost laws: { IsRecord SIZE at bytes IsValid };
 
-    // Each field of the record at an offset is at its own behind that.
+    // Each field of the record at an offset is at its own after that.
     ghost fields_at: { (o : Order) (b : List ℕ) (x : ℕ) → x + SIZE ≤ length b → IsBytes b → IsAt o b x (at o b x) };
 }
 

@@ -1,4 +1,4 @@
--- The words of the contracts that this public crate shows, for the contracts of those who stand on it.
+-- The words of the contracts that this public crate shows, for the contracts of those who build on it.
 pub use Rattle.elf_image_outline.specs.Copying
 pub use Rattle.elf_image_rules.specs.Broken
 pub use Rattle.elf_image_rules.specs.HeaderRules

@@ -1,4 +1,4 @@
--- What stands where in the joined parts of a sound image value.
+-- What is where in the joined parts of a sound image value.
 use Rattle.std.proofs.Common.{◌≡◌, ◌<◌, ◌+◌, ◌*◌, ℕ, zero, suc, None, Some, List, [], ◌∷◌, length, take, drop, map, get_or, refl, sym, ap, ap₂, ◌∙◌, inl, inr, arith}
 use Rattle.std.specs.Prelude.{slice_get}
 use Rattle.std.specs.List.{AllByRecursion, flat_map}
@@ -71,12 +71,12 @@ length-joined v sound =
     let e = length-flat_parts (part_bytes v) (value_extents v.header v.sections v.segments) v.len 0 v.parts sound.accounts (lengths_of v sound) in
     omega arith
 
--- each part's bytes stand at its offset
+-- each part's bytes are at its offset
 pub in_joined : (v : ImageValue) → IsSoundImage v → AllByRecursion (λ p. take p.part.len (drop p.part.start (joined v)) ≡ part_bytes v p) v.parts
 unfolding joined
 in_joined v sound = in_flat_parts (part_bytes v) (value_extents v.header v.sections v.segments) v.len 0 [] v.parts sound.accounts (lengths_of v sound) refl
 
--- ---- an extent's bytes stand at its offset
+-- ---- an extent's bytes are at its offset
 
 is_header : (o : Owner) → owner_index o ≡ Some 0 → o ≡ Header
 is_header Header e = refl

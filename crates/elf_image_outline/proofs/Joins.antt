@@ -21,7 +21,7 @@ length-flat_parts f es total at (p ∷ ps) accounts lengths =
     let here = lengths.0 in
     omega arith
 
--- the bytes of each part stand at its offset, behind bytes that reach to the first part
+-- the bytes of each part are at its offset, after bytes that reach to the first part
 pub in_flat_parts : (f : PlacedPart → List ℕ) (es : List Extent) (total at : ℕ) (front : List ℕ) (ps : List PlacedPart) →
     Accounts es total at (map piece_of ps) → HaveLengths f ps → length front ≡ at →
     AllByRecursion (λ p. take p.part.len (drop p.part.start (front ++ flat_map f ps)) ≡ f p) ps

@@ -1,4 +1,4 @@
--- What was read of a source that tells its bytes is what they hold, so what the rules find of it is the verdict on them.
+-- What was read of a source that reports its bytes is what they hold, so what the rules find of it is the verdict on them.
 use Rattle.std.proofs.Common.{◌≡◌, ◌≢◌, ◌≤◌, ◌<◌, ◌+◌, ◌-◌, ◌⊎◌, ℕ, min, None, Some, Option, List, [], length, map, take, drop, refl, sym, ap, subst, ◌∙◌, inl, inr, arith, length-drop}
 use Rattle.std.specs.Prelude.{if◌then◌else◌, ◌==◌}
 use Rattle.std.proofs.Math.Nat.{min-eq_left, min-eq_right, min-le_left}
@@ -73,7 +73,7 @@ names_are len b h c ss gs has records =
           rw (ne_eqb k 0 some) (ap (λ (e : Shdr). bytes_in b (content_extent e)) (section_same b h ss gs k records (omega arith))))
     ]
 
--- and that is where the file's name table stands
+-- and that is where the file's name table is
 pub place_is : (len : ℕ) (b : List ℕ) (h : Ehdr) (c : Counts) (ss : List Shdr) (gs : List Phdr) → HasTables len h c ss gs → AreRecordsIn b h ss gs →
     names_extent ss c.name_table ≡ names_place b
 place_is len b h c ss gs has records =

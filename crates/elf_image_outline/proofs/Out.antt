@@ -1,4 +1,4 @@
--- Bytes that are copied piece by piece, and what is out when a piece fails.
+-- Bytes that are copied piece by piece, and what was written when a piece fails.
 use Rattle.std.proofs.Common.{◌≡◌, ◌≤◌, ◌<◌, ◌+◌, ◌-◌, ℕ, List, ◌++◌, length, take, drop, Option, Some, Result, Ok, Err, sym, ap, ap₂, subst, ◌∙◌, arith, length-append, take-add}
 use Rattle.std.specs.Result.{IsErrAnd}
 use Rattle.std.specs.Io.KnownBytes.{Appends}
@@ -12,7 +12,7 @@ use Rattle.elf_image_outline.specs.declared.copy_fault.CopyFault.{CopyFault}
 use Rattle.elf_image_outline.specs.declared.copy_fault.CopyFault.TheVariants.{Read, Write}
 use Rattle.elf_image_outline.specs.Copying.{Copies, CopiedOut, ReadsBehind, bytes_out, copy_failure, later}
 
--- m bytes went out, and n more behind them
+-- m bytes went out, and n more after them
 pub out_more : (content now a b c : Option (List ℕ)) (m n : ℕ) (f g h : List ℕ → List ℕ) → now ≡ content → CopiedOut content a b m f → CopiedOut now b c n g →
     ((x : List ℕ) → f x ++ g x ≡ h x) → CopiedOut content a c (m + n) h
 out_more content now a b c m n f g h same before went joins = record {
@@ -47,7 +47,7 @@ long_enough n xs ys many are =
     let same : length (take n ys) ≡ n = ap (λ (s : List ℕ). length s) (sym are) ∙ many in
     omega arith
 
--- a piece of the bytes failed behind others
+-- a piece of the bytes failed after others
 pub copies_after : (content now a b c : Option (List ℕ)) (m len total : ℕ) (f g rest h : List ℕ → List ℕ) (fault : CopyFault) → now ≡ content → m + len ≤ total →
     CopiedOut content a b m f → Copies now b c len g (Err fault) → ((x : List ℕ) → h x ≡ f x ++ (g x ++ rest x)) → Copies content a c total h (Err (later m fault))
 copies_after content now a b c m len total f g rest h (Read at n) same within before (below, failed) splits = (
@@ -63,7 +63,7 @@ pub behind_after : (block start m size len : ℕ) (fault : CopyFault) → m + si
 behind_after block start m size len (Read at n) within (above, near, below) = (omega arith, omega arith, omega arith)
 behind_after block start m size len (Write n) within is = tt
 
--- the part of a list from start on: what is out of it, the next piece, and the rest
+-- the part of a list from start on: what was written of it, the next piece, and the rest
 pub range_more : (b : List ℕ) (start m n : ℕ) → take m (drop start b) ++ take n (drop (start + m) b) ≡ take (m + n) (drop start b)
 range_more b start m n = ap (λ (s : List ℕ). take m (drop start b) ++ take n s) (sym (drop-drop m start b)) ∙ sym (take-add m n (drop start b))
 

@@ -87,7 +87,7 @@ told_within o b k p of here is =
     let part = told_part o b k p of here in
     is_within b p.start p.len part.some (ap (λ (s : List ℕ). length s) is ∙ part.whole)
 
--- a content is what stands at its offset
+-- a content is what is at its offset
 pub content_part : (o : OutlineValue) (b : List ℕ) (k i : ℕ) (p : Part) → IsOutlineOf o b → slice_get o.parts k ≡ Some p → p.owner ≡ Content i →
     take p.len (drop p.start b) ≡ told_bytes o b p
 content_part o b k i p of here is =
@@ -108,7 +108,7 @@ flat_more f ps k d within =
     ap (flat_map f) (take_more ps k d within) ∙ flat_map-append f (take k ps) (get_or ps k d ∷ [])
     ∙ ap (λ (s : List ℕ). flat_map f (take k ps) ++ s) (append-nil (f (get_or ps k d)))
 
--- the element at an index, and what is behind it
+-- the element at an index, and what is after it
 drop_here : (ps : List Part) (k : ℕ) (d : Part) → k < length ps → drop k ps ≡ get_or ps k d ∷ drop (k + 1) ps
 drop_here ps k d within = drop-cons ps k d within ∙ ap (λ (n : ℕ). get_or ps k d ∷ drop n ps) (let e : suc k ≡ k + 1 = omega arith in e)
 

@@ -1,4 +1,4 @@
--- The runs of rules that the stages of a scan judge are the rules of the file that the source tells.
+-- The runs of rules that the stages of a scan judge are the rules of the file that the source reports.
 use Rattle.std.proofs.Common.{◌≡◌, ◌<◌, ℕ, None, Some, Option, Result, Ok, Err, List, length, map, take, drop, refl, sym, ap, subst, ◌∙◌, inl, inr, arith}
 use Rattle.std.specs.Prelude.{IfSome}
 use Rattle.std.specs.List.{range_with_len}
@@ -28,7 +28,7 @@ use Rattle.elf_image_stream.specs.declared.fault.Fault.TheVariants.{Rule}
 use Rattle.elf_image_outline.specs.Image.{AreRecordsIn}
 use Rattle.elf_image_outline.specs.Scanning.{KeepsHeadRules, Scans, Stops}
 
--- the length that a source says is that of what it tells
+-- the length that a source says is that of what it reports
 pub told_length : (content : Option (List ℕ)) (b : List ℕ) (len : ℕ) → content ≡ Some b → IfSome content (λ c. len ≡ length c) → len ≡ length b
 told_length content b len told says = subst (λ (k : Option (List ℕ)). IfSome k (λ c. len ≡ length c)) told says
 
@@ -90,7 +90,7 @@ program_table_broken b len h first fault says is kept read table run =
     (from_program_table b h first (Some fault) read (subst (λ (n : ℕ). FirstIn (section_table_rules n h first) None) says table)
     (FirstIn-sooner (program_table_rules (length b) h first) _ fault (subst (λ (n : ℕ). FirstIn (program_table_rules n h first) (Some fault)) says run)))
 
--- section header 0 stands where the table begins
+-- section header 0 is where the table begins
 pub first_at : (b : List ℕ) (h : Ehdr) (first : Shdr) (count : ℕ) → first ≡ sections b h 0 → count ≡ section_header_count h first → 0 < count →
     first ≡ shdr_at (order_of h.e_ident) b h.e_shoff
 first_at b h first count read counted some =

@@ -1,4 +1,4 @@
--- A sound image value stands as its joined parts, without fault.
+-- A sound image value is represented by its joined parts, without fault.
 use Rattle.std.proofs.Common.{◌≡◌, ◌≢◌, ◌<◌, ◌*◌, ℕ, zero, suc, Some, List, [], ◌∷◌, length, take, drop, map, get_or, refl, sym, ap, ap₂, ◌∙◌, inl, inr, arith, add-zero, lit≤}
 use Rattle.std.specs.Prelude.{slice_get}
 use Rattle.std.specs.List.{AllByRecursion, flat_map, range_with_len}
@@ -120,7 +120,7 @@ stands_segments v sound =
     let count = sound.segment_count ∙ sym (ap (program_header_count v.header) (first_of v sound)) in
     sym read ∙ ap (λ (n : ℕ). map (segments (joined v) v.header) (range_with_len 0 n)) count
 
--- contents that stand at their extents are those read there
+-- contents that are at their extents are those read there
 pub contents_read : (b : List ℕ) (cs : List (List ℕ)) (ss : List Shdr) → map length cs ≡ map (λ s. (content_extent s).len) ss →
     ((i : ℕ) (e : Extent) → slice_get (map content_extent ss) i ≡ Some e → take e.len (drop e.start b) ≡ get_or cs i []) →
     cs ≡ map (λ s. bytes_in b (content_extent s)) ss
@@ -167,9 +167,9 @@ joined_stands v sound = record {
   gaps = gaps_read v (joined v) v.parts (in_joined v sound) sound.gaps;
 }
 
--- ---- what stands and its byte list break the same rules
+-- ---- a value and its byte list break the same rules
 
--- content k of a value that stands is the bytes there
+-- content k of a value is the bytes there
 pub content_is : (b : List ℕ) (ss : List Shdr) (k : ℕ) → k < length ss → get_or (map (λ s. bytes_in b (content_extent s)) ss) k [] ≡ bytes_in b (content_extent (section_header_of ss k))
 content_is b [] k lt = absurd (omega arith)
 content_is b (s ∷ ss) zero lt = refl

@@ -1,5 +1,5 @@
--- An image value that is sound by itself stands as just one byte list, that list breaks no rule, and what stands as a
--- byte list without fault is sound.
+-- An image value that is sound by itself is represented by just one byte list, that list breaks no rule, and what is represented by a byte
+-- list without fault is sound.
 use Rattle.std.proofs.Common.{◌≡◌, ◌≢◌, ◌≤◌, ◌<◌, ◌+◌, ◌*◌, ℕ, zero, suc, None, Some, List, [], ◌∷◌, length, take, drop, map, get_or, refl, sym, ap, ap₂, subst, ◌∙◌, inl, inr, arith, add-zero, length-drop}
 use Rattle.std.specs.Prelude.{slice_get}
 use Rattle.std.specs.List.{AllByRecursion, flat_map, range_with_len}
@@ -32,7 +32,7 @@ use Rattle.elf_image_outline.proofs.Standing.{IsCounted, clean_of, content_withi
 use Rattle.elf_image_outline.proofs.Stands.{content_is, element_made, first_of_none, joined_stands}
 use Rattle.elf_field.proofs.RecordTableLaws.{entries_bytes, entries_fit, record_bytes}
 
--- ---- what stands and its byte list break the same rules
+-- ---- a value and its byte list break the same rules
 
 -- what is read of a byte list: the value's records and contents, but not its parts
 pub record Reads (v : ImageValue) (b : List ℕ) : Type 0 where
@@ -136,7 +136,7 @@ clean_bytes v b stands shared clean =
     subst (λ (ns : List ℕ). FirstIn (image_rules v.len v.header (sections b v.header) (segments b v.header) ns) None) (sym (names_same v b stands shared)) moved in
     subst P stands.records.header (subst (λ (n : ℕ). FirstIn (image_rules n v.header (sections b v.header) (segments b v.header) (names b v.header)) None) stands.len named)
 
--- the rules of b, said with the header of the value that stands
+-- the rules of b, said with the header of the value
 rules_at_value : (v : ImageValue) (b : List ℕ) → Reads v b → FirstIn (rules_in b) None →
     FirstIn (image_rules v.len v.header (sections b v.header) (segments b v.header) (names b v.header)) None
 unfolding rules_in
@@ -156,7 +156,7 @@ has_tables_by_reads v b stands clean =
     let table = ap (name_table v.header) first in
     has_tables_of v b stands some facts.no_names (λ there. let lt = facts.name_table there in omega arith)
 
--- the value that stands as a clean byte list is clean
+-- the value as a clean byte list is clean
 clean_value : (v : ImageValue) (b : List ℕ) → Reads v b → FirstIn (rules_in b) None → FirstIn (value_rules v) None
 clean_value v b stands clean =
     let shared = has_tables_by_reads v b stands clean in
@@ -178,7 +178,7 @@ has_tables_by_bytes v b image = has_tables_by_reads v b (reads_of v b image.stan
 pub counted_by_bytes : (v : ImageValue) (b : List ℕ) → IsImage v b → IsCounted v
 counted_by_bytes v b image = counted_by_reads v b (reads_of v b image.stands) image.clean
 
--- what a sound value stands as breaks no rule
+-- what represents a sound value breaks no rule
 pub stands_is_image : (v : ImageValue) (b : List ℕ) → IsSoundImage v → Stands v b → IsImage v b
 stands_is_image v b sound stands =
     let facts = clean_of v (counted_of v sound) in
@@ -188,7 +188,7 @@ stands_is_image v b sound stands =
     (λ there. let lt = facts.name_table there in omega arith) in
     record { stands = stands; clean = clean_bytes v b reads shared sound.clean }
 
--- a sound value stands as its joined parts, without fault
+-- a sound value is represented by its joined parts, without fault
 pub joined_is_image : (v : ImageValue) → IsSoundImage v → IsImage v (joined v)
 joined_is_image v sound = stands_is_image v (joined v) sound (joined_stands v sound)
 
@@ -279,7 +279,7 @@ only_joined v b image =
     sym (flat_parts_are (part_bytes v) b (value_extents v.header v.sections v.segments) v.len 0 v.parts image.stands.accounts image.stands.len
     (parts_at v b image 0 v.parts image.stands.accounts image.stands.gaps))
 
--- ---- what stands without fault is sound
+-- ---- what is represented without fault is sound
 
 length-part : (b : List ℕ) (e : Extent) → (0 < e.len → e.start + e.len ≤ length b) → length (bytes_in b e) ≡ e.len
 length-part b e within = elim (cases_lt 0 e.len) [
@@ -352,10 +352,10 @@ image_is_sound v b image =
 
 -- ---- the laws
 
--- an image stands as one list of bytes, and as no other
+-- an image is represented by one list of bytes, and by no other
 pub one_list : (v : ImageValue) (b c : List ℕ) → IsImage v b → Stands v c → b ≡ c
 one_list v b c one two = only_joined v b one ∙ sym (only_joined v c (stands_is_image v c (image_is_sound v b one) two))
 
--- a sound value stands as a list of bytes that breaks no rule
+-- a sound value is represented by a list of bytes that breaks no rule
 pub sound_stands : (v : ImageValue) → IsSoundImage v → (b : List ℕ) × IsImage v b
 sound_stands v sound = (joined v, joined_is_image v sound)

@@ -57,7 +57,7 @@ one_at f [] k d within = absurd (omega arith)
 one_at f (r ∷ rs) zero d within = sym (append-nil (f r))
 one_at f (r ∷ rs) (suc k) d within = one_at f rs k d (omega arith)
 
--- part k failed behind the ones before it
+-- part k failed after the ones before it
 pub parts_err : (o : OutlineValue) (cs : List (List ℕ)) (file : List ℕ) (ps : List Part) (k n : ℕ) (d : Part) (a b c : Option (List ℕ)) → IsSoundImage (image_of o cs file) → ps ≡ o.parts →
     k < length ps → Appends a b (flat_map (bytes_in_parts o cs file) (take k ps)) →
     (n < length (bytes_in_parts o cs file (get_or ps k d))) × Appends b c (take n (bytes_in_parts o cs file (get_or ps k d))) →

@@ -1,4 +1,4 @@
--- What a copy from a source onto a writer answers, and what is out then.
+-- What a copy from a source onto a writer answers, and what was written then.
 use Rattle.std.specs.Prelude.{◌≡◌, ◌<◌, ◌≤◌, ◌+◌, ℕ, Bool, false, List, length, take, Option, None, Some, Result, Ok, Err, slice_get}
 use Rattle.std.specs.Io.KnownBytes.{Appends}
 use Rattle.elf_image_outline.specs.declared.part.Owner.{Owner}
@@ -13,12 +13,12 @@ abbrev pub bytes_out : CopyFault → ℕ
 bytes_out (Read at written) = written
 bytes_out (Write written) = written
 
--- the same fault behind so many other bytes
+-- the same fault after so many other bytes
 abbrev pub later : ℕ → CopyFault → CopyFault
 later before (Read at written) = Read at (before + written)
 later before (Write written) = Write (before + written)
 
--- so many bytes went out; and where the source tells its bytes b, just these of b
+-- so many bytes went out; and where the source reports its bytes b, just these of b
 pub record CopiedOut (content old new : Option (List ℕ)) (count : ℕ) (bytes : List ℕ → List ℕ) : Type 0 where
   pub out : List ℕ
   pub many : length out ≡ count
@@ -36,7 +36,7 @@ copy_failure (Ok u) = None
 copy_failure (Err (Write written)) = None
 copy_failure (Err (Read at written)) = Some at
 
--- a read of len bytes from start on failed at one of them, in the block behind those that are out
+-- a read of len bytes from start on failed at one of them, in the block after those that are out
 abbrev pub ReadsBehind : ℕ → ℕ → ℕ → Result (Unit {0}) CopyFault → Type 0
 ReadsBehind block start len (Ok u) = Unit
 ReadsBehind block start len (Err (Write written)) = Unit

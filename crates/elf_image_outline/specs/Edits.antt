@@ -42,7 +42,7 @@ HasContent v i =
 abbrev pub IsNameTable : ImageValue → ℕ → Type 0
 IsNameTable v i = i ≡ name_table v.header (section_header_of v.sections 0)
 
--- the content of section i can be replaced by bytes of its length, unless the sections' names stand in it
+-- the content of section i can be replaced by bytes of its length, unless the sections' names are in it
 pub record IsReplaceable (v : ImageValue) (i : ℕ) (content : List ℕ) : Type 0 where
   pub section : HasContent v i
   pub size : length content ≡ (section_header_of v.sections i).sh_size

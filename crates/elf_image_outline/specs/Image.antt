@@ -1,5 +1,4 @@
--- An image: a file as a value, and the byte list that it stands as.
--- (gABI chapter 4, ELF Header, Sections; chapter 5, Program Header.)
+-- An image: a file as a value, and the byte list that represents it. (gABI chapter 4, ELF Header, Sections; chapter 5, Program Header.)
 use Rattle.std.specs.Prelude.{◌≡◌, ◌<◌, ◌≤◌, ℕ, suc, ◌+◌, ◌*◌, ◌==◌, if◌then◌else◌, List, [], ◌∷◌, length, map, get_or, take, drop, Option, None, Some}
 use Rattle.std.specs.List.{AllByRecursion, flat_map, range_with_len}
 use Rattle.elf_field.specs.declared.ehdr.Ehdr.{Ehdr}
@@ -96,7 +95,7 @@ pub record AreWithinBytes (b : List ℕ) (h : Ehdr) (ss : List Shdr) (gs : List 
   pub section_headers : (i : ℕ) → i < length ss → shdr_offset h i + SHDR_SIZE ≤ length b
   pub program_headers : (j : ℕ) → j < length gs → phdr_offset h j + PHDR_SIZE ≤ length b
 
--- the value stands as the byte list b
+-- the value is represented by the byte list b
 pub record Stands (v : ImageValue) (b : List ℕ) : Type 0 where
   pub bytes : IsBytes b
   pub len : v.len ≡ length b
@@ -109,7 +108,7 @@ pub record Stands (v : ImageValue) (b : List ℕ) : Type 0 where
   -- each gap has its bytes
   pub gaps : AllByRecursion (λ p. p.gap ≡ gap_in b p.part) v.parts
 
--- the value stands as b, and b breaks no rule
+-- the value is represented by b, and b breaks no rule
 pub record IsImage (v : ImageValue) (b : List ℕ) : Type 0 where
   pub stands : Stands v b
   pub clean : FirstIn (rules_in b) None

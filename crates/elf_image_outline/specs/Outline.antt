@@ -24,7 +24,7 @@ outline_value len h ss gs ps = record { len = len; header = h; sections = ss; se
 abbrev pub placed_part : Bool → List ℕ → Part → PlacedPart
 placed_part zeroed file p = record { part = p; gap = if zeroed then replicate (gap_len p) 0 else gap_in file p }
 
--- the image of an outline, with the contents and the file that the gaps' bytes stand in
+-- the image of an outline, with the contents and the file that the gaps' bytes are in
 abbrev pub image_of : OutlineValue → List (List ℕ) → List ℕ → ImageValue
 image_of o contents file = record {
   len = o.len;
@@ -47,7 +47,7 @@ image_in o b = image_of o (contents_in o b) b
 abbrev pub IsOutlineOf : OutlineValue → List ℕ → Type 0
 IsOutlineOf o b = IsSoundImage (image_in o b)
 
--- the bytes that stand for that image
+-- the bytes that represent that image
 abbrev pub bytes_of_outline : OutlineValue → List ℕ → List ℕ
 bytes_of_outline o b = joined (image_in o b)
 

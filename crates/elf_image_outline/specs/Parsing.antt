@@ -1,11 +1,11 @@
--- What `parse` answers for bytes that are no image, or for want of memory.
+-- What `parse` answers for bytes that are no image, or when out of memory.
 use Rattle.std.specs.Prelude.{ℕ, List, Some}
 use Rattle.elf_image_rules.specs.ImageRules.{IsFault, KeepsRecordRules}
 use Rattle.elf_image_stream.specs.declared.fault.Fault.{Fault}
 use Rattle.elf_image_stream.specs.declared.fault.Fault.TheVariants.{OutOfMemory, Io, Rule}
 
--- a rule is the first one that the bytes break, at its lowest offset; want of memory comes only where they keep rules 1
--- to 32, so that they break rule 33 or none
+-- a rule is the first one that the bytes break, at its lowest offset; out of memory comes only where they keep rules 1 to 32, so that they
+-- break rule 33 or none
 abbrev pub IsParseFault : List ℕ → Fault → Type 0
 IsParseFault b (Rule rule at) = IsFault b (Some (rule, at))
 IsParseFault b OutOfMemory = KeepsRecordRules b

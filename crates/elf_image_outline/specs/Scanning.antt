@@ -31,7 +31,7 @@ scan_failure (Err OutOfMemory) = None
 scan_failure (Err (Io at)) = Some at
 scan_failure (Err (Rule number at)) = None
 
--- where a file's section name string table stands; nowhere without one
+-- where a file's section name string table is; nowhere without one
 abbrev pub names_place : List ℕ → Extent
 names_place b = let k = (file_counts b).name_table in if k == 0 then record { start = 0; len = 0 } else content_extent (sections b (header b) k)
 
@@ -49,8 +49,8 @@ IsScanRead b at = let h = header b in
     ⊎ (((h.e_phoff ≤ at) × (at < phdr_offset h (file_counts b).segments))
     ⊎ IsEndIn b (names_place b) at)))
 
--- of a source that tells its bytes b: why there is no answer. A rule that is answered is the first that they break, a failed read lies
--- where a scan reads, and want of memory may come of any bytes
+-- of a source that reports its bytes b: why there is no answer. A rule that is answered is the first that they break, a failed read lies
+-- where a scan reads, and out of memory may come of any bytes
 abbrev pub Stops : List ℕ → Fault → Type 0
 Stops b OutOfMemory = Unit {0}
 Stops b (Io at) = IsScanRead b at
@@ -68,7 +68,7 @@ pub record KeepsHeadRules (len : ℕ) (h : Ehdr) : Type 0 where
   -- by rule 9
   pub nameless : h.e_shoff ≡ 0 → h.e_shstrndx ≡ 0
 
--- where the section name string table of index k stands; 0 is none
+-- where the section name string table of index k is; 0 is none
 abbrev pub names_extent : List Shdr → ℕ → Extent
 names_extent ss k = if k == 0 then record { start = 0; len = 0 } else content_extent (section_header_of ss k)
 

@@ -41,12 +41,12 @@ fn copy_part<S: Source, W: Write>(
     }
 }
 
-/// Writes the bytes that stand for the image of the outline with the contents and gaps that its source has: exactly these, or exactly
-/// their first `written` and a fault (gABI chapters 4 and 5).
+/// Writes the bytes that represent the image of the outline with the contents and gaps that its source has: exactly these, or exactly their
+/// first `written` and a fault (gABI chapters 4 and 5).
 ///
 /// The outline is of the source's bytes, as [`scan`](elf_image_outline::scan) read it or edited since. The records are the outline's and
 /// are not read again; contents are read, and gaps too unless they count as zeros, at most 4,096 bytes a call. A source that gives other
-/// bytes than before gives them to the writer: where it doesn't tell its bytes, the count of what is out is all that holds.
+/// bytes than before gives them to the writer: where it doesn't report its bytes, the count of what was written is all that holds.
 ///
 /// [`CopyFault::Read`]: a call of the source failed, or gave no byte where the outline says that there is one; `at` is the offset that it
 /// was asked for. After such a call nothing else is answered. [`CopyFault::Write`]: a call of the writer failed, an interruption too, or

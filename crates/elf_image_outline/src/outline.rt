@@ -114,7 +114,7 @@ impl Outline {
         self.segments.len()
     }
 
-    /// The section headers, number 0 as it stands in the file (gABI chapter 4, Sections).
+    /// The section headers, number 0 as it is in the file (gABI chapter 4, Sections).
     pub fn sections(&self) -> &[Shdr]
         ensures { result.now ≡ self.now.sections }
     {
@@ -182,8 +182,8 @@ impl Outline {
         self.header.e_entry = entry;
     }
 
-    /// Sets `sh_flags` of section `i`. Answers [`NoSection`], and changes nothing, where `i` is 0 or not
-    /// below [`section_count`](Outline::section_count).
+    /// Sets `sh_flags` of section `i`. Returns [`NoSection`], and changes nothing, where `i` is 0 or not below
+    /// [`section_count`](Outline::section_count).
     pub fn set_flags(&mut self, i: usize, flags: u64) -> Result<(), NoSection>
         ensures ok { OnOk result ((0 < i) × (i < length self.old.sections) ×
             (self.new ≡ record self.old { sections = flagged self.old.sections i flags })) }

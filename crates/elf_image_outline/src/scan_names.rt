@@ -12,7 +12,7 @@ use elf_image_rules::TableEnds;
 use elf_image_rules::content::extent_of_content;
 use elf_image_stream::{Fault, Source, read_ends};
 
-/// Where the section name string table stands: nowhere without one.
+/// Where the section name string table is: nowhere without one.
 fn extent_of_names(tables: &Tables) -> Extent
     ensures { result ≡ names_extent tables.now.sections.items tables.now.counts.name_table }
 {

@@ -19,8 +19,8 @@ use std::alloc::Global;
 ///
 /// [`Fault::Rule`] is the first of rules 1 to 33 that the bytes break, at the lowest offset where they break it. [`Fault::Io`] is the
 /// offset that a call was asked for which failed (0 for a failed `length`), or which gave no byte where the length says that there is one.
-/// After such a call nothing else is answered. [`Fault::OutOfMemory`] comes only where memory is refused, which is asked for from rule 22
-/// on: for the two tables, and a list of the extents of the file. Sorting these takes n log n comparisons; all else is linear in the
+/// After such a call nothing else is answered. [`Fault::OutOfMemory`] comes only where an allocation fails; memory is asked for from rule
+/// 22 on: for the two tables, and a list of the extents of the file. Sorting these takes n log n comparisons; all else is linear in the
 /// records.
 pub fn scan<S: Source>(alloc: Global, source: &mut S) -> Result<Outline, Fault>
     ensures kept { S.content source.new ≡ S.content source.old }

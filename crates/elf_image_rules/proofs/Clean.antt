@@ -24,7 +24,7 @@ pub clean_records : (len : ℕ) (h : Ehdr) (s : ℕ → Shdr) (g : ℕ → Phdr)
 unfolding image_rules
 clean_records len h s g names clean = FirstIn-front (record_rules len h s g names) _ clean
 
--- a section table has entries, where its count is one that stands in the right field
+-- a section table has entries, where its count is one that is in the right field
 count_some : (h : Ehdr) (first : Shdr) → h.e_shoff ≢ 0 → (h.e_shnum ≡ 0 → SHN_LORESERVE ≤ first.sh_size) → 0 < section_header_count h first
 count_some h first there large =
     rw (ne_eqb h.e_shoff 0 there) (elim (cases_eq h.e_shnum 0) [

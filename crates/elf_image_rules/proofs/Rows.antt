@@ -6,13 +6,13 @@ use Rattle.elf_image_rules.specs.declared.broken.Broken.{Broken}
 use Rattle.elf_image_rules.specs.Broken.{fault_of}
 use Rattle.elf_image_rules.specs.Rows.{FirstBy, FirstIn, Row, Ruled}
 
--- a run that has found a fault has it with more rules behind it
+-- a run that has found a fault has it with more rules after it
 pub FirstIn-sooner : (xs ys : List {1} (Ruled ℕ)) (fault : ℕ × ℕ) → FirstIn xs (Some fault) → FirstIn (xs ++ ys) (Some fault)
 FirstIn-sooner [] ys fault found = absurd found
 FirstIn-sooner (r ∷ xs) ys fault (inl here) = inl here
 FirstIn-sooner (r ∷ xs) ys fault (inr (never, later)) = inr (never, FirstIn-sooner xs ys fault later)
 
--- behind a run without a fault stands what the rules after it find
+-- after a run without a fault is what the rules after it find
 pub FirstIn-later : (xs ys : List {1} (Ruled ℕ)) (found : Option (ℕ × ℕ)) → FirstIn xs None → FirstIn ys found → FirstIn (xs ++ ys) found
 FirstIn-later [] ys found clean rest = rest
 FirstIn-later (r ∷ xs) ys None clean rest = (clean.0, FirstIn-later xs ys None clean.1 rest)
@@ -33,7 +33,7 @@ FirstIn-front (r ∷ xs) ys clean = (clean.0, FirstIn-front xs ys clean.1)
 pub FirstIn-behind : (xs ys : List {1} (Ruled ℕ)) → FirstIn (xs ++ ys) None → FirstIn ys None
 FirstIn-behind xs ys clean = FirstIn-rest xs ys None (FirstIn-front xs ys clean) clean
 
--- the result that hands on what a run found is what is found, alone and with more rules behind the run
+-- the result that hands on what a run found is what is found, alone and with more rules after the run
 pub FirstIn-handed : {T : Type 0} (xs : List {1} (Ruled ℕ)) (broken : Broken ℕ) (result : Result T (Broken ℕ)) →
     FirstIn xs (Some (broken.rule, broken.at)) → IsErrAnd result (λ error. error ≡ broken) → FirstIn xs (fault_of result)
 FirstIn-handed xs broken (Ok value) found same = absurd same

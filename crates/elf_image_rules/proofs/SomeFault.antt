@@ -9,7 +9,7 @@ use Rattle.elf_image_rules.specs.Rows.{FirstBy, FirstIn, Row, Ruled}
 abbrev pub HasFirst : {At : Type 0} → (Row At → At → Type 0) → Row At → Type 0
 HasFirst {At} IsFirst row = ((x : At) × IsFirst row x) ⊎ Never row
 
--- where a rule is not broken, the answer is that of the rules behind it
+-- where a rule is not broken, the answer is that of the rules after it
 behind : {At : Type 0} (IsFirst : Row At → At → Type 0) (r : Ruled At) (rules : List {1} (Ruled At)) → Never r.row →
     ((x : Option (ℕ × At)) → ¬ FirstBy IsFirst (r ∷ rules) x) → (x : Option (ℕ × At)) → ¬ FirstBy IsFirst rules x
 behind IsFirst r rules never none None first = none None (never, first)

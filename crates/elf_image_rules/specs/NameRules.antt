@@ -18,7 +18,7 @@ wrong_name_table_type h k s = When ((k ≢ 0) × ((s k).sh_type ≢ SHT_STRTAB))
 abbrev pub unclosed_name_table : ℕ → (ℕ → Shdr) → List ℕ → Row ℕ
 unclosed_name_table k s names = UnclosedAt names (s k).sh_offset
 
--- rule 32: a section's name begins behind the name table
+-- rule 32: a section's name begins after the name table
 abbrev pub name_past_end : Ehdr → ℕ → (ℕ → Shdr) → List ℕ → Row ℕ
 name_past_end h n s names = SomeSectionHeader h n s (IsNamePastEnd (length names)) SH_NAME_AT
 

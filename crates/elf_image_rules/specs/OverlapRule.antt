@@ -43,8 +43,7 @@ SharedBelow es limit j x = (i : ℕ) × (i < limit) × HasAt es i x × HasAt es 
 abbrev pub DoublyBelow : List Extent → ℕ → ℕ → ℕ → Type 0
 DoublyBelow es limit count x = (i j : ℕ) × (i < j) × (i < limit) × (j < count) × HasAt es i x × HasAt es j x
 
--- among the first `count` extents those from index `from` on that are not empty stand in the order of
--- the list, each behind the ones before it
+-- among the first `count` extents those from index `from` on that are not empty are in the order of the list, each after the ones before it
 abbrev pub ExtentsAscend : List Extent → ℕ → ℕ → Type 0
 ExtentsAscend es from count = (i j : ℕ) (a e : Extent) → from ≤ i → i < j → j < count →
     slice_get es i ≡ Some a → slice_get es j ≡ Some e → 0 < a.len → 0 < e.len → a.start + a.len ≤ e.start

@@ -8,8 +8,7 @@ use Rattle.elf_image_rules.specs.Rows.{Row, Ruled, rule, When}
 use Rattle.elf_image_rules.specs.SectionTableRules.{InFirst}
 use Rattle.elf_image_rules.specs.Tables.{program_header_count, phdr_offset}
 
--- rule 18: a program table without a count, a count without a table, or a count that stands in a
--- section header 0 that isn't there
+-- rule 18: a program table without a count, a count without a table, or a count that is in a section header 0 that isn't there
 abbrev pub HasWrongSegmentCount : Ehdr → Type 0
 HasWrongSegmentCount h =
     ((h.e_phoff ≡ 0) × (h.e_phnum ≢ 0)) ⊎ ((h.e_phoff ≢ 0) × (h.e_phnum ≡ 0)) ⊎

@@ -1,6 +1,6 @@
--- Lists of rules: where a rule is broken, and the first rule broken with the first place where it is.
--- These words know no rule of any file: a rule is a number and a row, and a list of rules is judged in its order. They serve rules at
--- an offset of a file, of which the lowest is told, and rules of a link, at a file, index and entry, of which the first is.
+-- Lists of rules: where a rule is broken, and the first rule broken with the first place where it is. These words know no rule of any file:
+-- a rule is a number and a row, and a list of rules is judged in its order. They serve rules at an offset of a file, of which the lowest is
+-- reported, and rules of a link, at a file, index and entry, of which the first is.
 use Rattle.std.specs.Prelude.{◌≡◌, ℕ, ◌<◌, ◌⊎◌, Option, None, Some, List, [], ◌∷◌}
 use Rattle.elf_extent.specs.Least.{Never, IsLeast}
 
@@ -34,8 +34,8 @@ pub record Ruled (At : Type 0) : Type 1 where
 abbrev pub rule : {At : Type 0} → ℕ → Row At → Ruled At
 rule number row = record { number = number; row = row }
 
--- what was found is the number of the first rule in the list that is broken, with the first place where it is, and None if none is
--- broken; IsFirst says what it is to be the first place of a row. A number may stand in the list twice
+-- what was found is the number of the first rule in the list that is broken, with the first place where it is, and None if none is broken;
+-- IsFirst says what it is to be the first place of a row. A number may be in the list twice
 abbrev pub FirstBy : {At : Type 0} → (Row At → At → Type 0) → List {1} (Ruled At) → Option (ℕ × At) → Type 0
 FirstBy IsFirst [] None = Unit {0}
 FirstBy IsFirst [] (Some fault) = ⊥

@@ -41,8 +41,7 @@ IsContentPastEnd len entry =
 abbrev pub content_past_end : ℕ → Ehdr → ℕ → (ℕ → Shdr) → Row ℕ
 content_past_end len h n s = SomeSectionHeader h n s (IsContentPastEnd len) SH_OFFSET_AT
 
--- rule 32: a section's name begins behind a section name string table of this size; 0, for no name,
--- needs no table
+-- rule 32: a section's name begins after a section name string table of this size; 0, for no name, needs no table
 abbrev pub IsNamePastEnd : ℕ → Shdr → Type 0
 IsNamePastEnd size entry = (entry.sh_name ≢ 0) × (size ≤ entry.sh_name)
 

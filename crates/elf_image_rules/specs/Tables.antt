@@ -47,11 +47,11 @@ counts_in h first = record {
   name_table = name_table h first;
 }
 
--- the section header that stands for one that isn't there
+-- the section header used for one that isn't there
 abbrev pub no_section_header : Shdr
 no_section_header = record { sh_name = 0; sh_type = 0; sh_flags = 0; sh_addr = 0; sh_offset = 0; sh_size = 0; sh_link = 0; sh_info = 0; sh_addralign = 0; sh_entsize = 0 }
 
--- the program header that stands for one that isn't there
+-- the program header used for one that isn't there
 abbrev pub no_program_header : Phdr
 no_program_header = record { p_type = 0; p_flags = 0; p_offset = 0; p_vaddr = 0; p_paddr = 0; p_filesz = 0; p_memsz = 0; p_align = 0 }
 

@@ -21,7 +21,7 @@ pub struct FileExtents<'a> {
 impl<'a> FileExtents<'a> {
     ghost use Rattle.elf_image_rules.specs.FileExtents.{file_extents};
 
-    /// How many extents stand before the contents.
+    /// How many extents are before the contents.
     const BEFORE_CONTENTS: u64 = 3;
 
     /// The extents of a judged file.
@@ -68,8 +68,8 @@ impl<'a> FileExtents<'a> {
         extent_of_content(&self.records.section(section))
     }
 
-    /// The lowest byte that two of them hold. Where the contents stand in the order of their section
-    /// headers a pass or two settle it; else every two are compared.
+    /// The lowest byte that two of them hold. Where the contents are in the order of their section headers a pass or two settle it; else
+    /// every two are compared.
     pub fn lowest_shared_byte(&self) -> Option<u64>
         ensures { IsLowest (Doubly (file_extents self.now)) result }
     {
@@ -79,10 +79,9 @@ impl<'a> FileExtents<'a> {
         }
     }
 
-    /// The lowest byte that two of them hold. Where the contents stand in the order of their section
-    /// headers a pass or two settle it; else they are sorted, which takes memory. Assemblers don't keep
-    /// that order: they lay a table of relocations behind the tables of symbols and names, and give
-    /// it the index behind its section's.
+    /// The lowest byte that two of them hold. Where the contents are in the order of their section headers a pass or two settle it; else
+    /// they are sorted, which takes memory. Assemblers don't keep that order: they lay a table of relocations after the tables of symbols
+    /// and names, and give it the index after its section's.
     pub fn lowest_shared_byte_by_sorting(&self, alloc: Global) -> Result<Option<u64>, OutOfMemory>
         ensures { IfOk result (IsLowest (Doubly (file_extents self.now))) }
     {

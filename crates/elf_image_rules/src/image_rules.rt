@@ -24,9 +24,8 @@ use elf_field::Ehdr;
 use elf_field::abi::SHDR_SIZE;
 use std::alloc::Global;
 
-/// The first rule of 1 to 33 that the file breaks, and its lowest offset in bytes; None where it
-/// breaks none. It takes no memory. Linear in the records, where the contents stand in the order of
-/// their section headers; else it takes the square of their number.
+/// The first rule of 1 to 33 that the file breaks, and its lowest offset in bytes; None where it breaks none. It takes no memory. Linear in
+/// the records, where the contents are in the order of their section headers; else it takes the square of their number.
 pub fn verdict(bytes: &[u8]) -> Option<(u16, u64)>
     ensures { IsFault bytes.now result }
 {
@@ -46,9 +45,9 @@ pub(crate) fn judge(bytes: &[u8]) -> Result<(), Broken<u64>>
     }
 }
 
-/// Judges a file by all 33 rules, as [`verdict`] does, in n log n: where the contents don't stand in the order of their
-/// section headers they are sorted, and where memory for that is refused the answer is found without. A file that
-/// breaks no rule is answered with its header and counts; else the first rule broken and its lowest offset.
+/// Judges a file by all 33 rules, as [`verdict`] does, in n log n: where the contents are not in the order of their section headers they
+/// are sorted, and where that allocation fails the answer is found without memory. A file that breaks no rule is answered with its header and
+/// counts; else the first rule broken and its lowest offset.
 pub fn judge_by_sorting<'a>(
     alloc: Global,
     bytes: &'a [u8],

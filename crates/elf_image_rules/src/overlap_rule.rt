@@ -10,17 +10,17 @@ use elf_extent::OutOfMemory;
 use std::alloc::Global;
 
 impl<'a> JudgedRecords<'a> {
-    /// The lowest byte that two parts of the file hold, which breaks rule 33; None where there is none,
-    /// and the file is an image. It takes no memory: where the contents don't stand in the order of
-    /// their section headers it compares every two of them, which takes the square of their number.
+    /// The lowest byte that two parts of the file hold, which breaks rule 33; None where there is none, and the file is an image. It takes
+    /// no memory: where the contents are not in the order of their section headers it compares every two of them, which takes the square of
+    /// their number.
     pub fn shared_byte(&self) -> Option<u64>
         ensures { IsFault (file_of self.now) (shared_fault result) }
     {
         FileExtents::new(self).lowest_shared_byte()
     }
 
-    /// The lowest byte that two parts of the file hold, as [`shared_byte`](JudgedRecords::shared_byte), in n log n: where the
-    /// contents don't stand in the order of their section headers they are sorted. Memory for that may be refused.
+    /// The lowest byte that two parts of the file hold, as [`shared_byte`](JudgedRecords::shared_byte), in n log n: where the contents are
+    /// not in the order of their section headers they are sorted. That allocation may fail.
     pub fn shared_byte_by_sorting(&self, alloc: Global) -> Result<Option<u64>, OutOfMemory>
         ensures { IfOk result (λ found. IsFault (file_of self.now) (shared_fault found)) }
     {

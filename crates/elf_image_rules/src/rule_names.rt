@@ -1,4 +1,4 @@
-//! The names of rules by their numbers. Made by `scripts/rules-table` from docs/RULES.md.
+//! The names of rules by their numbers. Made by `tools/release tables` from docs/RULES.md.
 
 /// The name of a rule of images (1 to 33), tables (40 to 69) and files read as objects (70 to 79), as `TOO_LONG` of 1; empty where no rule has the number.
 pub fn rule_name(rule: u16) -> &'static str {

@@ -32,8 +32,7 @@ pub const WRONG_EXTENDED_SECTION_COUNT: u16 = 14;
 pub const SECTION_TABLE_PAST_END: u16 = 15;
 /// The name table's index is reserved, or there is no such section.
 pub const WRONG_NAME_TABLE_INDEX: u16 = 16;
-/// Section header 0 has a name table's index that `e_shstrndx` could hold, that no section has, or
-/// that stands beside `e_shstrndx`.
+/// Section header 0 has a name table's index that `e_shstrndx` could hold, that no section has, or that is beside `e_shstrndx`.
 pub const WRONG_EXTENDED_NAME_TABLE_INDEX: u16 = 17;
 /// A program table without a count, a count without a table, or a count in a section header 0 that
 /// isn't there.
@@ -64,7 +63,7 @@ pub const LOAD_OUT_OF_ORDER: u16 = 29;
 pub const WRONG_NAME_TABLE_TYPE: u16 = 30;
 /// The section name string table's first or last byte isn't 0.
 pub const UNCLOSED_NAME_TABLE: u16 = 31;
-/// A section's name begins behind the section name string table.
+/// A section's name begins after the section name string table.
 pub const NAME_PAST_END: u16 = 32;
 /// Two parts of the file share a byte.
 pub const SHARED_BYTE: u16 = 33;

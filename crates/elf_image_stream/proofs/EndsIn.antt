@@ -17,7 +17,7 @@ byte_in_part b byte start len i within is =
 part_long : (b : List ℕ) (start len : ℕ) → start + len ≤ length b → length (take len (drop start b)) ≡ len
 part_long b start len within = let e = length-drop start b in length-take-le len (drop start b) (omega arith)
 
--- a table within a list has the ends that stand there
+-- a table within a list has the ends that are there
 pub ends_in : (b : List ℕ) (start len first last : ℕ) → 0 < len → start + len ≤ length b →
     first ∷ [] ≡ take 1 (drop start b) → last ∷ [] ≡ take 1 (drop (start + (len - 1)) b) →
     AreEnds (record { len = len; first = first; last = last }) (take len (drop start b))

@@ -15,7 +15,7 @@ Appends-more a b c bytes n m before write =
     let rest = rw take_rest at write in
     rw take-add (Appends-trans a b c _ _ before rest)
 
--- before the first read nothing stands behind what was there
+-- before the first read nothing is after what was there
 pub nothing_read : (a : Option (List ℕ)) (old : List ℕ) (n : ℕ) → length old ≤ n → IsReadBehind a a old (take n old)
 nothing_read a old n within = record { given = []; behind = take_all n old within ∙ sym (append-nil old); taken = Consumes-nil a }
 
@@ -67,7 +67,7 @@ gives_up_to {E = E} (Some bytes) b (Ok u) old new n read within ends =
     full (inl end) counted = inl end
     full (inr whole) counted = inr (omega (arith, whole, counted))
 
--- behind nothing stands what was given
+-- after nothing is what was given
 pub behind_nothing : {U E : Type 0} (a : Option (List ℕ)) (result : Result U E) (old new : List ℕ) (n : ℕ) → old ≡ []
     → OnOk result (IfSome a (λ bytes. new ≡ old ++ take (n - length old) bytes)) → OnOk result (IfSome a (λ bytes. new ≡ take n bytes))
 behind_nothing a (Err e) old new n empty told = tt

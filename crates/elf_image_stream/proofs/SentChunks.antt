@@ -37,7 +37,7 @@ pub sends_behind : (a b c : Option (List ℕ)) (out mid : ℕ) (s t : List ℕ) 
 sends_behind a b c out mid s t (Ok all) first second = both_out a b c out mid all s t first second
 sends_behind a b c out mid s t (Err fault) first second = stopped_later a b c out mid fault.written s t first second
 
--- the count is exact where the text is no longer than a count can tell
+-- the count is exact where the text is no longer than a count can report
 pub stopped_whole : (a c : Option (List ℕ)) (text : List ℕ) (written : ℕ) → length text < 2 ^ 64 → StoppedIn a c 0 text written
     → (written < length text) × Appends a c (take written text)
 stopped_whole a c text written short (n, is, below, went) =

@@ -13,7 +13,7 @@ failed_within content old new at n x reaches (above, below, inr (still, (b, told
 none_more : (c : ℕ) → c ≡ (c + 1) % 2 ^ 64 → ⊥
 none_more c same = omega (arith, same)
 
--- what a source remembers tells whether a call failed, and what it was asked for
+-- what a source remembers reports whether a call failed, and what it was asked for
 pub one_failure : (a b : Option ℕ) (old new : Failures) → Remembers a old new → Remembers b old new → a ≡ b
 one_failure None None old new still also = refl
 one_failure None (Some y) old new still fails = absurd (none_more old.count (ap (λ (f : Failures). f.count) (sym still) ∙ fails.0))

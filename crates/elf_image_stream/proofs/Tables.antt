@@ -1,4 +1,4 @@
--- Records that are read one behind the other are those of a table.
+-- Records that are read one after the other are those of a table.
 use Rattle.std.proofs.Common.{◌≡◌, ◌<◌, ◌≤◌, ◌+◌, ◌-◌, ◌*◌, ◌⊎◌, inl, inr, ℕ, Option, List, [], ◌∷◌, ◌++◌, take, drop, map, sym, ap, ap₂, subst, ◌∙◌, arith, zero-add, mul-le-mul_left}
 use Rattle.std.specs.List.{AllByRecursion, range_with_len}
 use Rattle.std.proofs.Math.Nat.{mul-add, mul-one}
@@ -26,7 +26,7 @@ pub all_more : {T : Type 0} (P : T → Type 0) (xs : List T) (x : T) → AllByRe
 all_more P [] x all one = (one, tt)
 all_more P (y ∷ ys) x all one = (all.0, all_more P ys x all.1 one)
 
--- the record at an offset of a part of a list is the one behind it in the list
+-- the record at an offset of a part of a list is the one after it in the list
 pub record_in_part : {A : Type 0} {size : ℕ} {at : Order → List ℕ → ℕ → A} {bytes : Order → A → List ℕ} {V : A → Type 0} →
     IsRecord size at bytes V → (o : Order) (b : List ℕ) (start len x : ℕ) → x + size ≤ len → at o (take len (drop start b)) x ≡ at o b (start + x)
 record_in_part {size = size} {at = at} laws o b start len x within =

@@ -12,7 +12,7 @@ use Rattle.std.proofs.lemmas.List.{append-nil, drop_at, length-replicate, length
 use Rattle.std.proofs.lemmas.Slice.{take-put_mid}
 use borrow.Rule.Slice.PartMut.{put_mid}
 
--- a piece failed behind bytes that are out
+-- a piece failed after bytes that are out
 pub went_err : (a b c : Option (List ℕ)) (m n : ℕ) (xs ys zs : List ℕ) → length xs ≡ m → Appends a b xs →
     (n < length ys) × Appends b c (take n ys) → (m + n < length (xs ++ (ys ++ zs))) × Appends a c (take (m + n) (xs ++ (ys ++ zs)))
 went_err a b c m n xs ys zs long before failed =
@@ -31,7 +31,7 @@ flat_split f rs k m =
     ap (flat_map f) (sym (take-append-drop k rs)) ∙ flat_map-append f (take k rs) (drop k rs) ∙
     ap (λ (s : List ℕ). flat_map f (take k rs) ++ s) (ap (flat_map f) (sym (take-append-drop m (drop k rs))) ∙ flat_map-append f (take m (drop k rs)) (drop m (drop k rs)))
 
--- the next m of them failed behind the first k
+-- the next m of them failed after the first k
 pub flat_err : {A : Type 0} (f : A → List ℕ) (rs : List A) (k m start n : ℕ) (a b c : Option (List ℕ)) (ys : List ℕ) →
     length (flat_map f (take k rs)) ≡ start → ys ≡ flat_map f (take m (drop k rs)) → Appends a b (flat_map f (take k rs)) →
     (n < length ys) × Appends b c (take n ys) → (start + n < length (flat_map f rs)) × Appends a c (take (start + n) (flat_map f rs))
@@ -71,7 +71,7 @@ next_place size i = let e = mul-add size i 1 in let f = mul-one size in omega ar
 pub in_records : (size i n : ℕ) → i < n → size * i + size ≤ size * n
 in_records size i n within = let next = next_place size i in let le : size * (i + 1) ≤ size * n = mul-le-mul_left size (omega arith) in omega arith
 
--- one more record behind the ones before it
+-- one more record after the ones before it
 pub record_put : {A : Type 0} (f : A → List ℕ) (rs : List A) (size i k : ℕ) (s new : List ℕ) (r : A) → i < length rs → r ≡ get_or rs i r → length (f r) ≡ size →
     size * i ≤ length s → take (size * i) s ≡ flat_map f (take i rs) → new ≡ f r →
     take (size * (i + 1)) (put_mid (size * i) k s new) ≡ flat_map f (take (i + 1) rs)

@@ -4,13 +4,13 @@ use Rattle.std.specs.Io.KnownBytes.{Consumes}
 use Rattle.elf_image_stream.specs.declared.fault.Fault.{Fault}
 use Rattle.elf_image_stream.specs.declared.fault.Fault.TheVariants.{OutOfMemory, Io, Rule}
 
--- a fault of reading, after so many bytes: it tells their number, or memory was refused; no rule is judged yet
+-- a fault of reading, after so many bytes: it reports their number, or an allocation failed; no rule is judged yet
 abbrev pub IsReadFault : Fault → ℕ → Type 0
 IsReadFault OutOfMemory count = Unit {0}
 IsReadFault (Io at) count = at ≡ count
 IsReadFault (Rule rule at) count = ⊥
 
--- what a buffer holds anew is what it held, and behind it what the reader gave
+-- what a buffer holds anew is what it held, and after it what the reader gave
 pub record IsReadBehind (before after : Option (List ℕ)) (old new : List ℕ) : Type 0 where
   pub given : List ℕ
   pub behind : new ≡ old ++ given

@@ -13,7 +13,7 @@ use Rattle.elf_image_stream.specs.declared.records.RecordsFault.{RecordsFault}
 use Rattle.elf_image_stream.specs.declared.records.RecordsFault.TheVariants.{Io, OutOfMemory}
 
 -- a read of n bytes from an offset on failed at one of them: a call failed that was asked for this one; or none failed, and the source
--- tells that no byte stands there
+-- reports that no byte is there
 abbrev pub HasFailed : Option (List ℕ) → Failures → Failures → ℕ → ℕ → ℕ → Type 0
 HasFailed content old new at n failed_at =
     (at ≤ failed_at) × (failed_at < at + n) × (Fails old new failed_at ⊎ ((new ≡ old) × EndsBy content failed_at))
@@ -44,7 +44,7 @@ pub record HasTable {T : Type 0} (record_at : List ℕ → ℕ → T) (IsValid :
   pub valid : AllByRecursion IsValid vs
   pub told : (b : List ℕ) → content ≡ Some b → vs ≡ table_at record_at n b at count
 
--- why there is no table of so many bytes: memory was refused, and no call failed; or a read failed
+-- why there is no table of so many bytes: an allocation failed, and no call failed; or a read failed
 abbrev pub IsRecordsFault : Option (List ℕ) → Failures → Failures → ℕ → ℕ → RecordsFault → Type 0
 IsRecordsFault content old new at n OutOfMemory = new ≡ old
 IsRecordsFault content old new at n (Io failed_at) = HasFailed content old new at n failed_at

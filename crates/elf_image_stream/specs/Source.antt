@@ -1,4 +1,4 @@
--- What a source of bytes says of them: a list that no call changes, where it tells it, and its failures: how many calls failed, and what
+-- What a source of bytes says of them: a list that no call changes, where it reports it, and its failures: how many calls failed, and what
 -- the last of them was asked for.
 use Rattle.std.specs.Prelude.{◌≡◌, ◌<◌, ◌≤◌, ◌+◌, ◌%◌, ◌^◌, ℕ, List, length, take, drop, Option, None, Some, Result, Ok, Err, IfOk, IfSome}
 use Rattle.elf_image_stream.specs.declared.failures.Failures.{Failures}
@@ -21,7 +21,7 @@ abbrev pub RemembersCall : {T E : Type 0} → ℕ → Failures → Failures → 
 RemembersCall at old new (Ok t) = new ≡ old
 RemembersCall at old new (Err e) = Fails old new at
 
--- a read gives no byte though it has room for some, and the source does not tell where its bytes end
+-- a read gives no byte though it has room for some, and the source does not report where its bytes end
 abbrev pub IsDry : Option (List ℕ) → ℕ → ℕ → Type 0
 IsDry content room k = (content ≡ None) × (0 < room) × (k ≡ 0)
 
@@ -34,11 +34,11 @@ RemembersRead content at room old new (Err e) = Fails old new at
 abbrev pub SaysLength : {E : Type 0} → Option (List ℕ) → Result ℕ E → Type 0
 SaysLength content result = IfOk result (λ len. IfSome content (λ b. len ≡ length b))
 
--- the source tells its bytes, and none stands at this offset
+-- the source reports its bytes, and none is at this offset
 abbrev pub EndsBy : Option (List ℕ) → ℕ → Type 0
 EndsBy content at = (b : List ℕ) × (content ≡ Some b) × (length b ≤ at)
 
--- where the source tells its bytes, they reach to this offset
+-- where the source reports its bytes, they reach to this offset
 abbrev pub Reaches : Option (List ℕ) → ℕ → Type 0
 Reaches content end = (b : List ℕ) → content ≡ Some b → end ≤ length b
 

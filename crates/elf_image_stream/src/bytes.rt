@@ -3,7 +3,7 @@ ghost use Rattle.std.specs.Prelude.{◌≡◌, ◌≤◌, ◌-◌, ◌++◌, IfO
 
 use crate::source::{Failed, Source};
 
-/// Bytes in memory. It tells them, gives all of them that a read asks for and that are there, and never fails.
+/// Bytes in memory. It reports them, gives all of them that a read asks for and that are there, and never fails.
 #[derive(Clone, Copy, Debug)]
 pub struct Bytes<'a>(pub &'a [u8]);
 
@@ -32,7 +32,7 @@ impl<'a> Source for Bytes<'a> {
 }
 
 impl Bytes<'_> {
-    /// Copies the bytes from offset `at` on to the front of `buf`, as many as stand there or as `buf` has room for, and answers how many.
+    /// Copies the bytes from offset `at` on to the front of `buf`, as many as are there or as `buf` has room for, and returns how many.
     pub fn copy_at(&self, at: u64, buf: &mut [u8]) -> usize
         ensures all { result ≡ min (length self.now.0.now - at) (length buf.old) }
         ensures bytes { buf.new ≡ take result (drop at self.now.0.now) ++ drop result buf.old }

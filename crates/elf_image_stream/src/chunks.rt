@@ -37,14 +37,14 @@ pub trait Chunks {
     fn count(&self) -> usize
         ensures { result ≡ count self.now };
 
-    /// Sends text `j`, which has to be one of them, behind `out` bytes.
+    /// Sends text `j`, which has to be one of them, after `out` bytes.
     fn send<W: Write>(&self, writer: &mut W, out: u64, j: usize) -> Result<u64, WriteFault>
         requires { j < count self.now }
         ensures { Sends (W.contents writer.old) (W.contents writer.new) out (chunk self.now j) result };
 }
 
 /// Sends them all, one after the other. Where one meets a fault, that is the answer, with the count of all bytes that are out, and none
-/// behind it is sent.
+/// after it is sent.
 pub fn send_all<P: Chunks, W: Write>(
     writer: &mut W,
     out: u64,

@@ -27,7 +27,7 @@ impl Failures {
         }
     }
 
-    /// These, and a read of this offset into so much room, of a source that does not tell its bytes: it failed where it answers so, and
+    /// These, and a read of this offset into so much room, of a source that does not report its bytes: it failed where it answers so, and
     /// where it gave no byte though it had room for some.
     pub fn and_read(self, at: u64, room: usize, read: &Result<usize, Failed>) -> Failures
         ensures { RemembersRead None at room self result read.now }

@@ -9,7 +9,7 @@ use thiserror::Error;
 /// Why there is no answer from a file's bytes.
 #[derive(Clone, Copy, Debug, PartialEq, Eq, Error)]
 pub enum Fault {
-    /// A growth was refused.
+    /// An allocation failed.
     #[error("out of memory")]
     OutOfMemory,
     /// A call of the reader failed, after it had given `at` bytes.

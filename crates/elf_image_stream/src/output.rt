@@ -52,8 +52,8 @@ pub fn write_zeros<W: Write>(writer: &mut W, count: u64) -> Result<(), WriteFaul
     Ok(())
 }
 
-/// Writes so many zeros and then all of `bytes`, or exactly the first `written` of both together, fewer
-/// than all, and a fault. So a part is written that stands behind padding.
+/// Writes so many zeros and then all of `bytes`, or exactly the first `written` of both together, fewer than all, and a fault. So a part is
+/// written that is after padding.
 pub fn write_padded<W: Write>(writer: &mut W, padding: u64, bytes: &[u8]) -> Result<(), WriteFault>
     requires { padding + length bytes.now < 2 ^ 64 }
     ensures { Writes (W.contents writer.old) (W.contents writer.new) (replicate padding 0 ++ bytes.now) result }

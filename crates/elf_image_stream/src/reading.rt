@@ -28,8 +28,8 @@ const AHEAD: usize = 64;
 
 /// Reads until a read gives 0 bytes or `buf`, which is empty at the call, holds 2^30 + 1 bytes.
 ///
-/// After a fault too `buf` holds exactly the bytes that the reader gave, in order. Any error of the
-/// reader, an interruption too, is [`Fault::Io`] at the count of these bytes; a refused growth is
+/// After a fault too `buf` holds exactly the bytes that the reader gave, in order. Any error of the reader, an interruption too, is
+/// [`Fault::Io`] at the count of these bytes; a failed allocation is
 /// [`Fault::OutOfMemory`], and loses no byte; [`Fault::Rule`] never comes. Linear in the bytes read;
 /// `buf` alone takes memory, also ahead of what is read.
 pub fn read_to_end<R: Read>(reader: &mut R, buf: &mut Vec<u8>) -> Result<(), Fault>
@@ -39,20 +39,20 @@ pub fn read_to_end<R: Read>(reader: &mut R, buf: &mut Vec<u8>) -> Result<(), Fau
     ensures ok { OnOk result (IsAtEnd (R.remaining reader.new) ⊎ (vec_len buf.new ≡ MAX_LEN + 1)) }
     ensures fault { IfErr result (λ e. IsReadFault e (vec_len buf.new)) }
 
-    // A reader that tells its bytes gives them all, up to the limit.
+    // A reader that reports its bytes gives them all, up to the limit.
     ensures whole { OnOk result (IfSome (R.remaining reader.old)
         (λ bytes. buf.new.items ≡ take (MAX_LEN + 1) bytes)) }
 {
     resume(reader, buf)
 }
 
-/// Reads on, behind what `buf` holds, at most 2^30 + 1 bytes at the call, until a read gives 0 bytes or `buf` holds 2^30 + 1 bytes. So
-/// a call after [`Fault::OutOfMemory`] goes on where the reading stopped.
+/// Reads on, after what `buf` holds, at most 2^30 + 1 bytes at the call, until a read gives 0 bytes or `buf` holds 2^30 + 1 bytes. So a
+/// call after [`Fault::OutOfMemory`] goes on where the reading stopped.
 ///
-/// After a fault too `buf` holds what it held, and behind it exactly the bytes that the reader gave, in order. Any error of the
-/// reader, an interruption too, is [`Fault::Io`] at the count of all these bytes; a refused growth is [`Fault::OutOfMemory`], and
-/// loses no byte, since the room for a read is made before it; [`Fault::Rule`] never comes. Linear in the bytes read and those held;
-/// `buf` alone takes memory, also ahead of what is read.
+/// After a fault too `buf` holds what it held, and after it exactly the bytes that the reader gave, in order. Any error of the reader, an
+/// interruption too, is [`Fault::Io`] at the count of all these bytes; a failed allocation is [`Fault::OutOfMemory`], and loses no byte,
+/// since the room for a read is made before it; [`Fault::Rule`] never comes. Linear in the bytes read and those held; `buf` alone takes
+/// memory, also ahead of what is read.
 pub fn resume<R: Read>(reader: &mut R, buf: &mut Vec<u8>) -> Result<(), Fault>
     requires room { vec_len buf.old ≤ MAX_LEN + 1 }
     ensures taken { IsReadBehind (R.remaining reader.old) (R.remaining reader.new) buf.old.items buf.new.items }
@@ -60,7 +60,7 @@ pub fn resume<R: Read>(reader: &mut R, buf: &mut Vec<u8>) -> Result<(), Fault>
     ensures ok { OnOk result (IsAtEnd (R.remaining reader.new) ⊎ (vec_len buf.new ≡ MAX_LEN + 1)) }
     ensures fault { IfErr result (λ e. IsReadFault e (vec_len buf.new)) }
 
-    // A reader that tells its bytes gives them all, up to the limit.
+    // A reader that reports its bytes gives them all, up to the limit.
     ensures whole { OnOk result (IfSome (R.remaining reader.old)
         (λ bytes. buf.new.items ≡ buf.old.items ++ take (MAX_LEN + 1 - length buf.old.items) bytes)) }
 {
@@ -80,7 +80,7 @@ fn fill<R: Read>(reader: &mut R, buf: &mut Vec<u8>) -> (usize, Result<(), Fault>
 {
     let mut filled = buf.len();
     while filled < MOST_BYTES {
-        // Room comes first, so that a refused growth loses no byte.
+        // Room comes first, so that a failed allocation loses no byte.
         let Ok(()) = make_room(buf, filled) else {
             return (filled, Err(Fault::OutOfMemory));
         };
@@ -93,9 +93,8 @@ fn fill<R: Read>(reader: &mut R, buf: &mut Vec<u8>) -> (usize, Result<(), Fault>
     (filled, Ok(()))
 }
 
-// At least one byte of room after the first `filled`. The vector's capacity doubles as it grows, so
-// that growing costs each byte a constant number of copies, but only room for the next read is
-// filled: memory behind it is never touched.
+// At least one byte of room after the first `filled`. The vector's capacity doubles as it grows, so that growing costs each byte a constant
+// number of copies, but only room for the next read is filled: memory after it is never touched.
 fn make_room(buf: &mut Vec<u8>, filled: usize) -> Result<(), AllocError>
     requires within { filled ≤ vec_len buf.old }
     requires below { filled < MAX_LEN + 1 }

@@ -18,7 +18,7 @@ pub const BLOCK: usize = 4096;
 /// Why there is no table of records.
 #[derive(Clone, Copy, Debug, PartialEq, Eq)]
 pub enum RecordsFault {
-    /// A growth was refused.
+    /// An allocation failed.
     OutOfMemory,
     /// A call of the source failed, or gave no byte where more were to come, at this offset in bytes.
     Io { at: u64 },
@@ -86,7 +86,7 @@ pub fn read_record<T: Record, S: Source>(
     Ok(record)
 }
 
-/// Puts the records that these bytes are behind the others.
+/// Puts the records that these bytes are after the others.
 fn push_records<T: Record + Drop>(
     order: Order,
     bytes: &[u8],

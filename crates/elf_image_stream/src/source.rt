@@ -11,14 +11,14 @@ pub struct Failed;
 
 /// Bytes that are read at any place.
 ///
-/// A source remembers its calls that failed, and tells its bytes or doesn't. Of one that tells them no call changes them. A file's source
-/// does not tell: a file may change while it is read. One that does not tell keeps [`Failures`](crate::Failures): `and_one_at(0)` behind
-/// a length that failed, and `and_read` behind each read.
+/// A source remembers its calls that failed, and reports its bytes or doesn't. Of one that reports them no call changes them. A file's
+/// source does not report: a file may change while it is read. One that does not report keeps [`Failures`](crate::Failures):
+/// `and_one_at(0)` after a length that failed, and `and_read` after each read.
 pub trait Source {
     ghost use Rattle.std.specs.Prelude.{ℕ, List, None, Option};
     ghost use Rattle.elf_image_stream.specs.declared.failures.Failures.{Failures};
 
-    // The bytes, where the source tells them.
+    // The bytes, where the source reports them.
     ghost content: { Self → Option (List ℕ) } = { λ _. None };
 
     // The calls that failed.
@@ -30,9 +30,9 @@ pub trait Source {
         ensures failures { RemembersCall 0 (failures self.old) (failures self.new) result }
         ensures length { SaysLength (content self.old) result };
 
-    /// Reads bytes from offset `at` on to the front of `buf`, and answers how many. They may be fewer than `buf` has room for, but 0
-    /// only where no byte stands at the offset, or `buf` is empty. [`Failed`] where the call fails; `buf` may have changed then. A call
-    /// that answers 0 counts as failed too where `buf` has room and the source does not tell its bytes.
+    /// Reads bytes from offset `at` on to the front of `buf`, and returns how many. They may be fewer than `buf` has room for, but 0 only
+    /// where no byte is at the offset, or `buf` is empty. [`Failed`] where the call fails; `buf` may have changed then. A call that answers
+    /// 0 counts as failed too where `buf` has room and the source does not report its bytes.
     fn read_at(&mut self, at: u64, buf: &mut [u8]) -> Result<usize, Failed>
         ensures kept { content self.new ≡ content self.old }
         ensures failures { RemembersRead (content self.old) at (length buf.old) (failures self.old) (failures self.new) result }

@@ -23,7 +23,7 @@ impl From<ReadFault> for Fault {
     }
 }
 
-/// One read at an offset into `buf` behind its first `filled` bytes, which stay.
+/// One read at an offset into `buf` after its first `filled` bytes, which stay.
 fn read_more<S: Source>(
     source: &mut S,
     at: u64,

@@ -1,4 +1,4 @@
--- Each field of an image's records is at its offset in the bytes that the image stands as.
+-- Each field of an image's records is at its offset in the bytes that represent the image.
 use Rattle.std.proofs.Common.{◌≡◌, ◌<◌, ℕ, List, length, take, sym, ap, subst, ◌∙◌, arith}
 use Rattle.elf_field.specs.declared.order.Order.{Order}
 use Rattle.elf_field.specs.declared.ehdr.Ehdr.{Ehdr}

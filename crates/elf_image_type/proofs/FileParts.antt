@@ -1,4 +1,4 @@
--- A file that is written from its parts breaks no rule, and what stands as it has its records and contents.
+-- A file that is written from its parts breaks no rule, and what it represents has its records and contents.
 use Rattle.std.proofs.Common.{◌≡◌, ◌≢◌, ◌<◌, ℕ, zero, suc, None, Some, List, [], ◌∷◌, length, take, drop, map, get_or, refl, sym, ap, ap₂, subst, ◌∙◌, inl, inr, arith}
 use Rattle.std.specs.Prelude.{slice_get}
 use Rattle.std.specs.List.{AllByRecursion, range_with_len}
@@ -140,7 +140,7 @@ owners_part f places parts are o some =
       },
     )
 
--- ---- each owner's bytes stand where they begin
+-- ---- each owner's bytes are where they begin
 
 pub owner_stands : (f : FileContents) (places : List ℕ) (parts : List WrittenPart) → AreFileParts f places parts → (o : Owner) →
     take (length (owner_bytes f o)) (drop (owner_start f o) (written places parts)) ≡ owner_bytes f o

@@ -21,7 +21,7 @@ use Rattle.elf_image_type.specs.Loads.{HasAddress, IsFirstWithAddress}
 
 -- ---- the parts
 
--- the part that stands for one that isn't there, and the one at a position
+-- the part used for one that isn't there, and the one at a position
 abbrev pub no_part : Part
 no_part = record { owner = Header; start = 0; len = 0 }
 
@@ -47,7 +47,7 @@ parts_end o cs file ps k sound same within =
     let last = length-append (f (part_of ps k)) [] in
     omega arith
 
--- no offset of the file lies behind all parts
+-- no offset of the file lies after all parts
 pub in_some_part : (o : OutlineValue) (cs : List (List ℕ)) (file : List ℕ) (ps : List Part) (offset : ℕ) → IsSoundImage (image_of o cs file) → ps ≡ o.parts →
     length (flat_map (bytes_in_parts o cs file) ps) ≤ offset → o.len ≤ offset
 in_some_part o cs file ps offset sound same behind =

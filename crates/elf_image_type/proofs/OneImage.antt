@@ -1,4 +1,4 @@
--- A list of bytes that breaks no rule is one image: no other value stands as it.
+-- A list of bytes that breaks no rule is one image: no other value is represented by it.
 use Rattle.std.proofs.Common.{◌≡◌, ℕ, zero, suc, Option, None, Some, List, [], ◌∷◌, map, refl, sym, ap, subst, ◌∙◌}
 use Rattle.std.specs.List.{AllByRecursion, range_with_len}
 use Rattle.elf_field.specs.declared.ehdr.Ehdr.{Ehdr}

@@ -167,7 +167,7 @@ module _ (h : Ehdr) (ss : List Shdr) (cs : List (List ℕ)) (names : ℕ) (file 
   counts : length cs ≡ length ss
   counts = same_count cs ss file.lengths
 
-  -- the section table begins behind the header
+  -- the section table begins after the header
   table_above : EHDR_SIZE ≤ h.e_shoff
   table_above =
       let all = length-append cs (section_table h ss names ∷ []) in

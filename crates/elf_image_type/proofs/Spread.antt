@@ -23,7 +23,7 @@ IsBytes-spread from (x ∷ q) (p ∷ ps) are =
     IsBytes-append (replicate (x - from) 0) (p ++ spread (x + length p) q ps) (IsBytes-zeros (x - from))
     (IsBytes-append p (spread (x + length p) q ps) are.0 (IsBytes-spread (x + length p) q ps are.1))
 
--- ---- each part stands at its offset
+-- ---- each part is at its offset
 
 length-zeros : (n : ℕ) → length (replicate {A = ℕ} n 0) ≡ n
 length-zeros n = length-replicate n 0

@@ -69,7 +69,7 @@ IsPartOf parts k o = (p : WrittenPart) × (slice_get parts k ≡ Some p) × (p.o
 
 -- the parts at these offsets are those of the file
 pub record AreFileParts (f : FileContents) (places : List ℕ) (parts : List WrittenPart) : Type 0 where
-  -- each stands behind the one before it
+  -- each is after the one before it
   pub order : Fits (map (λ p. unaligned p.bytes) parts) 0 places
   -- a part that has an owner is the owner's bytes, where they begin
   pub owned : (k : ℕ) (p : WrittenPart) → slice_get parts k ≡ Some p → p.owner ≢ Gap →
@@ -77,7 +77,7 @@ pub record AreFileParts (f : FileContents) (places : List ℕ) (parts : List Wri
   -- each owner that has a byte has a part
   pub each_owner : (o : Owner) → 0 < length (owner_bytes f o) → (k : ℕ) × IsPartOf parts k o
 
--- the file keeps the rules: 1 to 32 by its records, and 33 since its parts stand one behind the other
+-- the file keeps the rules: 1 to 32 by its records, and 33 since its parts are one after the other
 pub record IsWritable (f : FileContents) (places : List ℕ) (parts : List WrittenPart) : Type 0 where
   pub header : IsEhdr f.header
   pub section_headers : AllByRecursion IsShdr f.sections

@@ -9,7 +9,7 @@ use Rattle.elf_image_rules.specs.Tables.{program_header_of}
 abbrev pub HasAddress : Phdr → ℕ → Type 0
 HasAddress segment x = IsLoad segment × (segment.p_vaddr ≤ x) × (x < segment.p_vaddr + segment.p_memsz)
 
--- the byte that it gives its address x: that of the file b, from p_offset on, and 0 behind the p_filesz bytes there
+-- the byte that it gives its address x: that of the file b, from p_offset on, and 0 after the p_filesz bytes there
 abbrev pub loaded : List ℕ → Phdr → ℕ → ℕ
 loaded b segment x =
     if nat_lt (x - segment.p_vaddr) segment.p_filesz then slice_index b (segment.p_offset + (x - segment.p_vaddr)) else 0

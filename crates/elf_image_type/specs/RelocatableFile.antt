@@ -50,7 +50,7 @@ relocatable_file h ss cs names = record {
 abbrev pub section_table : Ehdr → List Shdr → ℕ → List ℕ
 section_table h ss names = flat_map (shdr_bytes (order_of h.e_ident)) (all_headers ss names)
 
--- the contents, and behind them the section header table
+-- the contents, and after them the section header table
 abbrev pub behind_header : Ehdr → List Shdr → List (List ℕ) → ℕ → List (List ℕ)
 behind_header h ss cs names = cs ++ (section_table h ss names ∷ [])
 
@@ -90,7 +90,7 @@ pub record IsRelocatableFile (h : Ehdr) (ss : List Shdr) (cs : List (List ℕ)) 
   pub name_table : h.e_shstrndx ≡ short_index names
   pub no_program_table : h.e_phoff ≡ 0
   pub no_segments : h.e_phnum ≡ 0
-  -- each part begins behind the one before it, and the last one ends in time
+  -- each part begins after the one before it, and the last one ends in time
   pub lengths : map length cs ≡ map (λ s. (content_extent s).len) ss
   pub order : Fits (map unaligned (behind_header h ss cs names)) EHDR_SIZE (offsets h ss)
   pub short : h.e_shoff + SHDR_SIZE * (length ss + 1) ≤ MAX_LEN

@@ -15,8 +15,8 @@ impl<'a> Image<'a> {
         self.outline.set_entry(entry);
     }
 
-    /// Sets `sh_flags` of section `i`. Answers [`NoSection`], and changes nothing, where `i` is 0 or not
-    /// below [`section_count`](Image::section_count).
+    /// Sets `sh_flags` of section `i`. Returns [`NoSection`], and changes nothing, where `i` is 0 or not below
+    /// [`section_count`](Image::section_count).
     pub fn set_flags(&mut self, i: usize, flags: u64) -> Result<(), NoSection>
         ensures ok { OnOk result (IsSectionIndex self.old i × (self.new ≡ with_flags self.old i flags)) }
         ensures err { OnErr result ((¬ IsSectionIndex self.old i) × (self.new ≡ self.old)) }

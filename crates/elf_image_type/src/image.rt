@@ -18,8 +18,8 @@ use std::marker::Model;
 /// An ELF-64 file that breaks no rule, as a value: what [`parse`](crate::parse) makes of the file's
 /// bytes, which it borrows, and what [`write`](crate::write) writes.
 ///
-/// Any image, edited or as read, stands as exactly one list of bytes, which breaks no rule either.
-/// No accessor and no edit takes memory. Offsets and lengths are in bytes.
+/// Any image, edited or as read, is represented by exactly one list of bytes, which breaks no rule either. No accessor and no edit takes
+/// memory. Offsets and lengths are in bytes.
 #[derive(Debug, Drop)]
 pub struct Image<'a> {
     pub(crate) outline: Outline,
@@ -42,8 +42,7 @@ impl<'a> Model for Image<'a> {
 }
 
 impl<'a> Image<'a> {
-    /// The image of these records and parts, with the contents, and the file that the gaps' bytes
-    /// stand in.
+    /// The image of these records and parts, with the contents, and the file that the gaps' bytes are in.
     pub(crate) fn new(outline: Outline, file: &'a [u8], contents: Vec<&'a [u8]>) -> Image<'a>
         requires { IsSoundImage (image_of outline (map (λ c. c.now) contents.items) file.now) }
         ensures { result ≡ image_of outline (map (λ c. c.now) contents.entry.items) file.entry.now }
@@ -55,8 +54,8 @@ impl<'a> Image<'a> {
         }
     }
 
-    /// Proves that the image stands as a list of bytes that breaks no rule. Code of another type
-    /// does not see the invariant: this call shows it. It does nothing.
+    /// Proves that the image is represented by a list of bytes that breaks no rule. Code of another type does not see the invariant: this
+    /// call shows it. It does nothing.
     pub fn prove_stands(&self)
         ensures { (b : List ℕ) × IsImage self.now b }
     {
@@ -107,8 +106,7 @@ impl<'a> Image<'a> {
         self.outline.name_table()
     }
 
-    /// Section header `i`, which is below [`section_count`](Image::section_count); number 0 as it
-    /// stands in the file.
+    /// Section header `i`, which is below [`section_count`](Image::section_count); number 0 as it is in the file.
     pub fn section(&self, i: usize) -> Shdr
         requires { i < length self.now.sections }
         ensures value { result ≡ section_header_of self.now.sections i }
@@ -212,7 +210,7 @@ impl<'a> Image<'a> {
     /// chapter 5, Program Header).
     ///
     /// A segment has `p_memsz` addresses from `p_vaddr` on. The first `p_filesz` of them have the bytes at `p_offset` of the file that
-    /// stands for the image, edited or as read; the others are 0. Linear in the segments and the parts.
+    /// represents the image, edited or as read; the others are 0. Linear in the segments and the parts.
     pub fn load(&self, address: u64) -> Option<u8>
         ensures loads { (b : List ℕ) × IsImage self.now b × LoadsFirst b self.now.segments address result }
         ensures each { (b : List ℕ) → IsImage self.now b → LoadsFirst b self.now.segments address result }

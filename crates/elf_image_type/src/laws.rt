@@ -13,7 +13,7 @@ ghost use Rattle.elf_image_type.specs.FileParts.{FileContents, HasContents, IsWr
 ghost use Rattle.elf_image_outline.specs.Image.{ImageValue, IsImage, IsSoundImage, Stands, program_header_of, section_header_of};
 ghost use Rattle.elf_image_type.specs.RelocatableFile.{IsRelocatableFile, relocatable_bytes, relocatable_file};
 
-/// An image stands as one list of bytes, and as no other, be it with a fault or without.
+/// An image is represented by one list of bytes, and by no other, be it with a fault or without.
 pub fn one_list()
     ensures { (v : ImageValue) (b c : List ℕ) → IsImage v b → Stands v c → b ≡ c }
 {}
@@ -23,12 +23,12 @@ pub fn some_image()
     ensures { (b : List ℕ) → IsBytes b → IsFault b None → (v : ImageValue) × IsImage v b }
 {}
 
-/// A list of bytes that breaks no rule is one image: no other value stands as it.
+/// A list of bytes that breaks no rule is one image: no other value is represented by it.
 pub fn one_image()
     ensures { (v w : ImageValue) (b : List ℕ) → IsImage v b → IsImage w b → v ≡ w }
 {}
 
-/// Each field of an image's records is at its offset in the bytes that the image stands as.
+/// Each field of an image's records is at its offset in the bytes that represent the image.
 pub fn fields()
     ensures header { (v : ImageValue) (b : List ℕ) → IsImage v b → IsEhdrAt (order_of v.header.e_ident) b 0 v.header }
     ensures sections { (v : ImageValue) (b : List ℕ) (i : ℕ) → IsImage v b → i < length v.sections →
@@ -37,15 +37,15 @@ pub fn fields()
         IsPhdrAt (order_of v.header.e_ident) b (phdr_offset v.header j) (program_header_of v.segments j) }
 {}
 
-/// An image value is sound by itself exactly where there is a list of bytes that it stands as, and
-/// that breaks no rule. So an edit that keeps a value sound leaves an image.
+/// An image value is sound by itself exactly where there is a list of bytes that represents it, and that breaks no rule. So an edit that
+/// keeps a value sound leaves an image.
 pub fn sound()
     ensures stands { (v : ImageValue) → IsSoundImage v → (b : List ℕ) × IsImage v b }
     ensures only { (v : ImageValue) (b : List ℕ) → IsImage v b → IsSoundImage v }
 {}
 
-/// A file that is written from its parts, each behind the one before it with zeros between: where its
-/// records keep the rules, the bytes break none, and what stands as them has these records and contents.
+/// A file that is written from its parts, each after the one before it with zeros between: where its records keep the rules, the bytes
+/// break none, and what they represent has these records and contents.
 pub fn written_file()
     ensures bytes { (f : FileContents) (places : List ℕ) (parts : List WrittenPart) → IsWritable f places parts →
         IsBytes (written places parts) }
@@ -55,8 +55,8 @@ pub fn written_file()
         (v : ImageValue) → Stands v (written places parts) → HasContents v f }
 {}
 
-/// A relocatable file, made of a header, contents and a section header table, with no segments: its bytes
-/// break no rule, and what stands as them has these records and contents, however many sections it has.
+/// A relocatable file, made of a header, contents and a section header table, with no segments: its bytes break no rule, and what they
+/// represent has these records and contents, however many sections it has.
 pub fn written_relocatable_file()
     ensures bytes { (h : Ehdr) (ss : List Shdr) (cs : List (List ℕ)) (names : ℕ) → IsRelocatableFile h ss cs names →
         IsBytes (relocatable_bytes h ss cs names) }

@@ -1,6 +1,6 @@
 //! An ELF-64 file as a value (System V ABI, generic part, chapters 4 and 5): from its bytes to the bytes on any writer.
 //!
-//! [`parse`] judges a file's bytes and makes an [`Image`], whose accessors tell the file's records, names, contents and parts and whose
+//! [`parse`] judges a file's bytes and makes an [`Image`], whose accessors report the file's records, names, contents and parts and whose
 //! edits keep it one, and [`write`] writes it. The entry of a file that some reader gives is set so, with `read_to_end` of
 //! `elf_image_stream`:
 //!

@@ -53,7 +53,7 @@ fn has_address(segment: &Phdr, address: u64) -> bool
         && address - segment.p_vaddr < segment.p_memsz
 }
 
-// The byte at an offset of the file that stands for the image: that of the part which the offset lies in.
+// The byte at an offset of the file that represents the image: that of the part which the offset lies in.
 fn byte_at(outline: &Outline, contents: &[&[u8]], file: &[u8], offset: u64) -> u8
     requires sound { IsSoundImage (image_of outline.now (map (λ content. content.now) contents.now) file.now) }
     requires within { offset < outline.now.len }

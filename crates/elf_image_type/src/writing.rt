@@ -10,7 +10,7 @@ use elf_image_stream::WriteFault;
 use elf_image_stream::output::{write_records, write_whole, write_zeros};
 use std::io::Write;
 
-/// Writes the bytes that stand for the image: exactly these, or exactly their first `written` and a
+/// Writes the bytes that represent the image: exactly these, or exactly their first `written` and a
 /// [`WriteFault`].
 ///
 /// Any error of the writer, an interruption too, is the fault, and so is a write that takes 0 bytes of

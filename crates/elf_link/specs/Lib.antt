@@ -1,4 +1,4 @@
--- The words of the contracts that this public crate shows, for the contracts of those who stand on it.
+-- The words of the contracts that this public crate shows, for the contracts of those who build on it.
 pub use Rattle.elf_link_field.specs.Number
 pub use Rattle.elf_link_field.specs.Rule
 pub use Rattle.elf_link_files.specs.Commons

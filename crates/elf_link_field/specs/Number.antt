@@ -27,7 +27,7 @@ abbrev pub modulo : ℕ → ℤ → ℕ
 modulo n (pos a) = a % 2 ^ (8 * n)
 modulo n (negsuc a) = 2 ^ (8 * n) - 1 - a % 2 ^ (8 * n)
 
--- the addend that stands in the field of n bytes at offset x: two's complement, but from 0 on where the range is Unsigned
+-- the addend that is in the field of n bytes at offset x: two's complement, but from 0 on where the range is Unsigned
 abbrev pub addend_from : (ℕ → List ℕ → ℕ) → Range → List ℕ → ℕ → ℕ → ℤ
 addend_from number Signed b x n = twos_complement n (from number b x n)
 addend_from number Unsigned b x n = pos (from number b x n)

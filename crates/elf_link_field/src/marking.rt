@@ -5,8 +5,8 @@ ghost use Rattle.elf_link_field.specs.Rule.{size_of};
 
 use crate::rule::Width;
 
-/// Marks the bytes of the field of this width at an offset, and answers whether one of them had a mark before. `marks` has a mark
-/// for each byte of a section, in which the field has to lie whole.
+/// Marks the bytes of the field of this width at an offset, and returns whether one of them had a mark before. `marks` has a mark for each
+/// byte of a section, in which the field has to lie whole.
 pub fn mark(marks: &mut [bool], offset: usize, width: Width) -> bool
     requires { offset + size_of width ≤ length marks.old }
     ensures taken { IsTrue result ↔ AreTaken marks.old offset (size_of width) }

@@ -94,8 +94,8 @@ impl<'b> BytesField<'b> {
     }
 }
 
-/// The addend that stands in the field of this width at an offset of the bytes, in which it has to lie whole (an entry of type
-/// `SHT_REL` has no other one): two's complement, but from 0 on where the range is [`Range::Unsigned`].
+/// The addend that is in the field of this width at an offset of the bytes, in which it has to lie whole (an entry of type `SHT_REL` has no
+/// other one): two's complement, but from 0 on where the range is [`Range::Unsigned`].
 #[tactic(auto, unfolding(elf_field::specs::Bytes::num))]
 pub fn addend_in(order: Order, range: Range, width: Width, bytes: &[u8], offset: usize) -> i128
     requires { offset + size_of width ≤ length bytes.now }

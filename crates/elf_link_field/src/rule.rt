@@ -43,9 +43,9 @@ impl Width {
 /// The numbers that a field of some width admits.
 #[derive(Clone, Copy, Debug, PartialEq, Eq)]
 pub enum Range {
-    /// Those that stand in it as two's complement.
+    /// Those that are in it as two's complement.
     Signed,
-    /// Those from 0 on that stand in it.
+    /// Those from 0 on that are in it.
     Unsigned,
     /// All, of which it holds the lowest bytes.
     Wrap,

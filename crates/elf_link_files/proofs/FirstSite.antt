@@ -1,4 +1,4 @@
--- A row that stands somewhere stands at a first site, where it can be told of each symbol.
+-- A row that is broken somewhere is broken at a first site, where it can be reported of each symbol.
 use Rattle.std.proofs.Common.{◌≡◌, ℕ, ◌<◌, ◌⊎◌, List, length, zero, suc, inl, inr, refl, subst, arith}
 use Rattle.std.proofs.lemmas.Bool.{cases_lt}
 use Rattle.elf_object_type.specs.Object.{ObjectValue}

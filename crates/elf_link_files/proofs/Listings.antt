@@ -26,7 +26,7 @@ last ps q k end = get_or_push ps q (site 0 0) k end
 longer : (ps : List Site) (q : Site) → length (ps ++ q ∷ []) ≡ length ps + 1
 longer ps q = simp length-append
 
--- one more site, behind all others
+-- one more site, after all others
 pub lists_more : (row next : Row Site) (ps : List Site) (q : Site) → ((p : Site) → row p → next p) → next q → ((p : Site) → next p → row p ⊎ (p ≡ q)) →
     ((p : Site) → row p → Before p q) → Lists row ps → Lists next (ps ++ q ∷ [])
 lists_more row next ps q into here split before is = record {
@@ -101,7 +101,7 @@ one_before p q (inr same) (inr other) = elim same.1 [
   | inr entry ↦ elim other.1 [ inl lower ↦ (let eq = entry.0 in omega arith) | inr again ↦ (let a = entry.1 in let b = again.1 in omega arith) ]
 ]
 
--- the earlier one of two sites of a list stands before the other
+-- the earlier one of two sites of a list is before the other
 pub position_before : (row : Row Site) (ps : List Site) (j k : ℕ) → Lists row ps → j < length ps → k < length ps →
     Before (site_at ps j) (site_at ps k) → j < k
 position_before row ps j k is j_in k_in before = elim (cases_lt j k) [

@@ -34,7 +34,7 @@ in_rest : (x : Site) (xs : List Site) (p : Site) → Before x p → (k : ℕ) �
 in_rest x xs p before zero lt at = (let self = subst (Before x) (sym at) before in absurd (one_before x x self self))
 in_rest x xs p before (suc k) lt at = (k, omega arith, at)
 
--- a list of a row without its first site is that of the sites behind it
+-- a list of a row without its first site is that of the sites after it
 behind : (row : Row Site) (x : Site) (xs : List Site) → Lists row (x ∷ xs) → Lists (λ p. row p × Before x p) xs
 behind row x xs is = record {
   each = λ k lt. (is.each (suc k) (omega arith), is.order 0 (suc k) (omega arith) (omega arith));
@@ -47,7 +47,7 @@ first_or_behind : (x : Site) (xs : List Site) (k : ℕ) → ((j : ℕ) → 0 < j
 first_or_behind x xs zero order lt = inl refl
 first_or_behind x xs (suc k) order lt = inr (order (suc k) (omega arith) lt)
 
--- the first site of a list of the row is no site behind another one of the row
+-- the first site of a list of the row is no site after another one of the row
 first_of : (row : Row Site) (x : Site) (xs : List Site) (p : Site) → Lists row (x ∷ xs) → row p → (x ≡ p) ⊎ Before x p
 first_of row x xs p is there =
     let (k, lt, at) = is.all p there in

@@ -1,6 +1,6 @@
--- What the proofs of the crates above may cite: which of two sites comes first; how a list of sites grows, and that a row has one
--- first site, one list of its sites, and a list of rules one fault; what is said of each item of a list; that an object of a link is
--- the one at its file's index, and its symbols stand in its sections; and that two values are one or not.
+-- What the proofs of the crates above may cite: which of two sites comes first; how a list of sites grows, and that a row has one first
+-- site, one list of its sites, and a list of rules one fault; what is said of each item of a list; that an object of a link is the one at
+-- its file's index, and its symbols are in its sections; and that two values are one or not.
 pub use Rattle.elf_link_files.proofs.Earlier.{first_earlier, first_same}
 pub use Rattle.elf_link_files.proofs.FirstSite.{first_in_row}
 pub use Rattle.elf_link_files.proofs.Items.{each_more, one_each, table_read}

@@ -3,7 +3,7 @@ use Rattle.std.specs.Prelude.{ℕ, ◌≡◌, ◌<◌, ◌⊎◌, List, [], get_
 use Rattle.elf_field.specs.declared.order.Order.TheVariants.{Little}
 use Rattle.elf_object_type.specs.Object.{ObjectValue, SectionValue, SymbolValue, section_at, symbol_at}
 
--- the one that stands for a file that isn't there
+-- the one used for a file that isn't there
 abbrev pub no_object : ObjectValue
 no_object = record { order = Little; osabi = 0; abi = 0; machine = 0; flags = 0; sections = []; symbols = [] }
 

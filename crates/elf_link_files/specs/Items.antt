@@ -8,7 +8,7 @@ pub record AreEach {A : Type 0} (none : A) (P : ℕ → A → Type 0) (n : ℕ) 
   pub count : length items ≡ n
   pub each : (k : ℕ) → k < n → P k (get_or items k none)
 
--- a list of sites has this one; no site stands in it twice
+-- a list of sites has this one; no site is in it twice
 abbrev pub IsSiteIn : List Site → Site → Type 0
 IsSiteIn ps p = (k : ℕ) × (k < length ps) × (site_at ps k ≡ p)
 

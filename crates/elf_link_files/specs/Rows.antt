@@ -1,4 +1,4 @@
--- Where a rule of the link stands, and the first rule of a list that does, at its first site: by file, index and entry.
+-- Where a rule of the link is broken, and the first rule of a list that is broken, at its first site: by file, index and entry.
 use Rattle.std.specs.Prelude.{◌≡◌, ℕ, ◌<◌, ◌⊎◌, Option, List, length}
 use Rattle.elf_image_rules.specs.Rows.{FirstBy, Row, Ruled}
 use Rattle.elf_object_type.specs.Object.{ObjectValue}
@@ -8,7 +8,7 @@ use Rattle.elf_link_files.specs.Files.{object_at}
 abbrev pub Before : Site → Site → Type 0
 Before p q = (p.file < q.file) ⊎ ((p.file ≡ q.file) × ((p.index < q.index) ⊎ ((p.index ≡ q.index) × (p.entry < q.entry))))
 
--- the row stands at this site, and at no site before it
+-- the row is broken at this site, and at no site before it
 pub record IsFirstAt (row : Row Site) (p : Site) : Type 0 where
   pub stands : row p
   pub first : (q : Site) → row q → Before q p → ⊥
@@ -36,6 +36,6 @@ AtSection = AtEach section_count
 abbrev pub AtSymbol : List ObjectValue → (ℕ → ℕ → Type 0) → Row Site
 AtSymbol = AtEach symbol_count
 
--- what was found is the first rule of the list that stands, with its first site, and None if none stands
+-- what was found is the first rule of the list that is broken, with its first site, and None if none is broken
 abbrev pub FirstAmong : List {1} (Ruled Site) → Option (ℕ × Site) → Type 0
 FirstAmong = FirstBy IsFirstAt

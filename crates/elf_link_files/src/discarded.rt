@@ -16,7 +16,7 @@ use elf_object_type::{Body, Object};
 use std::alloc::{AllocError, Global};
 use std::collections::BTreeSet;
 
-/// Adds a name to a set, and answers whether it is new there.
+/// Adds a name to a set, and returns whether it is new there.
 fn add_name<'a>(seen: &mut BTreeSet<&'a [u8]>, name: &'a [u8]) -> Result<bool, AllocError>
     ensures added { IfOk result (λ added. added ≡ not (has_name seen.old name.now)) }
     ensures names { OnOk result ((q : List ℕ) → has_name seen.new q ≡ (if bytes_eq name.now q then true else has_name seen.old q)) }

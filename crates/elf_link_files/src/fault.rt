@@ -7,11 +7,11 @@ use elf_image_rules::Broken;
 use std::alloc::{AllocError, AllocFailed};
 use thiserror::Error;
 
-/// The first of the link's rules ([`rules`](crate::rules)) that stands, or want of memory.
+/// The first of the link's rules ([`rules`](crate::rules)) that is broken, or out of memory.
 #[derive(Clone, Copy, Debug, PartialEq, Eq, Error)]
 pub enum LinkFault {
-    /// The rule of this number stands, and no lower one: at this file, this section or symbol of it, and this entry of a
-    /// relocation section; no earlier ones. What the rule does not look at is 0.
+    /// The rule of this number is broken, and no lower one: at this file, this section or symbol of it, and this entry of a relocation
+    /// section; no earlier ones. What the rule does not look at is 0.
     #[error("rule {rule} ({name}) at entry {entry} of {index} in file {file}", name = rule_name(*.rule))]
     Rule {
         rule: u16,
@@ -19,7 +19,7 @@ pub enum LinkFault {
         index: usize,
         entry: usize,
     },
-    /// A growth was refused.
+    /// An allocation failed.
     #[error("out of memory")]
     OutOfMemory,
 }

@@ -9,7 +9,7 @@ use crate::inputs::Inputs;
 pub struct InputSection<'i, 'l, 'a> {
     /// The files.
     pub inputs: &'i Inputs<'l, 'a>,
-    /// Where it stands in them.
+    /// Where it is in them.
     pub id: SectionId,
     ghost there: { IsSectionIn inputs.now id },
 }

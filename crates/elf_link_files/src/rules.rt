@@ -14,11 +14,11 @@ pub const EMPTY_SIGNATURE: u16 = 5;
 pub const BAD_SYMBOL: u16 = 6;
 /// A common symbol is not global, or its value, the alignment, is no power of two.
 pub const BAD_COMMON: u16 = 7;
-/// A global definition stands behind another of its name.
+/// A global definition is after another of its name.
 pub const TWO_DEFINITIONS: u16 = 8;
 /// A global symbol counts as undefined, and its name has no binding.
 pub const UNDEFINED_NAME: u16 = 9;
 /// The entry symbol is not bound, zero, in a section that is not live, or at 2^64 or later.
 pub const NO_ENTRY: u16 = 10;
-/// A section or common ends at 2^64 or later, counted behind its last byte.
+/// A section or common ends at 2^64 or later, counted after its last byte.
 pub const ADDRESS_OVERFLOW: u16 = 11;

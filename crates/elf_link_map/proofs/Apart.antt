@@ -1,4 +1,4 @@
--- The parts of a link map stand apart: each has its size, and parts have places behind one another.
+-- The parts of a link map are apart: each has its size, and parts have places one after another.
 use Rattle.std.proofs.Common.{◌≡◌, ℕ, ◌+◌, ◌<◌, ◌≤◌, List, [], ◌∷◌, ◌++◌, length, map, inl, inr, refl, sym, ◌∙◌, ap, subst, arith}
 use Rattle.std.specs.Prelude.{Option, None, Some, slice_index}
 use Rattle.std.specs.List.{flat_map}
@@ -126,7 +126,7 @@ chosen_in : (opt : Options) (fs : List ObjectValue) (l : LinkPlan) (m : LinkMapV
     k < length l.plan.commons
 chosen_in opt fs l m k of lt = let count = of.commons.count in omega arith
 
--- the common at position k is the part behind all sections and k commons
+-- the common at position k is the part after all sections and k commons
 pub common_begins : (opt : Options) (fs : List ObjectValue) (l : LinkPlan) (m : LinkMapValue) (k : ℕ) → IsMapOf opt fs l m → k < length m.commons →
     (common_at m.commons k).address ≡ slice_index l.places (length (placed l.plan) + k)
 common_begins opt fs l m k of lt = ap (λ (c : CommonValue). c.address) (of.commons.each k (chosen_in opt fs l m k of lt))

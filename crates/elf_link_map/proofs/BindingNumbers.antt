@@ -37,7 +37,7 @@ numbers_in fs cs ps bindings names position rows firsts named positions are is m
     numbers_bound fs m position rows are
     (subst (λ (bs : List (List ℕ × Binding)). AreBindingPositions bs position) (sym (same ∙ is)) (positions_are fs cs ps bindings position firsts named positions))
 
--- the name of a symbol that is not local stands in the link map
+-- the name of a symbol that is not local is in the link map
 entry_bound : (fs : List ObjectValue) (m : LinkMapValue) (f i : ℕ) → IsSomeLinkMap fs m → f < length fs →
     i < length (object_at fs f).symbols → binding (symbol_in fs f i) ≢ STB_LOCAL → bound_in m.bindings (symbol_in fs f i).name ≡ None → ⊥
 entry_bound fs m f i (opt, base, page, entry, (l, plan, is)) f_in i_in not_local none =

@@ -81,7 +81,7 @@ place_multiple (p ∷ parts) from [] k fits lt = absurd fits
 place_multiple (p ∷ parts) from (x ∷ places) zero fits lt = fits.0
 place_multiple (p ∷ parts) from (x ∷ places) (suc k) fits lt = place_multiple parts (x + p.0) places k fits.2 (omega arith)
 
--- a place at which the first of some raised parts stands
+-- a place at which the first of some raised parts is
 raised_multiple : (page : ℕ) (parts : List (ℕ × ℕ)) (x : ℕ) → 0 < length parts → IsPowerOfTwo page → HavePowers parts →
     IsMultiple (get_or (raised page parts) 0 (0, 0)).1 x → x % page ≡ 0
 raised_multiple page [] x some power powers multiple = absurd (omega arith)

@@ -1,4 +1,4 @@
--- Where no rule of a link stands, it can't be that no value is its link map.
+-- Where no rule of a link is broken, it can't be that no value is its link map.
 use Rattle.std.proofs.Common.{◌≡◌, ℕ, ◌+◌, ◌-◌, ◌^◌, ◌<◌, ◌≤◌, zero, suc, Bool, false, true, List, [], ◌∷◌, length, get_or, map, inl, inr, refl, sym, ◌∙◌, ap, subst, arith, add-one}
 use Rattle.std.specs.Prelude.{◌↔◌, cond, MatchOption, Option, None, Some, replicate, slice_index}
 use Rattle.std.specs.Str.{bytes_eq}
@@ -99,7 +99,7 @@ some_marks fs none =
 
 -- ---- names
 
--- the binding b of a name stands at a position of a list
+-- the binding b of a name is at a position of a list
 abbrev Stands : List (List ℕ × Binding) → List ℕ → Binding → Type 0
 Stands bs name b = (k : ℕ) × (k < length bs) × ((get_or bs k no_name).0 ≡ name) × ((get_or bs k no_name).1 ≡ b)
 
@@ -113,7 +113,7 @@ found_first e bs name b false other is rest =
     let (k, lt, named, at) = rest (sym (ap (λ (t : Bool). cond t (Some e.1) (bound_in bs name)) other) ∙ is) in
     (suc k, omega arith, named, at)
 
--- what a list has of a name stands in it
+-- what a list has of a name is in it
 found_in : (bs : List (List ℕ × Binding)) (name : List ℕ) (b : Binding) → bound_in bs name ≡ Some b → Stands bs name b
 found_in [] name b is = absurd (none_some b is)
 found_in (e ∷ bs) name b is = found_first e bs name b (bytes_eq name e.0) refl is (found_in bs name b)

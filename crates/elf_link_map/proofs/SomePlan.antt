@@ -1,5 +1,5 @@
--- Of any objects and options it can't be that they have no plan; so it can't be that no answer is the first rule of their link that stands,
--- or that none does. What a rule or a list says need not be decided for that.
+-- Of any objects and options it can't be that they have no plan; so it can't be that no answer is the first rule of their link that is
+-- broken, or that none is. What a rule or a list says need not be decided for that.
 use Rattle.std.proofs.Common.{◌≡◌, ℕ, ◌+◌, ◌<◌, ◌≤◌, ◌⊎◌, zero, suc, false, true, List, [], ◌∷◌, ◌++◌, length, inl, inr, refl, sym, subst, arith, add-one}
 use Rattle.std.specs.Prelude.{Option, None, Some}
 use Rattle.std.specs.Borrow.{Bor}
@@ -244,7 +244,7 @@ some_plan opt fs none =
     (λ t is. none (record { plan = plan; places = least.0; target = t })
     (record { plan = record { outputs = are; commons = chosen }; target = is; least = least.1 })))))
 
--- ---- the first rule that stands
+-- ---- the first rule that is broken
 
 pub some_link_fault : (opt : Options) (fs : List ObjectValue) → ¬ ((x : Option (ℕ × Site)) → ¬ FirstOfLink opt fs x)
 some_link_fault opt fs none = some_site (input_rules opt fs) of_inputs where

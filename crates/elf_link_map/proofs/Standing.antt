@@ -1,4 +1,4 @@
--- Outputs stand apart, and their members stand in them: the members of output k are the parts of the plan from the start of k on.
+-- Outputs are apart, and their members are in them: the members of output k are the parts of the plan from the start of k on.
 use Rattle.std.proofs.Common.{◌≡◌, ℕ, ◌+◌, ◌-◌, ◌<◌, ◌≤◌, List, [], ◌∷◌, get_or, length, map, take, zero, suc, inl, inr, refl, sym, ◌∙◌, ap, subst, arith, length-append}
 use Rattle.std.specs.Prelude.{Option, Some, slice_index}
 use Rattle.std.proofs.lemmas.Bool.{cases_lt}
@@ -40,7 +40,7 @@ flat_split (o ∷ oss) n lt = elim (cases_lt n (length o)) [
       (suc k, i, omega arith, i_in, omega (arith, length-append o (flat (take k oss)))))
 ]
 
--- a list begins where each one before it has ended, or behind that
+-- a list begins where each one before it has ended, or after that
 starts_ascend : (oss : List (List Site)) (j k : ℕ) → j < k → k < length oss → start_of oss j + length (members_at oss j) ≤ start_of oss k
 starts_ascend oss j zero lt within = absurd (omega arith)
 starts_ascend oss j (suc k) lt within = elim (cases_lt j k) [
@@ -51,7 +51,7 @@ starts_ascend oss j (suc k) lt within = elim (cases_lt j k) [
       subst (λ (n : ℕ). start_of oss n + length (members_at oss n) ≤ start_of oss (suc k)) same (omega arith))
 ]
 
--- places that ascend fit parts that may stand anywhere
+-- places that ascend fit parts that may be anywhere
 fits_by : {A : Type 0} (size place : A → ℕ) (none : A) (xs : List A) (from : ℕ) → (0 < length xs → from ≤ place (get_or xs 0 none)) →
     ((i : ℕ) → suc i < length xs → place (get_or xs i none) + size (get_or xs i none) ≤ place (get_or xs (suc i) none)) →
     Fits (map (λ x. (size x, 1)) xs) from (map place xs)
@@ -67,7 +67,7 @@ begins_here o a at = at ∙ ap Some (sym (ap or_zero at))
 
 -- ---- the members of an output
 
--- member i of output k is this section, which begins and ends where the part so far behind the start of the output does
+-- member i of output k is this section, which begins and ends where the part so far after the start of the output does
 record IsPartOf (opt : Options) (fs : List ObjectValue) (l : LinkPlan) (m : LinkMapValue) (k i : ℕ) (p : Member) : Type 0 where
   same : member_at (output_at m k) i ≡ p
   here : site_at (members_at l.plan.outputs k) i ≡ site p.file p.section

@@ -1,5 +1,5 @@
--- The parts of a link map stand apart: each live section has an address, each part ends below 2^64, and no address lies in two.
--- (Placement is this project's profile.)
+-- The parts of a link map are apart: each live section has an address, each part ends below 2^64, and no address lies in two. (Placement is
+-- this project's profile.)
 use Rattle.std.specs.Prelude.{◌≡◌, ◌↔◌, ℕ, ◌+◌, ◌^◌, ◌<◌, ◌≤◌, ◌⊎◌, Some, List, length}
 use Rattle.elf_object_type.specs.Object.{ObjectValue}
 use Rattle.elf_link_files.specs.Files.{section_in}
@@ -16,8 +16,8 @@ size_in fs f s = memory_size (section_in fs f s).body
 abbrev pub BeginsAt : LinkMapValue → ℕ → ℕ → ℕ → Type 0
 BeginsAt m f s a = cell m.addresses f s ≡ Some a
 
--- exactly the live sections have an address; each ends below 2^64; of two of them one ends where the other begins, or before;
--- and the commons stand behind them, one behind the other, and end below 2^64 too
+-- exactly the live sections have an address; each ends below 2^64; of two of them one ends where the other begins, or before; and the
+-- commons are after them, one after the other, and end below 2^64 too
 pub record StandApart (fs : List ObjectValue) (m : LinkMapValue) : Type 0 where
   pub addressed : (f s : ℕ) → live fs (site f s) ↔ ((a : ℕ) × BeginsAt m f s a)
   pub within : (f s a : ℕ) → BeginsAt m f s a → a + size_in fs f s < 2 ^ 64

@@ -8,7 +8,7 @@ use Rattle.elf_link_map.specs.declared.bindings.Binding.{Binding}
 use Rattle.elf_link_map.specs.LinkMap.{LinkMapValue}
 use Rattle.elf_link_map.specs.Naming.{StandsAt}
 
--- k is where the binding of the name of symbol i of file f stands; nothing is said of a local one
+-- k is where the binding of the name of symbol i of file f is; nothing is said of a local one
 abbrev pub IsBindingNumber : List ObjectValue → LinkMapValue → ℕ → ℕ → ℕ → Type 0
 IsBindingNumber fs m f i k = binding (symbol_in fs f i) ≢ STB_LOCAL → StandsAt m.bindings (symbol_in fs f i).name k
 

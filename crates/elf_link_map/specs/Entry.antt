@@ -36,7 +36,7 @@ IsPlaceTarget ps f value (In s) t = IsSectionTarget ps f s value t
 abbrev pub IsSymbolTarget : List ObjectValue → List Site → ℕ → ℕ → Target → Type 0
 IsSymbolTarget fs ps f i t = IsPlaceTarget ps f (symbol_in fs f i).value (symbol_in fs f i).place t
 
--- the value of a name by its binding: that of its definition, or where its common stands, behind all sections
+-- the value of a name by its binding: that of its definition, or where its common is, after all sections
 abbrev pub IsChoiceTarget : List ObjectValue → List Site → List Chosen → List ℕ → Choice → Target → Type 0
 IsChoiceTarget fs ps cs name (Strong file symbol) t = IsSymbolTarget fs ps file symbol t
 IsChoiceTarget fs ps cs name (Common size align) t = (k : ℕ) × IsCommonOf fs cs name k × (t ≡ Part (length ps + k) 0)

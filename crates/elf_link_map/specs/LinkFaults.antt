@@ -1,4 +1,4 @@
--- The fault of a link: the first of rules 1 to 11 that stands. Rules 10 and 11 are asked of the plan, where none before stands.
+-- The fault of a link: the first of rules 1 to 11 that is broken. Rules 10 and 11 are asked of the plan, where none before is broken.
 use Rattle.std.specs.Prelude.{◌⊎◌, ℕ, Option, None, Some, List}
 use Rattle.elf_object_type.specs.Object.{ObjectValue}
 use Rattle.elf_link_files.specs.declared.fault.LinkFault.{LinkFault}
@@ -16,13 +16,13 @@ abbrev pub FirstOfAddresses : Options → List ObjectValue → Option (ℕ × Si
 FirstOfAddresses opt fs found =
     (l : LinkPlan) × IsLinkPlan opt fs l × FirstAmong (address_rules (link_parts fs opt l) opt.base l.target) found
 
--- the first rule of the link that stands
+-- the first rule of the link that is broken
 abbrev pub FirstOfLink : Options → List ObjectValue → Option (ℕ × Site) → Type 0
 FirstOfLink opt fs None = FirstAmong (input_rules opt fs) None × FirstOfAddresses opt fs None
 FirstOfLink opt fs (Some broken) =
     FirstAmong (input_rules opt fs) (Some broken) ⊎ (FirstAmong (input_rules opt fs) None × FirstOfAddresses opt fs (Some broken))
 
--- memory is taken only where rules 1 and 2 don't stand
+-- memory is taken only where rules 1 and 2 are not broken
 abbrev pub IsLinkFault : Options → List ObjectValue → LinkFault → Type 0
 IsLinkFault opt fs (Rule number file index entry) =
     FirstOfLink opt fs (Some (number, record { file = file; index = index; entry = entry }))

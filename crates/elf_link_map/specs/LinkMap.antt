@@ -48,11 +48,11 @@ IsBinding fs cs name Zero = Binds fs name ZeroChoice
 abbrev pub bound_in : List (List ℕ × Binding) → List ℕ → Option Binding
 bound_in bindings name = lookup (bytes_eq name) bindings
 
--- the one that stands for a name that isn't there
+-- the one used for a name that isn't there
 abbrev pub no_name : List ℕ × Binding
 no_name = ([], Zero)
 
--- each name with an entry stands there once, in the order of the first entries
+-- each name with an entry is there once, in the order of the first entries
 abbrev pub AreNames : List ObjectValue → List (List ℕ × Binding) → Type 0
 AreNames fs bindings = (ps : List Site) × Lists (first_entries fs) ps × (map (λ e. e.0) bindings ≡ map (name_at fs) ps)
 

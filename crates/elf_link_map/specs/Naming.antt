@@ -1,4 +1,4 @@
--- Names by position: what each is bound to, and where its common stands.
+-- Names by position: what each is bound to, and where its common is.
 use Rattle.std.specs.Prelude.{◌≡◌, ℕ, ◌<◌, Option, None, Some, MatchOption, List, get_or, length}
 use Rattle.elf_object_type.specs.Object.{ObjectValue}
 use Rattle.elf_link_files.specs.declared.chosen.Chosen.{Chosen}
@@ -10,11 +10,11 @@ use Rattle.elf_link_outputs.specs.Placed.{CommonValue, no_placed}
 use Rattle.elf_link_map.specs.declared.bindings.Binding.{Binding}
 use Rattle.elf_link_map.specs.LinkMap.{IsBinding, bound_in, no_name}
 
--- the binding of a name stands at this position
+-- the binding of a name is at this position
 abbrev pub StandsAt : List (List ℕ × Binding) → List ℕ → ℕ → Type 0
 StandsAt bindings name k = (k < length bindings) × (bound_in bindings name ≡ Some (get_or bindings k no_name).1)
 
--- that of each name stands at its position
+-- that of each name is at its position
 abbrev pub AreBindingPositions : List (List ℕ × Binding) → (List ℕ → Option ℕ) → Type 0
 AreBindingPositions bindings position = (name : List ℕ) → MatchOption (position name) (bound_in bindings name ≡ None) (StandsAt bindings name)
 

@@ -1,5 +1,5 @@
--- Where the outputs of a link map stand, and where their members stand in them.
--- (gABI chapter 4, Sections; outputs and placement are this project's profile.)
+-- Where the outputs of a link map are, and where their members are in them. (gABI chapter 4, Sections; outputs and placement are this
+-- project's profile.)
 use Rattle.std.specs.Prelude.{◌≡◌, ℕ, ◌+◌, ◌-◌, ◌%◌, ◌^◌, ◌<◌, ◌≤◌, Option, None, Some, List, get_or, length, map}
 use Rattle.std.specs.Int.{IsPowerOfTwo}
 use Rattle.elf_extent.specs.Place.{Fits, end_of}
@@ -29,7 +29,7 @@ output_at m k = get_or m.outputs k no_output
 abbrev pub output_end : LinkMapValue → ℕ → ℕ
 output_end m k = (output_at m k).address + (output_at m k).length
 
--- the member that stands for one that isn't there, and the one at a position of an output
+-- the member used for one that isn't there, and the one at a position of an output
 abbrev pub no_member : Member
 no_member = record { file = 0; section = 0 }
 
@@ -47,7 +47,7 @@ abbrev pub member_part : List ObjectValue → Member → ℕ × ℕ
 member_part fs p = (size_in fs p.file p.section, 1)
 
 -- an output has members, all of them live, with an address, and all with bits or all without; it begins where the first of them begins,
--- each other one begins where the one before it ends, or behind that, and it ends where the last one ends
+-- each other one begins where the one before it ends, or after that, and it ends where the last one ends
 pub record MembersStand (fs : List ObjectValue) (m : LinkMapValue) (o : OutputValue) : Type 0 where
   pub some : 0 < length o.members
   pub live : EachMemberOf o (λ p. live fs (site p.file p.section))
@@ -61,7 +61,7 @@ pub record MembersStand (fs : List ObjectValue) (m : LinkMapValue) (o : OutputVa
 abbrev pub IsMemberAt : LinkMapValue → ℕ → ℕ → ℕ → ℕ → Type 0
 IsMemberAt m f s k i = (k < length m.outputs) × (i < length (output_at m k).members) × (member_at (output_at m k) i ≡ record { file = f; section = s })
 
--- the members of each output stand in it, and each section that has an address is a member of just one, once; each output ends below 2^64,
+-- the members of each output are in it, and each section that has an address is a member of just one, once; each output ends below 2^64,
 -- and where each later one and each common begins, or before: so outputs ascend, and no address lies in two of them, or in one and a common
 pub record OutputsStand (fs : List ObjectValue) (m : LinkMapValue) : Type 0 where
   pub members : (k : ℕ) → k < length m.outputs → MembersStand fs m (output_at m k)

@@ -33,7 +33,7 @@ pub(crate) struct BoundNames<'a> {
     pub(crate) marks: Vec<Vec<bool>>,
     /// All names with their bindings, in the order of their first entries.
     pub(crate) names: Names<'a>,
-    /// For each symbol of each file that is not local where its name stands among them.
+    /// For each symbol of each file that is not local where its name is among them.
     pub(crate) numbers: Vec<Vec<usize>>,
 }
 

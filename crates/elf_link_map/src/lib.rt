@@ -1,7 +1,7 @@
-//! The link of relocatable ELF-64 objects (gABI chapter 4; placement is this project's profile): which sections are kept,
-//! what each name is bound to, and where everything stands.
+//! The link of relocatable ELF-64 objects (gABI chapter 4; placement is this project's profile): which sections are kept, what each name is
+//! bound to, and where everything is.
 //!
-//! [`map`] answers the [`LinkMap`] of some objects, or the first rule ([`rules`]) of the link that stands.
+//! [`map`] answers the [`LinkMap`] of some objects, or the first rule ([`rules`]) of the link that is broken.
 //!
 //! ```
 //! let options = Options {

@@ -20,9 +20,9 @@ use elf_object_type::Object;
 use std::alloc::Global;
 use std::hash::BuildHasher;
 
-/// Where everything of a link stands.
+/// Where everything of a link is.
 ///
-/// Answers the first of rules 10 and 11 that stands, and [`LinkFault::OutOfMemory`] only where memory is refused.
+/// Returns the first of rules 10 and 11 that is broken, and [`LinkFault::OutOfMemory`] only where an allocation fails.
 fn placed<'l, 'a, S: BuildHasher + Drop>(
     alloc: Global,
     resolution: &'l Resolution<'_, 'a>,
@@ -42,7 +42,7 @@ fn placed<'l, 'a, S: BuildHasher + Drop>(
 
 /// The link map of these objects, as [`map`] answers it, with the number of the name of each symbol, which its making takes anyway.
 ///
-/// Answers what `map` does where one of the link's rules stands, or memory is refused.
+/// Returns what `map` does where one of the link's rules is broken, or an allocation fails.
 pub fn map_numbered<'a, S: BuildHasher + Drop>(
     alloc: Global,
     objects: &[Object<'a>],
@@ -78,15 +78,15 @@ pub fn map_numbered<'a, S: BuildHasher + Drop>(
     })
 }
 
-/// The link map of these objects: where each live section and each common stands, and what each name is bound to.
+/// The link map of these objects: where each live section and each common is, and what each name is bound to.
 ///
 /// No address lies in two sections, in a section and a common, or in two commons; the outputs are disjoint and in order, each begins at a
 /// multiple of the page, and each live section is a member of just one, once.
 ///
 /// The hasher spreads the keys of the outputs; whichever it is, the map is the same.
 ///
-/// [`LinkFault::Rule`] is the first of the link's rules ([`rules`](crate::rules)) that stands, at its first site;
-/// [`LinkFault::OutOfMemory`] comes only where memory is refused, which is asked for only where rules 1 and 2 don't stand: for each
+/// [`LinkFault::Rule`] is the first of the link's rules ([`rules`](crate::rules)) that is broken, at its first site;
+/// [`LinkFault::OutOfMemory`] comes only where an allocation fails; memory is asked for only where rules 1 and 2 are not broken: for each
 /// section, symbol and name. Takes log n comparisons of names at most for each symbol and each group, and one search by key for each live
 /// section.
 pub fn map<'a, S: BuildHasher + Drop>(

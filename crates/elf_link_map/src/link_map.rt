@@ -1,4 +1,4 @@
-//! The link map: where everything stands, and what each name is bound to (gABI chapter 4, Sections, Symbol Table).
+//! The link map: where everything is, and what each name is bound to (gABI chapter 4, Sections, Symbol Table).
 ghost use Rattle.std.specs.Prelude.{◌≡◌, MatchOption, None, map};
 ghost use Rattle.elf_link_files.specs.Discarded.{mark};
 ghost use Rattle.elf_link_outputs.specs.Placed.{cell};
@@ -12,7 +12,7 @@ use crate::names::{Named, Names};
 use elf_link_outputs::{Common, Output};
 use std::marker::Model;
 
-/// Where the sections and commons of a link stand, and what each name is bound to. No accessor takes memory.
+/// Where the sections and commons of a link are, and what each name is bound to. No accessor takes memory.
 #[derive(Debug, Drop)]
 pub struct LinkMap<'a> {
     pub(crate) addresses: Vec<Vec<Option<u64>>>,
@@ -60,7 +60,7 @@ impl<'a> LinkMap<'a> {
         self.names.binding(name)
     }
 
-    /// Where a name stands among [`LinkMap::names`]; None where it is not there.
+    /// Where a name is among [`LinkMap::names`]; None where it is not there.
     pub(crate) fn position(&self, name: &[u8]) -> Option<usize>
         ensures { MatchOption result (bound_in self.now.bindings name.now ≡ None) (StandsAt self.now.bindings name.now) }
     {
@@ -82,7 +82,7 @@ impl<'a> LinkMap<'a> {
         &self.outputs
     }
 
-    /// The commons that have an address, behind all output sections.
+    /// The commons that have an address, after all output sections.
     pub fn commons(&self) -> &[Common<'a>]
         ensures { map common_value result.now ≡ self.now.commons }
     {

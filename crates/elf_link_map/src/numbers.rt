@@ -17,11 +17,11 @@ use std::alloc::{AllocError, Global};
 pub struct NumberedMap<'a> {
     /// The link map.
     pub map: LinkMap<'a>,
-    /// For each symbol of each file that is not local where its name stands among [`LinkMap::names`]; 0 for a local one.
+    /// For each symbol of each file that is not local where its name is among [`LinkMap::names`]; 0 for a local one.
     pub numbers: Vec<Vec<usize>>,
 }
 
-/// Where the name of a symbol stands; 0 for a local symbol.
+/// Where the name of a symbol is; 0 for a local symbol.
 fn name_number(objects: &[Object<'_>], map: &LinkMap<'_>, id: SymbolId) -> usize
     requires map { IsSomeLinkMap objects.now map.now }
     requires symbol { IsSymbolIn objects.now id }
@@ -31,7 +31,7 @@ fn name_number(objects: &[Object<'_>], map: &LinkMap<'_>, id: SymbolId) -> usize
     if symbol.binding() == STB_LOCAL {
         return 0;
     }
-    // Each name of a symbol that is not local stands there.
+    // Each name of a symbol that is not local is there.
     map.position(symbol.name).unwrap_or(0)
 }
 
@@ -54,9 +54,9 @@ fn file_numbers(
     Ok(row)
 }
 
-/// For each symbol of each file that is not local where its name stands among [`LinkMap::names`]; 0 for a local one. The map is one of
-/// these objects, whatever its base, page and entry are. It takes log n comparisons of names a symbol;
-/// [`map_numbered`](crate::map_numbered) answers the numbers without. The error comes where memory is refused, and the map is as it was
+/// For each symbol of each file that is not local where its name is among [`LinkMap::names`]; 0 for a local one. The map is one of these
+/// objects, whatever its base, page and entry are. It takes log n comparisons of names a symbol;
+/// [`map_numbered`](crate::map_numbered) answers the numbers without. The error comes where an allocation fails, and the map is as it was
 /// in any case.
 #[tactic(auto, unfolding(crate::specs::BindingNumbers::AreBindingNumbers))]
 pub fn name_numbers(

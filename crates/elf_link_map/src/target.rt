@@ -47,7 +47,7 @@ fn symbol_target(resolution: &Resolution<'_, '_>, sites: &[Site], id: SymbolId) 
     }
 }
 
-/// The value of the name of number `k` by its binding. A common stands behind all sections.
+/// The value of the name of number `k` by its binding. A common is after all sections.
 fn bound_target(resolution: &Resolution<'_, '_>, sites: &[Site], k: usize) -> Target
     requires number { k < length resolution.now.firsts }
     requires fits { length sites.now + length resolution.now.commons < 2 ^ 64 }

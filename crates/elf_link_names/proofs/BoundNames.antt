@@ -1,4 +1,4 @@
--- Each name with an entry is bound, where rules 6 and 9 don't stand.
+-- Each name with an entry is bound, where rules 6 and 9 are not broken.
 use Rattle.std.proofs.Common.{◌≡◌, ◌≢◌, ℕ, ◌<◌, true, List, inl, inr, refl, sym, subst, arith}
 use Rattle.std.specs.Prelude.{None}
 use Rattle.std.proofs.lemmas.Bool.{cases_lt}

@@ -20,7 +20,7 @@ use Rattle.elf_link_names.specs.Numbers.{AreRanks, IsNameCount, IsNumber, IsNumb
 use Rattle.elf_link_names.proofs.Naming.{names_once}
 use Rattle.elf_link_names.proofs.Tabled.{found_none, placed_at, whole_firsts}
 
--- what is known stands in the order of the first entries
+-- what is known is in the order of the first entries
 pub firsts_are : (fs : List ObjectValue) (position : List ℕ → Option ℕ) (ks : List Known) (firsts : List Site) → AreAllKnown fs position ks →
     Lists (first_entries fs) firsts → map first_site ks ≡ firsts
 firsts_are fs position ks firsts known lists = one_site_list (first_entries fs) (map first_site ks) firsts (whole_firsts fs position ks known) lists

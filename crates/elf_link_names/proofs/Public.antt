@@ -1,5 +1,5 @@
--- What the proofs of the crates above may cite: that a name is bound or not, and to one thing, and each name with an entry is where
--- rules 6 and 9 don't stand; that there is one list of chosen commons; and that a name without entries is bound to nothing.
+-- What the proofs of the crates above may cite: that a name is bound or not, and to one thing, and each name with an entry is where rules 6
+-- and 9 are not broken; that there is one list of chosen commons; and that a name without entries is bound to nothing.
 pub use Rattle.elf_link_names.proofs.Bound.{bound_excludes}
 pub use Rattle.elf_link_names.proofs.BoundNames.{all_bound}
 pub use Rattle.elf_link_names.proofs.Naming.{entry_listed, entry_there, names_once}

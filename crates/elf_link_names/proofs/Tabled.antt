@@ -197,7 +197,7 @@ known_none fs name f i none = record {
 
 -- ---- all names
 
--- no entry of a name stands before, where none of the first entries has it
+-- no entry of a name is before, where none of the first entries has it
 none_listed : (fs : List ObjectValue) (f i : ℕ) (ps : List Site) (name : List ℕ) → Lists (UpTo (first_entries fs) f i) ps →
     ((k : ℕ) → k < length ps → name_at fs (site_at ps k) ≡ name → ⊥) → NoneBefore (entries fs name) f i
 none_listed fs f i ps name are none p there earlier =

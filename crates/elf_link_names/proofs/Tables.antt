@@ -1,5 +1,5 @@
--- Names that stand in slots, and behind them in a map. A name whose slots tell that it stands in none has no entry, since an entry's slot is
--- behind taken ones.
+-- Names that are in slots, and after them in a map. A name whose slots report that it is in none has no entry, since an entry's slot is
+-- after taken ones.
 use Rattle.std.proofs.Common.{◌≡◌, ℕ, zero, suc, ◌<◌, ◌+◌, ◌-◌, ◌⊎◌, Bool, true, false, List, [], ◌∷◌, ◌++◌, length, get_or, set, inl, inr, refl, sym, ◌∙◌, ap, subst, arith, get_or-set_other, get_or-set_same}
 use Rattle.std.specs.Prelude.{◌≢◌, cond, if◌then◌else◌, is_some, MatchOption, Option, None, Some}
 use Rattle.std.specs.Str.{bytes_eq}
@@ -23,7 +23,7 @@ not_same n q apart = told (bytes_eq n q) refl where
   told true is = absurd (apart ((bytes_eq-Decides n q).0 is))
   told false is = is
 
--- ---- where the entries say that a name stands
+-- ---- where the entries say that a name is
 
 pub no_position : (es : List Entry) (q : List ℕ) → ((k : ℕ) → k < length es → entry_name es k ≢ q) → entry_position es q ≡ None
 no_position [] q none = refl
@@ -46,7 +46,7 @@ pub position_more : (es : List Entry) (e : Entry) (q : List ℕ) →
 position_more [] e q = refl
 position_more (d ∷ es) e q = by_first (bytes_eq d.name.now q) d.position (entry_position es q) _ _ (position_more es e q)
 
--- ---- what its slots tell of a name
+-- ---- what its slots say about a name
 
 absent : (slots : List Slot) (es : List Entry) (more : List ℕ → Option ℕ) → AreTables slots es more → (q : List ℕ) (n : ℕ) → IsEnd slots (home slots q) n →
     IsInNone slots es (home slots q) (upper_of (name_hash q)) q n → (k : ℕ) → k < length es → entry_name es k ≢ q
@@ -77,7 +77,7 @@ pub here_position : (slots : List Slot) (es : List Entry) (more : List ℕ → O
 here_position slots es more tables q position (k, lt, is, at) =
     first_position es q k lt is (λ j below same. (let one = tables.once j k (omega arith) lt (same ∙ sym is) in omega arith)) ∙ ap Some (sym at)
 
--- a slot that leads to a name's entry tells its position
+-- a slot that leads to a name's entry reports its position
 pub looked_up : (slots : List Slot) (es : List Entry) (more : List ℕ → Option ℕ) → AreTables slots es more → (slot : Slot) (upper : ℕ) (q : List ℕ) (found : Option ℕ) →
     MatchOption found (¬ LeadsTo es slot upper q) (λ p. LeadsTo es slot upper q × (p ≡ (numbered_entry es slot.number).position)) →
     MatchOption found (¬ LeadsTo es slot upper q) (λ p. or_else (entry_position es q) (more q) ≡ Some p)
@@ -208,7 +208,7 @@ module _ (slots : List Slot) (es : List Entry) (more : List ℕ → Option ℕ) 
         behind = λ few q p is. still_taken q MOST_STEPS (tables.behind last q p is);
       }
 
--- ---- where names stand then
+-- ---- where names are then
 
 pub placed_free : (es : List Entry) (more : List ℕ → Option ℕ) (e : Entry) → ((k : ℕ) → k < length es → entry_name es k ≢ e.name.now) →
     IsPlaced None e.name.now e.position (λ q. or_else (entry_position es q) (more q)) (λ q. or_else (entry_position (es ++ e ∷ []) q) (more q))

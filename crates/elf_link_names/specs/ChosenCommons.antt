@@ -55,6 +55,6 @@ IsChosenOf known id chosen = (fs : List ObjectValue) (name : List ℕ) → IsKno
 abbrev pub IsCommonOf : List ObjectValue → List Chosen → List ℕ → ℕ → Type 0
 IsCommonOf fs cs name k = (k < length cs) × (name_at fs (chosen_at cs k).site ≡ name)
 
--- a common stands in the list for each name that is bound to one
+-- a common is in the list for each name that is bound to one
 abbrev pub HaveChosen : List ObjectValue → List Chosen → Type 0
 HaveChosen fs cs = (name : List ℕ) (size align : ℕ) → Binds fs name (Common size align) → (k : ℕ) × IsCommonOf fs cs name k

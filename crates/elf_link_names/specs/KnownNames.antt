@@ -1,5 +1,5 @@
--- What is known of each name on the way through all symbols: the first definition of each binding, the commons, and whether an
--- entry that isn't WEAK stands.
+-- What is known of each name on the way through all symbols: the first definition of each binding, the commons, and whether an entry that
+-- isn't WEAK is.
 use Rattle.std.specs.Prelude.{◌≡◌, ◌↔◌, ℕ, ◌<◌, ◌≤◌, ◌⊎◌, if◌then◌else◌, Bool, true, false, Option, None, Some, MatchOption, List, get_or, length, map, set}
 use Rattle.elf_object_type.specs.Object.{ObjectValue}
 use Rattle.elf_link_files.specs.declared.site.Site.{Site}
@@ -23,23 +23,23 @@ id_in file index = record { file = file; index = index }
 abbrev pub id_site : SymbolId → Site
 id_site s = site s.file s.index
 
--- no site of the row stands before position i of file f
+-- no site of the row is before position i of file f
 abbrev pub NoneBefore : Row Site → ℕ → ℕ → Type 0
 NoneBefore row f i = (p : Site) → row p → IsEarlier p.file p.index f i → ⊥
 
--- a site of the row stands before it
+-- a site of the row is before it
 abbrev pub SomeBefore : Row Site → ℕ → ℕ → Type 0
 SomeBefore row f i = (p : Site) × row p × IsEarlier p.file p.index f i
 
--- a symbol is the first site of the row, and stands before it
+-- a symbol is the first site of the row, and is before it
 abbrev pub IsFirstBefore : Row Site → ℕ → ℕ → SymbolId → Type 0
 IsFirstBefore row f i s = IsFirstAt row (id_site s) × IsEarlier s.file s.index f i
 
--- the first site of the row, where one stands before it
+-- the first site of the row, where one is before it
 abbrev pub IsBest : Row Site → ℕ → ℕ → Option SymbolId → Type 0
 IsBest row f i best = MatchOption best (NoneBefore row f i) (IsFirstBefore row f i)
 
--- what stood first stays; else the next symbol does, where it passes
+-- what was first stays; else the next symbol does, where it passes
 abbrev pub first_or : Option SymbolId → Bool → SymbolId → Option SymbolId
 first_or (Some s) passes next = Some s
 first_or None passes next = if passes then Some next else None
@@ -64,14 +64,14 @@ pub record IsKnownBefore (fs : List ObjectValue) (name : List ℕ) (f i : ℕ) (
   pub common : IsCommonBest fs name f i k.common
   pub not_weak : (k.not_weak ≡ true) ↔ SomeBefore (not_weak fs name) f i
 
--- that which stands for one that isn't there
+-- that which represents one that isn't there
 abbrev pub no_known : Known
 no_known = record { first = id_in 0 0; strong = None; weak = None; common = None; not_weak = false }
 
 abbrev pub known_at : List Known → ℕ → Known
 known_at ks k = get_or ks k no_known
 
--- the same, where an entry that isn't WEAK stands
+-- the same, where there is an entry that isn't WEAK
 abbrev pub marked_known : Known → Known
 marked_known k = record { first = k.first; strong = k.strong; weak = k.weak; common = k.common; not_weak = true }
 

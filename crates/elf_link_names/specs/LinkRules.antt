@@ -13,7 +13,7 @@ use Rattle.elf_link_names.specs.NameRules.{link_name_rules}
 abbrev pub input_rules : Options → List ObjectValue → List {1} (Ruled Site)
 input_rules opt fs = option_rules opt fs ++ (link_section_rules fs ++ (link_symbol_rules fs ++ link_name_rules fs))
 
--- the first of them that stands; memory is taken only where rules 1 and 2 don't stand
+-- the first of them that is broken; memory is taken only where rules 1 and 2 are not broken
 abbrev pub IsInputFault : Options → List ObjectValue → LinkFault → Type 0
 IsInputFault opt fs (Rule number file index entry) =
     FirstAmong (input_rules opt fs) (Some (number, record { file = file; index = index; entry = entry }))

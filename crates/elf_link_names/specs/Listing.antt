@@ -11,12 +11,12 @@ use Rattle.elf_link_files.specs.Symbols.{IsCommon, IsEntry}
 use Rattle.elf_link_files.specs.Listing.{site}
 use Rattle.elf_link_names.specs.Binds.{commons, entries, strong}
 
--- a common is chosen where its name has no GLOBAL definition; it stands for the name where it is the first one
+-- a common is chosen where its name has no GLOBAL definition; it represents the name where it is the first one
 abbrev pub IsChosen : List ObjectValue → ℕ → ℕ → Type 0
 IsChosen fs f i =
     (let name = (symbol_in fs f i).name in IsCommon fs name f i × IsFirstAt (commons fs name) (site f i) × Never (strong fs name))
 
--- an entry stands for its name where it is the first one
+-- an entry represents its name where it is the first one
 abbrev pub IsFirstEntry : List ObjectValue → ℕ → ℕ → Type 0
 IsFirstEntry fs f i = (let name = (symbol_in fs f i).name in IsEntry fs name f i × IsFirstAt (entries fs name) (site f i))
 

@@ -14,7 +14,7 @@ IsSymbolHash fs f i hash = binding (symbol_in fs f i) ≢ STB_LOCAL → hash ≡
 abbrev pub IsSymbolLookup : List ObjectValue → (List ℕ → Option ℕ) → ℕ → ℕ → Lookup → Type 0
 IsSymbolLookup fs position f i lookup = binding (symbol_in fs f i) ≢ STB_LOCAL → IsLookup position (symbol_in fs f i).name lookup
 
--- that which stands for a lookup that is not there
+-- that which represents a lookup that is not there
 abbrev pub no_lookup : Lookup
 no_lookup = record { hash = 0; position = None }
 

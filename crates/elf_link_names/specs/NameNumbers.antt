@@ -12,7 +12,7 @@ pub record IsEntryIn (fs : List ObjectValue) (id : SymbolId) : Type 0 where
   pub symbol : IsSymbolIn fs id
   pub entry : binding (symbol_with fs id) ≢ STB_LOCAL
 
--- k is where the name of symbol i of file f stands; nothing is said of a local one
+-- k is where the name of symbol i of file f is; nothing is said of a local one
 abbrev pub IsNameNumber : List ObjectValue → (List ℕ → Option ℕ) → ℕ → ℕ → ℕ → Type 0
 IsNameNumber fs position f i k = binding (symbol_in fs f i) ≢ STB_LOCAL → position (symbol_in fs f i).name ≡ Some k
 
@@ -28,6 +28,6 @@ AreNumberRows fs position = AreEach [] (λ f. IsNumberRow fs position f (length 
 unfoldable pub AreNameNumbers : List ObjectValue → (List ℕ → Option ℕ) → List (List ℕ) → Type 0
 AreNameNumbers fs position = AreNumberRows fs position (length fs)
 
--- each name that stood stands where it did
+-- each name that was there is where it was
 abbrev pub KeepsPositions : (List ℕ → Option ℕ) → (List ℕ → Option ℕ) → Type 0
 KeepsPositions old now = (q : List ℕ) (k : ℕ) → old q ≡ Some k → now q ≡ Some k

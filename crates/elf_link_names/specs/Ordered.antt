@@ -7,7 +7,7 @@ use Rattle.std.specs.Map.{lookup}
 use Rattle.std.specs.Ordering.{is_eq, nat_cmp}
 use Rattle.std.specs.Str.{bytes_eq}
 
--- where the entries of a map say that a name stands
+-- where the entries of a map say that a name is
 abbrev pub position_among : List (Bor (List ℕ) × ℕ) → List ℕ → Option ℕ
 position_among entries name = lookup (λ (key : Bor (List ℕ)). is_eq (slice_cmp nat_cmp name key.now)) entries
 

@@ -1,4 +1,4 @@
--- Names by position, in slots by hash, with a map behind them.
+-- Names by position, in slots by hash, with a map after them.
 use Rattle.std.specs.Prelude.{◌≡◌, ◌≢◌, ◌⊎◌, ℕ, ◌<◌, ◌≤◌, ◌+◌, ◌-◌, ◌/◌, ◌%◌, ◌^◌, if◌then◌else◌, Option, None, Some, List, [], ◌∷◌, IfSome, get_or, length}
 use Rattle.std.specs.Str.{bytes_eq}
 use Rattle.std.specs.Borrow.{Bor}
@@ -23,7 +23,7 @@ upper_of hash = hash / 2 ^ 32
 abbrev pub place_among : ℕ → ℕ → ℕ
 place_among hash count = hash % 2 ^ 32 % count
 
--- those that stand for a slot and an entry that aren't there
+-- those used for a slot and an entry that aren't there
 abbrev pub free_slot : Slot
 free_slot = record { upper = 0; number = 0 }
 
@@ -57,7 +57,7 @@ IsInNone slots entries place upper name n = (s : ℕ) → s < n → ¬ IsOfName 
 abbrev pub AreEntryNumbers : List Slot → ℕ → Type 0
 AreEntryNumbers slots count = (i : ℕ) → (get_or slots i free_slot).number ≤ count
 
--- what the slots from a place on tell of a name: the first of them that is free; or its position; or that all are others'
+-- what the slots from a place on say about a name: the first of them that is free; or its position; or that all are others'
 abbrev pub Sees : List Slot → List Entry → ℕ → ℕ → List ℕ → Seen → Type 0
 Sees slots entries place upper name (Free at) = (s : ℕ) × (s < MOST_STEPS) × (at ≡ place + s) × ((slot_from slots place s).number ≡ 0)
     × AreSlotsTaken slots place s × IsInNone slots entries place upper name s
@@ -73,7 +73,7 @@ home slots name = place_among (name_hash name) (length slots - MOST_STEPS)
 abbrev pub IsEnd : List Slot → ℕ → ℕ → Type 0
 IsEnd slots place n = (n ≡ MOST_STEPS) ⊎ ((slot_from slots place n).number ≡ 0)
 
--- what its slots tell of a name: that it may take a free one; or its position; or that it stands in none, and as long as there are numbers
+-- what its slots say about a name: that it may take a free one; or its position; or that it is in none, and as long as there are numbers
 -- all of them are taken
 abbrev pub SlotsTell : List Slot → List Entry → List ℕ → Seen → Type 0
 SlotsTell slots entries name (Free at) = (length entries < MOST_NAMES) × Sees slots entries (home slots name) (upper_of (name_hash name)) name (Free at)
@@ -81,7 +81,7 @@ SlotsTell slots entries name (Here position) = Sees slots entries (home slots na
 SlotsTell slots entries name Taken = (length entries < MOST_NAMES → AreSlotsTaken slots (home slots name) MOST_STEPS)
     × ((n : ℕ) × IsEnd slots (home slots name) n × IsInNone slots entries (home slots name) (upper_of (name_hash name)) name n)
 
--- a name stands in one of its slots, by its number, behind slots that are taken
+-- a name is in one of its slots, by its number, after slots that are taken
 abbrev pub IsFound : List Slot → List ℕ → ℕ → Type 0
 IsFound slots name number = (s : ℕ) × (s < MOST_STEPS) × AreSlotsTaken slots (home slots name) s
     × (slot_from slots (home slots name) s ≡ record { upper = upper_of (name_hash name); number = number })
@@ -111,7 +111,7 @@ pub record Positions : Type 0 where
 abbrev pub positions_value : Inside → Positions
 positions_value p = record { entries = p.entries.items; more = p.more.entries }
 
--- where the entries say that a name stands; and the one or the other of two answers
+-- where the entries say that a name is; and the one or the other of two answers
 abbrev pub entry_position : List Entry → List ℕ → Option ℕ
 entry_position [] q = None
 entry_position (e ∷ es) q = if bytes_eq e.name.now q then Some e.position else entry_position es q
@@ -120,7 +120,7 @@ abbrev pub or_else : Option ℕ → Option ℕ → Option ℕ
 or_else None other = other
 or_else (Some p) other = Some p
 
--- where a name stands
+-- where a name is
 unfoldable pub name_position : Positions → List ℕ → Option ℕ
 name_position p q = or_else (entry_position p.entries q) (position_among p.more q)
 

@@ -1,4 +1,4 @@
-//! Where each name of a link stands.
+//! Where each name of a link is.
 ghost use Rattle.std.specs.Prelude.{◌≡◌, ℕ, None, Some, List, MatchOption, IfOk, OnErr};
 ghost use Rattle.elf_link_names.specs.Ordered.{IsPlaced};
 ghost use Rattle.elf_link_names.specs.Slots.{IsLookup, LeadsTo, name_hash, name_position, upper_of as upper_of_hash};
@@ -10,9 +10,9 @@ use std::alloc::{AllocError, Global};
 use std::collections::BTreeMap;
 use std::marker::Model;
 
-/// Where each name stands. A name's hash gives it some slots, one behind the other, and it stands in the first that was free, by a number;
-/// names that find all of them taken stand in an ordered map. So names that are chosen to share their hashes cost log n comparisons each, as
-/// in an ordered map alone; and most other names cost a look at a slot of 8 bytes, and a comparison where it is the name's own.
+/// Where each name is. A name's hash gives it some slots, one after the other, and it is in the first that was free, by a number; names
+/// that find all of them taken are in an ordered map. So names that are chosen to share their hashes cost log n comparisons each, as in an
+/// ordered map alone; and most other names cost a look at a slot of 8 bytes, and a comparison where it is the name's own.
 #[derive(Debug, Drop)]
 pub struct NameIndex<'a> {
     slots: Vec<Slot>,
@@ -48,7 +48,7 @@ impl<'a> Model for NameIndex<'a> {
 }
 
 impl<'a> NameIndex<'a> {
-    /// No names, with room for so many. The error comes only where memory is refused.
+    /// No names, with room for so many. The error comes only where an allocation fails.
     #[tactic(auto, unfolding(crate::specs::Slots::name_position))]
     pub fn new(alloc: Global, room: usize) -> Result<NameIndex<'a>, AllocError>
         ensures { IfOk result (λ positions. (q : List ℕ) → name_position positions q ≡ None) }
@@ -93,7 +93,7 @@ impl<'a> NameIndex<'a> {
     }
 
     /// The position of a name that has one, which stays; a further name gets this one, and the answer is None. The error comes only where
-    /// memory is refused, and leaves each name where it was. Takes a look at a few slots for most names, and log n comparisons for any.
+    /// an allocation fails, and leaves each name where it was. Takes a look at a few slots for most names, and log n comparisons for any.
     pub fn place(&mut self, name: &'a [u8], next: usize) -> Result<Option<usize>, AllocError>
         ensures old { IfOk result (λ old. old ≡ name_position self.old name.now) }
         ensures placed { IfOk result (λ old. IsPlaced old name.now next (name_position self.old) (name_position self.new)) }

@@ -10,7 +10,7 @@ use elf_link_files::{InputSymbol, SymbolId};
 pub(crate) struct NamedSymbol<'t, 'l, 'a> {
     /// The names.
     pub(crate) table: &'t NameTable<'l, 'a>,
-    /// Where it stands in the files.
+    /// Where it is in the files.
     pub(crate) id: SymbolId,
     ghost there: { IsSymbolIn table.now id },
 }

@@ -27,9 +27,9 @@ use elf_object_type::{Object, Symbol};
 use std::alloc::{AllocError, Global};
 use std::marker::Model;
 
-/// The files of a link in which each name is bound, with the commons that are placed. A name is told by its number: its position
-/// among all names that are not local, in the order of the first entry of each. To a contract it is the files, these first entries and
-/// these commons.
+/// The files of a link in which each name is bound, with the commons that are placed. A name is reported by its number: its position among
+/// all names that are not local, in the order of the first entry of each. To a contract it is the files, these first entries and these
+/// commons.
 #[derive(Drop)]
 pub struct Resolution<'l, 'a> {
     inputs: Inputs<'l, 'a>,

@@ -1,17 +1,17 @@
-//! Slots in which names stand by their hashes, and what they tell of a name.
+//! Slots in which names are by their hashes, and what they say about a name.
 ghost use Rattle.std.specs.Prelude.{◌≡◌, ◌<◌, ◌≤◌, ◌+◌, MatchOption, length};
 ghost use Rattle.elf_link_names.specs.Slots.{AreEntryNumbers, IsOfName, LeadsTo, Sees, SlotsTell, numbered_entry, name_hash, upper_of as upper_of_hash};
 
 use crate::hashing::{home_of, upper_of};
 
-/// How many slots a name may stand in, one behind the other.
+/// How many slots a name may be in, one after the other.
 pub(crate) const MOST_STEPS: usize = 8;
 
 /// How many names may have a number.
 const MOST_NAMES: usize = 0xffff_ffff;
 
-/// The number of a name among those that stand in slots, from 1 on, and 0 in a slot that is free; and the upper half of its hash, by which
-/// most other names are told from it without a look at them.
+/// The number of a name among those that are in slots, from 1 on, and 0 in a slot that is free; and the upper half of its hash, by which
+/// most other names are told apart from it without a look at them.
 #[derive(Clone, Copy, Debug)]
 pub struct Slot {
     pub(crate) upper: u32,
@@ -26,21 +26,21 @@ impl Slot {
     };
 }
 
-/// A name that stands in a slot, and its position.
+/// A name that is in a slot, and its position.
 #[derive(Clone, Copy, Debug)]
 pub(crate) struct Entry<'a> {
     pub(crate) name: &'a [u8],
     pub(crate) position: usize,
 }
 
-/// What its slots tell of a name.
+/// What its slots say about a name.
 #[derive(Clone, Copy)]
 pub(crate) enum Seen {
-    /// That it stands in none; this one is the first that is free.
+    /// That it is in none; this one is the first that is free.
     Free(usize),
     /// Its position.
     Here(usize),
-    /// That it stands in none, and can take none: none is free, or there is no number left.
+    /// That it is in none, and can take none: none is free, or there is no number left.
     Taken,
 }
 
@@ -78,7 +78,7 @@ pub(crate) fn position_of(
     position_by(slot, entries, upper_of(hash), name)
 }
 
-/// What the slots from `home` on tell of a name whose hash has this upper half.
+/// What the slots from `home` on say about a name whose hash has this upper half.
 fn look_from(slots: &[Slot], entries: &[Entry<'_>], home: usize, upper: u32, name: &[u8]) -> Seen
     requires room { home + MOST_STEPS ≤ length slots.now }
     requires known { AreEntryNumbers slots.now (length entries.now) }
@@ -96,7 +96,7 @@ fn look_from(slots: &[Slot], entries: &[Entry<'_>], home: usize, upper: u32, nam
     Seen::Taken
 }
 
-/// What its slots tell of a name of this hash. The last slots are no name's first one, so that each name has as many.
+/// What its slots say about a name of this hash. The last slots are no name's first one, so that each name has as many.
 pub(crate) fn look(slots: &[Slot], entries: &[Entry<'_>], hash: u64, name: &[u8]) -> Seen
     requires room { MOST_STEPS < length slots.now }
     requires known { AreEntryNumbers slots.now (length entries.now) }

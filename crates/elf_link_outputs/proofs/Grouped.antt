@@ -191,7 +191,7 @@ grouped_none fs ps keys groups empty none = subst (AreGrouped fs ps 0 keys) (sym
 
 -- ---- the next section
 
--- two keys that are equal, as the set tells
+-- two keys that are equal, as the set reports
 abbrev same_key : OutputKey → OutputKey → Bool
 same_key a b = bytes_eq a.name.now b.name.now && (a.flags == b.flags && beq a.no_bits b.no_bits)
 

@@ -49,7 +49,7 @@ past_here parts from i cursor p lt is none (done, long, goes) =
     let past = first_past p (drop (suc i) parts) cursor rest none (subst (λ (ps : List (ℕ × ℕ)). Fits ps cursor rest) whole least.fits) in
     (done ++ rest, goes rest least, subst (λ (n : ℕ). 2 ^ 64 ≤ n) (sym (seam done rest i long)) past)
 
--- and each part behind one that starts past the last address, or ends there
+-- and each part after one that starts past the last address, or ends there
 pub past_behind : (parts : List (ℕ × ℕ)) (from i t : ℕ) → i < t → t < length parts → StartsPast parts from i → StartsPast parts from t
 past_behind parts from i t lt within (places, least, past) =
     let behind = above_earlier parts from places i t least.fits lt within in

@@ -38,7 +38,7 @@ abbrev pub HasNoValue : List (ℕ × ℕ) → ℕ → Target → Type 0
 HasNoValue parts base target =
     (places : List ℕ) × Least parts base places × ((x : ℕ) → target_value places target ≡ Some x → 2 ^ 64 ≤ x)
 
--- some part ends at 2^64 or later, counted behind its last byte
+-- some part ends at 2^64 or later, counted after its last byte
 abbrev pub Overflows : List (ℕ × ℕ) → ℕ → Type 0
 Overflows parts base =
     (places : List ℕ) × Least parts base places × ((k : ℕ) × (k < length parts) × (2 ^ 64 ≤ end_of parts places k))

@@ -13,7 +13,7 @@ abbrev pub IsKeyOf : List ObjectValue → Site → OutputKey → Type 0
 IsKeyOf fs p key =
     (key.name.now ≡ (section_at_site fs p).name) × (key.flags ≡ output_flags (section_at_site fs p).flags) × (key.no_bits ≡ is_no_bits (section_at_site fs p).body)
 
--- the key that stands for one that isn't there
+-- the key used for one that isn't there
 abbrev pub no_key : OutputKey
 no_key = record { name = record { ref_ptr = (0, 0); now = [] }; flags = 0; no_bits = false }
 

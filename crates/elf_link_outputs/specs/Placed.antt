@@ -31,7 +31,7 @@ pub record CommonValue : Type 0 where
 abbrev pub cell : List (List (Option ℕ)) → ℕ → ℕ → Option ℕ
 cell rows f s = get_or (get_or rows f []) s None
 
--- those that stand for one that isn't there
+-- those used for one that isn't there
 abbrev pub no_output : OutputValue
 no_output = record { name = []; flags = 0; no_bits = false; address = 0; length = 0; members = [] }
 
@@ -65,7 +65,7 @@ pub record IsOutput (fs : List ObjectValue) (ms : List Site) (parts : List (ℕ 
 abbrev pub members_at : List (List Site) → ℕ → List Site
 members_at outputs k = get_or outputs k []
 
--- how many sections stand in the outputs before output k
+-- how many sections are in the outputs before output k
 abbrev pub start_of : List (List Site) → ℕ → ℕ
 start_of outputs k = length (flat (take k outputs))
 

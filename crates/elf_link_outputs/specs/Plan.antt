@@ -1,5 +1,5 @@
--- Which sections stand in each output, in order, and the commons behind them; and their parts.
--- (gABI chapter 4, Sections, Symbol Table: SHN_COMMON; the placement is this project's profile.)
+-- Which sections are in each output, in order, and the commons after them; and their parts. (gABI chapter 4, Sections, Symbol Table:
+-- SHN_COMMON; the placement is this project's profile.)
 use Rattle.std.specs.Prelude.{◌≡◌, ℕ, false, true, List, [], ◌++◌, length, map}
 use Rattle.std.specs.List.{flat_map}
 use Rattle.elf_object_type.specs.Object.{ObjectValue}
@@ -13,7 +13,7 @@ pub record Plan : Type 0 where
   pub outputs : List (List Site)
   pub commons : List Chosen
 
--- the sections that open an output: those with bits, and behind them those without
+-- the sections that open an output: those with bits, and after them those without
 abbrev pub AreOpeners : List ObjectValue → List Site → Type 0
 AreOpeners fs ps =
     (with without : List Site) × Lists (openers fs false) with × Lists (openers fs true) without × (ps ≡ with ++ without)
@@ -32,7 +32,7 @@ flat outputs = flat_map (λ ms. ms) outputs
 abbrev pub placed : Plan → List Site
 placed plan = flat plan.outputs
 
--- the parts (size, alignment) of the outputs, and behind them those of the commons, as one more output
+-- the parts (size, alignment) of the outputs, and after them those of the commons, as one more output
 abbrev pub output_parts : List ObjectValue → ℕ → List Site → List (ℕ × ℕ)
 output_parts fs page ms = raised page (map (part_of fs) ms)
 

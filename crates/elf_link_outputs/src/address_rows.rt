@@ -40,7 +40,7 @@ fn fill(rows: &mut Vec<Vec<Option<u64>>>, objects: &[Object<'_>], sites: &[Site]
     }
 }
 
-/// The address of each live section, and of no other. Fails for want of memory alone.
+/// The address of each live section, and of no other. Fails only when out of memory.
 pub(crate) fn section_addresses(
     alloc: Global,
     objects: &[Object<'_>],

@@ -41,8 +41,8 @@ impl<'l, 'a> Model for Addressed<'l, 'a> {
 impl<'l, 'a> Addressed<'l, 'a> {
     /// A plan at the least addresses of its parts from `base`, and the entry symbol's value.
     ///
-    /// Answers rule 10 where the entry symbol has no value below 2^64, else rule 11 where a part ends at 2^64 or later, and
-    /// [`LinkFault::OutOfMemory`] only where memory is refused and none of them stands.
+    /// Returns rule 10 where the entry symbol has no value below 2^64, else rule 11 where a part ends at 2^64 or later, and
+    /// [`LinkFault::OutOfMemory`] only where an allocation fails and none of them is broken.
     pub fn new(
         alloc: Global,
         plan: Plan<'l, 'a>,
@@ -68,7 +68,7 @@ impl<'l, 'a> Addressed<'l, 'a> {
         self.entry
     }
 
-    /// The address of each live section, and of no other. Fails for want of memory alone.
+    /// The address of each live section, and of no other. Fails only when out of memory.
     pub fn section_addresses(&self, alloc: Global) -> Result<Vec<Vec<Option<u64>>>, AllocError>
         ensures { IfOk result (λ rows. AreAddresses self.now.plan.objects (placed self.now.plan.plan) self.now.places (map (λ row. row.items) rows.items)) }
     {
@@ -77,7 +77,7 @@ impl<'l, 'a> Addressed<'l, 'a> {
         section_addresses(alloc, outputs.objects, &plan.sites, &self.places)
     }
 
-    /// All outputs at their places. Fails for want of memory alone.
+    /// All outputs at their places. Fails only when out of memory.
     pub fn outputs(&self, alloc: Global) -> Result<Vec<Output<'a>>, AllocError>
         ensures { IfOk result (λ placed. ArePlacedOutputs self.now.plan.objects self.now.plan.plan.outputs (plan_parts self.now.plan) self.now.places (length self.now.plan.plan.outputs) (map output_value placed.items)) }
     {
@@ -92,7 +92,7 @@ impl<'l, 'a> Addressed<'l, 'a> {
         )
     }
 
-    /// All commons at their places, which are those behind all sections. Fails for want of memory alone.
+    /// All commons at their places, which are those after all sections. Fails only when out of memory.
     pub fn commons(&self, alloc: Global) -> Result<Vec<Common<'a>>, AllocError>
         ensures { IfOk result (λ commons. ArePlacedCommons self.now.plan.objects self.now.plan.plan.commons self.now.places (length (placed self.now.plan.plan)) (length self.now.plan.plan.commons) (map common_value commons.items)) }
     {

@@ -53,7 +53,7 @@ fn entry_value(parts: &[(u64, u64)], base: u64, target: Target) -> Option<u64>
     }
 }
 
-/// Where everything stands.
+/// Where everything is.
 #[derive(Drop)]
 pub(crate) struct Places {
     /// The address of each part.
@@ -64,8 +64,8 @@ pub(crate) struct Places {
 
 /// The least addresses of the parts (size, alignment) from `base`, and the entry symbol's value.
 ///
-/// Answers rule 10 where the entry symbol has no value below 2^64, else rule 11 where a part ends at 2^64 or later, and
-/// [`LinkFault::OutOfMemory`] only where memory is refused and none of them stands.
+/// Returns rule 10 where the entry symbol has no value below 2^64, else rule 11 where a part ends at 2^64 or later, and
+/// [`LinkFault::OutOfMemory`] only where an allocation fails and none of them is broken.
 pub(crate) fn addresses(
     alloc: Global,
     parts: &[(u64, u64)],

@@ -1,7 +1,7 @@
-//! The output sections of a link (gABI chapter 4, Sections; placement is this project's profile): which live sections stand in
-//! each, the least places of all parts, and rules 10 and 11. It knows nothing of names.
+//! The output sections of a link (gABI chapter 4, Sections; placement is this project's profile): which live sections are in each, the
+//! least places of all parts, and rules 10 and 11. It knows nothing of names.
 //!
-//! [`Outputs`] groups the live sections, [`Plan`] puts the commons behind them, and [`Addressed`] tells where each stands.
+//! [`Outputs`] groups the live sections, [`Plan`] puts the commons after them, and [`Addressed`] reports where each is.
 #![tactic(auto)]
 
 mod address_rows;

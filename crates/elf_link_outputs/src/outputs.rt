@@ -222,8 +222,8 @@ impl<'l, 'a> Model for Outputs<'l, 'a> {
 }
 
 impl<'l, 'a> Outputs<'l, 'a> {
-    /// The output sections of these files, by the list of their live sections: those with bits, and behind them those without.
-    /// Fails for want of memory alone.
+    /// The output sections of these files, by the list of their live sections: those with bits, and after them those without. Fails only
+    /// when out of memory.
     pub fn new<S: BuildHasher + Drop>(
         alloc: Global,
         objects: &'l [Object<'a>],
@@ -245,7 +245,7 @@ impl<'l, 'a> Outputs<'l, 'a> {
         Ok(Outputs { objects, groups })
     }
 
-    /// The members of all outputs, in order. Fails for want of memory alone.
+    /// The members of all outputs, in order. Fails only when out of memory.
     pub(crate) fn sites(&self, alloc: Global) -> Result<Vec<Site>, AllocError>
         ensures { IfOk result (λ sites. sites.items ≡ flat self.now.groups) }
     {
@@ -256,7 +256,7 @@ impl<'l, 'a> Outputs<'l, 'a> {
         Ok(sites)
     }
 
-    /// The parts of all outputs for a page, in order: those of each output, the first of them raised. Fails for want of memory alone.
+    /// The parts of all outputs for a page, in order: those of each output, the first of them raised. Fails only when out of memory.
     pub(crate) fn parts(&self, alloc: Global, page: u64) -> Result<Vec<(u64, u64)>, AllocError>
         ensures { IfOk result (λ parts. parts.items ≡ flat_map (output_parts self.now.objects page) self.now.groups) }
     {

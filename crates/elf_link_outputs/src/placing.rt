@@ -75,7 +75,7 @@ fn placed_output<'a>(
     })
 }
 
-/// All outputs at their places. Fails for want of memory alone.
+/// All outputs at their places. Fails only when out of memory.
 pub(crate) fn placed_outputs<'a>(
     alloc: Global,
     objects: &[Object<'a>],
@@ -116,7 +116,7 @@ fn placed_common<'a>(objects: &[Object<'a>], common: Chosen, address: u64) -> Co
     }
 }
 
-/// All commons at their places, which are those from position `first` on. Fails for want of memory alone.
+/// All commons at their places, which are those from position `first` on. Fails only when out of memory.
 pub(crate) fn placed_commons<'a>(
     alloc: Global,
     objects: &[Object<'a>],

@@ -10,8 +10,8 @@ use elf_link_files::{Chosen, Site};
 use std::alloc::{AllocError, Global};
 use std::marker::Model;
 
-/// What a link places: its output sections, and behind them its commons. The sites are those of all members, in order, and the parts
-/// are those of all members and commons for the page.
+/// What a link places: its output sections, and after them its commons. The sites are those of all members, in order, and the parts are
+/// those of all members and commons for the page.
 #[derive(Drop)]
 pub struct Plan<'l, 'a> {
     pub(crate) outputs: Outputs<'l, 'a>,
@@ -53,8 +53,7 @@ fn common_parts(alloc: Global, page: u64, commons: &[Chosen]) -> Result<Vec<(u64
 }
 
 impl<'l, 'a> Plan<'l, 'a> {
-    /// The plan of these outputs, and behind them these commons, each output and the first common at a page. Fails for want of memory
-    /// alone.
+    /// The plan of these outputs, and after them these commons, each output and the first common at a page. Fails only when out of memory.
     pub fn new(
         alloc: Global,
         page: u64,

@@ -10,7 +10,7 @@ use Rattle.elf_link_relocate.specs.LinkingFacts.{AreFieldsRead, IsInTarget}
 use Rattle.elf_link_relocate.specs.Marking.{HasNoOverlap}
 use Rattle.elf_link_relocate.specs.Sharing.{AreAscending, StandsBehind}
 
--- behind what is behind
+-- after what is after
 behind_on : (a b c : Field) → StandsBehind a b → StandsBehind b c → StandsBehind a c
 behind_on a b c (inl file) (inl other) = inl (omega arith)
 behind_on a b c (inl file) (inr (same, rest)) = inl (omega arith)

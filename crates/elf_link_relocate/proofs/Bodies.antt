@@ -49,7 +49,7 @@ module _ (fs : List ObjectValue) (rules : List RelocRule) (f s : ℕ) (ds : List
   pub not_applied : (AreApplied fs f s → ⊥) → AreFieldsBefore fs rules (entry_site f s 0) ds → AreFieldsBefore fs rules (entry_site f (s + 1) 0) ds
   not_applied never is = skipped (λ p applied file index. never (applied_in fs f s p applied file index)) is
 
-  -- behind the last entry of one
+  -- after the last entry of one
   pub section_done : (n : ℕ) → length (entries_of (section_in fs f s).body) ≡ n → AreFieldsBefore fs rules (entry_site f s n) ds →
       AreFieldsBefore fs rules (entry_site f (s + 1) 0) ds
   section_done n count is =

@@ -112,7 +112,7 @@ module _ (fs : List ObjectValue) (rules : List RelocRule) (p : Site) (next : Sit
         ruled = rules_more;
       }
 
--- rule 12 stands at an entry behind those that have relocation rules
+-- rule 12 is broken at an entry after those that have relocation rules
 pub first_unruled : (fs : List ObjectValue) (rules : List RelocRule) (p : Site) (ds : List Field) → IsApplied fs p → HasNoRelocationRule (entry_at fs p).kind rules →
     AreFieldsBefore fs rules p ds → IsFirstAt (no_rule fs rules) p
 first_unruled fs rules p ds applied none is = record {
@@ -120,7 +120,7 @@ first_unruled fs rules p ds applied none is = record {
   first = is.ruled;
 }
 
--- all files are before the site behind the last one
+-- all files are before the site after the last one
 all_before : (fs : List ObjectValue) (p : Site) → p.file < length fs → Before p (entry_site (length fs) 0 0)
 all_before fs p lt = inl lt
 

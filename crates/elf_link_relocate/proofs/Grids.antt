@@ -35,7 +35,7 @@ module _ {A : Type 0} (none : A) (rows : List (List A)) (f s : ℕ) (new : A) (f
     sections = λ g lt. row_length g ∙ is.sections g lt;
   }
 
--- ---- a table behind its view
+-- ---- a table after its view
 
 module _ {V A : Type 0} (g : V → A) (none : A) (rows : List (Vec V)) (row : Vec V) (f : ℕ) (f_in : f < length rows) (at : row ≡ get_or rows f row) where
   abbrev pub viewed : Vec V → List A

@@ -19,7 +19,7 @@ extent_at : (fs : List ObjectValue) (m : LinkMapValue) (ds : List Field) (k : �
 extent_at fs m ds k lt =
     slice_get-map (field_extent fs m) ds k ∙ ap (option_map (field_extent fs m)) (slice_get-get_or ds k no_field lt)
 
--- a byte of a field stands at an address of it
+-- a byte of a field is at an address of it
 at_address : (fs : List ObjectValue) (m : LinkMapValue) (ds : List Field) (k x a : ℕ) → k < length ds →
     a ≡ address_in m (field_at ds k).site.file (target_at fs (field_at ds k).site) → HasOffset fs (field_at ds k).site (field_at ds k).rule x →
     HasAt (map (field_extent fs m) ds) k (a + x)

@@ -25,7 +25,7 @@ before_more p f s e (inl file) = inl file
 before_more p f s e (inr (file, inl index)) = inr (file, inl index)
 before_more p f s e (inr (file, inr (index, entry))) = inr (file, inr (index, omega arith))
 
--- ---- the next section, behind the n entries of this one
+-- ---- the next section, after the n entries of this one
 
 pub in_section : (p : Site) (f s n : ℕ) → (p.file ≡ f → p.index ≡ s → p.entry < n) → Before p (entry_site f (s + 1) 0) → Before p (entry_site f s n)
 in_section p f s n last (inl file) = inl file
@@ -40,7 +40,7 @@ next_section p f s n (inl file) = inl file
 next_section p f s n (inr (file, inl index)) = inr (file, inl (omega arith))
 next_section p f s n (inr (file, inr (index, entry))) = inr (file, inl (omega arith))
 
--- ---- the next file, behind the n sections of this one
+-- ---- the next file, after the n sections of this one
 
 pub in_file : (p : Site) (f n : ℕ) → (p.file ≡ f → p.index < n) → Before p (entry_site (f + 1) 0 0) → Before p (entry_site f n 0)
 in_file p f n last (inl file) = elim (cases_lt p.file f) [

@@ -1,4 +1,4 @@
--- Memory has a byte at each address of a content: one of a field's number where a field has it, which the entries of the file tell, else
+-- Memory has a byte at each address of a content: one of a field's number where a field has it, which the entries of the file report, else
 -- the content's own.
 use Rattle.std.proofs.Common.{◌≡◌, ◌≢◌, ℕ, ◌+◌, ◌-◌, ◌<◌, ◌⊎◌, true, List, [], ◌∷◌, length, zero, suc, inl, inr, refl, sym, ◌∙◌, ap, subst, arith}
 use Rattle.std.specs.Prelude.{slice_index}

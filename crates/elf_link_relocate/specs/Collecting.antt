@@ -14,7 +14,7 @@ use Rattle.elf_link_relocate.specs.RelocationRules.{no_rule}
 abbrev pub entry_site : ℕ → ℕ → ℕ → Site
 entry_site f s e = record { file = f; index = s; entry = e }
 
--- the one that stands for a field that isn't there
+-- the one used for a field that isn't there
 abbrev pub no_field : Field
 no_field = record {
   site = entry_site 0 0 0;

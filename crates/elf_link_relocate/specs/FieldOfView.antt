@@ -8,7 +8,7 @@ use Rattle.elf_link_relocate.specs.Linking.{FieldOfValue}
 use Rattle.elf_link_relocate.specs.Fields.{HasField}
 use Rattle.elf_link_relocate.specs.LinkingFacts.{IsInTarget}
 
--- an entry that is applied, and what stands at its site
+-- an entry that is applied, and what is at its site
 pub record IsAppliedEntry (fs : List ObjectValue) (e : Entry) : Type 0 where
   pub applied : IsApplied fs e.site
   pub rela : e.rela ≡ is_rela (body_at fs e.site)

@@ -16,7 +16,7 @@ use Rattle.elf_link_relocate.specs.declared.field_test.FieldTest.TheVariants.{Fi
 use Rattle.elf_link_relocate.specs.Collecting.{entry_site, field_at}
 use Rattle.elf_link_relocate.specs.RelocationRules.{AtField, IsFieldOutOfRange, IsUnplaced, IsValueOutOfRange, no_rule}
 
--- rule 12 stands nowhere; or it is the fault, at its first site
+-- rule 12 is broken nowhere; or it is the fault, at its first site
 abbrev pub NoneUnruled : List ObjectValue → List RelocRule → Type 0
 NoneUnruled fs rules = Never (no_rule fs rules)
 

@@ -35,8 +35,8 @@ pub record AreBytesOf (fs : List ObjectValue) (m : LinkMapValue) (rules : List R
   pub long : length bytes ≡ length (content_in fs f s)
   pub memory : (a : ℕ) × BeginsAt m f s a × ((k : ℕ) → k < length bytes → IsMemory fs m rules (a + k) (slice_index bytes k))
 
--- none of rules 12 to 16 stands; the map, the objects and the relocation rules are these, and the bytes of each live section with
--- bits those of memory; no other has bytes
+-- none of rules 12 to 16 is broken; the map, the objects and the relocation rules are these, and the bytes of each live section with bits
+-- those of memory; no other has bytes
 pub record IsLinked (fs : List ObjectValue) (m : LinkMapValue) (rules : List RelocRule) (l : LinkedValue) : Type 0 where
   pub sound : FirstAmong (applied_entry_rules fs m rules) None
   pub same_map : l.map ≡ m

@@ -7,7 +7,7 @@ use Rattle.elf_link_map.specs.Apart.{StandApart}
 use Rattle.elf_link_map.specs.LinkFaults.{FirstOfLink}
 use Rattle.elf_link_map.specs.LinkMap.{IsLinkMap, LinkMapValue, with_options}
 
--- none of rules 1 to 11 of the link stands, and the map is the one of these objects, for some options
+-- none of rules 1 to 11 of the link is broken, and the map is the one of these objects, for some options
 abbrev pub IsMapOfSome : List ObjectValue → LinkMapValue → Type 0
 IsMapOfSome fs m = (opt : Options) × IsLinkMap opt fs m × FirstOfLink opt fs None
 
@@ -16,7 +16,7 @@ IsMapOfSome fs m = (opt : Options) × IsLinkMap opt fs m × FirstOfLink opt fs N
 abbrev pub IsMapButOptions : List ObjectValue → LinkMapValue → Type 0
 IsMapButOptions fs m = (base page entry : ℕ) × IsMapOfSome fs (with_options m base page entry)
 
--- it tells which sections are discarded, and its sections stand apart
+-- it reports which sections are discarded, and its sections are apart
 pub record IsSoundMap (fs : List ObjectValue) (m : LinkMapValue) : Type 0 where
   pub discarded : AreDiscardMarks fs m.discarded
   pub places : StandApart fs m

@@ -15,7 +15,7 @@ use Rattle.elf_link_map.specs.Standing.{member_address, member_at, output_at, ou
 use Rattle.elf_link_relocate.specs.Fields.{HasField, content_in}
 use Rattle.elf_link_relocate.specs.Numbers.{field_address, number_at}
 
--- an address is in a field, so far behind its start
+-- an address is in a field, so far after its start
 abbrev pub IsInField : List ObjectValue → LinkMapValue → List RelocRule → ℕ → Site → RelocRule → ℕ → Type 0
 IsInField fs m rules x p r k = HasField fs rules p r × (k < size_of r.width) × (x ≡ field_address fs m p + k)
 
@@ -30,7 +30,7 @@ abbrev pub IsFieldByte : List ObjectValue → LinkMapValue → List RelocRule �
 IsFieldByte fs m rules x v = (p : Site) × (r : RelocRule) × (k : ℕ) × IsInField fs m rules x p r k ×
     ((z : ℤ) × (number_at fs m p r ≡ Some z) × (v ≡ number_byte fs p r z k))
 
--- an address is in the content of a section, so far behind its start
+-- an address is in the content of a section, so far after its start
 abbrev pub IsInContent : List ObjectValue → LinkMapValue → ℕ → ℕ → ℕ → ℕ → Type 0
 IsInContent fs m x f s k = (k < length (content_in fs f s)) × ((a : ℕ) × (cell m.addresses f s ≡ Some a) × (x ≡ a + k))
 

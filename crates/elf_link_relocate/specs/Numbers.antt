@@ -16,7 +16,7 @@ use Rattle.elf_link_relocate.specs.Values.{value_at}
 abbrev pub field_address : List ObjectValue → LinkMapValue → Site → ℕ
 field_address fs m p = address_in m p.file (target_at fs p) + field_start fs p
 
--- A: the entry's addend; in a section of type REL the number that stands in the field of the input
+-- A: the entry's addend; in a section of type REL the number that is in the field of the input
 abbrev pub addend_of : List ObjectValue → Site → RelocRule → ℤ
 addend_of fs p r =
     if is_rela (body_at fs p) then (entry_at fs p).addend

@@ -1,5 +1,5 @@
--- Rules 12 to 16 of the link, on the applied entries, and the first one that stands.
--- (gABI chapter 4, Relocation; relocation rules are this project's profile.)
+-- Rules 12 to 16 of the link, on the applied entries, and the first one that is broken. (gABI chapter 4, Relocation; relocation rules are
+-- this project's profile.)
 use Rattle.std.specs.Prelude.{◌≡◌, None, Some, ℤ, List, [], ◌∷◌}
 use Rattle.elf_object_type.specs.Object.{ObjectValue}
 use Rattle.elf_link_field.specs.declared.rule.RelocRule.{RelocRule}
@@ -60,7 +60,7 @@ applied_entry_rules fs m rules =
     rule 15 (fields_overlap fs rules) ∷
     rule 16 (value_out_of_range fs m rules) ∷ []
 
--- the first of them that stands, at its first site
+-- the first of them that is broken, at its first site
 abbrev pub IsRelocationFault : List ObjectValue → LinkMapValue → List RelocRule → LinkFault → Type 0
 IsRelocationFault fs m rules (Rule number file index entry) =
     FirstAmong (applied_entry_rules fs m rules) (Some (number, record { file = file; index = index; entry = entry }))

@@ -12,12 +12,12 @@ use Rattle.elf_link_relocate.specs.Numbers.{field_address}
 abbrev pub field_extent : List ObjectValue → LinkMapValue → Field → Extent
 field_extent fs m d = record { start = field_address fs m d.site; len = size_of d.rule.width }
 
--- a field stands behind another one: in a later file, in a later section of its file, or behind its end in its section
+-- a field is after another one: in a later file, in a later section of its file, or after its end in its section
 abbrev pub StandsBehind : Field → Field → Type 0
 StandsBehind d e =
     (d.site.file < e.site.file) ⊎
     ((d.site.file ≡ e.site.file) × ((d.target < e.target) ⊎ ((d.target ≡ e.target) × (d.offset + size_of d.rule.width ≤ e.offset))))
 
--- each of the first n fields but the first one stands behind the one before it
+-- each of the first n fields but the first one is after the one before it
 abbrev pub AreAscending : List Field → ℕ → Type 0
 AreAscending ds n = (k : ℕ) → k + 1 < n → StandsBehind (field_at ds k) (field_at ds (k + 1))

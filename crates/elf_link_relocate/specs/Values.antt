@@ -14,7 +14,7 @@ use Rattle.elf_link_map.specs.declared.bindings.Binding.TheVariants.{Strong, Com
 use Rattle.elf_link_map.specs.LinkMap.{LinkMapValue, bound_in}
 use Rattle.elf_link_relocate.specs.Entries.{entry_at}
 
--- of a symbol of file f by its place: absolute, or so far behind the start of a section that has an address
+-- of a symbol of file f by its place: absolute, or so far after the start of a section that has an address
 abbrev pub place_value : LinkMapValue → ℕ → Place → ℕ → Option ℕ
 place_value m f Undef value = None
 place_value m f Abs value = Some value

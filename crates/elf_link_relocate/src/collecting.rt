@@ -133,8 +133,8 @@ fn push_file(values: &Values<'_, '_, '_>, file: usize, fields: &mut Fields) -> R
     Ok(())
 }
 
-/// The fields of all applied entries, by file, section and entry. Answers rule 12, at the first applied entry whose kind has no
-/// relocation rule.
+/// The fields of all applied entries, by file, section and entry. Returns rule 12, at the first applied entry whose kind has no relocation
+/// rule.
 pub(crate) fn all_fields(alloc: Global, values: &Values<'_, '_, '_>) -> Result<Fields, LinkFault>
     ensures fields { IfOk result (λ fields. AreFields values.now.objects values.now.rules fields.list.items) }
     ensures read { IfOk result (λ fields. AreFieldsRead values.now.objects values.now.map fields.list.items) }

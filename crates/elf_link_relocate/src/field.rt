@@ -6,20 +6,20 @@ use elf_object_type::Relocation;
 /// An entry, which is read once.
 #[derive(Clone, Copy)]
 pub(crate) struct Entry {
-    /// Where it stands.
+    /// Where it is.
     pub site: Site,
     /// Whether it has its addend beside it.
     pub rela: bool,
     /// The section that it relocates.
     pub target: usize,
-    /// What stands there.
+    /// What is there.
     pub relocation: Relocation,
 }
 
 /// An entry that has a field, the relocation rule of its kind, and what the link needs of it, so that no later pass looks it up anew.
 #[derive(Clone, Copy)]
 pub(crate) struct Field {
-    /// Where the entry stands.
+    /// Where the entry is.
     pub site: Site,
     /// The first relocation rule of its kind.
     pub rule: RelocRule,

@@ -19,7 +19,7 @@ use elf_link_map::{Broken, LinkFault, Site};
 use std::alloc::Global;
 
 impl Values<'_, '_, '_> {
-    /// Answers a rule at the first of these fields that breaks it, whose position this is.
+    /// Returns a rule at the first of these fields that breaks it, whose position this is.
     fn refuse_first(
         &self,
         test: FieldTest,
@@ -40,7 +40,7 @@ impl Values<'_, '_, '_> {
 }
 
 impl<'f, 'v, 'l, 'a> FieldList<'f, 'v, 'l, 'a> {
-    /// Answers rule 15 at the first field that shares a byte with one before it. Which one that is is looked for only where two may share
+    /// Returns rule 15 at the first field that shares a byte with one before it. Which one that is is looked for only where two may share
     /// one.
     fn refuse_overlap(&self, alloc: Global) -> Result<(), LinkFault>
         ensures ok { OnOk result (HasNoOverlap self.now.objects self.now.fields) }
@@ -58,7 +58,7 @@ impl<'f, 'v, 'l, 'a> FieldList<'f, 'v, 'l, 'a> {
     }
 }
 
-/// The fields of a link, by file, section and entry, with their numbers. Answers the first of rules 12 to 16 that stands.
+/// The fields of a link, by file, section and entry, with their numbers. Returns the first of rules 12 to 16 that is broken.
 pub(crate) fn judged_fields(
     alloc: Global,
     values: Values<'_, '_, '_>,

@@ -19,7 +19,7 @@ pub fn any_options()
 {}
 
 /// A map of the files is, with the base and page of some options that name no entry symbol, and the entry 0, in place of its own, the map
-/// for these, and none of rules 1 to 11 stands for them: so neither rule 10 nor the value of an entry symbol is asked of it.
+/// for these, and none of rules 1 to 11 is broken for them: so neither rule 10 nor the value of an entry symbol is asked of it.
 pub fn without_entry()
     ensures { (fs : List ObjectValue) (m : LinkMapValue) → IsMapButOptions fs m →
         (opt : Options) × (opt.entry ≡ None) × IsLinkMap opt fs (with_options m opt.base opt.page 0) × FirstOfLink opt fs None }
@@ -34,32 +34,32 @@ pub fn one_relocation_fault()
         ((x : Option (ℕ × Site)) → FirstAmong (applied_entry_rules fs m rules) x → ⊥) → ⊥ }
 {}
 
-/// In a map of the files, where none of rules 1 to 16 stands, it can't be that no value is the relocated bytes of the link.
+/// In a map of the files, where none of rules 1 to 16 is broken, it can't be that no value is the relocated bytes of the link.
 pub fn some_linked()
     ensures { (fs : List ObjectValue) (m : LinkMapValue) (rules : List RelocRule) → IsMapButOptions fs m → FirstAmong (applied_entry_rules fs m rules) None →
         ((l : LinkedValue) → IsLinked fs m rules l → ⊥) → ⊥ }
 {}
 
-/// In a map of the files, where none of rules 1 to 16 stands, the memory of a link has one byte at each address, or none.
+/// In a map of the files, where none of rules 1 to 16 is broken, the memory of a link has one byte at each address, or none.
 pub fn one_byte()
     ensures { (fs : List ObjectValue) (m : LinkMapValue) (rules : List RelocRule) → IsMapButOptions fs m → FirstAmong (applied_entry_rules fs m rules) None →
         (x v w : ℕ) → IsMemory fs m rules x v → IsMemory fs m rules x w → v ≡ w }
 {}
 
-/// In a map of the files, where none of rules 1 to 16 stands, each field lies in the content of a section that has an address.
+/// In a map of the files, where none of rules 1 to 16 is broken, each field lies in the content of a section that has an address.
 pub fn field_in_content()
     ensures { (fs : List ObjectValue) (m : LinkMapValue) (rules : List RelocRule) → IsMapButOptions fs m → FirstAmong (applied_entry_rules fs m rules) None →
         (x : ℕ) → HasFieldAt fs m rules x → HasContentAt fs m x }
 {}
 
-/// In a map of the files, where none of rules 1 to 16 stands, memory has bytes in the outputs and from the first common to the end of the
-/// last alone.
+/// In a map of the files, where none of rules 1 to 16 is broken, memory has bytes in the outputs and from the first common to the end of
+/// the last alone.
 pub fn memory_in()
     ensures { (fs : List ObjectValue) (m : LinkMapValue) (rules : List RelocRule) → IsMapButOptions fs m → FirstAmong (applied_entry_rules fs m rules) None →
         (x v : ℕ) → IsMemory fs m rules x v → IsInMemory m x }
 {}
 
-/// In a map of the files, where none of rules 1 to 16 stands, memory has a byte at each address in an output, and at each from the first
+/// In a map of the files, where none of rules 1 to 16 is broken, memory has a byte at each address in an output, and at each from the first
 /// common to the end of the last.
 pub fn some_byte()
     ensures { (fs : List ObjectValue) (m : LinkMapValue) (rules : List RelocRule) → IsMapButOptions fs m → FirstAmong (applied_entry_rules fs m rules) None →
@@ -72,7 +72,7 @@ pub fn memory_there()
         (x : ℕ) → IsInMemory m x → (v : ℕ) × IsMemory fs m rules x v }
 {}
 
-/// In a map of the files, where none of rules 1 to 16 stands, the byte at an address in an output is 0 where none of its members has
+/// In a map of the files, where none of rules 1 to 16 is broken, the byte at an address in an output is 0 where none of its members has
 /// content: in gaps between members, and where these take memory without bits.
 pub fn memory_zero()
     ensures { (fs : List ObjectValue) (m : LinkMapValue) (rules : List RelocRule) → IsMapButOptions fs m → FirstAmong (applied_entry_rules fs m rules) None →

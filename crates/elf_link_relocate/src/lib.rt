@@ -1,7 +1,7 @@
 //! The relocated bytes of a link of ELF-64 objects (gABI chapter 4, Relocation): the number of each applied relocation in its
 //! field, by relocation rules.
 //!
-//! [`relocate`] answers the bytes of each live section ([`Linked`]), or the first of rules 12 to 16 ([`rules`]) that stands.
+//! [`relocate`] answers the bytes of each live section ([`Linked`]), or the first of rules 12 to 16 ([`rules`]) that is broken.
 //!
 //! ```
 //! let link = map(alloc, &objects, &options, hasher)?;

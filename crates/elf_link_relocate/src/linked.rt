@@ -68,7 +68,7 @@ impl<'m, 'a> Linked<'m, 'a> {
         let _ = self.map.page();
     }
 
-    /// The map that the sections stand by.
+    /// The map that the sections are placed by.
     pub fn map(&self) -> &'m LinkMap<'a>
         ensures { result.now ≡ self.now.map }
     {

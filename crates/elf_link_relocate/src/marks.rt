@@ -39,7 +39,7 @@ fn no_marks(alloc: Global, objects: &[Object<'_>]) -> Result<Vec<Vec<Vec<bool>>>
     Ok(rows)
 }
 
-/// Marks the bytes of the field of this width at an offset of a section, and answers whether one of them had a mark before.
+/// Marks the bytes of the field of this width at an offset of a section, and returns whether one of them had a mark before.
 fn mark_in(
     marks: &mut Vec<Vec<Vec<bool>>>,
     file: usize,
@@ -56,7 +56,7 @@ fn mark_in(
 }
 
 impl<'f, 'v, 'l, 'a> FieldList<'f, 'v, 'l, 'a> {
-    /// Marks the bytes of field `k`, and answers whether it shares one with a field before it.
+    /// Marks the bytes of field `k`, and returns whether it shares one with a field before it.
     fn mark_field(&self, k: usize, marks: &mut Vec<Vec<Vec<bool>>>) -> bool
         requires below { k < length self.now.fields }
         requires before { AreMarksFor self.now.objects self.now.fields k (marks_view marks.old.items) }

@@ -83,7 +83,7 @@ impl<'f, 'v, 'l, 'a> FieldOf<'f, 'v, 'l, 'a> {
         }
     }
 
-    /// Its addend, where it ends within its target: that of its entry, or the number that stands in it.
+    /// Its addend, where it ends within its target: that of its entry, or the number that is in it.
     fn addend(&self) -> i128
         requires { IsWithin self.now.objects self.now.field.site self.now.field.rule }
         ensures value { result ≡ addend_at self.now.objects self.now.field.site self.now.field.rule }

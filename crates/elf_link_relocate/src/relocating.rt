@@ -20,7 +20,7 @@ use std::alloc::Global;
 /// The relocated bytes of these objects, as [`relocate`] answers them, by the numbers of the names that `map_numbered` of `elf_link_map`
 /// answers beside the map.
 ///
-/// Answers what [`relocate`] answers. Memory is asked for as there, but for the numbers.
+/// Returns what [`relocate`] answers. Memory is asked for as there, but for the numbers.
 pub fn relocate_numbered<'m, 'a>(
     alloc: Global,
     map: &'m LinkMap<'a>,
@@ -58,11 +58,11 @@ pub fn relocate_numbered<'m, 'a>(
 /// nothing of the map's base, page and entry, nor that there is an entry symbol. Of a map that `map` answered the relocated bytes are ready
 /// to be written by `write_exec` of `elf_exec`.
 ///
-/// [`LinkFault::Rule`] is the first of rules 12 to 16 ([`rules`](crate::rules)) that stands, at its first entry by file, section and
-/// position. [`LinkFault::OutOfMemory`] comes only where memory is refused: a number for each symbol, a field for each applied entry, a copy of
-/// each live section with bits; where the fields don't ascend, an extent for each; and where two of these
-/// share an address, a mark for each byte. Takes log n comparisons at most for each symbol and each field, and a look through the rules
-/// for each entry; all else is linear in the bytes, entries and symbols.
+/// [`LinkFault::Rule`] is the first of rules 12 to 16 ([`rules`](crate::rules)) that is broken, at its first entry by file, section and
+/// position. [`LinkFault::OutOfMemory`] comes only where an allocation fails: a number for each symbol, a field for each applied entry, a
+/// copy of each live section with bits; where the fields don't ascend, an extent for each; and where two of these share an address, a mark
+/// for each byte. Takes log n comparisons at most for each symbol and each field, and a look through the rules for each entry; all else is
+/// linear in the bytes, entries and symbols.
 pub fn relocate<'m, 'a>(
     alloc: Global,
     map: &'m LinkMap<'a>,

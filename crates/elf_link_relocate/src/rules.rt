@@ -1,5 +1,4 @@
-//! The number of each rule of the link on applied entries, 12 to 16, behind those of the link map and in the order in which they are
-//! tested.
+//! The number of each rule of the link on applied entries, 12 to 16, after those of the link map and in the order in which they are tested.
 
 /// An applied entry is of a kind that has no relocation rule.
 pub const NO_RULE: u16 = 12;

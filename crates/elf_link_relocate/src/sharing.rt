@@ -9,7 +9,7 @@ use crate::numbers::field_address;
 use elf_extent::{Extent, first_double};
 use std::alloc::{AllocError, Global};
 
-/// Whether a field stands behind another one: in a later file or section, or behind its end.
+/// Whether a field is after another one: in a later file or section, or after its end.
 fn is_behind(before: Field, field: Field) -> bool
     ensures { IsTrue result ↔ StandsBehind before field }
 {
@@ -25,7 +25,7 @@ fn is_behind(before: Field, field: Field) -> bool
     }
 }
 
-/// Whether each field stands behind the one before it, as assemblers and compilers list them.
+/// Whether each field is after the one before it, as assemblers and compilers list them.
 fn are_ascending(fields: &[Field]) -> bool
     ensures { result ≡ true → AreAscending fields.now (length fields.now) }
 {

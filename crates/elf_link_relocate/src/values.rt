@@ -17,7 +17,7 @@ use elf_link_map::{Binding, LinkMap};
 use elf_object_type::{Object, Place};
 use std::marker::Model;
 
-/// The value so far behind the start of a section of a file.
+/// The value so far after the start of a section of a file.
 fn section_value(map: &LinkMap<'_>, file: usize, section: usize, value: u64) -> Option<u128>
     ensures value { result ≡ place_value_of map.now file (InSection section) value }
     ensures small { IsSmall result }
@@ -40,7 +40,7 @@ fn place_value(map: &LinkMap<'_>, file: usize, place: Place, value: u64) -> Opti
     }
 }
 
-/// The value that a symbol has itself; None where no symbol stands at that position.
+/// The value that a symbol has itself; None where no symbol is at that position.
 fn definition_value(
     objects: &[Object<'_>],
     map: &LinkMap<'_>,
@@ -110,7 +110,7 @@ impl<'v, 'l, 'a> Values<'v, 'l, 'a> {
         self.linking
     }
 
-    /// Where the name of the symbol at `index` of a file, which is not local, stands among the names of the map.
+    /// Where the name of the symbol at `index` of a file, which is not local, is among the names of the map.
     #[tactic(auto, unfolding(elf_link_map::specs::BindingNumbers::AreBindingNumbers))]
     fn name_number(&self, file: usize, index: usize) -> usize
         requires symbol { IsFileSymbol self.now.objects file index }

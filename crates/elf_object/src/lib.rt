@@ -1,8 +1,8 @@
 //! A relocatable ELF-64 file as a typed object (gABI chapter 4): its sections with names and bodies, and its symbols, every reference
 //! between them a position in a list.
 //!
-//! An [`Object`] is made from its [`ObjectParts`], or read from an image by [`object_of`]; it keeps the [`rules`] of objects from then
-//! on. [`lay_out`] tells its canonical layout, and [`write_object`] writes it: what is written is read back as the object. One without
+//! An [`Object`] is made from its [`ObjectParts`], or read from an image by [`object_of`]; it keeps the [`rules`] of objects from then on.
+//! [`lay_out`] reports its canonical layout, and [`write_object`] writes it: what is written is read back as the object. One without
 //! sections or symbols is written so:
 //!
 //! ```

@@ -1,4 +1,4 @@
--- The object that a file denotes fits a file: its numbers stood in fields, and its names and bits were bytes.
+-- The object that a file denotes fits a file: its numbers was in fields, and its names and bits were bytes.
 use Rattle.std.proofs.Common.{◌<◌, ◌+◌, ◌*◌, ◌/◌, ◌%◌, ◌^◌, ℕ, zero, suc, Bool, true, false, Option, None, Some, List, [], ◌∷◌, get_or, map, sym, subst, arith}
 use Rattle.std.specs.Prelude.{◌==◌, if◌then◌else◌, bit_and, drop}
 use Rattle.std.specs.List.{AllByRecursion}
@@ -28,7 +28,7 @@ use Rattle.elf_object_type.specs.Widths.{BodyFits, InfoFits, ObjectFits, Relocat
 use Rattle.elf_object_type.proofs.Public.{relocations_fit as table_fits}
 use Rattle.elf_object_reader.proofs.Public.{denoted_with, relocations_denoted}
 
--- what holds of each element and of the one that stands for none holds at any index
+-- what holds of each element and of the one that represents none holds at any index
 at_any : {A : Type 0} (P : A → Type 0) (xs : List A) (d : A) (i : ℕ) → AllByRecursion P xs → P d → P (get_or xs i d)
 at_any P [] d i all none = none
 at_any P (x ∷ xs) d zero all none = all.0
@@ -66,7 +66,7 @@ IsBytes-string table x bytes = IsBytes-take _ (drop x table) (IsBytes-drop x tab
 
 -- ---- symbols
 
--- what stood in a symbol's fields
+-- what was in a symbol's fields
 record EntryFits (s : table_symbols.SymbolEntryValue) : Type 0 where
   name : IsBytes s.name
   info : 16 * s.binding + s.symbol_type < 2 ^ 8

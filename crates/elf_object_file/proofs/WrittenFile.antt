@@ -1,4 +1,4 @@
--- The file that an object is written as, section by section: which section stands at which index.
+-- The file that an object is written as, section by section: which section is at which index.
 use Rattle.std.proofs.Common.{◌≡◌, ◌<◌, ◌+◌, ◌-◌, ℕ, zero, suc, Bool, true, false, List, get_or, length, refl, ap, subst, ◌∙◌, arith, inl, inr}
 use Rattle.std.specs.Prelude.{codes, if◌then◌else◌}
 use Rattle.std.proofs.lemmas.Bool.{cases_lt}
@@ -49,7 +49,7 @@ own_at o places written p lt =
     at_header (written_sections o places) (suc p) (own_section o (section_at o p)) (name_offset (section_names o)) (get_or places p 0) (omega arith)
     (written_own o places written p lt) (own_content o places p lt)
 
--- ---- those behind them
+-- ---- those after them
 
 pub last_at : (o : ObjectValue) (places : List ℕ) → IsWrittenAt o places → (far : Bool) → has_index_table o ≡ far → (k : ℕ) → k < last_count far →
     HasSectionAt (written_sections o places) (symbol_table_at o + k) (get_or (last_sections o far) k no_plain)
@@ -107,7 +107,7 @@ indexes_at o places written is =
 
 -- ---- all of them
 
--- what holds of section header 0, of each own section and of each one behind them holds of all
+-- what holds of section header 0, of each own section and of each one after them holds of all
 pub by_section : (o : ObjectValue) (places : List ℕ) → IsWrittenAt o places → (P : ℕ → Type 0) → P 0 → ((p : ℕ) → p < length o.sections → P (suc p)) →
     ((k : ℕ) → k < last_count (has_index_table o) → P (symbol_table_at o + k)) → (i : ℕ) → i < count (written_sections o places) → P i
 by_section o places written P first own last zero lt = first

@@ -25,7 +25,7 @@ use Rattle.elf_object_file.proofs.KeptFront.{filter_own, none_left_out, one_left
 use Rattle.elf_object_type.proofs.Public.{no_wrong_bits_type}
 use Rattle.elf_object_file.proofs.WrittenSections.{written_count, written_first, written_section}
 
--- ---- the section headers of the object's own sections, and of those behind them
+-- ---- the section headers of the object's own sections, and of those after them
 
 pub last_some : (far : Bool) → 2 < last_count far
 last_some true = omega arith
@@ -130,7 +130,7 @@ written_symbol_table o places written =
     (λ k test. eqb-true _ _ test) (symbols_there o places written)
     (λ k below same. before_symbols o places SHT_SYMTAB written symbols_no_body (λ is. omega arith) k below same) (symbols_typed o places written))
 
--- where there is an index table, it is the one section of its type; it stands behind the symbol table and is linked to it
+-- where there is an index table, it is the one section of its type; it is after the symbol table and is linked to it
 second_last : (o : ObjectValue) → (get_or (last_sections o true) 1 no_plain).type ≡ SHT_SYMTAB_SHNDX
 unfolding last_sections
 second_last o = refl
@@ -156,7 +156,7 @@ none_before o places written k lt is = elim (cases_lt k (symbol_table_at o)) [
       absurd (omega arith))
 ]
 
--- without one, none of the sections behind the symbol table is of its type
+-- without one, none of the sections after the symbol table is of its type
 strings_type : (o : ObjectValue) (k : ℕ) → 0 < k → k < 3 → (get_or (last_sections o false) k no_plain).type ≡ SHT_STRTAB
 unfolding last_sections
 strings_type o zero above lt = absurd (omega arith)

@@ -1,4 +1,4 @@
--- The references from section to section of an object that is written: each index is read back as the position that it stands for.
+-- The references from section to section of an object that is written: each index is read back as the position that it represents.
 use Rattle.std.proofs.Common.{◌≡◌, ◌<◌, ◌≤◌, ◌+◌, ◌-◌, ℕ, suc, Option, None, Some, length, inl, inr, refl, ap, ◌∙◌, arith}
 use Rattle.std.specs.Prelude.{bit_and}
 use Rattle.std.proofs.lemmas.Bool.{cases_eq, cases_lt, ne_eqb}

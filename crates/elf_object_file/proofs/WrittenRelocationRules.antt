@@ -68,7 +68,7 @@ target_below o rela target entries right = elim (cases_lt target (length o.secti
   | inr past ↦ absurd (right (inl (inl past)))
 ]
 
--- a relocation that is read names no symbol behind the last one
+-- a relocation that is read names no symbol after the last one
 symbol_there : (n : ℕ) (rela : Bool) (byte_order : Order) (entries : List Relocation) → AreRelocations n entries → (j : ℕ) →
     j < relocation_count rela (relocation_bytes byte_order rela entries) →
     (relocation_in rela byte_order (relocation_bytes byte_order rela entries) j).symbol ≤ n

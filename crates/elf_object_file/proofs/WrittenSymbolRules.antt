@@ -29,7 +29,7 @@ which_index : (far : Bool) (t j : ℕ) → (if far then Some (t + 1) else None) 
 which_index true t j is = (refl, (let same : t + 1 ≡ j = cc in same))
 which_index false t j is = cc
 
--- the index table is the section behind the symbol table
+-- the index table is the section after the symbol table
 index_at : (o : ObjectValue) (places : List ℕ) → IsWrittenAt o places → (j : ℕ) → index_table (written_sections o places) (symbol_table_at o) ≡ Some j →
     HasSectionAt (written_sections o places) j (index_table_section o)
 index_at o places written j is =

@@ -41,7 +41,7 @@ use Rattle.elf_object_file.proofs.WrittenReferences.{HasPositions, position_back
 
 -- ---- where a symbol is defined
 
--- in a section whose index st_shndx holds, or in one whose index stands in the index table
+-- in a section whose index st_shndx holds, or in one whose index is in the index table
 in_section : (o : ObjectValue) (left : LeftOut) (f : Sections) (p word : ℕ) → HasPositions o left f → (length o.sections ≤ p → ⊥) →
     (SHN_LORESERVE ≤ p + 1 → word ≡ long_number (p + 1)) → place_denoted left f (place_of (short_index (p + 1)) word) ≡ In p
 in_section o left f p word positions there extended = elim (cases_lt (p + 1) SHN_LORESERVE) [

@@ -43,7 +43,7 @@ count_at_most test (x ∷ xs) =
     let rest = count_at_most test xs in
     elim (cases_Bool (test x)) [ inl passes ↦ rw passes (omega arith) | inr fails ↦ rw fails (omega arith) ]
 
--- the elements that pass a test stand before those that do not
+-- the elements that pass a test are before those that do not
 abbrev ArePassingFirst : {A : Type 0} → (A → Bool) → List A → A → Type 0
 ArePassingFirst test xs d = (i k : ℕ) → k < i → i < length xs → test (get_or xs i d) ≡ true → test (get_or xs k d) ≡ true
 

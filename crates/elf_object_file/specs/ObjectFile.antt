@@ -1,4 +1,4 @@
--- The file that stands for an object, and what writing it does to what a writer holds. (gABI chapter 4.)
+-- The file that represents an object, and what writing it does to what a writer holds. (gABI chapter 4.)
 use Rattle.std.specs.Prelude.{◌≡◌, ◌↔◌, ◌≤◌, ℕ, List, length, None, Option, Result, Ok, Err, MatchResult}
 use Rattle.elf_image_outline.specs.Image.{ImageValue, IsImage, Stands}
 use Rattle.elf_image_rules.specs.HeaderRules.{MAX_LEN}
@@ -18,7 +18,7 @@ use Rattle.elf_object_writer.specs.declared.object_writing.ObjectWriteFault.{Obj
 use Rattle.elf_object_writer.specs.declared.object_writing.ObjectWriteFault.TheVariants.{TooLong, OutOfMemory, Io}
 use Rattle.elf_table_symbols.specs.Sections.{sections_of}
 
--- b is the file of an object: its canonical layout, no longer than the longest file. It breaks no rule of images, and what stands as it
+-- b is the file of an object: its canonical layout, no longer than the longest file. It breaks no rule of images, and what it represents
 -- breaks no rule of files read as objects and denotes this object and no other; and the file of any object is b exactly where the two
 -- objects are equal
 pub record IsWrittenFile (o : ObjectValue) (b : List ℕ) : Type 0 where
@@ -34,7 +34,7 @@ pub record IsWrittenFile (o : ObjectValue) (b : List ℕ) : Type 0 where
 abbrev pub WritesFile : ObjectValue → Option (List ℕ) → Option (List ℕ) → Result Unit WriteFault → Type 0
 WritesFile o before after result = (b : List ℕ) × IsWrittenFile o b × Writes before after b result
 
--- each fault with when it comes, and what it leaves; want of memory says nothing else
+-- each fault with when it comes, and what it leaves; out of memory says nothing else
 abbrev pub IsObjectWriteFault : ObjectValue → Option (List ℕ) → Option (List ℕ) → ObjectWriteFault → Type 0
 IsObjectWriteFault o before after TooLong = (after ≡ before) × IsLayoutFault o layout.TooLong
 IsObjectWriteFault o before after OutOfMemory = after ≡ before

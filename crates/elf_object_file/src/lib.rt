@@ -1,4 +1,4 @@
-//! The file that stands for an object: [`write_object`] writes it, and its contract says that what is written is accepted and read back as
+//! The file that represents an object: [`write_object`] writes it, and its contract says that what is written is accepted and read back as
 //! the object.
 //!
 //! The laws behind it are contracts of functions that do nothing: [`one_layout`] and [`laid_objects`] speak of layouts, [`written_object`]

@@ -12,20 +12,19 @@ use std::alloc::Global;
 use std::io::Write;
 
 /// Writes the file of an object, its canonical layout (gABI chapter 4): the header, the contents of the sections in the order of their
-/// indexes, each at the least place that its alignment allows, and the section header table; with zeros between. The sections
-/// are the object's own and behind them `.symtab`, `.symtab_shndx` where a symbol needs it, `.strtab` and `.shstrtab`.
+/// indexes, each at the least place that its alignment allows, and the section header table; with zeros between. The sections are the
+/// object's own and after them `.symtab`, `.symtab_shndx` where a symbol needs it, `.strtab` and `.shstrtab`.
 ///
 /// What is written breaks no rule of images and none of objects, and is read as this object and no other. Two objects have the same file
 /// exactly where they are equal.
 ///
 /// [`ObjectWriteFault::TooLong`] comes exactly where the layout is longer than the longest file, 2^30 bytes, and
-/// [`ObjectWriteFault::OutOfMemory`] only where memory is refused; both before the first byte is out. Any error of the writer, an
-/// interruption too, is [`ObjectWriteFault::Io`], and so is a write that takes 0 bytes of a rest that is not empty. Nothing is
-/// tried again and nothing is flushed.
+/// [`ObjectWriteFault::OutOfMemory`] only where an allocation fails; both before the first byte is out. Any error of the writer, an
+/// interruption too, is [`ObjectWriteFault::Io`], and so is a write that takes 0 bytes of a rest that is not empty. Nothing is tried again
+/// and nothing is flushed.
 ///
-/// Memory is taken for the string tables and the places of the parts alone. Contents are offered as they stand in the object,
-/// and the entries of tables are made as they go out. It takes the time of [`lay_out`](elf_object_writer::lay_out), and is linear in the
-/// bytes that go out.
+/// Memory is taken for the string tables and the places of the parts alone. Contents are offered as they are in the object, and the entries
+/// of tables are made as they go out. It takes the time of [`lay_out`](elf_object_writer::lay_out), and is linear in the bytes that go out.
 pub fn write_object<W: Write>(
     alloc: Global,
     object: &Object<'_>,

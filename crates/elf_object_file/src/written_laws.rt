@@ -14,8 +14,8 @@ ghost use Rattle.elf_image_rules.specs.ImageRules.{IsFault};
 ghost use Rattle.elf_image_rules.specs.Rows.{FirstIn};
 ghost use Rattle.elf_table_symbols.specs.Sections.{sections_of};
 
-/// What an object is written as breaks no rule of images; what stands as it has the sections of the object's canonical layout,
-/// breaks no rule of objects, and denotes the object. No other object is written so.
+/// What an object is written as breaks no rule of images; what it represents has the sections of the object's canonical layout, breaks no
+/// rule of objects, and denotes the object. No other object is written so.
 pub fn written_object()
     ensures bytes { (o : ObjectValue) (b : List ℕ) → IsWrittenAs o b → IsBytes b }
     ensures accepted { (o : ObjectValue) (b : List ℕ) → IsWrittenAs o b → IsFault b None }

@@ -17,14 +17,14 @@ kept_from left f i = filter (is_kept left f) (range_with_len i (count f - i))
 abbrev pub IsFoundByAll : LeftOut → Sections → ℕ → Type 0
 IsFoundByAll left f i = (found : Option (ℕ × ℕ)) → FirstIn (rules_of_bodies f (kept_from left f i)) found → FirstIn (rules_of_bodies f (kept left f)) found
 
--- behind a section without a fault
+-- after a section without a fault
 pub bodies_next : (left : LeftOut) (f : Sections) (i : ℕ) → i < count f → is_kept left f i ≡ true → IsFoundByAll left f i →
     FirstIn (rules_of_body (body_kind (section f i).sh_type) f i) None → IsFoundByAll left f (i + 1)
 bodies_next left f i lt is all clean found rest =
     all found (subst (λ (is : List ℕ). FirstIn (rules_of_bodies f is) found) (sym (filter_from_kept (is_kept left f) (count f) i lt is))
     (FirstIn-later (rules_of_body (body_kind (section f i).sh_type) f i) (rules_of_bodies f (kept_from left f (i + 1))) found clean rest))
 
--- and behind one that is left out
+-- and after one that is left out
 pub bodies_passed : (left : LeftOut) (f : Sections) (i : ℕ) → i < count f → is_kept left f i ≡ false → IsFoundByAll left f i → IsFoundByAll left f (i + 1)
 bodies_passed left f i lt is all found rest =
     all found (subst (λ (is : List ℕ). FirstIn (rules_of_bodies f is) found) (sym (filter_from_other (is_kept left f) (count f) i lt is)) rest)

@@ -52,7 +52,7 @@ named_once f i j m clean lt sound within fact (k, before, same) =
     let named = (member_sound f i k clean lt sound inside).is_kept in
     fact.once (k, before, one_place (is_kept (left_out f) f) (member (order f) (content f i) k) m named fact.is_kept (sym (position_of_member f i k inside) ∙ same))
 
--- a section at a position before that of section i stands before it in the file
+-- a section at a position before that of section i is before it in the file
 before_in_file : (f : Sections) (h i p q : ℕ) → is_kept (left_out f) f i ≡ true → position_of (left_out f) f h ≡ p → position_of (left_out f) f i ≡ q → p < q → h < i
 before_in_file f h i p q is at_p at_q lt = elim (cases_lt h i) [
   | inl below ↦ below

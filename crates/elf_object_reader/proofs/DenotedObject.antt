@@ -1,4 +1,4 @@
--- The object that a file denotes, by position: which section of the file stands where.
+-- The object that a file denotes, by position: which section of the file is where.
 use Rattle.std.proofs.Common.{◌≡◌, ℕ, ◌<◌, Bool, List, [], false, true, get_or, length, sym, ap, subst, ◌∙◌, arith}
 use Rattle.std.specs.Prelude.{◌==◌, Contains, drop, if◌then◌else◌}
 use Rattle.std.specs.List.{position_or_len}
@@ -39,7 +39,7 @@ section_at_position f o q denotes lt =
     let (i, found) = listed (is_kept (left_out f) f) (count f) q within in
     (i, record { there = found.there; is_kept = found.passes; position = found.place_is; section = section_get f o q i denotes within found.at })
 
--- and each section of the file that is kept stands at its position
+-- and each section of the file that is kept is at its position
 pub position_there : (f : Sections) (o : ObjectValue) (i : ℕ) → Denotes f o → i < count f → is_kept (left_out f) f i ≡ true →
     position_of (left_out f) f i < length o.sections
 position_there f o i denotes lt is =

@@ -31,7 +31,7 @@ passing_other p n is =
     let next : suc n ≡ n + 1 = omega arith in
     ap (passing p) next ∙ filter_next p n ∙ ap (λ (xs : List ℕ). passing p n ++ xs) none ∙ append-nil (passing p n)
 
--- an index that passes stands at its place in the list
+-- an index that passes is at its place in the list
 pub record StandsAt (p : ℕ → Bool) (n i : ℕ) : Type 0 where
   pub below : place p i < place p n
   pub at : get_or (passing p n) (place p i) 0 ≡ i
@@ -83,7 +83,7 @@ one_place p i j is js same = elim (cases_lt i j) [
   ]
 ]
 
--- what stands in the list is an index that passes
+-- what is in the list is an index that passes
 pub record IsListed (p : ℕ → Bool) (n q i : ℕ) : Type 0 where
   pub there : i < n
   pub passes : p i ≡ true

@@ -23,14 +23,14 @@ pub verdict_told : (rules : List {1} (Ruled ℕ)) (number at : ℕ) (result : Re
 verdict_told rules number at (Ok value) found same = absurd same
 verdict_told rules number at (Err error) found same = subst (λ (e : Fault). IsVerdict rules (Err e)) (sym same) found
 
--- behind a run without a fault stands the verdict of the rules after it
+-- after a run without a fault is the verdict of the rules after it
 pub verdict_later : (xs ys : List {1} (Ruled ℕ)) (result : Result (Unit {0}) Fault) → FirstIn xs None → IsVerdict ys result → IsVerdict (xs ++ ys) result
 verdict_later xs ys (Ok value) clean (found, unit) = (FirstIn-later xs ys None clean found, tt)
 verdict_later xs ys (Err (Rule number at)) clean found = FirstIn-later xs ys (Some (number, at)) clean found
 verdict_later xs ys (Err OutOfMemory) clean told = tt
 verdict_later xs ys (Err (Io at)) clean told = absurd told
 
--- ---- of a file, of which memory is taken only behind the first run
+-- ---- of a file, of which memory is taken only after the first run
 
 -- the first run's own fault
 pub front_fault : {T : Type 0} (f : Sections) (Is : T → Type 0) (number at : ℕ) (result : Result T Fault) → FirstIn (front_rules f) (Some (number, at)) →
@@ -40,7 +40,7 @@ front_fault f Is number at (Ok value) found same = absurd same
 front_fault {T} f Is number at (Err error) found same =
     subst (λ (e : Fault). IsJudgedBehind {T = T} (front_rules f) (file_rules f) Is (Err e)) (sym same) (FirstIn-sooner (front_rules f) _ (number, at) found)
 
--- what the rules behind it find is what all find
+-- what the rules after it find is what all find
 pub found_behind : (f : Sections) (left : LeftOut) (found : Option (ℕ × ℕ)) → left ≡ left_out f → FirstIn (front_rules f) None →
     FirstIn (rules_behind left f left.symbol_table) found → FirstIn (file_rules f) found
 unfolding file_rules

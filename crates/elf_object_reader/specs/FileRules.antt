@@ -38,7 +38,7 @@ IsForeignType type = (type ≡ SHT_HASH) ⊎ ((type ≡ SHT_DYNAMIC) ⊎ ((type 
 abbrev pub foreign_section : Sections → Row ℕ
 foreign_section f = AtEntry (count f) (λ i. IsForeignType (section f i).sh_type) (λ i. header_at f i + SH_TYPE_AT)
 
--- rule 73: a symbol table stands after another
+-- rule 73: a symbol table is after another
 abbrev pub IsSecondSymbolTable : Sections → ℕ → Type 0
 IsSecondSymbolTable f i =
     ((section f i).sh_type ≡ SHT_SYMTAB) × ((k : ℕ) × (k < i) × ((section f k).sh_type ≡ SHT_SYMTAB))

@@ -1,5 +1,5 @@
--- Which sections of a file an object keeps, and where each stands among them. (gABI chapter 4, Sections, String Table,
--- Symbol Table.) An index counts the file's section headers, a position the sections that are kept.
+-- Which sections of a file an object keeps, and where each is among them. (gABI chapter 4, Sections, String Table, Symbol Table.) An index
+-- counts the file's section headers, a position the sections that are kept.
 use Rattle.std.specs.Prelude.{ℕ, ◌==◌, ◌||◌, not, if◌then◌else◌, Bool, false, Option, None, Some, List, filter, length, position}
 use Rattle.std.specs.List.{range_with_len}
 use Rattle.elf_field.specs.Abi.{SHT_GROUP, SHT_NOBITS, SHT_NULL, SHT_REL, SHT_RELA, SHT_SYMTAB}

@@ -1,5 +1,5 @@
-//! The rules of a file that is read as an object behind 70 to 74, in their order: those of the symbol table and 75, those of each
-//! relocation section and group that is kept, and 76 to 79.
+//! The rules of a file that is read as an object after 70 to 74, in their order: those of the symbol table and 75, those of each relocation
+//! section and group that is kept, and 76 to 79.
 ghost use Rattle.std.specs.Prelude.{◌≡◌, ◌↔◌, ◌≤◌, ◌+◌, ◌*◌, [], IsTrue, length};
 ghost use Rattle.elf_extent.specs.Least.{IsLowest};
 ghost use Rattle.elf_object_reader.specs.FileRules.{IsSymbolOutside, reference_rules, rules_behind, rules_of_bodies, rules_of_body, symbol_outside, symbol_rules_in};

@@ -34,7 +34,7 @@ fn lowest_foreign_section(image: &Image<'_>) -> Option<u64>
     None
 }
 
-/// The lowest offset of the type of a symbol table behind another.
+/// The lowest offset of the type of a symbol table after another.
 fn lowest_second_symbol_table(image: &Image<'_>) -> Option<u64>
     ensures { IsLowest (second_symbol_table (sections_of image.now)) result }
 {

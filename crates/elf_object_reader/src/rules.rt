@@ -7,7 +7,7 @@ pub const NOT_RELOCATABLE: u16 = 70;
 pub const LOADABLE: u16 = 71;
 /// A section is of a type that no object has.
 pub const FOREIGN_SECTION: u16 = 72;
-/// A symbol table stands behind another.
+/// A symbol table is after another.
 pub const SECOND_SYMBOL_TABLE: u16 = 73;
 /// An index table is not that of the symbol table.
 pub const STRAY_INDEX_TABLE: u16 = 74;

@@ -1,4 +1,4 @@
--- Names as numbers of their last bytes: where the numbers differ, they stand in the order of the names.
+-- Names as numbers of their last bytes: where the numbers differ, they are in the order of the names.
 use Rattle.std.proofs.Common.{◌≡◌, ℕ, zero, suc, ◌+◌, ◌-◌, ◌*◌, ◌^◌, ◌<◌, ◌≤◌, List, [], ◌∷◌, ◌++◌, length, get_or, take, drop, min, replicate, reverse, Ordering, refl, sym, ap, subst, ◌∙◌, inl, inr, add-one, arith}
 use Rattle.std.specs.declared.cmp.Ordering.TheVariants.{Less, Equal, Greater}
 use Rattle.std.specs.Cmp.{nat_cmp_is}
@@ -104,14 +104,14 @@ leading-zeros zero k = refl
 leading-zeros (suc n) zero = refl
 leading-zeros (suc n) (suc k) = let rest = leading-zeros n k in omega arith
 
--- zeros behind the bytes do not count
+-- zeros after the bytes do not count
 leading-closed : (n : ℕ) (bytes : List ℕ) (k : ℕ) → leading n (bytes ++ zeros k) ≡ leading n bytes
 unfolding leading
 leading-closed n [] k = leading-zeros n k ∙ sym (leading-nil n)
 leading-closed zero (byte ∷ bytes) k = refl
 leading-closed (suc n) (byte ∷ bytes) k = ap (λ (x : ℕ). byte * 256 ^ n + x) (leading-closed n bytes k)
 
--- nor does anything behind n bytes
+-- nor does anything after n bytes
 leading-append : (n : ℕ) (bytes rest : List ℕ) → n ≤ length bytes → leading n (bytes ++ rest) ≡ leading n bytes
 unfolding leading
 leading-append zero bytes rest long = refl
@@ -153,7 +153,7 @@ last_ones name (suc m) is =
     let long : 8 ≤ length (reverse (drop (suc m) name)) = simp (length-reverse, length-drop) (omega arith) in
     sym (ap (leading 8) parts ∙ leading-append 8 (reverse (drop (suc m) name)) (reverse (take (suc m) name)) long)
 
--- the last bytes behind zeros, to the length of eight
+-- the last bytes after zeros, to the length of eight
 closed_end : (name tail : List ℕ) (k : ℕ) → k + length tail ≡ 8 → tail ≡ drop (length name - length tail) name →
     length tail ≡ min (length name) 8 → from_le_bytes w64 (zeros k ++ tail) ≡ end_number name
 closed_end name tail k long is count =

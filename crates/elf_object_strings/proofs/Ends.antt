@@ -14,7 +14,7 @@ length-closed k rest =
     let one = length-append k (0 ∷ []) in
     omega arith
 
--- behind names of which none ends with it
+-- after names of which none ends with it
 pub end_behind : (at : ℕ) (ks : List (List ℕ)) (k : List ℕ) (more : List (List ℕ)) (n : List ℕ) →
     list_any (is_suffix n) ks ≡ false → is_suffix n k ≡ true →
     end_from at (ks ++ (k ∷ more)) n ≡ at + length (flat_map closed ks) + length k
@@ -25,7 +25,7 @@ end_behind at (j ∷ ks) k more n none ends =
     let rest = end_behind (at + suc (length j)) ks k more n parts.1 ends in
     rw parts.0 (omega arith)
 
--- the name stands before x in the closed names, which begin at an offset, with a zero behind it
+-- the name is before x in the closed names, which begin at an offset, with a zero after it
 pub record IsEndAt (at : ℕ) (ks : List (List ℕ)) (n : List ℕ) (x : ℕ) : Type 0 where
   pub from : at + length n ≤ x
   pub within : x < at + length (flat_map closed ks)

@@ -87,7 +87,7 @@ at_ends sorted indexes ordered q r le lt =
     let by_names = slice_cmp nat_cmp (reverse (get_or sorted q [])) (reverse (get_or sorted r [])) in
     first_part by_names (nat_cmp (get_or indexes r 0) (get_or indexes q 0)) (ordered q r le lt)
 
--- where a name ends with one behind it, so do those between
+-- where a name ends with one after it, so do those between
 pub ends_between : (sorted : List (List ℕ)) (indexes : List ℕ) → AreInEndsOrder sorted indexes → (p q r : ℕ) → p ≤ q → q ≤ r →
     r < length sorted →
     Ends sorted r p → Ends sorted r q
@@ -98,7 +98,7 @@ ends_between sorted indexes ordered p q r low high lt ends =
     (between (reverse (get_or sorted r [])) (reverse (get_or sorted q [])) (reverse (get_or sorted p [])) lower upper
     (begins_reversed (get_or sorted r []) (get_or sorted p []) ends))
 
--- a name behind one that it ends with equals it
+-- a name after one that it ends with equals it
 pub ends_alike : (sorted : List (List ℕ)) (indexes : List ℕ) → AreInEndsOrder sorted indexes → (p q : ℕ) → p ≤ q → q < length sorted →
     Ends sorted p q → get_or sorted q [] ≡ get_or sorted p []
 ends_alike sorted indexes ordered p q le lt ends =
@@ -108,7 +108,7 @@ ends_alike sorted indexes ordered p q le lt ends =
     let turned : reverse c ≡ reverse a = alike (reverse a) (reverse c) least (begins_reversed a c ends) in
     sym (reverse-reverse c) ∙ ap (λ (s : List ℕ). reverse s) turned ∙ reverse-reverse a
 
--- equal names stand in the order of their indexes
+-- equal names are in the order of their indexes
 pub later_index : (sorted : List (List ℕ)) (indexes : List ℕ) → AreInEndsOrder sorted indexes → (p q : ℕ) → p ≤ q → q < length sorted →
     get_or sorted q [] ≡ get_or sorted p [] → get_or indexes p 0 ≤ get_or indexes q 0
 later_index sorted indexes ordered p q le lt same =

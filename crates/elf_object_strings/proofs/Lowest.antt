@@ -1,4 +1,4 @@
--- The lowest offset at which a name stands among closed names is where the first of them ends that ends with it.
+-- The lowest offset at which a name is among closed names is where the first of them ends that ends with it.
 use Rattle.std.proofs.Common.{◌≡◌, ◌≢◌, ◌<◌, ◌≤◌, ℕ, zero, suc, ◌+◌, ◌-◌, Bool, true, false, cond, List, [], ◌∷◌, ◌++◌, length, take, drop, get_or, refl, sym, ap, ap₂, ◌∙◌, append_assoc, arith, inl, inr, length-append}
 use Rattle.std.specs.Prelude.{◌⊎◌}
 use Rattle.std.specs.List.{AllByRecursion, flat_map, list_any}
@@ -32,7 +32,7 @@ zero_free-drop zero k free = free
 zero_free-drop (suc y) [] free = free
 zero_free-drop (suc y) (b ∷ k) free = zero_free-drop y k free.1
 
--- ---- where a name stands
+-- ---- where a name is
 
 -- the start of the suffix of the first of the names that ends with this one
 abbrev pub place_in : List (List ℕ) → List ℕ → ℕ
@@ -46,7 +46,7 @@ closed_first k ks = append_assoc k (0 ∷ []) (flat_map closed ks)
 within : (k t : List ℕ) (y : ℕ) → y ≤ length k → drop y (k ++ (0 ∷ t)) ≡ drop y k ++ (0 ∷ t)
 within k t y le = drop-append-le y k (0 ∷ t) le
 
--- behind them
+-- after them
 behind : (k t : List ℕ) (y : ℕ) → drop (suc (length k) + y) (k ++ (0 ∷ t)) ≡ drop y t
 behind k t y =
     let split : suc (length k) + y ≡ length (k ++ (0 ∷ [])) + y = (let both = length-append k (0 ∷ []) in omega arith) in
@@ -55,12 +55,12 @@ behind k t y =
     ∙ sym (drop-drop y (length (k ++ (0 ∷ []))) ((k ++ (0 ∷ [])) ++ t))
     ∙ ap (drop y) (drop_at (k ++ (0 ∷ [])) t (length (k ++ (0 ∷ []))) refl)
 
--- a name that stands within another is its suffix
+-- a name that is within another is its suffix
 found : (k t n : List ℕ) (y : ℕ) → IsZeroFree k → IsZeroFree n → y ≤ length k → StandsClosedAt (k ++ (0 ∷ t)) n y → drop y k ≡ n
 found k t n y free other le stands =
     one_name (drop y k) n t stands.0 (zero_free-drop y k free) other (sym (within k t y le) ∙ stands.1)
 
--- it stands there
+-- it is there
 stands_end : (k t n : List ℕ) → is_suffix n k ≡ true → StandsClosedAt (k ++ (0 ∷ t)) n (length k - length n)
 stands_end k t n is =
     let suffix = suffix_from n k is in
@@ -131,7 +131,7 @@ lowest_in [] n free other any = absurd (true≢false (sym any))
 lowest_in (k ∷ ks) n free other any =
     rw (closed_first k ks) (lowest_step k ks n (is_suffix n k) refl free.0 other (lowest_in ks n free.1 other) any)
 
--- ---- behind the zero at the table's beginning
+-- ---- after the zero at the table's beginning
 
 pub not_first : (n t bs : List ℕ) → IsZeroFree n → n ≢ [] → 0 ∷ t ≢ n ++ (0 ∷ bs)
 not_first [] t bs free some = λ is. some refl

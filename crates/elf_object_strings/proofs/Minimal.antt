@@ -7,7 +7,7 @@ use Rattle.elf_object_strings.specs.Shared.{AreZeroFree}
 use Rattle.elf_object_strings.specs.StringTable.{closed}
 use Rattle.elf_object_strings.proofs.Lowest.{IsZeroFree, heads, one_name, rests}
 
--- the name stands in the list, with a zero behind it
+-- the name is in the list, with a zero after it
 pub record Stands (t n : List ℕ) : Type 0 where
   pub front : List ℕ
   pub behind : List ℕ
@@ -18,7 +18,7 @@ abbrev pub AreApart : List (List ℕ) → Type 0
 AreApart [] = ⊤
 AreApart (k ∷ ks) = AllByRecursion (λ n. (IsSuffix n k → ⊥) × (IsSuffix k n → ⊥)) ks × AreApart ks
 
--- ---- a name is cut out of a list with its zero; another one is its suffix, or still stands there
+-- ---- a name is cut out of a list with its zero; another one is its suffix, or still is there
 
 longer_front : (b : ℕ) (t n : List ℕ) → Stands t n → Stands (b ∷ t) n
 longer_front b t n s = record { front = b ∷ s.front; behind = s.behind; is = ap (λ (xs : List ℕ). b ∷ xs) s.is }
@@ -26,7 +26,7 @@ longer_front b t n s = record { front = b ∷ s.front; behind = s.behind; is = a
 longer_suffix : (b : ℕ) (n k : List ℕ) → IsSuffix n k → IsSuffix n (b ∷ k)
 longer_suffix b n k s = (b ∷ s.0, ap (λ (xs : List ℕ). b ∷ xs) s.1)
 
--- the other one begins within the name, its zero or behind
+-- the other one begins within the name, its zero or after
 inside : (k bs front n cs : List ℕ) → IsZeroFree k → IsZeroFree n → k ++ (0 ∷ bs) ≡ front ++ (n ++ (0 ∷ cs)) → IsSuffix n k ⊎ Stands bs n
 inside k bs [] n cs free other is = inl ([], one_name k n bs cs free other is)
 inside [] bs (c ∷ front) n cs free other is = inr (record { front = front; behind = cs; is = rests 0 c _ _ is })
@@ -35,7 +35,7 @@ inside (b ∷ k) bs (c ∷ front) n cs free other is = by_rest (inside k bs fron
   by_rest (inl s) = inl (longer_suffix b n k s)
   by_rest (inr s) = inr s
 
--- the other one begins first: it ends with the name, or its zero stands before the name
+-- the other one begins first: it ends with the name, or its zero is before the name
 before : (front k bs n cs : List ℕ) → IsZeroFree k → IsZeroFree n → front ++ (k ++ (0 ∷ bs)) ≡ n ++ (0 ∷ cs) →
     IsSuffix k n ⊎ ((rest : List ℕ) × (front ++ bs ≡ n ++ (0 ∷ rest)))
 before [] k bs n cs free other is = inl ([], sym (one_name k n bs cs free other is))

@@ -77,7 +77,7 @@ kept_same names n j kept lt ends = by_equal (bytes_eq n (get_or names j [])) ref
       and_from (is_suffix n other) (not (bytes_eq n other)) (suffix_test n other ends) (not_from_false _ is) in
       absurd (true≢false (sym (list_any_at (is_proper_suffix n) names j [] lt proper) ∙ none))
 
--- where a name is not among the first ones it doesn't stand before
+-- where a name is not among the first ones it is not before
 not_before : (names : List (List ℕ)) (n : List ℕ) (i j : ℕ) → i < length names → list_any (bytes_eq n) (take i names) ≡ false →
     get_or names j [] ≡ n → i ≤ j
 not_before names n i j lt none same = by_order (cases_lt j i) where

@@ -1,4 +1,4 @@
--- Names sorted by what they end with: those that end with one name stand one behind the other, and it last.
+-- Names sorted by what they end with: those that end with one name are one after the other, and it last.
 use Rattle.std.specs.Prelude.{◌≡◌, ◌<◌, ◌≤◌, ℕ, List, [], get_or, length}
 use Rattle.elf_object_strings.specs.Owners.{IsFirstOfHeld, IsOwner, IsSuffix}
 use Rattle.elf_object_strings.specs.Sorting.{AreNumbered}

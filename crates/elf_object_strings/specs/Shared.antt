@@ -12,17 +12,17 @@ texts names = map (λ name. name.now) names
 abbrev pub AreZeroFree : List (List ℕ) → Type 0
 AreZeroFree names = AllByRecursion (AllByRecursion (λ byte. 0 < byte)) names
 
--- the name stands at the offset, with a zero behind it
+-- the name is at the offset, with a zero after it
 abbrev pub StandsClosedAt : List ℕ → List ℕ → ℕ → Type 0
 StandsClosedAt table name offset = (behind : List ℕ) × (drop offset table ≡ name ++ (0 ∷ behind))
 
--- the table begins with a zero byte, and every name stands somewhere in it with a zero behind it
+-- the table begins with a zero byte, and every name is somewhere in it with a zero after it
 pub record HoldsEach (table : List ℕ) (names : List (List ℕ)) : Type 0 where
   pub rest : List ℕ
   pub begins : table ≡ 0 ∷ rest
   pub each : AllByRecursion (λ name. (offset : ℕ) × StandsClosedAt table name offset) names
 
--- the lowest offset at which the name stands with a zero behind it
+-- the lowest offset at which the name is with a zero after it
 pub record IsLowestAt (table : List ℕ) (name : List ℕ) (offset : ℕ) : Type 0 where
   pub here : StandsClosedAt table name offset
   pub lowest : (other : ℕ) → StandsClosedAt table name other → offset ≤ other

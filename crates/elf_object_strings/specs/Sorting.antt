@@ -25,19 +25,19 @@ pub record AreNumbered (names : List (List ℕ)) (sorted : List (List ℕ)) (ind
   pub named : (q : ℕ) → q < length sorted → get_or names (get_or indexes q 0) [] ≡ get_or sorted q []
   pub each : (i : ℕ) → i < length names → (q : ℕ) × (q < length sorted) × (get_or indexes q 0 ≡ i)
 
--- none stands before one that comes first
+-- none is before one that comes first
 abbrev pub AreInEndsOrder : List (List ℕ) → List ℕ → Type 0
 AreInEndsOrder sorted indexes =
     (q r : ℕ) → q ≤ r → r < length sorted →
     is_lt (ends_order (get_or sorted r []) (get_or indexes r 0) (get_or sorted q []) (get_or indexes q 0)) ≡ false
 
--- the number that the first n bytes stand for, the first of them the most significant; those past the end count as zeros
+-- the number that the first n bytes represent, the first of them the most significant; those past the end count as zeros
 unfoldable pub leading : ℕ → List ℕ → ℕ
 leading zero bytes = 0
 leading (suc n) [] = 0
 leading (suc n) (byte ∷ bytes) = byte * 256 ^ n + leading n bytes
 
--- the number that the last eight bytes of a name stand for, the last of them the most significant
+-- the number that the last eight bytes of a name represent, the last of them the most significant
 abbrev pub end_number : List ℕ → ℕ
 end_number name = leading 8 (reverse name)
 

@@ -1,5 +1,5 @@
--- String tables as they are written: a zero, and behind it each distinct name that is not empty and no proper suffix of another
--- one, with the zero that ends it, in the order in which the names first occur. (gABI chapter 4, String Table.)
+-- String tables as they are written: a zero, and after it each distinct name that is not empty and no proper suffix of another one, with
+-- the zero that ends it, in the order in which the names first occur. (gABI chapter 4, String Table.)
 use Rattle.std.specs.Prelude.{ℕ, ◌+◌, ◌-◌, suc, Bool, true, false, not, ◌&&◌, if◌then◌else◌, List, [], ◌∷◌, ◌++◌, length, nat_eq}
 use Rattle.std.specs.List.{ends_with, filter, flat_map, list_any}
 use Rattle.std.specs.Str.{bytes_eq}

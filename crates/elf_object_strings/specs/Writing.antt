@@ -14,7 +14,7 @@ is_written names i =
     let name = get_or names i [] in
     is_held names name && not (list_any (bytes_eq name) (take i names))
 
--- a table with a name and its zero behind it, if the name is its own owner and not empty; else as it is
+-- a table with a name and its zero after it, if the name is its own owner and not empty; else as it is
 abbrev pub with_name : List ℕ → List ℕ → Bool → List ℕ
 with_name bytes name is_owner = if is_owner && is_named name then bytes ++ closed name else bytes
 

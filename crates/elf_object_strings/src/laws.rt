@@ -9,8 +9,8 @@ pub fn holds_names()
     ensures { (names : List (List ℕ)) → HoldsNames names (string_table names) (name_offset names) }
 {}
 
-/// Of names without a zero byte it has each at the lowest offset at which the name stands with a zero behind it, and no table that holds
-/// them all is shorter.
+/// Of names without a zero byte it has each at the lowest offset at which the name is with a zero after it, and no table that holds them
+/// all is shorter.
 pub fn shares_tails()
     ensures { (names : List (List ℕ)) → AreZeroFree names → SharesTails names }
 {}

@@ -15,7 +15,7 @@ use std::cmp::Ordering;
 pub(crate) struct Numbered<'a> {
     pub(crate) name: &'a [u8],
     pub(crate) index: usize,
-    // The last eight bytes as a number, the last of them the most significant; zeros stand for those that a shorter name lacks.
+    // The last eight bytes as a number, the last of them the most significant; zeros represent those that a shorter name lacks.
     end: u64,
 }
 
@@ -64,7 +64,7 @@ fn end_of(name: &[u8]) -> u64
 fn by_end(a: &Numbered<'_>, b: &Numbered<'_>) -> Ordering
     ensures { result ≡ numbered_order a.now b.now }
 {
-    // Where the numbers differ, they stand in the order of the names, which need not be looked at.
+    // Where the numbers differ, they are in the order of the names, which need not be looked at.
     match b.end.cmp(&a.end) {
         Ordering::Equal => by_whole_end(a, b),
         order => order,

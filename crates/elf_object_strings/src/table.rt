@@ -21,9 +21,9 @@ pub struct Shared {
 /// The string table of these names (gABI chapter 4, String Table): a zero, then each distinct name that is neither empty nor a
 /// proper suffix of another one, with the zero that ends it, in the order in which the names first occur.
 ///
-/// Each name stands at its offset with a zero behind it. Of names without a zero byte the offset is the lowest at which the name so
-/// stands, that of the empty name is 0, and no table that holds them all is shorter. Takes n log n comparisons of names, from their ends
-/// on, and at most six numbers of memory a name besides the table. Answers [`OutOfMemory`] only where memory was refused.
+/// Each name is at its offset with a zero after it. Of names without a zero byte the offset is the lowest at which this is so, that of the
+/// empty name is 0, and no table that holds them all is shorter. Takes n log n comparisons of names, from their ends on, and at most six
+/// numbers of memory a name besides the table. Returns [`OutOfMemory`] only where an allocation failed.
 pub fn shared_table(alloc: Global, names: &[&[u8]]) -> Result<Shared, OutOfMemory>
     ensures bytes { IfOk result (λ shared. shared.bytes.items ≡ string_table (texts names.now)) }
     ensures offsets { IfOk result (λ shared. shared.offsets.items ≡ map (name_offset (texts names.now)) (texts names.now)) }
@@ -47,7 +47,7 @@ fn table_of(alloc: Global, names: &[&[u8]]) -> Result<Shared, AllocError>
     Ok(Shared { bytes, offsets })
 }
 
-/// The bytes of the table, and where the zero of each name stands that is its own owner.
+/// The bytes of the table, and where the zero of each name is that is its own owner.
 fn write_names(
     alloc: Global,
     names: &[&[u8]],

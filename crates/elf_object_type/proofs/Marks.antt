@@ -45,7 +45,7 @@ marked_next o i members j marks are there = record {
       ]);
 }
 
--- behind its last member the group is an earlier one
+-- after its last member the group is an earlier one
 pub marked_group : (o : ObjectValue) (i : ℕ) (members : List ℕ) (marks : List Bool) → members_of (section_at o i).body ≡ members →
     AreMembershipMarks o i members (length members) marks → AreMembershipMarks o (i + 1) [] 0 marks
 marked_group o i members marks is are = record {

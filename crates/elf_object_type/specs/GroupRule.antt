@@ -14,8 +14,8 @@ abbrev pub IsInEarlierGroup : ObjectValue → ℕ → ℕ → Type 0
 IsInEarlierGroup o i m =
     (h : ℕ) × (h < i) × (let members = members_of (section_at o h).body in NamesMember members (length members) m)
 
--- member j of the group in section i, which has these members, is not behind it, or named before in it or in an earlier group,
--- or a group itself, or lacks the flag GROUP
+-- member j of the group in section i, which has these members, is not after it, or named before in it or in an earlier group, or a group
+-- itself, or lacks the flag GROUP
 abbrev pub IsWrongMembership : ObjectValue → ℕ → List ℕ → ℕ → Type 0
 IsWrongMembership o i members j =
     let m = slice_index members j in

@@ -84,7 +84,7 @@ member_in o p j = slice_index (group_members o p) j
 abbrev pub EachMember : ObjectValue → (ℕ → ℕ → Type 0) → Type 0
 EachMember o P = (p j : ℕ) → p < length o.sections → j < length (group_members o p) → P p (member_in o p j)
 
--- a group stands before its members, which have the flag GROUP and are no groups; a section is a member once, and of one group
+-- a group is before its members, which have the flag GROUP and are no groups; a section is a member once, and of one group
 pub record HasRightMembers (o : ObjectValue) : Type 0 where
   pub behind : EachMember o (λ p m. p < m)
   pub flagged : EachMember o (λ p m. HasFlag (section_at o m).flags SHF_GROUP)

@@ -43,7 +43,7 @@ pub record ObjectValue : Type 0 where
   pub sections : List SectionValue
   pub symbols : List SymbolValue
 
--- those that stand for one that isn't there
+-- those used for one that isn't there
 abbrev pub no_relocation : Relocation
 no_relocation = record { offset = 0; symbol = None; kind = 0; addend = pos 0 }
 

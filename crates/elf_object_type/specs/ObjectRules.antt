@@ -16,7 +16,7 @@ object_rules o = object_section_rules o ++ (object_group_rules o ++ object_symbo
 abbrev pub IsObject : ObjectValue → Type 0
 IsObject o = FirstIn (object_rules o) None
 
--- the fault of a value: rules 1 to 6 are those of sections; memory is only taken for groups, behind rules 1 to 5
+-- the fault of a value: rules 1 to 6 are those of sections; memory is only taken for groups, after rules 1 to 5
 abbrev pub IsObjectFault : ObjectValue → ObjectFault → Type 0
 IsObjectFault o (Section number position) = (number ≤ 6) × FirstIn (object_rules o) (Some (number, position))
 IsObjectFault o (Symbol number position) = (6 < number) × FirstIn (object_rules o) (Some (number, position))

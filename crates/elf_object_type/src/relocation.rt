@@ -8,6 +8,6 @@ pub struct Relocation {
     pub symbol: Option<usize>,
     /// Its type, whose meaning is the processor's.
     pub kind: u32,
-    /// The constant that is added; 0 in a section of type REL, where it stands in the bytes that are relocated.
+    /// The constant that is added; 0 in a section of type REL, where it is in the bytes that are relocated.
     pub addend: i64,
 }

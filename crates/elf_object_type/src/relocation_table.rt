@@ -1,4 +1,4 @@
-//! The bytes of a table of relocations, and the relocations that they stand for (gABI chapter 4, Relocation).
+//! The bytes of a table of relocations, and the relocations that they represent (gABI chapter 4, Relocation).
 ghost use Rattle.std.specs.Prelude.{◌≡◌, ◌<◌, IsTrue};
 ghost use Rattle.std.specs.List.{AllByRecursion};
 ghost use Rattle.elf_field.specs.Abi.{relocation_size as relocation_size_of};
@@ -51,7 +51,7 @@ impl<'a> RelocationTable<'a> {
         self.bytes.len() / relocation_size(self.rela)
     }
 
-    /// Whether it is a table in this byte order, with addends or without, and ends behind its last relocation.
+    /// Whether it is a table in this byte order, with addends or without, and ends after its last relocation.
     pub(crate) fn is_of(&self, order: Order, rela: bool) -> bool
         ensures { IsTrue result → IsRelocationTable rela order self.now.bytes.now (listed_in self.now) }
     {

@@ -47,7 +47,7 @@ impl<'a> From<Vec<Relocation>> for Relocations<'a> {
 }
 
 impl<'a> Relocations<'a> {
-    /// The relocations of a table of a file in this byte order, with addends or without (`SHT_RELA`, `SHT_REL`), by its bytes. Bytes behind
+    /// The relocations of a table of a file in this byte order, with addends or without (`SHT_RELA`, `SHT_REL`), by its bytes. Bytes after
     /// the last whole relocation count for nothing. It takes no memory.
     pub fn of_table(order: Order, rela: bool, bytes: &'a [u8]) -> Relocations<'a>
         ensures { result ≡ table_relocations rela order bytes.now }

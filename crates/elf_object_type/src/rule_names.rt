@@ -1,4 +1,4 @@
-//! The names of rules by their numbers. Made by `scripts/rules-table` from docs/RULES.md.
+//! The names of rules by their numbers. Made by `tools/release tables` from docs/RULES.md.
 
 /// The name of a rule of objects, as `ZERO_IN_SECTION_NAME` of 1; empty where no rule has the number.
 pub fn rule_name(rule: u16) -> &'static str {

@@ -11,11 +11,11 @@ pub const WRONG_ALIGNMENT: u16 = 3;
 pub const WRONG_POSITION: u16 = 4;
 /// A section's `info`, `link`, entry size or addends are not those of its flags and body.
 pub const WRONG_FIELD: u16 = 5;
-/// A group has a member that is not behind it, was named before, is a group, or lacks the flag `SHF_GROUP`.
+/// A group has a member that is not after it, was named before, is a group, or lacks the flag `SHF_GROUP`.
 pub const WRONG_MEMBERSHIP: u16 = 6;
 /// A symbol's name has a zero byte.
 pub const ZERO_IN_SYMBOL_NAME: u16 = 7;
 /// A symbol is defined in a section that isn't there.
 pub const WRONG_PLACE: u16 = 8;
-/// A local symbol stands behind one that is not local.
+/// A local symbol is after one that is not local.
 pub const MISPLACED_LOCAL: u16 = 9;

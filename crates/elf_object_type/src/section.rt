@@ -30,7 +30,7 @@ pub enum Body<'a> {
     Group {
         /// Whether it is a COMDAT group (`GRP_COMDAT`).
         comdat: bool,
-        /// The position of the symbol whose name tells the group.
+        /// The position of the symbol whose name reports the group.
         signature: usize,
         /// The positions of its sections.
         members: Vec<usize>,

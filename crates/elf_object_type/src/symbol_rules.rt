@@ -63,7 +63,7 @@ fn lowest_symbol(parts: &ObjectParts<'_>, rule: SymbolRule) -> Option<u64>
     None
 }
 
-/// The least position of a local symbol behind one that is not.
+/// The least position of a local symbol after one that is not.
 fn lowest_misplaced_local(parts: &ObjectParts<'_>) -> Option<u64>
     ensures { IsLowest (misplaced_local (value_of parts.now)) result }
 {

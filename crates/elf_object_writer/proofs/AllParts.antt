@@ -14,7 +14,7 @@ use Rattle.elf_object_type.specs.Object.{ObjectValue, SymbolValue}
 use Rattle.elf_object_writer.specs.PlainSections.{PlainSection, has_index_table, index_table_section, index_word, null_symbol, own_section, plain_sections, section_names, sections_before_names, strings, symbol_entry, symbol_names, symbol_table_section}
 use Rattle.elf_object_writer.proofs.PartSizes.{fits_largest}
 
--- ---- the sections behind the object's own
+-- ---- the sections after the object's own
 
 unfoldable pub last_sections : ObjectValue → Bool → List PlainSection
 last_sections o true = symbol_table_section o ∷ index_table_section o ∷ strings (codes ".strtab") (symbol_names o) ∷ strings (codes ".shstrtab") (section_names o) ∷ []

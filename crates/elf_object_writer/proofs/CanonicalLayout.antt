@@ -92,7 +92,7 @@ length-canonical_section_headers o places fits =
     let many = fits_length (layout_parts sections) EHDR_SIZE places fits in
     length-section_headers (name_offset (section_names o)) sections places (omega arith)
 
--- each part stands behind the one before it, as a relocatable file wants it
+-- each part is after the one before it, as a relocatable file wants it
 pub layout_order : (o : ObjectValue) (places : List ℕ) → Fits (layout_parts (plain_sections o)) EHDR_SIZE places →
     Fits (map unaligned (behind_header (canonical_header o places) (canonical_section_headers o places) (contents_of o) (name_table_at o))) EHDR_SIZE (offsets (canonical_header o places) (canonical_section_headers o places))
 unfolding layout_parts
@@ -145,7 +145,7 @@ identification_kept o = record {
   ident_version = refl;
 }
 
--- ---- what placed parts tell of the object
+-- ---- what placed parts say about the object
 
 pub layout_ok : (o : ObjectValue) (parts : List (ℕ × ℕ)) (layout : LayoutValue) → parts ≡ map saturated (layout_parts (plain_sections o)) →
     ArePlacedParts parts layout → IsLayoutOf o layout

@@ -37,12 +37,12 @@ header_found name_at (s ∷ sections) [] k h d long lt = absurd (omega arith)
 header_found name_at (s ∷ sections) (x ∷ places) zero h d long lt = refl
 header_found name_at (s ∷ sections) (x ∷ places) (suc k) h d long lt = header_found name_at sections places k h d (omega arith) (omega arith)
 
--- an entry behind the first one
+-- an entry after the first one
 pub behind_first : {A : Type 0} (x : A) (xs : List A) (i : ℕ) (d : A) → 0 < i → get_or (x ∷ xs) i d ≡ get_or xs (i - 1) d
 behind_first x xs zero d some = absurd (omega arith)
 behind_first x xs (suc i) d some = (let e : i ≡ suc i - 1 = omega arith in ap (λ (k : ℕ). get_or xs k d) e)
 
--- the header of the section that stands at a position
+-- the header of the section that is at a position
 pub header_read : (o : ObjectValue) (layout : LayoutValue) (k name place : ℕ) (s : PlacedSection) (h : Shdr) (d : PlainSection) → k < length (plain_sections o) → IsSectionAt o k s →
     name ≡ name_offset (section_names o) (get_or (section_names o) k []) → place ≡ get_or layout.places k 0 →
     ((name_at : List ℕ → ℕ) → name ≡ name_at (plain_section o s).name → h ≡ section_header name_at (plain_section o s) place) →

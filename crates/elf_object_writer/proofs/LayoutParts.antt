@@ -9,7 +9,7 @@ use Rattle.elf_image_rules.specs.HeaderRules.{MAX_LEN}
 use Rattle.elf_object_writer.specs.LayoutParts.{LARGEST, saturated}
 use Rattle.elf_object_writer.specs.LayoutView.{AreTooLong, ArePlacedParts, LayoutValue}
 
--- no part ends behind the last one
+-- no part ends after the last one
 pub end_last : (ps : List (ℕ × ℕ)) (from : ℕ) (q : List ℕ) (k : ℕ) → Fits ps from q → k < length ps → end_of ps q k ≤ end_of ps q (length ps - 1)
 end_last ps from q k fits lt = elim (cases_lt k (length ps - 1)) [
   | inl earlier ↦ (let above = above_earlier ps from q k (length ps - 1) fits earlier (omega arith) in omega arith)
@@ -44,7 +44,7 @@ size_at [] k = refl
 size_at (p ∷ ps) zero = refl
 size_at (p ∷ ps) (suc k) = size_at ps k
 
--- an element that is there does not depend on what stands for a missing one
+-- an element that is there does not depend on what is used for a missing one
 same_element : (xs : List ℕ) (k d e : ℕ) → k < length xs → get_or xs k d ≡ get_or xs k e
 same_element [] k d e lt = absurd (omega arith)
 same_element (x ∷ xs) zero d e lt = refl
@@ -84,7 +84,7 @@ saturated_size [] k large = large
 saturated_size (p ∷ ps) zero large = le-min large (omega arith)
 saturated_size (p ∷ ps) (suc k) large = saturated_size ps k large
 
--- what places of such parts tell of the parts
+-- what places of such parts say about the parts
 pub placed_parts : (ps : List (ℕ × ℕ)) (layout : LayoutValue) → ArePlacedParts (map saturated ps) layout → ArePlacedParts ps layout
 placed_parts ps layout placed = elim (sizes_fit ps) [
   | inl same ↦ subst (λ (qs : List (ℕ × ℕ)). ArePlacedParts qs layout) same placed

@@ -31,7 +31,7 @@ own_names : (o : ObjectValue) (sections : List SectionValue) → map (λ s. s.na
 own_names o [] = refl
 own_names o (s ∷ sections) = ap (λ (names : List (List ℕ)). s.name ∷ names) (own_names o sections)
 
--- those of the sections behind the object's own
+-- those of the sections after the object's own
 abbrev last_names : Bool → List (List ℕ)
 last_names true = codes ".symtab" ∷ codes ".symtab_shndx" ∷ codes ".strtab" ∷ codes ".shstrtab" ∷ []
 last_names false = codes ".symtab" ∷ codes ".strtab" ∷ codes ".shstrtab" ∷ []

@@ -22,7 +22,7 @@ use Rattle.elf_object_writer.proofs.ShortLayout.{few_sections, few_symbols, shor
 below_count : (k n : ℕ) → n < 2 ^ 31 → (n ≤ k → ⊥) → k + 1 < 2 ^ 32
 below_count k n few here = near_index (Some k) n few here
 
--- an element that is there does not depend on what stands for a missing one
+-- an element that is there does not depend on what is used for a missing one
 pub any_default : {A : Type 0} (xs : List A) (k : ℕ) (d e : A) → k < length xs → get_or xs k d ≡ get_or xs k e
 any_default [] k d e lt = absurd (omega arith)
 any_default (x ∷ xs) zero d e lt = refl

@@ -7,7 +7,7 @@ use Rattle.elf_object_writer.specs.PlainSections.{PlainSection, has_index_table,
 use Rattle.elf_object_writer.proofs.AllParts.{last_sections}
 use Rattle.elf_object_writer.proofs.PlainSections.{count_far, count_near, either_way, last_found, own_found}
 
--- a section behind the object's own
+-- a section after the object's own
 behind_own : (o : ObjectValue) (far : Bool) (position k : ℕ) (d : PlainSection) → has_index_table o ≡ far → position ≡ length o.sections + k →
     get_or (plain_sections o) position d ≡ get_or (last_sections o far) k d
 behind_own o far position k d is at = ap (λ (x : ℕ). get_or (plain_sections o) x d) at ∙ last_found o far is k d

@@ -1,4 +1,4 @@
--- The sections of a layout by position: the object's own, and the three or four behind them.
+-- The sections of a layout by position: the object's own, and the three or four after them.
 use Rattle.std.proofs.Common.{◌≡◌, ◌<◌, ◌≤◌, ◌+◌, ◌⊎◌, ℕ, Bool, true, false, List, [], ◌++◌, length, map, get_or, inl, inr, refl, sym, ap, ◌∙◌, arith, length-append}
 use Rattle.std.specs.Prelude.{if◌then◌else◌}
 use Rattle.std.proofs.lemmas.List.{get_or-append-add, get_or-map, get_or_append_left, length-map}
@@ -54,7 +54,7 @@ own_found o p d lt =
     ∙ get_or_append_left (map (own_section o) o.sections) (last_sections o (has_index_table o)) d p (omega arith)
     ∙ get_or-map (own_section o) o.sections p no_section d lt
 
--- one behind them
+-- one after them
 pub last_found : (o : ObjectValue) (far : Bool) → has_index_table o ≡ far → (k : ℕ) (d : PlainSection) →
     get_or (plain_sections o) (length o.sections + k) d ≡ get_or (last_sections o far) k d
 last_found o far is k d =

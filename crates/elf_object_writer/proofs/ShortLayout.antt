@@ -34,7 +34,7 @@ table_size : (sections : List PlainSection) (table : ℕ × ℕ) → get_or (map
 table_size [] table = refl
 table_size (s ∷ sections) table = table_size sections table
 
--- no part ends behind the longest file
+-- no part ends after the longest file
 part_end : (o : ObjectValue) (layout : LayoutValue) (k : ℕ) → IsLayoutOf o layout → k ≤ length (plain_sections o) →
     end_of (layout_parts (plain_sections o)) layout.places k ≤ MAX_LEN
 part_end o layout k laid le =

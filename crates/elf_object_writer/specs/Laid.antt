@@ -12,7 +12,7 @@ use Rattle.elf_object_strings.specs.StringTable.{name_offset}
 use Rattle.elf_object_type.specs.Object.{ObjectValue}
 use Rattle.elf_object_writer.specs.PlainSections.{RECORD_ALIGNMENT, PlainSection, name_table_at, plain_sections, section_names}
 
--- ---- the parts behind the header: each content, and the section header table at a multiple of 8
+-- ---- the parts after the header: each content, and the section header table at a multiple of 8
 
 -- sh_size
 abbrev pub section_size : PlainSection → ℕ

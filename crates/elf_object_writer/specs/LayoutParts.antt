@@ -1,4 +1,4 @@
--- The sizes of parts as numbers of 64 bits: the largest one stands for all that are larger.
+-- The sizes of parts as numbers of 64 bits: the largest one represents all that are larger.
 use Rattle.std.specs.Prelude.{ℕ, min}
 
 abbrev pub LARGEST : ℕ

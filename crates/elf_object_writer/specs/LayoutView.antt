@@ -9,7 +9,7 @@ use Rattle.elf_object_writer.specs.Laid.{Laid, layout_bytes, layout_parts}
 use Rattle.elf_object_type.specs.Object.{ObjectValue}
 use Rattle.elf_object_writer.specs.PlainSections.{plain_sections}
 
--- where the contents from section index 1 on begin, and behind them the section header table; and the length of the file
+-- where the contents from section index 1 on begin, and after them the section header table; and the length of the file
 pub record LayoutValue : Type 0 where
   pub places : List ℕ
   pub file_len : ℕ
@@ -20,7 +20,7 @@ pub record ArePlacedParts (parts : List (ℕ × ℕ)) (layout : LayoutValue) : T
   pub file_len : layout.file_len ≡ end_of parts layout.places (length parts - 1)
   pub short : layout.file_len ≤ MAX_LEN
 
--- the parts at their least places end behind the longest file
+-- the parts at their least places end after the longest file
 abbrev pub AreTooLong : List (ℕ × ℕ) → Type 0
 AreTooLong parts = (places : List ℕ) → Least parts EHDR_SIZE places → MAX_LEN < end_of parts places (length parts - 1)
 
@@ -35,7 +35,7 @@ pub record IsLayoutOf (o : ObjectValue) (layout : LayoutValue) : Type 0 where
   pub file_len : layout.file_len ≡ length (layout_bytes o layout.places)
   pub short : layout.file_len ≤ MAX_LEN
 
--- the canonical layout is too long; want of memory says nothing
+-- the canonical layout is too long; out of memory says nothing
 abbrev pub IsLayoutFault : ObjectValue → LayoutFault → Type 0
 IsLayoutFault o TooLong = (b : List ℕ) → Laid o b → MAX_LEN < length b
 IsLayoutFault o OutOfMemory = Unit {0}

@@ -20,7 +20,7 @@ use Rattle.elf_object_writer.specs.PlainSections.{name_table_at, plain_sections,
 abbrev pub WritesLayout : ObjectValue → Option (List ℕ) → Option (List ℕ) → Result Unit WriteFault → Type 0
 WritesLayout o before after result = (b : List ℕ) × Laid o b × (length b ≤ MAX_LEN) × Writes before after b result
 
--- each fault with when it comes, and what it leaves; want of memory says nothing else
+-- each fault with when it comes, and what it leaves; out of memory says nothing else
 abbrev pub IsLayoutWriteFault : ObjectValue → Option (List ℕ) → Option (List ℕ) → ObjectWriteFault → Type 0
 IsLayoutWriteFault o before after TooLong = (after ≡ before) × IsLayoutFault o layout.TooLong
 IsLayoutWriteFault o before after OutOfMemory = after ≡ before
@@ -31,7 +31,7 @@ IsLayoutWritten o before after result = MatchResult result (λ _. WritesLayout o
 
 -- ---- part by part
 
--- bytes go out behind so many others: all of them, and the answer is where they end, or a fault that counts all that are out
+-- bytes go out after so many others: all of them, and the answer is where they end, or a fault that counts all that are out
 abbrev pub WritesBehind : ℕ → Option (List ℕ) → Option (List ℕ) → List ℕ → Result ℕ WriteFault → Type 0
 WritesBehind out before after bytes result = MatchResult result
     (λ end. (end ≡ out + length bytes) × Appends before after bytes)

@@ -1,6 +1,6 @@
--- The sections of an object as their section headers have them, in the order of the canonical layout: the object's own, and
--- behind them the symbol table, its index table where there is one, its string table, and the section name string table.
--- (gABI chapter 4: Sections, Symbol Table, Relocation, Section Groups. Position p has section index p + 1.)
+-- The sections of an object as their section headers have them, in the order of the canonical layout: the object's own, and after them the
+-- symbol table, its index table where there is one, its string table, and the section name string table. (gABI chapter 4: Sections, Symbol
+-- Table, Relocation, Section Groups. Position p has section index p + 1.)
 use Rattle.std.specs.Prelude.{ℕ, ◌+◌, ◌*◌, ◌^◌, ◌==◌, nat_le, if◌then◌else◌, Bool, false, Option, None, Some, List, [], ◌∷◌, ◌++◌, codes, length, map}
 use Rattle.std.specs.List.{filter, flat_map, list_any}
 use Rattle.elf_field.specs.Abi.{GRP_COMDAT, SHN_ABS, SHN_COMMON, SHN_LORESERVE, SHN_UNDEF, SHT_GROUP, SHT_NOBITS, SHT_REL, SHT_RELA, SHT_STRTAB, SHT_SYMTAB, SHT_SYMTAB_SHNDX, STB_LOCAL, SYM_SIZE, WORD_SIZE}

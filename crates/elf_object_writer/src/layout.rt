@@ -1,4 +1,4 @@
-//! Where the parts of an object stand in its canonical layout (gABI chapter 4, ELF Header, Sections).
+//! Where the parts of an object are in its canonical layout (gABI chapter 4, ELF Header, Sections).
 ghost use Rattle.std.specs.Prelude.{◌≡◌, ◌<◌, ℕ, ◌-◌, ◌∷◌, IfErr, IfOk, length, slice_index};
 ghost use Rattle.elf_extent.specs.Place.{EndsFit, Least};
 ghost use Rattle.elf_object_writer.specs.LayoutView.{ArePartsFault, ArePlacedParts, IsLayoutFault, IsLayoutOf};
@@ -20,7 +20,7 @@ pub enum LayoutFault {
     /// Its canonical layout is longer than the longest file, 2^30 bytes.
     #[error("longer than 2^30 bytes")]
     TooLong,
-    /// A growth was refused.
+    /// An allocation failed.
     #[error("out of memory")]
     OutOfMemory,
 }
@@ -112,11 +112,11 @@ impl Layout {
     }
 }
 
-/// The canonical layout of an object. Its two string tables share tails: each name begins at the lowest offset at which it stands, and no
-/// table that holds the names is shorter.
+/// The canonical layout of an object. Its two string tables share tails: each name begins at the lowest offset at which it is, and no table
+/// that holds the names is shorter.
 ///
 /// [`LayoutFault::TooLong`] comes exactly where it is longer than the longest file, 2^30 bytes, and
-/// [`LayoutFault::OutOfMemory`] only where memory is refused. It takes the time and the memory of the two string tables, as
+/// [`LayoutFault::OutOfMemory`] only where an allocation fails. It takes the time and the memory of the two string tables, as
 /// `shared_table` of `elf_object_strings` makes them; all else is linear in the sections and the symbols.
 pub fn lay_out(alloc: Global, object: &Object<'_>) -> Result<Layout, LayoutFault>
     ensures ok { IfOk result (IsLayoutOf object.now) }
@@ -142,7 +142,7 @@ pub(crate) fn lay_out_with(
     place_parts(alloc, &parts)
 }
 
-// The parts (size, alignment) behind the header, of which there is one at least, at their least places.
+// The parts (size, alignment) after the header, of which there is one at least, at their least places.
 fn place_parts(alloc: Global, parts: &[(u64, u64)]) -> Result<Layout, LayoutFault>
     requires { 0 < length parts.now }
     ensures ok { IfOk result (ArePlacedParts parts.now) }

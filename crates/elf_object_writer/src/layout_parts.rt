@@ -1,5 +1,5 @@
-//! The parts of an object behind its header, as they are placed (gABI chapter 4, Sections): each content and the section
-//! header table, by size and alignment.
+//! The parts of an object after its header, as they are placed (gABI chapter 4, Sections): each content and the section header table, by
+//! size and alignment.
 ghost use Rattle.std.specs.Prelude.{◌≡◌, ◌<◌, ℕ, ◌+◌, ◌*◌, ◌^◌, IfOk, map, min};
 ghost use Rattle.elf_object_writer.specs.Laid.{content_part, layout_parts};
 ghost use Rattle.elf_object_writer.specs.LayoutParts.{LARGEST, saturated};
@@ -17,7 +17,7 @@ use std::alloc::{AllocError, Global};
 /// Alignment of the symbol table and of the section header table, whose records have fields of eight bytes.
 pub(crate) const RECORD_ALIGNMENT: u64 = 8;
 
-/// The parts behind the header. A size that passes 64 bits is the largest that doesn't, so it has no place.
+/// The parts after the header. A size that passes 64 bits is the largest that doesn't, so it has no place.
 pub(crate) fn layout_parts(
     alloc: Global,
     object: &Object<'_>,

@@ -1,5 +1,5 @@
-//! The canonical layout of an object, the one list of bytes that it is written as (gABI chapter 4): [`lay_out`] answers where each
-//! part stands, and [`write_layout`] writes it. The object without sections and symbols is 376 bytes long:
+//! The canonical layout of an object, the one list of bytes that it is written as (gABI chapter 4): [`lay_out`] answers where each part is,
+//! and [`write_layout`] writes it. The object without sections and symbols is 376 bytes long:
 //!
 //! ```
 //! let layout = lay_out(alloc, &object)?;

@@ -44,7 +44,7 @@ fn own_names<'a>(alloc: Global, sections: &[Section<'a>]) -> Result<Vec<&'a [u8]
     sections.iter().map(|section| section.name).collect(alloc)
 }
 
-/// The names of the sections from section index 1 on, those of the last four behind the object's own.
+/// The names of the sections from section index 1 on, those of the last four after the object's own.
 fn section_names<'a>(alloc: Global, object: &Object<'a>) -> Result<Vec<&'a [u8]>, AllocError>
     ensures { IfOk result (λ names. map (λ name. name.now) names.items ≡ section_names object.now) }
 {

@@ -152,7 +152,7 @@ fn write_headers<W: Write>(placed: &PlacedObject<'_, '_>, writer: &mut W) -> Res
     write_entries(writer, order, &SectionHeaders { placed })
 }
 
-/// How many bytes are out when so many more are sent behind others; a fault counts all of them.
+/// How many bytes are out when so many more are sent after others; a fault counts all of them.
 fn behind(out: u64, size: u64, sent: Result<(), WriteFault>) -> Result<u64, WriteFault>
     requires fits { out + size < 2 ^ 64 }
     requires below { IfErr sent (λ fault. fault.written < size) }

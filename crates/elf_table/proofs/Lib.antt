@@ -1,2 +1,2 @@
--- What the proofs of those who stand on this public crate may cite.
+-- What the proofs of those who build on this public crate may cite.
 pub mod Public

@@ -12,7 +12,7 @@ IsUnread (Err (Rule rule at)) = Unit {0}
 IsUnread (Err OutOfMemory) = Unit {0}
 IsUnread (Err (Io at)) = ⊥
 
--- the verdict is the rule that it tells, or that it tells none
+-- the verdict is the rule that it reports, or that it reports none
 abbrev pub IsVerdictOf : {S T : Type 0} → Result S Fault → Result T (Broken ℕ) → Type 0
 IsVerdictOf (Ok _) verdict = fault_of verdict ≡ None
 IsVerdictOf (Err (Rule rule at)) verdict = fault_of verdict ≡ Some (rule, at)

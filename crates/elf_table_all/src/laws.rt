@@ -18,8 +18,8 @@ ghost use Rattle.elf_table_lists.specs.DynamicArray.{dynamic_entry};
 ghost use Rattle.elf_table_lists.specs.Notes.{note_at, note_end, note_offset, notes_in};
 ghost use Rattle.elf_table_all.specs.TableRules.{table_rules};
 
-/// The rules of a table look at the header, the section headers and the contents of an image; these are the ones that the
-/// bytes have for which the image stands, edited or as read.
+/// The rules of a table look at the header, the section headers and the contents of an image; these are the ones that the bytes have for
+/// which the image is, edited or as read.
 pub fn sections_of_bytes()
     ensures { (v : ImageValue) (b : List ℕ) → IsImage v b → sections_of v ≡ sections_in b }
 {}

@@ -95,7 +95,7 @@ fn table_verdict(
     }
 }
 
-// A judgement as a verdict; want of memory apart.
+// A judgement as a verdict; out of memory aside.
 fn verdict_of(judged: Result<(), Fault>) -> Result<Result<(), Broken<u64>>, AllocError>
     requires { IsUnread judged }
     ensures { IfOk result (IsVerdictOf judged) }

@@ -99,7 +99,7 @@ end_of_end (b ∷ bs) xs (j ∷ js) zs same le =
     let tails : bs ++ xs ≡ js ++ zs = cc in
     end_of_end bs xs js zs tails le
 
--- a symbol on a chain is behind what the chain leads to, where its own chain is no longer than that one's
+-- a symbol on a chain is after what the chain leads to, where its own chain is no longer than that one's
 pub on_behind : (next : ℕ → ℕ) (m : ℕ) (depth : List ℕ) (start t s : ℕ) → AreDepths next m depth → IsDepthKnown depth start → Leads next start t →
     get_or depth s 0 ≤ get_or depth t 0 → IsOn next start s → IsOn next t s
 on_behind next m depth start t s are known (js, path) deep (before, after, chain) =

@@ -27,7 +27,7 @@ none_more names name s (x ∷ done) none other = (none.0, none_more names name s
 
 -- ---- a walk along a chain
 
--- after so many symbols it stands at s; none of them had the name
+-- after so many symbols it is at s; none of them had the name
 pub record IsWalked (words : List ℕ) (names : List (List ℕ)) (name : List ℕ) (start steps s : ℕ) : Type 0 where
   pub done : List ℕ
   pub left : List ℕ

@@ -2,7 +2,7 @@
 -- Here `next` gives the chain word of each symbol.
 use Rattle.std.specs.Prelude.{◌≡◌, ◌≢◌, ℕ, List, [], ◌∷◌, ◌++◌}
 
--- these symbols stand one after the other from `start` on, and `end` comes after them
+-- these symbols are one after the other from `start` on, and `end` comes after them
 abbrev pub IsPath : (ℕ → ℕ) → ℕ → List ℕ → ℕ → Type 0
 IsPath next start [] end = start ≡ end
 IsPath next start (s ∷ symbols) end = (start ≢ 0) × (s ≡ start) × IsPath next (next s) symbols end

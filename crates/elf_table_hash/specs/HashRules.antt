@@ -56,7 +56,7 @@ word_rules p = rule 65 (wrong_hash_size p) ∷ rule 66 (wrong_hash_count p) ∷ 
 unfoldable pub chain_rules : HashPartsValue → List {1} (Ruled ℕ)
 chain_rules p = rule 68 (endless_chain p) ∷ rule 69 (symbol_off_chain p) ∷ []
 
--- those behind the rules of the section header, and of the symbol table
+-- those after the rules of the section header, and of the symbol table
 unfoldable pub hash_rules : Sections → ℕ → List {1} (Ruled ℕ)
 hash_rules f i = word_rules (hash_parts f i) ++ chain_rules (hash_parts f i)
 

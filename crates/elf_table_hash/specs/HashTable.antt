@@ -26,7 +26,7 @@ bucket_of words name = bucket words (hash_of name % nbucket words)
 abbrev pub name_of : List (List ℕ) → ℕ → List ℕ
 name_of names s = get_or names s []
 
--- the table has all its words, and each word behind the first two is that of a symbol
+-- the table has all its words, and each word after the first two is that of a symbol
 pub record AreHashWords (words : List ℕ) : Type 0 where
   pub long : length words ≡ 2 + nbucket words + nchain words
   pub buckets : (b : ℕ) → b < nbucket words → bucket words b < nchain words

@@ -42,10 +42,10 @@ impl<'a> Hash<'a> {
     /// The hash table that section `i` holds, where `i` is below the image's count of section headers. It takes memory for
     /// each symbol while it judges the chains.
     ///
-    /// [`Fault::Rule`] is the first rule that is broken, at its lowest offset: 40, 42, 43, 44, then all rules of the symbol table
-    /// that the section links to, then 65 to 69. [`Fault::OutOfMemory`] comes only where memory is refused, and no rule from
-    /// 40 to 67 is broken. No other fault comes. It takes a pass over the section headers, the symbols and the words, log n steps
-    /// at most to find a symbol on a chain, and the hash of each name.
+    /// [`Fault::Rule`] is the first rule that is broken, at its lowest offset: 40, 42, 43, 44, then all rules of the symbol table that the
+    /// section links to, then 65 to 69. [`Fault::OutOfMemory`] comes only where an allocation fails, and no rule from 40 to 67 is broken.
+    /// No other fault comes. It takes a pass over the section headers, the symbols and the words, log n steps at most to find a symbol on a
+    /// chain, and the hash of each name.
     pub fn new(alloc: Global, image: &Image<'a>, i: usize) -> Result<Hash<'a>, Fault>
         requires { i < length image.now.sections }
         ensures { let f = sections_of image.now in

@@ -20,7 +20,7 @@ pub enum HashFault {
     /// More than 2^24 names, or buckets.
     #[error("more than 2^24 names or buckets")]
     TooMany,
-    /// A growth was refused.
+    /// An allocation failed.
     #[error("out of memory")]
     OutOfMemory,
 }
@@ -45,9 +45,9 @@ impl<T: Drop> From<AllocFailed<T>> for HashFault {
     }
 }
 
-/// The words of a hash table of so many buckets for symbols of these names, of which there is at least one: the first stands
-/// for symbol 0, which is on no chain. They are `nbucket`, `nchain`, the word of each bucket and the chain word of each symbol;
-/// each chain has the symbols of its own bucket alone, and they ascend along it.
+/// The words of a hash table of so many buckets for symbols of these names, of which there is at least one: the first represents symbol 0,
+/// which is on no chain. They are `nbucket`, `nchain`, the word of each bucket and the chain word of each symbol; each chain has the
+/// symbols of its own bucket alone, and they ascend along it.
 ///
 /// [`HashFault::NoBuckets`] where there is to be no bucket; else [`HashFault::TooMany`] for more than 2^24 names or buckets; else
 /// [`HashFault::OutOfMemory`] where the words don't fit into memory. Linear in the buckets and in the bytes of the names.

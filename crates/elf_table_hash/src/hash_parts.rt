@@ -6,7 +6,7 @@ ghost use Rattle.elf_image_rules.specs.HeaderRules.{MAX_LEN};
 use crate::hash_words::{HashWords, SymbolNames};
 use elf_table_symbols::{LinkedTable, TableKind};
 
-/// The words of a hash table, the names of the symbols that it is for, and where the table stands.
+/// The words of a hash table, the names of the symbols that it is for, and where the table is.
 #[derive(Drop)]
 pub(crate) struct HashParts<'a> {
     /// The offset of the section header, and its `sh_size`.

@@ -39,7 +39,7 @@ pub(crate) fn probe_in(
     ensures few { Valid words.now names.now → result.1 < nchain_of words.now }
 {
     let nbucket = words.word_or_zero(0);
-    // A table that breaks a rule may tell of more symbols than there are.
+    // A table that breaks a rule may report more symbols than there are.
     if nbucket == 0 || words.word_or_zero(1) as usize != names.len() {
         return (None, 0);
     }

@@ -40,7 +40,7 @@ pub(crate) fn judge_words(parts: &HashParts<'_>) -> Result<(), Broken<u64>>
     }
 }
 
-/// The lowest offset in the file of a word, behind the first two, of a table as long as they say, that is none of a symbol.
+/// The lowest offset in the file of a word, after the first two, of a table as long as they say, that is none of a symbol.
 fn lowest_hash_word_past_end(parts: &HashParts<'_>) -> Option<u64>
     requires { parts.now.size ≡ WORD_SIZE * (2 + nbucket parts.now.words + nchain parts.now.words) }
     ensures { IsLowest (hash_word_past_end (hash_parts_value parts.now)) result }

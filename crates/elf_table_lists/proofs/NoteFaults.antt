@@ -37,7 +37,7 @@ none_judged o table = record {
 
 -- ---- a note that is cut short
 
--- a note is one of those before x, or begins at x or behind it
+-- a note is one of those before x, or begins at x or after it
 behind : (o : Order) (table : List ℕ) (x : ℕ) (unclosed : Option ℕ) (are : AreJudged o table x unclosed) (k : ℕ) → are.count ≤ k → x ≤ note_offset o table 0 k
 behind o table x unclosed are k le =
     let rises = place_rises o table 0 are.count (k - are.count) in
@@ -45,7 +45,7 @@ behind o table x unclosed are k le =
     let here = are.here in
     omega arith
 
--- and where the one at x is cut short none begins behind it
+-- and where the one at x is cut short none begins after it
 at_cut : (o : Order) (table : List ℕ) (x : ℕ) (unclosed : Option ℕ) (are : AreJudged o table x unclosed) → length table < note_end o table x →
     (k : ℕ) → note_offset o table 0 k < length table → are.count ≤ k → note_offset o table 0 k ≡ x
 at_cut o table x unclosed are cut k begins le = elim (cases_eq are.count k) [
@@ -157,7 +157,7 @@ one_further o table n y here = elim (cases_lt here.0 n) [
 wider : (o : Order) (table : List ℕ) (n y : ℕ) → UnclosedBefore o table n y → UnclosedBefore o table (suc n) y
 wider o table n y here = (here.0, (let lt = here.1 in omega arith), here.2, here.3)
 
--- what the note at x tells
+-- what the note at x reports
 abbrev pub FindsUnclosed : Order → List ℕ → ℕ → Option ℕ → Type 0
 FindsUnclosed o table x found = MatchOption found (IsUnclosedNoteName o table x → ⊥)
     (λ last. IsUnclosedNoteName o table x × (last ≡ name_last o table x) × (last < length table))

@@ -1,4 +1,4 @@
--- A note of a content is the one that stands in the file.
+-- A note of a content is the one that is in the file.
 use Rattle.std.proofs.Common.{◌≡◌, ℕ, ◌+◌, ◌-◌, ◌≤◌, List, take, drop, ap, ◌∙◌, arith}
 use Rattle.std.proofs.lemmas.List.{drop-drop, drop-take, take-take}
 use Rattle.elf_extent.specs.declared.extent.Extent.{Extent}

@@ -34,6 +34,6 @@ dynamic_entries o table n = map (dynamic_entry o table) (range_with_len 0 n)
 unfoldable pub dynamic_array_of : Sections → ℕ → List Dyn
 dynamic_array_of f i = before_first is_null_entry (dynamic_entries (order f) (content f i) (dynamic_entry_count (content f i)))
 
--- the entry that stands for one that isn't there
+-- the entry used for one that isn't there
 abbrev pub no_dynamic_entry : Dyn
 no_dynamic_entry = record { d_tag = pos 0; d_un = 0 }

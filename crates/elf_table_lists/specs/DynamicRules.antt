@@ -18,7 +18,7 @@ abbrev pub no_null_entry : Sections → ℕ → Row ℕ
 no_null_entry f i =
     When ((j : ℕ) → j < dynamic_entry_count (content f i) → ¬ IsNullEntry (entry_of f i j)) (header_at f i + SH_SIZE_AT)
 
--- rule 64: a string of an entry before the end begins behind the string table, even an empty one
+-- rule 64: a string of an entry before the end begins after the string table, even an empty one
 abbrev pub IsDynamicStringPastEnd : ℕ → Dyn → Type 0
 IsDynamicStringPastEnd size e = (is_string_tag e.d_tag ≡ true) × (size ≤ e.d_un)
 

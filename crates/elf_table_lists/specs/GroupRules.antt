@@ -26,7 +26,7 @@ wrong_signature f i =
     let s = section f i in
     When ((s.sh_info ≡ 0) ⊎ (entry_count (content f s.sh_link) ≤ s.sh_info)) (header_at f i + SH_INFO_AT)
 
--- section m can't be in the group of section i: its header isn't behind the group's, it is not there, or it lacks SHF_GROUP
+-- section m can't be in the group of section i: its header isn't after the group's, it is not there, or it lacks SHF_GROUP
 abbrev pub IsUnfit : Sections → ℕ → ℕ → Type 0
 IsUnfit f i m = (m ≤ i) ⊎ (count f ≤ m) ⊎ (bit_and (section f m).sh_flags SHF_GROUP ≡ 0)
 

@@ -1,4 +1,4 @@
--- The one of rules 59 to 61 that a note breaks: it is the last one, since no note begins behind it.
+-- The one of rules 59 to 61 that a note breaks: it is the last one, since no note begins after it.
 use Rattle.std.specs.Prelude.{◌≡◌, ℕ, ◌+◌, ◌<◌, ◌≤◌, ◌⊎◌, List, length}
 use Rattle.elf_field.specs.Abi.{N_DESCSZ_AT, N_NAMESZ_AT, NHDR_SIZE}
 use Rattle.elf_field.specs.declared.order.Order.{Order}

@@ -33,6 +33,6 @@ relocations_in addends o table = map (relocation_in addends o table) (range_with
 unfoldable pub relocations_of : Sections → ℕ → List Relocation
 relocations_of f i = relocations_in (has_addends (section f i).sh_type) (order f) (content f i)
 
--- the relocation that stands for one that isn't there
+-- the relocation used for one that isn't there
 abbrev pub no_relocation_entry : Relocation
 no_relocation_entry = record { offset = 0; symbol = 0; relocation_type = 0; addend = None }

@@ -49,8 +49,8 @@ fn judge_dynamic_array(linked: LinkedTable<'_, '_>) -> Result<(), Broken<u64>>
     }
 }
 
-/// The lowest offset in the file at which one of the first `end` entries, of a content at `start`, names a string that begins
-/// behind a string table of this size.
+/// The lowest offset in the file at which one of the first `end` entries, of a content at `start`, names a string that begins after a
+/// string table of this size.
 fn lowest_dynamic_string_past_end(
     order: Order,
     table: &[u8],

@@ -40,10 +40,10 @@ impl<'a> Group<'a> {
     /// The group that section `i` holds, where `i` is below the image's count of section headers. It takes memory, for each of
     /// the members, only where they do not ascend.
     ///
-    /// [`Fault::Rule`] is the first rule that is broken, at its lowest offset: 40, 42, 43, 44, then all rules of the symbol table
-    /// that the section links to, then 55 to 58. [`Fault::OutOfMemory`] comes only where memory was refused, and none of them
-    /// but 58 is broken. No other fault comes. Linear in the section headers, the symbols and the members; members that don't
-    /// ascend take log n comparisons each.
+    /// [`Fault::Rule`] is the first rule that is broken, at its lowest offset: 40, 42, 43, 44, then all rules of the symbol table that the
+    /// section links to, then 55 to 58. [`Fault::OutOfMemory`] comes only where an allocation failed, and none of them but 58 is broken. No
+    /// other fault comes. Linear in the section headers, the symbols and the members; members that don't ascend take log n comparisons
+    /// each.
     pub fn new(alloc: Global, image: &Image<'a>, i: usize) -> Result<Group<'a>, Fault>
         requires { i < length image.now.sections }
         ensures judged { let f = sections_of image.now in

@@ -26,7 +26,7 @@ use std::collections::BTreeSet;
 /// All rules of a section group, by these verdicts on the symbol tables.
 ///
 /// [`Fault::Rule`] is the first that is broken, at its lowest offset: 40, 42, 43, 44, then all rules of the symbol table that the section
-/// links to, then 55 to 58. [`Fault::OutOfMemory`] comes only where memory is refused, which is asked for only where the members don't
+/// links to, then 55 to 58. [`Fault::OutOfMemory`] comes only where an allocation fails; memory is asked for only where the members don't
 /// ascend and none but 58 is broken. No other fault comes.
 #[tactic(auto, unfolding(crate::specs::GroupRules::group_section_rules))]
 pub fn judge_group_section(
@@ -171,7 +171,7 @@ fn is_ascending(order: Order, words: &[u8]) -> bool
     true
 }
 
-/// How many members a group of this content has: a word for each, behind the word of flags.
+/// How many members a group of this content has: a word for each, after the word of flags.
 pub fn member_count(words: &[u8]) -> usize
     ensures { result ≡ member_count_of words.now }
 {

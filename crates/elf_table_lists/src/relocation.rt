@@ -16,7 +16,7 @@ pub struct Relocation {
     pub symbol: u32,
     /// Its type, whose meaning is the processor's.
     pub relocation_type: u32,
-    /// The constant that is added; None in a section of type REL, where it stands in the bytes that are relocated.
+    /// The constant that is added; None in a section of type REL, where it is in the bytes that are relocated.
     pub addend: Option<i64>,
 }
 

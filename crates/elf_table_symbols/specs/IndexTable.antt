@@ -12,7 +12,7 @@ use Rattle.elf_table_symbols.specs.Sections.{Sections, content, section}
 abbrev pub IsIndexTable : Sections → ℕ → ℕ → Type 0
 IsIndexTable f i j = ((section f j).sh_type ≡ SHT_SYMTAB_SHNDX) × ((section f j).sh_link ≡ i)
 
--- and a second one: another stands before it
+-- and a second one: another is before it
 abbrev pub IsSecondIndexTable : Sections → ℕ → ℕ → Type 0
 IsSecondIndexTable f i j = IsIndexTable f i j × ((k : ℕ) × (k < j) × IsIndexTable f i k)
 

@@ -51,7 +51,7 @@ abbrev pub misplaced_binding : SymbolPartsValue → Row ℕ
 misplaced_binding p =
     AtEntry (entry_count p.table) (λ j. IsMisplacedBinding p.info (entry p.order p.table j) j) (λ j. p.start + SYM_SIZE * j + ST_INFO_AT)
 
--- rule 48: a symbol's name begins behind the string table; 0, for no name, needs no table
+-- rule 48: a symbol's name begins after the string table; 0, for no name, needs no table
 abbrev pub IsSymbolNamePastEnd : ℕ → Sym → Type 0
 IsSymbolNamePastEnd size symbol = (symbol.st_name ≢ 0) × (size ≤ symbol.st_name)
 
@@ -71,7 +71,7 @@ wrong_index_table_size f symbols j =
     When (s.sh_size ≢ WORD_SIZE * symbols) (header_at f j + SH_SIZE_AT) ∷
     When (s.sh_entsize ≢ WORD_SIZE) (header_at f j + SH_ENTSIZE_AT) ∷ [])
 
--- rule 51: a symbol's section stands in an index table that is not there, or there is no such section
+-- rule 51: a symbol's section is in an index table that is not there, or there is no such section
 abbrev pub IsWrongSymbolSection : Option ℕ → ℕ → Sym → Type 0
 IsWrongSymbolSection table sections symbol =
     ((symbol.st_shndx ≡ SHN_XINDEX) × (table ≡ None)) ⊎ ((symbol.st_shndx < SHN_LORESERVE) × (sections ≤ symbol.st_shndx))
@@ -123,7 +123,7 @@ index_table_rules f i table symbols =
 unfoldable pub place_rules : SymbolPartsValue → List {1} (Ruled ℕ)
 place_rules p = rule 51 (wrong_symbol_section p) ∷ rule 52 (wrong_index_word p) ∷ []
 
--- those behind a symbol table's own rules
+-- those after a symbol table's own rules
 unfoldable pub rest_rules : Sections → ℕ → SymbolPartsValue → List {1} (Ruled ℕ)
 rest_rules f i p =
     linked_string_rules p.names p.names_start ++

@@ -15,6 +15,6 @@ symbol_entry_value s = record {
   size = s.size;
 }
 
--- the symbol that stands for one that isn't there
+-- the symbol used for one that isn't there
 abbrev pub no_symbol_entry : SymbolEntryValue
 no_symbol_entry = record { name = []; binding = 0; symbol_type = 0; other = 0; place = Undefined; value = 0; size = 0 }

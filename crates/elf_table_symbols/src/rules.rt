@@ -17,13 +17,13 @@ pub const SYMBOL_0_NOT_NULL: u16 = 45;
 pub const WRONG_LOCAL_COUNT: u16 = 46;
 /// A symbol below that index is not local, or one from it on is.
 pub const MISPLACED_BINDING: u16 = 47;
-/// A symbol's name begins behind the string table.
+/// A symbol's name begins after the string table.
 pub const SYMBOL_NAME_PAST_END: u16 = 48;
 /// A symbol table has a second index table.
 pub const SECOND_INDEX_TABLE: u16 = 49;
 /// An index table has not one word of four bytes for each symbol, or its `sh_entsize` isn't 4.
 pub const WRONG_INDEX_TABLE_SIZE: u16 = 50;
-/// A symbol's section stands in an index table that is not there, or there is no such section.
+/// A symbol's section is in an index table that is not there, or there is no such section.
 pub const WRONG_SYMBOL_SECTION: u16 = 51;
 /// A word of an index table isn't 0 though the symbol needs none, or it is none of a section that needs one.
 pub const WRONG_INDEX_WORD: u16 = 52;
@@ -37,7 +37,7 @@ pub const EMPTY_GROUP: u16 = 55;
 pub const WRONG_GROUP_FLAGS: u16 = 56;
 /// A group's signature is symbol 0, or none of those in the symbol table.
 pub const WRONG_SIGNATURE: u16 = 57;
-/// A member of a group is not behind it, is not there, is named before in the group, or lacks the flag of members.
+/// A member of a group is not after it, is not there, is named before in the group, or lacks the flag of members.
 pub const WRONG_MEMBER: u16 = 58;
 /// A note's header is cut short.
 pub const PARTIAL_NOTE: u16 = 59;
@@ -49,7 +49,7 @@ pub const NOTE_DESC_PAST_END: u16 = 61;
 pub const UNCLOSED_NOTE_NAME: u16 = 62;
 /// No entry of a dynamic section has the tag `DT_NULL`, which ends the dynamic array.
 pub const NO_NULL_ENTRY: u16 = 63;
-/// A string that the dynamic array names begins behind the string table.
+/// A string that the dynamic array names begins after the string table.
 pub const DYNAMIC_STRING_PAST_END: u16 = 64;
 /// A hash table is not as long as its buckets and chains are.
 pub const WRONG_HASH_SIZE: u16 = 65;

@@ -41,7 +41,7 @@ pub struct Symbol<'a> {
     pub size: u64,
 }
 
-/// The place that this `st_shndx` tells, of symbol `j` of a table with this content of its index table.
+/// The place that this `st_shndx` reports, of symbol `j` of a table with this content of its index table.
 pub(crate) fn place_at(order: Order, words: &[u8], index: u16, j: usize) -> Place
     requires { index ≡ SHN_XINDEX → WORD_SIZE * j + WORD_SIZE ≤ length words.now }
     ensures { result ≡ place_of index (word_of order words.now j) }

@@ -191,7 +191,7 @@ fn judge_places(parts: &SymbolParts<'_>) -> Result<(), Broken<u64>>
     Ok(())
 }
 
-/// All rules of a symbol table behind its own, of the table with these parts.
+/// All rules of a symbol table after its own, of the table with these parts.
 #[tactic(auto, unfolding(crate::specs::SymbolRules::rest_rules))]
 fn judge_rest(
     table: TableSection<'_, '_>,

@@ -39,7 +39,7 @@ impl TableKind {
         }
     }
 
-    /// The size in bytes of the entries of such a table, in a section of this type. Notes are of any size: 1 stands for them.
+    /// The size in bytes of the entries of such a table, in a section of this type. Notes are of any size: 1 represents them.
     pub(crate) fn entry_size(self, section_type: u32) -> u64
         ensures value { result ≡ entry_size_of self section_type }
         ensures some { 0 < result }

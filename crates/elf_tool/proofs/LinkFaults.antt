@@ -1,4 +1,4 @@
--- At most one rule of the link stands first, at one site, and none where no rule stands: of rules 1 to 11, and of 12 to 16.
+-- At most one rule of the link is broken first, at one site, and none where no rule is broken: of rules 1 to 11, and of 12 to 16.
 use Rattle.std.proofs.Common.{◌≡◌, ℕ, List}
 use Rattle.std.specs.Prelude.{None, Some}
 use Rattle.elf_image_rules.specs.Rows.{Ruled}

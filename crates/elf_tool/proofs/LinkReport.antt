@@ -51,7 +51,7 @@ module _ (fs : List ObjectValue) (m : LinkMapValue) (rules : List RelocRule) (on
 abbrev verdict_at : ℕ × Site → Verdict
 verdict_at x = Refused (Link x.0 x.1.file x.1.index x.1.entry)
 
--- of rules of which this says that one stands first
+-- of rules of which this says that one is broken first
 abbrev Refuses : (ℕ × Site → Type 0) → Verdict → List ℕ → Type 0
 Refuses IsFirst = RuleRefuses (λ rule site. IsFirst (rule, site))
 

@@ -24,14 +24,14 @@ use Rattle.elf_tool.proofs.ObjectFiles.{objects_not_refused, one_objects, one_re
 use Rattle.elf_tool.proofs.OneLinked.{one_linked}
 use Rattle.elf_tool.proofs.SaysOne.{of_answer, of_holding, of_one, or_refused}
 
--- the verdict and the line on a rule that stands first at a site
+-- the verdict and the line on a rule that is broken first at a site
 abbrev verdict_at : ℕ × Site → Verdict
 verdict_at x = Refused (Link x.0 x.1.file x.1.index x.1.entry)
 
 abbrev line_at : ℕ × Site → List ℕ
 line_at x = link_refused_line x.0 x.1.file x.1.index x.1.entry
 
--- ---- relocated bytes, or the first of rules 12 to 16 that stands
+-- ---- relocated bytes, or the first of rules 12 to 16 that is broken
 
 module _ (fs : List ObjectValue) (m : LinkMapValue) (rules : List RelocRule) where
   abbrev Is : LinkedValue ⊎ (ℕ × Site) → Type 0
@@ -66,7 +66,7 @@ of_relocation (Some rules) fs m is v w s t here there =
     of_answer (Is fs m rules) (verdict_of fs m rules) (text_of fs m rules) (RelocationSays (Some rules) fs m) (one_answer fs m rules is) (told fs m rules) v w s t
     here there
 
--- ---- the link map, or the first of rules 1 to 11 that stands
+-- ---- the link map, or the first of rules 1 to 11 that is broken
 
 refused : (opt : Options) (fs : List ObjectValue) (v : Verdict) (s : List ℕ) → LinkRefuses opt fs v s →
     (x : ℕ × Site) × FirstOfLink opt fs (Some x) × (v ≡ verdict_at x) × (s ≡ line_at x)

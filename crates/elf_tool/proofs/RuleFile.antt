@@ -60,7 +60,7 @@ range_above Signed = search arith
 range_above Unsigned = search arith
 range_above Wrap = search arith
 
--- each is told by its first byte
+-- each is reported by its first byte
 abbrev form_of : List ℕ → Form
 form_of [] = NoForm
 form_of (c ∷ cs) = if c == 97 then Abs else if c == 112 then Pc else NoForm
@@ -130,7 +130,7 @@ with_feed line = line ++ 10 ∷ []
 abbrev joined : List (List ℕ) → List ℕ
 joined lines = concat (map with_feed lines)
 
--- the rules are the same with the same behind them; or one list has further rules, and the other bytes begin with the next of these
+-- the rules are the same with the same after them; or one list has further rules, and the other bytes begin with the next of these
 abbrev Meet : List RelocRule → List ℕ → List RelocRule → List ℕ → Type 0
 Meet ps rest qs behind =
     ((ps ≡ qs) × (rest ≡ behind))
@@ -185,7 +185,7 @@ one_rules bytes ps qs are also = elim (both bytes bytes [] bytes [] ps qs (sym (
   | inr (inr further) ↦ absurd (none_begin further.0)
 ]
 
--- a line that is bad, where more rules stand at the beginning of the bytes
+-- a line that is bad, where more rules are at the beginning of the bytes
 not_bad : (rest : List ℕ) (ps qs : List RelocRule) (n : ℕ) → BeginsWithRule rest → length ps < length qs → length qs < 257 → n ≡ length ps + 1 →
     (n ≡ 257) ⊎ (BeginsWithRule rest → ⊥) → ⊥
 not_bad rest ps qs n begins fewer few is (inl last) = omega arith

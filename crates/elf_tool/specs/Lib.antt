@@ -1,4 +1,4 @@
--- The words of the contracts that this public crate shows, for the contracts of those who stand on it.
+-- The words of the contracts that this public crate shows, for the contracts of those who build on it.
 pub mod FileLink
 pub mod SaysOne
 pub use Rattle.elf_tool_words.specs.Command

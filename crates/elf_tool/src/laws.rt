@@ -50,15 +50,15 @@ pub fn one_link()
 {}
 
 /// From the bytes of the input files to memory: for files that are images denoting objects, options and relocation rules, where no rule of
-/// the link stands, the executable of the link is an image; it enters at the value of the entry symbol, or at 0 where none is named, and
+/// the link is broken, the executable of the link is an image; it enters at the value of the entry symbol, or at 0 where none is named, and
 /// its loadable segments give an address a byte exactly where the memory of the link has that byte there. It is their only executable.
 pub fn executable()
     ensures { (opt : Options) (rules : List RelocRule) (files : List (List ℕ)) (fs : List ObjectValue) (m : LinkMapValue) (b : List ℕ) →
         IsSoundFileLink opt rules files fs m → IsExecFile fs m rules b → IsExecutable fs m rules b }
 {}
 
-/// Bytes are the lines of at most one list of relocation rules, and at most one of their lines is the one that is told as bad; and where
-/// they are the lines of a list, none is.
+/// Bytes are the lines of at most one list of relocation rules, and at most one of their lines is the one that is reported as bad; and
+/// where they are the lines of a list, none is.
 pub fn one_rule_file()
     ensures rules { (b : List ℕ) (rs ss : List RelocRule) → AreRules b rs → AreRules b ss → rs ≡ ss }
     ensures line { (b : List ℕ) (m n : ℕ) → IsBadLine b m → IsBadLine b n → m ≡ n }

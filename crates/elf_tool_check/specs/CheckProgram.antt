@@ -11,7 +11,7 @@ use Rattle.elf_tool_words.specs.declared.words.Request.{Request}
 use Rattle.elf_tool_words.specs.declared.words.Request.TheVariants.{Check, CheckSource, Show, Rewrite, Map, Link}
 use Rattle.elf_tool_words.specs.declared.words.WordsFault.{WordsFault}
 
--- each command, over the files' known bytes by name, and which are known to open: any but `check` is wrong usage, and nothing is out
+-- each command, over the files' known bytes by name, and which are known to open: any but `check` is wrong usage, and nothing was written
 abbrev pub EndsAsCheck : (Text → Option (List ℕ)) → (Text → Bool) → Option (List ℕ) → Option (List ℕ) → Request → Status → Type 0
 EndsAsCheck holds opens old new (Check file) status = EndsFile IsChecked (holds file.now) (opens file.now) old new status
 EndsAsCheck holds opens old new (CheckSource file) status = (status ≡ Usage) × Keeps old new

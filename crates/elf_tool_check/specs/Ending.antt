@@ -1,4 +1,4 @@
--- How a program ends, and what is out then.
+-- How a program ends, and what was written then.
 use Rattle.std.specs.Prelude.{◌≡◌, ◌⊎◌, ℕ, Bool, List, Option, Some, Result, Ok, Err, IfSome}
 use Rattle.std.specs.Io.KnownBytes.{Keeps}
 use Rattle.elf_tool_check.specs.Opener.{IsOpenFault}
@@ -28,8 +28,8 @@ ending_of (Err fault) = Failed
 abbrev pub Call : Type 1
 Call = Option (List ℕ) → Option (List ℕ) → Option (List ℕ) → Option (List ℕ) → Result Verdict ToolFault → Type 0
 
--- a file was opened, and an engine was called on a reader of its bytes, where these are known; or it gave no reader, and
--- nothing is out. A writer that held `old` holds `new`
+-- a file was opened, and an engine was called on a reader of its bytes, where these are known; or it gave no reader, and nothing was
+-- written. A writer that held `old` holds `new`
 abbrev pub EndsFile : Call → Option (List ℕ) → Bool → Option (List ℕ) → Option (List ℕ) → Status → Type 0
 EndsFile call known opens old new status =
     ((input rest : Option (List ℕ)) × (answer : Result Verdict ToolFault) × IfSome known (λ bytes. input ≡ Some bytes)
@@ -43,6 +43,6 @@ unasked TooManyFiles = Usage
 unasked BadNumber = Usage
 unasked OutOfMemory = Failed
 
--- it ends so, and nothing is out
+-- it ends so, and nothing was written
 abbrev pub EndsWords : Option (List ℕ) → Option (List ℕ) → WordsFault → Status → Type 0
 EndsWords old new fault status = (status ≡ unasked fault) × Keeps old new

@@ -21,7 +21,7 @@ pub enum Status {
     Refused,
     /// The words are not as the command takes them, or call for help, or a line of a file of rules is bad.
     Usage,
-    /// A file could not be opened or read, the output could not be written, or memory was refused.
+    /// A file could not be opened or read, the output could not be written, or an allocation failed.
     Failed,
 }
 
@@ -43,7 +43,7 @@ pub fn refuse_words<E: Write>(error: &io::Error, err: &mut E) -> u8
     status as u8
 }
 
-/// How the program ends where its words ask for nothing: as wrong usage, or for want of memory as failed.
+/// How the program ends where its words ask for nothing: as wrong usage, or when out of memory as failed.
 pub fn no_request<E: Write>(fault: &WordsFault, err: &mut E) -> Status
     ensures { result ≡ unasked fault.now }
 {

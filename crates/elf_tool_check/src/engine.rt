@@ -17,12 +17,12 @@ use std::io::{Read, Write};
 /// sections and of segments, or `refused R A` with the first rule that it breaks and the lowest
 /// offset where it breaks it.
 ///
-/// The verdict is what the line says. [`ToolFault::Read`] comes where a read fails, an interruption
-/// too, and [`ToolFault::OutOfMemory`] only where memory is refused for the file or the line; nothing
-/// is out then. After [`ToolFault::Write`] exactly the first `written` bytes of the line are.
+/// The verdict is what the line says. [`ToolFault::Read`] comes where a read fails, an interruption too, and [`ToolFault::OutOfMemory`]
+/// only where an allocation fails for the file or the line; nothing was written then. After [`ToolFault::Write`] exactly the first
+/// `written` bytes of the line are.
 ///
-/// Linear in the bytes; contents that don't stand in the order of their section headers are sorted, or
-/// compared two by two where memory for that is refused.
+/// Linear in the bytes; contents that are not in the order of their section headers are sorted, or compared two by two where memory for
+/// that is refused.
 pub fn check<R: Read, W: Write>(
     alloc: Global,
     reader: &mut R,

@@ -8,8 +8,8 @@ use crate::opener::MachineFiles;
 use crate::program::run_check;
 use std::{env, io};
 
-/// Runs the program that has `check` alone over the machine's words and files, standard output and standard error. Answers the exit
-/// status, as [`run_check`] does.
+/// Runs the program that has `check` alone over the machine's words and files, standard output and standard error. Returns the exit status,
+/// as [`run_check`] does.
 pub fn check_on_machine(rt: &HostRuntime) -> u8
     ensures { (status : Ending) × (result ≡ code_of status) }
 {
@@ -29,7 +29,7 @@ pub fn check_on_machine(rt: &HostRuntime) -> u8
     }
 }
 
-/// The words of the command line, the program's name first. It fails with `InvalidData` where one is not UTF-8, with `OutOfMemory` for want
+/// The words of the command line, the program's name first. It fails with `InvalidData` where one is not UTF-8, with `OutOfMemory` when out
 /// of memory, and else as the machine does.
 pub fn words_of(rt: &HostRuntime) -> io::Result<Vec<String>> {
     Ok(env::args(rt)?.collect(rt.alloc())?)

@@ -14,7 +14,7 @@ pub enum OpenFault {
     /// There is no such file, or it may not be read.
     #[error("no such file, or it may not be read")]
     Refused,
-    /// A growth was refused.
+    /// An allocation failed.
     #[error("out of memory")]
     OutOfMemory,
 }
@@ -33,9 +33,9 @@ pub trait Opener {
     // Whether a file of this name is known to open.
     ghost opens: { Self → List ℕ → Bool } = { λ _ _. false };
 
-    /// A reader of the file's bytes from its beginning on. [`OpenFault::Refused`] comes only for a
-    /// file that is not known to open, [`OpenFault::OutOfMemory`] only where memory is refused. What is known of the files stays, so that
-    /// one that is opened twice gives its bytes twice.
+    /// A reader of the file's bytes from its beginning on. [`OpenFault::Refused`] comes only for a file that is not known to open,
+    /// [`OpenFault::OutOfMemory`] only where an allocation fails. What is known of the files stays, so that one that is opened twice gives
+    /// its bytes twice.
     fn reader(&mut self, name: &str) -> Result<Self::Input, OpenFault>
         ensures bytes { IfSome (holds self.old name.now) (λ bytes.
             IfOk result (λ input. Self.Input.remaining input ≡ Some bytes)) }

@@ -17,8 +17,8 @@ use std::io::Write;
 /// that the words name, `out` takes what is said of it, and `err` takes the text of what goes wrong. A failed write to `err` changes
 /// nothing. It reads the words as the program with all commands does; where they ask for another command, that is wrong usage.
 ///
-/// Answers the exit status: 0 done, 1 refused, 2 wrong usage or a call for help, 3 a file that cannot be opened, a failed read or
-/// write, or want of memory.
+/// Returns the exit status: 0 done, 1 refused, 2 wrong usage or a call for help, 3 a file that cannot be opened, a failed read or write, or
+/// out of memory.
 pub fn run_check<S: AsStr, O: Opener, W: Write, E: Write>(
     alloc: Global,
     words: &[S],
@@ -48,7 +48,7 @@ fn ending<S: AsStr, O: Opener, W: Write, E: Write>(
     }
 }
 
-/// Opens the file of this name and calls [`check`] on it. Answers how the program ends.
+/// Opens the file of this name and calls [`check`] on it. Returns how the program ends.
 pub fn check_file<O: Opener, W: Write, E: Write>(
     alloc: Global,
     file: &str,

@@ -29,20 +29,20 @@ ExecSays fs m rules (Refused (File file rule at)) text = ⊥
 ExecSays fs m rules (Refused (Link rule file index entry)) text = ⊥
 ExecSays fs m rules (Refused TooLong) text = IsTooLongFor fs m rules × (text ≡ [])
 
--- a rule of the link stands first, and at this site; nothing is written
+-- a rule of the link is broken first, and at this site; nothing is written
 abbrev pub RuleRefuses : (ℕ → Site → Type 0) → Verdict → List ℕ → Type 0
 RuleRefuses IsFirst Done text = ⊥
 RuleRefuses IsFirst (Refused (File file rule at)) text = ⊥
 RuleRefuses IsFirst (Refused (Link rule file index entry)) text = IsFirst rule (record { file = file; index = index; entry = entry }) × (text ≡ [])
 RuleRefuses IsFirst (Refused TooLong) text = ⊥
 
--- of objects and their link map: none of rules 12 to 16 stands, and what is said of their executable; or the first one that stands
+-- of objects and their link map: none of rules 12 to 16 is broken, and what is said of their executable; or the first one that is broken
 abbrev pub MapLinks : List RelocRule → List ObjectValue → LinkMapValue → Verdict → List ℕ → Type 0
 MapLinks rules fs m verdict text =
     (FirstAmong (applied_entry_rules fs m rules) None × ExecSays fs m rules verdict text)
     ⊎ RuleRefuses (λ rule site. FirstAmong (applied_entry_rules fs m rules) (Some (rule, site))) verdict text
 
--- of objects: no rule of the link stands, and what is said of their link map; or the first one that does
+-- of objects: no rule of the link is broken, and what is said of their link map; or the first one that is
 abbrev pub ObjectsLink : Options → List RelocRule → List ObjectValue → Verdict → List ℕ → Type 0
 ObjectsLink opt rules fs verdict text =
     (FirstOfLink opt fs None × ((m : LinkMapValue) × IsLinkMap opt fs m × MapLinks rules fs m verdict text))

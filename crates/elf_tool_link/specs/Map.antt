@@ -19,8 +19,8 @@ use Rattle.elf_tool_text.specs.declared.fault.ToolFault.{ToolFault}
 use Rattle.elf_tool_text.specs.declared.fault.Verdict.{Verdict}
 use Rattle.elf_tool_text.specs.declared.fault.Verdict.TheVariants.{Done, Refused}
 
--- of objects and their link map: its lines; with relocation rules the lines of the relocated bytes behind them, of which none
--- of rules 12 to 16 stands, or the line is `refused` with the first rule that stands and where, which the verdict carries
+-- of objects and their link map: its lines; with relocation rules the lines of the relocated bytes after them, of which none of rules 12 to
+-- 16 is broken, or the line is `refused` with the first rule that is broken and where, which the verdict carries
 abbrev pub RelocationSays : Option (List RelocRule) → List ObjectValue → LinkMapValue → Verdict → List ℕ → Type 0
 RelocationSays None fs m Done text = text ≡ map_text fs m
 RelocationSays (Some rules) fs m Done text =
@@ -37,7 +37,7 @@ LinkRefuses opt fs (Refused (Link rule file index entry)) text =
     × (text ≡ link_refused_line rule file index entry)
 LinkRefuses opt fs verdict text = ⊥
 
--- of objects: no rule of the link stands, and what is said of their link map; or the first one that does
+-- of objects: no rule of the link is broken, and what is said of their link map; or the first one that is
 abbrev pub LinkSays : Options → Option (List RelocRule) → List ObjectValue → Verdict → List ℕ → Type 0
 LinkSays opt rules fs verdict text =
     (FirstOfLink opt fs None × ((m : LinkMapValue) × IsLinkMap opt fs m × RelocationSays rules fs m verdict text)) ⊎ LinkRefuses opt fs verdict text

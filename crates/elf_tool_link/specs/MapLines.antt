@@ -57,7 +57,7 @@ name_line value binding name = line (codes "name" ∷ value_text value ∷ bindi
 unfoldable pub file_refused_line : ℕ → ℕ → ℕ → List ℕ
 file_refused_line f rule at = line (codes "file" ∷ decimal f ∷ codes "refused" ∷ decimal rule ∷ decimal at ∷ [])
 
--- `refused RULE FILE INDEX ENTRY`: the first rule of the link that stands, and where
+-- `refused RULE FILE INDEX ENTRY`: the first rule of the link that is broken, and where
 unfoldable pub link_refused_line : ℕ → ℕ → ℕ → ℕ → List ℕ
 link_refused_line rule file index entry =
     line (codes "refused" ∷ decimal rule ∷ decimal file ∷ decimal index ∷ decimal entry ∷ [])
@@ -74,7 +74,7 @@ bytes_line s bytes = line (codes "bytes" ∷ decimal s.file ∷ decimal s.sectio
 
 -- ---- what the lines of a map say
 
--- a member of an output: where it stands, and its size in memory
+-- a member of an output: where it is, and its size in memory
 abbrev pub member_text : List ObjectValue → LinkMapValue → Member → List ℕ
 member_text fs m s = member_line (unwrap_or (cell m.addresses s.file s.section) 0) (size_in fs s.file s.section) s
 

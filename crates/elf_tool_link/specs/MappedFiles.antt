@@ -15,11 +15,11 @@ use Rattle.elf_tool_link.specs.declared.object_files.FileFault.TheVariants as fi
 use Rattle.elf_tool_link.specs.ObjectFiles.{AreObjectFiles, IsFirstRefused}
 use Rattle.elf_tool_text.specs.declared.fault.Refusal.TheVariants.{File, Link, TooLong}
 
--- the objects are those of the files, no rule of the link stands, and this is their map
+-- the objects are those of the files, no rule of the link is broken, and this is their map
 abbrev pub IsMapOfFiles : Options → List (List ℕ) → MappedValue → Type 0
 IsMapOfFiles opt files mapped = AreObjectFiles files mapped.objects × IsLinkMap opt mapped.objects mapped.map × FirstOfLink opt mapped.objects None
 
--- the first file that is refused, or of objects the first rule of the link that stands; or memory was refused
+-- the first file that is refused, or of objects the first rule of the link that is broken; or an allocation failed
 abbrev pub IsUnlinked : Options → List (List ℕ) → Unlinked → Type 0
 IsUnlinked opt files (Refused (File file rule at)) = IsFirstRefused files file rule at
 IsUnlinked opt files (Refused (Link rule file index entry)) =

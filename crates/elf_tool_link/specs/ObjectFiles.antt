@@ -45,7 +45,7 @@ IsFirstRefused [] f rule at = ⊥
 IsFirstRefused (b ∷ files) zero rule at = IsRefusedFile b rule at
 IsFirstRefused (b ∷ files) (suc f) rule at = ((o : ObjectValue) × IsObjectFile b o) × IsFirstRefused files f rule at
 
--- not all files are objects, or memory was refused
+-- not all files are objects, or an allocation failed
 abbrev pub IsFileFault : List (List ℕ) → FileFault → Type 0
 IsFileFault files (Refused file rule at) = IsFirstRefused files file rule at
 IsFileFault files OutOfMemory = Unit {0}

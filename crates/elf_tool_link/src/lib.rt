@@ -1,6 +1,6 @@
 //! The engines of `elfmap map` and `elfmap link`, over any readers and any writer. [`map`] reads each file whole, links them without
-//! writing a linked file, and writes where each part would stand, and with relocation rules the bytes of each; [`map_files`] has the
-//! files' bytes. [`link`] reads each file whole, links them, and writes the executable; [`link_files`] has the files' bytes.
+//! writing a linked file, and writes where each part would be, and with relocation rules the bytes of each; [`map_files`] has the files'
+//! bytes. [`link`] reads each file whole, links them, and writes the executable; [`link_files`] has the files' bytes.
 //!
 //! What files are objects, and their link map, both ask `mapped_files`: it answers them, or what is refused, in an `Unlinked`.
 //!

@@ -108,7 +108,7 @@ fn binding_word(binding: Binding) -> &'static str
     }
 }
 
-// A value, or that there is none. It may be above 64 bits: that of a symbol far behind the last address of its section.
+// A value, or that there is none. It may be above 64 bits: that of a symbol far after the last address of its section.
 fn push_value(text: &mut Vec<u8>, value: Option<u128>) -> Result<(), AllocError>
     ensures { OnOk result (text.new.items ≡ text.old.items ++ blank ∷ value_text value) }
 {
@@ -119,7 +119,7 @@ fn push_value(text: &mut Vec<u8>, value: Option<u128>) -> Result<(), AllocError>
 }
 
 /// What is refused: `file F refused R A`, the first rule that the file breaks, at this offset; or `refused RULE FILE INDEX ENTRY`, the
-/// first rule of the link that stands, and where. Of a file that would be too long nothing, since `map` writes none.
+/// first rule of the link that is broken, and where. Of a file that would be too long nothing, since `map` writes none.
 pub(crate) fn push_refusal_line(text: &mut Vec<u8>, refusal: Refusal) -> Result<(), AllocError>
     ensures { OnOk result (text.new.items ≡ text.old.items ++ refusal_line refusal) }
 {

@@ -13,8 +13,8 @@ use elf_object_type::Object;
 use elf_tool_text::lines::{Lines, push_lines};
 use std::alloc::{AllocError, Global};
 
-/// The lines of the link map of these objects: each output section and behind it its members, the commons, the discarded
-/// sections, and the names.
+/// The lines of the link map of these objects: each output section and after it its members, the commons, the discarded sections, and the
+/// names.
 #[tactic(auto, unfolding(crate::specs::MapLines::map_text))]
 pub(crate) fn map_text<'l, 'a>(
     alloc: Global,

@@ -12,9 +12,9 @@ use std::hash::{BuildHasherDefault, FoldHasher};
 /// Why files are not linked.
 #[derive(Clone, Copy)]
 pub enum Unlinked {
-    /// A file is refused, or a rule of the link stands.
+    /// A file is refused, or a rule of the link is broken.
     Refused(Refusal),
-    /// A growth was refused.
+    /// An allocation failed.
     OutOfMemory,
 }
 
@@ -59,7 +59,7 @@ impl From<LinkFault> for Unlinked {
 /// The objects that files of these bytes denote, in order, with their link map.
 ///
 /// [`Unlinked::Refused`] comes with the first file that is refused, as [`objects_of`] answers it; or else with the first of rules 1 to 11
-/// of the link that stands. Nothing else is refused, want of memory aside.
+/// of the link that is broken. Nothing else is refused, out of memory aside.
 pub fn mapped_files<'a>(
     alloc: Global,
     files: &[&'a [u8]],

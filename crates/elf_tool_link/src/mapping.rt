@@ -1,4 +1,4 @@
-//! `map`: where the sections and names of files stand in their link.
+//! `map`: where the sections and names of files are in their link.
 ghost use Rattle.std.specs.Prelude.{Some, option_copied, map as map_list};
 ghost use Rattle.elf_tool_text.specs.Engine.{Prints};
 ghost use Rattle.elf_tool_link.specs.Map.{IsMapped, IsThis, MapSays, RelocationSays, TellsUnlinked};
@@ -17,18 +17,18 @@ use elf_tool_text::{Refusal, ToolFault, Verdict, read_inputs};
 use std::alloc::Global;
 use std::io::{Read, Write};
 
-/// Reads files whole, in order, links the objects that they denote, and writes the lines of their link map; with
-/// relocation rules the lines of the relocated bytes behind them, `bytes FILE SECTION HEX`, in order of placement.
+/// Reads files whole, in order, links the objects that they denote, and writes the lines of their link map; with relocation rules the lines
+/// of the relocated bytes after them, `bytes FILE SECTION HEX`, in order of placement.
 ///
-/// A file that is refused, the first such one, is said by the line `file F refused R A` alone, with the first rule that it breaks,
-/// as an image or, with a number from 40 on, as an object, and its lowest offset; and files that do not link by the line
-/// `refused RULE FILE INDEX ENTRY` alone, with the first of the link's rules that stands.
+/// A file that is refused, the first such one, is said by the line `file F refused R A` alone, with the first rule that it breaks, as an
+/// image or, with a number from 40 on, as an object, and its lowest offset; and files that do not link by the line `refused RULE FILE INDEX
+/// ENTRY` alone, with the first of the link's rules that is broken.
 ///
-/// The verdict is what the text says. Nothing is out after [`ToolFault::Read`], which carries how many bytes the reader that
-/// failed had given, and [`ToolFault::OutOfMemory`]; after [`ToolFault::Write`] exactly the first `written` bytes of the text are.
-/// All files are held in memory, their objects, the link map and its lines, and with relocation rules a copy of each live section
-/// with bits; the lines of the relocated bytes are made as they go out. The time is at most that of `object_of` for each file, of `map` and
-/// `relocate` of the library, and of the text.
+/// The verdict is what the text says. Nothing was written after [`ToolFault::Read`], which carries how many bytes the reader that failed
+/// had given, and [`ToolFault::OutOfMemory`]; after [`ToolFault::Write`] exactly the first `written` bytes of the text are. All files are
+/// held in memory, their objects, the link map and its lines, and with relocation rules a copy of each live section with bits; the lines of
+/// the relocated bytes are made as they go out. The time is at most that of `object_of` for each file, of `map` and `relocate` of the
+/// library, and of the text.
 pub fn map<R: Read, W: Write>(
     alloc: Global,
     readers: &mut [R],
@@ -46,8 +46,8 @@ pub fn map<R: Read, W: Write>(
 
 /// Writes the same of files of these bytes, in order.
 ///
-/// Nothing is out after [`ToolFault::OutOfMemory`]; after [`ToolFault::Write`] exactly the first `written` bytes of the text are; there is
-/// no other fault.
+/// Nothing was written after [`ToolFault::OutOfMemory`]; after [`ToolFault::Write`] exactly the first `written` bytes of the text are;
+/// there is no other fault.
 pub fn map_files<W: Write>(
     alloc: Global,
     files: &[&[u8]],
@@ -125,7 +125,7 @@ fn tell_refusal<W: Write>(
     tell(Verdict::Refused(refusal), &text, writer)
 }
 
-// Writes what is said, and answers its verdict.
+// Writes what is said, and returns its verdict.
 fn tell<W: Write>(verdict: Verdict, text: &[u8], writer: &mut W) -> Result<Verdict, ToolFault>
     ensures { Prints (IsThis verdict text.now) (W.contents writer.old) (W.contents writer.new) result }
 {

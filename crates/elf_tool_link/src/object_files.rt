@@ -13,11 +13,11 @@ use std::alloc::{AllocError, Global};
 pub enum FileFault {
     /// This file breaks the refusal rule of this number, first at this offset in it, and all before it are objects.
     Refused { file: usize, rule: u16, at: u64 },
-    /// A growth was refused.
+    /// An allocation failed.
     OutOfMemory,
 }
 
-/// The bytes of each file that is held, in order, as [`objects_of`] takes them. Fails for want of memory alone.
+/// The bytes of each file that is held, in order, as [`objects_of`] takes them. Fails only when out of memory.
 pub fn slices_of(alloc: Global, files: &[Vec<u8>]) -> Result<Vec<&[u8]>, AllocError>
     ensures { IfOk result (λ slices. map (λ s. s.now) slices.items ≡ map (λ f. f.items) files.entry.now) }
 {
@@ -30,8 +30,8 @@ pub fn slices_of(alloc: Global, files: &[Vec<u8>]) -> Result<Vec<&[u8]>, AllocEr
 
 /// The object that each file of these bytes denotes, in order.
 ///
-/// [`FileFault::Refused`] comes with the first file that is no image or whose image denotes no object: the first rule that it breaks, as
-/// an image or, with a number from 40 on, as an object, and its lowest offset. Nothing else is refused, want of memory aside.
+/// [`FileFault::Refused`] comes with the first file that is no image or whose image denotes no object: the first rule that it breaks, as an
+/// image or, with a number from 40 on, as an object, and its lowest offset. Nothing else is refused, out of memory aside.
 pub fn objects_of<'a>(alloc: Global, files: &[&'a [u8]]) -> Result<Vec<Object<'a>>, FileFault>
     ensures { MatchResult result (λ objects. AreObjectFiles (map (λ f. f.now) files.now) objects.items)
         (IsFileFault (map (λ f. f.now) files.now)) }

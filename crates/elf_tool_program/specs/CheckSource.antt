@@ -23,12 +23,12 @@ IsCheckLine (Refused (File file rule at)) text = (file ≡ 0) × (text ≡ refus
 IsCheckLine (Refused (Link rule file index entry)) text = ⊥
 IsCheckLine (Refused TooLong) text = ⊥
 
--- of every source the line of the verdict; of one that tells its bytes, what `check` says of these
+-- of every source the line of the verdict; of one that reports its bytes, what `check` says of these
 abbrev pub SourceSays : Option (List ℕ) → Verdict → List ℕ → Type 0
 SourceSays content verdict text = IsCheckLine verdict text × ((b : List ℕ) → content ≡ Some b → IsBytes b → CheckSays b verdict text)
 
--- what is said is written, or exactly the first bytes of it, of which `written` is the count, or for want of memory and where a read
--- failed nothing
+-- what is said is written, or exactly the first bytes of it, of which `written` is the count, or when out of memory and where a read failed
+-- nothing
 abbrev pub IsSourceSaid : Option (List ℕ) → Option (List ℕ) → Option (List ℕ) → Result Verdict ToolFault → Type 0
 IsSourceSaid content old new (Ok verdict) = Prints (SourceSays content) old new (Ok verdict)
 IsSourceSaid content old new (Err (Read at)) = Keeps old new
@@ -48,12 +48,12 @@ IsSourceChecked content after old new result = (after ≡ content) × IsSourceSa
 
 -- ---- what was scanned
 
--- an outline of the image that stands as these bytes, or the first rule that they break
+-- an outline of the image that is represented by these bytes, or the first rule that they break
 abbrev pub IsScanned : List ℕ → Result OutlineValue (Broken ℕ) → Type 0
 IsScanned b (Ok outline) = IsImage (image_in outline b) b
 IsScanned b (Err broken) = IsFault b (Some (broken.rule, broken.at))
 
--- why there is neither: a read failed, or memory was refused
+-- why there is neither: a read failed, or an allocation failed
 abbrev pub IsScanStopped : ToolFault → Type 0
 IsScanStopped (Read at) = Unit {0}
 IsScanStopped (Write written) = ⊥

@@ -8,7 +8,7 @@ pub record AreOpened (holds : List ℕ → Option (List ℕ)) (names : List (Lis
   pub count : length inputs ≡ length names
   pub bytes : (k : ℕ) → k < length names → IfSome (holds (get_or names k [])) (λ bytes. get_or inputs k None ≡ Some bytes)
 
--- one of them gave no reader: it is not known to open, or memory was refused
+-- one of them gave no reader: it is not known to open, or an allocation failed
 pub record IsUnopened (opens : List ℕ → Bool) (names : List (List ℕ)) (unopened : Unopened) : Type 0 where
   pub within : unopened.position < length names
   pub fault : IsOpenFault (opens (get_or names unopened.position [])) unopened.fault

@@ -1,4 +1,4 @@
--- How the program ends, and what is out then.
+-- How the program ends, and what was written then.
 use Rattle.std.specs.Prelude.{◌≡◌, ◌⊎◌, ℕ, Bool, List, map, Option, None, Some, Result, option_copied}
 use Rattle.std.specs.Io.KnownBytes.{Keeps}
 use Rattle.clap.specs.Walk.{Text}
@@ -29,7 +29,7 @@ use Rattle.elf_tool_words.specs.declared.words.WordsFault.{WordsFault}
 abbrev pub CallOnFiles : Type 1
 CallOnFiles = List (Option (List ℕ)) → List (Option (List ℕ)) → Option (List ℕ) → Option (List ℕ) → Result Verdict ToolFault → Type 0
 
--- files were opened, and an engine was called on their readers; or one of them gave no reader, and nothing is out
+-- files were opened, and an engine was called on their readers; or one of them gave no reader, and nothing was written
 abbrev pub EndsFiles : CallOnFiles → (Text → Option (List ℕ)) → (Text → Bool) → List Text → Option (List ℕ) → Option (List ℕ) → Status → Type 0
 EndsFiles call holds opens names old new status =
     ((inputs rests : List (Option (List ℕ))) × (answer : Result Verdict ToolFault) × AreOpened holds names inputs
@@ -47,7 +47,7 @@ unruled (no_rules.Unread at) = Failed
 unruled (no_rules.BadLine line) = Usage
 unruled no_rules.OutOfMemory = Failed
 
--- a rule file gives relocation rules, and the program ends by these; or it gives none, and nothing is out
+-- a rule file gives relocation rules, and the program ends by these; or it gives none, and nothing was written
 abbrev pub EndsByRules : (List RelocRule → Status → Type 0) → Option (List ℕ) → Bool → Option (List ℕ) → Option (List ℕ) → Status → Type 0
 EndsByRules ends known opens old new status =
     ((rules : List RelocRule) × GivesRules known rules × ends rules status)

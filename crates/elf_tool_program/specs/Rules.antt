@@ -11,11 +11,11 @@ use Rattle.elf_tool_program.specs.declared.rules.NoRules.TheVariants.{Unopened, 
 abbrev pub ReadsRules : Option (List ℕ) → Option (List ℕ) → List RelocRule → Type 0
 ReadsRules input rest rules = (file : List ℕ) × GivesFile input rest file × (length file ≤ MAX_LEN) × AreRules file rules
 
--- a line of what was read is bad; or all lines are those of rules, but the file is longer, and the line behind them is told
+-- a line of what was read is bad; or all lines are those of rules, but the file is longer, and the line after them is reported
 abbrev pub HasBadLine : List ℕ → ℕ → Type 0
 HasBadLine file line = IsBadLine file line ⊎ ((MAX_LEN < length file) × ((rules : List RelocRule) × AreRules file rules × (line ≡ length rules + 1)))
 
--- or it gave none: a call failed after so many bytes, or a line is bad, or memory was refused
+-- or it gave none: a call failed after so many bytes, or a line is bad, or an allocation failed
 abbrev pub ReadsNoRules : Option (List ℕ) → Option (List ℕ) → NoRules → Type 0
 ReadsNoRules input rest Unopened = ⊥
 ReadsNoRules input rest (Unread at) = (bytes : List ℕ) × GivesBytes input rest bytes × (at ≡ length bytes)

@@ -6,8 +6,7 @@ ghost use Rattle.elf_tool_check.specs.declared.ending.Status.{Status as Ending};
 use crate::program::run;
 use elf_tool_check::{MachineFiles, refuse_words, words_of};
 
-/// Runs the program over the machine's words and files, standard output and standard error. Answers
-/// the exit status, as [`run`] does.
+/// Runs the program over the machine's words and files, standard output and standard error. Returns the exit status, as [`run`] does.
 pub fn run_on_machine(rt: &HostRuntime) -> u8
     ensures { (status : Ending) × (result ≡ code_of status) }
 {

@@ -30,8 +30,8 @@ use std::io::Write;
 /// the files that the words name, `out` takes what is said of them, and `err` takes the text of
 /// what goes wrong. A failed write to `err` changes nothing.
 ///
-/// Answers the exit status: 0 done, 1 refused, 2 wrong usage, a call for help or a bad line in the rule file, 3 a file
-/// that cannot be opened, a failed read or write, or want of memory. Time and memory are those of the command that the words name.
+/// Returns the exit status: 0 done, 1 refused, 2 wrong usage, a call for help or a bad line in the rule file, 3 a file that cannot be
+/// opened, a failed read or write, or out of memory. Time and memory are those of the command that the words name.
 pub fn run<S: AsStr, O: Opener, W: Write, E: Write>(
     alloc: Global,
     words: &[S],
@@ -94,7 +94,7 @@ fn ending<S: AsStr, O: Opener, W: Write, E: Write>(
     }
 }
 
-/// Opens the file of this name as a source and calls [`check_source`] on it. Answers how the program ends.
+/// Opens the file of this name as a source and calls [`check_source`] on it. Returns how the program ends.
 fn check_file_by_seeking<O: Opener, W: Write, E: Write>(
     alloc: Global,
     file: &str,
@@ -242,7 +242,7 @@ fn told_status<E: Write>(answer: Result<Verdict, ToolFault>, err: &mut E) -> Sta
     status_of(answer, err)
 }
 
-// The same where it read several files: the line on a file that it refuses tells which one.
+// The same where it read several files: the line on a file that it refuses reports which one.
 fn linked_status<E: Write>(answer: Result<Verdict, ToolFault>, err: &mut E) -> Status
     ensures { result ≡ ending_of answer }
 {

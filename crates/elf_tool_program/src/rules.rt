@@ -19,12 +19,12 @@ pub(crate) enum NoRules {
     Unread { at: u64 },
     /// This line of it is bad, and none before it.
     BadLine { line: usize },
-    /// A growth was refused.
+    /// An allocation failed.
     OutOfMemory,
 }
 
-/// The relocation rules of the file of this name, which is read whole. One longer than 2^30 bytes gives none: where no line that was
-/// read is bad, the one behind them is told.
+/// The relocation rules of the file of this name, which is read whole. One longer than 2^30 bytes gives none: where no line that was read
+/// is bad, the one after them is reported.
 pub(crate) fn rules_of<O: Opener>(
     alloc: Global,
     name: &str,

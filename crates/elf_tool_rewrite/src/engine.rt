@@ -18,8 +18,8 @@ use std::io::{Read, Write};
 /// Reads a whole file and writes the file of the object that it denotes, in canonical layout: it is read back as that object, and of it
 /// `rewrite` writes the same again.
 ///
-/// Where the file is refused nothing is written: the verdict carries the first rule that it breaks, as an image or, with a number
-/// from 40 on, as an object, and its lowest offset; or that the canonical layout is longer than 2^30 bytes. Nothing is out after
+/// Where the file is refused nothing is written: the verdict carries the first rule that it breaks, as an image or, with a number from 40
+/// on, as an object, and its lowest offset; or that the canonical layout is longer than 2^30 bytes. Nothing was written after
 /// [`ToolFault::Read`], where a read failed, and [`ToolFault::OutOfMemory`]; after [`ToolFault::Write`] exactly the first `written` bytes
 /// are. The file is held in memory, its object, and the string tables of the layout; the time is that of `object_of` and `write_object`.
 pub fn rewrite<R: Read, W: Write>(
@@ -38,8 +38,8 @@ pub fn rewrite<R: Read, W: Write>(
 
 /// Writes the same of a file whose bytes these are.
 ///
-/// Nothing is out after [`ToolFault::OutOfMemory`]; after [`ToolFault::Write`] exactly the first `written` bytes are; there is no other
-/// fault. The object of the file and the string tables of the layout are held beside the bytes; the time is that of `object_of` and
+/// Nothing was written after [`ToolFault::OutOfMemory`]; after [`ToolFault::Write`] exactly the first `written` bytes are; there is no
+/// other fault. The object of the file and the string tables of the layout are held beside the bytes; the time is that of `object_of` and
 /// `write_object`.
 pub fn rewrite_bytes<W: Write>(
     alloc: Global,

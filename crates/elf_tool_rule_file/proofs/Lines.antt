@@ -40,6 +40,6 @@ lead_on [] (r ∷ rules) rest are begins = absurd are
 lead_on (l ∷ lines) [] rest are begins = absurd are
 lead_on (l ∷ lines) (r ∷ rules) rest are begins = (r, concat (map with_feed lines) ++ rest, (l, are.0, simp append_assoc))
 
--- bytes begin with a rule where lines of rules and the line of one more stand at their front
+-- bytes begin with a rule where lines of rules and the line of one more are at their front
 pub begins_with_rule : (bytes before rest : List ℕ) (rules : List RelocRule) → AreRules before rules → bytes ≡ before ++ rest → BeginsWithRule rest → BeginsWithRule bytes
 begins_with_rule bytes before rest rules are is begins = rw (is, are.2) (lead_on are.0 rules rest are.1 begins)

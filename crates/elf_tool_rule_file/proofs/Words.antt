@@ -93,7 +93,7 @@ no_feed line rule is =
     let second = none_in_both 10 form (32 ∷ (width ++ 32 ∷ range)) (none_in_form 10 rule.form small) (blank (width ++ 32 ∷ range) third) in
     rw is.2 (none_in_both 10 is.0 (32 ∷ (form ++ 32 ∷ (width ++ 32 ∷ range))) (none_in_digits 10 is.0 small is.1.0.1) (blank (form ++ 32 ∷ (width ++ 32 ∷ range)) second))
 
--- what stands behind the words of a rule's line
+-- what is after the words of a rule's line
 abbrev pub behind_form : RelocRule → List ℕ
 behind_form rule = width_word rule.width ++ 32 ∷ range_word rule.range
 
@@ -101,7 +101,7 @@ abbrev pub behind_kind : RelocRule → List ℕ
 behind_kind rule = form_word rule.form ++ 32 ∷ behind_form rule
 
 module _ (rule : RelocRule) where
-  -- the words of a rule's line are those that stand between its blanks
+  -- the words of a rule's line are those that are between its blanks
   pub cut_kind : (line : List ℕ) (is : IsRuleLine line rule) → AreCut 32 line is.0 (behind_kind rule)
   cut_kind line is = (is.2, none_in_digits 32 is.0 (omega arith) is.1.0.1)
 

@@ -5,6 +5,6 @@ use Rattle.std.specs.Prelude.{◌≡◌, ◌≢◌, ℕ, ◌<◌, List, ◌∷�
 abbrev pub HasNo : ℕ → List ℕ → Type 0
 HasNo b bytes = (k : ℕ) → k < length bytes → slice_index bytes k ≢ b
 
--- what stands before the first b, and behind it
+-- what is before the first b, and after it
 abbrev pub AreCut : ℕ → List ℕ → List ℕ → List ℕ → Type 0
 AreCut b bytes before behind = (bytes ≡ before ++ b ∷ behind) × HasNo b before

@@ -25,14 +25,14 @@ IsRuleFollowed bytes rule rest = (line : List ℕ) × IsRuleLine line rule × (b
 abbrev pub BeginsWithRule : List ℕ → Type 0
 BeginsWithRule bytes = (rule : RelocRule) × (rest : List ℕ) × IsRuleFollowed bytes rule rest
 
--- line n is bad, and those before it are the lines of rules: what stands behind them is something, but doesn't begin with the line
--- of a rule, or n is 257
+-- line n is bad, and those before it are the lines of rules: what is after them is something, but doesn't begin with the line of a rule, or
+-- n is 257
 abbrev pub IsBadLine : List ℕ → ℕ → Type 0
 IsBadLine bytes n =
     (before rest : List ℕ) × (rules : List RelocRule) × (bytes ≡ before ++ rest) × AreRules before rules × (n ≡ length rules + 1)
     × (0 < length rest) × ((n ≡ 257) ⊎ (BeginsWithRule rest → ⊥))
 
--- why the bytes give no relocation rules: a line is bad, or memory was refused for the rule of a line
+-- why the bytes give no relocation rules: a line is bad, or an allocation failed for the rule of a line
 abbrev pub IsRulesFault : List ℕ → RulesFault → Type 0
 IsRulesFault bytes (BadLine n) = IsBadLine bytes n
 IsRulesFault bytes OutOfMemory = BeginsWithRule bytes

@@ -8,7 +8,7 @@ pub enum RulesFault {
     /// This line is not that of a rule with its line feed, or is the 257th. Lines count from 1, and those before it are rules.
     #[error("bad rule line {line}")]
     BadLine { line: usize },
-    /// A growth was refused. The first line is that of a rule.
+    /// An allocation failed. The first line is that of a rule.
     #[error("out of memory")]
     OutOfMemory,
 }

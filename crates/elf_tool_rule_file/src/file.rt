@@ -11,9 +11,9 @@ use std::alloc::Global;
 /// How many relocation rules a file has at most.
 const MOST_RULES: usize = 256;
 
-/// The relocation rules of a file, in order. [`RulesFault::BadLine`] comes exactly where a line is none of a rule or there are more
-/// than 256, want of memory aside; the last line has a line feed too, and behind it there is nothing. [`RulesFault::OutOfMemory`] comes
-/// only where memory is refused, which the rules alone take. Linear in the bytes.
+/// The relocation rules of a file, in order. [`RulesFault::BadLine`] comes exactly where a line is none of a rule or there are more than
+/// 256, out of memory aside; the last line has a line feed too, and after it there is nothing. [`RulesFault::OutOfMemory`] comes only where
+/// an allocation fails; the rules alone take memory. Linear in the bytes.
 pub fn read_rules(alloc: Global, bytes: &[u8]) -> Result<Vec<RelocRule>, RulesFault>
     ensures ok { IfOk result (λ rules. AreRules bytes.now rules.items) }
     ensures err { IfErr result (IsRulesFault bytes.now) }
@@ -36,7 +36,7 @@ pub fn read_rules(alloc: Global, bytes: &[u8]) -> Result<Vec<RelocRule>, RulesFa
     Ok(rules)
 }
 
-// The relocation rule of the first line, and what stands behind its line feed.
+// The relocation rule of the first line, and what is after its line feed.
 fn first_rule(bytes: &[u8]) -> Option<(RelocRule, &[u8])>
     ensures { MatchOption result (BeginsWithRule bytes.now → ⊥) (λ found. IsRuleFollowed bytes.now found.0 found.1.now) }
 {

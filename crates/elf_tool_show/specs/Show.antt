@@ -34,13 +34,13 @@ section_lines v = flat_map (section_text v) (range_with_len 0 (length v.sections
 unfoldable pub segment_lines : ImageValue → List ℕ
 segment_lines v = flat_map (segment_text v) (range_with_len 0 (length v.segments))
 
--- the whole text on an image that stands as b, with the verdicts on its tables
+-- the whole text on an image that is represented by b, with the verdicts on its tables
 unfoldable pub show_text : List ℕ → TablesValue → List ℕ
 show_text b tables =
     let v = tables.image in
     file_line v.header ++ (part_lines b v ++ (section_lines v ++ (segment_lines v ++ all_table_lines tables)))
 
--- the image stands as b, and the verdicts are those on its tables
+-- the image is represented by b, and the verdicts are those on its tables
 pub record AreVerdictsOf (b : List ℕ) (tables : TablesValue) : Type 0 where
   pub image : IsImage tables.image b
   pub verdicts : AreVerdicts (sections_of tables.image) (length tables.image.sections) tables.verdicts
@@ -57,6 +57,6 @@ ShowSays b (Refused TooLong) text = ⊥
 abbrev pub IsShown : Option (List ℕ) → Option (List ℕ) → Option (List ℕ) → Option (List ℕ) → Result Verdict ToolFault → Type 0
 IsShown = IsFileCall ShowSays
 
--- a call of `show_bytes`: for want of memory nothing is written, or the report of the bytes is
+-- a call of `show_bytes`: when out of memory nothing is written, or the report of the bytes is
 abbrev pub IsShownOf : List ℕ → Option (List ℕ) → Option (List ℕ) → Result Verdict ToolFault → Type 0
 IsShownOf b old new result = ((result ≡ Err OutOfMemory) × Keeps old new) ⊎ WritesReport (ShowSays b) old new result

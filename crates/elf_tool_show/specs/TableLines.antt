@@ -50,7 +50,7 @@ symbol_text i symbols j = symbol_line i j (get_or symbols j no_symbol_entry)
 unfoldable pub symbol_lines : ℕ → List SymbolEntryValue → List ℕ
 symbol_lines i symbols = flat_map (symbol_text i symbols) (range_with_len 0 (length symbols))
 
--- what is added, - where it stands in the bytes that are relocated
+-- what is added, - where it is in the bytes that are relocated
 abbrev pub addend_text : Option ℤ → List ℕ
 addend_text None = codes "-"
 addend_text (Some addend) = signed_decimal addend

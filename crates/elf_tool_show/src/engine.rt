@@ -24,10 +24,9 @@ use std::io::{Read, Write};
 /// table in section I that is refused; or the line `refused R A` with the first rule that it breaks and the
 /// lowest offset where it breaks it.
 ///
-/// The verdict is what the text says. The text goes out in large pieces as it is made. Nothing is out
-/// after [`ToolFault::Read`]; after [`ToolFault::Write`] exactly the first `written` bytes of the text
-/// are; and after [`ToolFault::OutOfMemory`] a beginning of it may be. The file is held in memory, its
-/// records and parts, the verdicts on its tables, and a piece of the text; the time is at most that of
+/// The verdict is what the text says. The text goes out in large pieces as it is made. Nothing was written after [`ToolFault::Read`]; after
+/// [`ToolFault::Write`] exactly the first `written` bytes of the text are; and after [`ToolFault::OutOfMemory`] a beginning of it may be.
+/// The file is held in memory, its records and parts, the verdicts on its tables, and a piece of the text; the time is at most that of
 /// `parse`, of the `new` of each table, and of the text.
 pub fn show<R: Read, W: Write>(
     alloc: Global,

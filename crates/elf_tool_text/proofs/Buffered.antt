@@ -28,7 +28,7 @@ buffers_line a b o p q text line sent pushed same = record {
   count = same ∙ sent.count;
 }
 
--- what was pending and what is sent later is behind what was sent first
+-- what was pending and what is sent later is after what was sent first
 later_text : (a b : Option (List ℕ)) (o p : Output) (s t : List ℕ) (sent : Buffers a b o p s) → o.pending.items ++ (s ++ t) ≡ sent.out ++ (p.pending.items ++ t)
 later_text a b o p s t sent =
     sym (append_assoc o.pending.items s t) ∙ ap (λ (r : List ℕ). r ++ t) (sym sent.rest) ∙ append_assoc sent.out p.pending.items t
@@ -48,7 +48,7 @@ buffers_both a b c o p q s t first second = record {
 pub buffers_flushed : (a b c : Option (List ℕ)) (o p q : Output) (s : List ℕ) → Buffers a b o p s → Buffers b c p q [] → Buffers a c o q s
 buffers_flushed a b c o p q s first second = subst (Buffers a c o q) (append-nil s) (buffers_both a b c o p q s [] first second)
 
--- the first bytes of what is behind are the first bytes of all
+-- the first bytes of what is after are the first bytes of all
 more_out : (a b c : Option (List ℕ)) (out rest all : List ℕ) (n : ℕ) → all ≡ out ++ rest → n ≤ length rest → Appends a b out → Appends b c (take n rest)
     → (length out + n ≤ length all) × Appends a c (take (length out + n) all)
 more_out a b c out rest all n split within first second =
@@ -90,7 +90,7 @@ cut_longer a c o s t (Read at) stop = absurd stop
 pub cut_flushed : (a b c : Option (List ℕ)) (o p : Output) (s : List ℕ) (fault : ToolFault) → Buffers a b o p s → IsCutShort b c p [] fault → IsCutShort a c o s fault
 cut_flushed a b c o p s fault sent stop = subst (λ (r : List ℕ). IsCutShort a c o r fault) (append-nil s) (cut_later a b c o p s [] fault sent stop)
 
--- memory is refused with nothing more out
+-- an allocation fails with nothing more out
 pub cut_here : (a : Option (List ℕ)) (o : Output) (text : List ℕ) → IsCutShort a a o text OutOfMemory
 cut_here a o text = (0, omega arith, Appends-nil a)
 
@@ -160,7 +160,7 @@ module _ {X : Type 0} (f : X → List ℕ) (xs : List X) (i : ℕ) (d : X) (with
       (subst (λ (s : List ℕ). IsCutShort a c o s fault) (sym one_more)
       (cut_later a b c o p (flat_map f (take i xs)) (f (get_or xs i d)) fault sent stop)))
 
-  -- the line of one more element is refused memory
+  -- the line of one more element is not allocated
   pub line_refused : (a b : Option (List ℕ)) (o p : Output) → Buffers a b o p (flat_map f (take i xs)) → IsCutShort a b o (flat_map f xs) OutOfMemory
   line_refused a b o p sent =
       let all : flat_map f xs ≡ flat_map f (take i xs) ++ flat_map f (drop i xs) =

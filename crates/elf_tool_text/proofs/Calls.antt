@@ -16,7 +16,7 @@ module _ (report : Report) (input rest old : Option (List ℕ)) (read items : Li
   given_up OutOfMemory is = record { bytes = read; taken = rw same taken; limit = rw long limit; answered = inl (Keeps-refl old) }
   given_up (Write written) is = absurd is
 
--- so what is out is kept for want of memory too
+-- so what was written is kept when out of memory too
 pub kept_early : {report : Report} {input rest old : Option (List ℕ)} {fault : ToolFault} → IsFileCall report input rest old old (Err fault)
     → IsFileCallAllocatingFirst report input rest old old (Err fault)
 kept_early {old = old} answered = record { answered = answered; memory = λ refused. Keeps-refl old }

@@ -21,19 +21,19 @@ module _ (base n : ℕ) (acc : List ℕ) where
   last_digit zero some none = absurd (omega arith)
   last_digit (suc k) some none = one_digit k true (eq-eqb (n / base) 0 none)
 
-  -- others stand before it
+  -- others are before it
   pub more_digits : (k : ℕ) → 0 < k → (n / base ≡ 0 → ⊥) → digits_onto k base false n acc ≡ digits_onto (k - 1) base false (n / base) (with_last base n acc)
   more_digits zero some rest = absurd (omega arith)
   more_digits (suc k) some rest =
       one_digit k false (ne_eqb (n / base) 0 rest)
       ∙ ap (λ (j : ℕ). digits_onto j base false (n / base) (with_last base n acc)) {x = k} {y = suc k - 1} (omega arith)
 
--- what is put at a place stands in front of what stood behind it
+-- what is put at a place is in front of what was after it
 pub put_before : (out : List ℕ) (i x : ℕ) → 0 < i → i ≤ length out → drop (i - 1) (set out (i - 1) x) ≡ x ∷ drop i out
 put_before out i x some within =
     drop-set out (i - 1) x (omega arith) ∙ ap (λ (j : ℕ). x ∷ drop j out) {x = i - 1 + 1} {y = i} (omega arith)
 
--- ---- behind what is put stands what was there
+-- ---- after what is put is what was there
 
 module _ (base : ℕ) where
   abbrev IsBehind : ℕ → ℕ → List ℕ → Type 0

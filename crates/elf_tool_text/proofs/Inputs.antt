@@ -85,7 +85,7 @@ module _ {X : Type 0} (given : X → Option (List ℕ)) (old now : List X) (file
           (stops (map given old) (map given now) files (given d) (given x) bytes (omega arith) so_far
           (subst (λ (r : Option (List ℕ)). GivesBytes r (given x) bytes) (sym at) gives))
 
--- the fault of a reader that stops is told with what it gave
+-- the fault of a reader that stops is reported with what it gave
 pub stopped : (inputs rests : List (Option (List ℕ))) (bytes : List ℕ) (fault : ToolFault) → StopsAfter inputs rests bytes → IsReadFaultAfter fault (length bytes)
     → IsReadingFault inputs rests fault
 stopped inputs rests bytes (Read at) stop is = (bytes, stop, is)

@@ -5,17 +5,17 @@ use Rattle.std.proofs.lemmas.List.{append-nil}
 use Rattle.std.proofs.lemmas.List.Concat.{flat_map-append}
 use Rattle.elf_tool_text.specs.Line.{blank, further_words, line}
 
--- a text with more words behind it, one call after the other
+-- a text with more words after it, one call after the other
 abbrev pub words_on : List ℕ → List (List ℕ) → List ℕ
 words_on text [] = text
 words_on text (w ∷ ws) = words_on (text ++ blank ∷ w) ws
 
--- the words of a line are the first one and those behind it
+-- the words of a line are the first one and those after it
 joined_words : (w : List ℕ) (ws : List (List ℕ)) → join_with_byte blank (w ∷ ws) ≡ w ++ further_words ws
 joined_words w [] = sym (append-nil w)
 joined_words w (v ∷ vs) = ap (λ (s : List ℕ). w ++ blank ∷ s) (joined_words v vs)
 
--- words that come one after the other stand behind the text
+-- words that come one after the other are after the text
 words_behind : (text : List ℕ) (ws : List (List ℕ)) → words_on text ws ≡ text ++ further_words ws
 words_behind text [] = sym (append-nil text)
 words_behind text (w ∷ ws) = words_behind (text ++ blank ∷ w) ws ∙ append_assoc text (blank ∷ w) (further_words ws)
@@ -34,7 +34,7 @@ pub line_ended : {T E : Type 0} (result : Result T E) (text last new w : List �
 line_ended (Ok done) text last new w ws ended same = ended ∙ ap (λ (s : List ℕ). s ++ codes "\n") same ∙ whole_line text w ws
 line_ended (Err fault) text last new w ws ended same = tt
 
--- words behind others stand behind the text too
+-- words after others are after the text too
 further_behind : (text : List ℕ) (ws vs : List (List ℕ)) → words_on text ws ++ further_words vs ≡ words_on text (ws ++ vs)
 further_behind text ws vs =
     ap (λ (s : List ℕ). s ++ further_words vs) (words_behind text ws)
@@ -49,7 +49,7 @@ line_ended_by result text last new w ws vs ended same = line_ended result text l
 
 -- ---- a line as one text
 
--- words behind others, and the line feed
+-- words after others, and the line feed
 abbrev pub to_the_end : List (List ℕ) → List ℕ
 to_the_end [] = codes "\n"
 to_the_end (w ∷ ws) = blank ∷ (w ++ to_the_end ws)
@@ -78,7 +78,7 @@ word_more : (text : List ℕ) (ws : List (List ℕ)) (v : List ℕ) → words_on
 word_more text [] v = refl
 word_more text (w ∷ ws) v = word_more (text ++ blank ∷ w) ws v
 
--- the last word stands behind them
+-- the last word is after them
 pub line_ended_behind : {T E : Type 0} (result : Result T E) (text put last new w : List ℕ) (ws : List (List ℕ)) (v : List ℕ) → OnOk result (new ≡ last ++ codes "\n")
     → last ≡ (text ++ put) ++ blank ∷ v → put ≡ w ++ further_words ws → OnOk result (new ≡ text ++ line (w ∷ (ws ++ v ∷ [])))
 line_ended_behind result text put last new w ws v ended same is =

@@ -17,14 +17,14 @@ IsReadFaultAfter OutOfMemory count = Unit {0}
 abbrev pub IsReadWhole : Option (List ℕ) → List ℕ → Type 0
 IsReadWhole rest bytes = IsAtEnd rest ⊎ (length bytes ≡ MAX_LEN + 1)
 
--- a writer that held `old` holds `new`, with a beginning of a text behind it: after a failed write just its first bytes, of which
--- `written` is the count
+-- a writer that held `old` holds `new`, with a beginning of a text after it: after a failed write just its first bytes, of which `written`
+-- is the count
 abbrev pub WritesPrefix : List ℕ → Option (List ℕ) → Option (List ℕ) → ToolFault → Type 0
 WritesPrefix text old new (Write written) = StoppedIn old new 0 text written
 WritesPrefix text old new OutOfMemory = (count : ℕ) × (count ≤ length text) × Appends old new (take count text)
 WritesPrefix text old new (Read at) = ⊥
 
--- with all of a text behind it, or at a fault a beginning
+-- with all of a text after it, or at a fault a beginning
 abbrev pub WritesText : {T : Type 0} → List ℕ → Option (List ℕ) → Option (List ℕ) → Result T ToolFault → Type 0
 WritesText text old new result = MatchResult result (λ _. Appends old new text) (WritesPrefix text old new)
 
@@ -40,7 +40,7 @@ pub record WritesReport (report : Verdict → List ℕ → Type 0) (old new : Op
   pub answer : IfOk result (λ answered. answered ≡ verdict)
   pub written : WritesText text old new result
 
--- nothing is written: a read failed, after just these bytes, or memory was refused
+-- nothing is written: a read failed, after just these bytes, or an allocation failed
 abbrev pub WritesNothing : List ℕ → Option (List ℕ) → Option (List ℕ) → Result Verdict ToolFault → Type 0
 WritesNothing bytes old new (Ok verdict) = ⊥
 WritesNothing bytes old new (Err (Write written)) = ⊥
@@ -55,7 +55,7 @@ pub record IsFileCall (report : Report) (input rest old new : Option (List ℕ))
   pub limit : length bytes ≤ MAX_LEN + 1
   pub answered : WritesNothing bytes old new result ⊎ (IsReadWhole rest bytes × WritesReport (report bytes) old new result)
 
--- what is said is written, or exactly the first bytes of it, of which `written` is the count, or for want of memory nothing
+-- what is said is written, or exactly the first bytes of it, of which `written` is the count, or when out of memory nothing
 abbrev pub Prints : (Verdict → List ℕ → Type 0) → Option (List ℕ) → Option (List ℕ) → Result Verdict ToolFault → Type 0
 Prints Says old new (Ok verdict) = (text : List ℕ) × Says verdict text × Appends old new text
 Prints Says old new (Err (Read at)) = ⊥
@@ -63,7 +63,7 @@ Prints Says old new (Err (Write written)) =
     (verdict : Verdict) × (text : List ℕ) × Says verdict text × StoppedIn old new 0 text written
 Prints Says old new (Err OutOfMemory) = Keeps old new
 
--- a call of an engine that takes all its memory before it writes: for want of memory nothing is written
+-- a call of an engine that takes all its memory before it writes: when out of memory nothing is written
 pub record IsFileCallAllocatingFirst (report : Report) (input rest old new : Option (List ℕ)) (result : Result Verdict ToolFault) : Type 0 where
   pub answered : IsFileCall report input rest old new result
   pub memory : result ≡ Err OutOfMemory → Keeps old new

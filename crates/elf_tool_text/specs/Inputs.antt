@@ -23,19 +23,19 @@ AreRead [] [] [] = Unit {0}
 AreRead (input ∷ inputs) (rest ∷ rests) (file ∷ files) = GivesFile input rest file × AreRead inputs rests files
 AreRead inputs rests files = ⊥
 
--- the first readers gave these files, and those behind them are as they were
+-- the first readers gave these files, and those after them are as they were
 abbrev pub AreReadSoFar : List (Option (List ℕ)) → List (Option (List ℕ)) → List (List ℕ) → Type 0
 AreReadSoFar inputs rests [] = rests ≡ inputs
 AreReadSoFar (input ∷ inputs) (rest ∷ rests) (file ∷ files) = GivesFile input rest file × AreReadSoFar inputs rests files
 AreReadSoFar inputs rests (file ∷ files) = ⊥
 
--- some first readers gave their files, the next one these bytes, and those behind it are as they were
+-- some first readers gave their files, the next one these bytes, and those after it are as they were
 abbrev pub StopsAfter : List (Option (List ℕ)) → List (Option (List ℕ)) → List ℕ → Type 0
 StopsAfter (input ∷ inputs) (rest ∷ rests) bytes =
     (GivesBytes input rest bytes × (rests ≡ inputs)) ⊎ ((file : List ℕ) × GivesFile input rest file × StopsAfter inputs rests bytes)
 StopsAfter inputs rests bytes = ⊥
 
--- a fault of reading: a call of a reader failed after it gave so many bytes, or memory was refused; no reader behind it is begun
+-- a fault of reading: a call of a reader failed after it gave so many bytes, or an allocation failed; no reader after it is begun
 abbrev pub IsReadingFault : List (Option (List ℕ)) → List (Option (List ℕ)) → ToolFault → Type 0
 IsReadingFault inputs rests (Read at) = (bytes : List ℕ) × StopsAfter inputs rests bytes × (at ≡ length bytes)
 IsReadingFault inputs rests (Write written) = ⊥

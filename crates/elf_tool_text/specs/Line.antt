@@ -15,7 +15,7 @@ blank = 32
 unfoldable pub line : List (List ℕ) → List ℕ
 line words = join_with_byte blank words ++ codes "\n"
 
--- words behind others: a blank and the word, one after the other
+-- words after others: a blank and the word, one after the other
 abbrev pub further_words : List (List ℕ) → List ℕ
 further_words = flat_map (λ word. blank ∷ word)
 
@@ -23,16 +23,16 @@ further_words = flat_map (λ word. blank ∷ word)
 abbrev pub hexadecimal : ℕ → List ℕ
 hexadecimal n = codes "0x" ++ digits 16 false n
 
--- a byte that is printed as it stands: from ! to ~
+-- a byte that is printed as it is: from ! to ~
 abbrev pub is_graphic : ℕ → Bool
 is_graphic b = nat_le 33 b && nat_le b 126
 
--- a name that is printed as it stands: not empty, not beginning with #, not just -, and of such bytes alone
+-- a name that is printed as it is: not empty, not beginning with #, not just -, and of such bytes alone
 abbrev pub is_plain : List ℕ → Bool
 is_plain [] = false
 is_plain (b ∷ bs) = not (b == 35) && (not (bytes_eq (b ∷ bs) (codes "-")) && list_all is_graphic (b ∷ bs))
 
--- a name: its bytes where they are plain, - for the empty one, and any other in hexadecimal behind #
+-- a name: its bytes where they are plain, - for the empty one, and any other in hexadecimal after #
 unfoldable pub name_text : List ℕ → List ℕ
 name_text [] = codes "-"
 name_text (b ∷ bs) = if is_plain (b ∷ bs) then b ∷ bs else codes "#" ++ encode_lower (b ∷ bs)

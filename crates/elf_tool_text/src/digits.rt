@@ -9,10 +9,10 @@ pub(crate) const MOST_DECIMAL: usize = 20;
 /// The most of one in hexadecimal.
 pub(crate) const MOST_HEXADECIMAL: usize = 16;
 
-/// Room for the digits of a number of 128 bits, in any base, and for what stands before them.
+/// Room for the digits of a number of 128 bits, in any base, and for what is before them.
 pub(crate) const WIDE_ROOM: usize = MOST_BEFORE + 64;
 
-/// The most bytes that stand before the digits of a number: a blank and `0x`.
+/// The most bytes that are before the digits of a number: a blank and `0x`.
 const MOST_BEFORE: usize = 3;
 
 /// Puts the digits of a number before what starts at `end`, and answers where they start. It is inlined for the sake of the base, so that

@@ -25,8 +25,7 @@ pub enum Refusal {
         rule: u16,
         at: u64,
     },
-    /// Files that do not link: the rule of this number stands at this entry, which counts from 0
-    /// at that index of that file.
+    /// Files that do not link: the rule of this number is broken at this entry, which counts from 0 at that index of that file.
     Link {
         rule: u16,
         file: usize,
@@ -64,7 +63,7 @@ pub enum ToolFault {
     /// A call of the writer failed or took nothing, with exactly the first `written` bytes of the
     /// text out: at least so many where it is [`u64::MAX`].
     Write { written: u64 },
-    /// A growth was refused.
+    /// An allocation failed.
     OutOfMemory,
 }
 

@@ -10,8 +10,8 @@ use elf_image_stream::{Fault, read_to_end};
 use std::alloc::Global;
 use std::io::Read;
 
-/// All bytes of a file, into `buf`, which is empty at the call; of a file longer than 2^30 bytes
-/// the first 2^30 + 1. A failed read is [`ToolFault::Read`] with the count of bytes read before it, a growth that is refused
+/// All bytes of a file, into `buf`, which is empty at the call; of a file longer than 2^30 bytes the first 2^30 + 1. A failed read is
+/// [`ToolFault::Read`] with the count of bytes read before it, an allocation that fails
 /// [`ToolFault::OutOfMemory`].
 pub fn read_input<R: Read>(reader: &mut R, buf: &mut Vec<u8>) -> Result<(), ToolFault>
     requires { buf.old.items ≡ [] }

@@ -1,7 +1,7 @@
 //! What goes in and out of the engines of `elfmap`: files that are read whole, lines that are made word by word, texts that go
 //! out in pieces, and how an engine ends ([`Verdict`], [`ToolFault`]).
 //!
-//! A [`line`](mod@line) is its words with single blanks between them and a line feed behind:
+//! A [`line`](mod@line) is its words with single blanks between them and a line feed after:
 //!
 //! ```
 //! use elf_tool_text::line::{begin_line, end_line, push_decimal, push_hexadecimal};

@@ -1,6 +1,5 @@
-//! Lines, word by word, at the end of a text: [`begin_line`] with the first word, a call for each
-//! further one, [`end_line`]. And the lines that all engines share. Each call fails for want of memory alone;
-//! some of what it was to append may stand behind the text then.
+//! Lines, word by word, at the end of a text: [`begin_line`] with the first word, a call for each further one, [`end_line`]. And the lines
+//! that all engines share. Each call fails only when out of memory; some of what it was to append may be after the text then.
 ghost use Rattle.std.specs.Prelude.{◌≡◌, ◌∷◌, ◌++◌, IfOk, OnOk, codes, string_bytes};
 ghost use Rattle.std.specs.Fmt.{decimal, signed_decimal};
 ghost use Rattle.std.specs.List.{list_all};
@@ -13,14 +12,14 @@ use crate::digits::{
 };
 use std::alloc::{AllocError, Global};
 
-/// Appends a line's first word. Fails for want of memory alone.
+/// Appends a line's first word. Fails only when out of memory.
 pub fn begin_line(text: &mut Vec<u8>, first: &[u8]) -> Result<(), AllocError>
     ensures { OnOk result (text.new.items ≡ text.old.items ++ first.now) }
 {
     text.extend_from_slice(first)
 }
 
-/// Appends a further word. Fails for want of memory alone.
+/// Appends a further word. Fails only when out of memory.
 pub fn push_word(text: &mut Vec<u8>, word: &[u8]) -> Result<(), AllocError>
     ensures { OnOk result (text.new.items ≡ text.old.items ++ blank ∷ word.now) }
 {
@@ -28,7 +27,7 @@ pub fn push_word(text: &mut Vec<u8>, word: &[u8]) -> Result<(), AllocError>
     text.extend_from_slice(word)
 }
 
-/// Appends a number in decimal. Fails for want of memory alone.
+/// Appends a number in decimal. Fails only when out of memory.
 pub fn push_decimal(text: &mut Vec<u8>, number: u64) -> Result<(), AllocError>
     ensures { OnOk result (text.new.items ≡ text.old.items ++ blank ∷ decimal number) }
 {
@@ -41,7 +40,7 @@ pub fn push_decimal(text: &mut Vec<u8>, number: u64) -> Result<(), AllocError>
     text.extend_from_slice(&word[start..])
 }
 
-/// Appends a signed number in decimal. Fails for want of memory alone.
+/// Appends a signed number in decimal. Fails only when out of memory.
 pub fn push_signed(text: &mut Vec<u8>, number: i64) -> Result<(), AllocError>
     ensures { OnOk result (text.new.items ≡ text.old.items ++ blank ∷ signed_decimal number) }
 {
@@ -55,7 +54,7 @@ pub fn push_signed(text: &mut Vec<u8>, number: i64) -> Result<(), AllocError>
     text.extend_from_slice(&word[start..])
 }
 
-/// Appends a number in hexadecimal, in lower case behind `0x`. Fails for want of memory alone.
+/// Appends a number in hexadecimal, in lower case after `0x`. Fails only when out of memory.
 pub fn push_hexadecimal(text: &mut Vec<u8>, number: u64) -> Result<(), AllocError>
     ensures { OnOk result (text.new.items ≡ text.old.items ++ blank ∷ hexadecimal number) }
 {
@@ -68,7 +67,7 @@ pub fn push_hexadecimal(text: &mut Vec<u8>, number: u64) -> Result<(), AllocErro
     text.extend_from_slice(&word[start..])
 }
 
-/// Appends a number that may be above 64 bits in hexadecimal, in lower case behind `0x`. Fails for want of memory alone.
+/// Appends a number that may be above 64 bits in hexadecimal, in lower case after `0x`. Fails only when out of memory.
 pub fn push_wide_hexadecimal(text: &mut Vec<u8>, number: u128) -> Result<(), AllocError>
     ensures { OnOk result (text.new.items ≡ text.old.items ++ blank ∷ hexadecimal number) }
 {
@@ -78,7 +77,7 @@ pub fn push_wide_hexadecimal(text: &mut Vec<u8>, number: u128) -> Result<(), All
     text.extend_from_slice(&word[start..])
 }
 
-/// Appends bytes, each as two hexadecimal digits in lower case. Fails for want of memory alone.
+/// Appends bytes, each as two hexadecimal digits in lower case. Fails only when out of memory.
 pub fn push_bytes(alloc: Global, text: &mut Vec<u8>, bytes: &[u8]) -> Result<(), AllocError>
     ensures { OnOk result (text.new.items ≡ text.old.items ++ blank ∷ encode_lower bytes.now) }
 {
@@ -86,8 +85,7 @@ pub fn push_bytes(alloc: Global, text: &mut Vec<u8>, bytes: &[u8]) -> Result<(),
     push_word(text, digits.as_bytes())
 }
 
-/// Appends a name: as it stands where it is plain, `-` where it is empty, and else in hexadecimal
-/// behind `#`. Fails for want of memory alone.
+/// Appends a name: as it is where it is plain, `-` where it is empty, and else in hexadecimal after `#`. Fails only when out of memory.
 #[tactic(auto, unfolding(crate::specs::Line::name_text))]
 pub fn push_name(alloc: Global, text: &mut Vec<u8>, name: &[u8]) -> Result<(), AllocError>
     ensures { OnOk result (text.new.items ≡ text.old.items ++ blank ∷ name_text name.now) }
@@ -119,14 +117,14 @@ fn is_graphic(name: &[u8]) -> bool
     name.iter().all(|b| (b'!'..=b'~').contains(b))
 }
 
-/// Ends a line. Fails for want of memory alone.
+/// Ends a line. Fails only when out of memory.
 pub fn end_line(text: &mut Vec<u8>) -> Result<(), AllocError>
     ensures { OnOk result (text.new.items ≡ text.old.items ++ codes "\n") }
 {
     text.extend_from_slice(b"\n")
 }
 
-/// The line on a file of this length in bytes, with so many sections and segments, that is accepted. Fails for want of memory alone.
+/// The line on a file of this length in bytes, with so many sections and segments, that is accepted. Fails only when out of memory.
 pub fn ok_line(
     alloc: Global,
     length: usize,
@@ -138,7 +136,7 @@ pub fn ok_line(
     format!(in alloc; "ok {length} {sections} {segments}\n")
 }
 
-/// The line on a file that is refused by this rule at this offset. Fails for want of memory alone.
+/// The line on a file that is refused by this rule at this offset. Fails only when out of memory.
 pub fn refused_line(alloc: Global, rule: u16, at: u64) -> Result<String, AllocError>
     ensures { IfOk result (λ line. string_bytes line ≡ refused_line_of rule at) }
 {

@@ -1,5 +1,5 @@
-//! The end of a line, put together from its last word on, so that each number stands where it belongs when its digits are made: at the end
-//! of a text each word would be copied by itself.
+//! The end of a line, put together from its last word on, so that each number is where it belongs when its digits are made: at the end of a
+//! text each word would be copied by itself.
 //!
 //! ```
 //! use elf_tool_text::line_end::LineEnd;
@@ -87,7 +87,7 @@ impl LineEnd {
         self.start = put_before(b" -", first, &mut self.bytes);
     }
 
-    /// Puts a number in hexadecimal, in lower case behind `0x`, and a blank before it, before all that is there.
+    /// Puts a number in hexadecimal, in lower case after `0x`, and a blank before it, before all that is there.
     pub fn put_hexadecimal(&mut self, number: u64)
         requires room { length self.old + HEXADECIMAL_ROOM ≤ LINE_ROOM }
         ensures bytes { self.new ≡ blank ∷ hexadecimal number ++ self.old }

@@ -22,13 +22,13 @@ pub trait Lines {
     fn count(&self) -> usize
         ensures { result ≡ count self.now };
 
-    /// Appends line `j`, which has to be one of them, to the text that is to go out. Fails for want of memory alone.
+    /// Appends line `j`, which has to be one of them, to the text that is to go out. Fails only when out of memory.
     fn push(&self, alloc: Global, text: &mut Vec<u8>, j: usize) -> Result<(), AllocError>
         requires { j < count self.now }
         ensures { OnOk result (text.new.items ≡ text.old.items ++ line self.now j) };
 }
 
-/// Sends them all, in pieces. Fails where the writer does, with how many bytes of the whole text are out, or for want of memory.
+/// Sends them all, in pieces. Fails where the writer does, with how many bytes of the whole text are out, or when out of memory.
 pub fn show_lines<L: Lines, W: Write>(
     alloc: Global,
     lines: &L,
@@ -45,7 +45,7 @@ pub fn show_lines<L: Lines, W: Write>(
     Ok(())
 }
 
-/// Appends them all to a text. Fails for want of memory alone.
+/// Appends them all to a text. Fails only when out of memory.
 pub fn push_lines<L: Lines>(alloc: Global, lines: &L, text: &mut Vec<u8>) -> Result<(), AllocError>
     ensures { OnOk result (text.new.items
         ≡ text.old.items ++ flat_map (L.line lines.now) (range_with_len 0 (L.count lines.now))) }

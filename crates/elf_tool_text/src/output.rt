@@ -20,7 +20,7 @@ pub struct Output {
 }
 
 impl Output {
-    /// Nothing is out, and nothing is pending.
+    /// Nothing was written, and nothing is pending.
     pub fn new(alloc: Global) -> Output
         ensures pending { result.pending.items ≡ [] }
         ensures written { result.written ≡ 0 }

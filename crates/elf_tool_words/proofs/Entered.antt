@@ -70,7 +70,7 @@ module _ {Z : Type 0} where
   both_parts None name rows e f = cc
   both_parts (Some b) name rows e f = cc
 
--- the subcommand that a parse tells is the one that the definition enters
+-- the subcommand that a parse reports is the one that the definition enters
 pub entered_is : (words : List Text) (m : ArgMatches) (name : Text) (rows : List Row) → subcommand_rows_of m ≡ subcommand_of elfmap words
     → Some name ≡ subcommand_name_of m → Some rows ≡ option_map (λ p. p.1) (subcommand_rows_of m) → subcommand_of elfmap words ≡ Some (name, rows)
 entered_is words m name rows same named rowed = sym same ∙ both_parts (out-ArgMatches m).subcommand name rows named rowed
@@ -82,7 +82,7 @@ is_command words p e =
     let b = built elfmap in
     entered_name b (stop_after b.top.rules (names_of b) (argument_words elfmap words)) p e
 
--- a parse that succeeds tells a subcommand
+-- a parse that succeeds reports a subcommand
 some_of_rows : (o : Option (Text × List Row)) → None ≡ option_map (λ p. p.1) o → is_some o ≡ true → ⊥
 some_of_rows None e some = cc
 some_of_rows (Some p) e some = cc

@@ -22,6 +22,6 @@ decimal_number text = numeral 10 is_decimal_digit text
 abbrev pub hexadecimal_number : List ℕ → Option ℕ
 hexadecimal_number text = if nat_le (length text) 16 then numeral 16 is_hexadecimal_digit text else None
 
--- decimal, or hexadecimal in lower case behind 0x
+-- decimal, or hexadecimal in lower case after 0x
 abbrev pub number_of : List ℕ → Option ℕ
 number_of text = if starts_with nat_eq text (codes "0x") then hexadecimal_number (drop 2 text) else decimal_number text

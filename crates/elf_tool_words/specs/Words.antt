@@ -93,15 +93,15 @@ pub record Gives (words : List Text) (P : Text → List Row → Type 0) : Type 0
 abbrev pub IsAskedBy : List Text → Request → Type 0
 IsAskedBy words request = Gives words (λ name rows. Asks name rows request)
 
--- the words are refused so: clap's definition does not take them, and gives the error's kind; or it takes them, and the command is
--- refused; or memory was refused
+-- the words are refused so: clap's definition does not take them, and gives the error's kind; or it takes them, and the command is refused;
+-- or an allocation failed
 abbrev pub IsRefusedBy : List Text → WordsFault → Type 0
 IsRefusedBy words (Words error) = (takes elfmap words ≡ false) × IsAmong (kind_of error) (fault_of elfmap words)
 IsRefusedBy words TooManyFiles = Gives words (λ name rows. CommandRefuses name rows TooManyFiles)
 IsRefusedBy words BadNumber = Gives words (λ name rows. CommandRefuses name rows BadNumber)
 IsRefusedBy words OutOfMemory = Unit {0}
 
--- an error of clap as a fault: want of memory is a fault of its own
+-- an error of clap as a fault: out of memory is a fault of its own
 abbrev pub Tells : Error → WordsFault → Type 0
 Tells error (Words e) = (e ≡ error) × (kind_of error ≢ kind.OutOfMemory)
 Tells error TooManyFiles = ⊥

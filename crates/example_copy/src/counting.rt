@@ -22,7 +22,7 @@ impl<S> Counting<S> {
 }
 
 impl<S: Source> Source for Counting<S> {
-    // It tells the bytes that the other one tells, and each call that fails is a failed call of that.
+    // It reports the bytes that the other one reports, and each call that fails is a failed call of that.
     ghost content = { λ s. S.content s.inner };
 
     ghost failures = { λ s. S.failures s.inner };

@@ -35,7 +35,7 @@ fn main(rt: HostRuntime) -> io::Result<ExitCode> {
     Ok(ExitCode::from(status))
 }
 
-/// Copies the image of a source with other flags of a section. Answers the exit status: 0 where it is out, 1 where the source is no image,
+/// Copies the image of a source with other flags of a section. Returns the exit status: 0 where it is out, 1 where the source is no image,
 /// 2 where it has no such section, 3 where memory, the source or the writer failed.
 fn copy_with_flags<S: Source, W: Write>(
     alloc: Global,
@@ -45,7 +45,7 @@ fn copy_with_flags<S: Source, W: Write>(
     out: &mut W,
 ) -> u8
     requires { (b : List ℕ) → S.content source.old ≡ Some b → IsBytes b }
-    // What is out is the image of the source's bytes, with these flags of the section.
+    // What was written is the image of the source's bytes, with these flags of the section.
     ensures { result ≡ 0 → (b : List ℕ) → S.content source.old ≡ Some b → (o : OutlineValue) × IsImage (image_in o b) b ×
         ((copy : List ℕ) × IsImage (image_in (record o { sections = flagged o.sections section flags }) b) copy ×
         Appends (W.contents out.old) (W.contents out.new) copy) }

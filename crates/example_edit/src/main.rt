@@ -47,7 +47,7 @@ fn run(rt: &HostRuntime, words: &[String]) -> Result<(), Failed> {
 
 /// Writes the image of these bytes; or answers the exit status, and why.
 fn write_back<W: Write>(alloc: Global, bytes: &[u8], out: &mut W) -> Result<(), Failed>
-    // What is out is what was read.
+    // What was written is what was read.
     ensures { OnOk result (Appends (W.contents out.old) (W.contents out.new) bytes.now) }
 {
     let image = image_of(alloc, bytes)?;
@@ -65,7 +65,7 @@ fn edit<W: Write>(
     flags: u64,
     out: &mut W,
 ) -> Result<(), Failed>
-    // What is out is the image that was read, but for these two edits.
+    // What was written is the image that was read, but for these two edits.
     ensures { OnOk result ((image : ImageValue) × IsImage image bytes.now × ((edited : List ℕ) ×
         IsImage (with_flags (with_zero_gaps image) section flags) edited × Appends (W.contents out.old) (W.contents out.new) edited)) }
 {

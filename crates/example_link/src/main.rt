@@ -70,7 +70,7 @@ fn mapped<'a>(alloc: Global, files: &[Object<'a>]) -> Result<LinkMap<'a>, &'stat
 }
 
 fn link<W: io::Write>(alloc: Global, files: &[Object<'_>], to: &mut W) -> Result<(), &'static str>
-    // What is out is the executable of a link of these objects: an image that loads the memory of the link.
+    // What was written is the executable of a link of these objects: an image that loads the memory of the link.
     ensures { OnOk result ((map : LinkMapValue) × IsMapOfSome files.now map × ((executable : List ℕ) ×
         IsExecutable files.now map RULES executable × Appends (W.contents to.old) (W.contents to.new) executable)) }
 {

@@ -19,7 +19,7 @@ const LITTLE_RELA: &[u8; 24] = b"\x01\0\0\0\0\0\0\0\x02\0\0\0\x01\0\0\0\
 const BIG_RELA: &[u8; 24] = b"\0\0\0\0\0\0\0\x01\0\0\0\x01\0\0\0\x02\
     \xff\xff\xff\xff\xff\xff\xff\xfc";
 
-// Each byte tells its offset, so a number tells where it was read.
+// Each byte reports its offset, so a number reports where it was read.
 const RULER: &[u8; 64] = b"\x00\x01\x02\x03\x04\x05\x06\x07\x08\x09\x0a\x0b\x0c\x0d\x0e\x0f\
     \x10\x11\x12\x13\x14\x15\x16\x17\x18\x19\x1a\x1b\x1c\x1d\x1e\x1f\
     \x20!\"#$%&'()*+,-./0123456789:;<=>?";
@@ -47,7 +47,7 @@ fn first_wrong(order: Order, fields: &[(u64, u64, u64)]) -> Option<u64> {
     None
 }
 
-// The record that stands at the beginning of the bytes, through the bound, put back into `copy`.
+// The record that is at the beginning of the bytes, through the bound, put back into `copy`.
 fn through_bound<T: Record>(order: Order, bytes: &[u8], copy: &mut [u8]) -> T
     requires read { T.SIZE ≤ length bytes.now }
     requires written { length copy.old ≡ T.SIZE }
@@ -73,7 +73,7 @@ fn writes_and_reads_an_entry(rt: HostRuntime) {
     );
 }
 
-/// The header of an empty relocatable file stands in these bytes, which are what it is put back as.
+/// The header of an empty relocatable file is in these bytes, which are what it is put back as.
 fn assert_header(rt: &impl Abort, order: Order, bytes: &[u8; 64]) {
     let header = Ehdr::get(order, bytes);
     let mut copy = [0; 64];
@@ -92,7 +92,7 @@ fn headers_in_both_orders(rt: HostRuntime) {
     assert_header(&rt, Order::Big, BIG_HEADER);
 }
 
-/// A relocation at 1 by symbol 1, of type 2, stands in these bytes, which are what it is put back as.
+/// A relocation at 1 by symbol 1, of type 2, is in these bytes, which are what it is put back as.
 fn assert_relocation(rt: &impl Abort, order: Order, bytes: &[u8; 24]) {
     let rela = Rela::get(order, bytes);
     let mut copy = [0; 24];

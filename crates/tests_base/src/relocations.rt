@@ -3,7 +3,7 @@ use elf_field::Order;
 use elf_link_field::{Form, Range, RelocRule, Width, addend_in, mark, patch, rule_of};
 use std::process::Abort;
 
-// The example of the root of elf_link_field: a call of what stands at 0x1006, in code at 0x1000.
+// The example of the root of elf_link_field: a call of what is at 0x1006, in code at 0x1000.
 #[test]
 fn a_call(rt: HostRuntime) {
     let rule = RelocRule {

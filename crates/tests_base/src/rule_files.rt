@@ -127,7 +127,7 @@ fn the_first_bad_line(rt: HostRuntime) -> Result<(), RulesFault> {
     Ok(())
 }
 
-/// As many lines of one rule as asked for, and these bytes behind them.
+/// As many lines of one rule as asked for, and these bytes after them.
 fn lines(alloc: Global, count: usize, rest: &[u8]) -> Result<Vec<u8>, AllocError> {
     let mut file = Vec::new(alloc);
     for _ in 0..count {
@@ -158,7 +158,7 @@ fn as_many_rules_as_there_may_be(rt: HostRuntime) -> Result<(), Fail> {
     Ok(())
 }
 
-/// The fault is told in these words.
+/// The fault is reported in these words.
 fn assert_told(
     rt: &impl Abort,
     alloc: Global,

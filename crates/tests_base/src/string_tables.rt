@@ -45,7 +45,7 @@ fn empty_names_take_one_zero(rt: HostRuntime) -> Result<(), Fail> {
     assert_table(&rt, rt.alloc(), &empty, &[0], &[0, 0])
 }
 
-// Names that differ behind many equal last bytes.
+// Names that differ after many equal last bytes.
 #[test]
 fn long_names_differ_at_their_beginnings(rt: HostRuntime) -> Result<(), Fail> {
     let long = b"0123456789012345678901234567890123456789";

@@ -1,14 +1,14 @@
-//! Calls of the library, for tests that refuse growths, make reads and writes fail, or compare what the calls say.
+//! Calls of the library, for tests that make allocations fail, make reads and writes fail, or compare what the calls say.
 //!
-//! `tests_calls growths RULES FILE..` makes each call that takes memory, of records and extents by themselves and of these files, and
-//! prints a line on each: which it was, and a number that tells its answer, or `out of memory`, or `refused`. Behind them it prints what is
-//! asked of the values that came out, which takes no memory. `tests_calls quiet N FILE..` makes each call that takes no memory N times on
-//! what these files are, and prints nothing of them.
+//! `tests_calls allocations RULES FILE..` makes each call that takes memory, of records and extents by themselves and of these files, and
+//! prints a line on each: which it was, and a number that reports its answer, or `out of memory`, or `refused`. After them it prints what
+//! is asked of the values that came out, which takes no memory. `tests_calls quiet N FILE..` makes each call that takes no memory N times
+//! on what these files are, and prints nothing of them.
 //!
 //! `tests_calls write FILE`, `object` and `copy` write the file again: its image, the object that it denotes, or by `copy_image` what is
 //! read where it has to be. They end as the program does: status 0 where all is out, 1 where a rule is broken, 3 with a line on standard
-//! error where memory, a read or a write failed. `tests_calls changes FILE` tells of the beginnings of the file, and of the files that
-//! differ from it in one byte, what each call says ([`changes::tell`]).
+//! error where memory, a read or a write failed. `tests_calls changes FILE` is about the beginnings of the file, and of the files that
+//! differ from it in one byte, what each call says ([`changes::report`]).
 #![tactic(auto)]
 
 mod changes;
@@ -85,7 +85,7 @@ fn quiet_calls(rt: &HostRuntime, words: &[String]) -> io::Result<ExitCode> {
     Ok(ExitCode::from(0))
 }
 
-/// A call that writes a file again, or tells of those that differ from it.
+/// A call that writes a file again, or is about those that differ from it.
 fn written(rt: &HostRuntime, call: &str, name: &String) -> io::Result<ExitCode> {
     let alloc = rt.alloc();
     let (mut out, mut err) = (rt.stdout(), rt.stderr());
@@ -106,7 +106,7 @@ fn written(rt: &HostRuntime, call: &str, name: &String) -> io::Result<ExitCode> 
     Ok(ExitCode::from(writing::status(ended, &mut err)))
 }
 
-/// All bytes of a reader. Where a growth is refused it is asked for once more, and nothing that was read is lost.
+/// All bytes of a reader. Where an allocation fails it is asked for once more, and nothing that was read is lost.
 fn read<R: Read, W: Write>(alloc: Global, reader: &mut R, out: &mut W) -> Result<Vec<u8>, Fault> {
     let mut bytes = Vec::new(alloc);
     let ended = match read_to_end(reader, &mut bytes) {
@@ -124,7 +124,7 @@ fn read<R: Read, W: Write>(alloc: Global, reader: &mut R, out: &mut W) -> Result
     Ok(bytes)
 }
 
-/// A number that tells these bytes from others that a reading might give in their place.
+/// A number that distinguishes these bytes from others that a reading might give in their place.
 fn sum_of(bytes: &[u8]) -> u64 {
     let mut sum = bytes.len() as u64;
     for byte in bytes {

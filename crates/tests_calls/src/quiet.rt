@@ -1,5 +1,5 @@
-//! The calls that take no memory, each made so many times: `tools/test failing-calls` counts the growths, which have to be as many as where
-//! none of them is made.
+//! The calls that take no memory, each made so many times: `tools/test failing-calls` counts the allocations, which have to be as many as
+//! where none of them is made.
 ghost use Rattle.std.specs.Prelude.{◌<◌, length};
 
 use elf_extent::{Counted, Extent, next_place, sweep};
@@ -86,7 +86,7 @@ fn on_bytes(bytes: &[u8]) {
     let _ = source.read_at(0, &mut buf);
 }
 
-/// What an image tells, and writes.
+/// What an image reports, and writes.
 fn on_image(image: &Image<'_>) {
     let _ = (image.len(), image.order(), image.header());
     let _ = (image.name_table(), image.parts().len(), image.load(0x1000));
@@ -163,7 +163,7 @@ fn on_hashes(alloc: Global, image: &Image<'_>, times: u32) {
     }
 }
 
-/// What an outline tells, and the copy of its file.
+/// What an outline reports, and the copy of its file.
 fn on_outline(outline: &Outline, bytes: &[u8]) {
     let _ = (outline.len(), outline.order(), outline.header());
     let _ = (outline.sections().len(), outline.segments().len());
@@ -171,7 +171,7 @@ fn on_outline(outline: &Outline, bytes: &[u8]) {
     let _ = copy_image(outline, &mut Seeking::new(Cursor::new(bytes)), &mut sink());
 }
 
-/// What a layout tells.
+/// What a layout reports.
 fn on_layout(layout: &Layout) {
     let _ = (layout.table(), layout.length());
     for i in 0..layout.section_count() {
@@ -179,7 +179,7 @@ fn on_layout(layout: &Layout) {
     }
 }
 
-/// The link of objects, and what it tells.
+/// The link of objects, and what it reports.
 fn on_objects(alloc: Global, objects: &[Object<'_>], times: u32) {
     let options = Options {
         base: 0x40_0000,

@@ -5,9 +5,9 @@ use std::io::Write;
 /// How a call ended.
 #[derive(Clone, Copy)]
 pub enum Said {
-    /// With an answer, of which this number tells.
+    /// With an answer, which this number describes.
     Done(u64),
-    /// For want of memory.
+    /// When out of memory.
     Memory,
     /// With another fault.
     Refused,

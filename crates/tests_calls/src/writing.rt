@@ -15,13 +15,13 @@ use std::io::Write;
 pub enum Stopped {
     /// By a rule.
     Rule,
-    /// Memory was refused.
+    /// An allocation failed.
     OutOfMemory,
     /// The layout is longer than 2^30 bytes.
     TooLong,
     /// The read at this offset failed.
     Read { at: u64 },
-    /// The write behind so many bytes failed.
+    /// The write after so many bytes failed.
     Write { written: u64 },
 }
 
@@ -86,7 +86,7 @@ pub fn copy<S: Source, W: Write>(alloc: Global, source: &mut S, out: &mut W) -> 
     Ok(())
 }
 
-/// The exit status; what failed is told on standard error, in the words of the program.
+/// The exit status; what failed is reported on standard error, in the words of the program.
 pub fn status<W: Write>(ended: Result<(), Stopped>, err: &mut W) -> u8 {
     let _ = match ended {
         Ok(()) => return 0,

@@ -1,5 +1,5 @@
-//! Zeros, padding and records of more than one block, onto a writer of which one call alone fails: exactly what is told is out,
-//! and no call comes after it.
+//! Zeros, padding and records of more than one block, onto a writer of which one call alone fails: exactly what is reported is out, and no
+//! call comes after it.
 use elf_field::{Order, Rela};
 use elf_image_stream::WriteFault;
 use elf_image_stream::output::{write_padded, write_records, write_zeros};
@@ -16,7 +16,7 @@ const ZEROS_OUT: [usize; 11] = [
     0, 1000, 2000, 3000, 4000, 4096, 5096, 6096, 7096, 8096, 8192,
 ];
 
-/// A part of 1,500 bytes behind a block of zeros and ten more.
+/// A part of 1,500 bytes after a block of zeros and ten more.
 const PART: [u8; 1500] = [7; 1500];
 
 const PADDING: usize = 4106;
@@ -39,8 +39,8 @@ fn once_failing(alloc: Global, failing: usize) -> OnceFailingWriter {
     OnceFailingWriter::new(alloc, 1000, failing, Some(ErrorKind::Interrupted))
 }
 
-/// These bytes were written, of which `outs[k]` were out before call `k + 1`: where that one failed, no more are out, the answer tells it,
-/// and no call came after it; where none did, all are out.
+/// These bytes were written, of which `outs[k]` were out before call `k + 1`: where that one failed, no more are out, the answer reports
+/// it, and no call came after it; where none did, all are out.
 fn assert_ends(
     rt: &impl Abort,
     writer: &OnceFailingWriter,

@@ -1,4 +1,4 @@
-//! Readers and writers that move little, fail, or meet a refused growth.
+//! Readers and writers that move little, fail, or meet a failed allocation.
 ghost use Rattle.std.specs.Prelude.{◌<◌, ◌≤◌};
 
 use elf_image_stream::{Fault, WriteFault, read_to_end, resume, write_whole};
@@ -46,7 +46,7 @@ fn read_all_or_as_many_as_fit(rt: &impl Abort, alloc: Global, whole: usize) {
     assert_eq!(rt; (ended, given, kept), (true, Some(whole), true));
 }
 
-// Where a growth is refused, the answer is `OutOfMemory`, and no byte that was given is lost.
+// Where an allocation fails, the answer is `OutOfMemory`, and no byte that was given is lost.
 #[test]
 fn a_refused_growth_loses_no_byte(rt: HostRuntime) {
     // Of the longer file capacity is asked for well ahead.
@@ -55,7 +55,7 @@ fn a_refused_growth_loses_no_byte(rt: HostRuntime) {
     }
 }
 
-/// What a read answers whose call behind `before` bytes fails so, or gives none.
+/// What a read answers whose call after `before` bytes fails so, or gives none.
 fn answer_behind(before: usize, failure: Option<ErrorKind>) -> Result<(), Fault> {
     let at = before as u64;
     match failure {
@@ -64,8 +64,8 @@ fn answer_behind(before: usize, failure: Option<ErrorKind>) -> Result<(), Fault>
     }
 }
 
-/// Reads the text, whose read behind `before` bytes alone fails, or gives none: that is the answer, with those bytes read, and no call
-/// comes after it. Then the reading goes on where it stopped.
+/// Reads the text, whose read after `before` bytes alone fails, or gives none: that is the answer, with those bytes read, and no call comes
+/// after it. Then the reading goes on where it stopped.
 fn read_once_failing(rt: &impl Abort, alloc: Global, before: usize, failure: Failure)
     requires { before ≤ 32 }
 {
@@ -136,7 +136,7 @@ fn assert_stopped(
     assert_eq!(rt; (answer, seen), (Err(WriteFault { written }), expected));
 }
 
-/// Writes the text, whose write behind `before` bytes alone fails: that is the answer.
+/// Writes the text, whose write after `before` bytes alone fails: that is the answer.
 fn write_once_failing(rt: &impl Abort, alloc: Global, before: usize, failure: Failure)
     requires { before < 32 }
 {
@@ -154,7 +154,7 @@ fn a_failed_write_is_not_tried_again(rt: HostRuntime) {
     }
 }
 
-/// Writes the image of these bytes, whose write behind `before` of them alone fails.
+/// Writes the image of these bytes, whose write after `before` of them alone fails.
 fn assert_image_stops(
     rt: &impl Abort,
     alloc: Global,
@@ -170,7 +170,7 @@ fn assert_image_stops(
     assert_stopped(rt, &writer, answer, bytes, before);
 }
 
-/// Writes an image of 376 bytes, whose write behind each number of bytes alone fails in turn; and again, with its gap zeroed.
+/// Writes an image of 376 bytes, whose write after each number of bytes alone fails in turn; and again, with its gap zeroed.
 fn write_image_once_failing(rt: &impl Abort, alloc: Global, failure: Failure) -> Result<(), Fault> {
     let file = filled_gap();
     let mut image = parse(alloc, &file)?;

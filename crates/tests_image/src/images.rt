@@ -35,7 +35,7 @@ fn assert_kept(rt: &impl Abort, alloc: Global, file: &[u8]) -> Result<(), Fault>
     Ok(())
 }
 
-/// Of section `index`: the length of its content and where it stands, and the size and the address in its header and where that stands.
+/// Of section `index`: the length of its content and where it is, and the size and the address in its header and where that is.
 fn section_of(image: &Image<'_>, index: usize) -> Option<(usize, u64, u64, u64, u64)> {
     if index < image.section_count() {
         let section = image.section(index);
@@ -62,7 +62,7 @@ fn segment_of(image: &Image<'_>, index: usize) -> Option<(u64, u64, u64)> {
 }
 
 /// Of a file: its order, and whether its parts are those of the file of one section; its length, how many sections and segments it has,
-/// where its section header table stands, and its name table; its sections 1, 4 and 5; and its segments 0 and 1.
+/// where its section header table is, and its name table; its sections 1, 4 and 5; and its segments 0 and 1.
 type Told = (
     (Order, bool),
     [u64; 5],
@@ -121,7 +121,7 @@ fn tells_the_header_sections_and_segments_of_a_file(rt: HostRuntime) {
     assert_eq!(rt; found, expected);
 }
 
-/// The name and the content of section 1. They outlive the image that told them.
+/// The name and the content of section 1. They outlive the image that reported them.
 fn name_and_content<'a>(
     alloc: Global,
     file: &'a [u8],
@@ -196,7 +196,7 @@ fn keeps_a_filled_gap_until_it_is_zeroed(rt: HostRuntime) -> Result<(), Fault> {
     Ok(())
 }
 
-/// How contents are refused that cannot stand in the file with one section.
+/// How contents are refused that cannot be in the file with one section.
 fn refusals(image: &mut Image<'_>) -> [Result<(), ReplaceFault>; 4] {
     [
         image.replace(0, &[]),
@@ -206,7 +206,7 @@ fn refusals(image: &mut Image<'_>) -> [Result<(), ReplaceFault>; 4] {
     ]
 }
 
-/// They change nothing; another byte of its section does stand there.
+/// They change nothing; another byte of its section is there.
 fn assert_replaces(rt: &impl Abort, alloc: Global, image: &mut Image<'_>, file: &[u8]) {
     let expected = [
         Err(ReplaceFault::NoSection),
@@ -265,7 +265,7 @@ fn sets_the_entry_and_flags(rt: HostRuntime) -> Result<(), Fault> {
     Ok(())
 }
 
-/// The rule that `parse` tells, if any.
+/// The rule that `parse` reports, if any.
 fn rule_broken(alloc: Global, file: &[u8]) -> Result<Option<(u16, u64)>, Fault> {
     match parse(alloc, file) {
         Ok(_) => Ok(None),
@@ -274,7 +274,7 @@ fn rule_broken(alloc: Global, file: &[u8]) -> Result<Option<(u16, u64)>, Fault> 
     }
 }
 
-/// Of the file with one section and this byte at an offset `parse` tells the verdict.
+/// Of the file with one section and this byte at an offset `parse` reports the verdict.
 fn assert_told(rt: &impl Abort, alloc: Global, order: Order, at: usize, byte: u8)
     requires { at < 456 }
 {

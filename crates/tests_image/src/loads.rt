@@ -91,7 +91,7 @@ fn loads_each_part_of_a_file(rt: HostRuntime) {
     assert_eq!(rt; told, expected);
 }
 
-/// The file of one segment, which goes on behind the largest address.
+/// The file of one segment, which goes on after the largest address.
 fn one_segment_at_the_end() -> [u8; 120] {
     let mut file = one_segment(Order::Little);
     let fields = [(80, 8, u64::MAX - 0xfff), (104, 8, u64::MAX)];
@@ -128,7 +128,7 @@ fn data_and_commons() -> [u8; 180] {
 }
 
 // The code of an executable; two segments that have an address, of which the first one has no bytes in the file for it; one of another
-// type, which loads nothing; the last address of one that goes on behind it; and commons, which are 0.
+// type, which loads nothing; the last address of one that goes on after it; and commons, which are 0.
 #[test]
 fn loads_by_segments(rt: HostRuntime) {
     let code = [0xfff, 0x1000, 0x1001, 0x1006, 0x1007, u64::MAX];

@@ -9,7 +9,7 @@ use tests_files::PartialSource;
 /// How many relocations the table has, of 16 bytes each: two arrays of 4,096 bytes, and a part of one.
 const COUNT: usize = 600;
 
-/// A table behind 3 other bytes: relocation `i` has offset `i`, and zeros else.
+/// A table after 3 other bytes: relocation `i` has offset `i`, and zeros else.
 fn table(alloc: Global) -> Result<Vec<u8>, Fail> {
     let mut bytes = Vec::new(alloc);
     bytes.extend_from_slice(&[0; 3])?;

@@ -97,7 +97,7 @@ fn strong(file: usize) -> Binding {
     Binding::Strong { file, symbol: 0 }
 }
 
-/// The map, without an owner: where the sections stand, and what the names are bound to, in order.
+/// The map, without an owner: where the sections are, and what the names are bound to, in order.
 fn assert_mapped(rt: &impl Abort, link: &LinkMap<'_>) {
     let addresses = [
         link.address(0, 0),

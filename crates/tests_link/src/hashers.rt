@@ -42,7 +42,7 @@ fn told(link: &LinkMap<'_>) -> Told {
     (addresses, bindings, link.outputs().len())
 }
 
-/// What the two hashers' maps tell of two files that share an output and a name.
+/// What the two hashers' maps say about two files that share an output and a name.
 fn both_told(alloc: Global) -> Result<[Told; 2], Fail> {
     let objects = [
         file(alloc, [b"a", b"b"], [b"f", b"g"])?,

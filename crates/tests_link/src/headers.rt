@@ -22,7 +22,7 @@ fn empty(alloc: Global, osabi: u8, abi: u8) -> Result<Object<'static>, ObjectFau
     Object::new(alloc, parts)
 }
 
-/// The identity of the link of these objects, where it stands, of how many files it is and by how many rules.
+/// The identity of the link of these objects, where it is, of how many files it is and by how many rules.
 fn told(
     alloc: Global,
     objects: &[Object<'_>],

@@ -1,7 +1,7 @@
 //! The 66 files of a large link. Each has four sections of 16 bytes, which go by turns to 40 outputs, so that there are 264 in all. It
 //! defines 17 names, one of them long, and has five fields, in its section 1.
 //!
-//! Section `s` of file `f` is number `4 f + s`. Number `k` goes to output `k mod 40`, as its member `k / 40`: that is where it stands.
+//! Section `s` of file `f` is number `4 f + s`. Number `k` goes to output `k mod 40`, as its member `k / 40`: that is where it is.
 use crate::parts::{GLOBAL, WEAK, data, list, object, relocs, symbol};
 use elf_field::Order;
 use elf_object_type::{Object, ObjectFault, Place, Relocation, Section, Symbol};
@@ -27,7 +27,7 @@ pub(crate) const LINKS: [(Order, u64); 2] = [
     (Order::Big, 0x8000_0000_0000_0000),
 ];
 
-/// The numbers below 1,056 with four digits each, one behind the other.
+/// The numbers below 1,056 with four digits each, one after the other.
 pub(crate) fn digits(alloc: Global) -> Result<String, Fail> {
     let mut digits = String::new(alloc);
     for number in 0..1_056 {
@@ -55,7 +55,7 @@ pub(crate) fn name_of(digits: &[u8], file: u8, index: u8) -> &[u8] {
     short_name(digits, 16 * file as u16 + index as u16)
 }
 
-/// Where a section stands, by its number.
+/// Where a section is, by its number.
 pub(crate) fn address_of(base: u64, number: u16) -> u64 {
     let behind = 0x1000 * (number % OUTPUTS) as u64 + 16 * (number / OUTPUTS) as u64;
     base.wrapping_add(behind)
@@ -108,7 +108,7 @@ fn section(digits: &[u8], file: u8, section: u8) -> Section<'_> {
     data(short_name(digits, number % OUTPUTS), b"0123456789abcdef")
 }
 
-/// The sections of a file, and behind them its relocations.
+/// The sections of a file, and after them its relocations.
 fn sections(alloc: Global, digits: &[u8], file: u8) -> Result<Vec<Section<'_>>, AllocError> {
     let entries = entries(alloc, file)?;
     list(

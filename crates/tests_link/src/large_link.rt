@@ -1,4 +1,4 @@
-//! The large link: where its outputs and sections stand, what its names are bound to, and its fields.
+//! The large link: where its outputs and sections are, what its names are bound to, and its fields.
 use crate::large_files::{
     FILES, LINKS, LONG, OUTPUTS, SECTIONS, address_of, digits, files, long_name, name_of,
     short_name,
@@ -40,7 +40,7 @@ fn first_wrong_output(link: &LinkMap<'_>, digits: &[u8], base: u64) -> Option<u1
     None
 }
 
-/// The first section, by its number, that does not stand where it has to.
+/// The first section, by its number, that is not where it has to.
 fn first_wrong_section(link: &LinkMap<'_>, base: u64) -> Option<u16> {
     for number in 0..SECTIONS {
         let address = link.address(number as usize / 4, number as usize % 4);
@@ -87,9 +87,9 @@ fn first_wrong_name(link: &LinkMap<'_>, digits: &[u8]) -> Option<u16> {
     None
 }
 
-/// The bytes of section 1 of a file, its five fields. The first one is of symbol 5, five bytes behind it, counts from itself and adds -6,
-/// which is -1. The second one holds its addend alone. The third one is of symbol 16, 16 bytes behind the start of section 0. The last two
-/// are of the name that file 0 defines at the start of its section 0: the one counts from itself, four bytes behind the start of its
+/// The bytes of section 1 of a file, its five fields. The first one is of symbol 5, five bytes after it, counts from itself and adds -6,
+/// which is -1. The second one holds its addend alone. The third one is of symbol 16, 16 bytes after the start of section 0. The last two
+/// are of the name that file 0 defines at the start of its section 0: the one counts from itself, four bytes after the start of its
 /// section, and adds -4; the other one adds 1.
 fn wanted(alloc: Global, order: Order, base: u64, file: u8) -> Result<Vec<u8>, AllocError> {
     let zeroth = address_of(base, 4 * file as u16);
@@ -123,8 +123,8 @@ fn first_wrong_file(
     Ok(None)
 }
 
-/// Of a large link: how many outputs it has, and the first wrong one; the first section that stands elsewhere; how many names it has, and
-/// the first one that is bound otherwise; and the first file whose fields do not hold their numbers.
+/// Of a large link: how many outputs it has, and the first wrong one; the first section that is elsewhere; how many names it has, and the
+/// first one that is bound otherwise; and the first file whose fields do not hold their numbers.
 type Told = (
     (usize, Option<u16>),
     Option<u16>,
@@ -132,7 +132,7 @@ type Told = (
     Option<u8>,
 );
 
-/// What the link of these objects, the files of the large link, tells.
+/// What the link of these objects, the files of the large link, reports.
 fn told_of(
     alloc: Global,
     objects: &[Object<'_>],
@@ -185,7 +185,7 @@ fn entry_at(alloc: Global, file: u8) -> Result<u64, Fail> {
     Ok(link.entry())
 }
 
-// Symbol 16 of file f has the value 16 in its section 0, which is number 4 f: in output 20, 24, 28 or 0, behind one or six others.
+// Symbol 16 of file f has the value 16 in its section 0, which is number 4 f: in output 20, 24, 28 or 0, after one or six others.
 #[test]
 fn begins_at_long_names_that_are_bound_weakly(rt: HostRuntime) -> Result<(), Fail> {
     let rows = [

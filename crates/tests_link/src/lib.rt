@@ -1,4 +1,4 @@
-//! Tests of the link: what its map and its relocated bytes tell the code that calls them, laws put together, and links of many files,
+//! Tests of the link: what its map and its relocated bytes report the code that calls them, laws put together, and links of many files,
 //! sections, names and fields, where a limit would hide. Hand-written links, and one for each rule that breaks it, are in
 //! `cases/links.txt`.
 //!

@@ -1,4 +1,4 @@
-//! Forty thousand fields of one, two, four and eight bytes, whose addends stand in them.
+//! Forty thousand fields of one, two, four and eight bytes, whose addends are in them.
 ghost use Rattle.std.specs.Prelude.{◌<◌};
 
 use crate::parts::{GLOBAL, data, holds, list, mapped, object, push_number, rule, symbol};
@@ -99,7 +99,7 @@ fn leaves(alloc: Global, objects: &[Object<'_>], bytes: &[u8]) -> Result<bool, L
     Ok(holds(&linked, bytes))
 }
 
-/// Whether each field holds the symbol's value and the addend that stood in it.
+/// Whether each field holds the symbol's value and the addend that was in it.
 fn holds_sums(alloc: Global, order: Order) -> Result<bool, Fail> {
     let content = groups(alloc, order, 0)?;
     let wanted = groups(alloc, order, VALUE)?;

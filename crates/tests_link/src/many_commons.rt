@@ -50,8 +50,8 @@ fn files(alloc: Global, names: &[u8]) -> Result<Vec<Object<'_>>, Fail> {
     Ok(files)
 }
 
-/// The first common that has not the largest size and alignment of its entries, those of the last file, or that does not stand at the
-/// least multiple of its alignment behind the one before it.
+/// The first common that has not the largest size and alignment of its entries, those of the last file, or that is not at the least
+/// multiple of its alignment after the one before it.
 fn first_wrong(link: &LinkMap<'_>) -> Option<u64> {
     let mut end = BASE;
     for position in 0..NAMES {

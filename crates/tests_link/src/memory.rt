@@ -1,4 +1,4 @@
-//! What the laws tell of the memory of a link, when they are put together.
+//! What the laws say about the memory of a link, when they are put together.
 ghost use Rattle.std.specs.Prelude.{◌≡◌, ◌↔◌, ◌<◌, ℕ, true, List, None, length};
 ghost use Rattle.elf_link_field.specs.declared.rule.RelocRule.{RelocRule};
 ghost use Rattle.elf_link_files.specs.Rows.{FirstAmong};

@@ -1,4 +1,4 @@
-//! Where outputs stand, as code asks that knows it by the laws: no difference is below 0, and no page has a rest.
+//! Where outputs are, as code asks that knows it by the laws: no difference is below 0, and no page has a rest.
 ghost use Rattle.std.specs.Prelude.{None};
 ghost use Rattle.elf_link_map.specs.LinkFaults.{FirstOfLink};
 ghost use Rattle.elf_link_map.specs.LinkMap.{IsLinkMap};
@@ -67,7 +67,7 @@ fn three_kinds(alloc: Global) -> Result<Object<'static>, ObjectFault> {
     object(alloc, Order::Little, sections, Vec::new(alloc))
 }
 
-/// Whether the outputs of these objects stand so.
+/// Whether the outputs of these objects are so.
 fn stand(alloc: Global, objects: &[Object<'_>]) -> Result<bool, LinkFault> {
     let options = Options {
         base: 0x1000,

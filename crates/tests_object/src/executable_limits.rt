@@ -13,7 +13,7 @@ use tests_files::Counter;
 /// The digits of each name.
 const LETTERS: usize = 5;
 
-/// The names of so many sections, one behind the other.
+/// The names of so many sections, one after the other.
 fn names(alloc: Global, count: usize) -> Result<String, Fail> {
     let mut names = String::new(alloc);
     for position in 0..count {

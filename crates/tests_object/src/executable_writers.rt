@@ -40,7 +40,7 @@ fn assert_ended(
     );
 }
 
-/// The call of number `failing` fails so, behind so many bytes: that is the answer, and no call came after it.
+/// The call of number `failing` fails so, after so many bytes: that is the answer, and no call came after it.
 fn assert_stopped(
     rt: &impl Abort,
     alloc: Global,

@@ -87,7 +87,7 @@ pub(crate) fn files(alloc: Global) -> Result<[Object<'static>; 2], Fail> {
     Ok([caller(alloc)?, callee(alloc)?])
 }
 
-/// How the executable of no files is written, and what is out.
+/// How the executable of no files is written, and what was written.
 fn written_of_none(alloc: Global) -> (Result<Result<(), ExecFault>, LinkFault>, Vec<u8>) {
     let none: [Object<'static>; 0] = [];
     let mut text = Vec::new(alloc);

@@ -10,8 +10,8 @@ use std::process::Abort;
 use std::test::Fail;
 use tests_files::{Counter, OnceFailingWriter, one_section};
 
-/// Writes the object to a writer that takes so many bytes a call, and whose call of this number, behind so many bytes, alone fails, or
-/// takes nothing: that is the answer, and no call comes after it.
+/// Writes the object to a writer that takes so many bytes a call, and whose call of this number, after so many bytes, alone fails, or takes
+/// nothing: that is the answer, and no call comes after it.
 fn assert_stopped(
     rt: &impl Abort,
     alloc: Global,
@@ -69,7 +69,7 @@ fn outcome(alloc: Global, align: u64) -> Result<(Result<(), ObjectWriteFault>, u
     Ok((answer, writer.taken))
 }
 
-// An object that is too long is not written, nor is one that memory is refused for.
+// An object that is too long is not written, nor is one for which an allocation fails.
 #[test]
 fn nothing_is_written_of_what_is_refused(rt: HostRuntime) -> Result<(), Fail> {
     let rows = [

@@ -1,5 +1,5 @@
 //! Objects read from a file of a group with one member, a section beside it, relocations and a symbol table. Each of rules 70 to 79 broken
-//! in it stands in `cases/worked.txt`, under the rule's name.
+//! in it is in `cases/worked.txt`, under the rule's name.
 use elf_field::Order;
 use elf_field::abi::*;
 use elf_image_stream::Fault;
@@ -138,7 +138,7 @@ fn are_the_sections(sections: &[Section<'_>]) -> bool {
     }
 }
 
-/// Whether they are the one symbol behind symbol 0.
+/// Whether they are the one symbol after symbol 0.
 fn are_the_symbols(symbols: &[Symbol<'_>]) -> bool {
     let symbol = Symbol {
         name: b"f",

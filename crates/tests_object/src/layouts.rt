@@ -1,4 +1,4 @@
-//! Where the parts of an object stand in its file.
+//! Where the parts of an object are in its file.
 use elf_field::Order;
 use elf_object_type::{Body, Info, Object, ObjectParts, Section};
 use elf_object_writer::{LayoutFault, lay_out};
@@ -38,7 +38,7 @@ fn object_of<'a>(
     Ok(Object::new(alloc, parts)?)
 }
 
-/// Of the layout of such an object how many sections its file has, how long it is, and where its section header table stands.
+/// Of the layout of such an object how many sections its file has, how long it is, and where its section header table is.
 fn numbers(
     alloc: Global,
     count: usize,
@@ -115,8 +115,8 @@ fn length(alloc: Global, last: &[u8]) -> Result<Result<u64, LayoutFault>, Fail> 
     Ok(lay_out(alloc, &object).map(|layout| layout.length()))
 }
 
-// At 2^30 - 4,096 the last content begins, and behind it stand 24 + 1 + 38 bytes and 22 section headers: 38, and not 44, since `.text`
-// stands within `.rela.text`.
+// At 2^30 - 4,096 the last content begins, and after it are 24 + 1 + 38 bytes and 22 section headers: 38, and not 44, since `.text` is
+// within `.rela.text`.
 #[test]
 fn shared_names_count_once(rt: HostRuntime) -> Result<(), Fail> {
     let content = [0; 2625];

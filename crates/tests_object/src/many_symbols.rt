@@ -12,7 +12,7 @@ const COUNT: usize = 1_000_000;
 /// The letters of each name, the decimal digits of the symbol's position.
 const LETTERS: usize = 7;
 
-/// The names, one behind the other.
+/// The names, one after the other.
 fn names(alloc: Global) -> Result<String, Fail> {
     let mut names = String::new(alloc);
     for position in 0..COUNT {

@@ -124,7 +124,7 @@ fn judged_at(alloc: Global, align: u64, addr: u64) -> Result<(), ObjectFault> {
     judged_with(alloc, 1, aligned)
 }
 
-/// The fault of the sections, with these relocations behind them.
+/// The fault of the sections, with these relocations after them.
 fn judged_relocs(
     alloc: Global,
     rela: bool,

@@ -1,5 +1,5 @@
-//! Objects as they are written, byte by byte: what stands in their files is given field by field. An empty object, and one of a group,
-//! stand in `cases/worked.txt`.
+//! Objects as they are written, byte by byte: what is in their files is given field by field. An empty object, and one of a group, are in
+//! `cases/worked.txt`.
 use elf_field::Order;
 use elf_object_file::write_object;
 use elf_object_type::{Body, Info, Object, ObjectParts, Place, Relocation, Section, Symbol};
@@ -52,7 +52,7 @@ pub(crate) fn function<'a>(name: &'a [u8], place: Place) -> Symbol<'a> {
     }
 }
 
-/// The header's fields that tell of the section header table.
+/// The header's fields about the section header table.
 pub(crate) fn set_table(file: &mut [u8], order: Order, table: u64, count: u64, names: u64) {
     let fields = [(40, 8, table), (58, 2, 64), (60, 2, count), (62, 2, names)];
     set_header(file, order, &fields);
@@ -174,7 +174,7 @@ fn many_fields(alloc: Global, order: Order) -> Result<Object<'static>, Fail> {
     Ok(Object::new(alloc, parts)?)
 }
 
-/// The symbol table of its file, behind the symbol of index 0.
+/// The symbol table of its file, after the symbol of index 0.
 const MANY_SYMBOLS: [Field; 17] = [
     (116, 1, 3),
     (117, 1, 2),

@@ -52,7 +52,7 @@ const HASH_HEADER: u64 = 208 + SHDR_SIZE;
 /// That of its symbol table, section 2.
 const SYMBOLS_OF_HASH: u64 = HASH_HEADER + SHDR_SIZE;
 
-/// The words of the buckets' count and of the chain words'; behind them stand the buckets, at 72, and the chain words, at 80.
+/// The words of the buckets' count and of the chain words'; after them are the buckets, at 72, and the chain words, at 80.
 const BUCKET_COUNT_AT: u64 = 64;
 
 const CHAIN_COUNT_AT: u64 = 68;

@@ -8,7 +8,7 @@ use elf_table_all::{Note, Notes, rules};
 use std::alloc::Global;
 use tests_files::{Field, set, set_header};
 
-/// A note section of one note, whose 20 bytes stand at 64, and the section headers at 88.
+/// A note section of one note, whose 20 bytes are at 64, and the section headers at 88.
 const NOTE: [Field; 12] = [
     (40, 8, 88),
     (58, 2, 64),

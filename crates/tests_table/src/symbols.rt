@@ -48,7 +48,7 @@ const SYMBOLS: [Field; 29] = [
     (444, 8, 4),
 ];
 
-/// The section headers of the symbol table, section 1, of the index table, section 3, and of the section behind it.
+/// The section headers of the symbol table, section 1, of the index table, section 3, and of the section after it.
 const SYMBOLS_HEADER: u64 = 156 + SHDR_SIZE;
 
 const INDEX_TABLE_HEADER: u64 = SYMBOLS_HEADER + 2 * SHDR_SIZE;
@@ -167,7 +167,7 @@ fn tells_each_relocation_symbol_and_string(rt: HostRuntime) {
     );
 }
 
-/// The name of symbol 2, and the string at 1. What a table tells lives as long as the file's bytes: longer than the image and the table.
+/// The name of symbol 2, and the string at 1. What a table reports lives as long as the file's bytes: longer than the image and the table.
 fn names_told(alloc: Global, file: &[u8]) -> Result<(&[u8], Option<&[u8]>), Fault> {
     let image = parse(alloc, file)?;
     if image.section_count() < 3 {
@@ -207,7 +207,7 @@ const SECTION_2: u64 = SYMBOL_2 + ST_SHNDX_AT;
 
 const NAME_2: u64 = SYMBOL_2 + ST_NAME_AT;
 
-/// The size of the index table, and that of its entries; and the link of the section behind it.
+/// The size of the index table, and that of its entries; and the link of the section after it.
 const WORDS_SIZE_AT: u64 = INDEX_TABLE_HEADER + SH_SIZE_AT;
 
 const WORD_SIZE_AT: u64 = INDEX_TABLE_HEADER + SH_ENTSIZE_AT;
@@ -298,7 +298,7 @@ const ROWS: [Row; 22] = [
         rules::WRONG_SYMBOL_SECTION,
         SECTION_1,
     ),
-    // Its index stands in an index table, and there is none.
+    // Its index is in an index table, and there is none.
     (
         &[
             (INDEX_TABLE_HEADER + SH_TYPE_AT, 4, 1),

@@ -36,12 +36,12 @@ read_is_all bytes given (Some left) short taken (inr long) =
     let parts = length-append given left in
     absurd (omega arith)
 
--- what a status tells of the bytes
+-- what a status says about the bytes
 pub record Tells (status : Status) (b : List ℕ) : Type 0 where
   pub done : code_of status ≡ 0 → IsFault b None
   pub refused : code_of status ≡ 1 → IsBroken b
 
--- any other status tells nothing
+-- any other status says nothing
 neither : (status : Status) (b : List ℕ) (code : ℕ) → (code ≡ 0 → ⊥) → (code ≡ 1 → ⊥) → code_of status ≡ code → Tells status b
 neither status b code some many is = record {
   done = λ zero. absurd (some (sym is ∙ zero));

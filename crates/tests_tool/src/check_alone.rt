@@ -31,7 +31,7 @@ fn other_commands_are_wrong_usage(rt: HostRuntime) {
     }
 }
 
-// Run with the Nth growth refused too, this one sees want of memory in place of the answer, and nothing else changes.
+// Run with the Nth allocation failing too, this one sees out of memory in place of the answer, and nothing else changes.
 #[test]
 fn a_refused_growth_leaves_nothing_out(rt: HostRuntime) {
     let ran = run_on(rt.alloc(), &["elfmap", "check", "a.o"]);

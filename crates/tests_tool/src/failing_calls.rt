@@ -85,7 +85,7 @@ fn a_read_of_no_bytes_is_the_end(rt: HostRuntime) {
     }
 }
 
-/// The writer's call of this number was the last one: what it took before is out, and the answer tells it.
+/// The writer's call of this number was the last one: what it took before is out, and the answer reports it.
 fn assert_stopped(
     rt: &impl Abort,
     answer: Result<Verdict, ToolFault>,

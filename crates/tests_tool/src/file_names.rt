@@ -1,4 +1,4 @@
-//! The word for the file is the name that is opened, as it stands. More names that don't open are in `cases/worked.txt`.
+//! The word for the file is the name that is opened, as it is. More names that don't open are in `cases/worked.txt`.
 use crate::program::HEADER;
 use elf_image_stream::Bytes;
 use elf_tool_program::{MachineFiles, OpenFault, Opener, run};
@@ -6,7 +6,7 @@ use std::alloc::Global;
 use std::io::Read;
 use std::process::Abort;
 
-/// Has a header alone under one name, and answers a fault for every other.
+/// Has a header alone under one name, and returns a fault for every other.
 #[derive(Drop)]
 struct OneName<'a> {
     name: &'a str,
@@ -101,8 +101,7 @@ fn an_opener_that_wants_memory(rt: HostRuntime) {
     }
 }
 
-// No contract tells what the machine's files are: the null device is one, under just this name, and it
-// is no folder.
+// No contract reports what the machine's files are: the null device is one, under just this name, and it is no folder.
 #[test]
 fn the_files_of_the_machine(rt: HostRuntime) {
     let rows = [

@@ -1,5 +1,5 @@
-//! What the program's exit status says of a file whose bytes are known: over an opener that tells
-//! what it holds, and a reader that tells what remains.
+//! What the program's exit status says of a file whose bytes are known: over an opener that reports what it holds, and a reader that
+//! reports what remains.
 ghost use Rattle.std.specs.Prelude.{◌≡◌, ℕ, ◌≤◌, length, None, Some, true};
 ghost use Rattle.elf_image_rules.specs.HeaderRules.{MAX_LEN};
 ghost use Rattle.elf_image_rules.specs.ImageRules.{IsFault};
@@ -13,7 +13,7 @@ use std::io::Read;
 /// How many bytes a read gives at most.
 const PIECE: usize = 7;
 
-/// Gives its bytes a few at a time, and tells what is left of them.
+/// Gives its bytes a few at a time, and reports what is left of them.
 #[derive(Drop)]
 pub struct KnownBytes<'a> {
     bytes: &'a [u8],

@@ -1,5 +1,5 @@
 //! `map` and `link` over readers and writers that fail at one call alone, over files that don't open, and over what they reject: what is
-//! told is exact, and what is out is the text or its beginning.
+//! reported is exact, and what was written is the text or its beginning.
 use elf_image_stream::Bytes;
 use elf_tool_program::{
     Form, OpenFault, Opener, Options, Range, Refusal, RelocRule, ToolFault, Verdict, Width, link,
@@ -10,7 +10,7 @@ use std::io::ErrorKind;
 use std::process::Abort;
 use tests_files::{Failure, OnceFailingReader, PIECE, Sink, callee, caller};
 
-/// The executable of the two files at 0x1000: the header, one program header, and the bytes of `.text` behind them.
+/// The executable of the two files at 0x1000: the header, one program header, and the bytes of `.text` after them.
 const EXECUTABLE: [u8; 127] = [
     0x7f, 0x45, 0x4c, 0x46, 2, 1, 1, 0, 0, 0, 0, 0, 0, 0, 0, 0, // e_ident
     2, 0, 62, 0, 1, 0, 0, 0, // e_type, e_machine, e_version
@@ -117,7 +117,7 @@ fn text_of(command: Command) -> &'static [u8] {
     }
 }
 
-/// The writer fails so at this call: what is out is the beginning of the text, and its length is told.
+/// The writer fails so at this call: what was written is the beginning of the text, and its length is reported.
 fn assert_write_fails(
     rt: &impl Abort,
     alloc: Global,
@@ -172,7 +172,7 @@ fn the_executable_goes_out_without_a_flush(rt: HostRuntime) {
     );
 }
 
-// Where a growth is refused, the answer is want of memory with nothing out.
+// Where an allocation fails, the answer is out of memory with nothing written.
 #[test]
 fn a_refused_growth_leaves_nothing_out(rt: HostRuntime) {
     let (first, second) = (caller(), callee());
@@ -417,7 +417,7 @@ fn assert_ends(rt: &impl Abort, alloc: Global, object: &[u8], row: &Row) {
 }
 
 // The file of rules is opened, read and tested before a file to link is opened; all files are opened, in order, before one is read; and
-// what is refused is told on standard error alone.
+// what is refused is reported on standard error alone.
 #[test]
 fn files_are_opened_in_order(rt: HostRuntime) {
     let object = callee();

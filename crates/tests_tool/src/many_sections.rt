@@ -1,4 +1,4 @@
-//! Objects of so many sections that their count, and then the index of their section name string table too, stand in section header 0.
+//! Objects of so many sections that their count, and then the index of their section name string table too, are in section header 0.
 ghost use Rattle.std.specs.Prelude.{◌<◌};
 
 use crate::said::assert_lines;
@@ -11,7 +11,7 @@ use std::process::Abort;
 use std::test::Fail;
 use tests_files::{OnceFailingWriter, PartialSource, Sink, set, set_header};
 
-/// The offset of the section header table: behind the symbol table's one entry, the empty string table, the name table and four bytes of
+/// The offset of the section header table: after the symbol table's one entry, the empty string table, the name table and four bytes of
 /// padding.
 const TABLE: u64 = 120;
 

@@ -1,4 +1,4 @@
-//! A file of so many segments that their count stands in section header 0.
+//! A file of so many segments that their count is in section header 0.
 use crate::said::assert_lines;
 use elf_field::Order;
 use elf_tool_program::show;

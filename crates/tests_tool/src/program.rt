@@ -174,7 +174,7 @@ fn refuses_other_words(rt: HostRuntime) {
     }
 }
 
-/// The check of a file whose reader fails so behind ten bytes.
+/// The check of a file whose reader fails so after ten bytes.
 fn assert_read_fails(rt: &impl Abort, alloc: Global, kind: ErrorKind) {
     let mut files = OneFile {
         bytes: &HEADER[..10],
@@ -245,7 +245,7 @@ fn words_that_the_machine_does_not_give(rt: HostRuntime) {
     assert_refused(&rt, ErrorKind::Other, 3, "other error\n");
 }
 
-// Where a growth is refused, the answer is want of memory, and nothing is out.
+// Where an allocation fails, the answer is out of memory, and nothing was written.
 #[test]
 fn a_refused_growth_leaves_nothing_out(rt: HostRuntime) {
     let mut files = OneFile {

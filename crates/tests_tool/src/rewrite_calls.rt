@@ -55,7 +55,7 @@ fn a_write_that_fails_is_told_with_what_is_out(rt: HostRuntime) {
     }
 }
 
-// The reader cuts the file as it likes. Where a growth is refused, the answer is want of memory with nothing out.
+// The reader cuts the file as it likes. Where an allocation fails, the answer is out of memory with nothing written.
 #[test]
 fn a_refused_growth_leaves_nothing_out(rt: HostRuntime) {
     let file = empty_object();

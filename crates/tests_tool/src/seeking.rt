@@ -91,7 +91,7 @@ fn a_call_that_fails_once_is_not_tried_again(rt: HostRuntime) {
     }
 }
 
-// Bytes that are gone below the length that was told are a failed read, and no end of the file.
+// Bytes that are gone below the length that was reported are a failed read, and no end of the file.
 #[test]
 fn a_file_that_shrinks_while_it_is_read(rt: HostRuntime) {
     let file = one_section(Order::Little);
@@ -143,7 +143,7 @@ fn a_write_that_fails_is_told_with_what_is_out(rt: HostRuntime) {
     assert_written(&rt, rt.alloc(), 100, Ok(Verdict::Done), line);
 }
 
-// Where a growth is refused, the answer is want of memory, and nothing is out.
+// Where an allocation fails, the answer is out of memory, and nothing was written.
 #[test]
 fn a_refused_growth_leaves_nothing_out(rt: HostRuntime) {
     let file = one_section(Order::Little);

@@ -1,4 +1,4 @@
--- What each stage judges of the length and the header that the source gave, it judges of the file that the source tells.
+-- What each stage judges of the length and the header that the source gave, it judges of the file that the source reports.
 use Rattle.std.proofs.Common.{◌≡◌, ◌∙◌}
 use Rattle.elf_image_rules.specs.Tables.{header}
 use Rattle.elf_image_outline.proofs.ScanRules.{header_broken, header_of_block, ident_broken, length_broken, scans_rule, told_length}

@@ -1,3 +1,4 @@
+-- The bytes that were read are the two ends of the name table in the file; a read that failed is of one of these.
 use Rattle.std.proofs.Common.{◌≡◌, ◌-◌, ◌∙◌, ℕ, inr, min, ap, subst, sym}
 use Rattle.elf_extent.specs.declared.extent.Extent.{Extent}
 use Rattle.elf_image_rules.specs.StringTable.{AreEnds}

@@ -2,7 +2,7 @@ use Rattle.std.proofs.Common.{◌≡◌, ◌*◌, drop, length, take}
 use Rattle.std.specs.List.{flat_map}
 use Rattle.elf_image_stream.proofs.entries.put_entries.Given as goal
 
--- the first entries stand in the front
+-- the first entries are in the front
 abbrev pub invariant-loop-i : goal.invariant-loop-i
 invariant-loop-i g l = record {
   long : length l.bytes ≡ g.E.Entry.Record.SIZE * l.several;

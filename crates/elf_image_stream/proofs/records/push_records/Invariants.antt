@@ -3,7 +3,7 @@ use Rattle.std.specs.List.{AllByRecursion}
 use Rattle.elf_image_stream.specs.Reads.{Extends}
 use Rattle.elf_image_stream.proofs.records.push_records.Given as goal
 
--- so many records stand behind the others
+-- so many records are after the others
 abbrev pub invariant-loop-i : goal.invariant-loop-i
 invariant-loop-i g l = record {
   many : length l.records.items ≡ length l.initial.records.items + l.i;

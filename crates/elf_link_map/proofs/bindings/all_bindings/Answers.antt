@@ -1,4 +1,4 @@
--- The names stand in the order of their first entries, so the position of each there is where its binding stands, and its number too.
+-- The names are in the order of their first entries, so the position of each there is where its binding is, and its number too.
 use Rattle.std.proofs.Common.{map, sym, subst}
 use Rattle.elf_link_names.specs.Slots.{name_position}
 use Rattle.elf_link_outputs.specs.PlacedView.{common_value}

@@ -1,4 +1,4 @@
--- The cursor is the end of the last part passed; where that part starts or ends at 2^64 or later, so does each one behind it.
+-- The cursor is the end of the last part passed; where that part starts or ends at 2^64 or later, so does each one after it.
 use Rattle.std.proofs.Common.{inl, inr, ◌≡◌, ℕ, ◌+◌, ◌<◌, ◌≤◌, ◌^◌, length, get_or, sym, subst, arith}
 use Rattle.std.proofs.lemmas.Bool.{cases_lt}
 use Rattle.std.proofs.lemmas.List.{get_or_default}

@@ -1,4 +1,4 @@
--- Behind the last file all fields are found: none stands later, and none lacks a rule.
+-- After the last file all fields are found: none comes later, and none lacks a rule.
 use Rattle.std.proofs.Common.{◌∙◌, List, ◌≡◌, ℕ, length, refl, subst, arith, ap}
 use Rattle.elf_object_type.specs.Object.{ObjectValue}
 use Rattle.elf_link_relocate.specs.Linking.{LinkingValue}

@@ -1,4 +1,4 @@
--- The first rule of the entry's kind decides: without one rule 12 stands here first, one without a field adds nothing, and any other
+-- The first rule of the entry's kind decides: without one rule 12 is broken here first, one without a field adds nothing, and any other
 -- makes a field with its entry.
 use Rattle.std.proofs.Common.{◌∙◌, refl, rules, ◌≡◌, ap}
 use Rattle.elf_object_type.specs.declared.relocation.Relocation.{Relocation}

@@ -1,4 +1,4 @@
--- In the map of the objects a section has an address exactly where it is live, so its cell tells.
+-- In the map of the objects a section has an address exactly where it is live, so its cell says it.
 use Rattle.std.proofs.Common.{◌≡◌, ◌↔◌, ℕ, ◌<◌, List, length, ap, refl, sym, ◌∙◌, subst}
 use Rattle.std.specs.Bool.{IsTrue}
 use Rattle.std.specs.Option.{is_some}

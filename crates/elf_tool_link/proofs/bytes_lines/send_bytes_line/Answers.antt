@@ -1,5 +1,5 @@
--- The line is its word, its fields and its end, sent piece by piece: each piece goes behind those before it, and where one fails, what
--- is out is a beginning of the line.
+-- The line is its word, its fields and its end, sent piece by piece: each piece goes after those before it, and where one fails, what was
+-- written is a beginning of the line.
 use Rattle.std.proofs.Common.{[], ◌∷◌, ◌++◌, codes}
 use Rattle.std.specs.Fmt.{decimal}
 use Rattle.std.proofs.lemmas.Result.{err_from_is_err_and}

@@ -6,7 +6,7 @@ use Rattle.elf_tool_show.specs.ShowLines.{part_line}
 use Rattle.elf_tool_text.proofs.Public.{line_refused, line_buffered, line_cut}
 use Rattle.elf_tool_show.proofs.engine.show_parts.Goals as goal
 
--- stands for a part that isn't there
+-- represents a part that isn't there
 abbrev no_part : Part
 no_part = record { owner = Header; start = 0; len = 0 }
 

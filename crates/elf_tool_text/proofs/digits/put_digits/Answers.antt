@@ -1,4 +1,4 @@
--- Each digit is put before those that are there: the number's are then as many as `put` tells, and a place less is left for the rest.
+-- Each digit is put before those that are there: the number's are then as many as `put` reports, and a place less is left for the rest.
 use Rattle.std.proofs.Common.{◌≡◌, ◌∙◌, ◌<◌, ◌+◌, ◌-◌, ◌/◌, ◌^◌, ◌∷◌, ℕ, ap, arith, refl, false, drop, length, set, subst, sym}
 use Rattle.std.specs.Fmt.{digits, digits_onto}
 use Rattle.std.proofs.lemmas.List.{length-append, length-drop, length-set}

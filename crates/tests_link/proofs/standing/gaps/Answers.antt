@@ -1,3 +1,4 @@
+-- Outputs ascend without an overlap, so each difference of two neighbours is at least 0 and fits.
 use Rattle.std.proofs.Common.{◌<◌, ◌-◌, length, arith}
 use Rattle.tests_link.proofs.Outputs.{address_is, length_is, many_outputs}
 use Rattle.tests_link.proofs.standing.gaps.Goals as goal

@@ -1,3 +1,4 @@
+-- Invariant: the contents so far ascend and lie in the hull. An early end is a content that begins before the one before it ends.
 use Rattle.std.proofs.Common.{rules, ◌<◌, length, arith}
 use Rattle.std.proofs.lemmas.Option.{slice_get_within}
 use Rattle.elf_image_rules.specs.FileExtents.{file_extents}

@@ -1,3 +1,4 @@
+-- A row is small, and has all of a name itself; or it is the number of a large one, which is the row's own.
 use Rattle.std.proofs.Common.{◌≡◌, true, false, List, length, rules, sym, ◌∙◌, subst, arith, vec_len}
 use Rattle.std.specs.Prelude.{slice_get}
 use Rattle.elf_link_names.specs.declared.known_table.Large.{Large}

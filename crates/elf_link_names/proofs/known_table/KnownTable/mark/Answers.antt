@@ -1,3 +1,4 @@
+-- A mark changes one row: of a small name the row itself, of a large one that in the list of large ones, and no other name.
 use Rattle.std.proofs.Common.{◌≡◌, ◌<◌, true, false, List, length, refl, rules, set, sym, ◌∙◌, ap, subst, arith, vec_len}
 use Rattle.std.specs.Prelude.{slice_get}
 use Rattle.std.proofs.lemmas.List.{get_or_default}

@@ -1,3 +1,4 @@
+-- A name is set in its own row: a large one in the list of large ones, a small one in its row, or as one more large one.
 use Rattle.std.proofs.Common.{◌≡◌, true, List, length, refl, rules, sym, ◌∙◌, subst, arith, vec_len}
 use Rattle.std.specs.Prelude.{slice_get}
 use Rattle.elf_link_names.specs.declared.known_table.Large.{Large}

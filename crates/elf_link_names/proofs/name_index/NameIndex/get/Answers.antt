@@ -1,3 +1,4 @@
+-- By what the slots say: the position is there; or a free slot shows that the name has none; or all are taken, and the map has it.
 use Rattle.std.proofs.Common.{ℕ, ap, rules, sym}
 use Rattle.std.specs.Prelude.{Option}
 use Rattle.elf_link_names.specs.Ordered.{position_by}

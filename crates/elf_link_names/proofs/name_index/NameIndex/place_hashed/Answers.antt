@@ -1,3 +1,4 @@
+-- A name without an entry takes the free slot that was found, or goes to the map where all its slots are taken; the others keep theirs.
 use Rattle.std.proofs.Common.{◌≡◌, ◌+◌, ap, length, rules, sym}
 use Rattle.std.specs.Prelude.{Option, ℕ}
 use Rattle.elf_link_names.specs.declared.slots.Entry.{Entry}

@@ -1,4 +1,4 @@
--- The number of a name is the position of its first entry among all, and what is known stands in that order.
+-- The number of a name is the position of its first entry among all, and what is known is in that order.
 use Rattle.std.proofs.Common.{ℕ, ◌<◌, List, length, map, sym, subst, arith}
 use Rattle.std.proofs.lemmas.List.{length-map}
 use Rattle.elf_link_files.specs.Files.{symbol_in}
