@@ -6,14 +6,14 @@ import argparse, collections, functools, re, sys
 from collections.abc import Callable
 from html import escape
 
-from .sources import DOORS, Definition, Item, Uses, definition, definitions, items_of, module_file, source
+from . import guarantees
+from .sources import DOORS, WORD, Definition, Item, Uses, definition, items_of, module_file, named_in, source
 from .suite import Tally, Test
 from .tree import matched, read_text
 
 # Where a word leads to, and its title.
 Place = tuple[str, str] | None
 MARK = re.compile(r"`([^`]+)`|\[(`?)([^\]`]+)`?\](?:\(([^)]*)\))?")
-WORD = re.compile(r"(?<![\w.])[^\W\d]\w*")
 
 
 class Page:
@@ -93,12 +93,6 @@ def anchor_of(found: Definition) -> str:
 def name_of(text: str) -> str:
     """The name of a field or a variant."""
     return matched(r"\w+", text)[0]
-
-
-def named_in(path: str, word: str) -> Definition | None:
-    """The definition that a word in a file of specs/ stands for."""
-    own, uses = definitions(path)
-    return own.get(word) or (definition(*uses[word]) if word in uses else None)
 
 
 def place_in(found: Definition, word: str) -> Place:
@@ -206,6 +200,11 @@ class Door:
         found = definition(place, name) if place else None
         return (self.page.want(found), said_of(found) or found.text) if found else None
 
+    def guarantees(self, item: Item) -> str:
+        """What docs/GUARANTEES.md says of a function."""
+        said = "".join(f"<li>{self.marked(it)}</li>" for it in guarantees.by_call().get(guarantees.key_of(item), []))
+        return f"<details><summary>guarantees</summary><ul>{said}</ul></details>" if said else ""
+
     def contract(self, item: Item) -> str:
         """The clauses, or of a type what its value and its invariant are."""
         lines = [*item.ghosts, *item.clauses]
@@ -237,6 +236,7 @@ class Door:
         return f"""<div class="member" data-names="{owner.name} {item.name}"><h4 id="{anchor}"><a href="#{anchor}">{item.name}</a></h4>
 {self.signature(item)}
 {self.told(item.docs, owner.name)}
+{self.guarantees(item)}
 {self.contract(item)}</div>"""
 
     def constants(self, item: Item) -> str:
@@ -270,6 +270,7 @@ class Door:
 {self.signature(item)}
 {self.told(item.docs, item.name)}
 {self.fields(item)}
+{self.guarantees(item)}
 {self.contract(item)}
 {self.traits(item)}
 <p class="place">{item.source}</p>

@@ -16,6 +16,7 @@ HEAD = re.compile(r"pub (fn|struct|enum|trait|const|mod|use|type) (\w+)")
 CLAUSE = re.compile(r"(requires|ensures)\b")
 # What holds no bracket that counts: strings, characters, comments.
 LITERAL = re.compile(r"""b?"(?:\\.|[^"\\])*"|b?'(?:\\.[^']*|[^'\\])'|//.*""")
+WORD = re.compile(r"(?<![\w.])[^\W\d]\w*")
 IMPORT = re.compile(r"use Rattle\.([\w.]+)\.\{([^}]*)\}")
 DEFINITION = re.compile(r"(?:pub )?(?:abbrev|unfoldable|record|data) (?:pub )?([^\s(:]+)|(?:pub )?([^\s(:=]+) :")
 
@@ -311,7 +312,18 @@ def add_definition(found: dict[str, Definition], path: str, comment: list[str], 
 def definition(place: str, name: str) -> Definition | None:
     """The definition that a name of a path of the logic stands for; None where it is none of the repository's specs/."""
     crate, _, rest = place.partition(".specs.")
-    found, uses = definitions(f"crates/{crate}/specs/{rest.replace('.', '/')}.antt")
+    path, front = f"crates/{crate}/specs/{rest.replace('.', '/')}.antt", f"crates/{crate}/specs/Lib.antt"
+    if not os.path.isfile(f"{TOP}/{path}") and os.path.isfile(f"{TOP}/{front}"):
+        # A file of specs/ that the crate shows of another one.
+        shown = re.search(rf"^pub use Rattle\.(\S+\.specs\.{re.escape(rest)})$", read_text(front), re.M)
+        return definition(shown[1], name) if shown else None
+    found, uses = definitions(path)
     if name in found:
         return found[name]
     return definition(*uses[name]) if name in uses else None
+
+
+def named_in(path: str, word: str) -> Definition | None:
+    """The definition that a word in a file of specs/ represents."""
+    own, uses = definitions(path)
+    return own.get(word) or (definition(*uses[word]) if word in uses else None)

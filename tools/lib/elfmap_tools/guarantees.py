@@ -1,0 +1,176 @@
+"""`tools/test guarantees`: each name of docs/GUARANTEES.md exists, and each public call is in a row of it."""
+
+import functools, os, re
+from argparse import Namespace
+from collections.abc import Iterator
+from dataclasses import dataclass
+
+from .sources import DOORS, WORD, Definition, Item, definition, imports, items_of, named_in, signature_and_clauses, sources_of
+from .suite import Tally, Test
+from .tree import TOP, libraries, read_text
+
+PAGE = "docs/GUARANTEES.md"
+SPAN = re.compile(r"`([^`]+)`")
+# Tests of `tools/test`, each a line `Test("NAME", ..` of a module of this package.
+TESTS_OF_TOOLS = re.compile(r'\bTest\("([a-z-]+)"')
+
+
+@dataclass
+class Row:
+    """A row of the page: what is guaranteed, and the names of its other columns."""
+
+    said: str
+    calls: list[str]
+    contract: list[str]
+    others: list[str]
+    is_kept: bool
+
+
+def rows() -> Iterator[Row]:
+    for line in read_text(PAGE).splitlines():
+        parts = [it.strip() for it in line.split("|")][1:-1]
+        if len(parts) == 4 and parts[0] != "guarantee" and not parts[0].startswith("--"):
+            said, calls, contract, others = parts
+            names = [it for it in SPAN.findall(calls) if "::" in it]
+            yield Row(said, names, SPAN.findall(contract), SPAN.findall(others), bool(contract or others))
+
+
+# ---- the calls
+
+# A function, whichever crates show it: its source and its signature.
+Key = tuple[str, str]
+
+
+def key_of(item: Item) -> Key:
+    return item.source, "\n".join(item.text)
+
+
+@functools.cache
+def items_in(crate: str) -> dict[str, Item]:
+    """The items of a crate by their paths: those that a public crate shows, or all of another one; and their members."""
+    found: dict[str, Item] = {}
+    items = items_of(crate) if crate.removeprefix("elf_") in DOORS else functions_of(crate)
+    for item in items:
+        found[item.name] = item
+        found.update({f"{item.name}::{it.name}": it for it in item.members})
+    return found
+
+
+def functions_of(crate: str) -> Iterator[Item]:
+    """The functions of a crate, public or not, those of its types aside."""
+    for path in sources_of(crate):
+        text = read_text(path)
+        for found in re.finditer(r'^(?:pub )?(?:extern "C" )?fn (\w+)', text, re.M):
+            lines = text[found.start() :].splitlines()
+            yield Item("fn", found[1], path, [], *signature_and_clauses(lines, imports(text)))
+
+
+def call(path: str) -> Item | None:
+    crate, _, name = path.partition("::")
+    return items_in(crate).get(name) if crate in libraries() else None
+
+
+def functions(path: str) -> list[Item]:
+    """The functions of a path: the call itself, or those of a type, a trait or a module."""
+    item = call(path)
+    if item is None:
+        return []
+    return [item] if item.kind == "fn" else [it for it in item.members if it.kind == "fn"]
+
+
+def public_calls() -> Iterator[tuple[str, Item]]:
+    """Every function that a public crate shows, and every one that the library for C exports."""
+    for crate in [*(f"elf_{it}" for it in DOORS), "elf_c", "elf_c_engines"]:
+        for name, item in items_in(crate).items():
+            if item.kind == "fn" and (name.startswith("elfmap_") or crate.removeprefix("elf_") in DOORS):
+                yield f"{crate}::{name}", item
+
+
+# ---- the contracts
+
+
+def clause_names(item: Item) -> list[str]:
+    """The names of a function's promises."""
+    return [name for it in item.clauses for name in re.findall(r"^ensures (\w+) \{", it)]
+
+
+def definitions_of(item: Item) -> Iterator[Definition]:
+    """The definitions that the contract of an item names, and those that these name."""
+    seen: set[tuple[str, str]] = set()
+    text = "\n".join([*item.clauses, *item.ghosts])
+    waiting = [definition(*item.uses[word]) for word in dict.fromkeys(WORD.findall(text)) if word in item.uses]
+    while waiting:
+        found = waiting.pop()
+        if found and (found.path, found.name) not in seen:
+            seen.add((found.path, found.name))
+            yield found
+            waiting += [named_in(found.path, word) for word in dict.fromkeys(WORD.findall(found.text))]
+
+
+@functools.cache
+def words_of(path: str) -> frozenset[str]:
+    """The clauses and the definitions that the contract of a call, or of all calls of a type, names."""
+    item = call(path)
+    items = [*functions(path), *([item] if item else [])]
+    return frozenset(name for it in items for name in [*clause_names(it), *(own.name for own in definitions_of(it))])
+
+
+# ---- laws and tests
+
+
+@functools.cache
+def tests_of_tools() -> set[str]:
+    folder = f"{TOP}/tools/lib/elfmap_tools"
+    return {name for it in os.listdir(folder) if it.endswith(".py") for name in TESTS_OF_TOOLS.findall(read_text(f"{folder}/{it}"))}
+
+
+def is_law_or_test(name: str) -> bool:
+    if name.startswith("tools/test "):
+        return name.removeprefix("tools/test ") in tests_of_tools()
+    crate, _, path = name.partition("::")
+    if crate.startswith("tests_"):
+        return crate in libraries() and os.path.isfile(f"{TOP}/crates/{crate}/src/{path}.rt")
+    return crate in libraries() and any(it.name == path for it in functions_of(crate)) or len(functions(name)) == 1
+
+
+def wrong_in(row: Row) -> Iterator[str]:
+    """What is wrong with a row."""
+    yield from (f"there is no call `{it}`" for it in row.calls if call(it) is None)
+    words = frozenset[str]().union(*map(words_of, row.calls))
+    yield from (f"no contract of {', '.join(row.calls)} has `{it}`" for it in row.contract if it not in words)
+    yield from (f"there is no law or test `{it}`" for it in row.others if not is_law_or_test(it))
+    if not row.is_kept:
+        yield "nothing keeps it"
+
+
+def wrong_bodies() -> Iterator[tuple[str, bool]]:
+    """Each wrong body of the page, and whether it is where the page says."""
+    for place in re.findall(r"^\| .* \| `([^`]*(?:\.edit|\.txt: \w+))` \|$", read_text(PAGE), re.M):
+        path, _, name = place.partition(": ")
+        there = os.path.isfile(f"{TOP}/crates/{path}")
+        yield place, there and (not name or f"\n[{name}]\n" in "\n" + read_text(f"crates/{path}"))
+
+
+@functools.cache
+def by_call() -> dict[Key, list[str]]:
+    """The guarantees of each function."""
+    found: dict[Key, list[str]] = {}
+    for row in rows():
+        for item in (it for path in row.calls for it in functions(path)):
+            found.setdefault(key_of(item), []).append(row.said)
+    return found
+
+
+def guarantees(tally: Tally, options: Namespace) -> None:
+    named = set[Key]()
+    for row in rows():
+        wrong = list(wrong_in(row))
+        tally.check(not wrong, f"{row.said}: {'; '.join(wrong)}")
+        named |= {key_of(it) for path in [*row.calls, *row.others] for it in functions(path)}
+    for path, item in public_calls():
+        tally.check(key_of(item) in named, f"{path} is in no row")
+    for place, holds in wrong_bodies():
+        tally.check(holds, f"there is no wrong body {place}")
+
+
+TESTS = [Test("guarantees", "each name of docs/GUARANTEES.md exists, and each public call is in a row", guarantees)]
