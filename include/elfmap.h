@@ -379,6 +379,13 @@ struct elfmap_options {
 uint32_t elfmap_show(const uint8_t *bytes, size_t len, uint8_t *room, size_t size, struct elfmap_outcome *outcome);
 
 /*
+ * The lines `refused I RULE AT` of `elfmap show`: of each table that breaks a rule its section, the first rule broken, and the lowest
+ * offset. A file whose tables break none has no line. It is ELFMAP_DONE; or, with nothing said, ELFMAP_REFUSED by a rule of images. The
+ * memory that it takes does not grow with the entries of the tables, but for one section group or hash table at a time.
+ */
+uint32_t elfmap_refused_tables(const uint8_t *bytes, size_t len, uint8_t *room, size_t size, struct elfmap_outcome *outcome);
+
+/*
  * The object that a relocatable file denotes, as a file in canonical layout. It is ELFMAP_DONE; or, with nothing said, ELFMAP_REFUSED by a
  * rule of images or, from 40 on, of objects, or ELFMAP_TOO_LONG.
  */

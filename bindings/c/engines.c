@@ -75,7 +75,7 @@ void elfmap_dealloc(void *start) {
 
 /* ---- A call, and what it answers. */
 
-enum engine { SHOW, REWRITE, MAP, LINK };
+enum engine { SHOW, REWRITE, REFUSED_TABLES, MAP, LINK };
 
 struct call {
     enum engine engine;
@@ -102,6 +102,8 @@ static uint32_t called(const struct call *it, uint8_t *room, size_t size, struct
         return elfmap_show(it->bytes, it->len, room, size, outcome);
     case REWRITE:
         return elfmap_rewrite(it->bytes, it->len, room, size, outcome);
+    case REFUSED_TABLES:
+        return elfmap_refused_tables(it->bytes, it->len, room, size, outcome);
     case MAP:
         return elfmap_map(it->bytes, it->len, it->files, it->count, &it->options, it->rules, it->rules_len, room, size, outcome);
     default:
@@ -315,6 +317,15 @@ static void check_show(void) {
     check_answer(&call, ELFMAP_REFUSED, numbers_of(0, 3, 0, 3), "refused 3 3\n", "a wrong magic number is refused");
 }
 
+static void check_refused_tables(void) {
+    uint8_t bytes[OBJECT_SIZE];
+    make_object(bytes);
+    struct call call = a_call(REFUSED_TABLES, bytes, OBJECT_SIZE);
+    check_answer(&call, ELFMAP_DONE, no_numbers, "", "no table of an object is refused");
+    call.len = 63;
+    check_answer(&call, ELFMAP_REFUSED, numbers_of(0, 2, 0, 63), "", "63 bytes are refused, without a line");
+}
+
 static void check_rewrite(void) {
     uint8_t bytes[OBJECT_SIZE];
     make_object(bytes);
@@ -450,6 +461,8 @@ static void check_too_many(void) {
     check_answer(&call, ELFMAP_REFUSED, numbers, "refused 1 1073741824\n", "too long a file is refused by show");
     call.engine = REWRITE;
     check_answer(&call, ELFMAP_REFUSED, numbers, "", "by rewrite");
+    call.engine = REFUSED_TABLES;
+    check_answer(&call, ELFMAP_REFUSED, numbers, "", "by the look at its tables");
     call.engine = MAP;
     check_answer(&call, ELFMAP_REFUSED, numbers, "file 0 refused 1 1073741824\n", "by map");
     call.engine = LINK;
@@ -479,7 +492,7 @@ static uint64_t number_of(const char *word) {
 }
 
 static int tell(int count, char **words) {
-    static const char *const engines[] = {"show", "rewrite", "map", "link"};
+    static const char *const engines[] = {"show", "rewrite", "refused-tables", "map", "link"};
     uint8_t *bytes = NULL, *rules = malloc(1);
     struct elfmap_extent *files = malloc((size_t) count * sizeof *files);
     if (!files || !rules)
@@ -523,6 +536,8 @@ int main(int count, char **words) {
     if (count > 2)
         return tell(count, words);
     check_show();
+    check_refused_tables();
+    check_refused_tables();
     check_rewrite();
     check_map();
     check_extents();

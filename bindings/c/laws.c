@@ -68,6 +68,30 @@ static void refused(const uint8_t *bytes, size_t len, struct elfmap_fault fault)
     holds(outcome.length == (uint64_t) size && memcmp(text, line, (size_t) size) == 0, "show says another line");
     status = elfmap_rewrite(bytes, len, text, ROOM, &outcome);
     holds(status == ELFMAP_REFUSED && outcome.rule == fault.rule && outcome.at == fault.at, "rewrite refuses otherwise");
+    status = elfmap_refused_tables(bytes, len, text, ROOM, &outcome);
+    holds(status == ELFMAP_REFUSED && outcome.rule == fault.rule && outcome.at == fault.at && outcome.length == 0,
+          "the look at the tables refuses otherwise");
+}
+
+/* What is said of the tables alone is what `show` says of those that are refused: its lines that begin so. */
+static void refused_tables(const uint8_t *bytes, size_t len) {
+    struct elfmap_outcome outcome, shown;
+    uint64_t at = 0;
+    if (!holds(elfmap_refused_tables(bytes, len, again, ROOM, &outcome) == ELFMAP_DONE, "the tables are refused with the file"))
+        return;
+    if (elfmap_show(bytes, len, text, ROOM, &shown) != ELFMAP_DONE)
+        return;
+    for (uint64_t k = 0, end; k < shown.length; k = end) {
+        for (end = k; text[end] != '\n'; end++)
+            ;
+        end++;
+        if (end - k < 8 || memcmp(text + k, "refused ", 8) != 0)
+            continue;
+        if (!holds(outcome.length - at >= end - k && memcmp(again + at, text + k, end - k) == 0, "a refused table is left out"))
+            return;
+        at += end - k;
+    }
+    holds(at == outcome.length, "a table is refused that show shows");
 }
 
 static void account(const struct elfmap_file *file, const uint8_t *bytes, size_t len) {
@@ -191,6 +215,7 @@ static bool judge(const uint8_t *bytes, size_t len) {
     } else if (holds(elfmap_file(bytes, len, &file), "there are no numbers")) {
         account(&file, bytes, len);
         tables(&file, bytes, len);
+        refused_tables(bytes, len);
         rewritten(bytes, len);
         linked(bytes, len);
     }

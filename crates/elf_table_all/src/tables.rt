@@ -65,6 +65,13 @@ impl<'i, 'a> Tables<'i, 'a> {
         })
     }
 
+    /// How many section headers the image has.
+    pub fn section_count(&self) -> usize
+        ensures { result ≡ length self.now.image.sections }
+    {
+        self.image.section_count()
+    }
+
     /// The verdict on the table that section `i` holds, where `i` is below the image's count of section headers: the first of its
     /// rules that is broken, at its lowest offset. `Ok` where none is, and where the section holds no table.
     pub fn verdict(&self, i: usize) -> Result<(), Broken<u64>>

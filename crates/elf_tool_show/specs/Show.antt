@@ -1,5 +1,5 @@
 -- What `show` says of a file.
-use Rattle.std.specs.Prelude.{◌≡◌, ◌⊎◌, ℕ, List, ◌++◌, length, Option, Some, Result, Err}
+use Rattle.std.specs.Prelude.{◌≡◌, ◌⊎◌, ℕ, List, [], ◌++◌, length, Option, Some, Result, Err}
 use Rattle.std.specs.Io.KnownBytes.{Keeps}
 use Rattle.std.specs.List.{flat_map, range_with_len}
 use Rattle.elf_image_rules.specs.ImageRules.{IsFault}
@@ -10,7 +10,7 @@ use Rattle.elf_table_all.specs.TableVerdicts.{AreVerdicts, TablesValue}
 use Rattle.elf_tool_text.specs.Engine.{IsFileCall, WritesReport}
 use Rattle.elf_tool_text.specs.Line.{refused_line}
 use Rattle.elf_tool_show.specs.ShowLines.{file_line, part_line, section_line, segment_line}
-use Rattle.elf_tool_show.specs.TableLines.{all_table_lines}
+use Rattle.elf_tool_show.specs.TableLines.{all_table_lines, refused_table_lines}
 use Rattle.elf_tool_text.specs.declared.fault.Refusal.TheVariants.{File, Link, TooLong}
 use Rattle.elf_tool_text.specs.declared.fault.ToolFault.{ToolFault}
 use Rattle.elf_tool_text.specs.declared.fault.ToolFault.TheVariants.{OutOfMemory}
@@ -52,6 +52,14 @@ ShowSays b Done text = (tables : TablesValue) × AreVerdictsOf b tables × (text
 ShowSays b (Refused (File file rule at)) text = IsFault b (Some (rule, at)) × (file ≡ 0) × (text ≡ refused_line rule at)
 ShowSays b (Refused (Link rule file index entry)) text = ⊥
 ShowSays b (Refused TooLong) text = ⊥
+
+-- the file is an image, and the text is of those of its tables that are refused; or it says nothing, and the verdict carries the first
+-- broken rule and its lowest offset
+abbrev pub RefusedTablesSay : List ℕ → Verdict → List ℕ → Type 0
+RefusedTablesSay b Done text = (tables : TablesValue) × AreVerdictsOf b tables × (text ≡ refused_table_lines tables)
+RefusedTablesSay b (Refused (File file rule at)) text = IsFault b (Some (rule, at)) × (file ≡ 0) × (text ≡ [])
+RefusedTablesSay b (Refused (Link rule file index entry)) text = ⊥
+RefusedTablesSay b (Refused TooLong) text = ⊥
 
 -- a call of `show`
 abbrev pub IsShown : Option (List ℕ) → Option (List ℕ) → Option (List ℕ) → Option (List ℕ) → Result Verdict ToolFault → Type 0

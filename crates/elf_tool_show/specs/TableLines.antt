@@ -123,3 +123,15 @@ table_text tables i = table_lines (sections_of tables.image) i (get_or tables.ve
 -- the lines of all tables, by the indexes of their sections
 unfoldable pub all_table_lines : TablesValue → List ℕ
 all_table_lines tables = flat_map (table_text tables) (range_with_len 0 (length tables.image.sections))
+
+-- the line of a table that is refused, and nothing for any other section
+abbrev pub refused_text_by : ℕ → Option (ℕ × ℕ) → List ℕ
+refused_text_by i None = []
+refused_text_by i (Some fault) = table_refused_line i fault.0 fault.1
+
+abbrev pub refused_table_text : TablesValue → ℕ → List ℕ
+refused_table_text tables i = refused_text_by i (get_or tables.verdicts i None)
+
+-- the lines of the tables that are refused, by the indexes of their sections
+abbrev pub refused_table_lines : TablesValue → List ℕ
+refused_table_lines tables = flat_map (refused_table_text tables) (range_with_len 0 (length tables.image.sections))

@@ -1,5 +1,5 @@
 //! The engine [`show`] of `elfmap`, over any reader and any writer: it reads a whole file, judges it, and writes what it holds, in
-//! lines; and [`show_bytes`], which has the file's bytes.
+//! lines; and [`show_bytes`], which has the file's bytes. [`push_refused_tables`] has the lines of the tables that break a rule alone.
 //!
 //! ```
 //! // A header alone is a file of 64 bytes without sections and segments.
@@ -10,9 +10,11 @@
 #![tactic(auto)]
 
 mod engine;
+mod refused_tables;
 mod show_lines;
 mod show_tables;
 mod table_lines;
 
 pub use elf_tool_text::{Refusal, ToolFault, Verdict};
 pub use engine::{show, show_bytes};
+pub use refused_tables::push_refused_tables;
