@@ -537,7 +537,6 @@ int main(int count, char **words) {
         return tell(count, words);
     check_show();
     check_refused_tables();
-    check_refused_tables();
     check_rewrite();
     check_map();
     check_extents();
