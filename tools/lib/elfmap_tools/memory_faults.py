@@ -10,8 +10,7 @@ fault, or `AllocError` is in an expression. It may be made
 and nowhere else: so it is answered only where a growth was refused, as far as the text of a function shows. A growth may not ask for a
 number of bytes that is in the text and above a MiB. And every place that makes a failed write: a `WriteFault`, a `Write` of another fault,
 an `Io` that has `written`. It may be made in a `From` and in a method `after`, which have a failed write; where a call of a writer failed or
-took nothing, the arm `_` on `write`; where a call that writes failed, the arm `Err(..)` on it; and where the count of what is written would
-pass 2^64, in the three functions that count.
+took nothing, the arm `_` on `write`; and where a call that writes failed, the arm `Err(..)` on it.
 
 Then bodies are planted that give up where no memory was refused, in each library that takes memory one, in the ways in which a thoughtless
 limit is written; and in each library that writes one that makes a failed write where no call of a writer failed. Each has to be refused."""
@@ -30,10 +29,10 @@ GROWTHS = set("push push_str insert extend_from_slice collect to_vec try_clone f
 SIZED = set("with_capacity reserve reserve_exact resize vec!".split())
 GROWTHS |= SIZED
 # Engines over bytes. Those for C write into a vector, which fails for nothing else, and have no reader.
-INTO_A_VECTOR, OF_CRATE = {"show_bytes", "rewrite_bytes", "map_files", "link_files"}, "crates/elf_c_engines/"
-# Faults that tell how much was written, and the functions that count it.
+INTO_A_VECTOR = {"show_bytes", "push_refused_tables", "rewrite_bytes", "map_files", "link_files"}
+OF_CRATE = "crates/elf_c_engines/"
+# Faults that have the count of what was written.
 WRITTEN = {"WriteFault", "CopyFault", "ObjectWriteFault", "ExecFault", "ToolFault"}
-COUNTING = {"send", "send_zeros", "flush"}
 MOST_IN_TEXT = 1 << 20
 # Comments, texts, characters, lifetimes, names (a macro's has its mark), and signs.
 TEXTS = r"""//[^\n]*|/\*.*?\*/|b?"(?:\\.|[^"\\])*"|b?'(?:\\.[^']*|[^'\\])'|'\w+|\w+!?(?=[(\[{])|\w+|"""
@@ -224,8 +223,6 @@ class Reading:
         call, is_else = last_call(expression), tokens[end : end + 1] == ["else"]
         if is_else and pattern[:1] == ["Ok"] and call in self.memory_calls:
             self.read(tokens[end + 1], form or "refused growth", failed)
-        elif is_else and self.function.name in COUNTING and pattern[:1] == ["Some"] and call == "checked_add":
-            self.read(tokens[end + 1], form, "count of what is written")
         elif is_tested and end < len(tokens) and (self.is_out(pattern) or pattern[:1] == ["Err"] and call in self.memory_calls):
             self.read(tokens[end], form or "out of memory", failed)
         elif is_tested and end < len(tokens) and self.failed_in_arm(expression, pattern):
@@ -360,7 +357,7 @@ def memory_faults(tally: Tally, options: Namespace) -> None:
         crate, fault = path.split("/")[1], fault_of(function, enums)
         if fault and not function.is_from and crate not in places:
             places[crate] = (path, function, *fault)
-        if function.writes and not function.is_from and function.name not in COUNTING:
+        if function.writes and not function.is_from:
             writers.setdefault(crate, (path, function, function.fault, FAILED[function.fault]))
     for ways, plants in ((WAYS, places), (WRITE_WAYS, writers)):
         names = list(ways)
