@@ -1,6 +1,7 @@
 -- Of a text that goes out in pieces.
-use Rattle.std.proofs.Common.{◌≡◌, ◌∙◌, ℕ, ◌+◌, ◌^◌, ◌<◌, ◌≤◌, List, [], ◌∷◌, ◌++◌, Option, Result, Ok, Err, OnOk, length, take, drop, get_or, sym, ap, subst, arith, append_assoc, length-append, take_all}
+use Rattle.std.proofs.Common.{◌≡◌, ◌∙◌, ℕ, ◌+◌, ◌<◌, ◌≤◌, List, [], ◌∷◌, ◌++◌, Option, Result, Ok, Err, OnOk, length, take, drop, get_or, sym, ap, subst, arith, append_assoc, length-append, take_all}
 use Rattle.std.specs.List.{flat_map}
+use Rattle.std.specs.Io.Iter.{u64_saturate}
 use Rattle.std.specs.Io.KnownBytes.{Appends}
 use Rattle.std.proofs.KnownBytes.{Appends-nil, Appends-trans}
 use Rattle.std.proofs.Math.Seq.{take-append-add}
@@ -14,8 +15,8 @@ use Rattle.elf_tool_text.specs.declared.fault.ToolFault.TheVariants.{Read, Write
 
 -- ---- one step after the other
 
-pub buffers_none : (a : Option (List ℕ)) (o : Output) → o.written < 2 ^ 64 → Buffers a a o o []
-buffers_none a o fits = record { out = []; went = Appends-nil a; rest = sym (append-nil o.pending.items); count = omega arith }
+pub buffers_none : (a : Option (List ℕ)) (o : Output) → Buffers a a o o []
+buffers_none a o = record { out = []; went = Appends-nil a; rest = sym (append-nil o.pending.items); count = omega arith }
 
 -- a line is pushed after what was sent
 pub buffers_line : (a b : Option (List ℕ)) (o p q : Output) (text line : List ℕ) → Buffers a b o p text
@@ -25,7 +26,7 @@ buffers_line a b o p q text line sent pushed same = record {
   went = sent.went;
   rest = ap (λ (s : List ℕ). sent.out ++ s) pushed ∙ sym (append_assoc sent.out p.pending.items line) ∙ ap (λ (s : List ℕ). s ++ line) sent.rest
       ∙ append_assoc o.pending.items text line;
-  count = same ∙ sent.count;
+  count = ap u64_saturate same ∙ sent.count;
 }
 
 -- what was pending and what is sent later is after what was sent first

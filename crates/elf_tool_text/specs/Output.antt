@@ -11,7 +11,7 @@ pub record Buffers (old new : Option (List ℕ)) (before after : Output) (text :
   pub out : List ℕ
   pub went : Appends old new out
   pub rest : out ++ after.pending.items ≡ before.pending.items ++ text
-  pub count : after.written ≡ u64_saturate (before.written + length out)
+  pub count : u64_saturate after.written ≡ u64_saturate (before.written + length out)
 
 -- of what was pending before and the text only the first bytes went out, of which a fault of writing has the
 -- count, with all that was out before: 2 ^ 64 - 1 where they are more

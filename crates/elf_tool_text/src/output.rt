@@ -36,8 +36,6 @@ impl Output {
         ensures buffered { IsBuffered (W.contents writer.old) (W.contents writer.new) self.old self.new [] result }
         ensures short { OnOk result (length self.new.pending.items < PIECE) }
     {
-        // A proof has the range of a number once the code reads it.
-        let _written = self.written;
         if self.pending.len() < PIECE {
             return Ok(());
         }
