@@ -2,9 +2,11 @@
 
 A page whose sentences have a median of more than MEDIAN words fails, and so do all pages together above WORDS words. Of each page the test
 prints its words, its median, and its sentences of more than LONG words; `--sentences` prints these too. What is generated from the crates or
-is all tables has no median (TABLES), but its prose counts."""
+is all tables has no median (TABLES), but its prose counts.
 
-import glob, os, re, statistics
+A fenced block whose first line names a file quotes it: the file has to have these lines."""
+
+import glob, re, statistics
 from argparse import Namespace
 
 from .suite import Tally, Test, flag
@@ -13,6 +15,7 @@ from .tree import TOP, read_text
 MEDIAN, LONG, WORDS = 18, 30, 30_000
 PATTERNS = ("*.md", "docs/*.md", "bindings/*/README.md")
 TABLES = {"docs/CLAUSES.md", "docs/DEFINITIONS.md", "docs/PROMISES.md"}
+QUOTES = re.compile(r"^```\w+ (\S+)\n(.*?)^```", re.M | re.S)
 # Where a paragraph ends: an empty line, or the next item of a list.
 PARAGRAPHS = re.compile(r"\n\s*\n|\n(?= *(?:[-*]|\d+\.) )")
 # Where a sentence ends: at its mark, if what follows begins one.
@@ -50,13 +53,16 @@ def all_pages() -> list[str]:
 def pages(tally: Tally, options: Namespace) -> None:
     total = 0
     for path in all_pages():
-        found = sentences(read_text(os.path.join(TOP, path)))
+        text = read_text(f"{TOP}/{path}")
+        found = sentences(text)
         lengths = [length(it) for it in found]
         median, total = statistics.median(lengths or [0]), total + sum(lengths)
         long = [it for it in found if length(it) > LONG]
         tally.note(f"{path}: {sum(lengths)} words, median {median:g}, {len(long)} sentences of more than {LONG} words")
         for it in long if options.sentences else []:
             tally.note(f"{path}: {length(it)} words: {it}")
+        for file, lines in QUOTES.findall(text):
+            tally.check(lines in read_text(f"{TOP}/{file}"), f"{path} quotes what is not in {file}:\n{lines}")
         tally.check(path in TABLES or median <= MEDIAN, f"{path}: the median sentence has {median:g} words, more than {MEDIAN}")
     tally.check(total <= WORDS, f"the pages have {total} words, more than {WORDS}")
 
