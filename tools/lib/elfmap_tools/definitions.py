@@ -13,12 +13,12 @@ PAGE = "docs/DEFINITIONS.md"
 WORDS = "tools/lib/elfmap_tools/definition_words.txt"
 HEAD = """# Definitions
 
-`tools/release definitions` makes this page from the comments in `crates/*/specs/`. It has the words that the contracts of public calls name,
-with the section of the gABI (System V ABI, generic part) that the file names. The words that these are made of are beside them in the file.
-[PROOF](PROOF.md#how-to-read-a-contract) explains how to read a definition.
+`tools/release definitions` makes this page from the comments in `crates/*/specs/`. It has the words that the contracts of public calls
+name, with the section of the gABI (System V ABI, generic part) that the file names. The words that these are made of are beside them in the
+file. [PROOF](PROOF.md#how-to-read-a-contract) explains how to read a definition.
 
-All numbers are whole numbers without bound, unless a modulus is named. What is said of section headers (`shdr_at`, `IsShdr`, `IsShdrAt`) holds
-for the other records too."""
+All numbers are whole numbers without bound, unless a modulus is named. What is said of section headers (`shdr_at`, `IsShdr`, `IsShdrAt`)
+holds for the other records too."""
 
 
 @functools.cache

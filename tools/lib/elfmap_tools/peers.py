@@ -31,10 +31,10 @@ TOOLS = {
 KINDS = {"check": ("image", range(1, 34)), "show": ("table", range(40, 70)), "rewrite": ("object", range(70, 80))}
 HEAD = """# What other tools say
 
-`tools/dev peers > docs/PEERS.md` makes this page. For each rule of elfmap but 1 and 40, it has up to {most} files that break it first, and what
-other tools say about them. The files are objects, an executable and a library that cc made of a few lines of C, each with one byte changed. Files
-of a rule marked with * are generated files of `cases/`, and may be odd in other ways too. The first rows are the files without a change. Files
-that break rule 1 are longer than 1 GiB, and no command returns rule 40.
+`tools/dev peers > docs/PEERS.md` makes this page. For each rule of elfmap but 1 and 40, it has up to {most} files that break it first, and
+what other tools say about them. The files are objects, an executable and a library that cc made of a few lines of C, each with one byte
+changed. Files of a rule marked with * are generated files of `cases/`, and may be odd in other ways too. The first rows are the files
+without a change. Files that break rule 1 are longer than 1 GiB, and no command returns rule 40.
 
 Do not read this as a contest. The other tools have other tasks, and for them many of these files are fine. elfmap's rules are its own.
 
@@ -43,8 +43,8 @@ Do not read this as a contest. The other tools have other tasks, and for them ma
 - *rejects*: it ended with another status.
 - *killed*: a signal ended it.
 
-elfmap rejects each of these files with this rule, at the lowest offset where it is broken: `check` with rules 1 to 33, `show` a table with rules
-40 to 69, `rewrite` an object with rules 70 to 79.
+elfmap rejects each of these files with this rule, at the lowest offset where it is broken: `check` with rules 1 to 33, `show` a table with
+rules 40 to 69, `rewrite` an object with rules 70 to 79.
 """
 Files = dict[int, list[bytes]]
 
