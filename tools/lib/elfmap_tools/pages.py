@@ -13,7 +13,7 @@ from .suite import Tally, Test, flag
 from .tree import TOP, read_text
 
 MEDIAN, LONG, WORDS = 18, 30, 30_000
-PATTERNS = ("*.md", "docs/*.md", "bindings/*/README.md")
+PATTERNS = ("README.md", "CONTRIBUTING.md", "CHANGELOG.md", "SECURITY.md", "docs/*.md", "bindings/*/README.md")
 TABLES = {"docs/CLAUSES.md", "docs/DEFINITIONS.md", "docs/PROMISES.md"}
 QUOTES = re.compile(r"^```\w+ (\S+)\n(.*?)^```", re.M | re.S)
 # Where a paragraph ends: an empty line, or the next item of a list.

@@ -1,5 +1,4 @@
-"""`tools/test shown-commands`: runs the commands that the pages show (*.md, docs/*.md and bindings/*/README.md), and compares what they print
-with what is below them.
+"""`tools/test shown-commands`: runs the commands that the pages show (of pages.py), and compares what they print with what is below them.
 
 A command is a line of a code block that begins with `$ `, or with `>>> ` for Python; below it are the lines that it prints, on standard
 output and standard error. There a line `..` means lines left out, and ` ..` at the end of a line the rest of it. A page's commands run in its
