@@ -1,6 +1,6 @@
-"""`tools/release definitions`: docs/DEFINITIONS.md, the words that contracts name, from the comments in crates/*/specs/. definition_words.txt
-lists them by section. A word that has no comment of its own has its sentence there; `tools/test definitions` fails where both have one, where a
-word is in no file of specs/, and where the page is not what it makes."""
+"""`tools/release definitions`: docs/DEFINITIONS.md, the words that contracts name, from the comments in crates/*/specs/.
+definition_words.txt lists them by section. A word that has no comment of its own has its sentence there; `tools/test definitions` fails
+where both have one, where a word is in no file of specs/, and where the page is not what it makes."""
 
 import argparse, functools, glob, os, re
 from collections.abc import Iterator

@@ -24,8 +24,8 @@ NAME = f"elfmap-{VERSION}-x86_64-linux"
 TRUE = "/bin/true"
 COMPILE = "cc -std=c99 program.c $(pkg-config --cflags --libs elfmap)"
 FILES = [
-    "elfmap.html", "README.md", "CONTRIBUTING.md", "CHANGELOG.md", "SECURITY.md", "VERSION", "bin/elfmap", "doc/elfmap-doc.html", "elfmap", "include/elfmap.h",
-    "lib/libelfmap.a", "lib/pkgconfig/elfmap.pc", "share/man/man1/elfmap.1",
+    "elfmap.html", "README.md", "CONTRIBUTING.md", "CHANGELOG.md", "SECURITY.md", "VERSION", "bin/elfmap", "doc/elfmap-doc.html", "elfmap",
+    "include/elfmap.h", "lib/libelfmap.a", "lib/pkgconfig/elfmap.pc", "share/man/man1/elfmap.1",
 ]  # fmt: skip
 # The folders of which the archive has what git has.
 FOLDERS = ["bindings/c", "docs", "rules"]

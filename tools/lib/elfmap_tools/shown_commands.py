@@ -1,14 +1,14 @@
 """`tools/test shown-commands`: runs the commands that the pages show (of pages.py), and compares what they print with what is below them.
 
 A command is a line of a code block that begins with `$ `, or with `>>> ` for Python; below it are the lines that it prints, on standard
-output and standard error. There a line `..` means lines left out, and ` ..` at the end of a line the rest of it. A page's commands run in its
-order in a folder of their own, with the program as ./elfmap, the folders of the repository, the archive of a release of the version VERSION,
-the `lib` and `include` of that, and the file answer.c of cases/sources/. A `cat` of a file that isn't there writes it, with the lines below.
-Commands within prose are not looked at.
+output and standard error. There a line `..` means lines left out, and ` ..` at the end of a line the rest of it. A page's commands run in
+its order in a folder of their own, with the program as ./elfmap, the folders of the repository, the archive of a release of the version
+VERSION, the `lib` and `include` of that, and the file answer.c of cases/sources/. A `cat` of a file that isn't there writes it, with the
+lines below. Commands within prose are not looked at.
 
 Skipped are the commands of SKIPPED, by their text, those of tools of other versions than README.md names, those on files of the machine of
-other lengths, what is not built, and what needs a file that such a command makes. A code line that begins as a command does has to have
-its `$ `, and the tools that a page names and what it links to have to be there."""
+other lengths, what is not built, and what needs a file that such a command makes. A code line that begins as a command does has to have its
+`$ `, and the tools that a page names and what it links to have to be there."""
 
 import os, re, shutil, subprocess, sys, tempfile
 from argparse import Namespace
