@@ -4,12 +4,12 @@ A page whose sentences have a median of more than MEDIAN words fails, and so do 
 prints its words, its median, and its sentences of more than LONG words; `--sentences` prints these too. What is generated from the crates or
 is all tables has no median (TABLES), but its prose counts.
 
-A fenced block whose first line names a file quotes it: the file has to have these lines."""
+A fenced block whose first line names a file quotes it: the file has to have these lines. Each `tools/test NAME` has to be a test."""
 
 import glob, re, statistics
 from argparse import Namespace
 
-from .suite import Tally, Test, flag
+from .suite import Tally, Test, families, flag
 from .tree import TOP, read_text
 
 MEDIAN, LONG, WORDS = 18, 30, 30_000
@@ -50,6 +50,14 @@ def all_pages() -> list[str]:
     return [it for pattern in PATTERNS for it in sorted(glob.glob(pattern, root_dir=TOP))]
 
 
+def unknown_tests(text: str) -> list[str]:
+    """The tests that a page names and that are none."""
+    from .tests import TESTS as ALL
+
+    known = {"setup", *families(ALL), *(it.name for it in ALL)}
+    return [it for it in re.findall(r"\btools/test ([a-z][\w-]*)", text) if it not in known]
+
+
 def pages(tally: Tally, options: Namespace) -> None:
     total = 0
     for path in all_pages():
@@ -61,6 +69,7 @@ def pages(tally: Tally, options: Namespace) -> None:
         tally.note(f"{path}: {sum(lengths)} words, median {median:g}, {len(long)} sentences of more than {LONG} words")
         for it in long if options.sentences else []:
             tally.note(f"{path}: {length(it)} words: {it}")
+        tally.check(not unknown_tests(text), f"{path} names tests that are not there: {unknown_tests(text)}")
         for file, lines in QUOTES.findall(text):
             tally.check(lines in read_text(f"{TOP}/{file}"), f"{path} quotes what is not in {file}:\n{lines}")
         tally.check(path in TABLES or median <= MEDIAN, f"{path}: the median sentence has {median:g} words, more than {MEDIAN}")
