@@ -1,24 +1,28 @@
-"""`tools/release man`: the manual page of the program, from README.md: its first paragraph, and its section "The commands". There each command
-has a part of its own, whose text up to the first example comes below COMMANDS, and what follows below EXAMPLES. A table has no place in the
-page, nor has the paragraph that leads to it."""
+"""`tools/release man`: the manual page of the program, from docs/MANUAL.md: its first paragraph, and its section "The commands". There each
+command has a part of its own, whose text up to the first example comes below COMMANDS, and what follows below EXAMPLES. A row of a table
+becomes a paragraph with its first cell as the tag."""
 
 import argparse, re
 
 from .tree import read_text
 
-# Parts that are no command, and their names in the page.
+# Where the text is that the page is made of.
+MANUAL = "docs/MANUAL.md"
 # The names of the parts that the page has.
 HERE: set[str] = set()
-OTHERS = {"Exit status": "EXIT STATUS", "Files of rules": "FILES"}
+# Parts that are no command, and their names in the page.
+OTHERS = {"Exit status": "EXIT STATUS", "Files of rules": "FILES", "Limits": "LIMITS"}
 MARK = re.compile(r"\[((?:`[^`]*`|[^\]`])*)\]\(([^)]*)\)|`([^`]*)`|\*\*([^*]*)\*\*")
 WIDTH = 68
 SEE_ALSO = r""".BR readelf (1),
 .BR ld (1),
 .BR elf (5)
 .PP
-In the folder of the release:
+In the directory of the release:
+.B \%docs/MANUAL.md
+has these texts and the libraries,
 .B \%docs/RULES.md
-has every rule by its number, what it means and what to do,
+every rule by its number, what it means and what to do,
 .B \%docs/RULE_FILES.md
 the files of rules line by line,
 .B \%doc/elfmap\-doc.html
@@ -27,30 +31,34 @@ the library, and
 the calls for C."""
 
 
-# ---- README.md
+# ---- docs/MANUAL.md
 
 
 def part(text: str, title: str, level: str) -> str:
-    """What stands below a title, up to the next one of its level or above."""
+    """The text below a title, up to the next one of its level or above."""
     found = re.search(rf"^{level} {re.escape(title)}\n(.*?)(?=^#{{2,{len(level)}}} |\Z)", text, re.M | re.S)
     if not found:
-        raise SystemExit(f"man: README.md has no part '{level} {title}'")
+        raise SystemExit(f"man: {MANUAL} has no part '{level} {title}'")
     return found[1].strip("\n")
 
 
 def blocks(text: str) -> list[str]:
-    """Its paragraphs and examples, each as one text."""
-    found: list[str] = []
-    for it in re.split(r"\n\n+", text):
-        if it.startswith("|"):
-            found.pop()
-        else:
-            found.append(it)
-    return found
+    """Its paragraphs, tables and examples, each as one text."""
+    return re.split(r"\n\n+", text)
+
+
+def is_code(block: str) -> bool:
+    return block.startswith("    ")
 
 
 def is_example(block: str) -> bool:
-    return block.startswith("    ")
+    return block.startswith("    $ ")
+
+
+def rows(block: str) -> list[list[str]]:
+    """The cells of each row of a table but its head."""
+    lines = [re.split(r"(?<!\\)\|", it.strip("|")) for it in block.split("\n")[2:]]
+    return [[it.strip().replace("\\|", "|") for it in line] for line in lines]
 
 
 # ---- The macros
@@ -74,7 +82,7 @@ def whole(text: str) -> str:
 
 
 def marked(text: str) -> str:
-    """Text whose code and stress are bold. A link is its words; one that leads to another section of README.md says so."""
+    """Text whose code and stress are bold. A link is its words; one that leads to another section of the manual says so."""
     found, at = list[str](), 0
     for it in MARK.finditer(text):
         words, target, code, stress = it.groups()
@@ -83,7 +91,7 @@ def marked(text: str) -> str:
             found.append(rf"\fB{whole(literal(code)) if code is not None else escaped(stress)}\fP")
         else:
             is_beyond = target.startswith("#") and target[1:] not in HERE
-            found.append(marked(words) + (" (README.md)" if is_beyond else ""))
+            found.append(marked(words) + (f" ({MANUAL})" if is_beyond else ""))
         at = it.end()
     return "".join([*found, escaped(text[at:])])
 
@@ -105,8 +113,15 @@ def folded(line: str) -> list[str]:
     return [*(f"{it} \\" for it in lines[:-1]), lines[-1]]
 
 
+def tagged(row: list[str]) -> list[str]:
+    """A row of a table: its first cell as a tag, and the others as its text."""
+    return [".TP", guarded(marked(row[0])), guarded(marked(", ".join(row[1:])))]
+
+
 def macros(block: str) -> list[str]:
-    if not is_example(block):
+    if block.startswith("|"):
+        return [line for row in rows(block) for line in tagged(row)]
+    if not is_code(block):
         return [".PP", *(guarded(it) for it in marked(block).split("\n"))]
     lines = [it for line in block.split("\n") for it in folded(line.removeprefix("    "))]
     return [".PP", ".RS 4", ".EX", *(guarded(literal(it)) for it in lines), ".EE", ".RE"]
@@ -143,9 +158,9 @@ def commands_and_examples(parts: dict[str, list[str]]) -> tuple[list[str], list[
     return texts, examples
 
 
-def page(readme: str, version: str) -> str:
-    summary = blocks(readme)[1]
-    commands = part(readme, "The commands", "##")
+def page(manual: str, version: str) -> str:
+    summary = blocks(manual)[1]
+    commands = part(manual, "The commands", "##")
     titles = re.findall(r"^### (.*)", commands, re.M)
     parts = {it: blocks(part(commands, it, "###")) for it in titles}
     HERE.update(it.lower().replace(" ", "-") for it in titles)
@@ -160,5 +175,5 @@ def page(readme: str, version: str) -> str:
 
 
 def main(options: argparse.Namespace) -> int:
-    print(page(read_text("README.md"), options.version), end="")
+    print(page(read_text(MANUAL), options.version), end="")
     return 0

@@ -31,20 +31,20 @@ TOOLS = {
 KINDS = {"check": ("image", range(1, 34)), "show": ("table", range(40, 70)), "rewrite": ("object", range(70, 80))}
 HEAD = """# What other tools say
 
-For each rule of elfmap but 1 and 40 up to {most} files that break it first, and what other tools say of them, as `tools/dev peers` found it.
-The files are objects, an executable and a library that cc made of a few lines of C, each with one byte changed; of these files without a
-change the tools say what the first rows tell. For rules marked with * they are made files of `cases/`, which may be odd in other ways too.
-The other tools have other tasks: many of these files are no mistake for them, and elfmap's rules are its own.
+`tools/dev peers > docs/PEERS.md` makes this page. For each rule of elfmap but 1 and 40, it has up to {most} files that break it first, and
+what other tools say about them. The files are objects, an executable and a library that cc made of a few lines of C, each with one byte
+changed. Files of a rule marked with * are generated files of `cases/`, and may be odd in other ways too. The first rows are the files
+without a change. Files that break rule 1 are longer than 1 GiB, and no command returns rule 40.
 
-Rules 1 and 40 have no row: files that break rule 1 are longer than 1 GiB, and no command answers rule 40.
+Do not read this as a contest. The other tools have other tasks, and for them many of these files are fine. elfmap's rules are its own.
 
 - *silent*: the tool ended with status 0, and wrote no warning.
 - *warns*: it ended with status 0, and wrote something to standard error, or the word `warning` or `error` to standard output.
-- *refuses*: it ended with another status.
+- *rejects*: it ended with another status.
 - *killed*: a signal ended it.
 
-elfmap refuses each of these files, by this rule and the lowest offset where it is broken: `check` by rules 1 to 33, `show` a table by rules
-40 to 69, `rewrite` an object by rules 70 to 79.
+elfmap rejects each of these files with this rule, at the lowest offset where it is broken: `check` with rules 1 to 33, `show` a table with
+rules 40 to 69, `rewrite` an object with rules 70 to 79.
 """
 Files = dict[int, list[bytes]]
 
@@ -117,7 +117,7 @@ def said_of(tool: str, content: bytes) -> str:
         except subprocess.TimeoutExpired:
             return "takes over a minute"
     if ran.returncode:
-        return "killed" if ran.returncode < 0 else "refuses"
+        return "killed" if ran.returncode < 0 else "rejects"
     return "warns" if ran.stderr.strip() or re.search(rb"\b(warning|error)\b", ran.stdout, re.I) else "silent"
 
 

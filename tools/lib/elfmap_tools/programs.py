@@ -3,7 +3,7 @@
 import argparse
 from collections.abc import Callable
 
-from . import building, doc, explain, library, man, minutes, page, peers, picture, release as releasing, rules_tables, told
+from . import building, definitions, doc, explain, library, man, minutes, page, peers, picture, release as releasing, rules_tables, told
 from .tree import progress
 
 Main = Callable[[argparse.Namespace], int]
@@ -56,7 +56,7 @@ def dev(words: list[str]) -> int:
 
 
 def release(words: list[str]) -> int:
-    it = Program("tools/release", "What a release has, and what is generated from docs/.")
+    it = Program("tools/release", "What a release has, and what is generated.")
     folder = word("folder", "where to (here)", nargs="?", default=".")
     version = word("version", "the version", nargs="?")
     it.add("pack", "pack what is built into one archive", releasing.main, folder, version)
@@ -69,4 +69,5 @@ def release(words: list[str]) -> int:
         "page-picture", "take a picture of the page with a file on it (docs/page.png)", page.picture, word("file", "an ELF file"), picture
     )
     it.add("tables", "write the tables of the rules' names, from docs/RULES.md", rules_tables.main)
+    it.add("definitions", "write docs/DEFINITIONS.md, from the comments in crates/*/specs/", definitions.main)
     return it.run(words)

@@ -1,7 +1,7 @@
 """`tools/release pack`: what is built in one archive, elfmap-VERSION-x86_64-linux.tar.gz, which is used on a Linux with the GNU C library and
 without the Rattle kit:
 
-    elfmap, README.md, CONTRIBUTING.md, VERSION
+    elfmap, README.md, CONTRIBUTING.md, CHANGELOG.md, SECURITY.md, VERSION
     bin/elfmap                                                   runs elfmap with the settings of memory of the script ./elfmap
     lib/libelfmap.a, include/elfmap.h, lib/pkgconfig/elfmap.pc   the library for C; pkg-config finds it wherever the folder is put
     bindings/c/                                                  programs over it, sections.c and symbols.c, and its tests
@@ -36,6 +36,8 @@ Version: {version}
 Cflags: -I${{includedir}}
 Libs: -L${{libdir}} -lelfmap
 """
+# The pages at the top of the archive.
+PAGES = ["README.md", "CONTRIBUTING.md", "CHANGELOG.md", "SECURITY.md"]
 # What git has of the bindings, but for their tests, which need the repository.
 BINDINGS = {"rust": "Cargo.lock Cargo.toml README.md build.rs examples src", "python": "README.md pyproject.toml examples elfmap"}
 
@@ -87,13 +89,13 @@ def put_program(folder: str, version: str) -> None:
     write(f"{folder}/bin/elfmap", RUNNER.format(settings=settings[0]))
     for it in ("elfmap", "bin/elfmap"):
         os.chmod(f"{folder}/{it}", 0o755)
-    for it in ["README.md", "CONTRIBUTING.md", *glob.glob("docs/*", root_dir=TOP), *glob.glob("rules/*.rules", root_dir=TOP)]:
+    for it in [*PAGES, *glob.glob("docs/*", root_dir=TOP), *glob.glob("rules/*.rules", root_dir=TOP)]:
         shutil.copy(f"{TOP}/{it}", f"{folder}/{it}")
     text, faults = doc.made()
     if faults:
         raise stop(f"the page of the library is not whole: {faults[0]}")
     write(f"{folder}/doc/elfmap-doc.html", f"{text}\n")
-    write(f"{folder}/share/man/man1/elfmap.1", man.page(read_text("README.md"), version))
+    write(f"{folder}/share/man/man1/elfmap.1", man.page(read_text(man.MANUAL), version))
 
 
 def put_library(folder: str, version: str) -> None:

@@ -4,7 +4,7 @@
 - the archive has the files that it is to have, and comes out the same, byte for byte, a second time;
 - each link of its pages leads to a file of the archive, but for those into crates/, which the repository alone has;
 - bin/elfmap gives its words to the program, from wherever a link to it is, with settings of memory where there are none;
-- the program accepts /bin/true and refuses changed copies of it, and its usage is what README.md and the manual page say;
+- the program accepts /bin/true and refuses changed copies of it, and its usage is what docs/MANUAL.md and the manual page say;
 - the library exports names that begin with `elfmap_` alone, and needs of the C library no more than its memory;
 - bindings/c/sections.c and symbols.c, compiled as include/elfmap.h says, say of these files what `elfmap show` and `elfmap check` say;
 - so do bindings/rust/examples/symbols.rs by cargo, which builds outside of the archive, and bindings/python/examples/symbols.py;
@@ -24,8 +24,8 @@ NAME = f"elfmap-{VERSION}-x86_64-linux"
 TRUE = "/bin/true"
 COMPILE = "cc -std=c99 program.c $(pkg-config --cflags --libs elfmap)"
 FILES = [
-    "elfmap.html", "README.md", "CONTRIBUTING.md", "VERSION", "bin/elfmap", "doc/elfmap-doc.html", "elfmap", "include/elfmap.h",
-    "lib/libelfmap.a", "lib/pkgconfig/elfmap.pc", "share/man/man1/elfmap.1",
+    "elfmap.html", "README.md", "CONTRIBUTING.md", "CHANGELOG.md", "SECURITY.md", "VERSION", "bin/elfmap", "doc/elfmap-doc.html", "elfmap",
+    "include/elfmap.h", "lib/libelfmap.a", "lib/pkgconfig/elfmap.pc", "share/man/man1/elfmap.1",
 ]  # fmt: skip
 # The folders of which the archive has what git has.
 FOLDERS = ["bindings/c", "docs", "rules"]
@@ -33,7 +33,7 @@ FOLDERS = ["bindings/c", "docs", "rules"]
 LINK = re.compile(r"\]\((?!https?:)([^)#\s]+)")
 # What the engines of the library take of the C library.
 MEMORY = {"malloc", "realloc", "free", "memcpy", "memmove", "memset"}
-SECTIONS = ["NAME", "SYNOPSIS", "DESCRIPTION", "COMMANDS", "EXIT STATUS", "FILES", "EXAMPLES", "SEE ALSO"]
+SECTIONS = ["NAME", "SYNOPSIS", "DESCRIPTION", "COMMANDS", "EXIT STATUS", "FILES", "LIMITS", "EXAMPLES", "SEE ALSO"]
 PLAIN = {"PATH": "/usr/bin:/bin", "LC_ALL": "C.UTF-8", "MANWIDTH": "80"}
 
 
@@ -104,20 +104,20 @@ class Release:
         self.check(answer.stdout == self.elfmap("check", TRUE).stdout, f"bin/elfmap check {TRUE}: {answer}")
 
     def usage(self) -> None:
-        """README.md and the manual page have the usage of each command that the program has."""
+        """docs/MANUAL.md and the manual page have the usage of each command that the program has."""
         listed = self.elfmap("--help").stderr.partition("Commands:")[2].partition("Options:")[0]
-        commands, section = re.findall(r"^  (\w+) ", listed, re.M), self.text("README.md").partition("\n## The commands\n")[2]
+        commands, section = re.findall(r"^  (\w+) ", listed, re.M), self.text("docs/MANUAL.md").partition("\n## The commands\n")[2]
         usages = re.findall(r"^    (elfmap (\w+) .*)", section, re.M)
         self.check(
-            [it for _, it in usages] == commands, f"the program has the commands {commands}, and README.md {[it for _, it in usages]}"
+            [it for _, it in usages] == commands, f"the program has the commands {commands}, and docs/MANUAL.md {[it for _, it in usages]}"
         )
         synopses = re.findall(r'^\.SY "(.*)"\n((?:.*\n)*?)\.YS', self.text("share/man/man1/elfmap.1"), re.M)
         by_page = {head: re.sub(r"\\f.|\\(?=[- ])", "", f"{head} {rest}".replace("\n", " ")) for head, rest in synopses}
         for usage, command in usages:
             own = usage_by_help(self.elfmap(command, "--help").stderr)
-            self.check(words_of(own) == words_of(usage), f"the program's usage is '{own}', and README.md has '{usage}'")
+            self.check(words_of(own) == words_of(usage), f"the program's usage is '{own}', and docs/MANUAL.md has '{usage}'")
             page = by_page.get(f"elfmap {command}", "")
-            self.check(words_of(page) == words_of(usage), f"the manual page has '{page}', and README.md '{usage}'")
+            self.check(words_of(page) == words_of(usage), f"the manual page has '{page}', and docs/MANUAL.md '{usage}'")
 
     def names(self) -> None:
         """What the library exports and needs."""

@@ -1,21 +1,21 @@
-"""`tools/test shown-commands`: runs the commands that README.md, CONTRIBUTING.md, docs/*.md and bindings/*/README.md show, and compares what they
-print with what is below them.
+"""`tools/test shown-commands`: runs the commands that the pages show (of pages.py), and compares what they print with what is below them.
 
 A command is a line of a code block that begins with `$ `, or with `>>> ` for Python; below it are the lines that it prints, on standard
-output and standard error. There a line `..` means lines left out, and ` ..` at the end of a line the rest of it. A page's commands run in its
-order in a folder of their own, with the program as ./elfmap, the folders of the repository, the archive of a release of the version VERSION,
-the `lib` and `include` of that, and the file answer.c of cases/sources/. A `cat` of a file that isn't there writes it, with the lines below.
-Commands within prose are not looked at.
+output and standard error. There a line `..` means lines left out, and ` ..` at the end of a line the rest of it. A page's commands run in
+its order in a folder of their own, with the program as ./elfmap, the folders of the repository, the archive of a release of the version
+VERSION, the `lib` and `include` of that, and the file answer.c of cases/sources/. A `cat` of a file that isn't there writes it, with the
+lines below. Commands within prose are not looked at.
 
 Skipped are the commands of SKIPPED, by their text, those of tools of other versions than README.md names, those on files of the machine of
-other lengths, what is not built, and what needs a file that such a command makes. A code line that begins as a command does has to have
-its `$ `, and the tools that a page names and what it links to have to be there."""
+other lengths, what is not built, and what needs a file that such a command makes. A code line that begins as a command does has to have its
+`$ `, and the tools that a page names and what it links to have to be there."""
 
-import glob, os, re, shutil, subprocess, sys, tempfile
+import os, re, shutil, subprocess, sys, tempfile
 from argparse import Namespace
 from collections.abc import Iterator
 
 from .library import ENGINES, VERDICTS
+from .pages import all_pages
 from .release import pack
 from .suite import Tally, Test, crates_of, environment
 from .tree import PROGRAM, TOP, read_text, run, write
@@ -37,7 +37,8 @@ SKIPPED = {
     "bench/library": MEASURED,
 }
 # Tools whose output depends on their version, and the packages by which README.md names that.
-PACKAGES = {"gcc": "gcc", "readelf": "binutils", "objcopy": "binutils", "ld": "binutils", "eu-elflint": "elfutils", "llvm-objcopy": "LLVM"}
+PACKAGES = {"gcc": "gcc", "readelf": "binutils", "objcopy": "binutils", "ld": "binutils", "eu-elflint": "elfutils"}
+PACKAGES |= {"llvm-objcopy": "LLVM", "llvm-readobj": "LLVM"}
 # Files of the machine, and how long they are where the pages' lines were printed (Debian 12).
 MACHINE_FILES = {"/bin/true": 35664}
 # What commands make, and the file of the repository that has to be the same.
@@ -241,8 +242,7 @@ def furnish(folder: str, archive: str) -> None:
 
 
 def shown_commands(tally: Tally, options: Namespace) -> None:
-    others = sorted(glob.glob(f"{TOP}/docs/*.md") + glob.glob(f"{TOP}/bindings/*/README.md"))
-    pages = [f"{TOP}/README.md", f"{TOP}/CONTRIBUTING.md", *others]
+    pages = [f"{TOP}/{it}" for it in all_pages()]
     every = [command for path in pages for lines in blocks(read_text(path)) for command, _ in commands(lines)]
     for command in SKIPPED:
         tally.check(command in every, f"no page shows the command that is skipped: {command}")

@@ -1,0 +1,80 @@
+"""`tools/test pages`: how long the sentences of the pages are. Tables, code, headings and the targets of links are no prose.
+
+A page whose sentences have a median of more than MEDIAN words fails, and so do all pages together above WORDS words. Of each page the test
+prints its words, its median, and its sentences of more than LONG words; `--sentences` prints these too. What is generated from the crates or
+is all tables has no median (TABLES), but its prose counts.
+
+A fenced block whose first line names a file quotes it: the file has to have these lines. Each `tools/test NAME` has to be a test."""
+
+import glob, re, statistics
+from argparse import Namespace
+
+from .suite import Tally, Test, families, flag
+from .tree import TOP, read_text
+
+MEDIAN, LONG, WORDS = 18, 30, 30_000
+PATTERNS = ("README.md", "CONTRIBUTING.md", "CHANGELOG.md", "SECURITY.md", "docs/*.md", "bindings/*/README.md")
+TABLES = {"docs/CLAUSES.md", "docs/DEFINITIONS.md", "docs/PROMISES.md"}
+QUOTES = re.compile(r"^```\w+ (\S+)\n(.*?)^```", re.M | re.S)
+# Where a paragraph ends: an empty line, or the next item of a list.
+PARAGRAPHS = re.compile(r"\n\s*\n|\n(?= *(?:[-*]|\d+\.) )")
+# Where a sentence ends: at its mark, if what follows begins one.
+SENTENCES = re.compile(r"(?<=[.!?])[\"')*]*\s+(?=[\"'(*`\[]*[A-Z`\[])")
+
+
+def prose(text: str) -> str:
+    """The text of a page without fenced and indented code, tables, headings, images and the targets of links."""
+    text = re.sub(r"^ *```.*?^ *```", "", text, flags=re.M | re.S)
+    # Code is indented and comes after an empty line or more code; other indented lines continue an item.
+    text = re.sub(r"(?:\A|(?<=\n))\n(?:    .*\n|\n(?=    ))+", "\n", text)
+    text = re.sub(r"^(?:#|\||<|!\[).*$", "", text, flags=re.M)
+    return re.sub(r"\[([^\]]*)\]\([^)]*\)", r"\1", text)
+
+
+def sentences(text: str) -> list[str]:
+    """The sentences of a page, each in one line."""
+    found = []
+    for paragraph in PARAGRAPHS.split(prose(text)):
+        line = re.sub(r"^(?:[-*]|\d+\.) ", "", " ".join(paragraph.split()))
+        found += [it for it in SENTENCES.split(line) if it]
+    return found
+
+
+def length(sentence: str) -> int:
+    """How many words a sentence has. Code is one word: it is read as a name."""
+    return len(re.sub(r"`[^`]*`", "code", sentence).split())
+
+
+def all_pages() -> list[str]:
+    """The paths of the pages in the repository, README.md and the like first."""
+    return [it for pattern in PATTERNS for it in sorted(glob.glob(pattern, root_dir=TOP))]
+
+
+def unknown_tests(text: str) -> list[str]:
+    """The tests that a page names and that are none."""
+    from .tests import TESTS as ALL
+
+    known = {"setup", *families(ALL), *(it.name for it in ALL)}
+    return [it for it in re.findall(r"\btools/test ([a-z][\w-]*)", text) if it not in known]
+
+
+def pages(tally: Tally, options: Namespace) -> None:
+    total = 0
+    for path in all_pages():
+        text = read_text(f"{TOP}/{path}")
+        found = sentences(text)
+        lengths = [length(it) for it in found]
+        median, total = statistics.median(lengths or [0]), total + sum(lengths)
+        long = [it for it in found if length(it) > LONG]
+        tally.note(f"{path}: {sum(lengths)} words, median {median:g}, {len(long)} sentences of more than {LONG} words")
+        for it in long if options.sentences else []:
+            tally.note(f"{path}: {length(it)} words: {it}")
+        tally.check(not unknown_tests(text), f"{path} names tests that are not there: {unknown_tests(text)}")
+        for file, lines in QUOTES.findall(text):
+            tally.check(lines in read_text(f"{TOP}/{file}"), f"{path} quotes what is not in {file}:\n{lines}")
+        tally.check(path in TABLES or median <= MEDIAN, f"{path}: the median sentence has {median:g} words, more than {MEDIAN}")
+    tally.check(total <= WORDS, f"the pages have {total} words, more than {WORDS}")
+
+
+OPTIONS = (flag("sentences", f"print the sentences of more than {LONG} words"),)
+TESTS = [Test("pages", "the sentences of the pages are short", pages, options=OPTIONS)]
