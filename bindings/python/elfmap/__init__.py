@@ -54,7 +54,7 @@ _SMALL_ROOM = 64
 _SYMBOLS, _RELOCATIONS, _NOTES, _DYNAMIC, _HASH = (2, 11), (4, 9), (7,), (6,), (5,)
 _OWNERS = ("header", "section headers", "program headers")
 _GAP = 2**64 - 1
-_UNKNOWN = ("UNKNOWN_RULE", "it is refused by a rule without a sentence")
+_UNKNOWN = ("UNKNOWN_RULE", "it is refused by a rule without a sentence", "")
 
 
 class Refused(ValueError):

@@ -106,7 +106,7 @@ def _pattern(globs: Sequence[bytes]) -> Optional[re.Pattern[bytes]]:
     return re.compile(text.encode("latin-1"))
 
 
-_NUMBERS = {name: number for number, (name, _) in RULES.items()}
+_NUMBERS = {name: number for number, (name, *_) in RULES.items()}
 
 
 def rule_number(word: str) -> int:

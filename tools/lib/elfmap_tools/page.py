@@ -8,9 +8,9 @@ import argparse, base64, json, os, re, shutil, tempfile
 from typing import Any
 
 from .browser import Browser
-from .explain import rule_words
 from .kit import built_below, is_current, kit, words
 from .library import VERDICTS as CRATE, wanted
+from .rules_tables import file_rules
 from .tree import TOP, read_bytes, read_text, write
 
 Structs = dict[str, dict[str, Any]]
@@ -20,8 +20,6 @@ MODULE = f"{OUT}/{CRATE}.wasm"
 LOWERED = "--enable-memory64 --enable-bulk-memory --enable-sign-ext --enable-nontrapping-float-to-int --enable-mutable-globals".split()
 LOWERED += ["--enable-multivalue", "--memory64-lowering"]
 WIDTHS = {"uint8_t": 1, "uint16_t": 2, "uint32_t": 4, "uint64_t": 8, "int64_t": 8}
-# What is proved of images: other commands answer the rules of tables, objects and links.
-IMAGE_RULES = range(1, 34)
 
 
 def module() -> str:
@@ -74,12 +72,8 @@ def layout() -> Structs:
 
 
 def rules() -> dict[int, list[str]]:
-    """Of each rule its name, why a file is refused, and what to do, as docs/RULES.md has them."""
-    found = {}
-    for number in IMAGE_RULES:
-        name, refused, sentence, advice = rule_words(f"image-{number}") or ("", "", "", "")
-        found[number] = [name, *(it.replace("`", "") for it in (f"{refused} {sentence}", advice))]
-    return found
+    """Of each rule of files its name, why a file is refused, and what to do, as docs/RULES.md has them."""
+    return {it.number: [it.name, it.sentence.replace("`", ""), it.advice.replace("`", "")] for it in file_rules()}
 
 
 def constant(name: str, value: object) -> str:
