@@ -11,7 +11,6 @@ from __future__ import annotations
 
 import argparse
 import os
-import signal
 import stat
 import sys
 import tempfile
@@ -21,13 +20,14 @@ from itertools import chain
 from typing import BinaryIO, Optional
 
 from elfmap import _library
+from elfmap._commands import DONE, FOUND, UNREADABLE, USAGE, complain, failure, run_script
 from elfmap._findings import BadWord, Baseline, Globs, Ignored, Report, Unread, baseline_text
 from elfmap._inspect import Depth, Inspector
 from elfmap._sources import reason_of, standard_input
 from elfmap._walk import Walk, chunks
 from elfmap._workers import Pool, Work
 
-CLEAN, FOUND, USAGE, UNREADABLE = range(4)
+PROGRAM = "elfmap-lint"
 FORMATS = ("text", "jsonl", "sarif", "junit", "github")
 _OF_ONE_DOCUMENT = ("sarif", "junit")
 # What a process is given at once: enough to do for a millisecond or more.
@@ -37,7 +37,7 @@ _STANDARD_INPUT = b"-"
 
 def _parser() -> argparse.ArgumentParser:
     parser = argparse.ArgumentParser(
-        prog="elfmap-lint",
+        prog=PROGRAM,
         description="Checks all ELF-64 files of files, directories and .a archives.",
         epilog="Status: 0 clean, 1 findings, 2 usage, 3 something can't be read.",
     )
@@ -57,15 +57,6 @@ def _parser() -> argparse.ArgumentParser:
     add("-j", dest="jobs", metavar="N", type=int, default=0, help="use N processes (default: one for each processor)")
     add("--fail-on-empty", action="store_true", help="end with status 1 if no ELF file was checked")
     return parser
-
-
-def _said(words: bytes) -> None:
-    """Prints a message on standard error."""
-    try:
-        sys.stderr.buffer.write(b"elfmap-lint: " + words + b"\n")
-        sys.stderr.flush()
-    except OSError:
-        pass
 
 
 class Progress:
@@ -178,7 +169,7 @@ class Run:
         from elfmap import _formats
 
         for lost in self.report.unreadable:
-            _said(_formats.one_line(lost.path) + b": " + lost.reason.encode())
+            complain(PROGRAM, _formats.one_line(lost.path) + b": " + lost.reason.encode())
         end = b"\0" if self._options.zero else b"\n"
         with Output(self._options.output) as it:
             for part in _formats.FORMATS[self._options.format](self.report, end):
@@ -188,9 +179,9 @@ class Run:
         if self.report.unreadable:
             return UNREADABLE
         if self._options.fail_on_empty and not self.report.checked:
-            _said(b"no ELF file was checked")
+            complain(PROGRAM, b"no ELF file was checked")
             return FOUND
-        return FOUND if self.report.findings else CLEAN
+        return FOUND if self.report.findings else DONE
 
 
 class Output:
@@ -234,7 +225,7 @@ def main(words: Optional[Sequence[str]] = None) -> int:
     try:
         run = Run(options)
     except BadWord as fault:
-        _said(str(fault).encode("utf-8", "surrogateescape"))
+        complain(PROGRAM, str(fault).encode("utf-8", "surrogateescape"))
         return USAGE
     try:
         run.check()
@@ -242,19 +233,14 @@ def main(words: Optional[Sequence[str]] = None) -> int:
     except BrokenPipeError:
         pass  # The reader has gone.
     except OSError as fault:
-        name = f"{fault.filename}: " if fault.filename else ""
-        _said(f"{name}{reason_of(fault)}".encode("utf-8", "surrogateescape"))
+        complain(PROGRAM, failure(fault))
         return UNREADABLE
     return run.status()
 
 
 def script() -> None:
     """The console script."""
-    try:
-        status = main()
-    except KeyboardInterrupt:
-        status = 128 + signal.SIGINT
-    sys.exit(status)
+    run_script(main)
 
 
 if __name__ == "__main__":
