@@ -27,7 +27,7 @@ def failure(fault: OSError) -> bytes:
     return f"{name}{reason_of(fault)}".encode("utf-8", "surrogateescape")
 
 
-def run_script(main: Callable[[], int]) -> None:
+def run_script(program: str, main: Callable[[], int]) -> None:
     """Runs a command as a console script. A reader that closes the pipe ends it silently."""
     try:
         status = main()
@@ -36,6 +36,6 @@ def run_script(main: Callable[[], int]) -> None:
     except KeyboardInterrupt:
         status = 128 + signal.SIGINT
     except OSError as fault:
-        complain(os.path.basename(sys.argv[0]), failure(fault))
+        complain(program, failure(fault))
         status = UNREADABLE
     sys.exit(status)

@@ -39,6 +39,7 @@ from elfmap._rules import LINK_RULES, RULES
 from elfmap._sources import Source, Unreadable, opened, reason_of, whole
 from elfmap._words import Words, found_at, printable
 
+PROGRAM = "elfmap-explain"
 WIDTH = 130
 _REFUSAL = re.compile(rb"(?:file (\d+) )?refused((?: \d+){2,4})$")
 _FINDING = re.compile(rb"(?P<path>.*?): offset 0x(?P<offset>[0-9a-f]{1,16}): (?P<name>[A-Z_0-9]+) \((?P<rule>\d{1,3})\): ", re.S)
@@ -245,7 +246,7 @@ def records(file: BinaryIO, end: bytes) -> Iterator[bytes]:
 
 def _parser() -> argparse.ArgumentParser:
     parser = argparse.ArgumentParser(
-        prog="elfmap-explain",
+        prog=PROGRAM,
         description="Says in words why elfmap rejects a file. Lines come from standard input: what elfmap printed of FILE..., or findings of "
         "elfmap-lint (text or jsonl), which name their files.",
         epilog="Status: 0 explained, 2 usage, 3 a file can't be read.",
@@ -267,13 +268,13 @@ def main(words: Optional[Sequence[str]] = None) -> int:
     count = _line_of(options.words)
     paths = options.words[count:]
     if count and not paths:
-        complain("elfmap-explain", b"FILE is missing; see --help")
+        complain(PROGRAM, b"FILE is missing; see --help")
         return USAGE
     with ExitStack() as stack:
         try:
             named = [named_file(path, stack) for path in paths]
         except Unreadable as fault:
-            complain("elfmap-explain", fault.reason.encode("utf-8", "surrogateescape"))
+            complain(PROGRAM, fault.reason.encode("utf-8", "surrogateescape"))
             return UNREADABLE
         explainer = Explainer(named, stack.enter_context(Files()))
         line = " ".join(options.words[:count]).encode()
@@ -296,7 +297,7 @@ def _explain_all(explainer: Explainer, lines: Iterator[bytes]) -> int:
 
 def script() -> None:
     """The console script."""
-    run_script(main)
+    run_script(PROGRAM, main)
 
 
 if __name__ == "__main__":

@@ -28,6 +28,7 @@ from elfmap._commands import FOUND, UNREADABLE, complain, run_script
 from elfmap._names import MACHINES
 from elfmap._sources import LONGEST, Unreadable, opened
 
+PROGRAM = "elfmap-picture"
 MOST, LARGEST = 300, 150
 ROW, HEAD, LEFT, WIDTH, SHORTEST = 20, 118, 640, 520, 2
 COLUMNS = (("begins at", 96, "end"), ("bytes", 196, "end"), ("owner", 212, "start"), ("name", 330, "start"), ("holds", 520, "start"))
@@ -252,7 +253,7 @@ def shown(path: str) -> bytes:
 
 def _parser() -> argparse.ArgumentParser:
     parser = argparse.ArgumentParser(
-        prog="elfmap-picture",
+        prog=PROGRAM,
         description="Writes a picture of the bytes of an ELF-64 file, as SVG, to standard output.",
         epilog="Status: 0 drawn, 1 elfmap rejects the file, 2 usage, 3 it can't be read.",
     )
@@ -270,11 +271,11 @@ def main(words: Optional[Sequence[str]] = None) -> int:
         lines = sys.stdin.buffer.read() if is_piped else shown(file)
         drawn = picture(title, *read(lines.decode("ascii").splitlines()))
     except Unreadable as fault:
-        complain("elfmap-picture", os.fsencode(f"{file}: {fault.reason}"))
+        complain(PROGRAM, os.fsencode(f"{file}: {fault.reason}"))
         return UNREADABLE
     except (ValueError, LookupError) as fault:
         words_of = str(fault) if isinstance(fault, NoLines) else "these are no lines of `elfmap show`"
-        complain("elfmap-picture", os.fsencode(f"{file}: {words_of}"))
+        complain(PROGRAM, os.fsencode(f"{file}: {words_of}"))
         return FOUND
     with open(1, "wb", closefd=False) as out:
         out.write(drawn.encode("utf-8", "backslashreplace"))
@@ -283,7 +284,7 @@ def main(words: Optional[Sequence[str]] = None) -> int:
 
 def script() -> None:
     """The console script."""
-    run_script(main)
+    run_script(PROGRAM, main)
 
 
 if __name__ == "__main__":

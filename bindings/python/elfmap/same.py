@@ -344,7 +344,7 @@ def main(words: Optional[Sequence[str]] = None) -> int:
 
 def script() -> None:
     """The console script."""
-    run_script(main)
+    run_script(PROGRAM, main)
 
 
 if __name__ == "__main__":

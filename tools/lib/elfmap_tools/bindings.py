@@ -8,6 +8,7 @@ from collections.abc import Mapping
 from typing import Any
 
 from .library import ENGINES, FOLDER, VERDICTS, packed
+from .packages import JSONSCHEMA, JUNITPARSER
 from .suite import Tally, Test, crates_of, environment
 from .tree import PACKAGE, TOP, Texts, read_text, said
 
@@ -123,8 +124,8 @@ def bindings(tally: Tally, options: Namespace) -> None:
         count_run(tally, ran, sum(int(it) for it, _ in found), sum(int(it) for _, it in found))
 
 
-CRATES = crates_of(VERDICTS, ENGINES)
+CRATES, COMMANDS = crates_of(VERDICTS, ENGINES), ("cc", "ar", "objcopy", "cargo", JSONSCHEMA, JUNITPARSER)
 TESTS = [
-    Test("bindings", "the bindings for Rust and Python, and what they declare", bindings, ("cc", "ar", "objcopy", "cargo"), CRATES),
+    Test("bindings", "the bindings for Rust and Python, and what they declare", bindings, COMMANDS, CRATES),
     Test("explain", "a file that breaks each rule, and what elfmap-explain says of it", explain),
 ]
