@@ -4,14 +4,17 @@ is one file, which needs no network: the library for C as a WebAssembly module, 
 The module is made of the same proved crates as the library for C: the kit's compiler makes it for a memory of 64-bit addresses, which not
 every browser has, and wasm-opt (of binaryen) lowers it to one of 32-bit addresses."""
 
-import argparse, base64, json, os, re, shutil, tempfile
+import argparse, base64, json, os, re, shutil, sys, tempfile
 from typing import Any
 
 from .browser import Browser
 from .kit import built_below, is_current, kit, words
 from .library import VERDICTS as CRATE, wanted
 from .rules_tables import file_rules
-from .tree import TOP, read_bytes, read_text, write
+from .tree import PACKAGE, TOP, read_bytes, read_text, write
+
+sys.path.insert(0, PACKAGE)
+from elfmap import _names as names  # noqa: E402
 
 Structs = dict[str, dict[str, Any]]
 TARGET = "wasm64-unknown-unknown"
@@ -80,11 +83,18 @@ def constant(name: str, value: object) -> str:
     return f"const {name} = {json.dumps(value, separators=(',', ':'))};\n"
 
 
+def name_constants() -> str:
+    """The names of numbers, as the Python package has them."""
+    relocations = {machine: names.relocation_types(machine) for machine in names.machines_with_relocations()}
+    constants = {"MACHINES": names.MACHINES, "SECTION_TYPES": names.SECTION_TYPES, "RELOCATION_TYPES": relocations}
+    return "".join(constant(name, value) for name, value in constants.items())
+
+
 def page() -> str:
     code = base64.b64encode(read_bytes(module())).decode("ascii")
-    common = read_text("page/words.js")
-    worker = constant("LAYOUT", layout()) + read_text("page/reader.js") + common + read_text("page/worker.js")
-    script = constant("LAYOUT", layout()) + constant("RULES", rules()) + constant("MODULE", code) + common + read_text("page/draw.js")
+    common = constant("LAYOUT", layout()) + name_constants() + read_text("page/words.js")
+    worker = common + "".join(read_text(f"page/{it}.js") for it in ("reader", "tables", "worker"))
+    script = common + constant("RULES", rules()) + constant("MODULE", code) + read_text("page/draw.js")
     if "</script" in worker + script:
         raise SystemExit("page: a script ends its own element")
     made = read_text("page/page.html")
