@@ -129,7 +129,8 @@ def read(lines: list[str]) -> tuple[list[Part], str]:
             title = {"header": "header", "segments": "program table", "sections": "section table"}[owner]
             parts.append(Part(start, length, title))
     parts += [it.part(it.start, it.start) for it in loads if not it.length]
-    machine = MACHINES.get(int(rows[0][3]), f"machine {rows[0][3]}")
+    number = int(rows[0][3])
+    machine = f"EM_{MACHINES[number]}" if number in MACHINES else f"machine {number}"
     head = f"{FILE_TYPES.get(int(rows[0][2]), 'type ' + rows[0][2])}, {machine}, {rows[0][1]}-endian"
     return parts, head
 
