@@ -516,9 +516,7 @@ def link(
     return _done(*_said("elfmap_link", *words))
 
 
-def map(
-    files: Sequence[Bytes], rules: str, *, base: int = 0x400000, page: int = 0x1000
-) -> str:
+def map(files: Sequence[Bytes], rules: str, *, base: int = 0x400000, page: int = 0x1000) -> str:
     """The lines of `elfmap map` on these objects, and their relocated bytes by the rules.
 
     Raises what `link` does.

@@ -211,9 +211,7 @@ class Comparison:
                 yield self._sides.both(what, ours, theirs)
 
 
-def only_in(
-    sides: Sides, what: str, one: dict[Key, int], other: dict[Key, int], words: Callable[[Key], str]
-) -> Iterator[str]:
+def only_in(sides: Sides, what: str, one: dict[Key, int], other: dict[Key, int], words: Callable[[Key], str]) -> Iterator[str]:
     for side, own, theirs in ((sides.first, one, other), (sides.second, other, one)):
         yield from (f"{what} {words(it)} is only in {side}" for it in own if it not in theirs)
 

@@ -7,6 +7,7 @@ such numbers and never interprets them: a name is for a reader alone. In the lis
 
 from __future__ import annotations
 
+
 def _numbered(names: str) -> dict[int, str]:
     found: dict[int, str] = {}
     number = 0

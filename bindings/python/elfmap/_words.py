@@ -17,8 +17,11 @@ from elfmap._rules import RULES
 
 
 class Bytes(Protocol):
-    def __len__(self) -> int: ...
-    def __getitem__(self, place: slice) -> bytes: ...
+    def __len__(self) -> int:
+        ...
+
+    def __getitem__(self, place: slice) -> bytes:
+        ...
 
 
 # The offset and the width of each field of a record.

@@ -145,7 +145,11 @@ class Explainer:
         else:
             return ""
         self.count += 1
-        lead = f"{printable(finding.path)}: offset {finding.offset:#x}: {finding.name} ({finding.rule})" if finding else printable(line.strip())
+        lead = (
+            f"{printable(finding.path)}: offset {finding.offset:#x}: {finding.name} ({finding.rule})"
+            if finding
+            else printable(line.strip())
+        )
         return "\n".join(self._filled.fill(it) for it in (lead, *found)) + "\n"
 
     def _refusal(self, position: int, numbers: list[int]) -> Iterator[str]:
@@ -247,12 +251,14 @@ def records(file: BinaryIO, end: bytes) -> Iterator[bytes]:
 def _parser() -> argparse.ArgumentParser:
     parser = argparse.ArgumentParser(
         prog=PROGRAM,
-        description="Says in words why elfmap rejects a file. Lines come from standard input: what elfmap printed of FILE..., or findings of "
-        "elfmap-lint (text or jsonl), which name their files.",
+        description="Says in words why elfmap rejects a file. Lines come from standard input: what elfmap printed of FILE..., "
+        "or findings of elfmap-lint (text or jsonl), which name their files.",
         epilog="Status: 0 explained, 2 usage, 3 a file can't be read.",
     )
     parser.add_argument("-0", dest="zero", action="store_true", help="lines end with a zero byte, as elfmap-lint -0 prints them")
-    parser.add_argument("words", metavar="[LINE] FILE", nargs="*", help="one line of elfmap, as words, in place of standard input; then the files")
+    parser.add_argument(
+        "words", metavar="[LINE] FILE", nargs="*", help="one line of elfmap, as words, in place of standard input; then the files"
+    )
     return parser
 
 

@@ -44,7 +44,13 @@ def _parser() -> argparse.ArgumentParser:
     add = parser.add_argument
     add("paths", metavar="PATH", nargs="*", help="a file, a directory, an archive, or - for standard input")
     add("--files0-from", metavar="FILE", help="read more PATHs from FILE, each ended by a zero byte; - is standard input")
-    add("--exclude", metavar="GLOB", action="append", default=[], help="skip files and directories of such names; with a / GLOB is of the whole path")
+    add(
+        "--exclude",
+        metavar="GLOB",
+        action="append",
+        default=[],
+        help="skip files and directories of such names; with a / GLOB is of the whole path",
+    )
     add("--class32", choices=("skip", "fail"), default="skip", help="skip files of class 32, or report them (default: skip)")
     add("--tables", action="store_true", help="check the tables too: symbols, relocations, groups, notes, dynamic arrays, hash tables")
     add("--object", action="store_true", help="check what `elfmap rewrite` and `link` need of an object")

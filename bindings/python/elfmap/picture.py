@@ -42,6 +42,11 @@ COLOURS = {
     "header and tables": "#4c566a", "code": "#c0504d", "data": "#e0a030", "constants": "#7f9f3f", "symbols and strings": "#4f81bd",
     "relocations": "#8064a2", "other": "#8aa0a8", "several parts": "#b9c4c9", "gap": "url(#gap)",
 }  # fmt: skip
+FONT = 'font-family="ui-monospace, DejaVu Sans Mono, Menlo, Consolas, monospace" font-size="12" fill="#20262e"'
+HATCHES = (
+    '<pattern id="gap" width="5" height="5" patternUnits="userSpaceOnUse" patternTransform="rotate(45)">'
+    '<rect width="5" height="5" fill="#fff3d6"/><rect width="2" height="5" fill="#d09a20"/></pattern>'
+)
 FILE_TYPES = {0: "no type", 1: "relocatable", 2: "executable", 3: "shared", 4: "core"}
 
 
@@ -213,11 +218,12 @@ def picture(title: str, parts: list[Part], head: str) -> str:
     rows = folded(parts)
     gaps = [it.length for it in parts if it.colour == "gap"]
     bottom = HEAD + ROW * len(rows)
+    across, down = LEFT + WIDTH + 24, bottom + 30
     counts = f"{total:,} bytes in {len(parts):,} parts, {sum(gaps):,} of them in {counted(len(gaps), 'gap')}; {head}"
     lines = [
-        f'<svg xmlns="http://www.w3.org/2000/svg" width="{LEFT + WIDTH + 24}" height="{bottom + 30}" viewBox="0 0 {LEFT + WIDTH + 24} {bottom + 30}" font-family="ui-monospace, DejaVu Sans Mono, Menlo, Consolas, monospace" font-size="12" fill="#20262e">',
-        '<defs><pattern id="gap" width="5" height="5" patternUnits="userSpaceOnUse" patternTransform="rotate(45)"><rect width="5" height="5" fill="#fff3d6"/><rect width="2" height="5" fill="#d09a20"/></pattern></defs>',
-        f'<rect width="{LEFT + WIDTH + 24}" height="{bottom + 30}" fill="#ffffff"/>',
+        f'<svg xmlns="http://www.w3.org/2000/svg" width="{across}" height="{down}" viewBox="0 0 {across} {down}" {FONT}>',
+        f"<defs>{HATCHES}</defs>",
+        f'<rect width="{across}" height="{down}" fill="#ffffff"/>',
         text(20, 28, cut(title, 60), more=' font-size="16" font-weight="bold"'),
         text(LEFT + WIDTH, 28, counts, "end"),
         *legend(rows),
@@ -234,8 +240,6 @@ def picture(title: str, parts: list[Part], head: str) -> str:
         text(20, bottom + 20, "Bars are drawn to scale; what is too short to be seen is drawn two points wide.", more=' fill="#66727a"')
     )
     return "\n".join(it for it in lines if it) + "\n</svg>\n"
-
-
 
 
 # ---- the program

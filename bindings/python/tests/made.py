@@ -74,9 +74,7 @@ GOOD = bytes(Made(text()).data)
 # .text has the bytes from 0x40 to below 0x73, and .data four bytes from 0x72 on.
 SHARING = Made(text(), (b".data", 1, b"\1\2\3\4", {})).with_field(2, "offset", 0x72)
 # Symbol 1 is of section 99, which isn't there (rule 51), and two sections link to the table.
-BROKEN_SYMBOLS = bytes(
-    Made(text(), symbols(3, (1, 0x10, 99)), (b".strtab", 3, b"\0f\0", {}), relocations(2, 1), relocations(2, 1)).data
-)
+BROKEN_SYMBOLS = bytes(Made(text(), symbols(3, (1, 0x10, 99)), (b".strtab", 3, b"\0f\0", {}), relocations(2, 1), relocations(2, 1)).data)
 CLASS_32 = b"\x7fELF\1\1\1" + bytes(64)
 
 

@@ -109,7 +109,8 @@ class LineTest(Case):
     def test_words_and_standard_input(self):
         expected = (
             "refused 33 114\n"
-            "SHARED_BYTE: the file is refused because a byte lies in two of these: the ELF header, the two tables, and the contents of sections\n"
+            "SHARED_BYTE: the file is refused because a byte lies in two of these: "
+            "the ELF header, the two tables, and the contents of sections\n"
             "  (neither NULL nor NOBITS)\n"
             "bad.o, offset 114 (0x72): the content of section 1 .text [0x40, 0x73): byte 50: 0x90\n"
             "bad.o, offset 114 (0x72): the content of section 2 .data [0x72, 0x76): byte 0: 0x90\n"

@@ -89,10 +89,20 @@ class JunitTest(ReaderTest):
         self.assertEqual(self.report("junit", "a", "none"), 3)
         found = json.loads(read_by(READ, "report"))
         cases, member = found["cases"], f"a/lib.a({LONG.decode()})"
-        names = {"a/aligned.o", "a/bad.o", "a/good.o", "a/lib.a(good.o)", member, "a/short.o", "a/symbols.o", "a/\\xff<&\"'>\\x01%.o", "none"}
+        names = {
+            "a/aligned.o",
+            "a/bad.o",
+            "a/good.o",
+            "a/lib.a(good.o)",
+            member,
+            "a/short.o",
+            "a/symbols.o",
+            "a/\\xff<&\"'>\\x01%.o",
+            "none",
+        }
         self.assertEqual((set(cases), found["suites"]), (names, ["elfmap-lint"]))
         self.assertEqual(found["counts"], [9, 6, 1])
-        (kind, rule, message), = cases["a/bad.o"]
+        ((kind, rule, message),) = cases["a/bad.o"]
         self.assertEqual((kind, rule, message[:32]), ("Failure", "SHARED_BYTE", "offset 0x72: SHARED_BYTE (33): t"))
         self.assertEqual((cases["a/good.o"], cases["none"][0][:2]), ([], ["Error", "unreadable"]))
 
