@@ -10,6 +10,7 @@ checked all the same.
 from __future__ import annotations
 
 import argparse
+import importlib
 import os
 import stat
 import sys
@@ -17,7 +18,7 @@ import tempfile
 import time
 from collections.abc import Iterator, Sequence
 from itertools import chain
-from typing import BinaryIO, Optional
+from typing import Any, BinaryIO, Optional
 
 from elfmap import _library
 from elfmap._commands import DONE, FOUND, UNREADABLE, USAGE, complain, failure, run_script
@@ -66,22 +67,38 @@ def _parser() -> argparse.ArgumentParser:
 
 
 class Progress:
-    """How many files were checked, on a terminal alone."""
+    """How many files were checked, on a terminal alone: by tqdm where it is installed."""
 
     def __init__(self) -> None:
         self._is_shown = sys.stderr.isatty()
         self._next = time.monotonic() + 0.3
+        self._bar = _bar() if self._is_shown else None
 
     def tell(self, report: Report) -> None:
-        if self._is_shown and time.monotonic() >= self._next:
-            self._next = time.monotonic() + 0.1
+        if not self._is_shown or time.monotonic() < self._next:
+            return
+        self._next = time.monotonic() + 0.1
+        if self._bar is not None:
+            self._bar.set_postfix_str(f"{len(report.findings)} findings", refresh=False)
+            self._bar.update(report.checked - self._bar.n)
+        else:
             sys.stderr.write(f"\r{report.checked} files checked, {len(report.findings)} findings\x1b[K")
             sys.stderr.flush()
 
     def end(self) -> None:
-        if self._is_shown:
+        if self._bar is not None:
+            self._bar.close()
+        elif self._is_shown:
             sys.stderr.write("\r\x1b[K")
             sys.stderr.flush()
+
+
+def _bar() -> Any:
+    try:
+        tqdm = importlib.import_module("tqdm")
+    except ImportError:
+        return None
+    return tqdm.tqdm(desc="files checked", unit="", leave=False, file=sys.stderr)
 
 
 class Run:

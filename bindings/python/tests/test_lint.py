@@ -23,7 +23,7 @@ from xml.etree import ElementTree
 
 import elfmap
 from elfmap import _archives, _checks, _findings, _formats
-from elfmap import _rules, _sources, _walk, _words, _workers, build, lint
+from elfmap import _rules, _sources, _walk, _words, _workers, lint
 from elfmap._inspect import Depth, Inspector
 
 from tests.made import BROKEN_SYMBOLS, BSD, CLASS_32, ENVIRONMENT, GNU, GOOD, LONG, PACKAGE, SHARING
@@ -443,6 +443,19 @@ class StatusTest(Case):
             self.assertEqual("7 files checked" in said.getvalue(), is_terminal)
             self.assertEqual(bool(said.getvalue()), is_terminal)
 
+    def test_progress_by_tqdm(self):
+        """Where it is installed: a module of this name stands in for it."""
+        bar = mock.Mock(n=3)
+        said = mock.Mock(isatty=lambda: True)
+        with mock.patch.dict(sys.modules, tqdm=mock.Mock(tqdm=lambda **_: bar)), mock.patch.object(sys, "stderr", said):
+            progress = lint.Progress()
+            with mock.patch("time.monotonic", return_value=2.0**40):
+                progress.tell(_findings.Report(checked=7))
+            progress.end()
+        bar.update.assert_called_once_with(4)
+        bar.close.assert_called_once_with()
+        said.write.assert_not_called()
+
     def test_nothing_to_check(self):
         self.put(text=b"no ELF file")
         self.assertEqual(self.lint("text")[0], 0)
@@ -578,6 +591,13 @@ class TreeTest(Case):
         for words in (["a", "a/b"], ["a/b", "a"], ["a", "a", "a/b/bad.o", "a/b/bad.o"]):
             self.assertSaid(words, 1, [b"a/b/bad.o: " + SHARED, summary])
 
+    def test_a_gibibyte_of_zeros(self):
+        for name, front in (("zeros", b""), ("long.o", bytes(Made((b".filler", 8, b"", dict(size=2**40))).data))):
+            with open(name, "wb") as it:
+                it.write(front)
+                it.truncate(2**30)
+        self.assertSaid(["--tables", "."], 0, [b"0 findings in 0 of 1 ELF file; skipped: 1 not ELF"])
+
     def test_names_of_any_bytes(self):
         for it in range(1, 256):
             if it not in b"/.":
@@ -639,16 +659,6 @@ class WorkersTest(Case):
         _workers.Pool(lambda: lambda paths: _findings.Report(), 3, lambda it: None).run(iter([[b"a"]] * 5))
         with self.assertRaises(ChildProcessError):
             os.waitpid(-1, os.WNOHANG)
-
-
-class ExamplesTest(unittest.TestCase):
-    def test_their_words_are_those_of_the_program(self):
-        for name in ("pre-commit-hooks.yaml", "lint-workflow.yml"):
-            words = (PACKAGE / "examples" / name).read_text(encoding="utf-8")
-            calls = re.findall(r"elfmap-lint (--.*)", words)
-            self.assertTrue(calls or "elfmap-lint" in words)
-            for it in calls:
-                lint._parser().parse_args(it.split())
 
 
 if __name__ == "__main__":

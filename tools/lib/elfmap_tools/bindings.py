@@ -124,7 +124,7 @@ def bindings(tally: Tally, options: Namespace) -> None:
         count_run(tally, ran, sum(int(it) for it, _ in found), sum(int(it) for _, it in found))
 
 
-CRATES, COMMANDS = crates_of(VERDICTS, ENGINES), ("cc", "ar", "objcopy", "cargo", JSONSCHEMA, JUNITPARSER)
+CRATES, COMMANDS = crates_of(VERDICTS, ENGINES), ("cc", "ar", "objcopy", "cargo", "git", "pre-commit", JSONSCHEMA, JUNITPARSER)
 TESTS = [
     Test("bindings", "the bindings for Rust and Python, and what they declare", bindings, COMMANDS, CRATES),
     Test("explain", "a file that breaks each rule, and what elfmap-explain says of it", explain),

@@ -15,7 +15,7 @@ COMMANDS = {
     "binutils": "ar as ld nm objcopy readelf", "binaryen": "wasm-opt", "black": "black", "cargo-web": "cargo", "chromium": "chromium",
     "clang": "clang", "elfutils": "eu-elflint", "g++": "c++ g++", "gcc": "cc gcc", "git": "git", "groff": "groff",
     "libclang-rt-14-dev": SANITIZERS, "libklibc-dev": KLIBC, "lld": "ld.lld", "llvm": "llvm-objcopy", "man-db": "man", "mypy": "mypy",
-    "nodejs": "node", "pkg-config": "pkg-config", "python3-jsonschema": JSONSCHEMA, "python3-junitparser": JUNITPARSER,
+    "nodejs": "node", "pkg-config": "pkg-config", "pre-commit": "pre-commit", "python3-jsonschema": JSONSCHEMA, "python3-junitparser": JUNITPARSER,
     "rustc-web": "rustc", "valgrind": "valgrind",
 }  # fmt: skip
 PACKAGES = {command: package for package, commands in COMMANDS.items() for command in commands.split()}
