@@ -219,7 +219,7 @@ def picture(title: str, parts: list[Part], head: str) -> str:
     gaps = [it.length for it in parts if it.colour == "gap"]
     bottom = HEAD + ROW * len(rows)
     across, down = LEFT + WIDTH + 24, bottom + 30
-    counts = f"{total:,} bytes in {len(parts):,} parts, {sum(gaps):,} of them in {counted(len(gaps), 'gap')}; {head}"
+    counts = f"{total:,} bytes in {counted(len(parts), 'part')}, {sum(gaps):,} of them in {counted(len(gaps), 'gap')}; {head}"
     lines = [
         f'<svg xmlns="http://www.w3.org/2000/svg" width="{across}" height="{down}" viewBox="0 0 {across} {down}" {FONT}>',
         f"<defs>{HATCHES}</defs>",

@@ -5,7 +5,6 @@ The answers of the program stand in the cases, and `tools/test cases` compares t
 """
 
 import contextlib
-import io
 import json
 import os
 import re
@@ -15,7 +14,6 @@ import tempfile
 import time
 import unittest
 from pathlib import Path
-from unittest import mock
 
 from elfmap import _hints, _names, _rules, _words, build, explain
 from elfmap._linked import Linked
