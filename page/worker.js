@@ -6,7 +6,13 @@ const SHARED_BYTE = 33;
 // The owners of parts, as the reader has them: sections have the numbers from FIRST_SECTION on.
 const SECTION_TABLE = 1;
 const FIRST_SECTION = 3;
-const ENTRY_WORDS = { 2: "symbol", 11: "symbol", 4: "relocation", 9: "relocation", 6: "entry", 17: "word", 5: "word" };
+// What a table holds, by its type, and the fields of an entry by their offsets. A word has no fields.
+const ENTRY_WORDS = { 2: "symbol", 11: "symbol", 4: "relocation", 9: "relocation", 6: "entry", 17: "word", 5: "word", 18: "word" };
+const ENTRY_FIELDS = {
+    symbol: { st_name: 0, st_info: 4, st_other: 5, st_shndx: 6, st_value: 8, st_size: 16 },
+    relocation: { r_offset: 0, r_info: 8, r_addend: 16 },
+    entry: { d_tag: 0, d_un: 8 },
+};
 // So many bytes are read at a time.
 const PIECE = 1 << 24;
 // So many rows are looked through before the next message is heard.
@@ -188,11 +194,19 @@ function place_of(at) {
         return { words: `${name}, which is ${reader.section(index)[name]}, of the header of ${section_words(index)}`, length: width };
     }
     if (!(section > 0)) return { words: "this byte", length: 1 };
-    const { sh_type } = reader.section(section);
-    const [size, kind] = [ENTRY_SIZES[sh_type] ?? 1, ENTRY_WORDS[sh_type] ?? "byte"];
-    const index = Math.floor((at - part.start) / size);
+    const kind = ENTRY_WORDS[reader.section(section).sh_type] ?? "byte";
+    const size = kind === "byte" ? 1 : kind === "word" ? 4 : ENTRY_SIZES[reader.section(section).sh_type];
+    const [index, within] = [Math.floor((at - part.start) / size), (at - part.start) % size];
     const name = kind === "symbol" ? ` ${symbol_row(section, index)?.name || "(no name)"}` : "";
-    return { words: `${kind} ${index}${name} of ${section_words(section)}`, length: size === 1 ? 1 : size - (at - part.start) % size };
+    const [field, next] = field_in(kind, within, size);
+    return { words: `${field}${kind} ${index}${name} of ${section_words(section)}`, length: next - within };
+}
+
+// The field of an entry that holds an offset in it, as the beginning of a sentence, and where it ends.
+function field_in(kind, within, size) {
+    const fields = Object.entries(ENTRY_FIELDS[kind] ?? {}).filter(([, at]) => at < size);
+    const index = fields.findLastIndex(([, at]) => at <= within);
+    return index < 0 ? ["", size] : [`${fields[index][0]} of `, fields[index + 1]?.[1] ?? size];
 }
 
 // ---- A search: the indexes of the rows that hold a text, in any column
