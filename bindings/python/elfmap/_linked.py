@@ -9,13 +9,17 @@ from __future__ import annotations
 import struct
 from collections.abc import Iterator, Sequence
 from functools import cached_property
+from itertools import islice
+from typing import Optional
 
 from elfmap._names import machine_words
 from elfmap._words import NULL, RELA, SYMTAB, SYMTAB_SHNDX, Words, entry_words
 
 _GLOBAL, _UNDEFINED, _COMMON = 1, 0, 0xFFF2
 _SYMBOL_SIZE = 24
-_SYMBOLS_AT_ONCE = 1 << 14
+_SYMBOLS_AT_ONCE, _BYTES_AT_ONCE = 1 << 14, 1 << 20
+# A name is looked for at so many places of the string table.
+_MOST_OFFSETS = 1 << 20
 # The rules by what their positions are of.
 _OF_OPTIONS, _OF_SECTIONS, _OF_SYMBOLS = (1, 10, 11), (3, 4, 5), (6, 7, 8, 9)
 _MISMATCH, _EMPTY_SIGNATURE, _BAD_COMMON, _TWO_DEFINITIONS, UNDEFINED_NAME = 2, 5, 7, 8, 9
@@ -46,24 +50,41 @@ class Linked:
         """The index of the section at a position; the count where there is none."""
         return self._kept[position] if position < len(self._kept) else self.words.count
 
-    @cached_property
-    def definitions(self) -> dict[str, int]:
-        """The first global definition of each name."""
-        found: dict[str, int] = {}
-        for index in self._global_definitions():
-            found.setdefault(self.words.symbol_name(self.symbols, index), index)
-        return found
+    def raw_name(self, position: int) -> bytes:
+        """The name of the symbol at a position."""
+        return self.words.name(self._strings, self.words.symbol(self.symbols, position + 1, "st_name"))
 
-    def _global_definitions(self) -> Iterator[int]:
-        words, record = self.words, struct.Struct(f"{self.words.order}4xBxH16x")
+    def first_definition(self, name: bytes) -> Optional[int]:
+        """The first symbol that is a global definition of a name."""
+        offsets = set(islice(self._offsets_of(name), _MOST_OFFSETS)) if name else set()
+        return next((index for index, offset in self._global_definitions() if offset in offsets), None)
+
+    @cached_property
+    def _strings(self) -> int:
+        return self.words.section(self.symbols, "sh_link")
+
+    def _offsets_of(self, name: bytes) -> Iterator[int]:
+        """Where a name is in the string table: it may be the end of another one."""
+        wanted = name + b"\0"
+        start, end = self.words.content(self._strings)
+        for at in range(start, min(end, len(self.words.data)), _BYTES_AT_ONCE):
+            block = self.words.data[at : min(at + _BYTES_AT_ONCE + len(name), end)]
+            found = block.find(wanted)
+            while found >= 0:
+                yield at - start + found
+                found = block.find(wanted, found + 1)
+
+    def _global_definitions(self) -> Iterator[tuple[int, int]]:
+        """Their indexes, and the offsets of their names."""
+        words, record = self.words, struct.Struct(f"{self.words.order}IBxH16x")
         start, end = words.content(self.symbols)
         step = _SYMBOL_SIZE * _SYMBOLS_AT_ONCE
         for at in range(start, min(end, len(words.data)), step):
             block = words.data[at : min(at + step, end)]
             whole = block[: len(block) // _SYMBOL_SIZE * _SYMBOL_SIZE]
-            for index, (info, section) in enumerate(record.iter_unpack(whole), (at - start) // _SYMBOL_SIZE):
+            for index, (name, info, section) in enumerate(record.iter_unpack(whole), (at - start) // _SYMBOL_SIZE):
                 if index and info >> 4 == _GLOBAL and section not in (_UNDEFINED, _COMMON):
-                    yield index
+                    yield index, name
 
     # ---- in words
 
@@ -121,11 +142,11 @@ def link_words(files: Sequence[Linked], rule: int, file: int, index: int, entry:
 
 def _two_definitions(files: Sequence[Linked], file: int, index: int) -> str:
     """Both definitions of a name, of which the given one is the second."""
-    name, symbol = files[file].symbol_name(index), index + 1
+    name, symbol = files[file].raw_name(index), index + 1
     before = "an earlier file has it"
     for position, it in enumerate(files[: file + 1]):
-        other = it.definitions.get(name)
+        other = it.first_definition(name)
         if other is not None and (position, other) < (file, symbol):
             before = f"{it.path} has it at symbol {other}"
             break
-    return f"two definitions of {name}, the second one at symbol {symbol} of {files[file].path}; {before}"
+    return f"two definitions of {files[file].symbol_name(index)}, the second one at symbol {symbol} of {files[file].path}; {before}"

@@ -142,12 +142,15 @@ class Words:
         links.append(self.section(links[1], "sh_link"))
         return [it for it in (*links, *map(self.index_table, symbols)) if it]
 
-    def string(self, table: int, at: int) -> str:
-        """The name at an offset of a string table, in letters that can be printed."""
+    def name(self, table: int, at: int) -> bytes:
+        """The name at an offset of a string table, or its first 4096 bytes."""
         start, end = self.content(table)
         is_there = 0 < table < self.count and start + at < end
-        name = self.data[start + at : min(end, start + at + 4096)] if is_there else b""
-        return printable(name.split(b"\0")[0])
+        return self.data[start + at : min(end, start + at + 4096)].split(b"\0")[0] if is_there else b""
+
+    def string(self, table: int, at: int) -> str:
+        """That name, in letters that can be printed."""
+        return printable(self.name(table, at))
 
     def section_name(self, index: int) -> str:
         return self.string(self.names, self.section(index, "sh_name"))
