@@ -3,6 +3,7 @@
     elfmap-explain FILE... < LINES     what elfmap printed of these files
     elfmap-explain LINE FILE...        one such line, as words
     elfmap-explain < FINDINGS          what elfmap-lint printed, as text or as jsonl
+    elfmap-explain FILE...             on a terminal: what the rules of images and tables say
 
 Other lines are passed over. The status is 0, 2 for a usage error, and 3 if a file can't be
 read. The other lines are explained all the same.
@@ -32,6 +33,7 @@ from contextlib import ExitStack
 from typing import BinaryIO, NamedTuple, Optional
 
 from elfmap._archives import Content, Contents, is_archive, members, printed
+from elfmap._checks import Checks
 from elfmap._commands import USAGE, UNREADABLE, complain, run_script
 from elfmap._hints import hints, link_hints
 from elfmap._linked import Linked, link_words
@@ -151,6 +153,22 @@ class Explainer:
             else printable(line.strip())
         )
         return "\n".join(self._filled.fill(it) for it in (lead, *found)) + "\n"
+
+    def refusals(self) -> Iterator[bytes]:
+        """Why the given files are rejected, and their tables, in the lines of the program."""
+        checks = Checks(tables=True, objects=False)
+        for position, file in enumerate(self._named):
+            source = file.words.data
+            assert isinstance(source, Source)
+            try:
+                faults = checks.faults(source)
+            except Unreadable as fault:
+                self.lost = True
+                complain(PROGRAM, f"{file.path}: {fault.reason}".encode("utf-8", "surrogateescape"))
+                continue
+            for it in faults:
+                table = f"{it.table} " if it.table is not None else ""
+                yield f"file {position} refused {table}{it.rule} {it.at}".encode()
 
     def _refusal(self, position: int, numbers: list[int]) -> Iterator[str]:
         if len(numbers) == 4:
@@ -284,7 +302,12 @@ def main(words: Optional[Sequence[str]] = None) -> int:
             return UNREADABLE
         explainer = Explainer(named, stack.enter_context(Files()))
         line = " ".join(options.words[:count]).encode()
-        lines = iter([line]) if count else records(sys.stdin.buffer, b"\0" if options.zero else b"\n")
+        if count:
+            lines = iter([line])
+        elif named and sys.stdin.isatty():
+            lines = explainer.refusals()
+        else:
+            lines = records(sys.stdin.buffer, b"\0" if options.zero else b"\n")
         return _explain_all(explainer, lines)
     return UNREADABLE
 

@@ -18,6 +18,7 @@ from pathlib import Path
 from elfmap import _hints, _names, _rules, _words, build, explain
 from elfmap._linked import Linked
 
+from tests.test_lint import setUpModule  # noqa: F401
 from tests.made import BROKEN_SYMBOLS, ENVIRONMENT, GNU, GOOD, LONG, SHARING, Made, relocations, symbols, text, thin
 
 sys.path.insert(0, str(build.REPOSITORY / "tools" / "lib"))
@@ -116,6 +117,15 @@ class LineTest(Case):
         for words, stdin in ((["refused", "33", "114", "bad.o"], b""), (["bad.o"], b"ok 1 2 3\nrefused 33 114\n")):
             status, out, _ = self.explain(*words, stdin=stdin)
             self.assertEqual((status, out[: len(expected)]), (0, expected))
+
+    def test_files_on_a_terminal(self):
+        """Without lines the files are checked, by the library."""
+        self.put(tables__o=BROKEN_SYMBOLS)
+        with contextlib.ExitStack() as stack:
+            named = [explain.named_file(it, stack) for it in ("good.o", "bad.o", "tables.o")]
+            lines = list(explain.Explainer(named, stack.enter_context(explain.Files())).refusals())
+        self.assertEqual(lines, [b"file 1 refused 33 114", b"file 2 refused 2 51 150"])
+        self.assertIn("the table in section 2 .symtab", explained(lines[1].decode(), ["good.o", "bad.o", "tables.o"]))
 
     def test_no_refusal(self):
         self.assertEqual(self.explain("good.o", stdin=b"ok 680 3 0\n"), (0, "no refusal\n", ""))

@@ -1,6 +1,6 @@
 """`tools/test bindings`: the crate in bindings/rust by `cargo test`, and the package in bindings/python by unittest, over the library of
 `tools/release library`; what both declare of the library is what include/elfmap.h declares. Nothing is fetched, and nothing is written but
-in a temporary folder. `tools/test explain` runs the package's tests of elfmap-explain alone, which need nothing built."""
+in a temporary folder. `tools/test explain` runs the package's tests of elfmap-explain alone."""
 
 import ctypes, os, re, sys, tempfile
 from argparse import Namespace
@@ -96,9 +96,9 @@ def count_run(tally: Tally, ran: Texts, passed: int, failed: int) -> None:
     tally.count(passed + failed, [ran.stdout] * bool(failed) + ["the same"] * (failed - 1))
 
 
-def unittests(tally: Tally, room: str, *modules: str, **env: str) -> None:
+def unittests(tally: Tally, room: str, *modules: str) -> None:
     """Runs tests of the package: all, or those of some modules."""
-    own = environment(XDG_CACHE_HOME=f"{room}/cache", PYTHONDONTWRITEBYTECODE="1", **env)
+    own = environment(ELFMAP_LIB_DIR=FOLDER, XDG_CACHE_HOME=f"{room}/cache", PYTHONDONTWRITEBYTECODE="1")
     ran = said(sys.executable, "-m", "unittest", *modules, folder=PACKAGE, env=own)
     count = sum(int(it) for it in re.findall(r"^Ran (\d+) tests?", ran.stdout, re.M))
     # A test of many files fails for each of them.
@@ -107,6 +107,7 @@ def unittests(tally: Tally, room: str, *modules: str, **env: str) -> None:
 
 
 def explain(tally: Tally, options: Namespace) -> None:
+    packed()
     with tempfile.TemporaryDirectory(prefix="explain-") as room:
         unittests(tally, room, "tests.test_explain")
 
@@ -116,7 +117,7 @@ def bindings(tally: Tally, options: Namespace) -> None:
     packed()
     with tempfile.TemporaryDirectory(prefix="bindings-") as room:
         cargo = {"CARGO_HOME": f"{room}/cargo", "CARGO_TARGET_DIR": f"{room}/target", "CARGO_INCREMENTAL": "0"}
-        unittests(tally, room, ELFMAP_LIB_DIR=FOLDER)
+        unittests(tally, room)
         ran = said(
             "cargo", "test", "--frozen", "--no-fail-fast", folder=f"{TOP}/bindings/rust", env=environment(ELFMAP_LIB_DIR=FOLDER, **cargo)
         )
@@ -127,5 +128,5 @@ def bindings(tally: Tally, options: Namespace) -> None:
 CRATES, COMMANDS = crates_of(VERDICTS, ENGINES), ("cc", "ar", "objcopy", "cargo", "git", "pre-commit", JSONSCHEMA, JUNITPARSER)
 TESTS = [
     Test("bindings", "the bindings for Rust and Python, and what they declare", bindings, COMMANDS, CRATES),
-    Test("explain", "a file that breaks each rule, and what elfmap-explain says of it", explain),
+    Test("explain", "a file that breaks each rule, and what elfmap-explain says of it", explain, COMMANDS[:3], CRATES),
 ]
