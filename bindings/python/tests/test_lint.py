@@ -12,6 +12,7 @@ import re
 import shutil
 import signal
 import stat
+import struct
 import subprocess
 import sys
 import tempfile
@@ -180,6 +181,20 @@ class DepthTest(Case):
                 shown = {(int(rule), int(place)) for rule, place in lines}
                 # An image that is refused is refused as an object by the same fault.
                 self.assertEqual(found, shown | self.no_object(made.data), at)
+
+    def test_tables_some_at_a_time(self):
+        """Each table is shown by itself: the faults are the same, whatever byte is changed."""
+        parts = [symbols(3, (1, 0x10, 0xFFFF), (1, 0x20, 1)), (b".strtab", 3, b"\0f\0", {}), relocations(2, 1), relocations(2, 2)]
+        index_table = (b".symtab_shndx", 18, struct.pack("<3I", 0, 0xFF00, 0), dict(link=2, entsize=4))
+        group = (b".group", 17, struct.pack("<2I", 1, 4), dict(link=2, info=1, entsize=4))
+        made = Made(text(), *parts, index_table, group, (b".note", 7, struct.pack("<3I", 4, 0, 1) + b"abc\0", {}))
+        checks = _checks.Checks(True, True)
+        for at in range(64, len(made.data)):
+            for value in (0, 2, 0xEE):
+                with self.changed(made.data, at, value) as source:
+                    whole = checks.faults(source)
+                    with mock.patch.object(_checks, "_MOST_AT_ONCE", 0):
+                        self.assertEqual(checks.faults(source), whole, (at, value))
 
     def long_file(self):
         filler = (b".filler", 1, bytes(1 << 17), {})
