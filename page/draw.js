@@ -90,6 +90,7 @@ async function show_file() {
         await open_table("sections", 0, 0);
     }
     await show_bytes(start - start % 16, [start, start + length]);
+    if (!fault) await ask("findings").then(show_findings, ({ message }) => { $("findings-words").textContent = `The tables are not checked: ${message}.`; });
     document.body.dataset.took = state.open.took.toFixed(1);
 }
 
@@ -99,10 +100,13 @@ function show_verdict() {
     const { fault, header, file } = state.open;
     const verdict = $("verdict");
     verdict.className = fault ? "broken" : "sound";
+    $("findings-words").textContent = "";
+    $("findings").replaceChildren();
     if (fault) {
         const [name, sentence, advice] = RULES[fault.rule];
         verdict.textContent = `Refused by rule ${fault.rule}, ${name}, at ${hex(fault.at)}: ${sentence}.`;
-        $("advice").textContent = `${field_at(fault.at).words} What to do: ${advice}.`;
+        const words = ` ${shared_words() ?? field_at(fault.at).words} What to do: ${advice}.`;
+        $("advice").replaceChildren(link_to({ bytes: fault.at, length: field_at(fault.at).length }, `Go to ${hex(fault.at)}.`), words);
     } else {
         verdict.textContent = "Sound: this file keeps all 33 rules of an ELF-64 file.";
         $("advice").textContent = "";
@@ -110,9 +114,26 @@ function show_verdict() {
     $("facts").textContent = header && file ? facts(header, file) : "";
 }
 
+// The owners of a byte that several parts have.
+function shared_words() {
+    const owners = state.open.owners.map(({ words, start, end }) => `${words} [${hex(start)}, ${hex(end)})`);
+    return owners.length > 1 ? `${owners.slice(0, -1).join(", ")} and ${owners.at(-1)} share this byte.` : null;
+}
+
+// Of each table that breaks a rule: which one, by which rule, where, and what to do.
+function show_findings(findings) {
+    $("findings-words").textContent = findings.length
+        ? `${counted(findings.length, "table breaks", "tables break")} a rule of tables.` : "No table breaks a rule of tables.";
+    $("findings").replaceChildren(...findings.map(({ section, table, rule, at, words, length }) => {
+        const [name, sentence, advice] = RULES[rule];
+        const [own, place] = [link_to({ kind: "sections", row: section }, table), link_to({ bytes: at, length }, hex(at))];
+        return element("li", null, {}, own, `: rule ${rule}, ${name}, at `, place, `, ${words}: ${sentence}. What to do: ${advice}.`);
+    }));
+}
+
 function facts(header, file) {
     const order = header.e_ident[5] === 2 ? "big-endian" : "little-endian";
-    return `${named("e_type", header.e_type)}, machine ${header.e_machine}, ${order}, entry ${hex(header.e_entry)}, ` +
+    return `${named("e_type", header.e_type)}, ${machine_words(header.e_machine)}, ${order}, entry ${hex(header.e_entry)}, ` +
         `${counted(file.sections, "section")}, ${counted(file.segments, "segment")}`;
 }
 

@@ -1,14 +1,15 @@
 "use strict";
-// lines.js MODULE LAYOUT FILE..: of each file what the page's reader tells of it, in the lines that `elfmap show` prints; for
-// tools/test page to compare. Groups have no lines here. Run by node.
+// lines.js MODULE LAYOUT FILE..: of each file what the page's reader and its check of tables tell of it, in the lines that `elfmap show`
+// prints; for tools/test page to compare. Groups that break no rule have no lines here. Run by node.
 const fs = require("fs");
 const vm = require("vm");
 
 const [, , module_path, layout_path, ...paths] = process.argv;
 const LAYOUT = JSON.parse(fs.readFileSync(layout_path, "utf8"));
-const scripts = ["words.js", "reader.js"].map((it) => fs.readFileSync(`${__dirname}/${it}`, "utf8")).join("\n");
+const scripts = ["words.js", "reader.js", "tables.js"].map((it) => fs.readFileSync(`${__dirname}/${it}`, "utf8")).join("\n");
 // Classes and constants of a script are no properties of its global object: the last line gives what is used here.
-const { Reader, KINDS, STRING_TAGS, hex } = vm.runInThisContext(`${scripts}\n({ Reader, KINDS, STRING_TAGS, hex });`);
+const { Reader, Tables, TABLE_RULES, KINDS, STRING_TAGS, hex } = vm.runInThisContext(
+    `${scripts}\n({ Reader, Tables, TABLE_RULES, KINDS, STRING_TAGS, hex });`);
 const compiled = new WebAssembly.Module(fs.readFileSync(module_path));
 const GAP_BYTES = 16;
 
@@ -32,7 +33,13 @@ function* lines_of(reader) {
     for (let k = 0; k < count; k++) yield part_line(reader, reader.part(k));
     for (let k = 0; k < file.sections; k++) yield section_line(reader, k);
     for (let k = 0; k < file.segments; k++) yield segment_line(reader.segment(k), k);
-    for (let k = 0; k < file.sections; k++) yield* table_lines(reader, k);
+    const headers = Array.from({ length: file.sections }, (_, k) => reader.section(k));
+    const tables = new Tables(reader.bytes(), file.ei_data !== 2, headers, file.e_shoff);
+    for (const [k, { sh_type }] of headers.entries()) {
+        const refused = TABLE_RULES[sh_type] && tables.verdict(k);
+        if (refused) yield `refused ${k} ${refused.rule} ${refused.at}`;
+        else yield* table_lines(reader, k);
+    }
 }
 
 function part_line(reader, part) {
@@ -61,8 +68,7 @@ function* table_lines(reader, section) {
     if (!KINDS[type] || !table) return;
     const [line, entry] = { symbols: [symbol_line, "symbol"], relocations: [relocation_line, "relocation"], dynamic: [dynamic_line, "dynamic"],
         notes: [note_line, "note"] }[KINDS[type]];
-    // Of a table that breaks its rules an entry may not be there.
-    for (let k = 0, it; k < table.entries && (it = reader[entry](section, k)); k++) yield line(reader, section, k, it, type);
+    for (let k = 0; k < table.entries; k++) yield line(reader, section, k, reader[entry](section, k), type);
 }
 
 function symbol_line(reader, section, k, it) {
@@ -94,9 +100,7 @@ function hash_line(reader, section) {
     const linked = reader.section(section).sh_link;
     const count = Math.min(reader.table(linked)?.entries ?? 0, 50);
     for (let k = 1; k < count; k++) {
-        // What is linked may be no symbol table.
-        const place = reader.symbol(linked, k)?.name;
-        if (!place) return `hash ${section} lost symbol ${k}`;
+        const place = reader.symbol(linked, k).name;
         const name = reader.bytes(place.start, place.len).slice();
         const found = reader.find(section, name);
         const other = found === null ? null : reader.symbol(linked, found)?.name;

@@ -1,9 +1,8 @@
 "use strict";
-// Words for the numbers of records, as the gABI (System V ABI, generic part, chapters 4 and 5) names them.
+// Words for the numbers of records, as the gABI (System V ABI, generic part, chapters 4 and 5) names them. SECTION_TYPES, MACHINES and
+// RELOCATION_TYPES come from the Python package: names by their numbers, and those of relocations by the machine.
 
 const NAMES = {
-    sh_type: { 0: "NULL", 1: "PROGBITS", 2: "SYMTAB", 3: "STRTAB", 4: "RELA", 5: "HASH", 6: "DYNAMIC", 7: "NOTE", 8: "NOBITS", 9: "REL",
-        10: "SHLIB", 11: "DYNSYM", 14: "INIT_ARRAY", 15: "FINI_ARRAY", 16: "PREINIT_ARRAY", 17: "GROUP", 18: "SYMTAB_SHNDX" },
     p_type: { 0: "NULL", 1: "LOAD", 2: "DYNAMIC", 3: "INTERP", 4: "NOTE", 5: "SHLIB", 6: "PHDR", 7: "TLS" },
     e_type: { 0: "no type", 1: "relocatable", 2: "executable", 3: "shared object", 4: "core" },
     st_type: { 0: "NOTYPE", 1: "OBJECT", 2: "FUNC", 3: "SECTION", 4: "FILE", 5: "COMMON", 6: "TLS" },
@@ -21,7 +20,11 @@ const STRING_TAGS = [1, 14, 15, 29];
 const SECTION_FLAGS = ["W", "A", "X", "", "M", "S", "I", "L", "O", "G", "T", "C"];
 
 function named(kind, number) {
-    return NAMES[kind][number] ?? hex(number);
+    return (kind === "sh_type" ? SECTION_TYPES : NAMES[kind])[number] ?? hex(number);
+}
+
+function machine_words(number) {
+    return `machine ${number}${MACHINES[number] ? ` (EM_${MACHINES[number]})` : ""}`;
 }
 
 function hex(number) {
@@ -78,7 +81,7 @@ const COLUMNS = {
     ],
     relocations: [
         ["offset", (it) => hex(it.r_offset)],
-        ["type", (it) => String(it.relocation_type)],
+        ["type", (it) => it.type_name ?? String(it.relocation_type)],
         ["symbol", (it) => `${it.symbol} ${it.name}`.trim(), (it) => ({ kind: "symbols", table: it.linked, row: it.symbol })],
         ["addend", (it) => signed(it.r_addend)],
         ["applies to", (it) => `section ${it.target}`, (it) => it.target && { kind: "sections", row: it.target }],

@@ -2,6 +2,17 @@
 // Reads a dropped file into the module's memory, judges it, and answers what the page asks of it.
 // It runs beside the page, which stays quick.
 
+const SHARED_BYTE = 33;
+// The owners of parts, as the reader has them: sections have the numbers from FIRST_SECTION on.
+const SECTION_TABLE = 1;
+const FIRST_SECTION = 3;
+// What a table holds, by its type, and the fields of an entry by their offsets. A word has no fields.
+const ENTRY_WORDS = { 2: "symbol", 11: "symbol", 4: "relocation", 9: "relocation", 6: "entry", 17: "word", 5: "word", 18: "word" };
+const ENTRY_FIELDS = {
+    symbol: { st_name: 0, st_info: 4, st_other: 5, st_shndx: 6, st_value: 8, st_size: 16 },
+    relocation: { r_offset: 0, r_info: 8, r_addend: 16 },
+    entry: { d_tag: 0, d_un: 8 },
+};
 // So many bytes are read at a time.
 const PIECE = 1 << 24;
 // So many rows are looked through before the next message is heard.
@@ -33,6 +44,7 @@ const QUESTIONS = {
     notes: (from, count, table) => rows(from, count, (k) => note_row(table, k)),
     bytes: (from, count) => reader.bytes(from, Math.max(0, Math.min(count, reader.length - from))).slice(),
     around: (offset) => part_at(offset),
+    findings,
     search,
 };
 
@@ -62,7 +74,22 @@ function judged() {
     const header = reader.header();
     const file = reader.file();
     const parts = fault ? 0 : reader.account();
-    return { fault, took, length: reader.length, header, file, parts, tables: fault ? [] : tables(file.sections) };
+    const owners = fault?.rule === SHARED_BYTE ? owners_of(fault.at, file) : [];
+    return { fault, took, length: reader.length, header, file, parts, owners, tables: fault ? [] : tables(file.sections) };
+}
+
+// What a byte belongs to, of which a refused file has several.
+function owners_of(at, file) {
+    const ranges = [
+        ["the ELF header", 0, 64],
+        ["the section header table", file.e_shoff, file.e_shoff + 64 * file.sections],
+        ["the program header table", file.e_phoff, file.e_phoff + 56 * file.segments],
+    ];
+    for (let index = 1; index < file.sections; index++) {
+        const { sh_type, sh_offset, sh_size } = reader.section(index);
+        if (has_content({ sh_type })) ranges.push([`the content of ${section_words(index)}`, sh_offset, sh_offset + sh_size]);
+    }
+    return ranges.filter(([, start, end]) => start <= at && at < end).map(([words, start, end]) => ({ words, start, end }));
 }
 
 // The sections that hold tables, each with its kind and the number of its entries.
@@ -102,6 +129,10 @@ function section_name(index) {
     return section_names.get(index);
 }
 
+function section_words(index) {
+    return `section ${index} ${section_name(index) || "(no name)"}`;
+}
+
 function symbol_row(table, index) {
     const symbol = reader.symbol(table, index);
     if (!symbol) return null;
@@ -115,7 +146,8 @@ function relocation_row(table, index) {
     const linked = reader.section(table);
     const symbol = symbol_row(linked.sh_link, relocation.symbol);
     const name = symbol?.name || symbol?.where || "";
-    return { ...relocation, name, linked: linked.sh_link, target: linked.sh_info };
+    const type_name = RELOCATION_TYPES[reader.header().e_machine]?.[relocation.relocation_type];
+    return { ...relocation, name, type_name, linked: linked.sh_link, target: linked.sh_info };
 }
 
 function dynamic_row(table, index) {
@@ -141,6 +173,40 @@ function part_at(offset) {
         else return { index: middle, ...part };
     }
     return null;
+}
+
+// ---- The findings of tables
+
+function findings() {
+    const { ei_data, e_shoff, sections } = reader.file();
+    const headers = Array.from({ length: sections }, (_, index) => reader.section(index));
+    const found = new Tables(reader.bytes(), ei_data !== 2, headers, e_shoff).findings();
+    return found.map((it) => ({ ...it, table: section_words(it.section), ...place_of(it.at) }));
+}
+
+// What holds an offset of a sound file, in words, and how many bytes that is.
+function place_of(at) {
+    const part = part_at(at);
+    const section = part ? part.owner - FIRST_SECTION : -1;
+    if (part?.owner === SECTION_TABLE) {
+        const index = Math.floor((at - part.start) / 64);
+        const { name, width } = LAYOUT.elfmap_section.fields.findLast((it) => part.start + 64 * index + it.at <= at);
+        return { words: `${name}, which is ${reader.section(index)[name]}, of the header of ${section_words(index)}`, length: width };
+    }
+    if (!(section > 0)) return { words: "this byte", length: 1 };
+    const kind = ENTRY_WORDS[reader.section(section).sh_type] ?? "byte";
+    const size = kind === "byte" ? 1 : kind === "word" ? 4 : ENTRY_SIZES[reader.section(section).sh_type];
+    const [index, within] = [Math.floor((at - part.start) / size), (at - part.start) % size];
+    const name = kind === "symbol" ? ` ${symbol_row(section, index)?.name || "(no name)"}` : "";
+    const [field, next] = field_in(kind, within, size);
+    return { words: `${field}${kind} ${index}${name} of ${section_words(section)}`, length: next - within };
+}
+
+// The field of an entry that holds an offset in it, as the beginning of a sentence, and where it ends.
+function field_in(kind, within, size) {
+    const fields = Object.entries(ENTRY_FIELDS[kind] ?? {}).filter(([, at]) => at < size);
+    const index = fields.findLastIndex(([, at]) => at <= within);
+    return index < 0 ? ["", size] : [`${fields[index][0]} of `, fields[index + 1]?.[1] ?? size];
 }
 
 // ---- A search: the indexes of the rows that hold a text, in any column

@@ -54,7 +54,7 @@ _SMALL_ROOM = 64
 _SYMBOLS, _RELOCATIONS, _NOTES, _DYNAMIC, _HASH = (2, 11), (4, 9), (7,), (6,), (5,)
 _OWNERS = ("header", "section headers", "program headers")
 _GAP = 2**64 - 1
-_UNKNOWN = ("UNKNOWN_RULE", "it is refused by a rule without a sentence")
+_UNKNOWN = ("UNKNOWN_RULE", "it is refused by a rule without a sentence", "")
 
 
 class Refused(ValueError):
@@ -516,9 +516,7 @@ def link(
     return _done(*_said("elfmap_link", *words))
 
 
-def map(
-    files: Sequence[Bytes], rules: str, *, base: int = 0x400000, page: int = 0x1000
-) -> str:
+def map(files: Sequence[Bytes], rules: str, *, base: int = 0x400000, page: int = 0x1000) -> str:
     """The lines of `elfmap map` on these objects, and their relocated bytes by the rules.
 
     Raises what `link` does.

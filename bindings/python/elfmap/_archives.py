@@ -14,9 +14,10 @@ from __future__ import annotations
 import os
 import re
 from collections.abc import Iterator
+from contextlib import contextmanager
 from typing import NamedTuple, Optional
 
-from elfmap._sources import Source, Unreadable
+from elfmap._sources import Source, Unreadable, opened
 
 MAGIC, THIN_MAGIC = b"!<arch>\n", b"!<thin>\n"
 _HEADER = 60
@@ -111,21 +112,52 @@ def members(source: Source, path: bytes) -> Iterator[Member]:
     return _Archive(source, path).members()
 
 
-class Nested:
-    """Archives within thin ones, of which the last one's members are remembered."""
+class Content(NamedTuple):
+    """A file, or a member of an archive: the path to print, and its bytes in `file`."""
+
+    path: bytes
+    file: bytes
+    source: Source
+
+
+class Contents:
+    """Opens the members of archives, also those that a thin one names in another archive.
+
+    The members of the last such archive are remembered.
+    """
 
     def __init__(self) -> None:
         self._path: Optional[bytes] = None
         self._members: dict[int, Member] = {}
 
-    def member(self, source: Source, path: bytes, origin: int) -> Member:
+    @contextmanager
+    def opened(self, archive: bytes, source: Source, member: Member) -> Iterator[Content]:
+        name = printed(archive, member)
+        if member.path is None:
+            yield Content(name, archive, Source(source.handle, source.start + member.start, member.size))
+            return
+        with opened(member.path) as file:
+            if member.origin is None:
+                yield Content(name, member.path, file)
+                return
+            inner = self._at(file, member.path, member.origin)
+            with self.opened(member.path, file, inner) as content:
+                yield content._replace(path=b"%s(%s(%s))" % (archive, member.name, inner.name))
+
+    def _at(self, source: Source, path: bytes, origin: int) -> Member:
         """The member whose header is at the origin."""
         if self._path != path:
             self._path, self._members = path, {}
             self._members.update((it.header, it) for it in members(source, path))
-        if origin not in self._members:
+        found = self._members.get(origin)
+        if not found or found.origin is not None:
             raise Damaged(origin, "there is no member that the thin archive names")
-        return self._members[origin]
+        return found
+
+
+def printed(archive: bytes, member: Member) -> bytes:
+    """The path of a member, as `lib.a(member.o)`."""
+    return b"%s(%s)" % (archive, member.name)
 
 
 def is_archive(source: Source) -> bool:

@@ -4,6 +4,11 @@ Of a file that is longer than a few pages not all bytes are read. The rules of i
 at the header, at the two tables of headers, and at the first and the last byte of the
 section name string table; those of tables and objects also at the contents of sections
 that hold tables. The verdict does not depend on any other byte.
+
+The verdicts of tables are lines of `elfmap show`, which also prints each entry. So that
+memory is bounded by the largest table, and not by all of them, tables of many bytes are
+shown some at a time: all other tables have another type meanwhile. A table's verdict
+depends on those alone that it links to, and on index tables of its symbols.
 """
 
 from __future__ import annotations
@@ -15,11 +20,16 @@ from typing import NamedTuple, Optional
 
 from elfmap import _library
 from elfmap._sources import LONGEST, Room, Source, Unreadable
-from elfmap._words import DYNSYM, SYMTAB, Words
+from elfmap._words import DYNSYM, SYMTAB, SYMTAB_SHNDX, Words
 
 # The types of sections that the rules of tables look into: SYMTAB, STRTAB, RELA, HASH,
-# DYNAMIC, NOTE, REL, DYNSYM, GROUP and SYMTAB_SHNDX.
+# DYNAMIC, NOTE, REL, DYNSYM, GROUP and SYMTAB_SHNDX. A string table and an index table have
+# no lines of their own.
 _TABLE_TYPES = {2, 3, 4, 5, 6, 7, 9, 11, 17, 18}
+_SHOWN_TYPES = _TABLE_TYPES - {3, 18}
+_PROGBITS = 1
+# Tables of so many bytes are shown at once; a larger one by itself.
+_MOST_AT_ONCE = 1 << 24
 _REFUSED = b"\nrefused "
 # How much room there is for each file. What is above the most is given back after one.
 _LEAST_EXTENTS, _MOST_EXTENTS = 256, 1 << 16
@@ -35,6 +45,70 @@ class Fault(NamedTuple):
     table: Optional[int] = None
 
 
+class Table(NamedTuple):
+    """A section: its index, and what its header says of its table."""
+
+    section: int
+    kind: int
+    start: int
+    size: int
+    link: int
+
+
+class Batch(NamedTuple):
+    """Tables that are shown at once, with all that their rules look at, and those besides."""
+
+    shown: list[Table]
+    needed: list[Table]
+    others: list[Table]
+    sections: list[Table]
+
+
+def batch_of(sections: list[Table]) -> Batch:
+    """All tables of a file."""
+    tables = [it for it in sections if it.kind in _TABLE_TYPES]
+    return Batch([it for it in tables if it.kind in _SHOWN_TYPES], tables, [], sections)
+
+
+def batches(whole: Batch, most: int) -> Iterator[Batch]:
+    """All tables, in batches of so many bytes, or of as many as the largest one needs."""
+    if sum(it.size for it in whole.shown) <= most:
+        yield whole
+        return
+    needs = _Needs(whole)
+    limit = max(most, *(it.size for it in whole.shown))
+    shown: list[Table] = []
+    for it in whole.shown:
+        if shown and sum(own.size for own in shown) + it.size > limit:
+            yield needs.batch(shown)
+            shown = []
+        shown.append(it)
+    yield needs.batch(shown)
+
+
+class _Needs:
+    """What the rules of a table look at beside it."""
+
+    def __init__(self, whole: Batch) -> None:
+        self._whole = whole
+        self._index_tables: dict[int, list[int]] = {}
+        for it in whole.needed:
+            if it.kind == SYMTAB_SHNDX:
+                self._index_tables.setdefault(it.link, []).append(it.section)
+
+    def batch(self, shown: list[Table]) -> Batch:
+        """These tables, those that they link to and so on, and the index tables of symbols."""
+        sections, found = self._whole.sections, set[int]()
+        waiting = [it.section for it in shown]
+        while waiting:
+            index = waiting.pop()
+            if index < len(sections) and index not in found:
+                found.add(index)
+                waiting += [sections[index].link, *self._index_tables.get(index, ())]
+        needed = [it for it in self._whole.needed if it.section in found]
+        return Batch(shown, needed, [it for it in self._whole.needed if it.section not in found], sections)
+
+
 class Checks:
     """Checks one file after another, in the same memory."""
 
@@ -45,23 +119,35 @@ class Checks:
         self._room = Room()
         self._extents = (_library.Extent * _LEAST_EXTENTS)()
         self._text = bytearray(_LEAST_TEXT if tables else 0)
+        # Whether tables in the memory have another type than in the file.
+        self._is_masked = False
 
     def faults(self, source: Source) -> list[Fault]:
         """What the file breaks: of the image the first rule, or else of each table."""
         size = min(len(source), LONGEST)
+        self._is_masked = False
+        self._load(source, size)
+        refused = self._image(size)
+        if refused or not (self._tables or self._objects):
+            return [refused] if refused else []
+        whole = batch_of(self._sections(size))
+        found = self._table_faults(source, size, whole) if self._tables else []
+        if not self._objects:
+            return found
+        self._read_batch(source, size, whole)
+        fault = self._object_fault(size)
+        is_known = fault and any((it.rule, it.at) == (fault.rule, fault.at) for it in found)
+        return found if not fault or is_known else [*found, fault]
+
+    # ---- What is read
+
+    def _load(self, source: Source, size: int) -> None:
+        """Reads what the rules of images look at."""
         self._room.take(size)
         front = self._room.view[: min(size, Room.FRONT)]
         source.read_into(front, 0)
         if len(front) < size < LONGEST:
             self._read_headers(source, size)
-        refused = self._image(size)
-        if refused or not (self._tables or self._objects):
-            return [refused] if refused else []
-        if len(front) < size:
-            self._read_tables(source, size)
-        return self._more(source, size)
-
-    # ---- What is read
 
     def _read(self, source: Source, size: int, start: int, length: int) -> None:
         """Reads a part of the file, as far as it lies in it and is not there already."""
@@ -84,17 +170,28 @@ class Checks:
             for at in (name_table.sh_offset, name_table.sh_offset + name_table.sh_size - 1):
                 self._read(source, size, at, 1)
 
-    def _read_tables(self, source: Source, size: int) -> None:
-        for start, length in self._contents(size):
-            self._read(source, size, start, length)
+    def _sections(self, size: int) -> list[Table]:
+        """The section headers that the rules of tables look at."""
+        file = self._file(size)
+        record = struct.Struct(f"{_order(file)}4xI16x2QI20x")
+        table = self._room.view[file.e_shoff : file.e_shoff + 64 * file.sections] if file.e_shoff else b""
+        return [Table(index, *fields) for index, fields in enumerate(record.iter_unpack(table))]
 
-    def _contents(self, size: int) -> list[tuple[int, int]]:
-        """Where the contents are that the rules of tables look into."""
+    def _file(self, size: int) -> _library.Numbers:
         file = _library.Numbers()
         self._library.elfmap_file(self._room.address, size, file)
-        record = struct.Struct(f"{'>' if file.ei_data == 2 else '<'}4xI16x2Q24x")
-        table = self._room.view[file.e_shoff : file.e_shoff + 64 * file.sections] if file.e_shoff else b""
-        return [(start, length) for kind, start, length in record.iter_unpack(table) if kind in _TABLE_TYPES]
+        return file
+
+    def _read_batch(self, source: Source, size: int, batch: Batch) -> None:
+        """Reads the contents of tables, and gives all other tables another type."""
+        if batch.others or self._is_masked:
+            self._load(source, size)
+        self._is_masked = bool(batch.others)
+        file = self._file(size)
+        for it in batch.others:
+            struct.pack_into(f"{_order(file)}I", self._room.view, file.e_shoff + 64 * it.section + 4, _PROGBITS)
+        for it in batch.needed:
+            self._read(source, size, it.start, it.size)
 
     # ---- The verdicts
 
@@ -108,17 +205,15 @@ class Checks:
             self._extents = (_library.Extent * fault.at)()
         return None
 
-    def _more(self, source: Source, size: int) -> list[Fault]:
-        found = self._table_faults(source, size) if self._tables else []
-        refused = self._object_fault(size) if self._objects else None
-        is_known = refused and any((it.rule, it.at) == (refused.rule, refused.at) for it in found)
-        return found if not refused or is_known else [*found, refused]
-
-    def _table_faults(self, source: Source, size: int) -> list[Fault]:
+    def _table_faults(self, source: Source, size: int, whole: Batch) -> list[Fault]:
         """The faults of tables, each once: the first table of those that share it."""
         groups: dict[tuple[int, int], list[int]] = {}
-        for section, rule, at in self._refused(size):
-            groups.setdefault((rule, at), []).append(section)
+        for batch in batches(whole, _MOST_AT_ONCE):
+            self._read_batch(source, size, batch)
+            own = {it.section for it in batch.shown}
+            for section, rule, at in self._refused(size):
+                if section in own:
+                    groups.setdefault((rule, at), []).append(section)
         words = Words(source) if groups else None
         return [Fault(rule, at, _owner(words, it) if words else it[0]) for (rule, at), it in groups.items()]
 
@@ -161,6 +256,10 @@ class Checks:
         if status == _library.NO_MEMORY:
             raise Unreadable("there is no memory for its tables")
         return None
+
+
+def _order(file: _library.Numbers) -> str:
+    return ">" if file.ei_data == 2 else "<"
 
 
 def _owner(words: Words, tables: list[int]) -> int:

@@ -106,7 +106,7 @@ def _pattern(globs: Sequence[bytes]) -> Optional[re.Pattern[bytes]]:
     return re.compile(text.encode("latin-1"))
 
 
-_NUMBERS = {name: number for number, (name, _) in RULES.items()}
+_NUMBERS = {name: number for number, (name, *_) in RULES.items()}
 
 
 def rule_number(word: str) -> int:
@@ -166,8 +166,5 @@ class Baseline:
 
 
 def baseline_text(findings: Iterable[Finding]) -> bytes:
-    entries = [
-        {"path": path, "rule": rule, "sections": list(sections)}
-        for path, rule, sections in map(_known, findings)
-    ]
+    entries = [{"path": path, "rule": rule, "sections": list(sections)} for path, rule, sections in map(_known, findings)]
     return json.dumps({"version": 1, "findings": entries}, indent=1).encode("ascii") + b"\n"

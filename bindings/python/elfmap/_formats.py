@@ -8,7 +8,6 @@ from itertools import groupby
 from typing import Any
 from urllib.parse import quote_from_bytes
 
-from elfmap._advice import ADVICE
 from elfmap._findings import Finding, Report, Unread
 from elfmap._rules import RULES
 from elfmap._words import printable
@@ -127,10 +126,10 @@ def _sarif_rule(rule: int, name: str) -> dict[str, Any]:
     words = {"id": name}
     if rule not in RULES:
         return words
-    advice = ADVICE[rule]
+    _, sentence, advice = RULES[rule]
     return {
         **words,
-        "shortDescription": {"text": f"rule {rule}: {RULES[rule][1]}"},
+        "shortDescription": {"text": f"rule {rule}: {sentence}"},
         "help": {"text": advice},
         "defaultConfiguration": {"level": "error"},
     }

@@ -6,7 +6,7 @@ from collections.abc import Iterator
 from contextlib import contextmanager
 from typing import NamedTuple
 
-from elfmap._archives import Member, Nested, is_archive, members
+from elfmap._archives import Content, Contents, is_archive, members, printed
 from elfmap._checks import TOO_LONG_AS_OBJECT, Checks, Fault
 from elfmap._findings import Finding, Report, Unread
 from elfmap._rules import RULES
@@ -36,7 +36,7 @@ class Inspector:
     def __init__(self, depth: Depth) -> None:
         self._depth = depth
         self._checks = Checks(depth.tables, depth.objects)
-        self._nested = Nested()
+        self._contents = Contents()
         self._report = Report()
 
     def files(self, paths: list[bytes]) -> Report:
@@ -64,51 +64,31 @@ class Inspector:
             self._report.unreadable.append(Unread(path, "there is no memory for it"))
 
     def _file(self, path: bytes, source: Source) -> None:
-        if is_archive(source):
-            self._archive(path, source)
-        else:
-            self._image(path, path, source)
-
-    def _archive(self, path: bytes, source: Source) -> None:
+        if not is_archive(source):
+            self._image(Content(path, path, source))
+            return
         for member in members(source, path):
-            name = b"%s(%s)" % (path, member.name)
-            with self._guarded(name):
-                if member.path is None:
-                    self._image(name, path, Source(source.handle, member.start, member.size))
-                else:
-                    self._thin_member(name, member, member.path)
+            with self._guarded(printed(path, member)), self._contents.opened(path, source, member) as it:
+                self._image(it)
 
-    def _thin_member(self, name: bytes, member: Member, path: bytes) -> None:
-        """A member that is a file of its own, or one of another archive."""
-        with opened(path) as source:
-            if member.origin is None:
-                self._image(name, path, source)
-                return
-            inner = self._nested.member(source, path, member.origin)
-            own = b"%s(%s)" % (name[:-1], inner.name) + b")"
-            if inner.path is None:
-                self._image(own, path, Source(source.handle, inner.start, inner.size))
-            else:
-                with opened(inner.path) as file:
-                    self._image(own, inner.path, file)
-
-    def _image(self, path: bytes, file: bytes, source: Source) -> None:
-        head = source[:5]
+    def _image(self, it: Content) -> None:
+        head = it.source[:5]
         if head[:4] != _MAGIC:
             self._report.no_elf += 1
         elif head[4:] == bytes([_CLASS_32]) and not self._depth.fails_class_32:
             self._report.class_32 += 1
         else:
-            faults = self._checks.faults(source)
+            faults = self._checks.faults(it.source)
             self._report.checked += 1
             if self._depth.keeps_names:
-                self._report.names.append(path)
-            words = Words(source) if faults else None
+                self._report.names.append(it.path)
+            words = Words(it.source) if faults else None
             if words:
-                self._report.findings += [_finding(path, file, source, words, it) for it in faults]
+                self._report.findings += [_finding(it, words, fault) for fault in faults]
 
 
-def _finding(path: bytes, file: bytes, source: Source, words: Words, fault: Fault) -> Finding:
+def _finding(content: Content, words: Words, fault: Fault) -> Finding:
+    path, file, source = content
     if fault.rule == TOO_LONG_AS_OBJECT:
         return Finding(path, 0, fault.rule, *_TOO_LONG, (), file, source.start)
     told = explain(words, fault.rule, fault.at, fault.table)

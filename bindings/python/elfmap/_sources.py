@@ -111,9 +111,14 @@ def standard_input() -> Source:
     if stat.S_ISREG(found.st_mode):
         start = os.lseek(0, 0, os.SEEK_CUR)
         return Source(0, start, max(found.st_size - start, 0))
-    handle, size = os.memfd_create("standard input"), 0
+    return whole(0)
+
+
+def whole(reader: int) -> Source:
+    """All that can be read from an open file, in memory."""
+    handle, size = os.memfd_create("what was read"), 0
     while size < LONGEST:
-        content = os.read(0, min(1 << 20, LONGEST - size))
+        content = os.read(reader, min(1 << 20, LONGEST - size))
         if not content:
             break
         size += os.pwrite(handle, content, size)

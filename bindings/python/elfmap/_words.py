@@ -12,13 +12,16 @@ from collections.abc import Iterable, Iterator
 from typing import NamedTuple, Optional, Protocol
 
 from elfmap import _library
-from elfmap._advice import ADVICE
+from elfmap._names import relocation_type, section_type
 from elfmap._rules import RULES
 
 
 class Bytes(Protocol):
-    def __len__(self) -> int: ...
-    def __getitem__(self, place: slice) -> bytes: ...
+    def __len__(self) -> int:
+        ...
+
+    def __getitem__(self, place: slice) -> bytes:
+        ...
 
 
 # The offset and the width of each field of a record.
@@ -55,8 +58,6 @@ _IN_HEX = "flags addr off align entry value st_info r_info filesz memsz shndx".s
 
 NULL, SYMTAB, STRTAB, RELA, HASH, DYNAMIC_SECTION, NOTE_SECTION = 0, 2, 3, 4, 5, 6, 7
 NOBITS, REL, DYNSYM, GROUP, SYMTAB_SHNDX, XINDEX = 8, 9, 11, 17, 18, 0xFFFF
-_TYPES = "NULL PROGBITS SYMTAB STRTAB RELA HASH DYNAMIC NOTE NOBITS REL SHLIB DYNSYM"
-TYPES = {**dict(enumerate(_TYPES.split())), GROUP: "GROUP", SYMTAB_SHNDX: "SYMTAB_SHNDX"}
 ENTRY_SIZES = {SYMTAB: 24, DYNSYM: 24, RELA: 24, REL: 16, DYNAMIC_SECTION: 16, GROUP: 4, SYMTAB_SHNDX: 4, HASH: 4}
 # Where a rule's offset is. Any other rule's may be in each of these.
 PARTS = {
@@ -86,6 +87,7 @@ class Words:
         self.data = data
         self.order = ">" if data[5:6] == b"\2" else "<"
         self.table, names, segments = self.number(40, 8), self.number(62, 2), self.number(56, 2)
+        self.machine = self.number(18, 2)
         counted = self.number(60, 2) or self.number(self.table + 32, 8)
         self.count = min(counted, len(data) // 64) if self.table else 0
         self.names = self.section(0, "sh_link") if names == XINDEX else names
@@ -140,12 +142,15 @@ class Words:
         links.append(self.section(links[1], "sh_link"))
         return [it for it in (*links, *map(self.index_table, symbols)) if it]
 
-    def string(self, table: int, at: int) -> str:
-        """The name at an offset of a string table, in letters that can be printed."""
+    def name(self, table: int, at: int) -> bytes:
+        """The name at an offset of a string table, or its first 4096 bytes."""
         start, end = self.content(table)
         is_there = 0 < table < self.count and start + at < end
-        name = self.data[start + at : min(end, start + at + 4096)] if is_there else b""
-        return printable(name.split(b"\0")[0])
+        return self.data[start + at : min(end, start + at + 4096)].split(b"\0")[0] if is_there else b""
+
+    def string(self, table: int, at: int) -> str:
+        """That name, in letters that can be printed."""
+        return printable(self.name(table, at))
 
     def section_name(self, index: int) -> str:
         return self.string(self.names, self.section(index, "sh_name"))
@@ -164,9 +169,9 @@ class Words:
         return f"section {index} {self.section_name(index) or '(no name)'}"
 
     def typed_words(self, index: int) -> str:
-        kind = self.section(index, "sh_type")
-        typed = f" of type {TYPES.get(kind, hex(kind))}" if index < self.count else ""
-        return self.section_words(index) + typed
+        if index >= self.count:
+            return self.section_words(index)
+        return f"{self.section_words(index)} of type {section_type(self.section(index, 'sh_type'), self.machine)}"
 
     def symbol_name(self, table: int, index: int) -> str:
         name = self.string(self.section(table, "sh_link"), self.symbol(table, index, "st_name"))
@@ -248,9 +253,10 @@ def entry_words(file: Words, index: int, at: int) -> str:
     if kind in (SYMTAB, DYNSYM):
         return _symbol_entry(file, index, position, at)
     if kind in (RELA, REL):
-        named = file.symbol_words(link, file.number(begins + 8, 8) >> 32)
+        info = file.number(begins + 8, 8)
         place = f"{file.number(begins, 8):#x} of {file.section_words(file.section(index, 'sh_info'))}"
-        return f"relocation {position}, of {named}, at {place}"
+        typed = f"of type {relocation_type(info & 0xFFFFFFFF, file.machine)}"
+        return f"relocation {position}, of {file.symbol_words(link, info >> 32)}, at {place}, {typed}"
     if kind == DYNAMIC_SECTION:
         return f"entry {position}, of tag {file.number(begins, 8)}: {file.field_words(DYNAMIC, begins, at)}"
     if kind == NOTE_SECTION:
@@ -314,21 +320,21 @@ def explain(file: Words, rule: int, at: int, table: Optional[int] = None) -> Tol
     """Why a rule is broken at an offset, of an image or of the table in a section."""
     if rule == SHARED_BYTE:
         return _shared_byte(file, at)
-    found = _found(file, rule, at, file.related(table) if table is not None else ())
+    found = found_at(file, rule, at, table)
     indexes = [it.section for it in found if it.section]
     words = [it.words for it in found]
     if table is not None and table not in indexes:
         indexes.insert(0, table)
         words.insert(0, f"the table in {file.typed_words(table)}")
     names = [file.section_name(it) or f"section {it}" for it in indexes]
-    return Told(f"{'; '.join(words)}; {reason(rule)}; {ADVICE[rule]}", names)
+    return Told(f"{'; '.join(words)}; {reason(rule)}; {RULES[rule][2]}", names)
 
 
-def _found(file: Words, rule: int, at: int, near: Iterable[int]) -> list[Place]:
+def found_at(file: Words, rule: int, at: int, table: Optional[int] = None) -> list[Place]:
     """What holds the offset, and of it that which the rule looks at."""
     if at >= len(file.data):
         return [Place("end", None, f"the file ends there, with {len(file.data)} bytes")]
-    found = list(file.places(at, near))
+    found = list(file.places(at, file.related(table) if table is not None else ()))
     wanted = [kind for kind, rules in PARTS.items() if rule in rules] or list(PARTS)
     return [it for it in found if it.kind in wanted] or found or [Place("gap", None, "in no part of the file")]
 
@@ -343,4 +349,4 @@ def _shared_byte(file: Words, at: int) -> Told:
         names += [words] if section else []
     *before, last = parts or ["no part"]
     owners = f"{', '.join(before)} and {last}" if before else last
-    return Told(f"{owners} share byte {at:#x}; {ADVICE[SHARED_BYTE]}", names)
+    return Told(f"{owners} share byte {at:#x}; {RULES[SHARED_BYTE][2]}", names)

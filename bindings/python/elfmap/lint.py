@@ -10,24 +10,25 @@ checked all the same.
 from __future__ import annotations
 
 import argparse
+import importlib
 import os
-import signal
 import stat
 import sys
 import tempfile
 import time
 from collections.abc import Iterator, Sequence
 from itertools import chain
-from typing import BinaryIO, Optional
+from typing import Any, BinaryIO, Optional
 
 from elfmap import _library
+from elfmap._commands import DONE, FOUND, UNREADABLE, USAGE, complain, failure, run_script
 from elfmap._findings import BadWord, Baseline, Globs, Ignored, Report, Unread, baseline_text
 from elfmap._inspect import Depth, Inspector
 from elfmap._sources import reason_of, standard_input
 from elfmap._walk import Walk, chunks
 from elfmap._workers import Pool, Work
 
-CLEAN, FOUND, USAGE, UNREADABLE = range(4)
+PROGRAM = "elfmap-lint"
 FORMATS = ("text", "jsonl", "sarif", "junit", "github")
 _OF_ONE_DOCUMENT = ("sarif", "junit")
 # What a process is given at once: enough to do for a millisecond or more.
@@ -37,14 +38,20 @@ _STANDARD_INPUT = b"-"
 
 def _parser() -> argparse.ArgumentParser:
     parser = argparse.ArgumentParser(
-        prog="elfmap-lint",
+        prog=PROGRAM,
         description="Checks all ELF-64 files of files, directories and .a archives.",
         epilog="Status: 0 clean, 1 findings, 2 usage, 3 something can't be read.",
     )
     add = parser.add_argument
     add("paths", metavar="PATH", nargs="*", help="a file, a directory, an archive, or - for standard input")
     add("--files0-from", metavar="FILE", help="read more PATHs from FILE, each ended by a zero byte; - is standard input")
-    add("--exclude", metavar="GLOB", action="append", default=[], help="skip files and directories of such names; with a / GLOB is of the whole path")
+    add(
+        "--exclude",
+        metavar="GLOB",
+        action="append",
+        default=[],
+        help="skip files and directories of such names; with a / GLOB is of the whole path",
+    )
     add("--class32", choices=("skip", "fail"), default="skip", help="skip files of class 32, or report them (default: skip)")
     add("--tables", action="store_true", help="check the tables too: symbols, relocations, groups, notes, dynamic arrays, hash tables")
     add("--object", action="store_true", help="check what `elfmap rewrite` and `link` need of an object")
@@ -59,32 +66,39 @@ def _parser() -> argparse.ArgumentParser:
     return parser
 
 
-def _said(words: bytes) -> None:
-    """Prints a message on standard error."""
-    try:
-        sys.stderr.buffer.write(b"elfmap-lint: " + words + b"\n")
-        sys.stderr.flush()
-    except OSError:
-        pass
-
-
 class Progress:
-    """How many files were checked, on a terminal alone."""
+    """How many files were checked, on a terminal alone: by tqdm where it is installed."""
 
     def __init__(self) -> None:
         self._is_shown = sys.stderr.isatty()
         self._next = time.monotonic() + 0.3
+        self._bar = _bar() if self._is_shown else None
 
     def tell(self, report: Report) -> None:
-        if self._is_shown and time.monotonic() >= self._next:
-            self._next = time.monotonic() + 0.1
+        if not self._is_shown or time.monotonic() < self._next:
+            return
+        self._next = time.monotonic() + 0.1
+        if self._bar is not None:
+            self._bar.set_postfix_str(f"{len(report.findings)} findings", refresh=False)
+            self._bar.update(report.checked - self._bar.n)
+        else:
             sys.stderr.write(f"\r{report.checked} files checked, {len(report.findings)} findings\x1b[K")
             sys.stderr.flush()
 
     def end(self) -> None:
-        if self._is_shown:
+        if self._bar is not None:
+            self._bar.close()
+        elif self._is_shown:
             sys.stderr.write("\r\x1b[K")
             sys.stderr.flush()
+
+
+def _bar() -> Any:
+    try:
+        tqdm = importlib.import_module("tqdm")
+    except ImportError:
+        return None
+    return tqdm.tqdm(desc="files checked", unit="", leave=False, file=sys.stderr)
 
 
 class Run:
@@ -178,7 +192,7 @@ class Run:
         from elfmap import _formats
 
         for lost in self.report.unreadable:
-            _said(_formats.one_line(lost.path) + b": " + lost.reason.encode())
+            complain(PROGRAM, _formats.one_line(lost.path) + b": " + lost.reason.encode())
         end = b"\0" if self._options.zero else b"\n"
         with Output(self._options.output) as it:
             for part in _formats.FORMATS[self._options.format](self.report, end):
@@ -188,9 +202,9 @@ class Run:
         if self.report.unreadable:
             return UNREADABLE
         if self._options.fail_on_empty and not self.report.checked:
-            _said(b"no ELF file was checked")
+            complain(PROGRAM, b"no ELF file was checked")
             return FOUND
-        return FOUND if self.report.findings else CLEAN
+        return FOUND if self.report.findings else DONE
 
 
 class Output:
@@ -234,7 +248,7 @@ def main(words: Optional[Sequence[str]] = None) -> int:
     try:
         run = Run(options)
     except BadWord as fault:
-        _said(str(fault).encode("utf-8", "surrogateescape"))
+        complain(PROGRAM, str(fault).encode("utf-8", "surrogateescape"))
         return USAGE
     try:
         run.check()
@@ -242,19 +256,14 @@ def main(words: Optional[Sequence[str]] = None) -> int:
     except BrokenPipeError:
         pass  # The reader has gone.
     except OSError as fault:
-        name = f"{fault.filename}: " if fault.filename else ""
-        _said(f"{name}{reason_of(fault)}".encode("utf-8", "surrogateescape"))
+        complain(PROGRAM, failure(fault))
         return UNREADABLE
     return run.status()
 
 
 def script() -> None:
     """The console script."""
-    try:
-        status = main()
-    except KeyboardInterrupt:
-        status = 128 + signal.SIGINT
-    sys.exit(status)
+    run_script(PROGRAM, main)
 
 
 if __name__ == "__main__":

@@ -23,14 +23,14 @@ from urllib.parse import unquote_to_bytes
 from xml.etree import ElementTree
 
 import elfmap
-from elfmap import _advice, _archives, _checks, _findings, _formats
-from elfmap import _rules, _sources, _walk, _words, _workers, build, lint
+from elfmap import _archives, _checks, _findings, _formats
+from elfmap import _rules, _sources, _walk, _words, _workers, lint
 from elfmap._inspect import Depth, Inspector
 
-PACKAGE = Path(__file__).resolve().parents[1]
-RULES = build.REPOSITORY / "docs/RULES.md"
+from tests.made import BROKEN_SYMBOLS, BSD, CLASS_32, ENVIRONMENT, GNU, GOOD, LONG, PACKAGE, SHARING
+from tests.made import Made, archive_member, relocations, symbols, text, thin
+
 PROGRAM = [sys.executable, "-m", "elfmap.lint"]
-ENVIRONMENT = {**os.environ, "PYTHONPATH": os.pathsep.join([str(PACKAGE), os.environ.get("PYTHONPATH", "")])}
 SHARED = (
     b"offset 0x72: SHARED_BYTE (33): the content of .text [0x40, 0x73) and of .data [0x72, 0x76) "
     b"share byte 0x72; every byte of a file belongs to one of its parts"
@@ -42,105 +42,6 @@ def setUpModule():
     elfmap.check(GOOD)
     if "ELFMAP_LIB_DIR" in ENVIRONMENT:
         ENVIRONMENT["ELFMAP_LIB_DIR"] = os.path.abspath(ENVIRONMENT["ELFMAP_LIB_DIR"])
-
-
-class Made:
-    """A relocatable file: its sections, and at its end their names and headers.
-
-    A section is a name, a type, a content, and fields by their names.
-    """
-
-    FIELDS = dict(name=0, type=4, flags=8, addr=16, offset=24, size=32, link=40, info=44, align=48, entsize=56)
-
-    def __init__(self, *sections):
-        names, self.data, rows = b"\0", bytearray(64), [bytes(64)]
-        for name, kind, content, fields in sections:
-            self.data += bytes(-len(self.data) % 8)
-            rows.append(self.row(len(names), kind, len(self.data), len(content), fields))
-            self.data += content
-            names += name + b"\0"
-        own = len(names)
-        names += b".shstrtab\0"
-        rows.append(self.row(own, 3, len(self.data), len(names), {}))
-        self.names = len(self.data)
-        self.data += names
-        self.data += bytes(-len(self.data) % 8)
-        self.table = len(self.data)
-        self.data += b"".join(rows)
-        counts = 64, 0, 0, 64, len(rows), len(rows) - 1
-        self.data[:64] = struct.pack("<16sHHIQQQIHHHHHH", b"\x7fELF\2\1\1", 1, 62, 1, 0, 0, self.table, 0, *counts)
-
-    def row(self, name, kind, offset, size, fields):
-        it = dict(flags=0, addr=0, size=size, link=0, info=0, align=1, entsize=0) | fields
-        places = it["addr"], offset, it["size"], it["link"], it["info"], it["align"], it["entsize"]
-        return struct.pack("<IIQQQQIIQQ", name, kind, it["flags"], *places)
-
-    def with_field(self, index, field, value):
-        """Its bytes, with a field of a section header changed."""
-        data, at = bytearray(self.data), self.table + 64 * index + self.FIELDS[field]
-        width = 4 if field in ("name", "type", "link", "info") else 8
-        data[at : at + width] = value.to_bytes(width, "little")
-        return bytes(data)
-
-    def with_bytes(self, at, content):
-        data = bytearray(self.data)
-        data[at : at + len(content)] = content
-        return bytes(data)
-
-
-def text(name=b".text", content=b"\x90" * 0x33):
-    return name, 1, content, {}
-
-
-def symbols(link, *rows, info=1):
-    """A symbol table: of each symbol its st_name, st_info and st_shndx."""
-    content = bytes(24) + b"".join(struct.pack("<IBBHQQ", *(name, kind, 0, section, 0, 0)) for name, kind, section in rows)
-    return b".symtab", 2, content, dict(link=link, info=info, entsize=24)
-
-
-def relocations(link, *named):
-    content = b"".join(struct.pack("<QQq", 0, symbol << 32 | 2, 0) for symbol in named)
-    return b".rela.text", 4, content, dict(link=link, info=1, entsize=24)
-
-
-GOOD = bytes(Made(text()).data)
-# .text has the bytes from 0x40 to below 0x73, and .data four bytes from 0x72 on.
-SHARING = Made(text(), (b".data", 1, b"\1\2\3\4", {})).with_field(2, "offset", 0x72)
-# Symbol 1 is of section 99, which isn't there (rule 51), and two sections link to the table.
-BROKEN_SYMBOLS = bytes(
-    Made(text(), symbols(3, (1, 0x10, 99)), (b".strtab", 3, b"\0f\0", {}), relocations(2, 1), relocations(2, 1)).data
-)
-CLASS_32 = b"\x7fELF\1\1\1" + bytes(64)
-
-
-def archive_member(name, content, ending=b"/"):
-    header = b"%-16s%-12d%-6d%-6d%-8o%-10d`\n" % (name + ending, 0, 0, 0, 0o644, len(content))
-    return header + content + b"\n" * (len(content) % 2)
-
-
-LONG = b"a name of more than sixteen letters.o"
-GNU = (
-    b"!<arch>\n"
-    + archive_member(b"", bytes(4))
-    + archive_member(b"/", LONG + b"/\n")
-    + archive_member(b"good.o", GOOD)
-    + archive_member(b"/0", SHARING, b"")
-    + archive_member(b"odd", b"no ELF file")
-)
-BSD = (
-    b"!<arch>\n"
-    + archive_member(b"__.SYMDEF SORTED", bytes(8), b"")
-    + archive_member(b"#1/40", LONG.ljust(40, b"\0") + SHARING, b"")
-    + archive_member(b"good.o", GOOD, b"")
-)
-
-
-def thin(*names):
-    table = b"".join(it + b"/\n" for it in names)
-    starts = [table.index(it + b"/\n") for it in names]
-    # The size is that of the file, whose bytes are elsewhere.
-    headers = (archive_member(b"/%d" % it, b"", b"") for it in starts)
-    return b"!<thin>\n" + archive_member(b"/", table) + b"".join(headers)
 
 
 class Case(unittest.TestCase):
@@ -219,17 +120,6 @@ class WordsTest(Case):
         self.put(bad__o=Made(text(b"\xff\n")).with_field(1, "align", 3))
         self.assertIn("section 1 \\xff\\n of type PROGBITS", self.told("bad.o")[0])
 
-    def test_the_advice_is_that_of_the_rules(self):
-        found, last = {}, ""
-        for line in RULES.read_text(encoding="utf-8").splitlines():
-            row = re.match(r'\| <a id="(image|table|object)-(\d+)"></a>', line)
-            if row and (row[1] != "object" or int(row[2]) >= 70):
-                cell = line.strip().strip("|").split(" | ")[4].strip()
-                last = last if cell == "the same" else cell
-                found[int(row[2])] = last
-        self.assertEqual(_advice.ADVICE, found)
-        self.assertEqual(set(found), set(_rules.RULES))
-
     def test_each_rule_has_a_reason(self):
         self.assertTrue(all(map(_words.reason, _rules.RULES)))
 
@@ -291,6 +181,20 @@ class DepthTest(Case):
                 shown = {(int(rule), int(place)) for rule, place in lines}
                 # An image that is refused is refused as an object by the same fault.
                 self.assertEqual(found, shown | self.no_object(made.data), at)
+
+    def test_tables_some_at_a_time(self):
+        """Each table is shown by itself: the faults are the same, whatever byte is changed."""
+        parts = [symbols(3, (1, 0x10, 0xFFFF), (1, 0x20, 1)), (b".strtab", 3, b"\0f\0", {}), relocations(2, 1), relocations(2, 2)]
+        index_table = (b".symtab_shndx", 18, struct.pack("<3I", 0, 0xFF00, 0), dict(link=2, entsize=4))
+        group = (b".group", 17, struct.pack("<2I", 1, 4), dict(link=2, info=1, entsize=4))
+        made = Made(text(), *parts, index_table, group, (b".note", 7, struct.pack("<3I", 4, 0, 1) + b"abc\0", {}))
+        checks = _checks.Checks(True, True)
+        for at in range(64, len(made.data)):
+            for value in (0, 2, 0xEE):
+                with self.changed(made.data, at, value) as source:
+                    whole = checks.faults(source)
+                    with mock.patch.object(_checks, "_MOST_AT_ONCE", 0):
+                        self.assertEqual(checks.faults(source), whole, (at, value))
 
     def long_file(self):
         filler = (b".filler", 1, bytes(1 << 17), {})
@@ -554,6 +458,19 @@ class StatusTest(Case):
             self.assertEqual("7 files checked" in said.getvalue(), is_terminal)
             self.assertEqual(bool(said.getvalue()), is_terminal)
 
+    def test_progress_by_tqdm(self):
+        """Where it is installed: a module of this name stands in for it."""
+        bar = mock.Mock(n=3)
+        said = mock.Mock(isatty=lambda: True)
+        with mock.patch.dict(sys.modules, tqdm=mock.Mock(tqdm=lambda **_: bar)), mock.patch.object(sys, "stderr", said):
+            progress = lint.Progress()
+            with mock.patch("time.monotonic", return_value=2.0**40):
+                progress.tell(_findings.Report(checked=7))
+            progress.end()
+        bar.update.assert_called_once_with(4)
+        bar.close.assert_called_once_with()
+        said.write.assert_not_called()
+
     def test_nothing_to_check(self):
         self.put(text=b"no ELF file")
         self.assertEqual(self.lint("text")[0], 0)
@@ -689,6 +606,13 @@ class TreeTest(Case):
         for words in (["a", "a/b"], ["a/b", "a"], ["a", "a", "a/b/bad.o", "a/b/bad.o"]):
             self.assertSaid(words, 1, [b"a/b/bad.o: " + SHARED, summary])
 
+    def test_a_gibibyte_of_zeros(self):
+        for name, front in (("zeros", b""), ("long.o", bytes(Made((b".filler", 8, b"", dict(size=2**40))).data))):
+            with open(name, "wb") as it:
+                it.write(front)
+                it.truncate(2**30)
+        self.assertSaid(["--tables", "."], 0, [b"0 findings in 0 of 1 ELF file; skipped: 1 not ELF"])
+
     def test_names_of_any_bytes(self):
         for it in range(1, 256):
             if it not in b"/.":
@@ -750,16 +674,6 @@ class WorkersTest(Case):
         _workers.Pool(lambda: lambda paths: _findings.Report(), 3, lambda it: None).run(iter([[b"a"]] * 5))
         with self.assertRaises(ChildProcessError):
             os.waitpid(-1, os.WNOHANG)
-
-
-class ExamplesTest(unittest.TestCase):
-    def test_their_words_are_those_of_the_program(self):
-        for name in ("pre-commit-hooks.yaml", "lint-workflow.yml"):
-            words = (PACKAGE / "examples" / name).read_text(encoding="utf-8")
-            calls = re.findall(r"elfmap-lint (--.*)", words)
-            self.assertTrue(calls or "elfmap-lint" in words)
-            for it in calls:
-                lint._parser().parse_args(it.split())
 
 
 if __name__ == "__main__":

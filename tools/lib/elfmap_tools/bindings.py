@@ -1,6 +1,6 @@
 """`tools/test bindings`: the crate in bindings/rust by `cargo test`, and the package in bindings/python by unittest, over the library of
 `tools/release library`; what both declare of the library is what include/elfmap.h declares. Nothing is fetched, and nothing is written but
-in a temporary folder."""
+in a temporary folder. `tools/test explain` runs the package's tests of elfmap-explain alone."""
 
 import ctypes, os, re, sys, tempfile
 from argparse import Namespace
@@ -8,10 +8,11 @@ from collections.abc import Mapping
 from typing import Any
 
 from .library import ENGINES, FOLDER, VERDICTS, packed
+from .packages import JSONSCHEMA, JUNITPARSER
 from .suite import Tally, Test, crates_of, environment
-from .tree import TOP, Texts, read_text, said
+from .tree import PACKAGE, TOP, Texts, read_text, said
 
-sys.path.insert(0, f"{TOP}/bindings/python")
+sys.path.insert(0, PACKAGE)
 from elfmap import _library  # noqa: E402
 
 Structs = dict[str, list[tuple[str, str]]]
@@ -95,21 +96,37 @@ def count_run(tally: Tally, ran: Texts, passed: int, failed: int) -> None:
     tally.count(passed + failed, [ran.stdout] * bool(failed) + ["the same"] * (failed - 1))
 
 
+def unittests(tally: Tally, room: str, *modules: str) -> None:
+    """Runs tests of the package: all, or those of some modules."""
+    own = environment(ELFMAP_LIB_DIR=FOLDER, XDG_CACHE_HOME=f"{room}/cache", PYTHONDONTWRITEBYTECODE="1")
+    ran = said(sys.executable, "-m", "unittest", *modules, folder=PACKAGE, env=own)
+    count = sum(int(it) for it in re.findall(r"^Ran (\d+) tests?", ran.stdout, re.M))
+    # A test of many files fails for each of them.
+    failed = min(count, sum(int(it) for it in re.findall(r"(?:failures|errors)=(\d+)", ran.stdout)))
+    count_run(tally, ran, count - failed, failed)
+
+
+def explain(tally: Tally, options: Namespace) -> None:
+    packed()
+    with tempfile.TemporaryDirectory(prefix="explain-") as room:
+        unittests(tally, room, "tests.test_explain")
+
+
 def bindings(tally: Tally, options: Namespace) -> None:
     declarations(tally)
     packed()
     with tempfile.TemporaryDirectory(prefix="bindings-") as room:
         cargo = {"CARGO_HOME": f"{room}/cargo", "CARGO_TARGET_DIR": f"{room}/target", "CARGO_INCREMENTAL": "0"}
-        env = environment(ELFMAP_LIB_DIR=FOLDER, XDG_CACHE_HOME=f"{room}/cache", PYTHONDONTWRITEBYTECODE="1", **cargo)
-        ran = said(sys.executable, "-m", "unittest", folder=f"{TOP}/bindings/python", env=env)
-        count = sum(int(it) for it in re.findall(r"^Ran (\d+) tests?", ran.stdout, re.M))
-        # A test of many files fails for each of them.
-        failed = min(count, sum(int(it) for it in re.findall(r"(?:failures|errors)=(\d+)", ran.stdout)))
-        count_run(tally, ran, count - failed, failed)
-        ran = said("cargo", "test", "--frozen", "--no-fail-fast", folder=f"{TOP}/bindings/rust", env=env)
+        unittests(tally, room)
+        ran = said(
+            "cargo", "test", "--frozen", "--no-fail-fast", folder=f"{TOP}/bindings/rust", env=environment(ELFMAP_LIB_DIR=FOLDER, **cargo)
+        )
         found = re.findall(r"^test result: .* (\d+) passed; (\d+) failed;", ran.stdout, re.M)
         count_run(tally, ran, sum(int(it) for it, _ in found), sum(int(it) for _, it in found))
 
 
-CRATES = crates_of(VERDICTS, ENGINES)
-TESTS = [Test("bindings", "the bindings for Rust and Python, and what they declare", bindings, ("cc", "ar", "objcopy", "cargo"), CRATES)]
+CRATES, COMMANDS = crates_of(VERDICTS, ENGINES), ("cc", "ar", "objcopy", "cargo", "git", "pre-commit", JSONSCHEMA, JUNITPARSER)
+TESTS = [
+    Test("bindings", "the bindings for Rust and Python, and what they declare", bindings, COMMANDS, CRATES),
+    Test("explain", "a file that breaks each rule, and what elfmap-explain says of it", explain, COMMANDS[:3], CRATES),
+]

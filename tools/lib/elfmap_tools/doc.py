@@ -7,7 +7,7 @@ from collections.abc import Callable
 from html import escape
 
 from . import guarantees
-from .sources import DOORS, WORD, Definition, Item, Uses, definition, items_of, module_file, named_in, source
+from .sources import PUBLIC_CRATES, WORD, Definition, Item, Uses, definition, items_of, module_file, named_in, source
 from .suite import Tally, Test
 from .tree import matched, read_text
 
@@ -17,27 +17,27 @@ MARK = re.compile(r"`([^`]+)`|\[(`?)([^\]`]+)`?\](?:\(([^)]*)\))?")
 
 
 class Page:
-    """What is on the page: an anchor for each item by its door and name, and the definitions that were led to."""
+    """What is on the page: an anchor for each item by its public crate and name, and the definitions that were led to."""
 
     def __init__(self) -> None:
-        self.doors = {door: list(items_of(f"elf_{door}")) for door in DOORS}
+        self.public_crates = {public_crate: list(items_of(f"elf_{public_crate}")) for public_crate in PUBLIC_CRATES}
         self.anchors: dict[tuple[str, str], str] = {}
         self.wanted: dict[tuple[str, str], Definition] = {}
         self.faults: list[str] = []
         homes: dict[tuple[str, str, str], str] = {}
-        for door, items in self.doors.items():
-            self.anchors[door, door] = door
+        for public_crate, items in self.public_crates.items():
+            self.anchors[public_crate, public_crate] = public_crate
             for item in items:
-                # An item that several doors show has its place at the first one.
-                home = homes.setdefault((item.source, item.name, item.kind), door)
-                self.add(door, f"{home}.{item.name}", item.name, item)
+                # An item that several public crates show has its place at the first one.
+                home = homes.setdefault((item.source, item.name, item.kind), public_crate)
+                self.add(public_crate, f"{home}.{item.name}", item.name, item)
 
-    def add(self, door: str, anchor: str, path: str, item: Item) -> None:
-        self.anchors[door, path] = anchor
+    def add(self, public_crate: str, anchor: str, path: str, item: Item) -> None:
+        self.anchors[public_crate, path] = anchor
         for name in (name_of(text) for _, text in item.fields):
-            self.anchors[door, f"{path}::{name}"] = f"{anchor}.{name}"
+            self.anchors[public_crate, f"{path}::{name}"] = f"{anchor}.{name}"
         for it in item.members:
-            self.add(door, f"{anchor}.{it.name}", f"{path}::{it.name}", it)
+            self.add(public_crate, f"{anchor}.{it.name}", f"{path}::{it.name}", it)
 
     def want(self, found: Definition) -> str:
         """The anchor of a definition, which is then on the page, as those are that its text names."""
@@ -54,24 +54,24 @@ class Page:
             if found.path != path:
                 path = found.path
                 parts.append(f'<h4 class="place">{path}</h4>')
-            name, said = escape(found.name), Door(self, "").marked(said_of(found))
+            name, said = escape(found.name), PublicCrate(self, "").marked(said_of(found))
             text = linked(found.text, functools.partial(place_in, found))
             head = f'<div data-names="{name}"><details id="{escape(anchor_of(found))}"><summary><code>{name}</code> {said}</summary>'
             parts.append(f"{head}<pre>{text}</pre></details></div>")
         return "\n".join(['<section><h2 id="definitions">Definitions</h2>', *parts, "</section>"])
 
     def whole(self) -> str:
-        doors = [Door(self, door).section() for door in DOORS]
+        sections = [PublicCrate(self, public_crate).section() for public_crate in PUBLIC_CRATES]
         return f"""<!DOCTYPE html>
 <html lang="en">
 <head><meta charset="utf-8"><meta name="viewport" content="width=device-width, initial-scale=1">
 <title>elfmap</title><style>{read_text("page/doc.css")}</style></head>
 <body>
 <h1>elfmap</h1>
-{Door(self, "").told(source(module_file("elf", ()))[0])}
+{PublicCrate(self, "").told(source(module_file("elf", ()))[0])}
 <input id="filter" placeholder="a name" aria-label="show what has this name" hidden>
 {self.contents()}
-{chr(10).join(doors)}
+{chr(10).join(sections)}
 {self.glossary()}
 <script>{read_text("page/doc.js")}</script>
 </body>
@@ -79,9 +79,9 @@ class Page:
 
     def contents(self) -> str:
         lines = []
-        for door, items in self.doors.items():
-            names = ", ".join(f'<a href="#{self.anchors[door, it.name]}">{it.name}</a>' for it in items)
-            lines.append(f'<p><a href="#{door}"><b>{door}</b></a>: {names}</p>')
+        for public_crate, items in self.public_crates.items():
+            names = ", ".join(f'<a href="#{self.anchors[public_crate, it.name]}">{it.name}</a>' for it in items)
+            lines.append(f'<p><a href="#{public_crate}"><b>{public_crate}</b></a>: {names}</p>')
         return f'<nav>{"".join(lines)}<p><a href="#definitions"><b>definitions</b></a></p></nav>'
 
 
@@ -132,7 +132,7 @@ def table_words() -> dict[str, str]:
     return words | {word: row[1] for row in rows for word in re.findall(r"`([^`]+)`", row[0])}
 
 
-class Door:
+class PublicCrate:
     """The part of the page that is of a public crate."""
 
     def __init__(self, page: Page, name: str) -> None:
@@ -142,7 +142,7 @@ class Door:
         """Where a path of a doc comment or a signature leads to; nowhere where that is not on the page."""
         words = [owner if it == "Self" else it for it in path.split("::") if it != "crate" and not it.startswith("elf_")]
         names = ("::".join(words[-2:]), words[0] if words else "")
-        anchors = (self.page.anchors.get((door, name), "") for name in names for door in (self.name, *DOORS))
+        anchors = (self.page.anchors.get((public_crate, name), "") for name in names for public_crate in (self.name, *PUBLIC_CRATES))
         return next(filter(None, anchors), "")
 
     # ---- doc comments
@@ -277,7 +277,7 @@ class Door:
 {members}</article>"""
 
     def section(self) -> str:
-        anchors = [(it, self.page.anchors[self.name, it.name]) for it in self.page.doors[self.name]]
+        anchors = [(it, self.page.anchors[self.name, it.name]) for it in self.page.public_crates[self.name]]
         others = [f'<a href="#{anchor}"><code>{it.name}</code></a>' for it, anchor in anchors if not anchor.startswith(f"{self.name}.")]
         also = f"<p>It shows too: {', '.join(others)}.</p>" if others else ""
         front = self.told(source(module_file(f"elf_{self.name}", ()))[0])

@@ -5,7 +5,7 @@ from argparse import Namespace
 from collections.abc import Iterator
 from dataclasses import dataclass
 
-from .sources import DOORS, WORD, Definition, Item, definition, imports, items_of, named_in, signature_and_clauses, sources_of
+from .sources import PUBLIC_CRATES, WORD, Definition, Item, definition, imports, items_of, named_in, signature_and_clauses, sources_of
 from .suite import Tally, Test
 from .tree import TOP, libraries, read_text
 
@@ -49,7 +49,7 @@ def key_of(item: Item) -> Key:
 def items_in(crate: str) -> dict[str, Item]:
     """The items of a crate by their paths: those that a public crate shows, or all of another one; and their members."""
     found: dict[str, Item] = {}
-    items = items_of(crate) if crate.removeprefix("elf_") in DOORS else functions_of(crate)
+    items = items_of(crate) if crate.removeprefix("elf_") in PUBLIC_CRATES else functions_of(crate)
     for item in items:
         found[item.name] = item
         found.update({f"{item.name}::{it.name}": it for it in item.members})
@@ -80,9 +80,9 @@ def functions(path: str) -> list[Item]:
 
 def public_calls() -> Iterator[tuple[str, Item]]:
     """Every function that a public crate shows, and every one that the library for C exports."""
-    for crate in [*(f"elf_{it}" for it in DOORS), "elf_c", "elf_c_engines"]:
+    for crate in [*(f"elf_{it}" for it in PUBLIC_CRATES), "elf_c", "elf_c_engines"]:
         for name, item in items_in(crate).items():
-            if item.kind == "fn" and (name.startswith("elfmap_") or crate.removeprefix("elf_") in DOORS):
+            if item.kind == "fn" and (name.startswith("elfmap_") or crate.removeprefix("elf_") in PUBLIC_CRATES):
                 yield f"{crate}::{name}", item
 
 

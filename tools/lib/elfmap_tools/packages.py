@@ -6,6 +6,8 @@ from collections.abc import Iterable
 from .tree import run
 
 KLIBC = "/usr/lib/klibc/lib/libc.a"
+# What Debian's python3 imports.
+JSONSCHEMA, JUNITPARSER = (f"/usr/lib/python3/dist-packages/{it}/__init__.py" for it in ("jsonschema", "junitparser"))
 # Debian's clang brings its checks of addresses and of undefined behavior only as a recommended package.
 SANITIZERS = "/usr/lib/llvm-*/lib/clang/*/lib/linux/libclang_rt.asan-x86_64.a"
 # The commands of each package, by their first words, or a file that has to be there.
@@ -13,7 +15,8 @@ COMMANDS = {
     "binutils": "ar as ld nm objcopy readelf", "binaryen": "wasm-opt", "black": "black", "cargo-web": "cargo", "chromium": "chromium",
     "clang": "clang", "elfutils": "eu-elflint", "g++": "c++ g++", "gcc": "cc gcc", "git": "git", "groff": "groff",
     "libclang-rt-14-dev": SANITIZERS, "libklibc-dev": KLIBC, "lld": "ld.lld", "llvm": "llvm-objcopy", "man-db": "man", "mypy": "mypy",
-    "nodejs": "node", "pkg-config": "pkg-config", "rustc-web": "rustc", "valgrind": "valgrind",
+    "nodejs": "node", "pkg-config": "pkg-config", "pre-commit": "pre-commit", "python3-jsonschema": JSONSCHEMA, "python3-junitparser": JUNITPARSER,
+    "rustc-web": "rustc", "valgrind": "valgrind",
 }  # fmt: skip
 PACKAGES = {command: package for package, commands in COMMANDS.items() for command in commands.split()}
 # The machines of rules/, by the names of qemu's program and of the compiler.

@@ -4,14 +4,17 @@ is one file, which needs no network: the library for C as a WebAssembly module, 
 The module is made of the same proved crates as the library for C: the kit's compiler makes it for a memory of 64-bit addresses, which not
 every browser has, and wasm-opt (of binaryen) lowers it to one of 32-bit addresses."""
 
-import argparse, base64, json, os, re, shutil, tempfile
+import argparse, base64, json, os, re, shutil, sys, tempfile
 from typing import Any
 
 from .browser import Browser
-from .explain import rule_words
 from .kit import built_below, is_current, kit, words
 from .library import VERDICTS as CRATE, wanted
-from .tree import TOP, read_bytes, read_text, write
+from .rules_tables import file_rules
+from .tree import PACKAGE, TOP, read_bytes, read_text, write
+
+sys.path.insert(0, PACKAGE)
+from elfmap import _names as names  # noqa: E402
 
 Structs = dict[str, dict[str, Any]]
 TARGET = "wasm64-unknown-unknown"
@@ -20,8 +23,6 @@ MODULE = f"{OUT}/{CRATE}.wasm"
 LOWERED = "--enable-memory64 --enable-bulk-memory --enable-sign-ext --enable-nontrapping-float-to-int --enable-mutable-globals".split()
 LOWERED += ["--enable-multivalue", "--memory64-lowering"]
 WIDTHS = {"uint8_t": 1, "uint16_t": 2, "uint32_t": 4, "uint64_t": 8, "int64_t": 8}
-# What is proved of images: other commands answer the rules of tables, objects and links.
-IMAGE_RULES = range(1, 34)
 
 
 def module() -> str:
@@ -74,23 +75,26 @@ def layout() -> Structs:
 
 
 def rules() -> dict[int, list[str]]:
-    """Of each rule its name, why a file is refused, and what to do, as docs/RULES.md has them."""
-    found = {}
-    for number in IMAGE_RULES:
-        name, refused, sentence, advice = rule_words(f"image-{number}") or ("", "", "", "")
-        found[number] = [name, *(it.replace("`", "") for it in (f"{refused} {sentence}", advice))]
-    return found
+    """Of each rule of files its name, why a file is refused, and what to do, as docs/RULES.md has them."""
+    return {it.number: [it.name, it.sentence.replace("`", ""), it.advice.replace("`", "")] for it in file_rules()}
 
 
 def constant(name: str, value: object) -> str:
     return f"const {name} = {json.dumps(value, separators=(',', ':'))};\n"
 
 
+def name_constants() -> str:
+    """The names of numbers, as the Python package has them."""
+    relocations = {machine: names.relocation_types(machine) for machine in names.machines_with_relocations()}
+    constants = {"MACHINES": names.MACHINES, "SECTION_TYPES": names.SECTION_TYPES, "RELOCATION_TYPES": relocations}
+    return "".join(constant(name, value) for name, value in constants.items())
+
+
 def page() -> str:
     code = base64.b64encode(read_bytes(module())).decode("ascii")
-    common = read_text("page/words.js")
-    worker = constant("LAYOUT", layout()) + read_text("page/reader.js") + common + read_text("page/worker.js")
-    script = constant("LAYOUT", layout()) + constant("RULES", rules()) + constant("MODULE", code) + common + read_text("page/draw.js")
+    common = constant("LAYOUT", layout()) + name_constants() + read_text("page/words.js")
+    worker = common + "".join(read_text(f"page/{it}.js") for it in ("reader", "tables", "worker"))
+    script = common + constant("RULES", rules()) + constant("MODULE", code) + read_text("page/draw.js")
     if "</script" in worker + script:
         raise SystemExit("page: a script ends its own element")
     made = read_text("page/page.html")

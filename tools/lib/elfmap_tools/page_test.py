@@ -1,15 +1,16 @@
 """`tools/test page`: the page that `tools/release page` makes.
 
-- In node: what the page's reader says of files of this machine, of cases/ and of changed copies of them is what `elfmap show` prints, line
-  by line, but for the lines of tables that `show` refuses, and those of groups.
-- In chromium, by its debugger: a sound file, a refused one, an empty one, what is no file at all; by keys alone; what the tree for readers
-  of the screen has; that no message is in the console; that an object of 1,000,000 symbols is validated in less than 200 ms."""
+- In node: what the page's reader and its check of tables say of files of this machine, of cases/ and of changed copies of them is what
+  `elfmap show` prints, line by line, but for the lines of groups.
+- In chromium, by its debugger: a sound file, a refused one, one whose tables break rules, an empty one, what is no file at all; by keys
+  alone; what the tree for readers of the screen has; that no message is in the console; that an object of 1,000,000 symbols is validated in
+  less than 200 ms."""
 
 import json, os, random, tempfile
 from argparse import Namespace
 
 from .browser import Browser, colours
-from .cases import case_files
+from .cases import case_files, cases_of
 from .library import VERDICTS as CRATE
 from .page import layout, module, page
 from .suite import Tally, Test, crates_of, number
@@ -40,13 +41,6 @@ def changed_files(room: str, whole: list[str], count: int) -> list[str]:
     return [write(f"{room}/changed-{k}", changed(choose.choice(short), choose)) for k in range(count)]
 
 
-def comparable(shown: str) -> tuple[list[str], set[str]]:
-    """The lines of `show` without those of groups, and the sections whose tables it refuses."""
-    lines = shown.splitlines()
-    refused = {it.split()[1] for it in lines if it.startswith("refused ") and len(it.split()) == 4}
-    return [it for it in lines if it.split()[0] != "group" and not (it.startswith("refused ") and it.split()[1] in refused)], refused
-
-
 def in_node(tally: Tally, room: str, count: int) -> None:
     write(f"{room}/layout.json", json.dumps(layout()))
     os.mkdir(f"{room}/files")
@@ -64,10 +58,7 @@ def in_node(tally: Tally, room: str, count: int) -> None:
         if not tally.check(ran.returncode == 0, f"node: {ran.stdout[-600:]}"):
             return
     for path in files:
-        lines, refused = comparable(said(PROGRAM, "show", path).stdout)
-        own = [
-            it for it in told[path] if not (it.split()[0] in ("symbol", "reloc", "note", "dynamic", "hash") and it.split()[1] in refused)
-        ]
+        own, lines = told[path], [it for it in said(PROGRAM, "show", path).stdout.splitlines() if not it.startswith("group ")]
         tally.check(own == lines, f"{path}: {[pair for pair in zip(own, lines) if pair[0] != pair[1]][:2] or (len(own), len(lines))}")
 
 
@@ -116,6 +107,7 @@ class InChromium:
         sections = [it.split()[-1] for it in lines if it.startswith("section ")]
         rows = self.value(f"{ROWS}.map((it) => it.children[1].textContent)")
         self.check(rows == [{"-": "(no name)"}.get(it, it) for it in sections[:100]], f"{path} has the sections {sections}: {rows}")
+        self.check(self.text("#findings-words") == "No table breaks a rule of tables.", f"{path}: {self.text('#findings-words')}")
         front = self.text("#bytes tbody tr td")
         self.check(front.startswith("7f 45 4c 46 02"), f"the bytes of {path}: {front}")
 
@@ -202,6 +194,36 @@ class InChromium:
             marks = self.value("document.querySelectorAll('#bytes mark').length")
             self.check(marks == (2 if made else 0), f"{name}: {marks} marks, and one field")
 
+    def shared_byte(self) -> None:
+        """A byte of two sections: both are named, and a link leads to it."""
+        case = cases_of(f"{TOP}/cases/explain.txt")
+        content, at = next(
+            (case.files[it.needs[0].partition("=")[2]], it.out.split()[2]) for it in case.cases if it.note.startswith("image 33 ")
+        )
+        self.show(write(f"{self.room}/shared", bytes(content)))
+        words = self.text("#advice")
+        for name in ("section 1 .text", "section 2 .data"):
+            self.check(f"the content of {name} [0x" in words, f"a byte of two sections: {words}")
+        self.check("share this byte" in words and "(EM_X86_64)" in self.text("#facts"), f"{words} {self.text('#facts')}")
+        self.value("document.querySelector('#offset').value = '0'; document.querySelector('#go').click()")
+        self.waits("document.querySelector('#bytes tbody th').textContent === '0x0'", "the first bytes are not shown")
+        self.click("#advice a")
+        self.waits("document.querySelector('#bytes mark')", "the link leads to no byte")
+        self.check(self.text("#bytes tbody th") == hex(int(at)), f"the link leads to {self.text('#bytes tbody th')}")
+
+    def broken_tables(self) -> None:
+        """Each rule of tables that a file of the cases breaks is told, with its name, its place and what to do."""
+        case = cases_of(f"{TOP}/cases/explain.txt")
+        for it in (it for it in case.cases if it.note.startswith("table ")):
+            rule, words = it.note.split(" ", 2)[1:]
+            self.show(write(f"{self.room}/table-{rule}", bytes(case.files[it.needs[0].partition("=")[2]])))
+            _, section, _, at = next(line.split() for line in it.out.decode().splitlines() if line.startswith("refused "))
+            found = self.text("#findings li")
+            is_told = f": rule {rule}, " in found and f" at {int(at):#x}, " in found and "What to do: " in found
+            self.check(is_told and self.text("#verdict") == SOUND, f"rule {rule} of the table in section {section}: {found}")
+        self.click("#findings li a:nth-of-type(2)")
+        self.waits("document.querySelector('#bytes mark')", "the finding leads to no byte")
+
     def folder(self) -> None:
         os.mkdir(f"{self.room}/folder")
         self.browser.drop(f"{self.room}/folder")
@@ -232,6 +254,8 @@ def in_chromium(tally: Tally, room: str) -> None:
         it.sound_file("/bin/true")
         tally.check(not browser.value("document.querySelector('#memory-section').hidden"), "an executable has no bar by address")
         it.refused_files(file)
+        it.shared_byte()
+        it.broken_tables()
         it.folder()
         it.million()
         tally.check(not browser.messages, f"the console says {browser.messages[:3]}")

@@ -11,9 +11,9 @@ from collections.abc import Iterator
 from concurrent.futures import ThreadPoolExecutor
 
 from .cases import all_cases
-from .explain import rule_words
 from .machine_files import content_of, objects_of
 from .reference import SYMTAB, File, object_verdict, shown, verdict
+from .rules_tables import by_anchor
 from .tree import TOP, read_bytes, run, write
 
 FILES_A_RULE = 2
@@ -130,7 +130,7 @@ def row(title: str, contents: list[bytes], tools: list[str]) -> str:
 
 def title_of(rule: int) -> str:
     kind = next(kind for kind, rules in KINDS.values() if rule in rules)
-    return f"{rule} `{(rule_words(f'{kind}-{rule}') or ('',))[0]}`"
+    return f"{rule} `{by_anchor()[f'{kind}-{rule}'].name}`"
 
 
 def peers(options: argparse.Namespace) -> int:

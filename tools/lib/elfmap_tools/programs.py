@@ -1,10 +1,10 @@
 """The subcommands of `tools/dev` and `tools/release`."""
 
-import argparse
+import argparse, os, subprocess, sys
 from collections.abc import Callable
 
-from . import building, definitions, doc, explain, library, man, minutes, page, peers, picture, release as releasing, rules_tables, told
-from .tree import progress
+from . import building, definitions, doc, library, man, minutes, page, peers, release as releasing, rules_tables, told
+from .tree import PACKAGE, TOP, progress
 
 Main = Callable[[argparse.Namespace], int]
 
@@ -33,6 +33,12 @@ def word(name: str, about: str, **more: object) -> tuple[str, dict[str, object]]
     return name, {"help": about, **more} if name.startswith("-") else {"metavar": name.upper(), "help": about, **more}
 
 
+def package_command(options: argparse.Namespace) -> int:
+    """Runs a command of bindings/python, over the program and the library of the repository."""
+    words = [sys.executable, "-B", "-m", f"elfmap.{options.command}", *options.words]
+    return subprocess.run(words, env={"ELFMAP": f"{TOP}/elfmap", **os.environ, "PYTHONPATH": PACKAGE}).returncode
+
+
 def dev(words: list[str]) -> int:
     it = Program(
         "tools/dev", "What you need while you change code. What is tested is in tools/test, and what a release has in tools/release."
@@ -40,13 +46,11 @@ def dev(words: list[str]) -> int:
     crate = word("crate", "a crate of crates.txt")
     functions = word("function", "a function's path in the crate, or the end of it that fits one alone, or a module, or a type", nargs="*")
     test = word("--test", "the tests alone whose names hold this", metavar="NAME")
-    file = word("file", "an ELF file")
     it.add("check", "prove a crate, or some functions of it, or a test, and print what is open", building.check, crate, functions, test)
     it.add("prove", "prove the libraries below a crate; build it if it is a program or a library for C", building.prove, crate)
     it.add("doc", "print the page of the whole library, for a browser", doc.main)
-    refusal = word("words", "lines of refusals come from standard input, or one is given; then the files", nargs="+", metavar="LINE FILE")
-    it.add("explain", "say in words why elfmap refused a file", explain.main, refusal)
-    it.add("picture", "draw the bytes of a file", picture.main, file, word("title", "of what standard input has", nargs="*"))
+    for name, about in (("explain", "say in words why elfmap refused a file"), ("picture", "draw the bytes of a file")):
+        it.add(name, f"{about}: elfmap-{name} of the Python package", package_command, word("words", "its words", nargs=argparse.REMAINDER))
     it.add("peers", "print docs/PEERS.md: what other tools say of files that elfmap refuses", peers.peers)
     program, files = word("program", "elfmap"), word("file", "an object, or an archive of objects", nargs="+")
     it.add("shared-tails", "print how much shorter string tables are whose names share tails", peers.shared_tails, program, files)

@@ -2,24 +2,44 @@
 `src/rule_names.rt`; and with their sentences for the bindings: bindings/rust/src/rules.rs and bindings/python/elfmap/_rules.py.
 `tools/test rules-tables` fails where one of them differs."""
 
-import argparse, glob, itertools, textwrap
+import argparse, functools, glob, itertools, re, textwrap
 from collections.abc import Iterable, Iterator
+from typing import NamedTuple
 
-from .explain import rule_words
 from .suite import Tally, Test
 from .tree import TOP, read_text, write
 
 MADE = "Made by `tools/release tables` from docs/RULES.md."
-# Of a rule its number, its name and its sentence.
-Rule = tuple[int, str, str]
+
+
+class Rule(NamedTuple):
+    """A rule: its number, its name, what is refused and why, and what to do."""
+
+    number: int
+    name: str
+    sentence: str
+    advice: str
+
+
+@functools.cache
+def by_anchor() -> dict[str, Rule]:
+    """The rules of docs/RULES.md by their anchors, as `image-33`."""
+    found: dict[str, Rule] = {}
+    refused, advice = "", ""
+    for line in read_text("docs/RULES.md").splitlines():
+        cells = [cell.strip() for cell in line.strip().strip("|").split(" | ")]
+        if line.startswith("| rule |"):
+            refused = cells[2]
+        anchor = re.match(r'\| <a id="(\w+-(\d+))"></a>', line)
+        if anchor:
+            advice = advice if cells[4] == "the same" else cells[4]
+            found[anchor[1]] = Rule(int(anchor[2]), re.findall(r"`(\w+)`", cells[1])[1], f"{refused} {cells[2]}", advice)
+    return found
 
 
 def rules_of(kind: str, numbers: Iterable[int]) -> Iterator[Rule]:
-    for number in numbers:
-        rule = rule_words(f"{kind}-{number}")
-        if not rule:
-            return
-        yield number, rule[0], f"{rule[1]} {rule[2]}"
+    anchors = (f"{kind}-{number}" for number in numbers)
+    return (by_anchor()[it] for it in itertools.takewhile(by_anchor().__contains__, anchors))
 
 
 def file_rules() -> list[Rule]:
@@ -42,14 +62,14 @@ def pieces(text: str) -> list[str]:
 
 
 def rust_constants(rules: Iterable[Rule], indent: str = "") -> Iterator[str]:
-    for number, name, sentence in rules:
+    for number, name, sentence, _ in rules:
         comment = (f"{indent}/// {it}" for it in filled(f"Rule {number}: {sentence}.", 90 - len(indent)))
         yield from ("", *comment, f"{indent}pub const {name}: u16 = {number};")
 
 
 def rust_table(name: str, rules: list[Rule]) -> Iterator[str]:
     yield from ("", "#[rustfmt::skip]", f"pub(crate) const {name}: [(u16, &str, &str); {len(rules)}] = [")
-    for number, word, sentence in rules:
+    for number, word, sentence, _ in rules:
         literal = "\\\n         ".join(pieces(sentence))
         yield from ("    (", f"        {number},", f'        "{word}",', f'        "{literal}",', "    ),")
     yield "];"
@@ -65,23 +85,25 @@ def rust() -> str:
 
 def python_table(name: str, words: str, rules: list[Rule]) -> Iterator[str]:
     yield from ("", f"# {words}", f"{name} = {{")
-    for number, word, sentence in rules:
-        *before, last = pieces(sentence)
-        yield from (f"    {number}: (", f'        "{word}",', *(f'        "{it}"' for it in before), f'        "{last}",', "    ),")
+    for number, *texts in rules:
+        yield f"    {number}: ("
+        for *before, last in map(pieces, texts):
+            yield from (*(f'        "{it}"' for it in before), f'        "{last}",')
+        yield "    ),"
     yield "}"
 
 
 def python() -> str:
     lines = [f'"""The rules by their numbers. {MADE}"""']
-    lines += python_table("RULES", "The name and the sentence of each rule of files.", file_rules())
+    lines += python_table("RULES", "The name, the sentence and the advice of each rule of files.", file_rules())
     return "\n".join([*lines, *python_table("LINK_RULES", "Those of each rule of links.", link_rules()), ""])
 
 
 def rattle(words: str, rules: list[Rule]) -> str:
     """A function that returns the names by their numbers."""
-    names = {number: name for number, name, _ in rules}
+    names = {it.number: it.name for it in rules}
     lines = [f"//! The names of rules by their numbers. {MADE}", ""]
-    lines.append(f"/// The name of a rule of {words}, as `{rules[0][1]}` of 1; empty where no rule has the number.")
+    lines.append(f"/// The name of a rule of {words}, as `{rules[0].name}` of 1; empty where no rule has the number.")
     lines += ["pub fn rule_name(rule: u16) -> &'static str {", "    match NAMES.get(rule as usize) {", "        Some(name) => name,"]
     lines += ['        None => "",', "    }", "}", "", f"const NAMES: [&str; {max(names) + 1}] = ["]
     return "\n".join([*lines, *(f'    "{names.get(number, "")}",' for number in range(max(names) + 1)), "];", ""])

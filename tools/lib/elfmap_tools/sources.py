@@ -11,7 +11,7 @@ Block = tuple[list[str], list[str], list[str]]
 # What words of the logic mean: of each a path and a name there.
 Uses = dict[str, tuple[str, str]]
 # The public crates, in the order of the table at the head of the crate `elf`.
-DOORS = [it for it in re.findall(r"^//! \| \[`(\w+)`\]", read_text("crates/elf/src/lib.rt"), re.M) if f"elf_{it}" in libraries()]
+PUBLIC_CRATES = [it for it in re.findall(r"^//! \| \[`(\w+)`\]", read_text("crates/elf/src/lib.rt"), re.M) if f"elf_{it}" in libraries()]
 HEAD = re.compile(r"pub (fn|struct|enum|trait|const|mod|use|type) (\w+)")
 CLAUSE = re.compile(r"(requires|ensures)\b")
 # What holds no bracket that counts: strings, characters, comments.

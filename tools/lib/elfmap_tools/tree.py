@@ -7,6 +7,7 @@ TOP = os.path.dirname(os.path.dirname(os.path.dirname(os.path.dirname(os.path.re
 PROCESSORS = len(os.sched_getaffinity(0))
 PROGRAM = f"{TOP}/crates/elfmap/out/elfmap"
 RULES = f"{TOP}/rules/x86-64.rules"
+PACKAGE = f"{TOP}/bindings/python"
 Ended = subprocess.CompletedProcess[bytes]
 Texts = subprocess.CompletedProcess[str]
 

@@ -1,19 +1,34 @@
-"""`tools/dev picture FILE > FILE.svg`: a picture of the bytes of a file, as `elfmap show FILE` prints them, for a browser. Each part has a row:
-where it begins, how long it is, whose it is, and its bytes, drawn to scale in a bar as long as the file; a bar of a part too short to be seen
-is drawn two points wide. Gaps are hatched, and say whether their first bytes are zeros. In a file without sections, as an executable that
-elfmap links, what a gap has of loadable segments is theirs, with their addresses; a segment that takes memory alone has a row after all
-parts. Of a file of more than 300 parts the largest 150 have rows, and each run of others has one together. `tools/dev picture - [TITLE]` reads
-the lines of `show` from standard input.
+"""elfmap-picture: a picture of the bytes of a file, for a browser.
 
-The program is ./elfmap of this tree, or what ELFMAP names. docs/picture.svg is of the object that `gcc -c -O1` (12.2) makes of
-cases/sources/answer.c."""
+    elfmap-picture FILE > FILE.svg
+    elfmap-picture - [TITLE]       of the lines of `elfmap show` on standard input
 
-import argparse, os, sys
-from collections.abc import Iterator
+Each part has a row: where it begins, how long it is, whose it is, and its bytes, drawn to
+scale in a bar as long as the file. A bar of a part too short to be seen is drawn two points
+wide. Gaps are hatched, and say whether their first bytes are zeros. In a file without
+sections, as an executable that elfmap links, a gap is cut where loadable segments begin and
+end, and a segment that takes memory alone has a row after all parts. Of a file of more than
+300 parts the largest 150 have rows, and each run of others has one together.
+
+The lines come from the library, or from the program that ELFMAP names.
+"""
+
+from __future__ import annotations
+
+import argparse
+import os
+import subprocess
+import sys
+from collections.abc import Iterator, Sequence
+from typing import Optional
 from xml.sax.saxutils import escape
 
-from .tree import TOP, run
+import elfmap
+from elfmap._commands import FOUND, UNREADABLE, complain, run_script
+from elfmap._names import MACHINES
+from elfmap._sources import LONGEST, Unreadable, opened
 
+PROGRAM = "elfmap-picture"
 MOST, LARGEST = 300, 150
 ROW, HEAD, LEFT, WIDTH, SHORTEST = 20, 118, 640, 520, 2
 COLUMNS = (("begins at", 96, "end"), ("bytes", 196, "end"), ("owner", 212, "start"), ("name", 330, "start"), ("holds", 520, "start"))
@@ -27,10 +42,21 @@ COLOURS = {
     "header and tables": "#4c566a", "code": "#c0504d", "data": "#e0a030", "constants": "#7f9f3f", "symbols and strings": "#4f81bd",
     "relocations": "#8064a2", "other": "#8aa0a8", "several parts": "#b9c4c9", "gap": "url(#gap)",
 }  # fmt: skip
+FONT = 'font-family="ui-monospace, DejaVu Sans Mono, Menlo, Consolas, monospace" font-size="12" fill="#20262e"'
+HATCHES = (
+    '<pattern id="gap" width="5" height="5" patternUnits="userSpaceOnUse" patternTransform="rotate(45)">'
+    '<rect width="5" height="5" fill="#fff3d6"/><rect width="2" height="5" fill="#d09a20"/></pattern>'
+)
 FILE_TYPES = {0: "no type", 1: "relocatable", 2: "executable", 3: "shared", 4: "core"}
 
 
+class NoLines(ValueError):
+    """What was read is not what `elfmap show` prints of a file that it accepts."""
+
+
 class Part:
+    """A row of the picture."""
+
     def __init__(self, start: int, length: int, owner: str, name: str = "", holds: str = "", colour: str = "header and tables") -> None:
         self.start, self.length, self.owner, self.name, self.holds, self.colour = start, length, owner, name, holds, colour
 
@@ -88,9 +114,11 @@ def among_loads(part: Part, loads: list[Load]) -> Iterator[Part]:
 
 def read(lines: list[str]) -> tuple[list[Part], str]:
     """The parts of the file, and the head of the picture."""
-    rows = [it.split() for it in lines]
+    rows = [it.split() for it in lines if it]
+    if rows and rows[0][0] == "refused":
+        raise NoLines(f"elfmap rejects it: {' '.join(rows[0])}; elfmap-explain says why")
     if not rows or rows[0][0] != "file":
-        raise SystemExit(f"picture: these are no lines of `elfmap show`: {' '.join(rows[0]) if rows else 'none'}")
+        raise NoLines(f"these are no lines of `elfmap show`: {' '.join(rows[0])[:80] if rows else 'none'}")
     sections = {int(it[1]): content(it) for it in rows if it[0] == "section"}
     loads = [Load(it) for it in rows if it[0] == "segment" and it[2] == "1"] if not sections else []
     parts = []
@@ -106,7 +134,9 @@ def read(lines: list[str]) -> tuple[list[Part], str]:
             title = {"header": "header", "segments": "program table", "sections": "section table"}[owner]
             parts.append(Part(start, length, title))
     parts += [it.part(it.start, it.start) for it in loads if not it.length]
-    head = f"{FILE_TYPES.get(int(rows[0][2]), 'type ' + rows[0][2])}, machine {rows[0][3]}, {rows[0][1]}-endian"
+    number = int(rows[0][3])
+    machine = f"EM_{MACHINES[number]}" if number in MACHINES else f"machine {number}"
+    head = f"{FILE_TYPES.get(int(rows[0][2]), 'type ' + rows[0][2])}, {machine}, {rows[0][1]}-endian"
     return parts, head
 
 
@@ -116,7 +146,7 @@ def folded(parts: list[Part]) -> list[Part]:
         return parts
     least = sorted((it.length for it in parts), reverse=True)[LARGEST - 1]
     rows, run = list[Part](), list[Part]()
-    ends: list[Part | None] = [*parts, None]
+    ends: list[Optional[Part]] = [*parts, None]
     for part in ends:
         if part and (part.length <= least and part.owner.split()[0] in ("section", "gap")):
             run.append(part)
@@ -188,11 +218,12 @@ def picture(title: str, parts: list[Part], head: str) -> str:
     rows = folded(parts)
     gaps = [it.length for it in parts if it.colour == "gap"]
     bottom = HEAD + ROW * len(rows)
-    counts = f"{total:,} bytes in {len(parts):,} parts, {sum(gaps):,} of them in {counted(len(gaps), 'gap')}; {head}"
+    across, down = LEFT + WIDTH + 24, bottom + 30
+    counts = f"{total:,} bytes in {counted(len(parts), 'part')}, {sum(gaps):,} of them in {counted(len(gaps), 'gap')}; {head}"
     lines = [
-        f'<svg xmlns="http://www.w3.org/2000/svg" width="{LEFT + WIDTH + 24}" height="{bottom + 30}" viewBox="0 0 {LEFT + WIDTH + 24} {bottom + 30}" font-family="ui-monospace, DejaVu Sans Mono, Menlo, Consolas, monospace" font-size="12" fill="#20262e">',
-        '<defs><pattern id="gap" width="5" height="5" patternUnits="userSpaceOnUse" patternTransform="rotate(45)"><rect width="5" height="5" fill="#fff3d6"/><rect width="2" height="5" fill="#d09a20"/></pattern></defs>',
-        f'<rect width="{LEFT + WIDTH + 24}" height="{bottom + 30}" fill="#ffffff"/>',
+        f'<svg xmlns="http://www.w3.org/2000/svg" width="{across}" height="{down}" viewBox="0 0 {across} {down}" {FONT}>',
+        f"<defs>{HATCHES}</defs>",
+        f'<rect width="{across}" height="{down}" fill="#ffffff"/>',
         text(20, 28, cut(title, 60), more=' font-size="16" font-weight="bold"'),
         text(LEFT + WIDTH, 28, counts, "end"),
         *legend(rows),
@@ -211,15 +242,55 @@ def picture(title: str, parts: list[Part], head: str) -> str:
     return "\n".join(it for it in lines if it) + "\n</svg>\n"
 
 
-def main(options: argparse.Namespace) -> int:
-    file = options.file
-    if file == "-":
-        shown = sys.stdin.buffer.read()
-    else:
-        ended = run(os.environ.get("ELFMAP", f"{TOP}/elfmap"), "show", "--", file)
-        shown = ended.stdout
-        if ended.returncode:
-            raise SystemExit(f"picture: elfmap show ended with status {ended.returncode}: {shown.decode().strip()}")
-    parts, head = read(shown.decode("ascii").splitlines())
-    print(picture(" ".join(options.title) or (os.path.basename(file) if file != "-" else "standard input"), parts, head), end="")
+# ---- the program
+
+
+def shown(path: str) -> bytes:
+    """The lines of `elfmap show` on a file."""
+    program = os.environ.get("ELFMAP")
+    if program:
+        return subprocess.run([program, "show", "--", path], stdin=subprocess.DEVNULL, stdout=subprocess.PIPE).stdout
+    with opened(os.fsencode(path)) as source:
+        content = bytearray(min(len(source), LONGEST))
+        source.read_into(memoryview(content), 0)
+    return elfmap.show(content).encode("ascii")
+
+
+def _parser() -> argparse.ArgumentParser:
+    parser = argparse.ArgumentParser(
+        prog=PROGRAM,
+        description="Writes a picture of the bytes of an ELF-64 file, as SVG, to standard output.",
+        epilog="Status: 0 drawn, 1 elfmap rejects the file, 2 usage, 3 it can't be read.",
+    )
+    parser.add_argument("file", metavar="FILE", help="the file, or - for the lines of `elfmap show` on standard input")
+    parser.add_argument("title", metavar="TITLE", nargs="*", help="the title (the name of the file)")
+    return parser
+
+
+def main(words: Optional[Sequence[str]] = None) -> int:
+    """Runs the program, and returns its status."""
+    options = _parser().parse_args(words)
+    file, is_piped = options.file, options.file == "-"
+    title = " ".join(options.title) or ("standard input" if is_piped else os.path.basename(file))
+    try:
+        lines = sys.stdin.buffer.read() if is_piped else shown(file)
+        drawn = picture(title, *read(lines.decode("ascii").splitlines()))
+    except Unreadable as fault:
+        complain(PROGRAM, os.fsencode(f"{file}: {fault.reason}"))
+        return UNREADABLE
+    except (ValueError, LookupError) as fault:
+        words_of = str(fault) if isinstance(fault, NoLines) else "these are no lines of `elfmap show`"
+        complain(PROGRAM, os.fsencode(f"{file}: {words_of}"))
+        return FOUND
+    with open(1, "wb", closefd=False) as out:
+        out.write(drawn.encode("utf-8", "backslashreplace"))
     return 0
+
+
+def script() -> None:
+    """The console script."""
+    run_script(PROGRAM, main)
+
+
+if __name__ == "__main__":
+    script()

@@ -1,0 +1,300 @@
+"""What differs between two objects, or two programs, by names.
+
+Objects are compared in canonical layout, as `elfmap rewrite` writes it: two files denote one
+object exactly where these bytes are the same.
+"""
+
+from __future__ import annotations
+
+from collections import Counter
+from collections.abc import Callable, Hashable, Iterable, Iterator, Sequence
+from typing import NamedTuple, Optional, TypeVar
+
+from elfmap import Bytes, File, Relocation, Section, Symbol
+from elfmap._names import machine_words, relocation_types, section_type
+from elfmap._words import printable
+
+_NULL, _SYMTAB, _RELA, _NOBITS, _REL, _GROUP, _SYMTAB_SHNDX = 0, 2, 4, 8, 9, 17, 18
+_INFO_LINK = 0x40
+_STT_SECTION = 3
+_PLACES = {0: "undefined", 0xFFF1: "absolute", 0xFFF2: "common"}
+_BINDINGS = {0: "LOCAL", 1: "GLOBAL", 2: "WEAK"}
+_TYPES = {0: "NOTYPE", 1: "OBJECT", 2: "FUNC", 3: "SECTION", 4: "FILE", 5: "COMMON", 6: "TLS", 10: "GNU_IFUNC"}
+_STEP = 1 << 16
+Key = TypeVar("Key", bound=Hashable)
+
+
+class Sides(NamedTuple):
+    """How the two files are called."""
+
+    first: str
+    second: str
+
+    def both(self, what: str, one: object, other: object) -> str:
+        return f"{what} is {one} in {self.first}, and {other} in {self.second}"
+
+
+# Of a section or a symbol its name, and how many of this name are before it.
+Label = tuple[bytes, int]
+
+
+def label_words(label: Label) -> str:
+    name, position = label
+    return (printable(name) or "(no name)") + (f" (number {position + 1} of this name)" if position else "")
+
+
+def labelled(names: Iterable[bytes]) -> list[Label]:
+    seen: Counter[bytes] = Counter()
+    labels = []
+    for name in names:
+        labels.append((name, seen[name]))
+        seen[name] += 1
+    return labels
+
+
+def first_difference(one: memoryview, other: memoryview) -> Optional[int]:
+    """The first offset at which bytes differ, or at which one of them ends."""
+    size = min(len(one), len(other))
+    for at in range(0, size, _STEP):
+        ours, theirs = (bytes(it[at : min(at + _STEP, size)]) for it in (one, other))
+        if ours != theirs:
+            return at + next(k for k, (a, b) in enumerate(zip(ours, theirs)) if a != b)
+    return None if len(one) == len(other) else size
+
+
+class Canonical:
+    """An object by its canonical file."""
+
+    def __init__(self, file: File) -> None:
+        self.file = file
+        self.machine = file.header.e_machine
+        self.sections: Sequence[Section] = list(file.sections)
+        self._table = next((k for k, it in enumerate(self.sections) if it.sh_type == _SYMTAB), 0)
+        self.symbols: Sequence[Symbol] = list(file.symbols(self._table)) if self._table else []
+        self.section_labels = labelled(map(self._section_name, range(len(self.sections))))
+        self.symbol_labels = labelled(map(self._symbol_name, self.symbols))
+
+    def _section_name(self, index: int) -> bytes:
+        """The name, and of a group also that of its signature."""
+        it = self.sections[index]
+        if it.sh_type != _GROUP:
+            return it.name
+        return b"%s [%s]" % (it.name, self._symbol_name(self.symbols[it.sh_info]))
+
+    def _symbol_name(self, it: Symbol) -> bytes:
+        """The name, or of a symbol of a section that section's."""
+        is_of_section = not it.name and it.symbol_type == _STT_SECTION and it.section < len(self.sections)
+        return b"of section " + self.sections[it.section].name if is_of_section else it.name
+
+    def own_sections(self) -> dict[Label, int]:
+        """The sections of the object. Its symbol table and its names are compared by names."""
+        tables = {0, self._table, self.sections[self._table].sh_link if self._table else 0, self.file.header.e_shstrndx}
+        if self.file.header.e_shstrndx == 0xFFFF:
+            tables.add(self.sections[0].sh_link)
+        kept = (k for k, it in enumerate(self.sections) if it.sh_type not in (_NULL, _SYMTAB_SHNDX) and k not in tables)
+        return {self.section_labels[k]: k for k in kept}
+
+    def section_words(self, index: int) -> str:
+        return label_words(self.section_labels[index]) if 0 < index < len(self.section_labels) else "none"
+
+    def place_words(self, it: Symbol) -> str:
+        is_reserved = it.st_shndx == 0 or 0xFF00 <= it.st_shndx < 0xFFFF
+        return _PLACES.get(it.st_shndx, hex(it.st_shndx)) if is_reserved else self.section_words(it.section)
+
+    def relocation_words(self, it: Relocation, target: int) -> str:
+        name = label_words(self.symbol_labels[it.symbol]) if it.symbol else "no symbol"
+        place = f"{it.r_offset:#x} of {self.section_words(target)}"
+        kind = relocation_types(self.machine).get(it.relocation_type) or f"type {it.relocation_type}"
+        return f"{kind} at {place} to {name} {it.r_addend:+#x}"
+
+
+class Comparison:
+    """Two objects beside each other."""
+
+    def __init__(self, sides: Sides, one: File, other: File) -> None:
+        self._sides = sides
+        self._one, self._other = Canonical(one), Canonical(other)
+
+    def differences(self) -> Iterator[str]:
+        yield from header_differences(self._sides, self._one.file, self._other.file)
+        yield from self._sections()
+        yield from self._symbols()
+
+    def order(self) -> Iterator[str]:
+        """Where the same sections or symbols are in another order."""
+        for what, one, other in (
+            ("section", list(self._one.own_sections()), list(self._other.own_sections())),
+            ("symbol", self._one.symbol_labels, self._other.symbol_labels),
+        ):
+            pair = next((it for it in zip(one, other) if it[0] != it[1]), None)
+            if pair:
+                yield f"the order of {what}s: " + self._sides.both("the first one that differs", *map(label_words, pair))
+
+    def _sections(self) -> Iterator[str]:
+        one, other = self._one.own_sections(), self._other.own_sections()
+        yield from only_in(self._sides, "section", one, other, label_words)
+        for label, index in one.items():
+            if label in other:
+                name = f"section {label_words(label)}"
+                yield from (f"{name}: {it}" for it in self._section(index, other[label]))
+
+    def _section(self, index: int, other_index: int) -> Iterator[str]:
+        one, other = self._one.sections[index], self._other.sections[other_index]
+        yield from section_fields(self._sides, one, other, self._one.machine)
+        link = self._one.section_words(one.sh_link), self._other.section_words(other.sh_link)
+        if link[0] != link[1]:
+            yield self._sides.both("sh_link", *link)
+        if one.sh_type != other.sh_type or one.content is None or other.content is None:
+            return
+        if one.sh_type in (_REL, _RELA):
+            yield from self._relocations(index, other_index)
+        elif one.sh_type == _GROUP:
+            yield from self._group(index, other_index)
+        else:
+            yield from self._info(one, other)
+            yield from content_difference(self._sides, one.content, other.content)
+
+    def _info(self, one: Section, other: Section) -> Iterator[str]:
+        if one.sh_flags & _INFO_LINK:
+            info = self._one.section_words(one.sh_info), self._other.section_words(other.sh_info)
+        else:
+            info = str(one.sh_info), str(other.sh_info)
+        if info[0] != info[1]:
+            yield self._sides.both("sh_info", *info)
+
+    def _group(self, index: int, other_index: int) -> Iterator[str]:
+        one, other = self._members(self._one, index), self._members(self._other, other_index)
+        yield from only_in(self._sides, "member", one, other, str)
+
+    def _members(self, file: Canonical, index: int) -> dict[str, int]:
+        content = file.sections[index].content or memoryview(b"")
+        order = "big" if file.file.header.e_ident[5] == 2 else "little"
+        words = [int.from_bytes(content[at : at + 4], order) for at in range(0, len(content), 4)]  # type: ignore[arg-type]
+        return {f"flags {words[0]:#x}": 0, **{file.section_words(it): it for it in words[1:]}}
+
+    def _relocations(self, index: int, other_index: int) -> Iterator[str]:
+        """The first entry that differs: the entries after it are often the same, moved."""
+        one = self._relocation_words(self._one, index)
+        other = self._relocation_words(self._other, other_index)
+        for position, (ours, theirs) in enumerate(zip(one, other)):
+            if ours != theirs:
+                yield self._sides.both(f"relocation {position}", ours, theirs)
+                return
+        longer, side = (one, self._sides.first) if len(one) > len(other) else (other, self._sides.second)
+        if len(one) != len(other):
+            position = min(len(one), len(other))
+            yield f"relocation {position} is only in {side}: {longer[position]}"
+
+    def _relocation_words(self, file: Canonical, index: int) -> list[str]:
+        target = file.sections[index].sh_info
+        return [file.relocation_words(it, target) for it in file.file.relocations(index)]
+
+    def _symbols(self) -> Iterator[str]:
+        one = {label: k for k, label in enumerate(self._one.symbol_labels)}
+        other = {label: k for k, label in enumerate(self._other.symbol_labels)}
+        yield from only_in(self._sides, "symbol", one, other, label_words)
+        for label, index in one.items():
+            if label in other:
+                name = f"symbol {label_words(label)}"
+                yield from (f"{name}: {it}" for it in self._symbol(self._one.symbols[index], self._other.symbols[other[label]]))
+
+    def _symbol(self, one: Symbol, other: Symbol) -> Iterator[str]:
+        for what, ours, theirs in (
+            ("its value", hex(one.st_value), hex(other.st_value)),
+            ("its size", one.st_size, other.st_size),
+            ("its binding", _BINDINGS.get(one.binding, one.binding), _BINDINGS.get(other.binding, other.binding)),
+            ("its type", _TYPES.get(one.symbol_type, one.symbol_type), _TYPES.get(other.symbol_type, other.symbol_type)),
+            ("st_other", one.st_other, other.st_other),
+            ("its section", self._one.place_words(one), self._other.place_words(other)),
+        ):
+            if ours != theirs:
+                yield self._sides.both(what, ours, theirs)
+
+
+def only_in(sides: Sides, what: str, one: dict[Key, int], other: dict[Key, int], words: Callable[[Key], str]) -> Iterator[str]:
+    for side, own, theirs in ((sides.first, one, other), (sides.second, other, one)):
+        yield from (f"{what} {words(it)} is only in {side}" for it in own if it not in theirs)
+
+
+def header_differences(sides: Sides, one: File, other: File) -> Iterator[str]:
+    ours, theirs = one.header, other.header
+    orders = {1: "little", 2: "big"}
+    for what, first, second in (
+        ("the byte order", orders.get(ours.e_ident[5]), orders.get(theirs.e_ident[5])),
+        ("the OS ABI", ours.e_ident[7], theirs.e_ident[7]),
+        ("the ABI version", ours.e_ident[8], theirs.e_ident[8]),
+        ("e_type", ours.e_type, theirs.e_type),
+        ("the machine", machine_words(ours.e_machine), machine_words(theirs.e_machine)),
+        ("e_flags", hex(ours.e_flags), hex(theirs.e_flags)),
+        ("e_entry", hex(ours.e_entry), hex(theirs.e_entry)),
+    ):
+        if first != second:
+            yield sides.both(what, first, second)
+
+
+def section_fields(sides: Sides, one: Section, other: Section, machine: int) -> Iterator[str]:
+    for what, ours, theirs in (
+        ("its type", section_type(one.sh_type, machine), section_type(other.sh_type, machine)),
+        ("sh_flags", hex(one.sh_flags), hex(other.sh_flags)),
+        ("its address", hex(one.sh_addr), hex(other.sh_addr)),
+        ("its size", hex(one.sh_size), hex(other.sh_size)),
+        ("its alignment", one.sh_addralign, other.sh_addralign),
+        ("sh_entsize", one.sh_entsize, other.sh_entsize),
+    ):
+        if ours != theirs:
+            yield sides.both(what, ours, theirs)
+
+
+def content_difference(sides: Sides, one: memoryview, other: memoryview) -> Iterator[str]:
+    at = first_difference(one, other)
+    if at is not None and at < min(len(one), len(other)):
+        yield sides.both(f"offset {at:#x}", f"0x{one[at]:02x}", f"0x{other[at]:02x}")
+
+
+def object_differences(sides: Sides, one: Bytes, other: Bytes) -> Iterator[str]:
+    """What differs between two objects in canonical layout: at least something."""
+    comparison = Comparison(sides, File(one), File(other))
+    count = 0
+    for it in comparison.differences():
+        count += 1
+        yield it
+    if not count:
+        for it in comparison.order():
+            count += 1
+            yield it
+    if not count:
+        yield f"the canonical files differ at offset {first_difference(memoryview(one), memoryview(other)):#x}"
+
+
+def image_differences(sides: Sides, one: Bytes, other: Bytes) -> Iterator[str]:
+    """What differs between two programs or libraries: at least something."""
+    ours, theirs = File(one), File(other)
+    found = [*header_differences(sides, ours, theirs), *_section_differences(sides, ours, theirs)]
+    found += _segment_differences(sides, ours, theirs)
+    at = first_difference(memoryview(one), memoryview(other))
+    yield from found or [f"the files differ at offset {at:#x}, in no content of a section"]
+
+
+def _section_differences(sides: Sides, one: File, other: File) -> Iterator[str]:
+    ours, theirs = list(one.sections), list(other.sections)
+    first = {label: k for k, label in enumerate(labelled(it.name for it in ours)) if k}
+    second = {label: k for k, label in enumerate(labelled(it.name for it in theirs)) if k}
+    yield from only_in(sides, "section", first, second, label_words)
+    for label, index in first.items():
+        if label not in second:
+            continue
+        section, same = ours[index], theirs[second[label]]
+        found = list(section_fields(sides, section, same, one.header.e_machine))
+        if section.content is not None and same.content is not None:
+            found += content_difference(sides, section.content, same.content)
+        yield from (f"section {label_words(label)}: {it}" for it in found)
+
+
+def _segment_differences(sides: Sides, one: File, other: File) -> Iterator[str]:
+    if len(one.segments) != len(other.segments):
+        yield sides.both("the number of program headers", len(one.segments), len(other.segments))
+        return
+    for index, (ours, theirs) in enumerate(zip(one.segments, other.segments)):
+        for field in ours._fields[:-1]:
+            if getattr(ours, field) != getattr(theirs, field):
+                yield sides.both(f"program header {index}: {field}", hex(getattr(ours, field)), hex(getattr(theirs, field)))

@@ -1,0 +1,119 @@
+"""The likely cause of a refusal, where its place shows one, and the command that helps."""
+
+from __future__ import annotations
+
+import shlex
+from collections.abc import Iterator, Sequence
+from typing import Optional
+
+from elfmap._linked import UNDEFINED_NAME, Linked
+from elfmap._names import machine_words, relocation_types, section_type
+from elfmap._words import SECTION, Words
+
+TOO_SHORT, WRONG_MAGIC, WRONG_CLASS, NOT_NULL, NOT_RELOCATABLE = 2, 3, 4, 13, 70
+_OF_SECTION_TABLE = (12, NOT_NULL, 15)
+_KEPT_LINK, _KEPT_INFO, NO_RULE = 78, 79, 12
+_ADDRSIG = "LLVM_ADDRSIG"
+# What other files begin with.
+_MAGICS = {
+    b"!<arch>\n": "it is an archive: elfmap-lint checks its members",
+    b"!<thin>\n": "it is a thin archive: elfmap-lint checks its members",
+    b"BC\xc0\xde": "it is LLVM bitcode: compile without -flto",
+    b"\xde\xc0\x17\x0b": "it is LLVM bitcode: compile without -flto",
+    b"#!": "it is a script",
+    b"MZ": "it is a program for Windows",
+    b"\xcf\xfa\xed\xfe": "it is a Mach-O file",
+    b"\x1f\x8b": "it is compressed by gzip: decompress it first",
+    b"\xfd7zXZ": "it is compressed by xz: decompress it first",
+    b"\x28\xb5\x2f\xfd": "it is compressed by zstd: decompress it first",
+}
+_FILE_TYPES = {0: "of no type", 2: "an executable", 3: "a shared object or a position-independent executable", 4: "a core file"}
+# Names that compilers refer to by themselves, and the option without which they do.
+_NAMES = {
+    "_GLOBAL_OFFSET_TABLE_": "the code is compiled for a global offset table: compile it with -fno-pic",
+    "__stack_chk_fail": "the code checks its stack: compile it with -fno-stack-protector",
+    "__tls_get_addr": "the code has thread-local variables, which elfmap does not link",
+    "_Unwind_Resume": "the code unwinds its stack: compile it with -fno-exceptions",
+}
+_GOT_WORDS, _PLT_WORDS = ("GOT",), ("PLT",)
+
+
+def hints(words: Words, path: str, rule: int, at: int, table: Optional[int] = None) -> Iterator[str]:
+    """Of a rule of files that is broken at an offset. The path is that for a command."""
+    if rule in (TOO_SHORT, WRONG_MAGIC):
+        yield from _foreign(words)
+    elif rule == WRONG_CLASS and words.number(4, 1) == 1:
+        yield "it is a file of class 32, as -m32 makes it: compile it with -m64"
+    elif rule in _OF_SECTION_TABLE:
+        yield from _astray(words)
+    elif rule == NOT_RELOCATABLE:
+        yield f"the file is {_FILE_TYPES.get(words.number(16, 2), 'of another type')}: an object is what cc -c writes"
+    elif rule in (_KEPT_LINK, _KEPT_INFO):
+        yield from _address_significance(words, path, at)
+
+
+def _foreign(words: Words) -> Iterator[str]:
+    yield from (hint for magic, hint in _MAGICS.items() if words.data[: len(magic)] == magic)
+
+
+def _astray(words: Words) -> Iterator[str]:
+    """`e_shoff` leads elsewhere, or the file was cut short."""
+    count, size = words.number(60, 2), len(words.data)
+    fits = _table_at_end(words, count)
+    end = words.table + 64 * max(count, 1)
+    if fits:
+        yield f"e_shoff, which is {words.table:#x}, points astray: a table of {count} section headers is at {fits:#x}"
+    elif end > size:
+        yield f"the file was cut short: its section header table ends at {end:#x}, and the file at {size:#x}"
+    elif _fields_that_are_set(words) > 1:
+        yield f"e_shoff, which is {words.table:#x}, points astray: what is there looks like no section header 0"
+
+
+def _table_at_end(words: Words, count: int) -> int:
+    """Where a table begins that ends with the file, as most writers place it; 0 if there is none."""
+    start = (len(words.data) - 64 * count) // 8 * 8
+    if count < 2 or start < 64 or start == words.table:
+        return 0
+    first, second = words.data[start : start + 64], words.data[start + 64 : start + 128]
+    return start if not any(first) and any(second[4:8]) else 0
+
+
+def _fields_that_are_set(words: Words) -> int:
+    """How many fields of section header 0 are set that have to be 0."""
+    may_be_set = ("sh_size", "sh_link", "sh_info")
+    return sum(words.section(0, it) != 0 for it in SECTION if it not in may_be_set)
+
+
+def _address_significance(words: Words, path: str, at: int) -> Iterator[str]:
+    index = (at - words.table) // 64
+    if section_type(words.section(index, "sh_type")) == _ADDRSIG or words.section_name(index) == ".llvm_addrsig":
+        strip = f"objcopy --remove-section=.llvm_addrsig {shlex.quote(path)}"
+        yield f"clang wrote .llvm_addrsig: compile with -fno-addrsig, or strip it: {strip}"
+
+
+def link_hints(files: Sequence[Linked], rule: int, file: int, index: int, entry: int) -> Iterator[str]:
+    """Of a rule of the link."""
+    if file >= len(files):
+        return
+    it = files[file]
+    if rule == UNDEFINED_NAME:
+        name = it.symbol_name(index)
+        if name in _NAMES:
+            yield f"{name}: {_NAMES[name]}"
+    elif rule == NO_RULE:
+        yield from _unknown_relocation(it, index, entry)
+
+
+def _unknown_relocation(file: Linked, index: int, entry: int) -> Iterator[str]:
+    """A relocation by a table that elfmap does not make, or one for which a rule can be."""
+    at = file.relocation(index, entry)
+    if at < 0:
+        return
+    number = file.words.number(at + 8, 8) & 0xFFFFFFFF
+    name = relocation_types(file.words.machine).get(number, "")
+    if any(it in name for it in _GOT_WORDS):
+        yield f"{name} is by a global offset table, which elfmap does not make: compile with -fno-pic"
+    elif any(it in name for it in _PLT_WORDS):
+        yield f"{name} is a call, which needs no table here: the rule file needs a line for type {number}"
+    elif name:
+        yield f"the rule file has no line for type {number}, {name} of machine {machine_words(file.words.machine)}"

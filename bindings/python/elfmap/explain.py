@@ -1,0 +1,333 @@
+"""elfmap-explain: why elfmap rejects a file, in words.
+
+    elfmap-explain FILE... < LINES     what elfmap printed of these files
+    elfmap-explain LINE FILE...        one such line, as words
+    elfmap-explain < FINDINGS          what elfmap-lint printed, as text or as jsonl
+    elfmap-explain FILE...             on a terminal: what the rules of images and tables say
+
+Other lines are passed over. The status is 0, 2 for a usage error, and 3 if a file can't be
+read. The other lines are explained all the same.
+
+The lines of the program are
+
+    refused R A           rule R is broken at offset A of the one FILE
+    refused I R A         of `show`: the table in section I breaks rule R at offset A
+    file F refused R A    of `map` and `link`: so is the FILE at position F, from 0
+    refused R F I E       of `map` and `link`: the files do not link by rule R; file, index
+                          and entry count from 0
+
+Nothing in a FILE has to be sound: what is not there is left unsaid.
+"""
+
+from __future__ import annotations
+
+import argparse
+import json
+import os
+import re
+import stat
+import sys
+import textwrap
+from collections.abc import Iterator, Sequence
+from contextlib import ExitStack
+from typing import BinaryIO, NamedTuple, Optional
+
+from elfmap._archives import Content, Contents, is_archive, members, printed
+from elfmap._checks import Checks
+from elfmap._commands import USAGE, UNREADABLE, complain, run_script
+from elfmap._hints import hints, link_hints
+from elfmap._linked import Linked, link_words
+from elfmap._rules import LINK_RULES, RULES
+from elfmap._sources import Source, Unreadable, opened, reason_of, whole
+from elfmap._words import Words, found_at, printable
+
+PROGRAM = "elfmap-explain"
+WIDTH = 130
+_REFUSAL = re.compile(rb"(?:file (\d+) )?refused((?: \d+){2,4})$")
+_FINDING = re.compile(rb"(?P<path>.*?): offset 0x(?P<offset>[0-9a-f]{1,16}): (?P<name>[A-Z_0-9]+) \((?P<rule>\d{1,3})\): ", re.S)
+_CONTROL = re.compile(rb"\\x([01][0-9a-f]|7f)")
+_FIRST_WORD, _WORD = re.compile(r"file|refused"), re.compile(r"refused|\d+")
+# So many files are held open.
+_MOST_OPEN = 16
+_LONGEST_RECORD = 1 << 20
+_TOO_LONG = "the file is refused because the canonical layout of its object is longer than 2^30 bytes"
+
+
+class Finding(NamedTuple):
+    """What elfmap-lint has found."""
+
+    path: bytes
+    offset: int
+    rule: int
+    name: str
+
+
+class Files:
+    """The files that findings name, and the members of archives, a few of them held open."""
+
+    def __init__(self) -> None:
+        self._open: dict[bytes, tuple[ExitStack, Words, bytes]] = {}
+        self._members: tuple[bytes, dict[bytes, int]] = b"", {}
+
+    def __enter__(self) -> Files:
+        return self
+
+    def __exit__(self, *_: object) -> None:
+        while self._open:
+            self._drop()
+
+    def words(self, path: bytes) -> tuple[Words, bytes]:
+        """A file or a member in words, and the path of the file that has it."""
+        if path not in self._open:
+            while len(self._open) >= _MOST_OPEN:
+                self._drop()
+            with ExitStack() as stack:
+                content = self._content(path, stack)
+                words = Words(content.source)
+                self._open[path] = stack.pop_all(), words, content.file
+        return self._open[path][1:]
+
+    def _drop(self) -> None:
+        stack, _, _ = self._open.pop(next(iter(self._open)))
+        stack.close()
+
+    def _content(self, path: bytes, stack: ExitStack) -> Content:
+        # In text the control characters of a path are escaped.
+        for own in dict.fromkeys((path, _CONTROL.sub(lambda it: bytes([int(it[1], 16)]), path))):
+            if os.path.lexists(own):
+                return Content(path, own, stack.enter_context(opened(own)))
+            archive = _archive_of(own)
+            if archive:
+                return self._member(own, archive, stack)
+        raise Unreadable("no such file or directory")
+
+    def _member(self, path: bytes, archive: bytes, stack: ExitStack) -> Content:
+        """The first member of this path: an archive may have several."""
+        source = stack.enter_context(opened(archive))
+        contents = Contents()
+        for it in members(source, archive) if is_archive(source) else ():
+            own = printed(archive, it)
+            # Of a member in another archive the path goes on.
+            if own == path or (it.origin is not None and path.startswith(own[:-1] + b"(")):
+                content = stack.enter_context(contents.opened(archive, source, it))
+                if content.path == path:
+                    return content
+        raise Unreadable("the archive has no such member")
+
+
+def _archive_of(path: bytes) -> Optional[bytes]:
+    """The archive in the path of a member, `lib.a(member.o)`."""
+    at = path.find(b"(")
+    while path.endswith(b")") and at > 0:
+        if os.path.isfile(path[:at]):
+            return path[:at]
+        at = path.find(b"(", at + 1)
+    return None
+
+
+class Explainer:
+    """Explains lines of the program about given files, and findings about any."""
+
+    def __init__(self, named: Sequence[Linked], files: Files) -> None:
+        self._named = named
+        self._files = files
+        self._filled = textwrap.TextWrapper(WIDTH, subsequent_indent="  ", break_long_words=False, break_on_hyphens=False)
+        self.count = 0
+        self.lost = False
+
+    def explain(self, line: bytes) -> str:
+        """The words for a line; none where it is no refusal and no finding."""
+        refusal = _REFUSAL.match(line.strip())
+        finding = None if refusal else finding_in(line)
+        if refusal:
+            numbers = [int(it) for it in refusal[2].split()]
+            found = self._refusal(int(refusal[1] or 0), numbers)
+        elif finding:
+            found = self._finding(finding)
+        else:
+            return ""
+        self.count += 1
+        lead = (
+            f"{printable(finding.path)}: offset {finding.offset:#x}: {finding.name} ({finding.rule})"
+            if finding
+            else printable(line.strip())
+        )
+        return "\n".join(self._filled.fill(it) for it in (lead, *found)) + "\n"
+
+    def refusals(self) -> Iterator[bytes]:
+        """Why the given files are rejected, and their tables, in the lines of the program."""
+        checks = Checks(tables=True, objects=False)
+        for position, file in enumerate(self._named):
+            source = file.words.data
+            assert isinstance(source, Source)
+            try:
+                faults = checks.faults(source)
+            except Unreadable as fault:
+                self.lost = True
+                complain(PROGRAM, f"{file.path}: {fault.reason}".encode("utf-8", "surrogateescape"))
+                continue
+            for it in faults:
+                table = f"{it.table} " if it.table is not None else ""
+                yield f"file {position} refused {table}{it.rule} {it.at}".encode()
+
+    def _refusal(self, position: int, numbers: list[int]) -> Iterator[str]:
+        if len(numbers) == 4:
+            yield from self._of_link(*numbers)
+            return
+        *table, rule, at = numbers
+        if position >= len(self._named):
+            yield f"there is no file {position}"
+            return
+        file = self._named[position]
+        yield from self._of_file(file.path, file.words, os.fsencode(file.path), rule, at, table[0] if table else None)
+
+    def _finding(self, it: Finding) -> Iterator[str]:
+        try:
+            words, file = self._files.words(it.path)
+            yield from self._of_file(printable(it.path), words, file, it.rule, it.offset, None)
+        except Unreadable as fault:
+            self.lost = True
+            yield f"{printable(it.path)} can't be read: {fault.reason}"
+
+    def _of_file(self, path: str, words: Words, file: bytes, rule: int, at: int, table: Optional[int]) -> Iterator[str]:
+        if rule not in RULES:
+            yield _TOO_LONG if rule == 0 else f"there is no rule {rule}"
+            return
+        name, sentence, advice = RULES[rule]
+        kind = "image" if rule < 40 else "table" if rule < 70 else "object"
+        yield f"{name}: {sentence}"
+        if table is not None:
+            yield f"the table in {words.typed_words(table)}"
+        yield from (f"{path}, offset {at} ({at:#x}): {it.words}" for it in found_at(words, rule, at, table))
+        yield from (f"likely cause: {it}" for it in hints(words, os.fsdecode(file), rule, at))
+        yield from (f"what to do: {advice}", f"docs/RULES.md#{kind}-{rule}")
+
+    def _of_link(self, rule: int, file: int, index: int, entry: int) -> Iterator[str]:
+        if rule not in LINK_RULES:
+            yield f"there is no rule {rule} of the link"
+            return
+        name, sentence, advice = LINK_RULES[rule]
+        yield from (f"{name}: {sentence}", link_words(self._named, rule, file, index, entry))
+        yield from (f"likely cause: {it}" for it in link_hints(self._named, rule, file, index, entry))
+        yield from (f"what to do: {advice}", f"docs/RULES.md#link-{rule}")
+
+
+def finding_in(line: bytes) -> Optional[Finding]:
+    """The finding of elfmap-lint in a line of text, or of JSON."""
+    found = _FINDING.match(line)
+    if found:
+        return Finding(found["path"], int(found["offset"], 16), int(found["rule"]), found["name"].decode())
+    if line.lstrip()[:1] != b"{":
+        return None
+    try:
+        it = json.loads(line)
+        path = bytes.fromhex(it["path_hex"]) if "path_hex" in it else it["path"].encode("utf-8", "surrogateescape")
+        return Finding(path, _number(it["offset"]), _number(it["rule"]), printable(str(it["name"]).encode("utf-8", "replace")))
+    except (ValueError, KeyError, TypeError, AttributeError, RecursionError):
+        return None
+
+
+def _number(value: object) -> int:
+    if isinstance(value, int) and 0 <= value < 2**64:
+        return value
+    raise ValueError("no offset and no rule")
+
+
+def named_file(path: str, stack: ExitStack) -> Linked:
+    """A FILE of the command line. One that is not regular, as a pipe, is read into memory."""
+    try:
+        is_regular = stat.S_ISREG(os.stat(path).st_mode)
+        source = stack.enter_context(opened(os.fsencode(path))) if is_regular else _read_whole(path, stack)
+    except (OSError, ValueError) as fault:
+        raise Unreadable(f"{path}: {reason_of(fault) if isinstance(fault, OSError) else fault}") from None
+    except Unreadable as fault:
+        raise Unreadable(f"{path}: {fault.reason}") from None
+    return Linked(path, Words(source))
+
+
+def _read_whole(path: str, stack: ExitStack) -> Source:
+    handle = os.open(path, os.O_RDONLY | os.O_CLOEXEC | os.O_NOCTTY)
+    stack.callback(os.close, handle)
+    source = whole(handle)
+    stack.callback(os.close, source.handle)
+    return source
+
+
+def records(file: BinaryIO, end: bytes) -> Iterator[bytes]:
+    """What comes from a file, cut where a record ends. No finding is longer than the most."""
+    rest = b""
+    while True:
+        content = os.read(file.fileno(), 1 << 16)
+        *found, rest = (rest + content).split(end)
+        yield from found
+        if not content:
+            yield rest
+            return
+        rest = rest if len(rest) <= _LONGEST_RECORD else b""
+
+
+def _parser() -> argparse.ArgumentParser:
+    parser = argparse.ArgumentParser(
+        prog=PROGRAM,
+        description="Says in words why elfmap rejects a file. Lines come from standard input: what elfmap printed of FILE..., "
+        "or findings of elfmap-lint (text or jsonl), which name their files.",
+        epilog="Status: 0 explained, 2 usage, 3 a file can't be read.",
+    )
+    parser.add_argument("-0", dest="zero", action="store_true", help="lines end with a zero byte, as elfmap-lint -0 prints them")
+    parser.add_argument(
+        "words", metavar="[LINE] FILE", nargs="*", help="one line of elfmap, as words, in place of standard input; then the files"
+    )
+    return parser
+
+
+def _line_of(words: list[str]) -> int:
+    """How many of the words are a line of elfmap."""
+    are_of_line = (re.fullmatch(_WORD if it else _FIRST_WORD, word) for it, word in enumerate(words))
+    return next((it for it, is_own in enumerate(are_of_line) if not is_own), len(words))
+
+
+def main(words: Optional[Sequence[str]] = None) -> int:
+    """Runs the program, and returns its status."""
+    options = _parser().parse_args(words)
+    count = _line_of(options.words)
+    paths = options.words[count:]
+    if count and not paths:
+        complain(PROGRAM, b"FILE is missing; see --help")
+        return USAGE
+    with ExitStack() as stack:
+        try:
+            named = [named_file(path, stack) for path in paths]
+        except Unreadable as fault:
+            complain(PROGRAM, fault.reason.encode("utf-8", "surrogateescape"))
+            return UNREADABLE
+        explainer = Explainer(named, stack.enter_context(Files()))
+        line = " ".join(options.words[:count]).encode()
+        if count:
+            lines = iter([line])
+        elif named and sys.stdin.isatty():
+            lines = explainer.refusals()
+        else:
+            lines = records(sys.stdin.buffer, b"\0" if options.zero else b"\n")
+        return _explain_all(explainer, lines)
+    return UNREADABLE
+
+
+def _explain_all(explainer: Explainer, lines: Iterator[bytes]) -> int:
+    with open(1, "wb", closefd=False) as out:
+        for line in lines:
+            before, found = explainer.count, explainer.explain(line)
+            if found:
+                out.write((f"\n{found}" if before else found).encode("utf-8", "backslashreplace"))
+                out.flush()
+        if not explainer.count:
+            out.write(b"no refusal\n")
+    return UNREADABLE if explainer.lost else 0
+
+
+def script() -> None:
+    """The console script."""
+    run_script(PROGRAM, main)
+
+
+if __name__ == "__main__":
+    script()

@@ -1,0 +1,108 @@
+"""Files that the tests make by hand: relocatable files, and archives of them.
+
+Their fields are those of the gABI, and of the layouts of archives (GNU, thin, BSD).
+"""
+
+import os
+import struct
+from pathlib import Path
+
+PACKAGE = Path(__file__).resolve().parents[1]
+ENVIRONMENT = {**os.environ, "PYTHONPATH": os.pathsep.join([str(PACKAGE), os.environ.get("PYTHONPATH", "")])}
+
+
+class Made:
+    """A relocatable file: its sections, and at its end their names and headers.
+
+    A section is a name, a type, a content, and fields by their names.
+    """
+
+    FIELDS = dict(name=0, type=4, flags=8, addr=16, offset=24, size=32, link=40, info=44, align=48, entsize=56)
+
+    def __init__(self, *sections):
+        names, self.data, rows = b"\0", bytearray(64), [bytes(64)]
+        for name, kind, content, fields in sections:
+            self.data += bytes(-len(self.data) % 8)
+            rows.append(self.row(len(names), kind, len(self.data), len(content), fields))
+            self.data += content
+            names += name + b"\0"
+        own = len(names)
+        names += b".shstrtab\0"
+        rows.append(self.row(own, 3, len(self.data), len(names), {}))
+        self.names = len(self.data)
+        self.data += names
+        self.data += bytes(-len(self.data) % 8)
+        self.table = len(self.data)
+        self.data += b"".join(rows)
+        counts = 64, 0, 0, 64, len(rows), len(rows) - 1
+        self.data[:64] = struct.pack("<16sHHIQQQIHHHHHH", b"\x7fELF\2\1\1", 1, 62, 1, 0, 0, self.table, 0, *counts)
+
+    def row(self, name, kind, offset, size, fields):
+        it = dict(flags=0, addr=0, size=size, link=0, info=0, align=1, entsize=0) | fields
+        places = it["addr"], offset, it["size"], it["link"], it["info"], it["align"], it["entsize"]
+        return struct.pack("<IIQQQQIIQQ", name, kind, it["flags"], *places)
+
+    def with_field(self, index, field, value):
+        """Its bytes, with a field of a section header changed."""
+        data, at = bytearray(self.data), self.table + 64 * index + self.FIELDS[field]
+        width = 4 if field in ("name", "type", "link", "info") else 8
+        data[at : at + width] = value.to_bytes(width, "little")
+        return bytes(data)
+
+    def with_bytes(self, at, content):
+        data = bytearray(self.data)
+        data[at : at + len(content)] = content
+        return bytes(data)
+
+
+def text(name=b".text", content=b"\x90" * 0x33):
+    return name, 1, content, {}
+
+
+def symbols(link, *rows, info=1):
+    """A symbol table: of each symbol its st_name, st_info and st_shndx."""
+    content = bytes(24) + b"".join(struct.pack("<IBBHQQ", *(name, kind, 0, section, 0, 0)) for name, kind, section in rows)
+    return b".symtab", 2, content, dict(link=link, info=info, entsize=24)
+
+
+def relocations(link, *named):
+    content = b"".join(struct.pack("<QQq", 0, symbol << 32 | 2, 0) for symbol in named)
+    return b".rela.text", 4, content, dict(link=link, info=1, entsize=24)
+
+
+GOOD = bytes(Made(text()).data)
+# .text has the bytes from 0x40 to below 0x73, and .data four bytes from 0x72 on.
+SHARING = Made(text(), (b".data", 1, b"\1\2\3\4", {})).with_field(2, "offset", 0x72)
+# Symbol 1 is of section 99, which isn't there (rule 51), and two sections link to the table.
+BROKEN_SYMBOLS = bytes(Made(text(), symbols(3, (1, 0x10, 99)), (b".strtab", 3, b"\0f\0", {}), relocations(2, 1), relocations(2, 1)).data)
+CLASS_32 = b"\x7fELF\1\1\1" + bytes(64)
+
+
+def archive_member(name, content, ending=b"/"):
+    header = b"%-16s%-12d%-6d%-6d%-8o%-10d`\n" % (name + ending, 0, 0, 0, 0o644, len(content))
+    return header + content + b"\n" * (len(content) % 2)
+
+
+LONG = b"a name of more than sixteen letters.o"
+GNU = (
+    b"!<arch>\n"
+    + archive_member(b"", bytes(4))
+    + archive_member(b"/", LONG + b"/\n")
+    + archive_member(b"good.o", GOOD)
+    + archive_member(b"/0", SHARING, b"")
+    + archive_member(b"odd", b"no ELF file")
+)
+BSD = (
+    b"!<arch>\n"
+    + archive_member(b"__.SYMDEF SORTED", bytes(8), b"")
+    + archive_member(b"#1/40", LONG.ljust(40, b"\0") + SHARING, b"")
+    + archive_member(b"good.o", GOOD, b"")
+)
+
+
+def thin(*names):
+    table = b"".join(it + b"/\n" for it in names)
+    starts = [table.index(it + b"/\n") for it in names]
+    # The size is that of the file, whose bytes are elsewhere.
+    headers = (archive_member(b"/%d" % it, b"", b"") for it in starts)
+    return b"!<thin>\n" + archive_member(b"/", table) + b"".join(headers)
