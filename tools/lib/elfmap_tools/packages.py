@@ -21,7 +21,7 @@ MACHINES = {"aarch64": "aarch64", "riscv64": "riscv64", "s390x": "s390x", "ppc64
 for qemu, target in MACHINES.items():
     PACKAGES |= {f"{target}-linux-gnu-gcc": f"gcc-{target}-linux-gnu", f"{target}-linux-gnu-ld": f"gcc-{target}-linux-gnu"}
     PACKAGES[f"qemu-{qemu}"] = "qemu-user"
-# The first cargo that has the edition of the crate in bindings/rust.
+# A cargo whose rustc compiles the tests of bindings/rust too; Debian has an older one beside it.
 LEAST = {"cargo": (1, 85)}
 
 
