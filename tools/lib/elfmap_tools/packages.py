@@ -11,9 +11,10 @@ SANITIZERS = "/usr/lib/llvm-*/lib/clang/*/lib/linux/libclang_rt.asan-x86_64.a"
 # The commands of each package, by their first words, or a file that has to be there.
 COMMANDS = {
     "binutils": "ar as ld nm objcopy readelf", "binaryen": "wasm-opt", "black": "black", "cargo-web": "cargo", "chromium": "chromium",
-    "clang": "clang", "elfutils": "eu-elflint", "g++": "c++ g++", "gcc": "cc gcc", "git": "git", "groff": "groff",
+    "clang": "clang", "debootstrap": "debootstrap", "dpkg": "dpkg-deb", "elfutils": "eu-elflint", "g++": "c++ g++", "gcc": "cc gcc", "git": "git", "groff": "groff",
     "libclang-rt-14-dev": SANITIZERS, "libklibc-dev": KLIBC, "lld": "ld.lld", "llvm": "llvm-objcopy", "man-db": "man", "mypy": "mypy",
-    "nodejs": "node", "pkg-config": "pkg-config", "rustc-web": "rustc", "valgrind": "valgrind",
+    "nodejs": "node", "pkg-config": "pkg-config", "rustc-web": "rustc", "util-linux": "unshare",
+    "valgrind": "valgrind",
 }  # fmt: skip
 PACKAGES = {command: package for package, commands in COMMANDS.items() for command in commands.split()}
 # The machines of rules/, by the names of qemu's program and of the compiler.
