@@ -99,7 +99,8 @@ def put_elfmap(root: str, tree: str, version: str) -> None:
 def put_doc(root: str, tree: str, version: str) -> None:
     own = f"{root}/usr/share/doc/elfmap"
     os.makedirs(own)
-    for it in ("README.md", "docs", "doc", "elfmap.html", "examples", "rules"):
+    python = ("bindings/python/README.md", "bindings/python/examples")
+    for it in ("README.md", "docs", "doc", "elfmap.html", "examples", "rules", *python):
         if os.path.isdir(f"{tree}/{it}"):
             shutil.copytree(f"{tree}/{it}", f"{own}/{it}")
         elif os.path.exists(f"{tree}/{it}"):
@@ -141,9 +142,9 @@ CONTENTS = {
 
 
 def settle(root: str) -> None:
-    """Gives each file below a folder the time of the commit and plain permissions."""
-    for at, folders, names in os.walk(root):
-        for path in (f"{at}/{it}" for it in [*folders, *names]):
+    """Gives a folder and each file below it the time of the commit and plain permissions."""
+    for at, _, names in os.walk(root):
+        for path in (at, *(f"{at}/{it}" for it in names)):
             if not os.path.islink(path):
                 os.chmod(path, 0o755 if os.access(path, os.X_OK) else 0o644)
             os.utime(path, (epoch(), epoch()), follow_symlinks=False)

@@ -66,7 +66,7 @@ def make_root() -> str:
         return "there is no debootstrap"
     os.makedirs(os.path.dirname(ROOT), exist_ok=True)
     room = tempfile.mkdtemp(dir=os.path.dirname(ROOT))
-    made = said("debootstrap", "--variant=minbase", f"--include={INCLUDED}", SUITE, f"{room}/root")
+    made = said("timeout", "900", "debootstrap", "--variant=minbase", f"--include={INCLUDED}", SUITE, f"{room}/root")
     if made.returncode == 0:
         os.rename(f"{room}/root", ROOT)
     shutil.rmtree(room)
@@ -104,6 +104,7 @@ def versions() -> dict[str, str]:
     patterns = {
         "bindings/python/pyproject.toml": r'^version = "(.*)"', "bindings/python/elfmap/__init__.py": r'^__version__ = "(.*)"',
         "bindings/rust/Cargo.toml": r'^version = "(.*)"', "bindings/rust/Cargo.lock": r'name = "elfmap"\nversion = "(.*)"',
+        "bindings/rust/README.md": r"elfmap-([\d.]+)\.crate", "bindings/python/README.md": r"elfmap-([\d.]+)-py3",
     }  # fmt: skip
     found = {path: re.findall(pattern, read_text(path), re.M) for path, pattern in patterns.items()}
     return {path: it[0] if it else "none" for path, it in found.items()} | {
@@ -122,15 +123,9 @@ def packages(tally: Tally, options: Namespace) -> None:
         tally.check(own == version, f"{path} has the version {own}, and VERSION has {version}")
     with tempfile.TemporaryDirectory(prefix="packages-test-") as room:
         first, second = f"{room}/first", f"{room}/second"
-        for it in (first, second):
-            made = said(
-                sys.executable,
-                f"{TOP}/tools/release",
-                "packages",
-                it,
-                folder="/",
-                env=environment(TZ="UTC" if it == first else "Asia/Tokyo"),
-            )
+        for it, mask, zone in ((first, "022", "UTC"), (second, "077", "Asia/Tokyo")):
+            words = ["sh", "-c", f'umask {mask} && exec "$@"', "sh", sys.executable, f"{TOP}/tools/release", "packages", it]
+            made = said(*words, folder=room, env=environment(TZ=zone))
             if not tally.check(made.returncode == 0, f"no packages are made: {made.stdout}"):
                 return
         tally.check(is_same(first, second), "the packages have other bytes the second time")

@@ -160,5 +160,5 @@ def page(readme: str, version: str) -> str:
 
 
 def main(options: argparse.Namespace) -> int:
-    print(page(read_text("README.md"), options.version), end="")
+    print(page(read_text("README.md"), options.version or read_text("VERSION").strip()), end="")
     return 0
