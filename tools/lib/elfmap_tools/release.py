@@ -1,7 +1,7 @@
 """`tools/release pack`: what is built in one archive, elfmap-VERSION-x86_64-linux.tar.gz, which is used on a Linux with the GNU C library and
 without the Rattle kit:
 
-    elfmap, README.md, CONTRIBUTING.md, VERSION
+    elfmap, VERSION, README.md and the other pages at the top
     bin/elfmap                               runs elfmap with the memory settings of the script ./elfmap
     bin/elfmap-*                             the commands of the Python package
     lib/libelfmap.a, lib/libelfmap.so.0      the library for C
@@ -52,7 +52,18 @@ Libs: -L${{libdir}} -lelfmap
 """
 # What git has of the bindings, but for their tests, which need the repository.
 BINDINGS = {"rust": "Cargo.lock Cargo.toml README.md build.rs examples src", "python": "README.md pyproject.toml examples elfmap"}
-PAGES = ("README.md", "CONTRIBUTING.md", "docs/*", "rules/*.rules", "examples/*", "bindings/c/*.[ch]", "include/elfmap.h")
+# Those of these files that the repository has.
+PAGES = (
+    "README.md",
+    "CONTRIBUTING.md",
+    "CHANGELOG.md",
+    "SECURITY.md",
+    "docs/*",
+    "rules/*.rules",
+    "examples/*",
+    "bindings/c/*.[ch]",
+    "include/elfmap.h",
+)
 LINK = re.compile(r"(?<!!)\[((?:`[^`]*`|[^\]`])*)\]\((?!https?:|#)([^)#\s]+)[^)]*\)")
 
 

@@ -25,7 +25,7 @@ NAME = f"elfmap-{VERSION}-x86_64-linux"
 TRUE = "/bin/true"
 COMPILE = "cc -std=c99 program.c $(pkg-config --cflags --libs elfmap)"
 FILES = [
-    "elfmap.html", "README.md", "CONTRIBUTING.md", "VERSION", "bin/elfmap", "doc/elfmap-doc.html", "elfmap", "include/elfmap.h",
+    "elfmap.html", "VERSION", "bin/elfmap", "doc/elfmap-doc.html", "elfmap", "include/elfmap.h",
     "lib/libelfmap.a", "lib/libelfmap.so.0", "lib/pkgconfig/elfmap.pc", "share/man/man1/elfmap.1", *(f"bin/{it}" for it in commands()),
 ]  # fmt: skip
 # The path of a link that is relative, without the place in its page.
@@ -53,7 +53,7 @@ class Release:
         self.check(ran("tar", "xf", first, folder=f"{room}/empty").returncode == 0, "tar does not unpack the archive")
         names = {it[len(self.folder) + 1 :] for it in files_below(self.folder)}
         # What git has in these folders; of the crate and the package without their tests.
-        listed = ran("git", "ls-files", "docs", "rules", "bindings", "examples", folder=TOP).stdout.split()
+        listed = ran("git", "ls-files", "[A-Z]*.md", "docs", "rules", "bindings", "examples", folder=TOP).stdout.split()
         texts = {it for it in listed if not re.search(r"^bindings/(rust|python)/(tests/|\.gitignore)|^bindings/[^/]*$", it)}
         wanted = {*FILES, *texts}
         self.check(names == wanted, f"the archive lacks {sorted(wanted - names)}, and has beyond that {sorted(names - wanted)}")
