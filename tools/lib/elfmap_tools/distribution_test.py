@@ -26,6 +26,15 @@ CACHE = os.environ.get("XDG_CACHE_HOME") or os.path.expanduser("~/.cache")
 ROOT = f"{CACHE}/elfmap-tools/{SUITE}"
 PLAIN = {"PATH": "/usr/sbin:/usr/bin:/sbin:/bin", "LC_ALL": "C.UTF-8", "HOME": "/root", "DEBIAN_FRONTEND": "noninteractive"}
 BROKEN = "head -c 100 /bin/true > /tmp/tree/broken"
+# Types into a shell at a terminal of its own, and reads until the second option is whole.
+ZSH = r"""zmodload zsh/zpty
+zpty shell zsh -fi
+zpty -w shell 'PROMPT=; autoload -U compinit; compinit -u -D; bindkey "^I" complete-word; print re''ady'
+zpty -r shell out '*ready*'
+zpty -w -n shell $'elfmap li\tsome --ent\t'
+zpty -r -m shell out '* --entry*'
+print -r -- $out
+"""
 # What is tried in the root, in this order: a title, a script, and a pattern of the lines that it prints. @V@ is the version.
 SECTIONS = "$(elfmap show /bin/true | grep -c '^section ')"
 STEPS = [
@@ -42,8 +51,7 @@ STEPS = [
     ("bash completion", "bash -c '. /usr/share/bash-completion/completions/elfmap; COMP_WORDS=(elfmap map --b); COMP_CWORD=2; _elfmap;"
      ' echo "${COMPREPLY[*]}"\'', r"--base\n"),
     ("fish completion", "fish -c 'complete -C \"elfmap sh\"; complete -C \"elfmap link --ent\"' | cut -f 1", r"show\n--entry\n"),
-    ("zsh completion", "zsh -fc 'autoload -U compinit; compinit -D; print $_comps[elfmap] $_comps[elfmap-lint]';"
-     " for it in /usr/share/zsh/vendor-completions/_elfmap*; do zsh -n $it; done", r"_elfmap _elfmap-lint\n"),
+    ("zsh completion", f"cat > /tmp/zsh <<'E'\n{ZSH}E\ntimeout 60 zsh -f /tmp/zsh | grep -ao -- ' --entry' | head -n 1", r" --entry\n"),
     ("remove", "dpkg -P elfmap elfmap-doc libelfmap-dev python3-elfmap libelfmap0 > /tmp/log 2>&1 || cat /tmp/log;"
      " find / -xdev -path /packages -prune -o -path /tmp -prune -o -path /var/cache -prune -o -name '*elfmap*' -print", r""),
     ("wheel", "python3 -m venv /tmp/v && /tmp/v/bin/pip install -q --no-index /packages/*.whl && export PATH=/tmp/v/bin &&"
@@ -73,9 +81,13 @@ def make_root() -> str:
     return "" if made.returncode == 0 else f"debootstrap fails: {made.stdout.strip().splitlines()[-1:]}"
 
 
+# Terminals too, for zsh.
+MOUNTED = 'mount -t proc proc "$1/proc" && mount --bind /dev/pts "$1/dev/pts" && exec chroot "$1" sh -c "$2"'
+
+
 def inside(root: str, script: str) -> Texts:
     """Runs a script in a root, with processes and mounts of its own."""
-    words = ["unshare", "--mount", "--pid", "--fork", "sh", "-c", 'mount -t proc proc "$1/proc" && exec chroot "$1" sh -c "$2"', "sh"]
+    words = ["unshare", "--mount", "--pid", "--fork", "sh", "-c", MOUNTED, "sh"]
     return said(*words, root, script, env=PLAIN)
 
 
