@@ -12,7 +12,7 @@
 
 The same commit makes the same bytes: every file has the time of the commit."""
 
-import argparse, base64, glob, gzip, hashlib, os, re, shutil, sys, tempfile, time, tomllib, zipfile
+import argparse, base64, glob, gzip, hashlib, os, re, shutil, sys, tempfile, time, zipfile
 
 from . import completions, library, release
 from .release import PKG_CONFIG, commands, copied, epoch, put
@@ -176,8 +176,8 @@ def deb(name: str, tree: str, folder: str, version: str) -> None:
 
 def metadata(version: str) -> dict[str, str]:
     """The files of a package of Python that say what it is."""
-    project = tomllib.loads(read_text("bindings/python/pyproject.toml"))["project"]
-    scripts = "".join(f"{name} = {place}\n" for name, place in project["scripts"].items())
+    project = dict(re.findall(r'^([\w-]+) = "(.*)"', read_text("bindings/python/pyproject.toml"), re.M))
+    scripts = "".join(f"{name} = {module}:{function}\n" for name, (module, function) in commands().items())
     about = METADATA.format(version=version, description=project["description"], python=project["requires-python"])
     return {"METADATA": about, "entry_points.txt": f"[console_scripts]\n{scripts}"}
 

@@ -16,7 +16,7 @@ without the Rattle kit:
 A page's link to a file that the archive lacks becomes its words. VERSION is the first line of the file VERSION, unless another one is given.
 The same program, library, version, texts and commit make the same archive."""
 
-import argparse, functools, glob, os, re, shutil, sys, tempfile, tomllib
+import argparse, functools, glob, os, re, shutil, sys, tempfile
 
 from . import doc, library, man, page
 from .building import output_of
@@ -109,8 +109,8 @@ def epoch() -> int:
 
 def commands() -> dict[str, tuple[str, str]]:
     """The commands of the Python package: of each its module and its function."""
-    scripts = tomllib.loads(read_text("bindings/python/pyproject.toml"))["project"]["scripts"]
-    return {name: (place.partition(":")[0], place.partition(":")[2]) for name, place in scripts.items()}
+    found = re.findall(r'^([\w-]+) = "([\w.]+):(\w+)"', read_text("bindings/python/pyproject.toml"), re.M)
+    return {name: (module, function) for name, module, function in found}
 
 
 def put(path: str, text: str | bytes, mode: int = 0o644) -> None:
