@@ -10,7 +10,7 @@ neither the kit nor anything of the repository:
 The root is made by debootstrap, once, and is kept in the cache; each run has a copy of it. Without root's rights, debootstrap or a mirror
 the tests in it are skipped by their names."""
 
-import os, re, shutil, subprocess, sys, tempfile
+import os, re, shutil, sys, tempfile, zlib
 from argparse import Namespace
 
 from . import distribution
@@ -23,7 +23,8 @@ from .tree import TOP, Texts, files_below, read_bytes, read_text, said
 SUITE = "bookworm"
 INCLUDED = "python3,python3-venv,gcc,libc6-dev,pkg-config,man-db,fish,zsh,cargo"
 CACHE = os.environ.get("XDG_CACHE_HOME") or os.path.expanduser("~/.cache")
-ROOT = f"{CACHE}/elfmap-tools/{SUITE}"
+# Of other packages it is another root.
+ROOT = f"{CACHE}/elfmap-tools/{SUITE}-{zlib.crc32(INCLUDED.encode()):08x}"
 PLAIN = {"PATH": "/usr/sbin:/usr/bin:/sbin:/bin", "LC_ALL": "C.UTF-8", "HOME": "/root", "DEBIAN_FRONTEND": "noninteractive"}
 BROKEN = "head -c 100 /bin/true > /tmp/tree/broken"
 # Types into a shell at a terminal of its own, and reads until the second option is whole.
