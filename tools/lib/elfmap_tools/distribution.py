@@ -1,18 +1,18 @@
 """`tools/release packages`: all that people install, made of what is built:
 
     elfmap-VERSION-x86_64-linux.tar.gz     the archive of `tools/release pack`
-    elfmap_VERSION_amd64.deb               the program, its manual page, completions and files of rules
+    elfmap_VERSION_amd64.deb               the program, its manual page, completions, and files of rules
     elfmap-doc_VERSION_all.deb             the manual: the pages, the page of the library, the page for a browser, and examples
     libelfmap0_VERSION_amd64.deb           the shared library
     libelfmap-dev_VERSION_amd64.deb        the header, the static library and the pkg-config file
-    python3-elfmap_VERSION_amd64.deb       the Python package with its commands and their completions
+    python3-elfmap_VERSION_amd64.deb       the Python package, its commands, their manual pages and completions
     elfmap-VERSION-py3-none-TAG.whl        the Python package with the library; TAG names the C library that this needs
     elfmap-VERSION.crate                   the Rust crate with the static library
     SHA256SUMS                             their sums
 
 The same commit makes the same bytes: every file has the time of the commit."""
 
-import argparse, base64, glob, gzip, hashlib, os, re, shutil, sys, tempfile, time, zipfile
+import argparse, base64, gzip, hashlib, os, re, shutil, tempfile, time, zipfile
 
 from . import completions, library, release
 from .release import PKG_CONFIG, commands, copied, epoch, put
@@ -38,9 +38,9 @@ COMPILED = {
 # Of each package what it needs, and what it is.
 PACKAGES = {
     "elfmap": ("libc6 (>= {glibc})", "checks, shows, rewrites and links ELF-64 files"),
-    "elfmap-doc": ("", "the manual of elfmap"),
+    "elfmap-doc": ("", "manual of elfmap"),
     "libelfmap0": ("libc6 (>= {library_glibc})", "ELF-64 files: verdict, records, tables, rewriting and linking"),
-    "libelfmap-dev": ("libelfmap0 (= {version})", "the header and the static library of libelfmap0"),
+    "libelfmap-dev": ("libelfmap0 (= {version})", "header and static library of libelfmap0"),
     "python3-elfmap": ("python3 (>= 3.9), libelfmap0 (= {version})", "elfmap for Python, and elfmap-lint for whole trees"),
 }
 METADATA = """Metadata-Version: 2.1
@@ -72,9 +72,7 @@ def completions_of_program() -> dict[str, str]:
 def completions_of_package() -> dict[str, str]:
     found: dict[str, str] = {}
     for name, (module, _) in commands().items():
-        env = {**os.environ, "COLUMNS": "300", "PYTHONDONTWRITEBYTECODE": "1"}
-        help = said(sys.executable, "-m", module, "--help", folder=f"{TOP}/bindings/python", env=env).stdout
-        found |= completions.files(completions.Command(name, "", completions.options_of(help)))
+        found |= completions.files(completions.Command(name, "", completions.options_of(release.help_of(module))))
     return found
 
 
@@ -86,11 +84,14 @@ def linked(path: str, target: str) -> None:
     os.symlink(target, path)
 
 
+def put_page(root: str, tree: str, name: str) -> None:
+    put(f"{root}/usr/share/man/man1/{name}.1.gz", gzip.compress(read_bytes(f"{tree}/share/man/man1/{name}.1"), mtime=0))
+
+
 def put_elfmap(root: str, tree: str, version: str) -> None:
     copied(PROGRAM, f"{root}/usr/lib/elfmap/elfmap", 0o755)
     put(f"{root}/usr/bin/elfmap", release.runner(version, "lib/elfmap/elfmap"), 0o755)
-    page = read_bytes(f"{tree}/share/man/man1/elfmap.1")
-    put(f"{root}/usr/share/man/man1/elfmap.1.gz", gzip.compress(page, mtime=0))
+    put_page(root, tree, "elfmap")
     shutil.copytree(f"{tree}/rules", f"{root}/usr/share/elfmap/rules")
     for place, text in completions_of_program().items():
         put(f"{root}/usr/share/{place}", text)
@@ -130,6 +131,7 @@ def put_python(root: str, tree: str, version: str) -> None:
         put(f"{root}/{os.path.dirname(PYTHON)}/elfmap-{version}.dist-info/{name}", text)
     for name, (module, function) in commands().items():
         put(f"{root}/usr/bin/{name}", SCRIPT.format(module=module, function=function), 0o755)
+        put_page(root, tree, name)
     for place, text in completions_of_package().items():
         put(f"{root}/usr/share/{place}", text)
     for name, text in COMPILED.items():
@@ -160,8 +162,8 @@ def deb(name: str, tree: str, folder: str, version: str) -> None:
         size = sum(map(os.path.getsize, files_below(root))) // 1024 + 1
         lines = {"Package": name, "Version": version, "Architecture": machine, "Maintainer": MAINTAINER, "Installed-Size": size}
         lines |= {"Depends": needs.format(**numbers)} if needs else {}
-        level = "" if machine == "all" else "\n The code is for processors of level x86-64-v2 or above."
-        lines |= {"Section": "devel", "Priority": "optional", "Description": about + level}
+        level = "for readers." if machine == "all" else "for processors of level x86-64-v2 or above."
+        lines |= {"Section": "devel", "Priority": "optional", "Description": f"{about}\n This is {level}"}
         lines |= {"Multi-Arch": "same"} if name == "libelfmap0" else {}
         put(f"{root}/DEBIAN/control", "".join(f"{key}: {value}\n" for key, value in lines.items()))
         settle(root)

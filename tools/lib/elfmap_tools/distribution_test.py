@@ -42,7 +42,7 @@ STEPS = [
     ("install", "dpkg -i /packages/*.deb > /tmp/log 2>&1 || cat /tmp/log", ""),
     ("program", "elfmap --version; elfmap check /bin/true", r"elfmap @V@\nok \d+ \d+ \d+\n"),
     ("rules", "ls /usr/share/elfmap/rules/x86-64.rules", r"/usr/share/elfmap/rules/x86-64.rules\n"),
-    ("man page", "man -w elfmap; man --warnings elfmap | head -n 1", r"/usr/share/man/man1/elfmap.1.gz\nELFMAP\(1\) .*\n"),
+    ("man page", "man -w elfmap elfmap-lint; man --warnings elfmap | head -n 1", r"(.*/elfmap(-lint)?.1.gz\n){2}ELFMAP\(1\) .*\n"),
     ("manual", "ls /usr/share/doc/elfmap/README.md /usr/share/doc/elfmap/docs/RULES.md | wc -l", r"2\n"),
     ("lint", "elfmap-lint --tables /usr/bin && mkdir /tmp/tree && " + BROKEN + "; elfmap-lint /tmp/tree; echo $?", r"(.*\n)*/tmp/tree/broken: .*\n.*\n1\n"),
     ("shared library", f"cd /tmp && cc -std=c99 /usr/share/doc/libelfmap-dev/examples/sections.c $(pkg-config --cflags --libs elfmap) -o s"

@@ -9,7 +9,7 @@ without the Rattle kit:
     bindings/c/                              programs over it, sections.c and symbols.c, and its tests
     bindings/rust/, bindings/python/         the crate and the package over it
     elfmap.html                              the page for a browser, if wasm-opt is installed
-    share/man/man1/elfmap.1                  the manual page
+    share/man/man1/                          the manual pages
     docs/, doc/elfmap-doc.html               the pages that README.md links to; the page of the library
     examples/, rules/                        the sources of the examples; the files of rules
 
@@ -113,6 +113,23 @@ def commands() -> dict[str, tuple[str, str]]:
     return {name: (module, function) for name, module, function in found}
 
 
+def help_of(module: str) -> str:
+    """The help of a command of the Python package, in long lines."""
+    env = {**os.environ, "COLUMNS": "300", "PYTHONDONTWRITEBYTECODE": "1"}
+    return said(sys.executable, "-m", module, "--help", folder=f"{TOP}/bindings/python", env=env).stdout
+
+
+def page_of(name: str, module: str, version: str) -> str:
+    """The manual page of a command of the Python package, which is its help."""
+    usage, about, *rest = help_of(module).strip().split("\n\n")
+    lines = [f'.TH {name.upper()} 1 "" "elfmap {version}" "elfmap"', ".SH NAME", rf"{name} \- {man.escaped(about)}", ".SH SYNOPSIS"]
+    lines += [man.literal(usage.removeprefix("usage: ")), ".SH OPTIONS"]
+    for it in rest[:-1]:
+        rows = re.findall(r"^  (\S.*?)(?:  +|\n +)(\S.*)$", it, re.M)
+        lines += [line for head, text in rows for line in (".TP", f".B {man.literal(head)}", man.guarded(man.escaped(text)))]
+    return "\n".join([*lines, ".SH EXIT STATUS", man.escaped(rest[-1]), ".SH SEE ALSO", ".BR elfmap (1)", ""])
+
+
 def put(path: str, text: str | bytes, mode: int = 0o644) -> None:
     """Writes a file, in a folder that is made if it is not there."""
     os.makedirs(os.path.dirname(path), exist_ok=True)
@@ -153,6 +170,8 @@ def put_texts(folder: str, version: str) -> None:
         copied(f"{TOP}/{it}", f"{folder}/{it}")
     put(f"{folder}/doc/elfmap-doc.html", library_page())
     put(f"{folder}/share/man/man1/elfmap.1", man.page(read_text("README.md"), version))
+    for name, (module, _) in commands().items():
+        put(f"{folder}/share/man/man1/{name}.1", page_of(name, module, version))
     if shutil.which("wasm-opt"):
         put(f"{folder}/elfmap.html", page.page())
     else:

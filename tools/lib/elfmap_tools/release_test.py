@@ -26,7 +26,8 @@ TRUE = "/bin/true"
 COMPILE = "cc -std=c99 program.c $(pkg-config --cflags --libs elfmap)"
 FILES = [
     "elfmap.html", "VERSION", "bin/elfmap", "doc/elfmap-doc.html", "elfmap", "include/elfmap.h",
-    "lib/libelfmap.a", "lib/libelfmap.so.0", "lib/pkgconfig/elfmap.pc", "share/man/man1/elfmap.1", *(f"bin/{it}" for it in commands()),
+    "lib/libelfmap.a", "lib/libelfmap.so.0", "lib/pkgconfig/elfmap.pc", "share/man/man1/elfmap.1",
+    *(f"bin/{it}" for it in commands()), *(f"share/man/man1/{it}.1" for it in commands()),
 ]  # fmt: skip
 # The path of a link that is relative, without the place in its page.
 LINK = re.compile(r"\]\((?!https?:)([^)#\s]+)")
@@ -178,7 +179,7 @@ class Release:
         page = "share/man/man1/elfmap.1"
         self.check(re.findall(r"^\.SH (.*)", self.text(page), re.M) == SECTIONS, f"the manual page has other sections than {SECTIONS}")
         self.check(f'"elfmap {VERSION}"' in self.text(page), "the manual page has not the version")
-        readers = [["groff", "-man", "-Tutf8", "-ww", page]]
+        readers = [["groff", "-man", "-Tutf8", "-ww", f"share/man/man1/{it}.1"] for it in ("elfmap", *commands())]
         # Where an image was made without manual pages, `man` may be a text that says so.
         if re.match(r"man [\d.]+$", ran("man", "--version", folder="/").stdout):
             readers.append(["man", "--warnings", "-l", page])
@@ -186,7 +187,7 @@ class Release:
             self.tally.note("skipped: what man would say, which is no reader of pages here")
         for command in readers:
             shown = ran(*command, folder=self.folder)
-            is_shown = shown.returncode == 0 and not shown.stderr and "ELFMAP(1)" in shown.stdout
+            is_shown = shown.returncode == 0 and not shown.stderr and re.search(r"ELFMAP[A-Z-]*\(1\)", shown.stdout)
             self.check(is_shown, f"{command}: {shown.stderr or shown.stdout[:200]}")
 
 
