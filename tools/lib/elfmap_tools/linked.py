@@ -10,8 +10,8 @@
 - linked-elsewhere: the same for the other machines of rules/ that qemu has, by qemu. The program reads numbers through addresses and
   differences of each kind that data have; code there reaches what is elsewhere by kinds that no rule says (docs/RULE_FILES.md), so the
   addresses that it needs are beside it.
-- linked-kinds: for each file of rules an object has a field of each kind that docs/RULE_FILES.md names, and the machine's `ld` puts the same
-  bytes there, wherever the object is placed. So the assembler agrees with the numbers, and `ld` with what the lines say of numbers in range.
+- linked-kinds: for each file of rules an object has fields of each kind that docs/RULE_FILES.md names, with numbers near both ends of their
+  range, and the machine's `ld` puts the same bytes there. So the assembler agrees with the numbers of the kinds, and `ld` with the lines.
 - made-programs, in made_programs.py."""
 
 import functools, glob, os, re, shutil, struct, tempfile
@@ -342,9 +342,6 @@ def linked_elsewhere(tally: Tally, options: Namespace) -> None:
 
 # ---- linked-kinds
 
-# Where an object is placed, and which of the widths of an address fit there; each of a difference does.
-KIND_PLACES = ((0x8, (1, 2, 4, 8)), (0x12345678, (4, 8)), (0x123456789ABCDE8, (8,)))
-
 
 def named_kinds(machine: str) -> tuple[set[int], dict[int, str]]:
     """The kinds that docs/RULE_FILES.md lists for a file of rules, and their names."""
@@ -353,15 +350,31 @@ def named_kinds(machine: str) -> tuple[set[int], dict[int, str]]:
     return {int(it) for numbers, _ in rows for it in numbers}, {int(it): name for row in rows for it, name in zip(*row)}
 
 
-def kinds_differ(shop: Workshop, machine: str, names: Iterator[str], base: int) -> list[str]:
-    """What ld makes otherwise of an object that has a field of each of these kinds."""
-    # Some assemblers have names without their beginning.
-    short = (re.sub("^R_(ALPHA|IA64)_", "", it) for it in names)
-    fields = "".join(f"\t.balign 8\n\t.reloc ., {it}, target + 3\n\t.quad 0\n" for it in short)
-    text = f'\t.data\n{fields}\t.section .far,"aw"\n\t.globl start, target\nstart:\n\t.balign 8\ntarget:\n\t.quad 0\n'
-    write(f"{shop.folder}/kinds.s", text)
-    shop.wanted(*assembler_of(machine), "kinds.s", "-o", "kinds.o")
-    ruled, by_ld, objects = both_linked(shop, ["kinds.o"], (base, 1), f"{TOP}/rules/{machine}.rules", linker_of(machine))
+def numbers_in(width: str, admitted: str) -> tuple[int, ...]:
+    """Numbers at both ends of what a field admits, or near them, as an assembler wants addends of 32 bits; of a field that admits all, one
+    that is long, or that assemblers and ld admit."""
+    bits, near = 8 * int(width), 0x100 if width == "4" else 0
+    ends = {"signed": (near - 2 ** (bits - 1), 2 ** (bits - 1) - 1 - near), "unsigned": (0, 2**bits - 1 - near)}
+    return ends.get(admitted, (0x123456789ABCDEF if bits == 64 else -5,))
+
+
+def kinds_differ(shop: Workshop, machine: str, lines: list[list[str]], names: dict[int, str]) -> list[str]:
+    """What ld makes otherwise of an object that has fields of each kind with a name, with numbers near the ends of their range."""
+    fields = [(names[int(kind)], form, it) for kind, form, *own in lines if int(kind) in names for it in numbers_in(*own)]
+    options = ["--base", "0x10000", "--page", "1"]
+
+    def assemble(addends: list[int]) -> None:
+        # Some assemblers have names without their beginning.
+        entries = (f"\t.reloc ., {re.sub('^R_(ALPHA|IA64)_', '', name)}, target + {it}\n" for (name, *_), it in zip(fields, addends))
+        text = "\t.data\n\t.globl fields, start, target\n\t.balign 8\nfields:\n" + "".join(f"{it}\t.quad 0\n" for it in entries)
+        write(f"{shop.folder}/kinds.s", f'{text}\t.section .far,"aw"\nstart:\n\t.balign 8\ntarget:\n\t.quad 0\n')
+        shop.wanted(*assembler_of(machine), "kinds.s", "-o", "kinds.o")
+
+    assemble([0] * len(fields))
+    places = Map(shop.wanted(PROGRAM, "map", *options, "kinds.o")).names
+    first, target = (int(places[it][0], 16) for it in ("fields", "target"))
+    assemble([it - target + (first + 8 * k if form == "pc" else 0) for k, (_, form, it) in enumerate(fields)])
+    ruled, by_ld, objects = both_linked(shop, ["kinds.o"], (0x10000, 1), f"{TOP}/rules/{machine}.rules", linker_of(machine))
     if ruled.returncode or by_ld.returncode:
         return [f"map ended with {ruled.returncode}: {ruled.stdout[:80]!r}; ld with {by_ld.returncode}: {by_ld.stderr[:300]!r}"]
     return list(differences(Map(ruled.stdout.decode("ascii")), objects, File(shop.content("by-ld"))))
@@ -375,14 +388,12 @@ def linked_kinds(tally: Tally, options: Namespace) -> None:
         if not is_there(assembler_of(machine)[0]) or not is_there(linker_of(machine)[0]):
             tally.note(f"skipped: {machine}, without {assembler_of(machine)[0]} and {linker_of(machine)[0]}")
             continue
-        for base, widths in KIND_PLACES:
-            fit = (names[int(it[0])] for it in lines if int(it[0]) in names and (it[1] != "abs" or int(it[2]) in widths))
-            with tempfile.TemporaryDirectory(prefix="elfmap-kinds.") as folder:
-                try:
-                    wrong = kinds_differ(Workshop(folder), machine, fit, base)
-                except Failed as error:
-                    wrong = [str(error)]
-                tally.check(not wrong, f"{machine} at {base:#x}: {'; '.join(wrong)}")
+        with tempfile.TemporaryDirectory(prefix="elfmap-kinds.") as folder:
+            try:
+                wrong = kinds_differ(Workshop(folder), machine, lines, names)
+            except Failed as error:
+                wrong = [str(error)]
+            tally.check(not wrong, f"{machine}: {'; '.join(wrong)}")
 
 
 CRATES = crates_of("elfmap")
