@@ -1,5 +1,5 @@
     .text
-#if defined(__aarch64__)
+#if defined(aarch64)
     .globl start
 start:
     ldr x19, table_at
@@ -18,7 +18,7 @@ start:
     mov w0, w20
     mov x8, 93
     svc 0
-#elif defined(__riscv)
+#elif defined(riscv64)
     .option norelax
     .option norvc
     .globl start
@@ -39,7 +39,7 @@ start:
     li a7, 93
     ecall
     .org 256
-#elif defined(__s390x__)
+#elif defined(s390x)
     .globl start
 start:
     basr %r13, 0
@@ -58,7 +58,7 @@ start:
     lgr %r2, %r11
     svc 1
     .org 256
-#elif defined(__powerpc64__)
+#elif defined(ppc64)
     .section .opd, "aw"
     .globl start
 start:
@@ -83,6 +83,70 @@ start:
     mr 3, 30
     li 0, 1
     sc
+#elif defined(alpha)
+    .set noat
+    .globl start
+start:
+    br $9, 1f
+1:  ldq $10, 252($9)
+    ldq $16, 0($10)
+    ldl $11, 0($16)
+    lda $17, 8($10)
+    ldq $18, 0($17)
+    addq $18, $17, $18
+    ldl $19, 0($18)
+    addl $11, $19, $11
+    lda $16, 1($31)
+    ldq $17, 260($9)
+    lda $18, 6($31)
+    lda $0, 4($31)
+    callsys
+    mov $11, $16
+    lda $0, 1($31)
+    callsys
+    .org 256
+#elif defined(mips64)
+    .globl start
+start:
+    bal 1f
+1:  ld $16, 248($31)
+    ld $4, 0($16)
+    lw $17, 0($4)
+    daddiu $5, $16, 8
+    lw $6, 0($5)
+    daddu $6, $6, $5
+    lw $7, 0($6)
+    addu $17, $17, $7
+    li $4, 1
+    ld $5, 256($31)
+    li $6, 6
+    li $2, 5001
+    syscall
+    move $4, $17
+    li $2, 5058
+    syscall
+    .org 256
+#elif defined(sparc64)
+    .globl start
+start:
+    rd %pc, %l0
+    ldx [%l0 + 256], %l1
+    ldx [%l1], %o0
+    ldsw [%o0], %l2
+    add %l1, 8, %o1
+    ldx [%o1], %o2
+    add %o2, %o1, %o2
+    ldsw [%o2], %o3
+    add %l2, %o3, %l2
+    mov 1, %o0
+    ldx [%l0 + 264], %o1
+    mov 6, %o2
+    mov 4, %g1
+    ta 0x6d
+    mov %l2, %o0
+    mov 1, %g1
+    ta 0x6d
+    .org 256
 #endif
     .balign 8
 table_at: .quad table
@@ -90,8 +154,10 @@ text_at: .quad text
     .data
     .balign 8
 table: .quad number
-#if defined(__riscv)
+#if defined(riscv64)
     .quad other
+#elif defined(mips64)
+    .long other - .
 #else
     .quad other - .
     .long other - .

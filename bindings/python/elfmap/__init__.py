@@ -37,6 +37,7 @@ __all__ = [
     "Summary",
     "Symbol",
     "TooLong",
+    "__version__",
     "check",
     "link",
     "map",
@@ -44,6 +45,7 @@ __all__ = [
     "rewrite",
     "show",
 ]
+__version__ = "0.1.0"
 
 Bytes = Union[bytes, bytearray, memoryview, mmap.mmap]
 Record = TypeVar("Record")

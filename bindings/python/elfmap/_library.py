@@ -202,8 +202,9 @@ def library() -> ctypes.PyDLL:
     # Not imported with the package, so that it can be run by its name.
     from elfmap import build
 
-    if build.ready().is_file():
-        return shared_library(build.ready())
+    ready = build.ready()
+    if ready:
+        return shared_library(ready)
     path = build.cached()
     if path and path.is_file():
         return shared_library(path)

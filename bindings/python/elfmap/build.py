@@ -15,6 +15,7 @@ from pathlib import Path
 from typing import Optional
 
 NAME = "libelfmap.so"
+SHARED = "libelfmap.so.0"
 ARCHIVE = "libelfmap.a"
 PACKAGE = Path(__file__).resolve().parent
 REPOSITORY = PACKAGE.parents[2]
@@ -36,9 +37,12 @@ def archive() -> Path:
     raise FileNotFoundError(f"{ARCHIVE} is not in {' or '.join(map(str, folders))}")
 
 
-def ready() -> Path:
-    """The path of what was built into the named folder, or else into the package."""
-    return (named_folder() or PACKAGE) / NAME
+def ready() -> Optional[Path]:
+    """The shared library that is built: in the named folder, or else in the package or the release."""
+    folder = named_folder()
+    folders = [folder] if folder else [PACKAGE, REPOSITORY / "lib"]
+    paths = [folder / name for folder in folders for name in (NAME, SHARED)]
+    return next((path for path in paths if path.is_file()), None)
 
 
 def cached() -> Optional[Path]:

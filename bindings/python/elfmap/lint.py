@@ -20,7 +20,7 @@ from collections.abc import Iterator, Sequence
 from itertools import chain
 from typing import Any, BinaryIO, Optional
 
-from elfmap import _library
+from elfmap import __version__, _library
 from elfmap._commands import DONE, FOUND, UNREADABLE, USAGE, complain, failure, run_script
 from elfmap._findings import BadWord, Baseline, Globs, Ignored, Report, Unread, baseline_text
 from elfmap._inspect import Depth, Inspector
@@ -43,6 +43,7 @@ def _parser() -> argparse.ArgumentParser:
         epilog="Status: 0 clean, 1 findings, 2 usage, 3 something can't be read.",
     )
     add = parser.add_argument
+    add("--version", action="version", version=f"%(prog)s {__version__}")
     add("paths", metavar="PATH", nargs="*", help="a file, a directory, an archive, or - for standard input")
     add("--files0-from", metavar="FILE", help="read more PATHs from FILE, each ended by a zero byte; - is standard input")
     add(

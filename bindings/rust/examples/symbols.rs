@@ -5,9 +5,12 @@ use std::io::{self, Write};
 use std::process::ExitCode;
 
 fn main() -> io::Result<ExitCode> {
-    let Some(path) = std::env::args_os().nth(1) else {
-        eprintln!("usage: symbols FILE");
-        return Ok(ExitCode::from(2));
+    let path = match std::env::args_os().nth(1) {
+        Some(path) => path,
+        None => {
+            eprintln!("usage: symbols FILE");
+            return Ok(ExitCode::from(2));
+        }
     };
     let bytes = std::fs::read(path)?;
     let file = match elfmap::File::parse(&bytes) {

@@ -1,12 +1,12 @@
 use alloc::vec::Vec;
-use core::error::Error;
 use core::fmt;
 
 use crate::raw::{
-    self, BAD_RULES, DONE, Extent, Inputs, LinkOptions, NOT_LINKED, Outcome, REFUSED,
+    self, Extent, Inputs, LinkOptions, Outcome, BAD_RULES, DONE, NOT_LINKED, REFUSED,
 };
 use crate::raw::{SMALL_ROOM, TOO_LONG};
 use crate::refusal::{LinkRefusal, Refusal};
+use crate::Error;
 
 /// Why an engine writes nothing.
 #[derive(Clone, Copy, Debug, PartialEq, Eq, Hash)]

@@ -144,8 +144,7 @@ impl<'a> File<'a> {
     /// All sections, in the order of their headers; the first one is of type `SHT_NULL`.
     pub fn sections(
         &self,
-    ) -> impl DoubleEndedIterator<Item = Section<'a>> + ExactSizeIterator + FusedIterator + use<'a>
-    {
+    ) -> impl DoubleEndedIterator<Item = Section<'a>> + ExactSizeIterator + FusedIterator {
         let file = *self;
         let section = move |index| file.section(index).expect("the rules were kept");
         (0..self.summary().sections).map(section)
@@ -154,8 +153,7 @@ impl<'a> File<'a> {
     /// All segments, in the order of their headers.
     pub fn segments(
         &self,
-    ) -> impl DoubleEndedIterator<Item = Segment<'a>> + ExactSizeIterator + FusedIterator + use<'a>
-    {
+    ) -> impl DoubleEndedIterator<Item = Segment<'a>> + ExactSizeIterator + FusedIterator {
         let file = *self;
         let segment = move |index| file.segment(index).expect("the rules were kept");
         (0..self.summary().segments).map(segment)

@@ -15,12 +15,15 @@
 //! ```
 //!
 //! [`rewrite`] and [`link`] write new files. Fields have the names of the gABI (System V ABI,
-//! generic part, chapters 4 and 5). The crate needs `alloc`, and not `std`; what is behind the
-//! engines takes memory by `malloc`.
+//! generic part, chapters 4 and 5). Without its feature `std` the crate needs `alloc` alone, and
+//! Rust 1.81, which has `core::error`. The engines take memory by `malloc`.
 
 #![no_std]
+#![deny(missing_docs, unsafe_code, clippy::undocumented_unsafe_blocks)]
 
 extern crate alloc;
+#[cfg(feature = "std")]
+extern crate std;
 
 mod engine;
 mod file;
@@ -30,8 +33,13 @@ mod refusal;
 pub mod rules;
 mod table;
 
-pub use engine::{Failure, Options, link, map, rewrite, show};
-pub use file::{File, Owner, Part, Section, Segment, Summary, check};
+#[cfg(not(feature = "std"))]
+use core::error::Error;
+#[cfg(feature = "std")]
+use std::error::Error;
+
+pub use engine::{link, map, rewrite, show, Failure, Options};
+pub use file::{check, File, Owner, Part, Section, Segment, Summary};
 pub use raw::{Dynamic, Header, ProgramHeader, Relocation, SectionHeader};
 pub use refusal::{LinkRefusal, Refusal};
 pub use table::{Note, Symbol};

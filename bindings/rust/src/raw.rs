@@ -210,7 +210,7 @@ pub(crate) const TOO_LONG: u32 = 3;
 pub(crate) const SMALL_ROOM: u32 = 4;
 pub(crate) const BAD_RULES: u32 = 6;
 
-unsafe extern "C" {
+extern "C" {
     fn elfmap_verdict(bytes: *const u8, len: usize, fault: &mut Fault) -> bool;
     fn elfmap_verdict_in(
         bytes: *const u8,
@@ -354,7 +354,11 @@ pub(crate) fn verdict(bytes: &[u8]) -> Result<(), Fault> {
     let mut fault = Fault::default();
     // SAFETY: a slice, and what only this call sees.
     let kept = unsafe { elfmap_verdict(bytes.as_ptr(), bytes.len(), &mut fault) };
-    if kept { Ok(()) } else { Err(fault) }
+    if kept {
+        Ok(())
+    } else {
+        Err(fault)
+    }
 }
 
 /// The verdict by a room; one that is too small is told by [`SHORT_ROOM`] and what is wanted.
@@ -363,7 +367,11 @@ pub(crate) fn verdict_in(bytes: &[u8], room: &mut [Extent]) -> Result<(), Fault>
     let mut fault = Fault::default();
     // SAFETY: two slices, of which the room is borrowed as `&mut`, and what only this call sees.
     let kept = unsafe { elfmap_verdict_in(bytes.as_ptr(), bytes.len(), at, count, &mut fault) };
-    if kept { Ok(()) } else { Err(fault) }
+    if kept {
+        Ok(())
+    } else {
+        Err(fault)
+    }
 }
 
 pub(crate) fn numbers(bytes: &[u8]) -> Option<Numbers> {
@@ -427,7 +435,11 @@ pub(crate) fn parts(bytes: &[u8], room: &mut [Piece]) -> Result<u64, Fault> {
             &mut fault,
         )
     };
-    if kept { Ok(parts) } else { Err(fault) }
+    if kept {
+        Ok(parts)
+    } else {
+        Err(fault)
+    }
 }
 
 pub(crate) fn table(numbers: &Numbers, bytes: &[u8], index: u64) -> Option<Table> {

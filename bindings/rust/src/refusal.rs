@@ -1,7 +1,7 @@
-use core::error::Error;
 use core::fmt;
 
 use crate::rules::{LINK_TABLE, TABLE};
+use crate::Error;
 
 /// The name and the sentence of a rule; a library that is newer than the table may have more.
 fn row(table: &[(u16, &'static str, &'static str)], rule: u16) -> (&'static str, &'static str) {

@@ -1,8 +1,8 @@
 use core::fmt;
 use core::iter::FusedIterator;
 
-use crate::File;
 use crate::raw::{self, Dynamic, NoteEntry, Relocation, SymbolEntry, Table};
+use crate::File;
 
 const SHT_SYMTAB: u32 = 2;
 const SHT_RELA: u32 = 4;
@@ -77,7 +77,7 @@ impl<'a> File<'a> {
     pub fn symbols(
         &self,
         index: usize,
-    ) -> Option<impl DoubleEndedIterator<Item = Symbol<'a>> + FusedIterator + use<'a>> {
+    ) -> Option<impl DoubleEndedIterator<Item = Symbol<'a>> + FusedIterator> {
         let file = *self;
         let table = self.table(index, &[SHT_SYMTAB, SHT_DYNSYM])?;
         let symbol = move |index| raw::symbol(&table, file.bytes(), index);
@@ -88,7 +88,7 @@ impl<'a> File<'a> {
     pub fn relocations(
         &self,
         index: usize,
-    ) -> Option<impl DoubleEndedIterator<Item = Relocation> + FusedIterator + use<'a>> {
+    ) -> Option<impl DoubleEndedIterator<Item = Relocation> + FusedIterator + 'a> {
         let bytes = self.bytes();
         let table = self.table(index, &[SHT_RELA, SHT_REL])?;
         Some((0..table.entries).filter_map(move |index| raw::relocation(&table, bytes, index)))
@@ -100,8 +100,7 @@ impl<'a> File<'a> {
     pub fn dynamic(
         &self,
         index: usize,
-    ) -> Option<impl DoubleEndedIterator<Item = (Dynamic, &'a [u8])> + FusedIterator + use<'a>>
-    {
+    ) -> Option<impl DoubleEndedIterator<Item = (Dynamic, &'a [u8])> + FusedIterator> {
         let file = *self;
         let table = self.table(index, &[SHT_DYNAMIC])?;
         let entry = move |index| {
@@ -113,7 +112,7 @@ impl<'a> File<'a> {
     }
 
     /// The notes of the note section `index`; `None` where it is none.
-    pub fn notes(&self, index: usize) -> Option<impl FusedIterator<Item = Note<'a>> + use<'a>> {
+    pub fn notes(&self, index: usize) -> Option<impl FusedIterator<Item = Note<'a>>> {
         let file = *self;
         let table = self.table(index, &[SHT_NOTE])?;
         let note_at = move |offset| raw::note_at(&table, file.bytes(), offset);

@@ -2,7 +2,7 @@
 
 use std::error::Error;
 
-use elfmap::{Failure, File, Options, Refusal, Section, check, link, map, rules};
+use elfmap::{check, link, map, rules, Failure, File, Options, Refusal, Section};
 
 /// A header, the names from 64 on, and from 88 on the section headers: NULL, `.bss`, `.shstrtab`.
 fn small_file() -> Vec<u8> {

@@ -6,7 +6,7 @@ use std::path::{Path, PathBuf};
 use std::process::Command;
 use std::{env, fs};
 
-use elfmap::{Failure, File, Header, Owner, Part, Section, Segment, check};
+use elfmap::{check, Failure, File, Header, Owner, Part, Section, Segment};
 
 /// Of a longer file the reference tells the records alone.
 const LONG: usize = 1 << 20;

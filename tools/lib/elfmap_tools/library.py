@@ -1,15 +1,17 @@
 """`tools/release library`: the library for C in one archive, libelfmap.a. It has the calls without memory (the crate elf_c), the engines
 (elf_c_engines), whose calls for memory get the names of include/elfmap.h, and that memory over malloc (bindings/c/memory.c). A program takes
-of it what it calls: without an engine neither the engines nor malloc."""
+of it what it calls: without an engine neither the engines nor malloc. A release has the same as a shared library, libelfmap.so.0, which
+exports the calls of include/elfmap.h and nothing else."""
 
-import argparse, glob, os, shutil, tempfile
+import argparse, glob, os, re, shutil, tempfile
 
 from .building import built, output_of
-from .tree import TOP, said
+from .tree import TOP, read_text, said, write
 
 VERDICTS, ENGINES = "elf_c", "elf_c_engines"
 FOLDER = f"{TOP}/crates/{VERDICTS}/out"
 LIBRARY = f"{FOLDER}/libelfmap.a"
+SHARED = "libelfmap.so.0"
 FUNCTIONS = ("alloc", "dealloc", "realloc")
 RENAMED = [word for it in FUNCTIONS for word in ("--redefine-sym", f"rattle_{it}=elfmap_{it}")]
 
@@ -39,6 +41,25 @@ def pack(folder: str) -> str:
         # Without times and names of users, so that the same members make the same archive.
         wanted("ar", "rcsD", "libelfmap.a", *sorted(glob.glob("*.o", root_dir=room)), folder=room)
         return str(shutil.move(f"{room}/libelfmap.a", f"{folder}/libelfmap.a"))
+
+
+def calls() -> list[str]:
+    """The functions that include/elfmap.h declares."""
+    return re.findall(r"^(?:bool|uint32_t|void|struct \w+) (elfmap_\w+)\(", read_text("include/elfmap.h"), re.M)
+
+
+def shared(archive: str, folder: str) -> str:
+    """Makes the shared library of the archive: its path in this folder. Without start files it needs malloc and copies of the C library
+    alone. A program may define the functions of memory itself, as with the archive."""
+    path = f"{folder}/{SHARED}"
+    with tempfile.TemporaryDirectory() as room:
+        script = write(f"{room}/script", f"ELFMAP_0 {{ global: {' '.join(f'{it};' for it in calls())} local: *; }};\n")
+        whole = ["-Wl,--whole-archive", archive, "-Wl,--no-whole-archive"]
+        safe = ["-Wl,-z,defs", "-Wl,-z,relro", "-Wl,-z,now", "-Wl,--build-id=none", "-Wl,--as-needed"]
+        words = ["-nostartfiles", f"-Wl,-soname,{SHARED}", f"-Wl,--version-script={script}", *safe]
+        wanted("cc", "-shared", "-s", *words, "-o", path, *whole)
+    os.chmod(path, 0o644)
+    return path
 
 
 def packed() -> str:

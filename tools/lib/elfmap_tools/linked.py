@@ -7,17 +7,19 @@
   what it edits: strings to be merged, and .eh_frame, which is renamed. Addresses from 2^63 on are left out: ld counts modulo 2^64 there.
 - linked-runs: programs of C and C++, and of C over Debian's klibc, of which the objects that a program needs are taken from its archive,
   print and end the same by ld and by elfmap; the executable is the reference's, and `check`, readelf and eu-elflint accept it.
-- linked-elsewhere: the same for the other machines of rules/, by qemu. The program reads numbers through addresses and differences of each
-  kind that data have; code there reaches what is elsewhere by kinds that no rule says (docs/RULE_FILES.md), so the addresses that it needs
-  are beside it.
+- linked-elsewhere: the same for the other machines of rules/ that qemu has, by qemu. The program reads numbers through addresses and
+  differences of each kind that data have; code there reaches what is elsewhere by kinds that no rule says (docs/RULE_FILES.md), so the
+  addresses that it needs are beside it.
+- linked-kinds: for each file of rules an object has fields of each kind that docs/RULE_FILES.md names, with numbers near both ends of their
+  range, and the machine's `ld` puts the same bytes there. So the assembler agrees with the numbers of the kinds, and `ld` with the lines.
 - made-programs, in made_programs.py."""
 
-import functools, os, shutil, struct, tempfile
+import functools, glob, os, re, shutil, struct, tempfile
 from argparse import Namespace
 from collections.abc import Iterator
 from typing import Any
 
-from .packages import KLIBC, MACHINES
+from .packages import BY_LLVM, KLIBC, MACHINES, RUN_BY_QEMU, is_there
 from .reference import ALLOC, NOBITS, NULL, RELA, SYMTAB, SYMTAB_SHNDX, UNDEF, File, linked
 from .suite import Tally, Test, crates_of
 from .tree import PROGRAM, RULES, TOP, Ended, read_bytes, read_text, run, write
@@ -27,6 +29,18 @@ SOURCES = f"{TOP}/cases/sources"
 
 class Failed(Exception):
     """A command of a test that has to end well did not."""
+
+
+def assembler_of(machine: str) -> list[str]:
+    if machine in BY_LLVM:
+        return ["llvm-mc-19", f"-triple={BY_LLVM[machine][0]}", "-filetype=obj"]
+    return [f"{MACHINES[machine]}-as" if machine in MACHINES else "as"]
+
+
+def linker_of(machine: str) -> list[str]:
+    if machine in BY_LLVM:
+        return ["ld.lld-19", "-m", BY_LLVM[machine][1]]
+    return [f"{MACHINES[machine]}-ld" if machine in MACHINES else "ld"]
 
 
 class Workshop:
@@ -51,6 +65,13 @@ class Workshop:
         name = source.replace(".", "-") + ".o"
         self.wanted(compiler, *words, "-c", f"{SOURCES}/{source}", "-o", name)
         return name
+
+    def assembled(self, machine: str, source: str) -> str:
+        """Assembles a file of cases/sources/ for a machine, whose name is a macro there: the name of the object."""
+        words = ["-E", "-P", "-undef", f"-D{machine}", "-x", "assembler-with-cpp", f"{SOURCES}/{source}", "-o", "source.s"]
+        self.wanted("gcc", *words)
+        self.wanted(*assembler_of(machine), "source.s", "-o", f"{source}.o")
+        return f"{source}.o"
 
     def link(self, objects: list[str], base: str, page: str, entry: str, rules: str = RULES) -> None:
         """Links objects by elfmap as the file by-elfmap."""
@@ -145,7 +166,7 @@ def symbols_of(f: Any) -> dict[str, tuple[int, bool]]:
     """Value and whether it is defined, for each name that isn't local."""
     found = {}
     for i, names in ((i, f.content(it.sh_link)) for i, it in f.sections() if it.sh_type == SYMTAB):
-        for name, info, _, place, value, _ in struct.iter_unpack("<I2BH2Q", f.content(i)):
+        for name, info, _, place, value, _ in struct.iter_unpack(f"{'<' if f.order == 'little' else '>'}I2BH2Q", f.content(i)):
             if info >> 4:
                 found[name_at(names, name)] = value, place != UNDEF
     return found
@@ -180,22 +201,27 @@ def differences(map: Map, objects: Objects, made: Any) -> Iterator[str]:
             yield f"{name} is {what} {value}, of ld {'defined' if defined else 'undefined'} 0x{own:x}"
 
 
+# Without a page size of its own ld would refuse addresses that share a page; nothing is loaded.
+LD_WORDS = "-static -nostdlib --no-relax --build-id=none -z max-page-size=1 -z common-page-size=1 -e start -T script -o by-ld".split()
+
+
+def both_linked(shop: Workshop, names: list[str], place: tuple[int, int], rules: str, ld: list[str]) -> tuple[Ended, Ended, Objects]:
+    """How elfmap's map of these objects with rules ended, and how the link by ld that has its outputs; and the objects."""
+    objects = Objects([File(shop.content(it)) for it in names])
+    options = ["--base", hex(place[0]), "--page", hex(place[1])]
+    plain = Map(shop.wanted(PROGRAM, "map", *options, *names))
+    ruled = shop.run(PROGRAM, "map", *options, "--rules", rules, *names)
+    write(f"{shop.folder}/script", plain.script(objects, names))
+    return ruled, shop.run(*ld, *LD_WORDS, *names), objects
+
+
 def try_beside_ld(shop: Workshop, words: str, base: int, page: int, fits: bool) -> tuple[list[str], Map | None, set[int]]:
     """What differs in a case; its map, and the kinds of relocations."""
     names = [shop.compiled("gcc", f"{it}.c", [*LD_FLAGS, *words.split()]) for it in PARTS]
     for it in names:
         # ld reads .eh_frame and writes it anew.
         shop.wanted("objcopy", "--rename-section", ".eh_frame=.frames", it)
-    objects = Objects([File(shop.content(it)) for it in names])
-    options = ["--base", hex(base), "--page", hex(page)]
-    plain = Map(shop.wanted(PROGRAM, "map", *options, *names))
-    ruled = shop.run(PROGRAM, "map", *options, "--rules", RULES, *names)
-    write(f"{shop.folder}/script", plain.script(objects, names))
-    # Without a page size of its own ld would refuse addresses that share a page; nothing is loaded.
-    ld = (
-        "ld -m elf_x86_64 -static -nostdlib --no-relax --build-id=none -z max-page-size=1 -z common-page-size=1 -e start -T script -o by-ld"
-    )
-    by_ld = shop.run(*ld.split(), *names)
+    ruled, by_ld, objects = both_linked(shop, names, (base, page), RULES, ["ld", "-m", "elf_x86_64"])
     said = f"map ended with status {ruled.returncode}: {ruled.stdout[:80]!r} {ruled.stderr[:80]!r}; ld with {by_ld.returncode}: {by_ld.stderr[:300]!r}"
     if not fits:
         refused = ruled.returncode == 1 and ruled.stdout.startswith(b"refused 16 ")
@@ -301,12 +327,12 @@ def linked_runs(tally: Tally, options: Namespace) -> None:
 
 
 def linked_elsewhere(tally: Tally, options: Namespace) -> None:
-    for machine, target in MACHINES.items():
+    for machine, target in RUN_BY_QEMU.items():
         with tempfile.TemporaryDirectory(prefix="elfmap-elsewhere.") as folder:
             shop = Workshop(folder)
             try:
-                objects = [shop.compiled(f"{target}-linux-gnu-gcc", it, []) for it in ("elsewhere.S", "elsewhere_data.S")]
-                shop.wanted(f"{target}-linux-gnu-ld", "-e", "start", *objects, "-o", "by-ld")
+                objects = [shop.assembled(machine, it) for it in ("elsewhere.S", "elsewhere_data.S")]
+                shop.wanted(f"{target}-ld", "-Ttext-segment=0x400000", "-e", "start", *objects, "-o", "by-ld")
                 shop.link(objects, "0x400000", "0x10000", "start", f"{TOP}/rules/{machine}.rules")
                 by_ld, by_elfmap = (shop.answer(it, f"qemu-{machine}")[:2] for it in ("by-ld", "by-elfmap"))
                 tally.check(by_ld == by_elfmap == (42, b"hello\n"), f"{machine}: by ld it is {by_ld}, by elfmap {by_elfmap}")
@@ -314,11 +340,71 @@ def linked_elsewhere(tally: Tally, options: Namespace) -> None:
                 tally.fail(f"{machine}: {error}")
 
 
+# ---- linked-kinds
+
+
+def named_kinds(machine: str) -> tuple[set[int], dict[int, str]]:
+    """The kinds that docs/RULE_FILES.md lists for a file of rules, and their names."""
+    part = read_text("docs/RULE_FILES.md").partition(f"(../rules/{machine}.rules)")[2].partition("\n## ")[0]
+    rows = [(it.split(", "), re.findall(r"`(\w+)`", names)) for it, names in re.findall(r"^\| ([\d, ]+) \| (.*?) \|", part, re.M)]
+    return {int(it) for numbers, _ in rows for it in numbers}, {int(it): name for row in rows for it, name in zip(*row)}
+
+
+def numbers_in(width: str, admitted: str) -> tuple[int, ...]:
+    """Numbers at both ends of what a field admits, or near them, as an assembler wants addends of 32 bits; of a field that admits all, one
+    that is long, or that assemblers and ld admit."""
+    bits, near = 8 * int(width), 0x100 if width == "4" else 0
+    ends = {"signed": (near - 2 ** (bits - 1), 2 ** (bits - 1) - 1 - near), "unsigned": (0, 2**bits - 1 - near)}
+    return ends.get(admitted, (0x123456789ABCDEF if bits == 64 else -5,))
+
+
+def kinds_differ(shop: Workshop, machine: str, lines: list[list[str]], names: dict[int, str]) -> list[str]:
+    """What ld makes otherwise of an object that has fields of each kind with a name, with numbers near the ends of their range."""
+    fields = [(names[int(kind)], form, it) for kind, form, *own in lines if int(kind) in names for it in numbers_in(*own)]
+    options = ["--base", "0x10000", "--page", "1"]
+
+    def assemble(addends: list[int]) -> None:
+        # Some assemblers have names without their beginning.
+        entries = (f"\t.reloc ., {re.sub('^R_(ALPHA|IA64)_', '', name)}, target + {it}\n" for (name, *_), it in zip(fields, addends))
+        text = "\t.data\n\t.globl fields, start, target\n\t.balign 8\nfields:\n" + "".join(f"{it}\t.quad 0\n" for it in entries)
+        write(f"{shop.folder}/kinds.s", f'{text}\t.section .far,"aw"\nstart:\n\t.balign 8\ntarget:\n\t.quad 0\n')
+        shop.wanted(*assembler_of(machine), "kinds.s", "-o", "kinds.o")
+
+    assemble([0] * len(fields))
+    places = Map(shop.wanted(PROGRAM, "map", *options, "kinds.o")).names
+    first, target = (int(places[it][0], 16) for it in ("fields", "target"))
+    assemble([it - target + (first + 8 * k if form == "pc" else 0) for k, (_, form, it) in enumerate(fields)])
+    ruled, by_ld, objects = both_linked(shop, ["kinds.o"], (0x10000, 1), f"{TOP}/rules/{machine}.rules", linker_of(machine))
+    if ruled.returncode or by_ld.returncode:
+        return [f"map ended with {ruled.returncode}: {ruled.stdout[:80]!r}; ld with {by_ld.returncode}: {by_ld.stderr[:300]!r}"]
+    return list(differences(Map(ruled.stdout.decode("ascii")), objects, File(shop.content("by-ld"))))
+
+
+def linked_kinds(tally: Tally, options: Namespace) -> None:
+    for machine in sorted(os.path.basename(it)[:-6] for it in glob.glob(f"{TOP}/rules/*.rules")):
+        lines = [it.split() for it in read_text(f"rules/{machine}.rules").splitlines()]
+        numbers, names = named_kinds(machine)
+        tally.check(numbers == {int(it[0]) for it in lines}, f"docs/RULE_FILES.md lists other kinds than rules/{machine}.rules")
+        if not is_there(assembler_of(machine)[0]) or not is_there(linker_of(machine)[0]):
+            tally.note(f"skipped: {machine}, without {assembler_of(machine)[0]} and {linker_of(machine)[0]}")
+            continue
+        with tempfile.TemporaryDirectory(prefix="elfmap-kinds.") as folder:
+            try:
+                wrong = kinds_differ(Workshop(folder), machine, lines, names)
+            except Failed as error:
+                wrong = [str(error)]
+            tally.check(not wrong, f"{machine}: {'; '.join(wrong)}")
+
+
 CRATES = crates_of("elfmap")
-ELSEWHERE = tuple(f"{it}-linux-gnu-{tool}" for it in MACHINES.values() for tool in ("gcc", "ld")) + tuple(f"qemu-{it}" for it in MACHINES)
+BINUTILS = tuple(f"{it}-{tool}" for it in MACHINES.values() for tool in ("as", "ld"))
+ELSEWHERE = ("gcc", *(f"{it}-{tool}" for it in RUN_BY_QEMU.values() for tool in ("as", "ld")), *(f"qemu-{it}" for it in RUN_BY_QEMU))
 RUNNERS = ("gcc", "g++", "ld", "nm", "ar", "readelf", "eu-elflint", KLIBC)
 TESTS = [
     Test("linked-like-ld", "the link map beside ld's link", linked_like_ld, ("gcc", "ld", "objcopy"), CRATES, family="linked"),
     Test("linked-runs", "programs run the same by ld and by elfmap", linked_runs, RUNNERS, CRATES, family="linked"),
     Test("linked-elsewhere", "programs of other machines run the same", linked_elsewhere, ELSEWHERE, CRATES, family="linked"),
+    Test(
+        "linked-kinds", "each kind of rules/ beside the ld of its machine", linked_kinds, ("as", "ld", *BINUTILS), CRATES, family="linked"
+    ),
 ]

@@ -175,5 +175,5 @@ def page(manual: str, version: str) -> str:
 
 
 def main(options: argparse.Namespace) -> int:
-    print(page(read_text(MANUAL), options.version), end="")
+    print(page(read_text(MANUAL), options.version or read_text("VERSION").strip()), end="")
     return 0

@@ -106,6 +106,7 @@ cd "${0%/*}/crates/elf_field/src" && sleep 0.1 && cp lib.rt lib.rt.new && mv lib
 """
 # Of each call its status, what is built, what is printed, and its words; a word in capitals is done before it.
 CALLS = (
+    (0, "-", "elfmap 7.8", "--version"),
     (0, "elfmap_check", "elfmap_check check a.o", "check a.o"),
     (0, "-", "elfmap_check check -- -a.o", "check -- -a.o"),
     (0, "elfmap", "elfmap check", "check"),
@@ -126,6 +127,7 @@ def launcher(tally: Tally, options: Namespace) -> None:
         os.makedirs(f"{tree}/crates/elf_field/src")
         shutil.copy(f"{TOP}/elfmap", tree)
         write(f"{tree}/crates/elf_field/src/lib.rt", "\n")
+        write(f"{tree}/VERSION", "7.8\n")
         for path, text in ((f"{tree}/tools/dev", DEV), (f"{tree}/replace", REPLACE)):
             os.chmod(write(path, text), 0o755)
         os.symlink(f"{tree}/elfmap", f"{tree}/link")

@@ -13,18 +13,21 @@ SANITIZERS = "/usr/lib/llvm-*/lib/clang/*/lib/linux/libclang_rt.asan-x86_64.a"
 # The commands of each package, by their first words, or a file that has to be there.
 COMMANDS = {
     "binutils": "ar as ld nm objcopy readelf", "binaryen": "wasm-opt", "black": "black", "cargo-web": "cargo", "chromium": "chromium",
-    "clang": "clang", "elfutils": "eu-elflint", "g++": "c++ g++", "gcc": "cc gcc", "git": "git", "groff": "groff",
+    "clang": "clang", "debootstrap": "debootstrap", "dpkg": "dpkg-deb", "elfutils": "eu-elflint", "g++": "c++ g++", "gcc": "cc gcc", "git": "git", "groff": "groff",
     "libclang-rt-14-dev": SANITIZERS, "libklibc-dev": KLIBC, "lld": "ld.lld", "llvm": "llvm-objcopy", "man-db": "man", "mypy": "mypy",
     "nodejs": "node", "pkg-config": "pkg-config", "pre-commit": "pre-commit", "python3-jsonschema": JSONSCHEMA, "python3-junitparser": JUNITPARSER,
-    "rustc-web": "rustc", "valgrind": "valgrind",
+    "rustc-web": "rustc", "util-linux": "unshare", "valgrind": "valgrind",
 }  # fmt: skip
 PACKAGES = {command: package for package, commands in COMMANDS.items() for command in commands.split()}
-# The machines of rules/, by the names of qemu's program and of the compiler.
-MACHINES = {"aarch64": "aarch64", "riscv64": "riscv64", "s390x": "s390x", "ppc64": "powerpc64"}
-for qemu, target in MACHINES.items():
-    PACKAGES |= {f"{target}-linux-gnu-gcc": f"gcc-{target}-linux-gnu", f"{target}-linux-gnu-ld": f"gcc-{target}-linux-gnu"}
-    PACKAGES[f"qemu-{qemu}"] = "qemu-user"
-# The first cargo that has the edition of the crate in bindings/rust.
+# The machines of rules/, by the names of qemu's program and of the tools; one that qemu has no program for; and those that LLVM alone has,
+# by its names of the machine and for its linker.
+RUN_BY_QEMU = {it: f"{it}-linux-gnu" for it in ("aarch64", "alpha", "riscv64", "s390x", "sparc64")}
+RUN_BY_QEMU |= {"mips64": "mips64-linux-gnuabi64", "ppc64": "powerpc64-linux-gnu"}
+MACHINES = RUN_BY_QEMU | {"ia64": "ia64-linux-gnu"}
+BY_LLVM = {"amdgpu": ("amdgcn-amd-amdhsa", "elf64_amdgpu"), "loongarch64": ("loongarch64", "elf64loongarch")}
+PACKAGES |= {f"{target}-{tool}": f"binutils-{target}" for target in MACHINES.values() for tool in ("as", "ld")}
+PACKAGES |= {f"qemu-{qemu}": "qemu-user" for qemu in RUN_BY_QEMU}
+# A cargo whose rustc compiles the tests of bindings/rust too; Debian has an older one beside it.
 LEAST = {"cargo": (1, 85)}
 
 

@@ -3,7 +3,7 @@
 import argparse, os, subprocess, sys
 from collections.abc import Callable
 
-from . import building, definitions, doc, library, man, minutes, page, peers, release as releasing, rules_tables, told
+from . import building, definitions, distribution, doc, library, man, minutes, page, peers, release as releasing, rules_tables, told
 from .tree import PACKAGE, TOP, progress
 
 Main = Callable[[argparse.Namespace], int]
@@ -64,6 +64,7 @@ def release(words: list[str]) -> int:
     folder = word("folder", "where to (here)", nargs="?", default=".")
     version = word("version", "the version", nargs="?")
     it.add("pack", "pack what is built into one archive", releasing.main, folder, version)
+    it.add("packages", "make all packages of what is built: of Debian, Python and Rust, and the archive", distribution.main, folder)
     own = word("folder", "where to (crates/elf_c/out)", nargs="?", default=library.FOLDER)
     it.add("library", "pack the library for C", library.main, own)
     it.add("man", "print the manual page", man.main, word("version", "the version", nargs="?", default=""))

@@ -1,20 +1,22 @@
 """`tools/release pack`: what is built in one archive, elfmap-VERSION-x86_64-linux.tar.gz, which is used on a Linux with the GNU C library and
 without the Rattle kit:
 
-    elfmap, README.md, CONTRIBUTING.md, CHANGELOG.md, SECURITY.md, VERSION
-    bin/elfmap                                                   runs elfmap with the settings of memory of the script ./elfmap
-    lib/libelfmap.a, include/elfmap.h, lib/pkgconfig/elfmap.pc   the library for C; pkg-config finds it wherever the folder is put
-    bindings/c/                                                  programs over it, sections.c and symbols.c, and its tests
-    bindings/rust/, bindings/python/                             the crate and the package over it
-    elfmap.html                                                  the page for a browser, where wasm-opt is installed
-    share/man/man1/elfmap.1                                      the manual page
-    docs/, doc/elfmap-doc.html                                   the pages that README.md links to; the page of the library
-    rules/                                                       the files of rules
+    elfmap, VERSION, README.md and the other pages at the top
+    bin/elfmap                               runs elfmap with the memory settings of the script ./elfmap
+    bin/elfmap-*                             the commands of the Python package
+    lib/libelfmap.a, lib/libelfmap.so.0      the library for C
+    include/elfmap.h, lib/pkgconfig/         its header; pkg-config finds it wherever the directory is put
+    bindings/c/                              programs over it, sections.c and symbols.c, and its tests
+    bindings/rust/, bindings/python/         the crate and the package over it
+    elfmap.html                              the page for a browser, if wasm-opt is installed
+    share/man/man1/                          the manual pages
+    docs/, doc/elfmap-doc.html               the pages that README.md links to; the page of the library
+    examples/, rules/                        the sources of the examples; the files of rules
 
-Without VERSION the version is the first line of the file VERSION at the top of the tree, where there is one, else what `git describe
---always --dirty` says. The same program, library, version and texts make the same archive."""
+A page's link to a file that the archive lacks becomes its words. VERSION is the first line of the file VERSION, unless another one is given.
+The same program, library, version, texts and commit make the same archive."""
 
-import argparse, glob, os, re, shutil, sys, tempfile
+import argparse, functools, glob, os, re, shutil, sys, tempfile
 
 from . import doc, library, man, page
 from .building import output_of
@@ -22,13 +24,25 @@ from .tree import PROGRAM, TOP, below, read_text, run, said, write
 
 RUNNER = """#!/bin/sh
 # elfmap WORDS..: the program elfmap, with settings of the C library's memory.
+if [ "$#:$1" = 1:--version ]; then echo "elfmap {version}"; exit; fi
 if [ -L "$0" ]; then here=$(readlink -f -- "$0"); else here=$0; fi
 case $here in */*) ;; *) here=./$here ;; esac
-{settings}exec "${{here%/*}}/../elfmap" "$@"
+{settings}exec "${{here%/*}}/../{program}" "$@"
 """
-PKG_CONFIG = """prefix=${{pcfiledir}}/../..
+COMMAND = """#!/usr/bin/env python3
+# {name} WORDS..: over the package and the library of this directory.
+import os, sys
+
+top = os.path.dirname(os.path.dirname(os.path.realpath(__file__)))
+sys.path.insert(0, f"{{top}}/bindings/python")
+from {module} import {function}
+
+if __name__ == "__main__":
+    sys.exit({function}())
+"""
+PKG_CONFIG = """prefix={prefix}
 includedir=${{prefix}}/include
-libdir=${{prefix}}/lib
+libdir=${{prefix}}/{libdir}
 
 Name: elfmap
 Description: ELF-64 files: verdict, records, tables, rewriting and linking
@@ -36,10 +50,21 @@ Version: {version}
 Cflags: -I${{includedir}}
 Libs: -L${{libdir}} -lelfmap
 """
-# The pages at the top of the archive.
-PAGES = ["README.md", "CONTRIBUTING.md", "CHANGELOG.md", "SECURITY.md"]
 # What git has of the bindings, but for their tests, which need the repository.
 BINDINGS = {"rust": "Cargo.lock Cargo.toml README.md build.rs examples src", "python": "README.md pyproject.toml examples elfmap"}
+# Those of these files that the repository has.
+PAGES = (
+    "README.md",
+    "CONTRIBUTING.md",
+    "CHANGELOG.md",
+    "SECURITY.md",
+    "docs/*",
+    "rules/*.rules",
+    "examples/*",
+    "bindings/c/*.[ch]",
+    "include/elfmap.h",
+)
+LINK = re.compile(r"(?<!!)\[((?:`[^`]*`|[^\]`])*)\]\((?!https?:|#)([^)#\s]+)[^)]*\)")
 
 
 def stop(why: str) -> SystemExit:
@@ -68,79 +93,149 @@ def check_needs() -> None:
         raise stop(f"the program needs {sorted(others)}, which is no part of the C library")
 
 
-def version_of(given: str | None) -> str:
-    if given is None and os.path.isfile(f"{TOP}/VERSION"):
-        given = read_text("VERSION").splitlines()[0]
-    if given is None:
-        given = run("git", "-C", TOP, "describe", "--always", "--dirty").stdout.decode().strip()
-    if not re.fullmatch(r"[0-9A-Za-z._+-]+", given):
-        raise stop(f"the version '{given}' is no word of letters, digits, '.', '_', '+' and '-'")
-    return given
+def version_of(given: str | None = None) -> str:
+    version = given or read_text("VERSION").splitlines()[0]
+    if not re.fullmatch(r"[0-9A-Za-z._+-]+", version):
+        raise stop(f"the version '{version}' is no word of letters, digits, '.', '_', '+' and '-'")
+    return version
 
 
-def put_program(folder: str, version: str) -> None:
-    shutil.copy(PROGRAM, f"{folder}/elfmap")
-    write(f"{folder}/VERSION", f"{version}\n")
-    for it in ("bin", "docs", "doc", "rules", "share/man/man1"):
-        os.makedirs(f"{folder}/{it}")
+@functools.cache
+def epoch() -> int:
+    """The time that all packed files have, in seconds: SOURCE_DATE_EPOCH, or else that of the commit, or of the file VERSION."""
+    given = os.environ.get("SOURCE_DATE_EPOCH") or run("git", "-C", TOP, "log", "-1", "--format=%ct").stdout.decode().strip()
+    return int(given or os.path.getmtime(f"{TOP}/VERSION"))
+
+
+def commands() -> dict[str, tuple[str, str]]:
+    """The commands of the Python package: of each its module and its function."""
+    found = re.findall(r'^([\w-]+) = "([\w.]+):(\w+)"', read_text("bindings/python/pyproject.toml"), re.M)
+    return {name: (module, function) for name, module, function in found}
+
+
+def help_of(module: str) -> str:
+    """The help of a command of the Python package, in long lines."""
+    env = {**os.environ, "COLUMNS": "300", "PYTHONDONTWRITEBYTECODE": "1"}
+    return said(sys.executable, "-m", module, "--help", folder=f"{TOP}/bindings/python", env=env).stdout
+
+
+def page_of(name: str, module: str, version: str) -> str:
+    """The manual page of a command of the Python package, which is its help."""
+    usage, about, *rest = help_of(module).strip().split("\n\n")
+    lines = [f'.TH {name.upper()} 1 "" "elfmap {version}" "elfmap"', ".SH NAME", rf"{name} \- {man.escaped(about)}", ".SH SYNOPSIS"]
+    lines += [man.literal(usage.removeprefix("usage: ")), ".SH OPTIONS"]
+    for it in rest[:-1]:
+        rows = re.findall(r"^  (\S.*?)(?:  +|\n +)(\S.*)$", it, re.M)
+        lines += [line for head, text in rows for line in (".TP", f".B {man.literal(head)}", man.guarded(man.escaped(text)))]
+    return "\n".join([*lines, ".SH EXIT STATUS", man.escaped(rest[-1]), ".SH SEE ALSO", ".BR elfmap (1)", ""])
+
+
+def put(path: str, text: str | bytes, mode: int = 0o644) -> None:
+    """Writes a file, in a folder that is made if it is not there."""
+    os.makedirs(os.path.dirname(path), exist_ok=True)
+    os.chmod(write(path, text), mode)
+
+
+def copied(source: str, path: str, mode: int = 0o644) -> None:
+    with open(source, "rb") as file:
+        put(path, file.read(), mode)
+
+
+def runner(version: str, program: str) -> str:
+    """The script that runs the program, which is at this place beside the script's folder."""
     settings = re.search(r"^# Large pages.*?^export GLIBC_TUNABLES[^\n]*\n", read_text("elfmap"), re.M | re.S)
     if not settings:
         raise stop("the script ./elfmap has no settings of memory")
-    write(f"{folder}/bin/elfmap", RUNNER.format(settings=settings[0]))
-    for it in ("elfmap", "bin/elfmap"):
-        os.chmod(f"{folder}/{it}", 0o755)
-    for it in [*PAGES, *glob.glob("docs/*", root_dir=TOP), *glob.glob("rules/*.rules", root_dir=TOP)]:
-        shutil.copy(f"{TOP}/{it}", f"{folder}/{it}")
+    return RUNNER.format(version=version, settings=settings[0], program=program)
+
+
+@functools.cache
+def library_page() -> str:
     text, faults = doc.made()
     if faults:
         raise stop(f"the page of the library is not whole: {faults[0]}")
-    write(f"{folder}/doc/elfmap-doc.html", f"{text}\n")
-    write(f"{folder}/share/man/man1/elfmap.1", man.page(read_text(man.MANUAL), version))
+    return f"{text}\n"
+
+
+def put_programs(folder: str, version: str) -> None:
+    copied(PROGRAM, f"{folder}/elfmap", 0o755)
+    put(f"{folder}/VERSION", f"{version}\n")
+    put(f"{folder}/bin/elfmap", runner(version, "elfmap"), 0o755)
+    for name, (module, function) in commands().items():
+        put(f"{folder}/bin/{name}", COMMAND.format(name=name, module=module, function=function), 0o755)
+
+
+def put_texts(folder: str, version: str) -> None:
+    for it in (path for pattern in PAGES for path in glob.glob(pattern, root_dir=TOP)):
+        copied(f"{TOP}/{it}", f"{folder}/{it}")
+    put(f"{folder}/doc/elfmap-doc.html", library_page())
+    put(f"{folder}/share/man/man1/elfmap.1", man.page(read_text(man.MANUAL), version))
+    for name, (module, _) in commands().items():
+        put(f"{folder}/share/man/man1/{name}.1", page_of(name, module, version))
+    if shutil.which("wasm-opt"):
+        put(f"{folder}/elfmap.html", page.page())
+    else:
+        print("release: without elfmap.html: there is no wasm-opt", file=sys.stderr)
 
 
 def put_library(folder: str, version: str) -> None:
-    for it in ("lib/pkgconfig", "include", "bindings/c"):
-        os.makedirs(f"{folder}/{it}")
-    library.pack(f"{folder}/lib")
-    for it in ["include/elfmap.h", *glob.glob("bindings/c/*.[ch]", root_dir=TOP)]:
-        shutil.copy(f"{TOP}/{it}", f"{folder}/{it}")
-    write(f"{folder}/lib/pkgconfig/elfmap.pc", PKG_CONFIG.format(version=version))
+    put(f"{folder}/lib/pkgconfig/elfmap.pc", PKG_CONFIG.format(prefix="${pcfiledir}/../..", libdir="lib", version=version))
+    library.shared(library.pack(f"{folder}/lib"), f"{folder}/lib")
 
 
 def put_bindings(folder: str) -> None:
-    for language, names in BINDINGS.items():
-        os.makedirs(f"{folder}/bindings/{language}")
-        for it in (f"bindings/{language}/{name}" for name in names.split()):
-            if os.path.isdir(f"{TOP}/{it}"):
-                shutil.copytree(f"{TOP}/{it}", f"{folder}/{it}", ignore=shutil.ignore_patterns("__pycache__", "*.so"))
-            else:
-                shutil.copy(f"{TOP}/{it}", f"{folder}/{it}")
+    for it in (f"bindings/{language}/{name}" for language, names in BINDINGS.items() for name in names.split()):
+        if os.path.isdir(f"{TOP}/{it}"):
+            shutil.copytree(f"{TOP}/{it}", f"{folder}/{it}", ignore=shutil.ignore_patterns("__pycache__", "*.so"))
+        else:
+            copied(f"{TOP}/{it}", f"{folder}/{it}")
+
+
+def without_dead_links(folder: str) -> None:
+    """Makes the links of the pages that lead to no file of the folder words."""
+    for it in glob.glob("**/*.md", root_dir=folder, recursive=True):
+        own = os.path.dirname(f"{folder}/{it}")
+
+        def kept(link: re.Match[str], own: str = own) -> str:
+            target = os.path.normpath(f"{own}/{link[2]}")
+            return link[0] if target.startswith(folder) and os.path.exists(target) else link[1]
+
+        text = read_text(f"{folder}/{it}")
+        write(f"{folder}/{it}", LINK.sub(kept, text))
+
+
+def tree(folder: str, version: str) -> None:
+    """Puts what a release has into a folder."""
+    for crate in ("elfmap", library.VERDICTS, library.ENGINES):
+        check_built(crate)
+    check_needs()
+    os.makedirs(folder)
+    put_programs(folder, version)
+    put_texts(folder, version)
+    put_library(folder, version)
+    put_bindings(folder)
+    without_dead_links(folder)
+
+
+def archived(folder: str, path: str) -> str:
+    """Packs a folder as a compressed archive, which is the same for the same files: its path."""
+    parent, name = os.path.split(folder)
+    owner = ["--sort=name", "--owner=0", "--group=0", "--numeric-owner", "--mode=u=rwX,go=rX", f"--mtime=@{epoch()}"]
+    library.wanted("tar", "-C", parent, "--format=gnu", *owner, "-cf", f"{folder}.tar", name)
+    library.wanted("gzip", "-9n", f"{folder}.tar")
+    return str(shutil.move(f"{folder}.tar.gz", path))
 
 
 def pack(folder: str, given: str | None = None) -> str:
     """Packs a release into a folder: the path of the archive."""
-    for crate in ("elfmap", library.VERDICTS, library.ENGINES):
-        check_built(crate)
-    check_needs()
     version = version_of(given)
     name = f"elfmap-{version}-x86_64-linux"
+    os.makedirs(folder, exist_ok=True)
     with tempfile.TemporaryDirectory(prefix="elfmap-release-") as work:
-        os.mkdir(f"{work}/{name}")
-        put_program(f"{work}/{name}", version)
-        put_library(f"{work}/{name}", version)
-        put_bindings(f"{work}/{name}")
-        if shutil.which("wasm-opt"):
-            write(f"{work}/{name}/elfmap.html", page.page())
-        else:
-            print("release: without elfmap.html: there is no wasm-opt", file=sys.stderr)
-        owner = ["--sort=name", "--owner=0", "--group=0", "--numeric-owner", "--mode=go=u,go-w", f"--mtime={PROGRAM}"]
-        library.wanted("tar", "-C", work, *owner, "-cf", f"{work}/{name}.tar", name)
-        library.wanted("gzip", "-9n", f"{work}/{name}.tar")
-        return str(shutil.move(f"{work}/{name}.tar.gz", f"{folder}/{name}.tar.gz"))
+        tree(f"{work}/{name}", version)
+        return archived(f"{work}/{name}", f"{folder}/{name}.tar.gz")
 
 
 def main(options: argparse.Namespace) -> int:
-    if not os.path.isdir(options.folder):
-        raise stop(f"there is no folder {options.folder}")
     print(pack(options.folder, options.version))
     return 0

@@ -2,12 +2,13 @@
 /usr/bin and /bin:
 
 - the archive has the files that it is to have, and comes out the same, byte for byte, a second time;
-- each link of its pages leads to a file of the archive, but for those into crates/, which the repository alone has;
+- each link of its pages leads to a file of the archive;
 - bin/elfmap gives its words to the program, from wherever a link to it is, with settings of memory where there are none;
 - the program accepts /bin/true and refuses changed copies of it, and its usage is what docs/MANUAL.md and the manual page say;
 - the library exports names that begin with `elfmap_` alone, and needs of the C library no more than its memory;
 - bindings/c/sections.c and symbols.c, compiled as include/elfmap.h says, say of these files what `elfmap show` and `elfmap check` say;
 - so do bindings/rust/examples/symbols.rs by cargo, which builds outside of the archive, and bindings/python/examples/symbols.py;
+- each command of the Python package runs over the shared library, without a compiler, and bin/elfmap-lint finds the changed copies;
 - `man` and `groff` format the manual page without a warning."""
 
 import glob, os, re, shutil, subprocess, sys, tempfile
@@ -15,7 +16,7 @@ from argparse import Namespace
 from collections.abc import Mapping
 
 from .library import ENGINES, VERDICTS
-from .release import pack
+from .release import commands, pack, version_of
 from .suite import Tally, Test, crates_of
 from .tree import TOP, Texts, files_below, read_bytes, read_text, write
 
@@ -24,11 +25,10 @@ NAME = f"elfmap-{VERSION}-x86_64-linux"
 TRUE = "/bin/true"
 COMPILE = "cc -std=c99 program.c $(pkg-config --cflags --libs elfmap)"
 FILES = [
-    "elfmap.html", "README.md", "CONTRIBUTING.md", "CHANGELOG.md", "SECURITY.md", "VERSION", "bin/elfmap", "doc/elfmap-doc.html", "elfmap",
-    "include/elfmap.h", "lib/libelfmap.a", "lib/pkgconfig/elfmap.pc", "share/man/man1/elfmap.1",
+    "elfmap.html", "VERSION", "bin/elfmap", "doc/elfmap-doc.html", "elfmap", "include/elfmap.h",
+    "lib/libelfmap.a", "lib/libelfmap.so.0", "lib/pkgconfig/elfmap.pc", "share/man/man1/elfmap.1",
+    *(f"bin/{it}" for it in commands()), *(f"share/man/man1/{it}.1" for it in commands()),
 ]  # fmt: skip
-# The folders of which the archive has what git has.
-FOLDERS = ["bindings/c", "docs", "rules"]
 # The path of a link that is relative, without the place in its page.
 LINK = re.compile(r"\]\((?!https?:)([^)#\s]+)")
 # What the engines of the library take of the C library.
@@ -54,7 +54,7 @@ class Release:
         self.check(ran("tar", "xf", first, folder=f"{room}/empty").returncode == 0, "tar does not unpack the archive")
         names = {it[len(self.folder) + 1 :] for it in files_below(self.folder)}
         # What git has in these folders; of the crate and the package without their tests.
-        listed = ran("git", "ls-files", "docs", "rules", "bindings", folder=TOP).stdout.split()
+        listed = ran("git", "ls-files", "[A-Z]*.md", "docs", "rules", "bindings", "examples", folder=TOP).stdout.split()
         texts = {it for it in listed if not re.search(r"^bindings/(rust|python)/(tests/|\.gitignore)|^bindings/[^/]*$", it)}
         wanted = {*FILES, *texts}
         self.check(names == wanted, f"the archive lacks {sorted(wanted - names)}, and has beyond that {sorted(names - wanted)}")
@@ -75,8 +75,7 @@ class Release:
         """The relative links of the archive's pages."""
         for page in sorted(glob.glob("**/*.md", root_dir=self.folder, recursive=True)):
             links = {os.path.normpath(os.path.join(os.path.dirname(page), it)) for it in LINK.findall(self.text(page))}
-            own = (it for it in links if not it.startswith("crates/"))
-            broken = sorted(it for it in own if it.startswith("..") or not os.path.exists(f"{self.folder}/{it}"))
+            broken = sorted(it for it in links if it.startswith("..") or not os.path.exists(f"{self.folder}/{it}"))
             self.check(not broken, f"{page} has links to {broken}, which the archive lacks")
 
     def program(self) -> None:
@@ -100,6 +99,8 @@ class Release:
             self.check(settings.startswith("glibc.malloc.hugetlb=1:"), f"{path} sets '{settings}'")
             kept = ran(path, folder=self.room, env={**PLAIN, "GLIBC_TUNABLES": "own"})
             self.check(kept.stdout == "own\n", f"{path} sets in place of the settings there are: {kept}")
+        version = ran("bin/elfmap", "--version", folder=self.folder).stdout
+        self.check(version == f"elfmap {VERSION}\n", f"bin/elfmap --version says {version}")
         answer = ran("bin/elfmap", "check", TRUE, folder=self.folder)
         self.check(answer.stdout == self.elfmap("check", TRUE).stdout, f"bin/elfmap check {TRUE}: {answer}")
 
@@ -163,11 +164,22 @@ class Release:
         env = {"PYTHONPATH": f"{self.folder}/bindings/python", "PYTHONDONTWRITEBYTECODE": "1", "XDG_CACHE_HOME": f"{self.room}/cache"}
         self.lister(sys.executable, f"{self.folder}/bindings/python/examples/symbols.py", env={**PLAIN, **env})
 
+    def commands(self) -> None:
+        """The commands of the Python package; there is no compiler for them."""
+        env = {**PLAIN, "PATH": os.path.dirname(sys.executable), "PYTHONDONTWRITEBYTECODE": "1"}
+        for name in commands():
+            version = ran(f"bin/{name}", "--version", folder=self.folder, env=env)
+            self.check(version.stdout == f"{name} {version_of()}\n", f"{name} --version says {version}")
+        lint = ran("bin/elfmap-lint", "--format", "jsonl", TRUE, *self.broken, folder=self.folder, env=env)
+        found = [it for it in self.broken if f'"{it}"' in lint.stdout]
+        # What has another magic number is no ELF file, and is skipped.
+        self.check((lint.returncode, found) == (1, self.broken[1:]), f"bin/elfmap-lint: {lint}")
+
     def manual(self) -> None:
         page = "share/man/man1/elfmap.1"
         self.check(re.findall(r"^\.SH (.*)", self.text(page), re.M) == SECTIONS, f"the manual page has other sections than {SECTIONS}")
         self.check(f'"elfmap {VERSION}"' in self.text(page), "the manual page has not the version")
-        readers = [["groff", "-man", "-Tutf8", "-ww", page]]
+        readers = [["groff", "-man", "-Tutf8", "-ww", f"share/man/man1/{it}.1"] for it in ("elfmap", *commands())]
         # Where an image was made without manual pages, `man` may be a text that says so.
         if re.match(r"man [\d.]+$", ran("man", "--version", folder="/").stdout):
             readers.append(["man", "--warnings", "-l", page])
@@ -175,7 +187,7 @@ class Release:
             self.tally.note("skipped: what man would say, which is no reader of pages here")
         for command in readers:
             shown = ran(*command, folder=self.folder)
-            is_shown = shown.returncode == 0 and not shown.stderr and "ELFMAP(1)" in shown.stdout
+            is_shown = shown.returncode == 0 and not shown.stderr and re.search(r"ELFMAP[A-Z-]*\(1\)", shown.stdout)
             self.check(is_shown, f"{command}: {shown.stderr or shown.stdout[:200]}")
 
 
@@ -194,7 +206,7 @@ def usage_by_help(said: str) -> str:
 def release(tally: Tally, options: Namespace) -> None:
     with tempfile.TemporaryDirectory(prefix="release-test-") as room:
         it = Release(tally, room)
-        for part in (it.links, it.program, it.runner, it.usage, it.names, it.c, it.rust, it.python, it.manual):
+        for part in (it.links, it.program, it.runner, it.usage, it.names, it.c, it.rust, it.python, it.commands, it.manual):
             part()
 
 

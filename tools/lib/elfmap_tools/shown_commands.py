@@ -2,9 +2,9 @@
 
 A command is a line of a code block that begins with `$ `, or with `>>> ` for Python; below it are the lines that it prints, on standard
 output and standard error. There a line `..` means lines left out, and ` ..` at the end of a line the rest of it. A page's commands run in
-its order in a folder of their own, with the program as ./elfmap, the folders of the repository, the archive of a release of the version
-VERSION, the `lib` and `include` of that, and the file answer.c of cases/sources/. A `cat` of a file that isn't there writes it, with the
-lines below. Commands within prose are not looked at.
+its order in a folder of their own. That is a release of the version VERSION, unpacked, with its archive, the file answer.c of examples/,
+and the folders that the repository alone has. A `cat` of a file that isn't there writes it, with the lines below. Commands within prose are
+not looked at.
 
 Skipped are the commands of SKIPPED, by their text, those of tools of other versions than README.md names, those on files of the machine of
 other lengths, what is not built, and what needs a file that such a command makes. A code line that begins as a command does has to have its
@@ -20,7 +20,8 @@ from .release import pack
 from .suite import Tally, Test, crates_of, environment
 from .tree import PROGRAM, TOP, read_text, run, write
 
-FOLDERS = ["bench", "bindings", "cases", "crates", "docs", "reference", "rules", "scripts", "tools"]
+# The folders that a release has not.
+FOLDERS = ["bench", "cases", "crates", "reference", "scripts", "tools"]
 ARCHIVE = "elfmap-VERSION-x86_64-linux"
 LONGEST = 60
 # Commands that are not run here, and why.
@@ -233,12 +234,11 @@ class Page:
 
 def furnish(folder: str, archive: str) -> None:
     os.mkdir(folder)
-    os.symlink(PROGRAM, f"{folder}/elfmap")
+    subprocess.run(["tar", "xf", archive, "--strip-components=1"], cwd=folder, check=True)
     for it in FOLDERS:
         os.symlink(f"{TOP}/{it}", f"{folder}/{it}")
-    shutil.copy(f"{TOP}/cases/sources/answer.c", folder)
-    shutil.copy(archive, folder)
-    subprocess.run(["tar", "xf", archive, "--strip-components=1", f"{ARCHIVE}/lib", f"{ARCHIVE}/include"], cwd=folder, check=True)
+    for path in (archive, f"{TOP}/examples/answer.c"):
+        shutil.copy(path, folder)
 
 
 def shown_commands(tally: Tally, options: Namespace) -> None:

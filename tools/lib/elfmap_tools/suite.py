@@ -93,11 +93,11 @@ def run_one(test: Test, options: argparse.Namespace) -> int:
 
 
 class Runner:
-    """A run of several tests, each in a process of its own: what they counted, and which failed."""
+    """A run of several tests, each in a process of its own: what they counted, which failed, and what was skipped."""
 
     def __init__(self, tests: list[Test], jobs: int) -> None:
         self.tests, self.jobs = tests, jobs
-        self.passed, self.failed, self.broken = 0, 0, list[str]()
+        self.passed, self.failed, self.broken, self.skipped = 0, 0, list[str](), list[str]()
         self.running: dict[str, float] = {}
 
     def run(self, test: Test) -> tuple[Test, str, int]:
@@ -112,6 +112,7 @@ class Runner:
         """Prints what a test printed, in one piece, and counts what it counted; one that ends without its last line has failed."""
         print(output, end="", flush=True)
         counts = COUNTS.match(output.splitlines()[-1])
+        self.skipped += re.findall(rf"^{test.name}: (skipped: .*)", output, re.M)
         passed, failed = (int(counts[1]), int(counts[2])) if counts else (0, 1)
         failed = failed or int(status != 0)
         self.passed, self.failed = self.passed + passed, self.failed + failed
@@ -134,7 +135,7 @@ class Runner:
         for test in (it for it in self.tests if it.alone):
             self.tell(*self.run(test))
         ended.set()
-        print("".join(f"failed: {it}\n" for it in self.broken), end="")
+        print("".join(f"{it}\n" for it in [*self.skipped, *(f"failed: {it}" for it in self.broken)]), end="")
         print(f"{self.passed} passed, {self.failed} failed")
         return 1 if self.failed else 0
 

@@ -1,0 +1,2 @@
+static int calls;
+int callee(int x) { return calls += x; }

@@ -1,0 +1,2 @@
+int callee(int);
+int main(void) { return callee(1); }

@@ -1,0 +1,240 @@
+"""`tools/release packages`: all that people install, made of what is built:
+
+    elfmap-VERSION-x86_64-linux.tar.gz     the archive of `tools/release pack`
+    elfmap_VERSION_amd64.deb               the program, its manual page, completions, and files of rules
+    elfmap-doc_VERSION_all.deb             the manual: the pages, the page of the library, the page for a browser, and examples
+    libelfmap0_VERSION_amd64.deb           the shared library
+    libelfmap-dev_VERSION_amd64.deb        the header, the static library and the pkg-config file
+    python3-elfmap_VERSION_amd64.deb       the Python package, its commands, their manual pages and completions
+    elfmap-VERSION-py3-none-TAG.whl        the Python package with the library; TAG names the C library that this needs
+    elfmap-VERSION.crate                   the Rust crate with the static library
+    SHA256SUMS                             their sums
+
+The same commit makes the same bytes: every file has the time of the commit."""
+
+import argparse, base64, gzip, hashlib, os, re, shutil, tempfile, time, zipfile
+
+from . import completions, library, release
+from .release import PKG_CONFIG, commands, copied, epoch, put
+from .tree import PROGRAM, TOP, files_below, read_bytes, read_text, said, write
+
+TRIPLET = "x86_64-linux-gnu"
+LIBRARIES = f"usr/lib/{TRIPLET}"
+PYTHON = "usr/lib/python3/dist-packages/elfmap"
+MAINTAINER = "the authors of elfmap <elfmap@localhost>"
+SCRIPT = """#!/usr/bin/python3
+import sys
+
+from {module} import {function}
+
+if __name__ == "__main__":
+    sys.exit({function}())
+"""
+# Python compiles the modules of a package once, when it is installed.
+COMPILED = {
+    "postinst": '#!/bin/sh\nset -e\nif [ "$1" = configure ]; then py3compile -p python3-elfmap; fi\n',
+    "prerm": "#!/bin/sh\nset -e\npy3clean -p python3-elfmap\n",
+}
+# Of each package what it needs, and what it is.
+PACKAGES = {
+    "elfmap": ("libc6 (>= {glibc})", "checks, shows, rewrites and links ELF-64 files"),
+    "elfmap-doc": ("", "manual of elfmap"),
+    "libelfmap0": ("libc6 (>= {library_glibc})", "ELF-64 files: verdict, records, tables, rewriting and linking"),
+    "libelfmap-dev": ("libelfmap0 (= {version})", "header and static library of libelfmap0"),
+    "python3-elfmap": ("python3 (>= 3.9), libelfmap0 (= {version})", "elfmap for Python, and elfmap-lint for whole trees"),
+}
+METADATA = """Metadata-Version: 2.1
+Name: elfmap
+Version: {version}
+Summary: {description}
+Requires-Python: {python}
+"""
+
+
+def glibc_of(path: str) -> str:
+    """The least GNU C library that a program or a library needs, by the versions of its symbols; 2.5 is the first that a wheel can name."""
+    found = re.findall(r"GLIBC_(\d+)\.(\d+)", said("readelf", "-VW", path).stdout)
+    return "{}.{}".format(*max([(2, 5), *((int(major), int(minor)) for major, minor in found)]))
+
+
+# ---- completions
+
+
+def completions_of_program() -> dict[str, str]:
+    def help_of(*words: str) -> str:
+        return said(PROGRAM, *words, "--help").stdout
+
+    whole = help_of()
+    own = [completions.Command(name, about, completions.options_of(help_of(name))) for name, about in completions.subcommands_of(whole)]
+    return completions.files(completions.Command("elfmap", "", completions.options_of(whole), own))
+
+
+def completions_of_package() -> dict[str, str]:
+    found: dict[str, str] = {}
+    for name, (module, _) in commands().items():
+        found |= completions.files(completions.Command(name, "", completions.options_of(release.help_of(module))))
+    return found
+
+
+# ---- the packages of Debian
+
+
+def linked(path: str, target: str) -> None:
+    os.makedirs(os.path.dirname(path), exist_ok=True)
+    os.symlink(target, path)
+
+
+def put_page(root: str, tree: str, name: str) -> None:
+    put(f"{root}/usr/share/man/man1/{name}.1.gz", gzip.compress(read_bytes(f"{tree}/share/man/man1/{name}.1"), mtime=0))
+
+
+def put_elfmap(root: str, tree: str, version: str) -> None:
+    copied(PROGRAM, f"{root}/usr/lib/elfmap/elfmap", 0o755)
+    put(f"{root}/usr/bin/elfmap", release.runner(version, "lib/elfmap/elfmap"), 0o755)
+    put_page(root, tree, "elfmap")
+    shutil.copytree(f"{tree}/rules", f"{root}/usr/share/elfmap/rules")
+    for place, text in completions_of_program().items():
+        put(f"{root}/usr/share/{place}", text)
+
+
+def put_doc(root: str, tree: str, version: str) -> None:
+    own = f"{root}/usr/share/doc/elfmap"
+    os.makedirs(own)
+    python = ("bindings/python/README.md", "bindings/python/examples")
+    for it in ("README.md", "docs", "doc", "elfmap.html", "examples", "rules", *python):
+        if os.path.isdir(f"{tree}/{it}"):
+            shutil.copytree(f"{tree}/{it}", f"{own}/{it}")
+        elif os.path.exists(f"{tree}/{it}"):
+            copied(f"{tree}/{it}", f"{own}/{it}")
+    release.without_dead_links(own)
+
+
+def put_shared(root: str, tree: str, version: str) -> None:
+    copied(f"{tree}/lib/{library.SHARED}", f"{root}/{LIBRARIES}/{library.SHARED}")
+    put(f"{root}/DEBIAN/shlibs", f"libelfmap 0 libelfmap0 (>= {version})\n")
+    put(f"{root}/DEBIAN/triggers", "activate-noawait ldconfig\n")
+
+
+def put_dev(root: str, tree: str, version: str) -> None:
+    copied(f"{tree}/lib/libelfmap.a", f"{root}/{LIBRARIES}/libelfmap.a")
+    copied(f"{tree}/include/elfmap.h", f"{root}/usr/include/elfmap.h")
+    linked(f"{root}/{LIBRARIES}/libelfmap.so", library.SHARED)
+    put(f"{root}/{LIBRARIES}/pkgconfig/elfmap.pc", PKG_CONFIG.format(prefix="/usr", libdir=f"lib/{TRIPLET}", version=version))
+    for it in ("sections.c", "symbols.c"):
+        copied(f"{tree}/bindings/c/{it}", f"{root}/usr/share/doc/libelfmap-dev/examples/{it}")
+
+
+def put_python(root: str, tree: str, version: str) -> None:
+    shutil.copytree(f"{tree}/bindings/python/elfmap", f"{root}/{PYTHON}")
+    linked(f"{root}/{PYTHON}/libelfmap.so", f"../../../{TRIPLET}/{library.SHARED}")
+    for name, text in metadata(version).items():
+        put(f"{root}/{os.path.dirname(PYTHON)}/elfmap-{version}.dist-info/{name}", text)
+    for name, (module, function) in commands().items():
+        put(f"{root}/usr/bin/{name}", SCRIPT.format(module=module, function=function), 0o755)
+        put_page(root, tree, name)
+    for place, text in completions_of_package().items():
+        put(f"{root}/usr/share/{place}", text)
+    for name, text in COMPILED.items():
+        put(f"{root}/DEBIAN/{name}", text, 0o755)
+
+
+CONTENTS = {
+    "elfmap": put_elfmap, "elfmap-doc": put_doc, "libelfmap0": put_shared, "libelfmap-dev": put_dev, "python3-elfmap": put_python,
+}  # fmt: skip
+
+
+def settle(root: str) -> None:
+    """Gives a folder and each file below it the time of the commit and plain permissions."""
+    for at, _, names in os.walk(root):
+        for path in (at, *(f"{at}/{it}" for it in names)):
+            if not os.path.islink(path):
+                os.chmod(path, 0o755 if os.access(path, os.X_OK) else 0o644)
+            os.utime(path, (epoch(), epoch()), follow_symlinks=False)
+
+
+def deb(name: str, tree: str, folder: str, version: str) -> None:
+    needs, about = PACKAGES[name]
+    machine = "all" if name.endswith("-doc") else "amd64"
+    numbers = {"version": version, "glibc": glibc_of(PROGRAM), "library_glibc": glibc_of(f"{tree}/lib/{library.SHARED}")}
+    with tempfile.TemporaryDirectory(prefix=f"{name}-") as room:
+        root = f"{room}/root"
+        CONTENTS[name](root, tree, version)
+        size = sum(map(os.path.getsize, files_below(root))) // 1024 + 1
+        lines = {"Package": name, "Version": version, "Architecture": machine, "Maintainer": MAINTAINER, "Installed-Size": size}
+        lines |= {"Depends": needs.format(**numbers)} if needs else {}
+        level = "for readers." if machine == "all" else "for processors of level x86-64-v2 or above."
+        lines |= {"Section": "devel", "Priority": "optional", "Description": f"{about}\n This is {level}"}
+        lines |= {"Multi-Arch": "same"} if name == "libelfmap0" else {}
+        put(f"{root}/DEBIAN/control", "".join(f"{key}: {value}\n" for key, value in lines.items()))
+        settle(root)
+        env = {**os.environ, "SOURCE_DATE_EPOCH": str(epoch())}
+        made = said("dpkg-deb", "--root-owner-group", "-Zxz", "--build", root, f"{folder}/{name}_{version}_{machine}.deb", env=env)
+        if made.returncode:
+            raise release.stop(f"dpkg-deb: {made.stdout}")
+
+
+# ---- the wheel and the crate
+
+
+def metadata(version: str) -> dict[str, str]:
+    """The files of a package of Python that say what it is."""
+    project = dict(re.findall(r'^([\w-]+) = "(.*)"', read_text("bindings/python/pyproject.toml"), re.M))
+    scripts = "".join(f"{name} = {module}:{function}\n" for name, (module, function) in commands().items())
+    about = METADATA.format(version=version, description=project["description"], python=project["requires-python"])
+    return {"METADATA": about, "entry_points.txt": f"[console_scripts]\n{scripts}"}
+
+
+def wheel(tree: str, folder: str, version: str) -> None:
+    """The package with the library in it, for every Linux for x86-64 that has the C library that it needs."""
+    tag = f"py3-none-manylinux_{glibc_of(f'{tree}/lib/{library.SHARED}').replace('.', '_')}_x86_64"
+    files = {f"elfmap/{os.path.basename(it)}": read_bytes(it) for it in files_below(f"{tree}/bindings/python/elfmap")}
+    files["elfmap/libelfmap.so"] = read_bytes(f"{tree}/lib/{library.SHARED}")
+    own = f"elfmap-{version}.dist-info"
+    about = {**metadata(version), "WHEEL": f"Wheel-Version: 1.0\nGenerator: elfmap\nRoot-Is-Purelib: false\nTag: {tag}\n"}
+    files |= {f"{own}/{name}": text.encode() for name, text in about.items()}
+    sums = {name: base64.urlsafe_b64encode(hashlib.sha256(it).digest()).decode().rstrip("=") for name, it in files.items()}
+    record = "".join(f"{name},sha256={sums[name]},{len(it)}\n" for name, it in files.items()) + f"{own}/RECORD,,\n"
+    with zipfile.ZipFile(f"{folder}/elfmap-{version}-{tag}.whl", "w", zipfile.ZIP_DEFLATED) as it:
+        for name, content in {**files, f"{own}/RECORD": record.encode()}.items():
+            entry = zipfile.ZipInfo(name, time.gmtime(epoch())[:6])
+            entry.external_attr, entry.compress_type = 0o100644 << 16, zipfile.ZIP_DEFLATED
+            it.writestr(entry, content)
+
+
+def crate(tree: str, folder: str, version: str) -> None:
+    """The crate with the static library in it; its links to other folders of a release are words."""
+    with tempfile.TemporaryDirectory(prefix="elfmap-crate-") as room:
+        own = f"{room}/elfmap-{version}"
+        shutil.copytree(f"{tree}/bindings/rust", own)
+        copied(f"{tree}/lib/libelfmap.a", f"{own}/lib/libelfmap.a")
+        release.without_dead_links(own)
+        release.archived(own, f"{folder}/elfmap-{version}.crate")
+
+
+# ---- all of it
+
+
+def packages(folder: str) -> list[str]:
+    """Makes all packages in a folder: their names."""
+    version = release.version_of()
+    os.makedirs(folder, exist_ok=True)
+    with tempfile.TemporaryDirectory(prefix="elfmap-packages-") as room:
+        made, tree = f"{room}/made", f"{room}/elfmap-{version}-x86_64-linux"
+        os.mkdir(made)
+        release.tree(tree, version)
+        for name in PACKAGES:
+            deb(name, tree, made, version)
+        wheel(tree, made, version)
+        crate(tree, made, version)
+        release.archived(tree, f"{made}/{os.path.basename(tree)}.tar.gz")
+        names = sorted(os.listdir(made))
+        sums = (f"{hashlib.sha256(read_bytes(f'{made}/{it}')).hexdigest()}  {it}\n" for it in names)
+        write(f"{made}/SHA256SUMS", "".join(sums))
+        for it in os.listdir(made):
+            shutil.move(f"{made}/{it}", f"{folder}/{it}")
+    return [*names, "SHA256SUMS"]
+
+
+def main(options: argparse.Namespace) -> int:
+    print("".join(f"{options.folder}/{it}\n" for it in packages(options.folder)), end="")
+    return 0
