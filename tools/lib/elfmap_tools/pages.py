@@ -14,7 +14,7 @@ from .tree import TOP, read_text
 
 MEDIAN, LONG, WORDS = 18, 30, 30_000
 PATTERNS = ("README.md", "CONTRIBUTING.md", "CHANGELOG.md", "SECURITY.md", "docs/*.md", "bindings/*/README.md")
-TABLES = {"docs/CLAUSES.md", "docs/DEFINITIONS.md", "docs/PROMISES.md"}
+TABLES = {"docs/DEFINITIONS.md", "docs/GUARANTEES.md"}
 QUOTES = re.compile(r"^```\w+ (\S+)\n(.*?)^```", re.M | re.S)
 # Where a paragraph ends: an empty line, or the next item of a list.
 PARAGRAPHS = re.compile(r"\n\s*\n|\n(?= *(?:[-*]|\d+\.) )")
