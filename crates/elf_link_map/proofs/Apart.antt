@@ -74,7 +74,7 @@ same_some : (a b : ℕ) → ◌≡◌ {A = Option ℕ} (Some a) (Some b) → a �
 same_some a b e = cc
 
 -- section s of file f is placed at position k of a plan, and begins at a
-pub record StandsAt (l : LinkPlan) (f s a k : ℕ) : Type 0 where
+pub record IsPartAt (l : LinkPlan) (f s a k : ℕ) : Type 0 where
   pub within : k < length (placed l.plan)
   pub here : site_at (placed l.plan) k ≡ site f s
   pub begins : slice_index l.places k ≡ a
@@ -83,7 +83,7 @@ placed_live : (fs : List ObjectValue) (oss : List (List Site)) → AreOutputs fs
 placed_live fs oss (ps, openers, mem) = all_flat (live fs) oss (λ i lt. members_live fs ps oss i mem lt)
 
 pub stands : (opt : Options) (fs : List ObjectValue) (l : LinkPlan) (m : LinkMapValue) (f s a : ℕ) → IsLinkPlan opt fs l → IsMapOf opt fs l m →
-    BeginsAt m f s a → (k : ℕ) × StandsAt l f s a k
+    BeginsAt m f s a → (k : ℕ) × IsPartAt l f s a k
 stands opt fs l m f s a is of at =
     let (k, lt, file, index) = of.addresses.only f s a at in
     let one = placed_live fs l.plan.outputs is.plan.outputs k lt in
@@ -98,21 +98,21 @@ stands opt fs l m f s a is of at =
     )
 
 -- where it ends
-ends : (opt : Options) (fs : List ObjectValue) (l : LinkPlan) (f s a k : ℕ) → StandsAt l f s a k →
+ends : (opt : Options) (fs : List ObjectValue) (l : LinkPlan) (f s a k : ℕ) → IsPartAt l f s a k →
     end_of (link_parts fs opt l) l.places k ≡ a + size_in fs f s
 ends opt fs l f s a k at =
     let begins = at.begins in
     let size = part_size fs opt.page l.plan.outputs l.plan.commons k at.within ∙ ap (size_at fs) at.here in
     omega arith
 
-in_parts : (opt : Options) (fs : List ObjectValue) (l : LinkPlan) (f s a k : ℕ) → StandsAt l f s a k → k < length (link_parts fs opt l)
+in_parts : (opt : Options) (fs : List ObjectValue) (l : LinkPlan) (f s a k : ℕ) → IsPartAt l f s a k → k < length (link_parts fs opt l)
 in_parts opt fs l f s a k at =
     let within = at.within in
     let long = parts_long fs opt.page l.plan.outputs l.plan.commons in
     omega arith
 
 -- of two sections the one that is placed first ends where the other begins, or before
-ends_before : (opt : Options) (fs : List ObjectValue) (l : LinkPlan) (f s a j g t b k : ℕ) → IsLinkPlan opt fs l → StandsAt l f s a j → StandsAt l g t b k →
+ends_before : (opt : Options) (fs : List ObjectValue) (l : LinkPlan) (f s a j g t b k : ℕ) → IsLinkPlan opt fs l → IsPartAt l f s a j → IsPartAt l g t b k →
     j < k → a + size_in fs f s ≤ b
 ends_before opt fs l f s a j g t b k is first second lt =
     let above = above_earlier (link_parts fs opt l) opt.base l.places j k is.least.fits lt (in_parts opt fs l g t b k second) in

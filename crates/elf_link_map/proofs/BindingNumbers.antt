@@ -15,7 +15,7 @@ use Rattle.elf_link_outputs.specs.Placed.{CommonValue}
 use Rattle.elf_link_map.specs.declared.bindings.Binding.{Binding}
 use Rattle.elf_link_map.specs.BindingNumbers.{AreBindingNumbers, AreNumbersIn}
 use Rattle.elf_link_map.specs.LinkMap.{IsBinding, IsSomeLinkMap, LinkMapValue, bound_in}
-use Rattle.elf_link_map.specs.Naming.{AreBindingPositions, AreNamedAt, StandsAt}
+use Rattle.elf_link_map.specs.Naming.{AreBindingPositions, AreNamedAt, IsBindingAt}
 use Rattle.elf_link_map.proofs.Naming.{position_found, positions_are}
 
 pub numbers_bound : (fs : List ObjectValue) (m : LinkMapValue) (position : List ℕ → Option ℕ) (rows : List (List ℕ)) → AreNameNumbers fs position rows →
@@ -48,7 +48,7 @@ entry_bound fs m f i (opt, base, page, entry, (l, plan, is)) f_in i_in not_local
 -- so its position is found
 pub entry_number : (fs : List ObjectValue) (m : LinkMapValue) (f i : ℕ) (found : Option ℕ) → IsSomeLinkMap fs m → f < length fs →
     i < length (object_at fs f).symbols → binding (symbol_in fs f i) ≢ STB_LOCAL →
-    MatchOption found (bound_in m.bindings (symbol_in fs f i).name ≡ None) (StandsAt m.bindings (symbol_in fs f i).name) →
-    StandsAt m.bindings (symbol_in fs f i).name (unwrap_or found 0)
+    MatchOption found (bound_in m.bindings (symbol_in fs f i).name ≡ None) (IsBindingAt m.bindings (symbol_in fs f i).name) →
+    IsBindingAt m.bindings (symbol_in fs f i).name (unwrap_or found 0)
 entry_number fs m f i None is f_in i_in not_local none = absurd (entry_bound fs m f i is f_in i_in not_local none)
 entry_number fs m f i (Some k) is f_in i_in not_local here = here

@@ -6,11 +6,11 @@ use Rattle.elf_link_files.specs.Files.{object_at, symbol_in}
 use Rattle.elf_link_files.specs.Items.{AreEach}
 use Rattle.elf_link_map.specs.declared.bindings.Binding.{Binding}
 use Rattle.elf_link_map.specs.LinkMap.{LinkMapValue}
-use Rattle.elf_link_map.specs.Naming.{StandsAt}
+use Rattle.elf_link_map.specs.Naming.{IsBindingAt}
 
 -- k is where the binding of the name of symbol i of file f is; nothing is said of a local one
 abbrev pub IsBindingNumber : List ObjectValue → LinkMapValue → ℕ → ℕ → ℕ → Type 0
-IsBindingNumber fs m f i k = binding (symbol_in fs f i) ≢ STB_LOCAL → StandsAt m.bindings (symbol_in fs f i).name k
+IsBindingNumber fs m f i k = binding (symbol_in fs f i) ≢ STB_LOCAL → IsBindingAt m.bindings (symbol_in fs f i).name k
 
 -- a row has those of the first n symbols of file f
 abbrev pub IsBindingRow : List ObjectValue → LinkMapValue → ℕ → ℕ → List ℕ → Type 0

@@ -11,12 +11,12 @@ use Rattle.elf_link_map.specs.declared.bindings.Binding.{Binding}
 use Rattle.elf_link_map.specs.LinkMap.{IsBinding, bound_in, no_name}
 
 -- the binding of a name is at this position
-abbrev pub StandsAt : List (List ℕ × Binding) → List ℕ → ℕ → Type 0
-StandsAt bindings name k = (k < length bindings) × (bound_in bindings name ≡ Some (get_or bindings k no_name).1)
+abbrev pub IsBindingAt : List (List ℕ × Binding) → List ℕ → ℕ → Type 0
+IsBindingAt bindings name k = (k < length bindings) × (bound_in bindings name ≡ Some (get_or bindings k no_name).1)
 
 -- that of each name is at its position
 abbrev pub AreBindingPositions : List (List ℕ × Binding) → (List ℕ → Option ℕ) → Type 0
-AreBindingPositions bindings position = (name : List ℕ) → MatchOption (position name) (bound_in bindings name ≡ None) (StandsAt bindings name)
+AreBindingPositions bindings position = (name : List ℕ) → MatchOption (position name) (bound_in bindings name ≡ None) (IsBindingAt bindings name)
 
 -- the name of the symbol at a site, and what it is bound to
 abbrev pub IsNamedAt : List ObjectValue → List CommonValue → Site → List ℕ × Binding → Type 0

@@ -5,7 +5,7 @@ ghost use Rattle.elf_link_outputs.specs.Placed.{cell};
 ghost use Rattle.elf_link_outputs.specs.PlacedView.{common_value, output_value};
 ghost use Rattle.elf_link_map.specs.LinkMap.{bound_in};
 ghost use Rattle.elf_link_map.specs.LinkMapView.{named_value};
-ghost use Rattle.elf_link_map.specs.Naming.{StandsAt};
+ghost use Rattle.elf_link_map.specs.Naming.{IsBindingAt};
 
 use crate::bindings::Binding;
 use crate::names::{Named, Names};
@@ -62,7 +62,7 @@ impl<'a> LinkMap<'a> {
 
     /// Where a name is among [`LinkMap::names`]; None where it is not there.
     pub(crate) fn position(&self, name: &[u8]) -> Option<usize>
-        ensures { MatchOption result (bound_in self.now.bindings name.now ≡ None) (StandsAt self.now.bindings name.now) }
+        ensures { MatchOption result (bound_in self.now.bindings name.now ≡ None) (IsBindingAt self.now.bindings name.now) }
     {
         self.names.position(name)
     }

@@ -3,7 +3,7 @@ ghost use Rattle.std.specs.Prelude.{◌≡◌, MatchOption, None, map};
 ghost use Rattle.elf_link_names.specs.Slots.{name_position};
 ghost use Rattle.elf_link_map.specs.LinkMap.{bound_in};
 ghost use Rattle.elf_link_map.specs.LinkMapView.{named_value};
-ghost use Rattle.elf_link_map.specs.Naming.{AreBindingPositions, StandsAt};
+ghost use Rattle.elf_link_map.specs.Naming.{AreBindingPositions, IsBindingAt};
 
 use crate::bindings::Binding;
 use elf_link_names::NameIndex;
@@ -58,7 +58,7 @@ impl<'a> Names<'a> {
 
     /// The position of a name; None where it is not there.
     pub(crate) fn position(&self, name: &[u8]) -> Option<usize>
-        ensures { MatchOption result (bound_in self.now name.now ≡ None) (StandsAt self.now name.now) }
+        ensures { MatchOption result (bound_in self.now name.now ≡ None) (IsBindingAt self.now name.now) }
     {
         self.positions.get(name)
     }

@@ -3,7 +3,7 @@ ghost use Rattle.std.specs.Prelude.{◌≡◌, ◌≢◌, ◌+◌, ◌<◌, IfSo
 ghost use Rattle.elf_field.specs.Abi.{STB_LOCAL};
 ghost use Rattle.elf_link_files.specs.Files.{object_at, symbol_in};
 ghost use Rattle.elf_link_map.specs.BindingNumbers.{AreBindingNumbers};
-ghost use Rattle.elf_link_map.specs.Naming.{StandsAt};
+ghost use Rattle.elf_link_map.specs.Naming.{IsBindingAt};
 ghost use Rattle.elf_object_type.specs.Object.{binding as binding_of};
 ghost use Rattle.elf_object_type.specs.declared.symbol.Place.TheVariants.{In as InSection};
 ghost use Rattle.elf_link_relocate.specs.Values.{IsSmall, binding_value as binding_value_of, definition_value as definition_value_of, name_value as name_value_of, place_value as place_value_of, reference_value, resolved_value as resolved_value_of};
@@ -115,7 +115,7 @@ impl<'v, 'l, 'a> Values<'v, 'l, 'a> {
     fn name_number(&self, file: usize, index: usize) -> usize
         requires symbol { IsFileSymbol self.now.objects file index }
         requires entry { binding_of (symbol_in self.now.objects file index) ≢ STB_LOCAL }
-        ensures { StandsAt self.now.map.bindings (symbol_in self.now.objects file index).name result }
+        ensures { IsBindingAt self.now.map.bindings (symbol_in self.now.objects file index).name result }
     {
         let numbers = self.numbers;
         numbers[file][index]
