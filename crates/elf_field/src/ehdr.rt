@@ -3,6 +3,7 @@ ghost use Rattle.std.specs.Prelude.{◌≡◌, length, ◌≤◌, take};
 ghost use Rattle.elf_field.specs.Bytes.{first_bytes};
 ghost use Rattle.elf_field.specs.Ehdr.{IsEhdr, IsEhdrAt, ehdr_at, ehdr_bytes};
 ghost use Rattle.elf_field.specs.EhdrLaws.{ehdr_fields_at, ehdr_laws};
+ghost use Rattle.elf_field.specs.Abi.{EHDR_SIZE};
 
 use crate::abi::{
     E_EHSIZE_AT, E_ENTRY_AT, E_FLAGS_AT, E_MACHINE_AT, E_PHENTSIZE_AT, E_PHNUM_AT, E_PHOFF_AT,
@@ -66,40 +67,19 @@ impl Record for Ehdr {
 
     const SIZE: usize = EHDR_SIZE as usize;
 
+    // Each arm has the order as a constant, so that it is tested once a record.
     fn get(order: Order, b: &[u8]) -> Self {
-        Ehdr {
-            e_ident: ident_at(b),
-            e_type: u16_at(order, b, E_TYPE_AT),
-            e_machine: u16_at(order, b, E_MACHINE_AT),
-            e_version: u32_at(order, b, E_VERSION_AT),
-            e_entry: u64_at(order, b, E_ENTRY_AT),
-            e_phoff: u64_at(order, b, E_PHOFF_AT),
-            e_shoff: u64_at(order, b, E_SHOFF_AT),
-            e_flags: u32_at(order, b, E_FLAGS_AT),
-            e_ehsize: u16_at(order, b, E_EHSIZE_AT),
-            e_phentsize: u16_at(order, b, E_PHENTSIZE_AT),
-            e_phnum: u16_at(order, b, E_PHNUM_AT),
-            e_shentsize: u16_at(order, b, E_SHENTSIZE_AT),
-            e_shnum: u16_at(order, b, E_SHNUM_AT),
-            e_shstrndx: u16_at(order, b, E_SHSTRNDX_AT),
+        match order {
+            Order::Little => read(Order::Little, b),
+            Order::Big => read(Order::Big, b),
         }
     }
 
     fn put(&self, order: Order, b: &mut [u8]) {
-        put_ident(b, self.e_ident);
-        put_u16(order, b, E_TYPE_AT, self.e_type);
-        put_u16(order, b, E_MACHINE_AT, self.e_machine);
-        put_u32(order, b, E_VERSION_AT, self.e_version);
-        put_u64(order, b, E_ENTRY_AT, self.e_entry);
-        put_u64(order, b, E_PHOFF_AT, self.e_phoff);
-        put_u64(order, b, E_SHOFF_AT, self.e_shoff);
-        put_u32(order, b, E_FLAGS_AT, self.e_flags);
-        put_u16(order, b, E_EHSIZE_AT, self.e_ehsize);
-        put_u16(order, b, E_PHENTSIZE_AT, self.e_phentsize);
-        put_u16(order, b, E_PHNUM_AT, self.e_phnum);
-        put_u16(order, b, E_SHENTSIZE_AT, self.e_shentsize);
-        put_u16(order, b, E_SHNUM_AT, self.e_shnum);
-        put_u16(order, b, E_SHSTRNDX_AT, self.e_shstrndx);
+        match order {
+            Order::Little => write(self, Order::Little, b),
+            Order::Big => write(self, Order::Big, b),
+        }
     }
 
     fn fits(&self) {
@@ -122,6 +102,48 @@ fn put_ident(b: &mut [u8], e_ident: [u8; EI_NIDENT])
     ensures { take EI_NIDENT b.new ≡ first_bytes EI_NIDENT e_ident }
 {
     b[..EI_NIDENT].copy_from_slice(&e_ident);
+}
+
+fn read(order: Order, b: &[u8]) -> Ehdr
+    requires { length b.now ≡ EHDR_SIZE }
+    ensures { result ≡ ehdr_at order b.now 0 }
+{
+    Ehdr {
+        e_ident: ident_at(b),
+        e_type: u16_at(order, b, E_TYPE_AT),
+        e_machine: u16_at(order, b, E_MACHINE_AT),
+        e_version: u32_at(order, b, E_VERSION_AT),
+        e_entry: u64_at(order, b, E_ENTRY_AT),
+        e_phoff: u64_at(order, b, E_PHOFF_AT),
+        e_shoff: u64_at(order, b, E_SHOFF_AT),
+        e_flags: u32_at(order, b, E_FLAGS_AT),
+        e_ehsize: u16_at(order, b, E_EHSIZE_AT),
+        e_phentsize: u16_at(order, b, E_PHENTSIZE_AT),
+        e_phnum: u16_at(order, b, E_PHNUM_AT),
+        e_shentsize: u16_at(order, b, E_SHENTSIZE_AT),
+        e_shnum: u16_at(order, b, E_SHNUM_AT),
+        e_shstrndx: u16_at(order, b, E_SHSTRNDX_AT),
+    }
+}
+
+fn write(v: &Ehdr, order: Order, b: &mut [u8])
+    requires { length b.old ≡ EHDR_SIZE }
+    ensures { b.new ≡ ehdr_bytes order v.now }
+{
+    put_ident(b, v.e_ident);
+    put_u16(order, b, E_TYPE_AT, v.e_type);
+    put_u16(order, b, E_MACHINE_AT, v.e_machine);
+    put_u32(order, b, E_VERSION_AT, v.e_version);
+    put_u64(order, b, E_ENTRY_AT, v.e_entry);
+    put_u64(order, b, E_PHOFF_AT, v.e_phoff);
+    put_u64(order, b, E_SHOFF_AT, v.e_shoff);
+    put_u32(order, b, E_FLAGS_AT, v.e_flags);
+    put_u16(order, b, E_EHSIZE_AT, v.e_ehsize);
+    put_u16(order, b, E_PHENTSIZE_AT, v.e_phentsize);
+    put_u16(order, b, E_PHNUM_AT, v.e_phnum);
+    put_u16(order, b, E_SHENTSIZE_AT, v.e_shentsize);
+    put_u16(order, b, E_SHNUM_AT, v.e_shnum);
+    put_u16(order, b, E_SHSTRNDX_AT, v.e_shstrndx);
 }
 
 // A value's fields are within their widths because their types are.

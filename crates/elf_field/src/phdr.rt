@@ -1,5 +1,7 @@
 //! Program headers (gABI chapter 5, Program Header).
+ghost use Rattle.std.specs.Prelude.{◌≡◌, length};
 ghost use Rattle.elf_field.specs.Phdr.{IsPhdr, IsPhdrAt, phdr_at, phdr_bytes, phdr_fields_at, phdr_laws};
+ghost use Rattle.elf_field.specs.Abi.{PHDR_SIZE};
 
 use crate::abi::{
     P_ALIGN_AT, P_FILESZ_AT, P_FLAGS_AT, P_MEMSZ_AT, P_OFFSET_AT, P_PADDR_AT, P_TYPE_AT,
@@ -50,33 +52,54 @@ impl Record for Phdr {
 
     const SIZE: usize = PHDR_SIZE as usize;
 
+    // Each arm has the order as a constant, so that it is tested once a record.
     fn get(order: Order, b: &[u8]) -> Self {
-        Phdr {
-            p_type: u32_at(order, b, P_TYPE_AT),
-            p_flags: u32_at(order, b, P_FLAGS_AT),
-            p_offset: u64_at(order, b, P_OFFSET_AT),
-            p_vaddr: u64_at(order, b, P_VADDR_AT),
-            p_paddr: u64_at(order, b, P_PADDR_AT),
-            p_filesz: u64_at(order, b, P_FILESZ_AT),
-            p_memsz: u64_at(order, b, P_MEMSZ_AT),
-            p_align: u64_at(order, b, P_ALIGN_AT),
+        match order {
+            Order::Little => read(Order::Little, b),
+            Order::Big => read(Order::Big, b),
         }
     }
 
     fn put(&self, order: Order, b: &mut [u8]) {
-        put_u32(order, b, P_TYPE_AT, self.p_type);
-        put_u32(order, b, P_FLAGS_AT, self.p_flags);
-        put_u64(order, b, P_OFFSET_AT, self.p_offset);
-        put_u64(order, b, P_VADDR_AT, self.p_vaddr);
-        put_u64(order, b, P_PADDR_AT, self.p_paddr);
-        put_u64(order, b, P_FILESZ_AT, self.p_filesz);
-        put_u64(order, b, P_MEMSZ_AT, self.p_memsz);
-        put_u64(order, b, P_ALIGN_AT, self.p_align);
+        match order {
+            Order::Little => write(self, Order::Little, b),
+            Order::Big => write(self, Order::Big, b),
+        }
     }
 
     fn fits(&self) {
         prove_fields(*self);
     }
+}
+
+fn read(order: Order, b: &[u8]) -> Phdr
+    requires { length b.now ≡ PHDR_SIZE }
+    ensures { result ≡ phdr_at order b.now 0 }
+{
+    Phdr {
+        p_type: u32_at(order, b, P_TYPE_AT),
+        p_flags: u32_at(order, b, P_FLAGS_AT),
+        p_offset: u64_at(order, b, P_OFFSET_AT),
+        p_vaddr: u64_at(order, b, P_VADDR_AT),
+        p_paddr: u64_at(order, b, P_PADDR_AT),
+        p_filesz: u64_at(order, b, P_FILESZ_AT),
+        p_memsz: u64_at(order, b, P_MEMSZ_AT),
+        p_align: u64_at(order, b, P_ALIGN_AT),
+    }
+}
+
+fn write(v: &Phdr, order: Order, b: &mut [u8])
+    requires { length b.old ≡ PHDR_SIZE }
+    ensures { b.new ≡ phdr_bytes order v.now }
+{
+    put_u32(order, b, P_TYPE_AT, v.p_type);
+    put_u32(order, b, P_FLAGS_AT, v.p_flags);
+    put_u64(order, b, P_OFFSET_AT, v.p_offset);
+    put_u64(order, b, P_VADDR_AT, v.p_vaddr);
+    put_u64(order, b, P_PADDR_AT, v.p_paddr);
+    put_u64(order, b, P_FILESZ_AT, v.p_filesz);
+    put_u64(order, b, P_MEMSZ_AT, v.p_memsz);
+    put_u64(order, b, P_ALIGN_AT, v.p_align);
 }
 
 // A value's fields are within their widths because their types are.

@@ -1,6 +1,7 @@
 //! Relocations without addends (gABI chapter 4, Relocation).
-ghost use Rattle.std.specs.Prelude.{◌≡◌, ◌/◌, ◌%◌, ◌^◌};
+ghost use Rattle.std.specs.Prelude.{◌≡◌, ◌/◌, ◌%◌, ◌^◌, length};
 ghost use Rattle.elf_field.specs.Rel.{IsRel, IsRelAt, rel_at, rel_bytes, rel_fields_at, rel_laws};
+ghost use Rattle.elf_field.specs.Abi.{REL_SIZE};
 
 use crate::abi::{R_INFO_AT, R_OFFSET_AT, REL_SIZE};
 use crate::number::{put_u64, u64_at};
@@ -54,21 +55,42 @@ impl Record for Rel {
 
     const SIZE: usize = REL_SIZE as usize;
 
+    // Each arm has the order as a constant, so that it is tested once a record.
     fn get(order: Order, b: &[u8]) -> Self {
-        Rel {
-            r_offset: u64_at(order, b, R_OFFSET_AT),
-            r_info: u64_at(order, b, R_INFO_AT),
+        match order {
+            Order::Little => read(Order::Little, b),
+            Order::Big => read(Order::Big, b),
         }
     }
 
     fn put(&self, order: Order, b: &mut [u8]) {
-        put_u64(order, b, R_OFFSET_AT, self.r_offset);
-        put_u64(order, b, R_INFO_AT, self.r_info);
+        match order {
+            Order::Little => write(self, Order::Little, b),
+            Order::Big => write(self, Order::Big, b),
+        }
     }
 
     fn fits(&self) {
         prove_fields(*self);
     }
+}
+
+fn read(order: Order, b: &[u8]) -> Rel
+    requires { length b.now ≡ REL_SIZE }
+    ensures { result ≡ rel_at order b.now 0 }
+{
+    Rel {
+        r_offset: u64_at(order, b, R_OFFSET_AT),
+        r_info: u64_at(order, b, R_INFO_AT),
+    }
+}
+
+fn write(v: &Rel, order: Order, b: &mut [u8])
+    requires { length b.old ≡ REL_SIZE }
+    ensures { b.new ≡ rel_bytes order v.now }
+{
+    put_u64(order, b, R_OFFSET_AT, v.r_offset);
+    put_u64(order, b, R_INFO_AT, v.r_info);
 }
 
 // A value's fields are within their widths because their types are.

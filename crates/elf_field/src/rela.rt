@@ -1,6 +1,7 @@
 //! Relocations with addends (gABI chapter 4, Relocation).
-ghost use Rattle.std.specs.Prelude.{◌≡◌, ◌/◌, ◌%◌, ◌^◌};
+ghost use Rattle.std.specs.Prelude.{◌≡◌, ◌/◌, ◌%◌, ◌^◌, length};
 ghost use Rattle.elf_field.specs.Rela.{IsRela, IsRelaAt, rela_at, rela_bytes, rela_fields_at, rela_laws};
+ghost use Rattle.elf_field.specs.Abi.{RELA_SIZE};
 
 use crate::abi::{R_ADDEND_AT, R_INFO_AT, R_OFFSET_AT, RELA_SIZE};
 use crate::number::{i64_at, put_i64, put_u64, u64_at};
@@ -56,23 +57,44 @@ impl Record for Rela {
 
     const SIZE: usize = RELA_SIZE as usize;
 
+    // Each arm has the order as a constant, so that it is tested once a record.
     fn get(order: Order, b: &[u8]) -> Self {
-        Rela {
-            r_offset: u64_at(order, b, R_OFFSET_AT),
-            r_info: u64_at(order, b, R_INFO_AT),
-            r_addend: i64_at(order, b, R_ADDEND_AT),
+        match order {
+            Order::Little => read(Order::Little, b),
+            Order::Big => read(Order::Big, b),
         }
     }
 
     fn put(&self, order: Order, b: &mut [u8]) {
-        put_u64(order, b, R_OFFSET_AT, self.r_offset);
-        put_u64(order, b, R_INFO_AT, self.r_info);
-        put_i64(order, b, R_ADDEND_AT, self.r_addend);
+        match order {
+            Order::Little => write(self, Order::Little, b),
+            Order::Big => write(self, Order::Big, b),
+        }
     }
 
     fn fits(&self) {
         prove_fields(*self);
     }
+}
+
+fn read(order: Order, b: &[u8]) -> Rela
+    requires { length b.now ≡ RELA_SIZE }
+    ensures { result ≡ rela_at order b.now 0 }
+{
+    Rela {
+        r_offset: u64_at(order, b, R_OFFSET_AT),
+        r_info: u64_at(order, b, R_INFO_AT),
+        r_addend: i64_at(order, b, R_ADDEND_AT),
+    }
+}
+
+fn write(v: &Rela, order: Order, b: &mut [u8])
+    requires { length b.old ≡ RELA_SIZE }
+    ensures { b.new ≡ rela_bytes order v.now }
+{
+    put_u64(order, b, R_OFFSET_AT, v.r_offset);
+    put_u64(order, b, R_INFO_AT, v.r_info);
+    put_i64(order, b, R_ADDEND_AT, v.r_addend);
 }
 
 // A value's fields are within their widths because their types are.

@@ -1,5 +1,7 @@
 //! Section headers (gABI chapter 4, Sections).
+ghost use Rattle.std.specs.Prelude.{◌≡◌, length};
 ghost use Rattle.elf_field.specs.Shdr.{IsShdr, IsShdrAt, shdr_at, shdr_bytes, shdr_fields_at, shdr_laws};
+ghost use Rattle.elf_field.specs.Abi.{SHDR_SIZE};
 
 use crate::abi::{
     SH_ADDR_AT, SH_ADDRALIGN_AT, SH_ENTSIZE_AT, SH_FLAGS_AT, SH_INFO_AT, SH_LINK_AT, SH_NAME_AT,
@@ -54,37 +56,58 @@ impl Record for Shdr {
 
     const SIZE: usize = SHDR_SIZE as usize;
 
+    // Each arm has the order as a constant, so that it is tested once a record.
     fn get(order: Order, b: &[u8]) -> Self {
-        Shdr {
-            sh_name: u32_at(order, b, SH_NAME_AT),
-            sh_type: u32_at(order, b, SH_TYPE_AT),
-            sh_flags: u64_at(order, b, SH_FLAGS_AT),
-            sh_addr: u64_at(order, b, SH_ADDR_AT),
-            sh_offset: u64_at(order, b, SH_OFFSET_AT),
-            sh_size: u64_at(order, b, SH_SIZE_AT),
-            sh_link: u32_at(order, b, SH_LINK_AT),
-            sh_info: u32_at(order, b, SH_INFO_AT),
-            sh_addralign: u64_at(order, b, SH_ADDRALIGN_AT),
-            sh_entsize: u64_at(order, b, SH_ENTSIZE_AT),
+        match order {
+            Order::Little => read(Order::Little, b),
+            Order::Big => read(Order::Big, b),
         }
     }
 
     fn put(&self, order: Order, b: &mut [u8]) {
-        put_u32(order, b, SH_NAME_AT, self.sh_name);
-        put_u32(order, b, SH_TYPE_AT, self.sh_type);
-        put_u64(order, b, SH_FLAGS_AT, self.sh_flags);
-        put_u64(order, b, SH_ADDR_AT, self.sh_addr);
-        put_u64(order, b, SH_OFFSET_AT, self.sh_offset);
-        put_u64(order, b, SH_SIZE_AT, self.sh_size);
-        put_u32(order, b, SH_LINK_AT, self.sh_link);
-        put_u32(order, b, SH_INFO_AT, self.sh_info);
-        put_u64(order, b, SH_ADDRALIGN_AT, self.sh_addralign);
-        put_u64(order, b, SH_ENTSIZE_AT, self.sh_entsize);
+        match order {
+            Order::Little => write(self, Order::Little, b),
+            Order::Big => write(self, Order::Big, b),
+        }
     }
 
     fn fits(&self) {
         prove_fields(*self);
     }
+}
+
+fn read(order: Order, b: &[u8]) -> Shdr
+    requires { length b.now ≡ SHDR_SIZE }
+    ensures { result ≡ shdr_at order b.now 0 }
+{
+    Shdr {
+        sh_name: u32_at(order, b, SH_NAME_AT),
+        sh_type: u32_at(order, b, SH_TYPE_AT),
+        sh_flags: u64_at(order, b, SH_FLAGS_AT),
+        sh_addr: u64_at(order, b, SH_ADDR_AT),
+        sh_offset: u64_at(order, b, SH_OFFSET_AT),
+        sh_size: u64_at(order, b, SH_SIZE_AT),
+        sh_link: u32_at(order, b, SH_LINK_AT),
+        sh_info: u32_at(order, b, SH_INFO_AT),
+        sh_addralign: u64_at(order, b, SH_ADDRALIGN_AT),
+        sh_entsize: u64_at(order, b, SH_ENTSIZE_AT),
+    }
+}
+
+fn write(v: &Shdr, order: Order, b: &mut [u8])
+    requires { length b.old ≡ SHDR_SIZE }
+    ensures { b.new ≡ shdr_bytes order v.now }
+{
+    put_u32(order, b, SH_NAME_AT, v.sh_name);
+    put_u32(order, b, SH_TYPE_AT, v.sh_type);
+    put_u64(order, b, SH_FLAGS_AT, v.sh_flags);
+    put_u64(order, b, SH_ADDR_AT, v.sh_addr);
+    put_u64(order, b, SH_OFFSET_AT, v.sh_offset);
+    put_u64(order, b, SH_SIZE_AT, v.sh_size);
+    put_u32(order, b, SH_LINK_AT, v.sh_link);
+    put_u32(order, b, SH_INFO_AT, v.sh_info);
+    put_u64(order, b, SH_ADDRALIGN_AT, v.sh_addralign);
+    put_u64(order, b, SH_ENTSIZE_AT, v.sh_entsize);
 }
 
 // A value's fields are within their widths because their types are.

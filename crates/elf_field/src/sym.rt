@@ -1,6 +1,7 @@
 //! Symbols (gABI chapter 4, Symbol Table).
-ghost use Rattle.std.specs.Prelude.{◌≡◌, ◌/◌, ◌%◌};
+ghost use Rattle.std.specs.Prelude.{◌≡◌, ◌/◌, ◌%◌, length};
 ghost use Rattle.elf_field.specs.Sym.{IsSym, IsSymAt, sym_at, sym_bytes, sym_fields_at, sym_laws};
+ghost use Rattle.elf_field.specs.Abi.{SYM_SIZE};
 
 use crate::abi::{
     ST_INFO_AT, ST_NAME_AT, ST_OTHER_AT, ST_SHNDX_AT, ST_SIZE_AT, ST_VALUE_AT, SYM_SIZE,
@@ -62,29 +63,50 @@ impl Record for Sym {
 
     const SIZE: usize = SYM_SIZE as usize;
 
+    // Each arm has the order as a constant, so that it is tested once a record.
     fn get(order: Order, b: &[u8]) -> Self {
-        Sym {
-            st_name: u32_at(order, b, ST_NAME_AT),
-            st_info: u8_at(order, b, ST_INFO_AT),
-            st_other: u8_at(order, b, ST_OTHER_AT),
-            st_shndx: u16_at(order, b, ST_SHNDX_AT),
-            st_value: u64_at(order, b, ST_VALUE_AT),
-            st_size: u64_at(order, b, ST_SIZE_AT),
+        match order {
+            Order::Little => read(Order::Little, b),
+            Order::Big => read(Order::Big, b),
         }
     }
 
     fn put(&self, order: Order, b: &mut [u8]) {
-        put_u32(order, b, ST_NAME_AT, self.st_name);
-        put_u8(order, b, ST_INFO_AT, self.st_info);
-        put_u8(order, b, ST_OTHER_AT, self.st_other);
-        put_u16(order, b, ST_SHNDX_AT, self.st_shndx);
-        put_u64(order, b, ST_VALUE_AT, self.st_value);
-        put_u64(order, b, ST_SIZE_AT, self.st_size);
+        match order {
+            Order::Little => write(self, Order::Little, b),
+            Order::Big => write(self, Order::Big, b),
+        }
     }
 
     fn fits(&self) {
         prove_fields(*self);
     }
+}
+
+fn read(order: Order, b: &[u8]) -> Sym
+    requires { length b.now ≡ SYM_SIZE }
+    ensures { result ≡ sym_at order b.now 0 }
+{
+    Sym {
+        st_name: u32_at(order, b, ST_NAME_AT),
+        st_info: u8_at(order, b, ST_INFO_AT),
+        st_other: u8_at(order, b, ST_OTHER_AT),
+        st_shndx: u16_at(order, b, ST_SHNDX_AT),
+        st_value: u64_at(order, b, ST_VALUE_AT),
+        st_size: u64_at(order, b, ST_SIZE_AT),
+    }
+}
+
+fn write(v: &Sym, order: Order, b: &mut [u8])
+    requires { length b.old ≡ SYM_SIZE }
+    ensures { b.new ≡ sym_bytes order v.now }
+{
+    put_u32(order, b, ST_NAME_AT, v.st_name);
+    put_u8(order, b, ST_INFO_AT, v.st_info);
+    put_u8(order, b, ST_OTHER_AT, v.st_other);
+    put_u16(order, b, ST_SHNDX_AT, v.st_shndx);
+    put_u64(order, b, ST_VALUE_AT, v.st_value);
+    put_u64(order, b, ST_SIZE_AT, v.st_size);
 }
 
 // A value's fields are within their widths because their types are.
