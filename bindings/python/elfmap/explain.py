@@ -32,6 +32,7 @@ from collections.abc import Iterator, Sequence
 from contextlib import ExitStack
 from typing import BinaryIO, NamedTuple, Optional
 
+from elfmap import __version__
 from elfmap._archives import Content, Contents, is_archive, members, printed
 from elfmap._checks import Checks
 from elfmap._commands import USAGE, UNREADABLE, complain, run_script
@@ -273,6 +274,7 @@ def _parser() -> argparse.ArgumentParser:
         "or findings of elfmap-lint (text or jsonl), which name their files.",
         epilog="Status: 0 explained, 2 usage, 3 a file can't be read.",
     )
+    parser.add_argument("--version", action="version", version=f"%(prog)s {__version__}")
     parser.add_argument("-0", dest="zero", action="store_true", help="lines end with a zero byte, as elfmap-lint -0 prints them")
     parser.add_argument(
         "words", metavar="[LINE] FILE", nargs="*", help="one line of elfmap, as words, in place of standard input; then the files"

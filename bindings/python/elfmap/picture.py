@@ -24,6 +24,7 @@ from typing import Optional
 from xml.sax.saxutils import escape
 
 import elfmap
+from elfmap import __version__
 from elfmap._commands import FOUND, UNREADABLE, complain, run_script
 from elfmap._names import MACHINES
 from elfmap._sources import LONGEST, Unreadable, opened
@@ -262,6 +263,7 @@ def _parser() -> argparse.ArgumentParser:
         description="Writes a picture of the bytes of an ELF-64 file, as SVG, to standard output.",
         epilog="Status: 0 drawn, 1 elfmap rejects the file, 2 usage, 3 it can't be read.",
     )
+    parser.add_argument("--version", action="version", version=f"%(prog)s {__version__}")
     parser.add_argument("file", metavar="FILE", help="the file, or - for the lines of `elfmap show` on standard input")
     parser.add_argument("title", metavar="TITLE", nargs="*", help="the title (the name of the file)")
     return parser

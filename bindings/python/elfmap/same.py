@@ -20,7 +20,7 @@ from contextlib import contextmanager
 from typing import NamedTuple, Optional, TextIO
 
 import elfmap
-from elfmap import _library
+from elfmap import __version__, _library
 from elfmap._archives import Content, Contents, Member, is_archive, members
 from elfmap._commands import DONE, FOUND, UNREADABLE, USAGE, complain, run_script
 from elfmap._differences import Sides, image_differences, object_differences
@@ -321,6 +321,7 @@ def _parser() -> argparse.ArgumentParser:
         epilog="Status: 0 the same, 1 different, 2 usage, 3 something can't be read or is rejected.",
     )
     add = parser.add_argument
+    add("--version", action="version", version=f"%(prog)s {__version__}")
     add("first", metavar="A", help="a file, an archive, or a directory")
     add("second", metavar="B", help="one to compare with it")
     add("-q", "--quiet", action="store_true", help="print nothing: the status says it")

@@ -2,9 +2,9 @@
 
 A command is a line of a code block that begins with `$ `, or with `>>> ` for Python; below it are the lines that it prints, on standard
 output and standard error. There a line `..` means lines left out, and ` ..` at the end of a line the rest of it. A page's commands run in
-its order in a folder of their own. That is a release of the version VERSION, unpacked, with its archive, the file answer.c of examples/,
-and the folders that the repository alone has. A `cat` of a file that isn't there writes it, with the lines below. Commands within prose are
-not looked at.
+its order in a folder of their own. That is a release of the version VERSION, unpacked, whose bin/ is on the PATH, with its archive, the
+file answer.c of examples/, and the folders that the repository alone has. A `cat` of a file that isn't there writes it, with the lines
+below. Commands within prose are not looked at.
 
 Skipped are the commands of SKIPPED, by their text, those of tools of other versions than README.md names, those on files of the machine of
 other lengths, what is not built, and what needs a file that such a command makes. A code line that begins as a command does has to have its
@@ -147,7 +147,8 @@ class Page:
         self.text = read_text(path)
         # Files that are missing or others, as a command that makes them was skipped, and why.
         self.lacking: dict[str, str] = {}
-        self.environment = environment(LC_ALL="C.UTF-8", ELFMAP=PROGRAM, XDG_CACHE_HOME=f"{folder}/.cache", HOME=folder)
+        own = {"PATH": f"{folder}/bin:{os.environ['PATH']}", "XDG_CACHE_HOME": f"{folder}/.cache", "HOME": folder}
+        self.environment = environment(LC_ALL="C.UTF-8", ELFMAP=PROGRAM, **own)
 
     def foreign(self, tool: str) -> str:
         """Why what a tool says can't be compared."""
@@ -206,7 +207,7 @@ class Page:
         if lacks:
             return self.skip(">>> ..", lacks)
         write(f"{self.folder}/shown.txt", re.sub(r" \.\.$", " ...", text, flags=re.M) + "\n")
-        env = {**self.environment, "PYTHONPATH": f"{self.folder}/{ARCHIVE}/bindings/python", "PYTHONDONTWRITEBYTECODE": "1"}
+        env = {**self.environment, "PYTHONPATH": f"{self.folder}/bindings/python", "PYTHONDONTWRITEBYTECODE": "1"}
         ran = run(sys.executable, "-m", "doctest", "-o", "ELLIPSIS", "shown.txt", folder=self.folder, env=env)
         self.tally.check(
             ran.returncode == 0, f"{self.name} shows other lines of Python than there are:\n{(ran.stdout + ran.stderr).decode()}"
