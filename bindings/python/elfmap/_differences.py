@@ -174,6 +174,9 @@ class Comparison:
 
     def _relocations(self, index: int, other_index: int) -> Iterator[str]:
         """The first entry that differs: the entries after it are often the same, moved."""
+        contents = [bytes(it.sections[k].content or b"") for it, k in ((self._one, index), (self._other, other_index))]
+        if contents[0] == contents[1] and self._one.symbol_labels == self._other.symbol_labels:
+            return
         one = self._relocation_words(self._one, index)
         other = self._relocation_words(self._other, other_index)
         for position, (ours, theirs) in enumerate(zip(one, other)):
