@@ -147,6 +147,9 @@ class Comparison:
         if one.sh_type != other.sh_type or one.content is None or other.content is None:
             return
         if one.sh_type in (_REL, _RELA):
+            target = self._one.section_words(one.sh_info), self._other.section_words(other.sh_info)
+            if target[0] != target[1]:
+                yield self._sides.both("its target", *target)
             yield from self._relocations(index, other_index)
         elif one.sh_type == _GROUP:
             yield from self._group(index, other_index)
