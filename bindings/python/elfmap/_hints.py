@@ -6,7 +6,7 @@ import shlex
 from collections.abc import Iterator, Sequence
 from typing import Optional
 
-from elfmap._linked import UNDEFINED_NAME, Linked
+from elfmap._link_words import UNDEFINED_NAME, Linked
 from elfmap._names import machine_words, relocation_types, section_type
 from elfmap._words import SECTION, Words
 

@@ -16,7 +16,7 @@ import unittest
 from pathlib import Path
 
 from elfmap import _hints, _names, _rules, _words, build, explain
-from elfmap._linked import Linked
+from elfmap._link_words import Linked
 
 from tests.made import BROKEN_SYMBOLS, ENVIRONMENT, GNU, GOOD, LONG, SHARING, FolderCase
 from tests.made import Made, relocations, setUpModule, symbols, text, thin  # noqa: F401
