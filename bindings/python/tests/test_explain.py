@@ -252,7 +252,7 @@ class HintTest(Case):
     def test_relocations_without_a_rule(self):
         for machine, kind, words in (
             (62, 42, "R_X86_64_REX_GOTPCRELX is by a global offset table, which elfmap does not make: compile with -fno-pic"),
-            (62, 4, "the rule file needs a line for type 4"),
+            (62, 4, "the rule file needs the line `4 pc 4 signed`"),
             (183, 283, "the rule file has no line for type 283, R_AARCH64_CALL26 of machine 183 (EM_AARCH64)"),
         ):
             found = " ".join(_hints.link_hints([self.linked(machine, b"f", kind)], 12, 0, 1, 0))
