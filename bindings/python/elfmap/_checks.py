@@ -106,7 +106,8 @@ class _Needs:
                 found.add(index)
                 waiting += [sections[index].link, *self._index_tables.get(index, ())]
         needed = [it for it in self._whole.needed if it.section in found]
-        return Batch(shown, needed, [it for it in self._whole.needed if it.section not in found], sections)
+        # A string table keeps its type: it may be that of section names.
+        return Batch(shown, needed, [it for it in self._whole.shown if it.section not in found], sections)
 
 
 class Checks:

@@ -6,6 +6,7 @@ object exactly where these bytes are the same.
 
 from __future__ import annotations
 
+import struct
 from collections import Counter
 from collections.abc import Callable, Hashable, Iterable, Iterator, Sequence
 from typing import NamedTuple, Optional, TypeVar
@@ -15,7 +16,7 @@ from elfmap._names import machine_words, relocation_types, section_type
 from elfmap._words import printable
 
 _NULL, _SYMTAB, _RELA, _NOBITS, _REL, _GROUP, _SYMTAB_SHNDX = 0, 2, 4, 8, 9, 17, 18
-_INFO_LINK = 0x40
+_INFO_LINK, _IN_INDEX_TABLE = 0x40, 0xFFFF
 _STT_SECTION = 3
 _PLACES = {0: "undefined", 0xFFF1: "absolute", 0xFFF2: "common"}
 _BINDINGS = {0: "LOCAL", 1: "GLOBAL", 2: "WEAK"}
@@ -70,9 +71,34 @@ class Canonical:
         self.machine = file.header.e_machine
         self.sections: Sequence[Section] = list(file.sections)
         self._table = next((k for k, it in enumerate(self.sections) if it.sh_type == _SYMTAB), 0)
-        self.symbols: Sequence[Symbol] = list(file.symbols(self._table)) if self._table else []
+        self.order = ">" if file.header.e_ident[5] == 2 else "<"
+        self.symbols: Sequence[Symbol] = list(self._read_symbols()) if self._table else []
         self.section_labels = labelled(map(self._section_name, range(len(self.sections))))
         self.symbol_labels = labelled(map(self._symbol_name, self.symbols))
+
+    def _content(self, index: int) -> bytes:
+        return bytes(self.sections[index].content or b"")
+
+    def _read_symbols(self) -> Iterator[Symbol]:
+        """All symbols at once: `elfmap rewrite` wrote the table, so that each of its fields is sound."""
+        strings = self._content(self.sections[self._table].sh_link)
+        index_table = next((k for k, it in enumerate(self.sections) if it.sh_type == _SYMTAB_SHNDX), 0)
+        words = [it for (it,) in struct.iter_unpack(f"{self.order}I", self._content(index_table))] if index_table else []
+        rows = struct.iter_unpack(f"{self.order}IBBHQQ", self._content(self._table))
+        for k, (name, info, other, shndx, value, size) in enumerate(rows):
+            section = words[k] if shndx == _IN_INDEX_TABLE else shndx
+            yield Symbol(strings[name : strings.index(b"\0", name)], value, size, name, section, shndx, info, other)
+
+    def relocations(self, index: int) -> Iterator[Relocation]:
+        """Those of a section, in the same way."""
+        has_addends = self.sections[index].sh_type == _RELA
+        for row in struct.iter_unpack(f"{self.order}QQ{'q' if has_addends else ''}", self._content(index)):
+            yield Relocation(row[0], row[2] if has_addends else 0, row[1] >> 32, row[1] & 0xFFFFFFFF)
+
+    def place(self, it: Symbol) -> object:
+        """Where a symbol is defined: a reserved number, or the section by its label."""
+        is_reserved = it.st_shndx == 0 or 0xFF00 <= it.st_shndx < _IN_INDEX_TABLE
+        return it.st_shndx if is_reserved else self.section_labels[it.section]
 
     def _section_name(self, index: int) -> bytes:
         """The name, and of a group also that of its signature."""
@@ -89,7 +115,7 @@ class Canonical:
     def own_sections(self) -> dict[Label, int]:
         """The sections of the object. Its symbol table and its names are compared by names."""
         tables = {0, self._table, self.sections[self._table].sh_link if self._table else 0, self.file.header.e_shstrndx}
-        if self.file.header.e_shstrndx == 0xFFFF:
+        if self.file.header.e_shstrndx == _IN_INDEX_TABLE:
             tables.add(self.sections[0].sh_link)
         kept = (k for k, it in enumerate(self.sections) if it.sh_type not in (_NULL, _SYMTAB_SHNDX) and k not in tables)
         return {self.section_labels[k]: k for k in kept}
@@ -98,8 +124,8 @@ class Canonical:
         return label_words(self.section_labels[index]) if 0 < index < len(self.section_labels) else "none"
 
     def place_words(self, it: Symbol) -> str:
-        is_reserved = it.st_shndx == 0 or 0xFF00 <= it.st_shndx < 0xFFFF
-        return _PLACES.get(it.st_shndx, hex(it.st_shndx)) if is_reserved else self.section_words(it.section)
+        place = self.place(it)
+        return _PLACES.get(place, hex(place)) if isinstance(place, int) else self.section_words(it.section)
 
     def relocation_words(self, it: Relocation, target: int) -> str:
         name = label_words(self.symbol_labels[it.symbol]) if it.symbol else "no symbol"
@@ -147,6 +173,9 @@ class Comparison:
         if one.sh_type != other.sh_type or one.content is None or other.content is None:
             return
         if one.sh_type in (_REL, _RELA):
+            target = self._one.section_words(one.sh_info), self._other.section_words(other.sh_info)
+            if target[0] != target[1]:
+                yield self._sides.both("its target", *target)
             yield from self._relocations(index, other_index)
         elif one.sh_type == _GROUP:
             yield from self._group(index, other_index)
@@ -167,13 +196,14 @@ class Comparison:
         yield from only_in(self._sides, "member", one, other, str)
 
     def _members(self, file: Canonical, index: int) -> dict[str, int]:
-        content = file.sections[index].content or memoryview(b"")
-        order = "big" if file.file.header.e_ident[5] == 2 else "little"
-        words = [int.from_bytes(content[at : at + 4], order) for at in range(0, len(content), 4)]  # type: ignore[arg-type]
+        words = [it for (it,) in struct.iter_unpack(f"{file.order}I", bytes(file.sections[index].content or b""))]
         return {f"flags {words[0]:#x}": 0, **{file.section_words(it): it for it in words[1:]}}
 
     def _relocations(self, index: int, other_index: int) -> Iterator[str]:
         """The first entry that differs: the entries after it are often the same, moved."""
+        contents = [bytes(it.sections[k].content or b"") for it, k in ((self._one, index), (self._other, other_index))]
+        if contents[0] == contents[1] and self._one.symbol_labels == self._other.symbol_labels:
+            return
         one = self._relocation_words(self._one, index)
         other = self._relocation_words(self._other, other_index)
         for position, (ours, theirs) in enumerate(zip(one, other)):
@@ -187,16 +217,23 @@ class Comparison:
 
     def _relocation_words(self, file: Canonical, index: int) -> list[str]:
         target = file.sections[index].sh_info
-        return [file.relocation_words(it, target) for it in file.file.relocations(index)]
+        return [file.relocation_words(it, target) for it in file.relocations(index)]
 
     def _symbols(self) -> Iterator[str]:
         one = {label: k for k, label in enumerate(self._one.symbol_labels)}
         other = {label: k for k, label in enumerate(self._other.symbol_labels)}
         yield from only_in(self._sides, "symbol", one, other, label_words)
         for label, index in one.items():
-            if label in other:
-                name = f"symbol {label_words(label)}"
-                yield from (f"{name}: {it}" for it in self._symbol(self._one.symbols[index], self._other.symbols[other[label]]))
+            position = other.get(label)
+            if position is None or self._is_same(self._one.symbols[index], self._other.symbols[position]):
+                continue
+            name = f"symbol {label_words(label)}"
+            yield from (f"{name}: {it}" for it in self._symbol(self._one.symbols[index], self._other.symbols[position]))
+
+    def _is_same(self, one: Symbol, other: Symbol) -> bool:
+        """Of most symbols nothing differs, and nothing is put into words."""
+        has_same_fields = one[1:3] == other[1:3] and one[6:] == other[6:]
+        return has_same_fields and self._one.place(one) == self._other.place(other)
 
     def _symbol(self, one: Symbol, other: Symbol) -> Iterator[str]:
         for what, ours, theirs in (

@@ -6,7 +6,7 @@ import shlex
 from collections.abc import Iterator, Sequence
 from typing import Optional
 
-from elfmap._linked import UNDEFINED_NAME, Linked
+from elfmap._link_words import UNDEFINED_NAME, Linked
 from elfmap._names import machine_words, relocation_types, section_type
 from elfmap._words import SECTION, Words
 
@@ -35,7 +35,6 @@ _NAMES = {
     "__tls_get_addr": "the code has thread-local variables, which elfmap does not link",
     "_Unwind_Resume": "the code unwinds its stack: compile it with -fno-exceptions",
 }
-_GOT_WORDS, _PLT_WORDS = ("GOT",), ("PLT",)
 
 
 def hints(words: Words, path: str, rule: int, at: int, table: Optional[int] = None) -> Iterator[str]:
@@ -111,9 +110,9 @@ def _unknown_relocation(file: Linked, index: int, entry: int) -> Iterator[str]:
         return
     number = file.words.number(at + 8, 8) & 0xFFFFFFFF
     name = relocation_types(file.words.machine).get(number, "")
-    if any(it in name for it in _GOT_WORDS):
+    if "GOT" in name:
         yield f"{name} is by a global offset table, which elfmap does not make: compile with -fno-pic"
-    elif any(it in name for it in _PLT_WORDS):
-        yield f"{name} is a call, which needs no table here: the rule file needs a line for type {number}"
+    elif name == "R_X86_64_PLT32":
+        yield f"{name} is a call, which needs no table here: the rule file needs the line `{number} pc 4 signed`"
     elif name:
         yield f"the rule file has no line for type {number}, {name} of machine {machine_words(file.words.machine)}"

@@ -7,6 +7,8 @@ such numbers and never interprets them: a name is for a reader alone. In the lis
 
 from __future__ import annotations
 
+import functools
+
 
 def _numbered(names: str) -> dict[int, str]:
     found: dict[int, str] = {}
@@ -50,11 +52,10 @@ _SECTION_TYPES_OF_MACHINES = {
     243: {0x70000003: "RISCV_ATTRIBUTES"},
 }
 # What the names of the relocation types of a machine begin with, and the names.
-_RELOCATIONS: dict[int, tuple[str, dict[int, str]]] = {
+_RELOCATIONS = {
     21: (
         "R_PPC64_",
-        _numbered(
-            """
+        """
             @0 NONE ADDR32 ADDR24 ADDR16 ADDR16_LO ADDR16_HI ADDR16_HA ADDR14 ADDR14_BRTAKEN ADDR14_BRNTAKEN REL24
             REL14 REL14_BRTAKEN REL14_BRNTAKEN GOT16 GOT16_LO GOT16_HI GOT16_HA @19 COPY GLOB_DAT JMP_SLOT RELATIVE
             @24 UADDR32 UADDR16 REL32 PLT32 PLTREL32 PLT16_LO PLT16_HI PLT16_HA @33 SECTOFF SECTOFF_LO SECTOFF_HI
@@ -69,36 +70,30 @@ _RELOCATIONS: dict[int, tuple[str, dict[int, str]]] = {
             DTPREL16_HIGHERA DTPREL16_HIGHEST DTPREL16_HIGHESTA TLSGD TLSLD TOCSAVE ADDR16_HIGH ADDR16_HIGHA
             TPREL16_HIGH TPREL16_HIGHA DTPREL16_HIGH DTPREL16_HIGHA @247 JMP_IREL IRELATIVE REL16 REL16_LO REL16_HI
             REL16_HA
-            """
-        ),
+            """,
     ),
     22: (
         "R_390_",
-        _numbered(
-            """
+        """
             @0 NONE 8 12 16 32 PC32 GOT12 GOT32 PLT32 COPY GLOB_DAT JMP_SLOT RELATIVE GOTOFF32 GOTPC GOT16 PC16
             PC16DBL PLT16DBL PC32DBL PLT32DBL GOTPCDBL 64 PC64 GOT64 PLT64 GOTENT GOTOFF16 GOTOFF64 GOTPLT12 GOTPLT16
             GOTPLT32 GOTPLT64 GOTPLTENT PLTOFF16 PLTOFF32 PLTOFF64 TLS_LOAD TLS_GDCALL TLS_LDCALL TLS_GD32 TLS_GD64
             TLS_GOTIE12 TLS_GOTIE32 TLS_GOTIE64 TLS_LDM32 TLS_LDM64 TLS_IE32 TLS_IE64 TLS_IEENT TLS_LE32 TLS_LE64
             TLS_LDO32 TLS_LDO64 TLS_DTPMOD TLS_DTPOFF TLS_TPOFF 20 GOT20 GOTPLT20 TLS_GOTIE20 IRELATIVE
-            """
-        ),
+            """,
     ),
     62: (
         "R_X86_64_",
-        _numbered(
-            """
+        """
             @0 NONE 64 PC32 GOT32 PLT32 COPY GLOB_DAT JUMP_SLOT RELATIVE GOTPCREL 32 32S 16 PC16 8 PC8 DTPMOD64
             DTPOFF64 TPOFF64 TLSGD TLSLD DTPOFF32 GOTTPOFF TPOFF32 PC64 GOTOFF64 GOTPC32 GOT64 GOTPCREL64 GOTPC64
             GOTPLT64 PLTOFF64 SIZE32 SIZE64 GOTPC32_TLSDESC TLSDESC_CALL TLSDESC IRELATIVE RELATIVE64 @41 GOTPCRELX
             REX_GOTPCRELX
-            """
-        ),
+            """,
     ),
     183: (
         "R_AARCH64_",
-        _numbered(
-            """
+        """
             @0 NONE P32_ABS32 @180 P32_COPY P32_GLOB_DAT P32_JUMP_SLOT P32_RELATIVE P32_TLS_DTPMOD P32_TLS_DTPREL
             P32_TLS_TPREL P32_TLSDESC P32_IRELATIVE @257 ABS64 ABS32 ABS16 PREL64 PREL32 PREL16 MOVW_UABS_G0
             MOVW_UABS_G0_NC MOVW_UABS_G1 MOVW_UABS_G1_NC MOVW_UABS_G2 MOVW_UABS_G2_NC MOVW_UABS_G3 MOVW_SABS_G0
@@ -123,33 +118,27 @@ _RELOCATIONS: dict[int, tuple[str, dict[int, str]]] = {
             TLSLE_LDST128_TPREL_LO12 TLSLE_LDST128_TPREL_LO12_NC TLSLD_LDST128_DTPREL_LO12
             TLSLD_LDST128_DTPREL_LO12_NC @1024 COPY GLOB_DAT JUMP_SLOT RELATIVE TLS_DTPMOD TLS_DTPREL TLS_TPREL
             TLSDESC IRELATIVE
-            """
-        ),
+            """,
     ),
     243: (
         "R_RISCV_",
-        _numbered(
-            """
+        """
             @0 NONE 32 64 RELATIVE COPY JUMP_SLOT TLS_DTPMOD32 TLS_DTPMOD64 TLS_DTPREL32 TLS_DTPREL64 TLS_TPREL32
             TLS_TPREL64 @16 BRANCH JAL CALL CALL_PLT GOT_HI20 TLS_GOT_HI20 TLS_GD_HI20 PCREL_HI20 PCREL_LO12_I
             PCREL_LO12_S HI20 LO12_I LO12_S TPREL_HI20 TPREL_LO12_I TPREL_LO12_S TPREL_ADD ADD8 ADD16 ADD32 ADD64 SUB8
             SUB16 SUB32 SUB64 GNU_VTINHERIT GNU_VTENTRY ALIGN RVC_BRANCH RVC_JUMP RVC_LUI GPREL_I GPREL_S TPREL_I
             TPREL_S RELAX SUB6 SET6 SET8 SET16 SET32 32_PCREL IRELATIVE
-            """
-        ),
+            """,
     ),
     247: (
         "R_BPF_",
-        _numbered(
-            """
+        """
             @0 NONE 64_64 @10 64_32
-            """
-        ),
+            """,
     ),
     258: (
         "R_LARCH_",
-        _numbered(
-            """
+        """
             @0 NONE 32 64 RELATIVE COPY JUMP_SLOT TLS_DTPMOD32 TLS_DTPMOD64 TLS_DTPREL32 TLS_DTPREL64 TLS_TPREL32
             TLS_TPREL64 IRELATIVE @20 MARK_LA MARK_PCREL SOP_PUSH_PCREL SOP_PUSH_ABSOLUTE SOP_PUSH_DUP SOP_PUSH_GPREL
             SOP_PUSH_TLS_TPREL SOP_PUSH_TLS_GOT SOP_PUSH_TLS_GD SOP_PUSH_PLT_PCREL SOP_ASSERT SOP_NOT SOP_SUB SOP_SL
@@ -157,8 +146,7 @@ _RELOCATIONS: dict[int, tuple[str, dict[int, str]]] = {
             SOP_POP_32_S_10_16 SOP_POP_32_S_10_16_S2 SOP_POP_32_S_5_20 SOP_POP_32_S_0_5_10_16_S2
             SOP_POP_32_S_0_10_10_16_S2 SOP_POP_32_U ADD8 ADD16 ADD24 ADD32 ADD64 SUB8 SUB16 SUB24 SUB32 SUB64
             GNU_VTINHERIT GNU_VTENTRY
-            """
-        ),
+            """,
     ),
 }
 
@@ -175,17 +163,17 @@ def section_type(number: int, machine: int = 0) -> str:
     return own.get(number) or SECTION_TYPES.get(number) or hex(number)
 
 
+@functools.cache
 def relocation_types(machine: int) -> dict[int, str]:
     """The names of the relocation types of a machine."""
-    prefix, names = _RELOCATIONS.get(machine, ("", {}))
-    return {number: prefix + name for number, name in names.items()}
+    prefix, names = _RELOCATIONS.get(machine, ("", ""))
+    return {number: prefix + name for number, name in _numbered(names).items()}
 
 
 def relocation_type(number: int, machine: int) -> str:
     """A type of relocations by its number, and its name where it has one."""
-    prefix, names = _RELOCATIONS.get(machine, ("", {}))
-    name = names.get(number)
-    return f"{number} ({prefix}{name})" if name else str(number)
+    name = relocation_types(machine).get(number)
+    return f"{number} ({name})" if name else str(number)
 
 
 def machines_with_relocations() -> list[int]:

@@ -37,7 +37,7 @@ from elfmap._archives import Content, Contents, is_archive, members, printed
 from elfmap._checks import Checks
 from elfmap._commands import USAGE, UNREADABLE, complain, run_script
 from elfmap._hints import hints, link_hints
-from elfmap._linked import Linked, link_words
+from elfmap._link_words import Linked, link_words
 from elfmap._rules import LINK_RULES, RULES
 from elfmap._sources import Source, Unreadable, opened, reason_of, whole
 from elfmap._words import Words, found_at, printable

@@ -32,6 +32,8 @@ from elfmap._words import Words, explain, printable
 PROGRAM = "elfmap-same"
 _MAGIC, _RELOCATABLE, _CLASS_32 = b"\x7fELF", 1, 1
 _LIMIT = 10
+# A shorter file has no magic number.
+_LEAST = 4
 _COMPARED = ("object", "image", "archive")
 
 
@@ -86,31 +88,27 @@ class Run:
     def compare(self) -> None:
         pairs = [Pair(b"", os.fsencode(self._options.first), os.fsencode(self._options.second), True)]
         while pairs:
-            # Those below a folder come next, in the order of their names.
+            # Those below a directory come next, in the order of their names.
             pairs += reversed(list(self._paths(pairs.pop())))
         if not self._options.quiet:
             self._out.write(self.counts.words() + "\n")
 
     def _paths(self, pair: Pair) -> list[Pair]:
-        """Compares two paths. Of two folders the pairs below them are returned."""
+        """Compares two paths. Of two directories the pairs below them are returned."""
         with self._guarded(pair.name or pair.first):
-            kinds = self._kind(pair.first, pair.is_named), self._kind(pair.second, pair.is_named)
-            if kinds == ("a directory", "a directory"):
-                return self._folders(pair)
+            found = [os.stat(it, follow_symlinks=pair.is_named) for it in (pair.first, pair.second)]
+            kinds = [kind_of_path(it) for it in found]
             if kinds[0] != kinds[1]:
                 self._differ(pair.name, [self._sides.both("it", *kinds)])
+            elif kinds[0] == "a directory":
+                return self._folders(pair)
             elif kinds[0] == "a file":
-                self._files(pair)
+                self._files(pair, max(it.st_size for it in found))
             elif pair.is_named:
                 raise Unreadable(f"it is {kinds[0]}")
             else:
                 self.counts.skipped["not regular"] += 1
         return []
-
-    def _kind(self, path: bytes, is_followed: bool) -> str:
-        mode = os.stat(path, follow_symlinks=is_followed).st_mode
-        names = {stat.S_IFDIR: "a directory", stat.S_IFREG: "a file", stat.S_IFLNK: "a symbolic link"}
-        return names.get(stat.S_IFMT(mode), "no regular file")
 
     def _folders(self, pair: Pair) -> list[Pair]:
         first, second = set(os.listdir(pair.first)), set(os.listdir(pair.second))
@@ -125,7 +123,7 @@ class Run:
         while paths:
             name, path = paths.pop()
             with self._guarded(name):
-                kind = self._kind(path, False)
+                kind = kind_of_path(os.stat(path, follow_symlinks=False))
                 if kind == "a directory":
                     below = sorted(os.listdir(path), reverse=True)
                     paths += [(os.path.join(name, it), os.path.join(path, it)) for it in below]
@@ -148,7 +146,10 @@ class Run:
 
     # ---- Files
 
-    def _files(self, pair: Pair) -> None:
+    def _files(self, pair: Pair, size: int) -> None:
+        if size < _LEAST and not pair.is_named and not self._options.others:
+            self.counts.skipped["not ELF"] += 1
+            return
         with opened(pair.first) as first, opened(pair.second) as second:
             self._contents(pair, Content(pair.first, pair.first, first), Content(pair.second, pair.second, second))
 
@@ -284,6 +285,11 @@ KINDS = {
     "of class 32": "an ELF file of class 32",
     "not ELF": "no ELF file",
 }
+
+
+def kind_of_path(found: os.stat_result) -> str:
+    names = {stat.S_IFDIR: "a directory", stat.S_IFREG: "a file", stat.S_IFLNK: "a symbolic link"}
+    return names.get(stat.S_IFMT(found.st_mode), "no regular file")
 
 
 def kind_of(source: Source) -> str:

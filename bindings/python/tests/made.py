@@ -5,7 +5,11 @@ Their fields are those of the gABI, and of the layouts of archives (GNU, thin, B
 
 import os
 import struct
+import tempfile
+import unittest
 from pathlib import Path
+
+import elfmap
 
 PACKAGE = Path(__file__).resolve().parents[1]
 ENVIRONMENT = {**os.environ, "PYTHONPATH": os.pathsep.join([str(PACKAGE), os.environ.get("PYTHONPATH", "")])}
@@ -106,3 +110,28 @@ def thin(*names):
     # The size is that of the file, whose bytes are elsewhere.
     headers = (archive_member(b"/%d" % it, b"", b"") for it in starts)
     return b"!<thin>\n" + archive_member(b"/", table) + b"".join(headers)
+
+
+def setUpModule():
+    # The tests change the folder, and the library may be named by a path from here.
+    elfmap.check(GOOD)
+    if "ELFMAP_LIB_DIR" in ENVIRONMENT:
+        ENVIRONMENT["ELFMAP_LIB_DIR"] = os.path.abspath(ENVIRONMENT["ELFMAP_LIB_DIR"])
+
+
+class FolderCase(unittest.TestCase):
+    """A test in an empty folder of its own."""
+
+    def setUp(self):
+        folder = tempfile.TemporaryDirectory(prefix="elfmap-test-")
+        self.addCleanup(folder.cleanup)
+        before = os.getcwd()
+        os.chdir(folder.name)
+        self.addCleanup(os.chdir, before)
+
+    def put(self, **files):
+        """Files in the folder, whose names have a dot where the words have `__`."""
+        for name, content in files.items():
+            path = Path(name.replace("__", "."))
+            path.parent.mkdir(parents=True, exist_ok=True)
+            path.write_bytes(content)

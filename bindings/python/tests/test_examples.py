@@ -12,8 +12,7 @@ import unittest
 from pathlib import Path
 from xml.etree import ElementTree
 
-from tests.made import ENVIRONMENT, GOOD, PACKAGE, SHARING
-from tests.test_lint import setUpModule  # noqa: F401
+from tests.made import ENVIRONMENT, GOOD, PACKAGE, SHARING, setUpModule  # noqa: F401
 
 EXAMPLES = PACKAGE / "examples"
 MAKEFILE = "all:\n\tmkdir -p build\n\tcp made.o build/made.o\n"

@@ -1,7 +1,7 @@
 """elfmap-explain: what it says of the files of cases/explain.txt, each of which breaks a rule,
 and of findings; and its speed and its end on hostile input.
 
-The answers of the program stand in the cases, and `tools/test cases` compares them with it.
+The cases have the answers of the program: `tools/test cases` compares them with it.
 """
 
 import contextlib
@@ -16,10 +16,10 @@ import unittest
 from pathlib import Path
 
 from elfmap import _hints, _names, _rules, _words, build, explain
-from elfmap._linked import Linked
+from elfmap._link_words import Linked
 
-from tests.test_lint import setUpModule  # noqa: F401
-from tests.made import BROKEN_SYMBOLS, ENVIRONMENT, GNU, GOOD, LONG, SHARING, Made, relocations, symbols, text, thin
+from tests.made import BROKEN_SYMBOLS, ENVIRONMENT, GNU, GOOD, LONG, SHARING, FolderCase
+from tests.made import Made, relocations, setUpModule, symbols, text, thin  # noqa: F401
 
 sys.path.insert(0, str(build.REPOSITORY / "tools" / "lib"))
 from elfmap_tools.cases import cases_of, put_needs  # noqa: E402
@@ -32,14 +32,7 @@ NOT_IN_CASES = {("image", 1), ("link", 10), ("table", 40)}
 FINDING = b"bad.o: offset 0x72: SHARED_BYTE (33): the content of .text"
 
 
-class Case(unittest.TestCase):
-    def setUp(self):
-        folder = tempfile.TemporaryDirectory(prefix="elfmap-explain-test-")
-        self.addCleanup(folder.cleanup)
-        before = os.getcwd()
-        os.chdir(folder.name)
-        self.addCleanup(os.chdir, before)
-
+class Case(FolderCase):
     def explain(self, *words, stdin=b""):
         """The status, and what is said on standard output and standard error."""
         ran = subprocess.run([*PROGRAM, *words], input=stdin, capture_output=True, env=ENVIRONMENT)
@@ -50,10 +43,6 @@ class Case(unittest.TestCase):
         status, out, err = self.explain(*words, stdin=stdin)
         self.assertEqual((status, err), (0, ""))
         return " ".join(out.split())
-
-    def put(self, **files):
-        for name, content in files.items():
-            Path(name.replace("__", ".")).write_bytes(content)
 
 
 def explained(line, names):
@@ -263,7 +252,7 @@ class HintTest(Case):
     def test_relocations_without_a_rule(self):
         for machine, kind, words in (
             (62, 42, "R_X86_64_REX_GOTPCRELX is by a global offset table, which elfmap does not make: compile with -fno-pic"),
-            (62, 4, "the rule file needs a line for type 4"),
+            (62, 4, "the rule file needs the line `4 pc 4 signed`"),
             (183, 283, "the rule file has no line for type 283, R_AARCH64_CALL26 of machine 183 (EM_AARCH64)"),
         ):
             found = " ".join(_hints.link_hints([self.linked(machine, b"f", kind)], 12, 0, 1, 0))

@@ -27,8 +27,8 @@ from elfmap import _archives, _checks, _findings, _formats
 from elfmap import _rules, _sources, _walk, _words, _workers, lint
 from elfmap._inspect import Depth, Inspector
 
-from tests.made import BROKEN_SYMBOLS, BSD, CLASS_32, ENVIRONMENT, GNU, GOOD, LONG, PACKAGE, SHARING
-from tests.made import Made, archive_member, relocations, symbols, text, thin
+from tests.made import BROKEN_SYMBOLS, BSD, CLASS_32, ENVIRONMENT, GNU, GOOD, LONG, SHARING
+from tests.made import FolderCase, Made, archive_member, relocations, setUpModule, symbols, text, thin  # noqa: F401
 
 PROGRAM = [sys.executable, "-m", "elfmap.lint"]
 SHARED = (
@@ -37,26 +37,7 @@ SHARED = (
 )
 
 
-def setUpModule():
-    # The tests change the folder, and the library may be named by a path from here.
-    elfmap.check(GOOD)
-    if "ELFMAP_LIB_DIR" in ENVIRONMENT:
-        ENVIRONMENT["ELFMAP_LIB_DIR"] = os.path.abspath(ENVIRONMENT["ELFMAP_LIB_DIR"])
-
-
-class Case(unittest.TestCase):
-    def setUp(self):
-        folder = tempfile.TemporaryDirectory(prefix="elfmap-lint-test-")
-        self.addCleanup(folder.cleanup)
-        before = os.getcwd()
-        os.chdir(folder.name)
-        self.addCleanup(os.chdir, before)
-
-    def put(self, **files):
-        """Files in the folder, whose names have a dot where the words have `__`."""
-        for name, content in files.items():
-            Path(name.replace("__", ".")).write_bytes(content)
-
+class Case(FolderCase):
     def lint(self, *words, stdin=b""):
         """The status, and what is told on standard output and standard error."""
         with contextlib.ExitStack() as stack:

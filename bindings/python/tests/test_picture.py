@@ -6,28 +6,19 @@ docs/picture.svg is compared by `tools/test shown-commands`.
 import os
 import subprocess
 import sys
-import tempfile
 import unittest
 from pathlib import Path
 from xml.etree import ElementTree
 
 from elfmap import picture
 
-from tests.made import ENVIRONMENT, GOOD, SHARING, Made, symbols, text
-from tests.test_lint import setUpModule  # noqa: F401
+from tests.made import ENVIRONMENT, GOOD, SHARING, FolderCase, Made, setUpModule, symbols, text  # noqa: F401
 
 PROGRAM = [sys.executable, "-m", "elfmap.picture"]
 HEADER = "file little 1 62 0x0 0x0\npart 0x0 0x40 header\n"
 
 
-class Case(unittest.TestCase):
-    def setUp(self):
-        folder = tempfile.TemporaryDirectory(prefix="elfmap-picture-test-")
-        self.addCleanup(folder.cleanup)
-        before = os.getcwd()
-        os.chdir(folder.name)
-        self.addCleanup(os.chdir, before)
-
+class Case(FolderCase):
     def draw(self, *words, stdin=b"", **env):
         """The status, the texts of the picture, and what is said on standard error."""
         ran = subprocess.run([*PROGRAM, *words], input=stdin, capture_output=True, env={**ENVIRONMENT, **env})

@@ -7,12 +7,11 @@ JUnit XML is read by python3-junitparser. Both are packages of Debian's python3.
 import json
 import os
 import subprocess
-import sys
 import unittest
 from pathlib import Path
 
-from tests.made import BROKEN_SYMBOLS, ENVIRONMENT, GNU, GOOD, LONG, SHARING, Made, text
-from tests.test_lint import Case, setUpModule  # noqa: F401
+from tests.made import BROKEN_SYMBOLS, GNU, GOOD, LONG, SHARING, Made, setUpModule, text  # noqa: F401
+from tests.test_lint import Case
 
 DEBIAN_PYTHON = "/usr/bin/python3"
 SCHEMA = Path(__file__).resolve().parent / "data/sarif-2.1.0-rtm.4.json"

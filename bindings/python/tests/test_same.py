@@ -16,20 +16,13 @@ import unittest
 import unittest.mock
 from pathlib import Path
 
-import elfmap
 from elfmap import same
 
-from tests.made import CLASS_32, ENVIRONMENT, GNU, GOOD, LONG, SHARING, Made, archive_member, relocations, symbols, text, thin
+from tests.made import CLASS_32, ENVIRONMENT, GNU, GOOD, SHARING, FolderCase, Made
+from tests.made import archive_member, relocations, setUpModule, symbols, text, thin  # noqa: F401
 
 PROGRAM = [sys.executable, "-m", "elfmap.same"]
 STRINGS = (b".strtab", 3, b"\0answer\0", {})
-
-
-def setUpModule():
-    # The tests change the folder, and the library may be named by a path from here.
-    elfmap.check(GOOD)
-    if "ELFMAP_LIB_DIR" in ENVIRONMENT:
-        ENVIRONMENT["ELFMAP_LIB_DIR"] = os.path.abspath(ENVIRONMENT["ELFMAP_LIB_DIR"])
 
 
 def an_object(*, content=b"\x90" * 0x33, symbol=(1, 0x10, 1), strings=STRINGS, more=(), named=(1,), type=1):
@@ -44,21 +37,7 @@ def padded(data):
     return moved[:40] + (table + 64).to_bytes(8, "little") + moved[48:]
 
 
-class Case(unittest.TestCase):
-    def setUp(self):
-        folder = tempfile.TemporaryDirectory(prefix="elfmap-same-test-")
-        self.addCleanup(folder.cleanup)
-        before = os.getcwd()
-        os.chdir(folder.name)
-        self.addCleanup(os.chdir, before)
-
-    def put(self, **files):
-        """Files in the folder, whose names have a dot where the words have `__`."""
-        for name, content in files.items():
-            path = Path(name.replace("__", "."))
-            path.parent.mkdir(parents=True, exist_ok=True)
-            path.write_bytes(content)
-
+class Case(FolderCase):
     def same(self, *words):
         """The status, and the lines on standard output and on standard error."""
         with tempfile.TemporaryFile() as out, contextlib.redirect_stderr(Said()) as said:

@@ -2,7 +2,7 @@
 `tools/release library`; what both declare of the library is what include/elfmap.h declares. Nothing is fetched, and nothing is written but
 in a temporary folder. `tools/test explain` runs the package's tests of elfmap-explain alone."""
 
-import ctypes, os, re, sys, tempfile
+import ctypes, re, sys, tempfile
 from argparse import Namespace
 from collections.abc import Mapping
 from typing import Any

@@ -13,7 +13,7 @@ from itertools import islice
 from typing import Optional
 
 from elfmap._names import machine_words
-from elfmap._words import NULL, RELA, SYMTAB, SYMTAB_SHNDX, Words, entry_words
+from elfmap._words import NULL, RELA, SYMTAB, Words, entry_words
 
 _GLOBAL, _UNDEFINED, _COMMON = 1, 0, 0xFFF2
 _SYMBOL_SIZE = 24
