@@ -493,6 +493,16 @@ def show(data: Bytes) -> str:
     return text.decode("ascii")
 
 
+def refused_tables(data: Bytes) -> list[tuple[int, int, int]]:
+    """The tables of a file that break a rule: section, first rule broken, lowest offset.
+
+    Raises Refused where the file itself breaks a rule. Takes no memory for the entries of
+    the tables.
+    """
+    lines = _done(*_said("elfmap_refused_tables", *_bytes_of(data))).splitlines()
+    return [(int(section), int(rule), int(at)) for _, section, rule, at in (it.split() for it in lines)]
+
+
 def rewrite(data: Bytes) -> bytes:
     """The object that a relocatable file denotes, as a file in canonical layout.
 

@@ -5,9 +5,8 @@ at the header, at the two tables of headers, and at the first and the last byte 
 section name string table; those of tables and objects also at the contents of sections
 that hold tables. The verdict does not depend on any other byte.
 
-The verdicts of tables are lines of `elfmap show`, which also prints each entry. So that
-memory is bounded by the largest table, and not by all of them, tables of many bytes are
-shown some at a time: all other tables have another type meanwhile. A table's verdict
+So that memory is bounded by the largest table, and not by all of them, tables of many bytes
+are checked some at a time: all other tables have another type meanwhile. A table's verdict
 depends on those alone that it links to, and on index tables of its symbols.
 """
 
@@ -28,12 +27,11 @@ from elfmap._words import DYNSYM, SYMTAB, SYMTAB_SHNDX, Words
 _TABLE_TYPES = {2, 3, 4, 5, 6, 7, 9, 11, 17, 18}
 _SHOWN_TYPES = _TABLE_TYPES - {3, 18}
 _PROGBITS = 1
-# Tables of so many bytes are shown at once; a larger one by itself.
+# Tables of so many bytes are checked at once; a larger one by itself.
 _MOST_AT_ONCE = 1 << 24
-_REFUSED = b"\nrefused "
 # How much room there is for each file. What is above the most is given back after one.
 _LEAST_EXTENTS, _MOST_EXTENTS = 256, 1 << 16
-_LEAST_TEXT, _MOST_TEXT = 1 << 20, 1 << 24
+_LEAST_TEXT = 1 << 16
 TOO_LONG_AS_OBJECT = 0
 
 
@@ -219,19 +217,7 @@ class Checks:
         return [Fault(rule, at, _owner(words, it) if words else it[0]) for (rule, at), it in groups.items()]
 
     def _refused(self, size: int) -> Iterator[tuple[int, int, int]]:
-        """The lines `refused I R A` of `elfmap show`: a section, a rule and an offset."""
-        length = self._show(size)
-        start = self._text.find(_REFUSED, 0, length)
-        while start >= 0:
-            end = self._text.index(b"\n", start + len(_REFUSED), length)
-            section, rule, at = self._text[start + len(_REFUSED) : end].split()
-            yield int(section), int(rule), int(at)
-            start = self._text.find(_REFUSED, end, length)
-        if len(self._text) > _MOST_TEXT:
-            self._text = bytearray(_LEAST_TEXT)
-
-    def _show(self, size: int) -> int:
-        """How long the lines of `elfmap show` are, which the text begins with then."""
+        """The tables that break a rule: a section, the rule and the offset."""
         outcome = _library.Outcome()
         status = self._say(size, outcome)
         if status == _library.SMALL_ROOM:
@@ -239,12 +225,14 @@ class Checks:
             status = self._say(size, outcome)
         if status != _library.DONE:
             raise Unreadable("there is no memory for its tables")
-        return int(outcome.length)
+        for line in self._text[: outcome.length].splitlines():
+            _, section, rule, at = line.split()
+            yield int(section), int(rule), int(at)
 
     def _say(self, size: int, outcome: _library.Outcome) -> int:
         with memoryview(self._text) as text:
             room = _library.address_of(text), len(text)
-            return int(self._library.elfmap_show(self._room.address, size, *room, outcome))
+            return int(self._library.elfmap_refused_tables(self._room.address, size, *room, outcome))
 
     def _object_fault(self, size: int) -> Optional[Fault]:
         """Why the file is read as no object, by the engine of `elfmap rewrite`."""

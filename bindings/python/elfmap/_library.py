@@ -175,12 +175,13 @@ CALLS = {
     "elfmap_note_at": [*ENTRY, POINTER(Note)],
     "elfmap_find": [POINTER(Table), *BYTES, *BYTES, POINTER(c_uint32)],
     "elfmap_show": [*BYTES, *BYTES, POINTER(Outcome)],
+    "elfmap_refused_tables": [*BYTES, *BYTES, POINTER(Outcome)],
     "elfmap_rewrite": [*BYTES, *BYTES, POINTER(Outcome)],
     "elfmap_map": [*LINKED, *BYTES, *BYTES, POINTER(Outcome)],
     "elfmap_link": [*LINKED, *BYTES, *BYTES, *BYTES, POINTER(Outcome)],
 }
 # These answer a status, and all others whether they fill in their last argument.
-ENGINES = ("elfmap_show", "elfmap_rewrite", "elfmap_map", "elfmap_link")
+ENGINES = ("elfmap_show", "elfmap_refused_tables", "elfmap_rewrite", "elfmap_map", "elfmap_link")
 
 
 def shared_library(path: Path) -> ctypes.PyDLL:

@@ -85,6 +85,18 @@ pub fn show(bytes: &[u8]) -> Result<Vec<u8>, Failure> {
     }
 }
 
+/// The lines `refused I RULE AT` of `elfmap show`: of each table that breaks a rule its section, the
+/// first rule broken, and the lowest offset. It takes no memory for the entries of the tables.
+///
+/// # Errors
+///
+/// [`Failure::Refused`], with file 0, where the file itself breaks a rule, or
+/// [`Failure::OutOfMemory`].
+pub fn refused_tables(bytes: &[u8]) -> Result<Vec<u8>, Failure> {
+    said(|room| raw::refused_tables(bytes, room))
+        .map_err(|(status, outcome, _)| failure(status, outcome))
+}
+
 /// The object that a relocatable file denotes, as a file in canonical layout.
 ///
 /// # Errors

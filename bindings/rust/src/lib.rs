@@ -38,7 +38,7 @@ use core::error::Error;
 #[cfg(feature = "std")]
 use std::error::Error;
 
-pub use engine::{link, map, rewrite, show, Failure, Options};
+pub use engine::{link, map, refused_tables, rewrite, show, Failure, Options};
 pub use file::{check, File, Owner, Part, Section, Segment, Summary};
 pub use raw::{Dynamic, Header, ProgramHeader, Relocation, SectionHeader};
 pub use refusal::{LinkRefusal, Refusal};

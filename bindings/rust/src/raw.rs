@@ -314,6 +314,13 @@ extern "C" {
         size: usize,
         outcome: &mut Outcome,
     ) -> u32;
+    fn elfmap_refused_tables(
+        bytes: *const u8,
+        len: usize,
+        room: *mut u8,
+        size: usize,
+        outcome: &mut Outcome,
+    ) -> u32;
     fn elfmap_rewrite(
         bytes: *const u8,
         len: usize,
@@ -503,6 +510,15 @@ pub(crate) fn show(bytes: &[u8], room: &mut [u8]) -> (u32, Outcome) {
     let mut outcome = Outcome::default();
     // SAFETY: two slices, of which the room is borrowed as `&mut`, and what only this call sees.
     let status = unsafe { elfmap_show(bytes.as_ptr(), bytes.len(), at, size, &mut outcome) };
+    (status, outcome)
+}
+
+pub(crate) fn refused_tables(bytes: &[u8], room: &mut [u8]) -> (u32, Outcome) {
+    let (at, size) = (room.as_mut_ptr(), room.len());
+    let mut outcome = Outcome::default();
+    // SAFETY: two slices, of which the room is borrowed as `&mut`, and what only this call sees.
+    let status =
+        unsafe { elfmap_refused_tables(bytes.as_ptr(), bytes.len(), at, size, &mut outcome) };
     (status, outcome)
 }
 
