@@ -239,6 +239,8 @@ def furnish(folder: str, archive: str) -> None:
     shutil.copy(f"{TOP}/cases/sources/answer.c", folder)
     shutil.copy(archive, folder)
     subprocess.run(["tar", "xf", archive, "--strip-components=1", f"{ARCHIVE}/lib", f"{ARCHIVE}/include"], cwd=folder, check=True)
+    # The package for Python finds the library beside it.
+    subprocess.run(["tar", "xf", archive, f"{ARCHIVE}/lib", f"{ARCHIVE}/bindings/python"], cwd=folder, check=True)
 
 
 def shown_commands(tally: Tally, options: Namespace) -> None:
