@@ -123,10 +123,13 @@ class Content(NamedTuple):
 class Contents:
     """Opens the members of archives, also those that a thin one names in another archive.
 
-    The members of the last such archive are remembered.
+    A thin archive may name any file. Unless all are followed, one that is outside of the
+    directory of the archive is not opened. The members of the last archive that a thin one
+    names are remembered.
     """
 
-    def __init__(self) -> None:
+    def __init__(self, follows_all: bool = True) -> None:
+        self._follows_all = follows_all
         self._path: Optional[bytes] = None
         self._members: dict[int, Member] = {}
 
@@ -136,6 +139,8 @@ class Contents:
         if member.path is None:
             yield Content(name, archive, Source(source.handle, source.start + member.start, member.size))
             return
+        if not self._follows_all and not _is_below(member.path, archive):
+            raise Unreadable("it is outside of the archive's directory; --follow-thin reads it")
         with opened(member.path) as file:
             if member.origin is None:
                 yield Content(name, member.path, file)
@@ -153,6 +158,12 @@ class Contents:
         if not found or found.origin is not None:
             raise Damaged(origin, "there is no member that the thin archive names")
         return found
+
+
+def _is_below(path: bytes, archive: bytes) -> bool:
+    """Whether a path, with its symbolic links followed, is in the directory of an archive."""
+    folder = os.path.realpath(os.path.dirname(archive) or b".")
+    return os.path.join(os.path.realpath(path), b"").startswith(os.path.join(folder, b""))
 
 
 def printed(archive: bytes, member: Member) -> bytes:

@@ -28,6 +28,7 @@ class Depth(NamedTuple):
     objects: bool = False
     fails_class_32: bool = False
     keeps_names: bool = False
+    follows_thin: bool = False
 
 
 class Inspector:
@@ -36,7 +37,7 @@ class Inspector:
     def __init__(self, depth: Depth) -> None:
         self._depth = depth
         self._checks = Checks(depth.tables, depth.objects)
-        self._contents = Contents()
+        self._contents = Contents(depth.follows_thin)
         self._report = Report()
 
     def files(self, paths: list[bytes]) -> Report:

@@ -53,6 +53,7 @@ def _parser() -> argparse.ArgumentParser:
         default=[],
         help="skip files and directories of such names; with a / GLOB is of the whole path",
     )
+    add("--follow-thin", action="store_true", help="read the members of a thin archive also outside of its directory")
     add("--class32", choices=("skip", "fail"), default="skip", help="skip files of class 32, or report them (default: skip)")
     add("--tables", action="store_true", help="check the tables too: symbols, relocations, groups, notes, dynamic arrays, hash tables")
     add("--object", action="store_true", help="check what `elfmap rewrite` and `link` need of an object")
@@ -153,7 +154,9 @@ class Run:
 
     def _tools(self) -> Inspector:
         options = self._options
-        return Inspector(Depth(options.tables, options.object, options.class32 == "fail", options.format == "junit"))
+        return Inspector(
+            Depth(options.tables, options.object, options.class32 == "fail", options.format == "junit", options.follow_thin)
+        )
 
     def _work(self) -> Work:
         return self._tools().files

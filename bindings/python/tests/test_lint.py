@@ -525,6 +525,16 @@ class ArchiveTest(Case):
         found = json.loads(self.lint("--format", "sarif", "a/lib.a")[1])["runs"][0]["results"][0]
         self.assertEqual(found["locations"][0]["physicalLocation"]["artifactLocation"]["uri"], "a/b/bad.o")
 
+    def test_a_thin_archive_of_files_elsewhere(self):
+        os.makedirs("a")
+        self.put(bad__o=SHARING, **{"a/lib__a": thin(b"../bad.o", os.path.abspath("bad.o").encode(), b"link.o")})
+        os.symlink("../bad.o", "a/link.o")
+        status, out, said = self.lint("a/lib.a")
+        self.assertEqual((status, said.count(b"it is outside of the archive's directory; --follow-thin reads it")), (3, 3))
+        self.assertNotIn(SHARED, out)
+        status, out, said = self.lint("--follow-thin", "a/lib.a")
+        self.assertEqual((status, said, out.count(SHARED)), (1, b"", 3))
+
     def test_a_thin_archive_of_what_is_no_file(self):
         os.mkfifo("pipe")
         self.put(lib__a=thin(b"pipe", b"."))
