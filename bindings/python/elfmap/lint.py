@@ -154,9 +154,7 @@ class Run:
 
     def _tools(self) -> Inspector:
         options = self._options
-        return Inspector(
-            Depth(options.tables, options.object, options.class32 == "fail", options.format == "junit", options.follow_thin)
-        )
+        return Inspector(Depth(options.tables, options.object, options.class32 == "fail", options.format == "junit", options.follow_thin))
 
     def _work(self) -> Work:
         return self._tools().files
