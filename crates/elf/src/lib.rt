@@ -4,7 +4,7 @@
 //! |---|---|
 //! | [`field`] | the records of the format, in both byte orders |
 //! | [`extent`] | extents of a file: bytes that two of them share, an account of every byte, least places |
-//! | [`image`] | any ELF-64 file: read, judged, edited, written |
+//! | [`image`] | any ELF-64 file: read, validated, edited, written |
 //! | [`table`] | the tables in it: strings, symbols, relocations, groups, notes, dynamic arrays, hash tables |
 //! | [`object`] | a relocatable file as a typed object, and its canonical layout |
 //! | [`link`] | the link of objects: the link map, and relocated bytes |

@@ -9,8 +9,8 @@ use crate::shapes::Fault;
 use crate::verdicts::SHORT_ROOM;
 use elf_c_parts::{Part, PartsFault, parts_in};
 
-/// Where the file keeps all 33 rules, its parts, in the first slots of the room, and how many these are: else the first rule that it
-/// breaks, and the lowest offset. Where the room has too few parts, `at` is how many are wanted.
+/// If the file breaks none of the 33 rules: its parts, in the first slots of the buffer, and how many these are. Otherwise the first rule
+/// that it breaks, and the lowest offset. If the buffer has too few slots, `at` is how many are needed.
 #[unsafe(no_mangle)]
 pub extern "C" fn elfmap_parts(
     bytes: &[u8],

@@ -9,7 +9,7 @@ use crate::shapes::Fault;
 use elf_c_parts::{ShortRoom, Slot, verdict_in};
 use elf_image_rules::verdict;
 
-/// What is in place of a rule's number where a room has too few extents: no rule has it.
+/// In place of a rule's number, if a buffer has too few extents. No rule has this number.
 pub const SHORT_ROOM: u16 = 0;
 
 /// Whether the file keeps all 33 rules: else the first one that it breaks, and the lowest offset.
@@ -28,7 +28,7 @@ pub extern "C" fn elfmap_verdict(bytes: &[u8], fault: &mut Fault) -> bool
     }
 }
 
-/// The same in n log n for any file, by a room for its extents. Where that has too few, `at` is how many are wanted.
+/// The same in n log n for any file, with a buffer for its extents. If the buffer has too few, `at` is how many are needed.
 #[unsafe(no_mangle)]
 pub extern "C" fn elfmap_verdict_in(bytes: &[u8], room: &mut [Slot], fault: &mut Fault) -> bool
     ensures kept { OnTrue result (IsFault bytes.now None) }

@@ -1,4 +1,4 @@
-//! How a call ends: with what an engine says, in the room of the caller, or without it.
+//! How a call ends: with the output of an engine in the caller's buffer, or without output.
 ghost use Rattle.std.specs.Prelude.{◌≡◌, ◌≤◌, ◌++◌, drop, length};
 ghost use Rattle.elf_c_engines.specs.Told.{IsTold, fault_numbers, fault_status, verdict_numbers, verdict_status};
 
@@ -25,7 +25,7 @@ const BAD_FILES: u32 = 7;
 #[repr(C)]
 #[derive(Clone, Copy, Debug, PartialEq, Eq)]
 pub struct Outcome {
-    /// How long the whole text or file is, in bytes, also where the room is shorter.
+    /// How long the whole text or file is, in bytes, also if the buffer is shorter.
     pub length: u64,
     /// Of a refused file the lowest offset at which it breaks the rule, in bytes; of files that don't link the entry at which the rule is
     /// broken, from 0; of bad rules the line, from 1.
@@ -38,7 +38,7 @@ pub struct Outcome {
     pub rule: u16,
 }
 
-/// Why a call gives no answer of an engine.
+/// Why a call ends without the output of an engine.
 #[derive(Clone, Copy, Debug, PartialEq, Eq)]
 pub(crate) enum CallFault {
     /// This line of the rules is bad, and none before it. Lines count from 1.
@@ -49,7 +49,7 @@ pub(crate) enum CallFault {
     OutOfMemory,
 }
 
-/// Puts what an engine says into the room, if it is long enough for the text: else the room stays as it was. Returns the status.
+/// Copies the output of an engine into the buffer, if the buffer is long enough. Otherwise the buffer is unchanged. Returns the status.
 pub(crate) fn tell(verdict: Verdict, text: &[u8], room: &mut [u8], outcome: &mut Outcome) -> u32
     ensures { IsTold verdict text.now room.old room.new outcome.new result }
 {
@@ -62,7 +62,7 @@ pub(crate) fn tell(verdict: Verdict, text: &[u8], room: &mut [u8], outcome: &mut
     status_of(verdict)
 }
 
-/// Ends a call without what an engine says. Returns the status.
+/// Ends a call without the output of an engine. Returns the status.
 pub(crate) fn give_up(fault: CallFault, outcome: &mut Outcome) -> u32
     ensures status { result ≡ fault_status fault }
     ensures numbers { outcome.new ≡ fault_numbers fault }
@@ -89,7 +89,7 @@ pub(crate) fn give_up(fault: CallFault, outcome: &mut Outcome) -> u32
     status
 }
 
-// Puts a text at the beginning of a room.
+// Copies a text to the beginning of a buffer.
 fn put(text: &[u8], room: &mut [u8])
     requires { length text.now ≤ length room.old }
     ensures { room.new ≡ text.now ++ drop (length text.now) room.old }

@@ -1,8 +1,8 @@
-//! The engines of elfmap for C: what `elfmap show`, `rewrite`, `map` and `link` make of bytes in memory, in a room of the caller's.
-//! `include/elfmap.h` declares each export and says what a caller keeps.
+//! The engines of elfmap for C: what `elfmap show`, `rewrite`, `map` and `link` make of bytes in memory, in a buffer of the caller.
+//! `include/elfmap.h` declares each export and says what a caller must ensure.
 //!
-//! What an engine writes is held until it is whole, and copied into the room where that is long enough. All memory that a call takes is
-//! given back before it returns, and nothing here keeps a state between two calls. Begin with `reports`, then `answer`.
+//! The output of an engine is kept until it is whole, and then copied into the buffer, if that is long enough. A call frees all memory
+//! that it takes before it returns, and no state is kept between two calls. Begin with `reports`, then `answer`.
 #![tactic(auto)]
 
 mod answer;

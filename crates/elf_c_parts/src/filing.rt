@@ -1,4 +1,4 @@
-//! What each byte of a file belongs to, by a room for its parts.
+//! What each byte of a file belongs to, with a buffer for its parts.
 ghost use Rattle.std.specs.Prelude.{◌≡◌, ◌≤◌, ◌<◌, ◌+◌, ◌*◌, ◌^◌, IfErr, IfOk, None, length};
 ghost use Rattle.elf_image_rules.specs.ImageRules.{IsFault, KeepsRecordRules};
 ghost use Rattle.elf_image_rules.specs.JudgedRecords.{file_of};
@@ -10,12 +10,12 @@ use crate::shapes::{Part, PartsFault};
 use elf_image_rules::rules::SHARED_BYTE;
 use elf_image_rules::{FileExtents, JudgedRecords, judge_records};
 
-/// The parts of a file: how many there are. They are in the first slots of the room, in ascending order, none of them empty, and hold each
-/// byte of the file exactly once: each extent that holds a byte, and each gap between them, as long as it can be.
+/// The parts of a file. Returns how many there are. They are in the first slots of the buffer, in ascending order, and none is empty. They
+/// hold each byte of the file exactly once: each extent that holds a byte, and each gap between them, as long as it can be.
 ///
-/// Returns [`PartsFault::Rule`] where the file breaks one of the rules 1 to 33, and [`PartsFault::ShortRoom`] where it keeps rules 1 to 32
-/// and the room has fewer slots than three for each extent and one: rule 33 is not judged then. It takes n log n for any file, and no
-/// memory but the room: what it held is lost.
+/// Returns [`PartsFault::Rule`] if the file breaks one of rules 1 to 33. Returns [`PartsFault::ShortRoom`] if it breaks none of rules 1 to
+/// 32 and the buffer has fewer slots than three for each extent and one: rule 33 is not tested then. It takes n log n for any file, and no
+/// memory but the buffer, which it overwrites.
 pub fn parts_in(bytes: &[u8], room: &mut [Part]) -> Result<usize, PartsFault>
     ensures kept { IfOk result (λ count. IsFault bytes.now None) }
     ensures room { IfOk result (λ count. parts_wanted bytes.now ≤ length room.old) }
@@ -39,7 +39,7 @@ pub fn parts_in(bytes: &[u8], room: &mut [Part]) -> Result<usize, PartsFault>
     put_parts(&records, room)
 }
 
-/// How many slots a file wants that has so many extents: three for each, and one.
+/// How many slots a file with so many extents needs: three for each, and one.
 fn slots_wanted(extents: u64) -> u64
     requires { 3 * extents + 1 < 2 ^ 64 }
     ensures { result ≡ 3 * extents + 1 }
@@ -47,8 +47,8 @@ fn slots_wanted(extents: u64) -> u64
     3 * extents + 1
 }
 
-/// Puts the parts of the file into the first slots of the room. The account is written into the front of the room, from the extents that
-/// hold a byte, which are sorted in the back.
+/// Puts the parts of the file into the first slots of the buffer. The extents that hold a byte are sorted in the back of the buffer. The
+/// account is written from them into the front.
 fn put_parts(records: &JudgedRecords, room: &mut [Part]) -> Result<usize, PartsFault>
     requires kept { KeepsRecordRules (file_of records.now) }
     requires room { parts_wanted (file_of records.now) ≤ length room.old }

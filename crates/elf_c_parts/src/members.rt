@@ -1,4 +1,4 @@
-//! The extents of a file that hold a byte, in the slots of a room.
+//! The extents of a file that hold a byte, in the slots of a buffer.
 ghost use Rattle.std.specs.Prelude.{◌≡◌, ◌≤◌, ◌<◌, filter, length, map, take};
 ghost use Rattle.std.specs.List.{All};
 ghost use Rattle.std.specs.List.Sorted.{IsNonDecreasingBy};
@@ -12,7 +12,7 @@ use crate::shapes::Part;
 use elf_extent::{Extent, Row, sweep};
 use elf_image_rules::FileExtents;
 
-/// Puts the extents of the file that hold a byte into the room, from its first slot on, each with its index: how many these are.
+/// Puts the extents of the file that hold a byte into the buffer, from its first slot on, each with its index. Returns how many these are.
 pub fn put_members(extents: &FileExtents, room: &mut [Part]) -> usize
     requires { length (file_extents extents.now) ≤ length room.old }
     ensures within { result ≤ length room.new }

@@ -1,4 +1,4 @@
-//! The verdict on a file, by a room for its extents.
+//! The verdict on a file, with a buffer for its extents.
 ghost use Rattle.std.specs.Prelude.{◌≡◌, ◌≤◌, ◌<◌, IfErr, IfOk, OnOk, Some, filter, length, map, take};
 ghost use Rattle.std.specs.List.{All};
 ghost use Rattle.elf_extent.specs.Extent.{Doubly, holds_any};
@@ -11,7 +11,7 @@ use elf_extent::{Extent, Row, sweep};
 use elf_image_rules::rules::SHARED_BYTE;
 use elf_image_rules::{FileExtents, judge_records};
 
-/// `struct elfmap_extent`: a slot of a room, which holds an extent of a file.
+/// `struct elfmap_extent`: a slot of a buffer, which holds an extent of a file.
 #[repr(C)]
 #[derive(Clone, Copy, PartialEq, Eq, Debug)]
 pub struct Slot {
@@ -21,16 +21,16 @@ pub struct Slot {
     pub len: u64,
 }
 
-/// The room has too few slots.
+/// The buffer has too few slots.
 #[derive(Clone, Copy, PartialEq, Eq, Debug)]
 pub struct ShortRoom {
-    /// How many slots are wanted: three, and one for each section header.
+    /// How many slots are needed: three, and one for each section header.
     pub wanted: u64,
 }
 
-/// The first rule of 1 to 33 that the file breaks, and its lowest offset in bytes; None where it breaks none. It takes n log n for any
-/// file, and no memory but the room: what it held is lost. A file that keeps rules 1 to 32 wants a room of as many slots as it has
-/// extents, and in a smaller one is not judged by rule 33.
+/// The first of rules 1 to 33 that the file breaks, and its lowest offset in bytes; None if it breaks none. It takes n log n for any file,
+/// and no memory but the buffer, which it overwrites. A file that breaks none of rules 1 to 32 needs a buffer with as many slots as it has
+/// extents. If the buffer has fewer, rule 33 is not tested.
 pub fn verdict_in(bytes: &[u8], room: &mut [Slot]) -> Result<Option<(u16, u64)>, ShortRoom>
     ensures fault { IfOk result (λ found. IsFault bytes.now found) }
     ensures enough { OnOk result (HasSlotsFor bytes.now (length room.old)) }
@@ -60,7 +60,7 @@ fn lowest_shared_byte(extents: &FileExtents, room: &mut [Slot]) -> Option<u64>
     lowest_double(&mut room[..count])
 }
 
-/// Puts the extents of the file that hold a byte into the room, from its first slot on: how many these are.
+/// Puts the extents of the file that hold a byte into the buffer, from its first slot on. Returns how many these are.
 fn put_extents(extents: &FileExtents, room: &mut [Slot]) -> usize
     requires { length (file_extents extents.now) ≤ length room.old }
     ensures within { result ≤ length room.new }

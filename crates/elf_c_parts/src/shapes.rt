@@ -1,4 +1,4 @@
-//! A part of a file, and why a room holds none.
+//! A part of a file, and why a buffer holds none.
 
 /// What is in place of an owner's index at a gap.
 pub const GAP: u64 = u64::MAX;
@@ -20,6 +20,6 @@ pub struct Part {
 pub enum PartsFault {
     /// The first rule that the file breaks, and the lowest offset at which it does, in bytes.
     Rule { rule: u16, at: u64 },
-    /// The file keeps rules 1 to 32, and the room has fewer slots than are wanted: three for each extent of the file, and one.
+    /// The file breaks none of rules 1 to 32, and the buffer has too few slots. It needs three for each extent of the file, and one.
     ShortRoom { wanted: u64 },
 }

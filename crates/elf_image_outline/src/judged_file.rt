@@ -1,4 +1,4 @@
-//! A file whose records were judged, as an image without its contents.
+//! A file whose records were validated, as an image without its contents.
 ghost use Rattle.std.specs.Prelude.{◌≡◌, IfErr, IfOk, map};
 ghost use Rattle.std.specs.List.{range_with_len};
 ghost use Rattle.elf_field.specs.Bytes.{IsBytes};
@@ -44,7 +44,7 @@ fn prove_bytes(_bytes: &[u8])
     ensures { IsBytes _bytes.now }
 {}
 
-/// The records and the parts of a file that keeps rules 1 to 32. What is left to judge is rule 33.
+/// The records and the parts of a file that breaks none of rules 1 to 32. Only rule 33 is left to test.
 ///
 /// [`Fault::Rule`] is rule 33 with the lowest offset of a byte that lies in two parts. [`Fault::OutOfMemory`] comes only where an
 /// allocation fails. [`Fault::Io`] never comes. Sorting the extents takes n log n comparisons; all else is linear in the records.

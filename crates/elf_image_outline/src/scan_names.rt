@@ -22,8 +22,8 @@ fn extent_of_names(tables: &Tables) -> Extent
     }
 }
 
-/// The length and the ends of the section name string table of a source of `len` bytes, of as much of it as lies there: no rule has judged
-/// yet that all of it does.
+/// The length and the ends of the section name string table of a source of `len` bytes, of as much of the table as lies there: no rule has
+/// tested yet that all of it does.
 pub(crate) fn scan_names<S: Source>(
     source: &mut S,
     len: u64,

@@ -47,8 +47,8 @@ fn read_first<S: Source>(source: &mut S, header: &Ehdr) -> Result<Shdr, Fault>
     }
 }
 
-/// So many section headers of a source, of which number 0 is at hand: rules 13 to 21 are judged by it, so it is not to be another one that
-/// the source gives the second time.
+/// So many section headers of a source. Section header 0 was read before, and rules 13 to 21 were tested on it, so it is not read again:
+/// the source could give other bytes the second time.
 fn read_sections<S: Source>(
     alloc: Global,
     source: &mut S,

@@ -24,7 +24,7 @@ impl<'a> FileExtents<'a> {
     /// How many extents are before the contents.
     const BEFORE_CONTENTS: u64 = 3;
 
-    /// The extents of a judged file.
+    /// The extents of a validated file.
     pub fn new(records: &JudgedRecords<'a>) -> FileExtents<'a>
         ensures { file_extents result ≡ extents_of_file (file_of records.now) }
     {

@@ -35,7 +35,7 @@ pub fn verdict(bytes: &[u8]) -> Option<(u16, u64)>
     }
 }
 
-/// Whether the file is an image: else the first rule that it breaks, and its lowest offset.
+/// Whether the file is an image; otherwise the first rule that it breaks, and its lowest offset.
 pub(crate) fn judge(bytes: &[u8]) -> Result<(), Broken<u64>>
     ensures { IsFault bytes.now (fault_of result) }
 {
@@ -45,9 +45,9 @@ pub(crate) fn judge(bytes: &[u8]) -> Result<(), Broken<u64>>
     }
 }
 
-/// Judges a file by all 33 rules, as [`verdict`] does, in n log n: where the contents are not in the order of their section headers they
-/// are sorted, and where that allocation fails the answer is found without memory. A file that breaks no rule is answered with its header and
-/// counts; else the first rule broken and its lowest offset.
+/// Validates a file by all 33 rules, as [`verdict`] does, in n log n. If the contents are not in the order of their section headers, they
+/// are sorted. If that allocation fails, the same result is found without memory. Returns a file that breaks no rule with its header and
+/// counts; otherwise the first rule broken and its lowest offset.
 pub fn judge_by_sorting<'a>(
     alloc: Global,
     bytes: &'a [u8],

@@ -1,4 +1,4 @@
-//! A file whose records were judged.
+//! A file whose records were validated.
 ghost use Rattle.std.specs.Prelude.{◌≡◌, ◌<◌, ◌≤◌, length};
 ghost use Rattle.elf_image_rules.specs.Kept.{kept_prop};
 ghost use Rattle.elf_image_rules.specs.ImageRules.{KeepsRecordRules};

@@ -1,7 +1,7 @@
 //! The rules that a file has to meet to be an ELF-64 image (gABI chapters 4 and 5), and the first of
 //! them that it breaks.
 //!
-//! [`verdict`] answers the number of the first rule that a whole file breaks, and its lowest offset:
+//! [`verdict`] returns the number of the first rule that a whole file breaks, and its lowest offset:
 //!
 //! ```
 //! // Two bytes are no header: rule 2, at the file's end.
@@ -9,9 +9,9 @@
 //! ```
 //!
 //! [`rules`] names the numbers and says what breaks each rule. A rule is one row of a list of definitions,
-//! over the file's length, its header and its entries by index: so an image that is no file yet is
-//! judged by the same rules, and the same judges read a file's bytes and tables in memory ([`Records`]).
-//! [`judge_records`] answers a file that keeps rules 1 to 32 with its header and counts.
+//! over the file's length, its header and its entries by index. So an image that is no file yet is
+//! validated by the same rules, and the same tests read a file's bytes and tables in memory ([`Records`]).
+//! [`judge_records`] returns a file that breaks none of rules 1 to 32, with its header and counts.
 #![tactic(auto)]
 
 mod alignment;

@@ -32,7 +32,7 @@ impl<'a> Source for Bytes<'a> {
 }
 
 impl Bytes<'_> {
-    /// Copies the bytes from offset `at` on to the front of `buf`, as many as are there or as `buf` has room for, and returns how many.
+    /// Copies the bytes from offset `at` on to the front of `buf`, as many as are there and as `buf` can hold, and returns how many.
     pub fn copy_at(&self, at: u64, buf: &mut [u8]) -> usize
         ensures all { result ≡ min (length self.now.0.now - at) (length buf.old) }
         ensures bytes { buf.new ≡ take result (drop at self.now.0.now) ++ drop result buf.old }

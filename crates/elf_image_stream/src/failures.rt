@@ -27,8 +27,8 @@ impl Failures {
         }
     }
 
-    /// These, and a read of this offset into so much room, of a source that does not report its bytes: it failed where it answers so, and
-    /// where it gave no byte though it had room for some.
+    /// These, and a read from this offset into `room` bytes, of a source that does not report its bytes. The read failed if it returned an
+    /// error, or no byte though `room` is not 0.
     pub fn and_read(self, at: u64, room: usize, read: &Result<usize, Failed>) -> Failures
         ensures { RemembersRead None at room self result read.now }
     {

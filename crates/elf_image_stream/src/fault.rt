@@ -1,4 +1,4 @@
-//! What can stop a call that reads, judges or writes a file.
+//! What can stop a call that reads, validates or writes a file.
 ghost use Rattle.std.specs.Prelude.{◌≡◌, ◌+◌, ◌^◌, ◌<◌};
 
 use elf_extent::OutOfMemory;

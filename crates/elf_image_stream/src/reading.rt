@@ -13,11 +13,11 @@ use std::io::Read;
 /// longer one is known as such.
 const MOST_BYTES: usize = elf_image_rules::MAX_LEN as usize + 1;
 
-/// The room that the first read is given, in bytes.
+/// How many bytes the first read may return.
 const FIRST_ROOM: usize = 1 << 16;
 
-/// No read is given more room than this: what is filled with zeros before a read is then still in
-/// the cache when the bytes come.
+/// No read may return more bytes than this. The zeros that are written before a read are then still
+/// in the cache when the bytes come.
 const MOST_ROOM: usize = 1 << 18;
 
 /// From so many bytes on, capacity is asked for well ahead.
@@ -51,7 +51,7 @@ pub fn read_to_end<R: Read>(reader: &mut R, buf: &mut Vec<u8>) -> Result<(), Fau
 ///
 /// After a fault too `buf` holds what it held, and after it exactly the bytes that the reader gave, in order. Any error of the reader, an
 /// interruption too, is [`Fault::Io`] at the count of all these bytes; a failed allocation is [`Fault::OutOfMemory`], and loses no byte,
-/// since the room for a read is made before it; [`Fault::Rule`] never comes. Linear in the bytes read and those held; `buf` alone takes
+/// because memory for a read is taken before it; [`Fault::Rule`] never comes. Linear in the bytes read and those held; `buf` alone takes
 /// memory, also ahead of what is read.
 pub fn resume<R: Read>(reader: &mut R, buf: &mut Vec<u8>) -> Result<(), Fault>
     requires room { vec_len buf.old ≤ MAX_LEN + 1 }
@@ -69,7 +69,7 @@ pub fn resume<R: Read>(reader: &mut R, buf: &mut Vec<u8>) -> Result<(), Fault>
     result
 }
 
-// What `buf` held and the bytes read, as the front of `buf`, whose rest is room: how many these are, and why it stopped.
+// What `buf` held and the bytes read, as the front of `buf`, whose rest is free: how many these are, and why it stopped.
 fn fill<R: Read>(reader: &mut R, buf: &mut Vec<u8>) -> (usize, Result<(), Fault>)
     requires room { vec_len buf.old ≤ MAX_LEN + 1 }
     ensures within { result.0 ≤ vec_len buf.new }
@@ -80,7 +80,7 @@ fn fill<R: Read>(reader: &mut R, buf: &mut Vec<u8>) -> (usize, Result<(), Fault>
 {
     let mut filled = buf.len();
     while filled < MOST_BYTES {
-        // Room comes first, so that a failed allocation loses no byte.
+        // Memory is taken first, so that a failed allocation loses no byte.
         let Ok(()) = make_room(buf, filled) else {
             return (filled, Err(Fault::OutOfMemory));
         };
@@ -93,8 +93,8 @@ fn fill<R: Read>(reader: &mut R, buf: &mut Vec<u8>) -> (usize, Result<(), Fault>
     (filled, Ok(()))
 }
 
-// At least one byte of room after the first `filled`. The vector's capacity doubles as it grows, so that growing costs each byte a constant
-// number of copies, but only room for the next read is filled: memory after it is never touched.
+// At least one free byte after the first `filled`. The vector's capacity doubles as it grows, so that growing costs each byte a constant
+// number of copies. But only the bytes for the next read are filled: memory after them is never touched.
 fn make_room(buf: &mut Vec<u8>, filled: usize) -> Result<(), AllocError>
     requires within { filled ≤ vec_len buf.old }
     requires below { filled < MAX_LEN + 1 }

@@ -7,7 +7,7 @@ use crate::source::{Failed, Source};
 use std::io::{Read, Seek, SeekFrom};
 
 /// Seeks to each offset and reads there. It does not report its bytes. A seek that fails counts as a failed call, an interruption too, and
-/// so does a read that gives no byte though it has room for some.
+/// so does a read that returns no byte though the buffer is not empty.
 #[derive(Debug, Drop)]
 pub struct Seeking<F> {
     inner: F,

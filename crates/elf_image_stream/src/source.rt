@@ -30,9 +30,9 @@ pub trait Source {
         ensures failures { RemembersCall 0 (failures self.old) (failures self.new) result }
         ensures length { SaysLength (content self.old) result };
 
-    /// Reads bytes from offset `at` on to the front of `buf`, and returns how many. They may be fewer than `buf` has room for, but 0 only
-    /// where no byte is at the offset, or `buf` is empty. [`Failed`] where the call fails; `buf` may have changed then. A call that answers
-    /// 0 counts as failed too where `buf` has room and the source does not report its bytes.
+    /// Reads bytes from offset `at` on to the front of `buf`, and returns how many. They may be fewer than `buf` can hold, but 0 only if no
+    /// byte is at the offset, or `buf` is empty. [`Failed`] if the call fails; `buf` may have changed then. A call that returns 0 counts as
+    /// failed too, if `buf` is not empty and the source does not report its bytes.
     fn read_at(&mut self, at: u64, buf: &mut [u8]) -> Result<usize, Failed>
         ensures kept { content self.new ≡ content self.old }
         ensures failures { RemembersRead (content self.old) at (length buf.old) (failures self.old) (failures self.new) result }

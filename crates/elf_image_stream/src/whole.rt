@@ -43,8 +43,8 @@ fn read_more<S: Source>(
 
 /// Reads all of `buf` from offset `at` on.
 ///
-/// [`ReadFault`] where a call of the source fails, or gives no byte though the buffer has room: it has the offset that this call was asked
-/// for. Nothing is tried again.
+/// [`ReadFault`] if a call of the source fails, or returns no byte though the buffer is not full. It has the offset that this call was
+/// asked for. Nothing is tried again.
 pub fn read_exactly<S: Source>(source: &mut S, at: u64, buf: &mut [u8]) -> Result<(), ReadFault>
     requires { at + length buf.old < 2 ^ 64 }
     ensures kept { S.content source.new ≡ S.content source.old }

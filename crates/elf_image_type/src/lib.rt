@@ -1,7 +1,7 @@
 //! An ELF-64 file as a value (System V ABI, generic part, chapters 4 and 5): from its bytes to the bytes on any writer.
 //!
-//! [`parse`] judges a file's bytes and makes an [`Image`], whose accessors report the file's records, names, contents and parts and whose
-//! edits keep it one, and [`write`] writes it. The entry of a file that some reader gives is set so, with `read_to_end` of
+//! [`parse`] validates a file's bytes and makes an [`Image`]. Its accessors return the file's records, names, contents and parts, and its
+//! edits keep it an image. [`write`] writes it. This sets the entry of a file that a reader gives, with `read_to_end` of
 //! `elf_image_stream`:
 //!
 //! ```

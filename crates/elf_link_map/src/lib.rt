@@ -1,7 +1,7 @@
 //! The link of relocatable ELF-64 objects (gABI chapter 4; placement is this project's profile): which sections are kept, what each name is
 //! bound to, and where everything is.
 //!
-//! [`map`] answers the [`LinkMap`] of some objects, or the first rule ([`rules`]) of the link that is broken.
+//! [`map`] returns the [`LinkMap`] of some objects, or the first rule ([`rules`]) of the link that is broken.
 //!
 //! ```
 //! let options = Options {
@@ -10,7 +10,7 @@
 //!     entry: Some(b"main"),
 //! };
 //! let link = map(alloc, &objects, &options, hasher)?;
-//! // Where section 0 of file 1 stands, and what `main` is bound to.
+//! // Where section 0 of file 1 is, and what `main` is bound to.
 //! assert_eq!(rt; link.address(1, 0), Some(0x1006));
 //! assert_eq!(rt; link.binding(b"main"), Some(Binding::Strong { file: 0, symbol: 0 }));
 //! ```

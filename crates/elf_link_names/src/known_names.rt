@@ -258,7 +258,7 @@ fn pass_file<'a>(
     Ok(row)
 }
 
-/// How many symbols the files have, for room: no more names are known. It stops at the largest number.
+/// How many symbols the files have, as a capacity: no more names are known. It stops at the largest number.
 fn all_symbol_count(inputs: &Inputs<'_, '_>) -> usize {
     let mut count: usize = 0;
     for file in 0..inputs.file_count() {

@@ -48,7 +48,7 @@ impl<'a> Model for NameIndex<'a> {
 }
 
 impl<'a> NameIndex<'a> {
-    /// No names, with room for so many. The error comes only where an allocation fails.
+    /// No names, with capacity for so many. The error comes only if an allocation fails.
     #[tactic(auto, unfolding(crate::specs::Slots::name_position))]
     pub fn new(alloc: Global, room: usize) -> Result<NameIndex<'a>, AllocError>
         ensures { IfOk result (λ positions. (q : List ℕ) → name_position positions q ≡ None) }

@@ -1,12 +1,12 @@
 //! The relocated bytes of a link of ELF-64 objects (gABI chapter 4, Relocation): the number of each applied relocation in its
 //! field, by relocation rules.
 //!
-//! [`relocate`] answers the bytes of each live section ([`Linked`]), or the first of rules 12 to 16 ([`rules`]) that is broken.
+//! [`relocate`] returns the bytes of each live section ([`Linked`]), or the first of rules 12 to 16 ([`rules`]) that is broken.
 //!
 //! ```
 //! let link = map(alloc, &objects, &options, hasher)?;
 //! let linked = relocate(alloc, &link, &objects, &rules)?;
-//! // A call in section 0 of file 0, whose target begins one byte behind it.
+//! // A call in section 0 of file 0, whose target begins one byte after it.
 //! let code = [0xe8, 1, 0, 0, 0, 0xc3];
 //! assert_eq!(rt; linked.bytes(0, 0), Some(code.as_slice()));
 //! ```

@@ -1,7 +1,7 @@
 //! The file that represents an object: [`write_object`] writes it, and its contract says that what is written is accepted and read back as
 //! the object.
 //!
-//! The laws behind it are contracts of functions that do nothing: [`one_layout`] and [`laid_objects`] speak of layouts, [`written_object`]
+//! The laws for this are contracts of functions that do nothing: [`one_layout`] and [`laid_objects`] speak of layouts, [`written_object`]
 //! of what an object is written as and what that denotes, [`denoted_object`] and [`sound_object`] of the object that a file denotes.
 #![tactic(auto)]
 

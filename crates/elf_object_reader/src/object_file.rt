@@ -10,7 +10,7 @@ use crate::left_out::LeftOut;
 use elf_image_type::Image;
 use elf_table_all::Tables;
 
-/// The image of an object file, with the sections that the object leaves out, and its tables, each of which is judged.
+/// The image of an object file, with the sections that the object leaves out, and its tables, each of which is validated.
 #[derive(Drop)]
 pub(crate) struct ObjectFile<'i, 'a> {
     /// The image.

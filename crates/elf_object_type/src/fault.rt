@@ -14,7 +14,7 @@ pub enum ObjectFault {
     /// The symbol at this position breaks the rule of this number, 7 to 9.
     #[error("rule {rule} ({name}) at symbol {position}", name = rule_name(*.rule))]
     Symbol { rule: u16, position: usize },
-    /// An allocation failed, while groups were judged.
+    /// An allocation failed while groups were tested.
     #[error("out of memory")]
     OutOfMemory,
 }

@@ -3,7 +3,7 @@ use crate::section::Section;
 use crate::symbol::Symbol;
 use elf_field::Order;
 
-/// All that an object holds, not yet judged: [`Object::new`](crate::Object::new) makes it one.
+/// All that an object holds, not yet validated: [`Object::new`](crate::Object::new) makes an object of it.
 #[derive(Debug, PartialEq, Eq, Drop)]
 pub struct ObjectParts<'a> {
     /// The byte order of the file.

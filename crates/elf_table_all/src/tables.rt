@@ -1,4 +1,4 @@
-//! The tables of an image, each judged once (gABI chapter 4, Sections: sh_type).
+//! The tables of an image, each validated once (gABI chapter 4, Sections: sh_type).
 ghost use Rattle.std.specs.Prelude.{◌≡◌, ◌<◌, None, IfOk, get_or, length};
 ghost use Rattle.elf_image_rules.specs.Broken.{fault_of};
 ghost use Rattle.elf_image_rules.specs.Rows.{FirstIn};
@@ -27,8 +27,8 @@ use elf_table_symbols::{Symbols, Verdicts, sound_symbols};
 use std::alloc::{AllocError, Global};
 use std::marker::Model;
 
-/// The tables of an image, with the verdict on each. Every symbol table is judged once, however many other tables link to it, and
-/// the index tables are found in one pass over the section headers. A string table is judged with the table that links to it, or
+/// The tables of an image, with the verdict on each. Every symbol table is validated once, however many other tables link to it, and
+/// the index tables are found in one pass over the section headers. A string table is validated with the table that links to it, or
 /// by [`Strings::new`](crate::Strings::new).
 #[derive(Drop)]
 pub struct Tables<'i, 'a> {
@@ -50,8 +50,9 @@ impl<'i, 'a> Model for Tables<'i, 'a> {
 }
 
 impl<'i, 'a> Tables<'i, 'a> {
-    /// Those of this image, all of them judged. The error comes only if an allocation fails. They keep an entry for each table that breaks
-    /// a rule, and one for each symbol table that has an index table; a section group or a hash table can take memory while it is judged.
+    /// Those of this image, all of them validated. The error comes only if an allocation fails. They keep an entry for each table that
+    /// breaks a rule, and one for each symbol table that has an index table. A section group or a hash table can take memory while it is
+    /// tested.
     pub fn new(alloc: Global, image: &'i Image<'a>) -> Result<Tables<'i, 'a>, AllocError>
         ensures image { IfOk result (λ tables. tables.image ≡ image.entry.now) }
         ensures verdicts { IfOk result (λ tables. AreVerdicts (sections_of image.entry.now) (length image.entry.now.sections) tables.verdicts) }

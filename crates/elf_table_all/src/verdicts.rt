@@ -1,4 +1,4 @@
-//! The verdicts on the tables of an image: each symbol table is judged once, and its verdict serves every table that links to it.
+//! The verdicts on the tables of an image: each symbol table is validated once, and its verdict serves every table that links to it.
 ghost use Rattle.std.specs.Prelude.{◌≡◌, ◌<◌, Some, IfOk, length};
 ghost use Rattle.elf_image_rules.specs.Broken.{fault_of};
 ghost use Rattle.elf_image_rules.specs.Rows.{FirstIn};
@@ -95,7 +95,7 @@ fn table_verdict(
     }
 }
 
-// A judgement as a verdict; out of memory aside.
+// What a test of a table returned, as a verdict; out of memory aside.
 fn verdict_of(judged: Result<(), Fault>) -> Result<Result<(), Broken<u64>>, AllocError>
     requires { IsUnread judged }
     ensures { IfOk result (IsVerdictOf judged) }

@@ -40,7 +40,7 @@ impl<'a> Model for Hash<'a> {
 
 impl<'a> Hash<'a> {
     /// The hash table that section `i` holds, where `i` is below the image's count of section headers. It takes memory for
-    /// each symbol while it judges the chains.
+    /// each symbol while it tests the chains.
     ///
     /// [`Fault::Rule`] is the first rule that is broken, at its lowest offset: 40, 42, 43, 44, then all rules of the symbol table that the
     /// section links to, then 65 to 69. [`Fault::OutOfMemory`] comes only where an allocation fails, and no rule from 40 to 67 is broken.

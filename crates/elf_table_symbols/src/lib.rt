@@ -1,9 +1,9 @@
 //! The symbol tables of an ELF-64 image, with the string tables and index tables that belong to them, and what all kinds of tables share
-//! (gABI chapter 4): the numbers of their rules ([`rules`]), their [kinds](TableKind), and [`judge_own_rules`], which looks at what the
-//! section header of a table says of the table by itself, rules 40 and 42 to 44.
+//! (gABI chapter 4): the numbers of their rules ([`rules`]), their [kinds](TableKind), and [`judge_own_rules`], which tests rules 40 and 42
+//! to 44, those on the section header of a table by itself.
 //!
-//! A table is accepted exactly where it breaks none of its rules; else the first rule that it breaks is answered, at its lowest
-//! offset. The names of the symbols in section 3 are read so:
+//! A table is accepted exactly if it breaks none of its rules. Otherwise the first rule that it breaks is returned, with its lowest
+//! offset. This reads the names of the symbols in section 3:
 //!
 //! ```
 //! let image = parse(alloc, &bytes)?;

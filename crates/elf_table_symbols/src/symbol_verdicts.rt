@@ -17,7 +17,7 @@ use elf_image_rules::Broken;
 pub enum SymbolVerdicts<'a> {
     /// Those on the symbol table in each section.
     All(&'a Verdicts),
-    /// None: a symbol table is judged when its verdict is asked for.
+    /// None: a symbol table is validated when its verdict is asked for.
     Unknown,
 }
 

@@ -7,7 +7,7 @@
 //! let mut out = Vec::new(alloc);
 //! assert_eq!(rt; check(alloc, &mut header.as_slice(), &mut out), Ok(Verdict::Done));
 //! assert_eq!(rt; out.as_slice(), b"ok 64 0 0\n".as_slice());
-//! // A file that can't be opened ends the program with status 3, and its name stands on standard error.
+//! // A file that can't be opened ends the program with status 3, and its name is printed on standard error.
 //! assert_eq!(rt; unopened(OpenFault::Refused, "no-such-file", &mut err), Status::Failed);
 //! ```
 #![tactic(auto)]

@@ -59,7 +59,7 @@ fn rules_from<R: Read>(alloc: Global, input: &mut R) -> Result<Vec<RelocRule>, N
         },
         Err(Fault::Io { at }) => Err(NoRules::Unread { at }),
         Err(Fault::OutOfMemory) => Err(NoRules::OutOfMemory),
-        // No rule of files is judged while a file is read.
+        // No rule of files is tested while a file is read.
         Err(Fault::Rule { .. }) => unreachable!(),
     }
 }

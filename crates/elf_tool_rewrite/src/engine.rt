@@ -53,7 +53,7 @@ pub fn rewrite_bytes<W: Write>(
         Ok(image) => rewrite_image(alloc, &image, writer),
         Err(Fault::Rule { rule, at }) => Ok(refused(rule, at)),
         Err(Fault::OutOfMemory) => Err(ToolFault::OutOfMemory),
-        // No reader is called while bytes are judged.
+        // No reader is called while bytes are validated.
         Err(Fault::Io { .. }) => unreachable!(),
     }
 }

@@ -56,7 +56,7 @@ pub fn show_bytes<W: Write>(
 {
     match parse(alloc, bytes) {
         Ok(image) => {
-            // Judged before the first line goes out.
+            // Validated before the first line is written.
             let tables = Tables::new(alloc, &image)?;
             show_image(alloc, bytes, &image, &tables, writer)?;
             Ok(Verdict::Done)
@@ -66,7 +66,7 @@ pub fn show_bytes<W: Write>(
             Ok(Verdict::Refused(Refusal::File { file: 0, rule, at }))
         }
         Err(Fault::OutOfMemory) => Err(ToolFault::OutOfMemory),
-        // No reader is called while bytes are judged.
+        // No reader is called while bytes are validated.
         Err(Fault::Io { .. }) => unreachable!(),
     }
 }

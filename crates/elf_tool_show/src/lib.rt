@@ -1,5 +1,5 @@
-//! The engine [`show`] of `elfmap`, over any reader and any writer: it reads a whole file, judges it, and writes what it holds, in
-//! lines; and [`show_bytes`], which has the file's bytes. [`push_refused_tables`] has the lines of the tables that break a rule alone.
+//! The engine [`show`] of `elfmap`, over any reader and any writer: it reads a whole file, validates it, and writes what the file
+//! holds, in lines. [`show_bytes`] does this for bytes. [`push_refused_tables`] makes only the lines of the tables that break a rule.
 //!
 //! ```
 //! // A header alone is a file of 64 bytes without sections and segments.

@@ -30,7 +30,7 @@ pub fn push_refused_tables(
         }
         Err(Fault::Rule { rule, at }) => Ok(Verdict::Refused(Refusal::File { file: 0, rule, at })),
         Err(Fault::OutOfMemory) => Err(ToolFault::OutOfMemory),
-        // No reader is called while bytes are judged.
+        // No reader is called while bytes are validated.
         Err(Fault::Io { .. }) => unreachable!(),
     }
 }

@@ -26,7 +26,7 @@ pub fn read_input<R: Read>(reader: &mut R, buf: &mut Vec<u8>) -> Result<(), Tool
         Ok(()) => Ok(()),
         Err(Fault::Io { at }) => Err(ToolFault::Read { at }),
         Err(Fault::OutOfMemory) => Err(ToolFault::OutOfMemory),
-        // No rule is judged while the file is read.
+        // No rule is tested while the file is read.
         Err(Fault::Rule { .. }) => unreachable!(),
     }
 }

@@ -20,7 +20,7 @@ use crate::digits::{glyph, put_before, put_decimal, put_hexadecimal};
 use std::marker::Model;
 
 /// How many bytes it may have. The most that a line of `show` has before a name are the 205 of a section's line, and each line pays for
-/// the zeros of this room.
+/// these zeros.
 pub const LINE_ROOM: usize = 208;
 
 /// The most bytes of a number in decimal and the blank before it.

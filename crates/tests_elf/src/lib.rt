@@ -1,4 +1,4 @@
-//! What the library shows: each item of each public crate, named through `elf`, and the object without sections, made, written, judged
+//! What the library shows: each item of each public crate, named through `elf`, and the object without sections, made, written, validated
 //! and read by them.
 #![tactic(auto)]
 

@@ -1,4 +1,4 @@
-//! Images of the worked files: read, edited and written.
+//! Images of the hand-written files: read, edited and written.
 ghost use Rattle.std.specs.Prelude.{◌<◌};
 
 use crate::scans::are_parts;

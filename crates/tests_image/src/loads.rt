@@ -1,4 +1,4 @@
-//! The bytes that segments of worked files give their addresses.
+//! The bytes that segments of hand-written files give their addresses.
 use elf_field::Order;
 use elf_image_stream::Fault;
 use elf_image_type::{Image, parse};

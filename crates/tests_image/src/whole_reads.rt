@@ -101,7 +101,7 @@ fn a_failed_call_is_told(rt: HostRuntime) {
     assert_eq!(rt; answers, [Err(Failed), Ok(2)]);
 }
 
-// A read of no byte is a failure where there is room for one. Failures are counted modulo 2^64.
+// A read of no byte is a failure if the buffer is not empty. Failures are counted modulo 2^64.
 #[test]
 fn failures_are_counted(rt: HostRuntime) {
     let one = Failures { count: 1, last: 9 };

@@ -3,7 +3,7 @@ use std::io;
 use std::io::{ErrorKind, Write};
 
 /// Takes bytes, at most `piece` a call, and reports whether they are those that are to come. The call of number `failing`, counted from 1,
-/// fails, or takes no byte where `takes_none`, and so does every call where there is no room left.
+/// fails, or takes no byte where `takes_none`, and so does every call after it is full.
 #[derive(Drop)]
 pub struct ComparingWriter<'a> {
     rest: &'a [u8],

@@ -84,7 +84,7 @@ fn told(alloc: Global, file: &[u8]) -> Result<(bool, Option<&[u8]>), Fault> {
     Ok((has_one_member(&group), Some(symbols.entry(signature).name)))
 }
 
-/// Whether section 1 of the file is refused when all tables are judged.
+/// Whether section 1 of the file is rejected when all tables are validated.
 fn is_refused_with_the_other_tables(alloc: Global, file: &[u8]) -> Result<bool, Fault> {
     let image = parse(alloc, file)?;
     if image.section_count() < 2 {

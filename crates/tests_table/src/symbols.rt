@@ -145,7 +145,7 @@ fn told(alloc: Global, file: &[u8]) -> Result<[bool; 3], Fault> {
     are_of_the_call(&image)
 }
 
-/// Whether sections 0 and 3 of the file are kept when all tables are judged, None where they are not there.
+/// Whether sections 0 and 3 of the file are accepted when all tables are validated; None if they are not there.
 fn are_kept_with_the_other_tables(alloc: Global, file: &[u8]) -> Result<Option<[bool; 2]>, Fault> {
     let image = parse(alloc, file)?;
     if image.section_count() < 4 {

@@ -197,7 +197,7 @@ fn a_failed_read_is_told_with_its_place(rt: HostRuntime) {
     assert_read_fails(&rt, rt.alloc(), ErrorKind::Other);
 }
 
-/// The check of a header, onto an output that fails so where its room ends, which is too small.
+/// The check of a header, onto an output that is too small and fails in this way when it is full.
 fn assert_write_fails(rt: &impl Abort, alloc: Global, room: usize, failure: Option<ErrorKind>)
     requires { room < 10 }
 {
@@ -274,7 +274,7 @@ part 0x40 0x38 segments
 segment 0 1 0x5 0x0 0x1000 0x1000 0x78 0x78 0x1000
 ";
 
-/// `show` of the file, onto an output whose room is too small.
+/// `show` of the file, onto an output that is too small.
 fn assert_show_fails(rt: &impl Abort, alloc: Global, mut file: &[u8], room: usize) {
     let mut writer = LimitedWriter::new(room, Some(ErrorKind::Other));
     let answer = show(alloc, &mut file, &mut writer);
