@@ -11,19 +11,19 @@ use std::io::Write;
 
 /// Writes the executable of relocated bytes (gABI chapters 4 and 5): the header, the program header table, and the bytes of each segment
 /// with bits at the least place that is a multiple of the page; with zeros between. Each output section that takes memory is a segment of
-/// type `PT_LOAD`, and the commons are one; in memory the segments are the memory of the link, and nothing else is.
+/// type `PT_LOAD`, and the commons are one. In memory the segments are the memory of the link, and nothing else.
 ///
-/// What is written breaks no rule of images; it enters at the map's entry, and its loadable segments give an address a byte exactly where
-/// the memory of the link has that byte there. No other list of bytes is the executable of this link. Relocated bytes that `relocate`
-/// answered are ready to be written where the map is one that `map` answered.
+/// What is written breaks no rule of images. Its entry is the map's entry, and its loadable segments give an address a byte exactly if the
+/// memory of the link has that byte there. No other list of bytes is the executable of this link. If `map` returned the map and `relocate`
+/// the relocated bytes, the condition holds.
 ///
-/// [`ExecFault::TooLong`] comes exactly where there are 0xffff segments or more, or the file is longer than the longest one, 2^30 bytes;
-/// [`ExecFault::OutOfMemory`] only where an allocation fails; both before the first byte is out. Any error of the writer, an interruption
-/// too, is [`ExecFault::Io`], and so is a write that takes 0 bytes of a rest that is not empty. Nothing is tried again and nothing is
-/// flushed.
+/// [`ExecFault::TooLong`] comes exactly if there are 0xffff segments or more, or the file would be longer than 2^30 bytes.
+/// [`ExecFault::OutOfMemory`] comes only if an allocation fails. Both come before the first byte is written. Any error of the writer, an
+/// interruption too, is [`ExecFault::Io`], and so is a write that takes 0 bytes of a rest that is not empty. Nothing is tried again and
+/// nothing is flushed.
 ///
-/// Memory is taken for the segments, their places and the list of the parts alone. Relocated bytes are offered as they are, and zeros and
-/// program headers are made as they go out. Linear in the bytes that go out, the members and the outputs.
+/// Memory is taken for the segments, their places and the list of the parts alone. Relocated bytes are passed on as they are. Zeros and
+/// program headers are made as they are written. Linear in the bytes that are written, the members and the outputs.
 pub fn write_exec<W: Write>(
     alloc: Global,
     linked: &Linked<'_, '_>,

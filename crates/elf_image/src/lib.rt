@@ -1,10 +1,12 @@
 //! An ELF-64 file as a value (System V ABI, generic part, chapters 4 and 5): from the bytes of any reader to the bytes on any writer.
 //!
-//! [`read_to_end`] takes the bytes, and [`resume`] goes on where an allocation failed; [`verdict`] answers the first rule ([`rules`]) that
-//! they break, at its lowest offset in the file; [`parse`] makes an [`Image`] of bytes that break none, whose accessors report the records,
-//! names, contents and parts and whose edits keep it an image; and [`write`] writes it. [`scan`] answers the same of a [`Source`] that is
-//! read at any place, and keeps an [`Outline`]: the records and parts, without the contents, by which [`copy_image`] writes the file with
-//! the edits of the outline. A source of your own keeps its [`Failures`]. The entry of a file that some reader gives is set so:
+//! [`read_to_end`] reads the bytes, and [`resume`] goes on after an allocation that failed. [`verdict`] returns the first rule ([`rules`])
+//! that they break, with its lowest offset in the file. [`parse`] makes an [`Image`] of bytes that break no rule. Its accessors return the
+//! records, names, contents and parts, and its edits keep it an image. [`write`] writes it.
+//!
+//! [`scan`] reads a [`Source`], which can be read at any offset, and makes an [`Outline`]: the records and parts without the contents.
+//! [`copy_image`] writes the file with the edits of the outline. A source of your own keeps its [`Failures`]. This sets the entry of a file
+//! that a reader gives:
 //!
 //! ```
 //! let mut bytes = Vec::new(alloc);

@@ -5,7 +5,7 @@ ghost use Rattle.elf_image_outline.specs.Copying.{bytes_out, later};
 use elf_image_stream::{ReadFault, WriteFault};
 use thiserror::Error;
 
-/// Why an image was not copied whole. Exactly its first `written` bytes are out.
+/// Why an image was not copied whole. Exactly its first `written` bytes were written.
 #[derive(Clone, Copy, Debug, PartialEq, Eq, Error)]
 pub enum CopyFault {
     /// A call of the source failed that was asked for this offset in the file, or gave no byte where more were to come.
@@ -16,7 +16,7 @@ pub enum CopyFault {
     Write { written: u64 },
 }
 
-// No byte is out of those that were to be read.
+// No byte of those that were to be read is written.
 impl From<ReadFault> for CopyFault {
     ghost use Rattle.elf_image_outline.specs.declared.copy_fault.CopyFault.TheVariants.{Read};
 

@@ -41,15 +41,15 @@ fn copy_part<S: Source, W: Write>(
     }
 }
 
-/// Writes the bytes that represent the image of the outline with the contents and gaps that its source has: exactly these, or exactly their
-/// first `written` and a fault (gABI chapters 4 and 5).
+/// Writes the bytes that represent the image of the outline with the contents and gaps of its source (gABI chapters 4 and 5). It writes
+/// exactly these, or exactly their first `written` and returns a fault.
 ///
-/// The outline is of the source's bytes, as [`scan`](elf_image_outline::scan) read it or edited since. The records are the outline's and
-/// are not read again; contents are read, and gaps too unless they count as zeros, at most 4,096 bytes a call. A source that gives other
-/// bytes than before gives them to the writer: where it doesn't report its bytes, the count of what was written is all that holds.
+/// The outline is of the source's bytes, as [`scan`](elf_image_outline::scan) read it or edited since. The records are the outline's, and
+/// are not read again. Contents are read, and gaps too unless they count as zeros, at most 4,096 bytes a call. If the source gives other
+/// bytes than before, these are written: for a source that does not report its bytes, only the count of what was written holds.
 ///
-/// [`CopyFault::Read`]: a call of the source failed, or gave no byte where the outline says that there is one; `at` is the offset that it
-/// was asked for. After such a call nothing else is answered. [`CopyFault::Write`]: a call of the writer failed, an interruption too, or
+/// [`CopyFault::Read`]: a call of the source failed, or gave no byte though the outline says that there is one; `at` is the offset that it
+/// was asked for. After such a call nothing else is returned. [`CopyFault::Write`]: a call of the writer failed, an interruption too, or
 /// took 0 bytes of a rest that is not empty. Nothing is tried again, nothing is flushed, and no memory is taken. Linear in the length of
 /// the file.
 pub fn copy_image<S: Source, W: Write>(

@@ -17,11 +17,10 @@ use std::alloc::Global;
 /// The records and the parts of an ELF-64 file that breaks no rule, read of a source: the header, the two tables and the ends of the
 /// section name string table are read, and no other byte.
 ///
-/// [`Fault::Rule`] is the first of rules 1 to 33 that the bytes break, at the lowest offset where they break it. [`Fault::Io`] is the
-/// offset that a call was asked for which failed (0 for a failed `length`), or which gave no byte where the length says that there is one.
-/// After such a call nothing else is answered. [`Fault::OutOfMemory`] comes only where an allocation fails; memory is asked for from rule
-/// 22 on: for the two tables, and a list of the extents of the file. Sorting these takes n log n comparisons; all else is linear in the
-/// records.
+/// [`Fault::Rule`] is the first of rules 1 to 33 that the bytes break, with the lowest offset where they break it. [`Fault::Io`] has the
+/// offset of a call that failed (0 for a failed `length`), or that gave no byte though the length says that there is one. After such a call
+/// nothing else is returned. [`Fault::OutOfMemory`] comes only if an allocation fails. Memory is taken from rule 22 on, for the two tables
+/// and a list of the extents of the file. Sorting these takes n log n comparisons; all else is linear in the records.
 pub fn scan<S: Source>(alloc: Global, source: &mut S) -> Result<Outline, Fault>
     ensures kept { S.content source.new ≡ S.content source.old }
     ensures failures { Remembers (scan_failure result) (S.failures source.old) (S.failures source.new) }

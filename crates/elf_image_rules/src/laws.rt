@@ -12,7 +12,7 @@ ghost use Rattle.elf_image_rules.specs.Rows.{FirstIn};
 ghost use Rattle.elf_image_rules.specs.Tables.{name_table, program_header_count, section_header_count};
 
 /// A file has one fault or none, and so have a header, entries and names by themselves: no other
-/// rule and offset meets the definition, and it can't be that no answer does.
+/// rule and offset meets the definition, and it cannot be that no answer does.
 pub fn one_fault()
     ensures file { (b : List ℕ) (x y : Option (ℕ × ℕ)) → IsFault b x → IsFault b y → x ≡ y }
     ensures tables { (len : ℕ) (h : Ehdr) (s : ℕ → Shdr) (g : ℕ → Phdr) (names : List ℕ) (x y : Option (ℕ × ℕ)) →

@@ -40,7 +40,7 @@ impl SectionRule {
         }
     }
 
-    /// The offset in the section header of the field that the rule answers.
+    /// The offset in the section header of the field at which the rule is broken.
     pub fn field(self) -> u64
         ensures value { result ≡ section_field self }
         ensures inside { result < SHDR_SIZE }

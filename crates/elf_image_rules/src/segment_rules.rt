@@ -45,7 +45,7 @@ impl SegmentRule {
         }
     }
 
-    /// The offset in the program header of the field that the rule answers.
+    /// The offset in the program header of the field at which the rule is broken.
     pub fn field(self) -> u64
         ensures value { result ≡ segment_field self }
         ensures inside { result < PHDR_SIZE }

@@ -39,7 +39,7 @@ pub fn unclosed_at(table: &[u8], start: u64) -> Option<u64>
     unclosed_end(ends_of(table), start)
 }
 
-/// What [`unclosed_at`] answers of a table that isn't at hand, by its length and ends.
+/// What [`unclosed_at`] returns of a table that isn't at hand, by its length and ends.
 pub(crate) fn unclosed_end(ends: TableEnds, start: u64) -> Option<u64>
     requires { 0 < ends.len → start + ends.len < 2 ^ 64 }
     ensures { (table : List ℕ) → AreEnds ends table → IsLowest (UnclosedAt table start) result }

@@ -7,10 +7,10 @@ use crate::fault::WriteFault;
 use crate::output::write_whole;
 use std::io::Write;
 
-/// Sends these bytes after `out` others, and returns how many are out then: [`u64::MAX`] where there are more.
+/// Sends these bytes after `out` others, and returns how many are written then: [`u64::MAX`] if there are more.
 ///
-/// [`WriteFault`] where a call of the writer fails, an interruption too, or takes 0 bytes of a rest that is not empty. It has the count
-/// of all bytes that are out, in the same way.
+/// [`WriteFault`] if a call of the writer fails, an interruption too, or takes 0 bytes of a rest that is not empty. It has the count
+/// of all bytes that are written, in the same way.
 pub fn send<W: Write>(writer: &mut W, out: u64, bytes: &[u8]) -> Result<u64, WriteFault>
     ensures { Sends (W.contents writer.old) (W.contents writer.new) out bytes.now result }
 {
@@ -43,8 +43,8 @@ pub trait Chunks {
         ensures { Sends (W.contents writer.old) (W.contents writer.new) out (chunk self.now j) result };
 }
 
-/// Sends them all, one after the other. Where one meets a fault, that is the answer, with the count of all bytes that are out, and none
-/// after it is sent.
+/// Sends them all, one after the other. The first fault is returned, with the count of all bytes that are written, and no chunk after it is
+/// sent.
 pub fn send_all<P: Chunks, W: Write>(
     writer: &mut W,
     out: u64,

@@ -1,4 +1,4 @@
-//! Tables of records onto a writer, their entries made as they go out (gABI chapter 4: Symbol Table, Relocation, Section
+//! Tables of records onto a writer, their entries made as they are written (gABI chapter 4: Symbol Table, Relocation, Section
 //! Groups, Sections).
 ghost use Rattle.std.specs.Prelude.{◌≡◌, ◌<◌, ◌≤◌, ◌+◌, ◌*◌, ◌^◌, drop, get_or, length, take};
 ghost use Rattle.std.specs.List.{flat_map};

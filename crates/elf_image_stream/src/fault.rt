@@ -67,7 +67,7 @@ impl From<OutOfMemory> for Fault {
 #[derive(Clone, Copy, Debug, PartialEq, Eq, Error)]
 #[error("write failed after {written}")]
 pub struct WriteFault {
-    /// How many bytes are out: exactly the first ones of those that were to be written.
+    /// How many bytes are written: exactly the first ones of those that were to be written.
     pub written: u64,
 }
 

@@ -1,14 +1,14 @@
 //! The bytes of a file in and out. It knows nothing of images.
 //!
-//! **In**: [`read_to_end`] takes all bytes of a reader, however its reads are cut, and [`resume`] goes on where it stopped. Bytes that are
-//! read at any place, as those of a file on a disk, are a [`Source`]: it answers one read at an offset, and remembers its [`Failures`];
-//! [`Bytes`] is one over memory, [`Seeking`] one over a file that can seek. [`read_exactly`] fills a buffer from it, and [`read_record`],
-//! [`read_records`] and [`read_ends`] build on that.
+//! **In**: [`read_to_end`] takes all bytes of a reader, however its reads are cut, and [`resume`] goes on where it stopped. Bytes that can
+//! be read at any offset, as those of a file on a disk, are a [`Source`]. A call reads at one offset, and the source remembers its
+//! [`Failures`]. [`Bytes`] is one over memory, [`Seeking`] one over a file that can seek. [`read_exactly`] fills a buffer from it, and
+//! [`read_record`], [`read_records`] and [`read_ends`] build on that.
 //!
-//! **Out**: [`write_whole`] writes bytes, [`output`] records and zeros too, and [`entries`] tables whose entries are made as they go out,
-//! with the count of the bytes that are out. A text that goes out chunk by chunk without memory is sent: each call is reported how many
-//! bytes are out, and returns how many are then. [`send`] sends bytes, [`send_zeros`] zeros without a list of them, and [`send_all`] the
-//! texts of a [`Chunks`], which are made as they go out.
+//! **Out**: [`write_whole`] writes bytes, [`output`] writes records and zeros too, and [`entries`] writes tables whose entries are made as
+//! they are written. Each counts the bytes that are written. A text that is written chunk by chunk, without memory, is *sent*: a call takes
+//! how many bytes are written, and returns how many are written after it. [`send`] sends bytes, [`send_zeros`] zeros without a list of
+//! them, and [`send_all`] the texts of a [`Chunks`], which are made as they are sent.
 //!
 //! [`Fault`], [`ReadFault`] and [`WriteFault`] say what can stop them.
 #![tactic(auto)]

@@ -1,4 +1,4 @@
-//! Bytes, records and zeros onto a writer, with the count of the bytes that are out.
+//! Bytes, records and zeros onto a writer, with the count of the bytes that are written.
 //!
 //! Any error of the writer, an interruption too, is a [`WriteFault`], and so is a write that takes 0
 //! bytes of a rest that is not empty. Nothing is tried again, nothing is flushed, and no memory is

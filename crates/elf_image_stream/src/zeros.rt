@@ -6,7 +6,7 @@ use crate::fault::WriteFault;
 use crate::output::write_zeros;
 use std::io::Write;
 
-/// Sends so many zeros after `out` bytes, a block at a time, and returns how many bytes are out then. It counts and fails as
+/// Sends so many zeros after `out` bytes, a block at a time, and returns how many bytes are written then. It counts and fails as
 /// [`send`](crate::send) does.
 pub fn send_zeros<W: Write>(writer: &mut W, out: u64, count: u64) -> Result<u64, WriteFault>
     ensures { Sends (W.contents writer.old) (W.contents writer.new) out (replicate count 0) result }

@@ -1,7 +1,7 @@
 //! The link of relocatable ELF-64 objects (gABI chapter 4; placement is this project's profile).
 //!
-//! [`map`] answers the [`LinkMap`] of some objects: which sections are kept, what each name is bound to, and the address of each section;
-//! or the first of the [`rules`] of the link that is broken. [`relocate`] puts the number of each relocation into its field.
+//! [`map`] returns the [`LinkMap`] of some objects: which sections are kept, what each name is bound to, and the address of each section.
+//! If a rule of the link is broken, it returns the first one ([`rules`]). [`relocate`] puts the number of each relocation into its field.
 //!
 //! ```
 //! let options = Options {

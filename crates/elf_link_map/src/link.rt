@@ -40,7 +40,7 @@ fn placed<'l, 'a, S: BuildHasher + Drop>(
     Addressed::new(alloc, plan, options.base, target)
 }
 
-/// The link map of these objects, as [`map`] answers it, with the number of the name of each symbol, which its making takes anyway.
+/// The link map of these objects, as [`map`] returns it, with the number of the name of each symbol, which its making takes anyway.
 ///
 /// Returns what `map` does where one of the link's rules is broken, or an allocation fails.
 pub fn map_numbered<'a, S: BuildHasher + Drop>(

@@ -54,10 +54,9 @@ fn file_numbers(
     Ok(row)
 }
 
-/// For each symbol of each file that is not local where its name is among [`LinkMap::names`]; 0 for a local one. The map is one of these
-/// objects, whatever its base, page and entry are. It takes log n comparisons of names a symbol;
-/// [`map_numbered`](crate::map_numbered) answers the numbers without. The error comes where an allocation fails, and the map is as it was
-/// in any case.
+/// For each symbol of each file the position of its name among [`LinkMap::names`]; 0 for a local symbol. The map is one of these objects,
+/// whatever its base, page and entry are. It takes log n comparisons of names for each symbol; [`map_numbered`](crate::map_numbered)
+/// returns the numbers without them. The error comes if an allocation fails. The map is never changed.
 #[tactic(auto, unfolding(crate::specs::BindingNumbers::AreBindingNumbers))]
 pub fn name_numbers(
     alloc: Global,

@@ -17,10 +17,8 @@ use elf_link_map::{LinkFault, LinkMap, name_numbers, prove_objects};
 use elf_object_type::Object;
 use std::alloc::Global;
 
-/// The relocated bytes of these objects, as [`relocate`] answers them, by the numbers of the names that `map_numbered` of `elf_link_map`
-/// answers beside the map.
-///
-/// Returns what [`relocate`] answers. Memory is asked for as there, but for the numbers.
+/// The relocated bytes of these objects, as [`relocate`] returns them, by the numbers of the names that `map_numbered` of `elf_link_map`
+/// returns beside the map. It takes the memory of [`relocate`], but for the numbers.
 pub fn relocate_numbered<'m, 'a>(
     alloc: Global,
     map: &'m LinkMap<'a>,
@@ -54,9 +52,9 @@ pub fn relocate_numbered<'m, 'a>(
 /// The relocated bytes of these objects, whose link map it is: the number of each applied relocation in its field, by the first
 /// relocation rule of its kind.
 ///
-/// Its condition is kept by a map that [`map`](elf_link_map::map) answered of these objects: `match map(..) { Ok(link) => .. }`. It asks
-/// nothing of the map's base, page and entry, nor that there is an entry symbol. Of a map that `map` answered the relocated bytes are ready
-/// to be written by `write_exec` of `elf_exec`.
+/// Its condition holds for a map that [`map`](elf_link_map::map) returned for these objects: `match map(..) { Ok(link) => .. }`. It asks
+/// nothing of the map's base, page and entry, nor that there is an entry symbol. If `map` returned the map, `write_exec` of `elf_exec` can
+/// write the relocated bytes.
 ///
 /// [`LinkFault::Rule`] is the first of rules 12 to 16 ([`rules`](crate::rules)) that is broken, at its first entry by file, section and
 /// position. [`LinkFault::OutOfMemory`] comes only where an allocation fails: a number for each symbol, a field for each applied entry, a

@@ -6,7 +6,7 @@ ghost use Rattle.elf_object_reader.specs.FileRules.{file_rules};
 ghost use Rattle.elf_image_rules.specs.Rows.{FirstIn};
 ghost use Rattle.elf_table_symbols.specs.Sections.{Sections};
 
-/// A file that is read as an object has one fault or none: no other rule and offset meets the definition, and it can't be that no answer
+/// A file that is read as an object has one fault or none: no other rule and offset meets the definition, and it cannot be that no answer
 /// does.
 pub fn one_file_fault()
     ensures some { (f : Sections) → ((x : Option (ℕ × ℕ)) → FirstIn (file_rules f) x → ⊥) → ⊥ }

@@ -1,5 +1,5 @@
 //! A relocatable ELF-64 file read as an object (gABI chapter 4): [`object_of`] reads one from an [`Image`](elf_image_type::Image), or
-//! answers the first rule ([`rules`]) that the file breaks.
+//! returns the first rule ([`rules`]) that the file breaks.
 //!
 //! ```
 //! let image = parse(alloc, &bytes)?;

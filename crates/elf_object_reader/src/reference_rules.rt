@@ -33,7 +33,7 @@ impl ReferenceRule {
         }
     }
 
-    /// The offset in the section header of the field that the rule answers.
+    /// The offset in the section header of the field at which the rule is broken.
     fn field(self) -> u64
         ensures value { result ≡ reference_field self }
         ensures inside { result < SHDR_SIZE }

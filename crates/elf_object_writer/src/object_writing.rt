@@ -28,13 +28,13 @@ pub enum ObjectWriteFault {
 /// at the least place that its alignment allows, and the section header table; with zeros between. The sections are the object's own and
 /// after them `.symtab`, `.symtab_shndx` where a symbol needs it, `.strtab` and `.shstrtab`.
 ///
-/// [`ObjectWriteFault::TooLong`] comes exactly where the layout is longer than the longest file, 2^30 bytes, and
-/// [`ObjectWriteFault::OutOfMemory`] only where an allocation fails; both before the first byte is out. Any error of the writer, an
-/// interruption too, is [`ObjectWriteFault::Io`], and so is a write that takes 0 bytes of a rest that is not empty. Nothing is tried again
-/// and nothing is flushed.
+/// [`ObjectWriteFault::TooLong`] comes exactly if the layout would be longer than 2^30 bytes, and [`ObjectWriteFault::OutOfMemory`] only if
+/// an allocation fails. Both come before the first byte is written. Any error of the writer, an interruption too, is
+/// [`ObjectWriteFault::Io`], and so is a write that takes 0 bytes of a rest that is not empty. Nothing is tried again and nothing is
+/// flushed.
 ///
-/// Memory is taken for the string tables and the places of the parts alone. Contents are offered as they are in the object, and the entries
-/// of tables are made as they go out. It takes the time of [`lay_out`](crate::lay_out), and is linear in the bytes that go out.
+/// Memory is taken for the string tables and the places of the parts alone. Contents are passed on as they are in the object, and the
+/// entries of tables are made as they are written. It takes the time of [`lay_out`](crate::lay_out), and is linear in the bytes written.
 pub fn write_layout<W: Write>(
     alloc: Global,
     object: &Object<'_>,

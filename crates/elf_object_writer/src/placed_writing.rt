@@ -53,7 +53,7 @@ fn write_header<W: Write>(placed: &PlacedObject<'_, '_>, writer: &mut W) -> Resu
     write_records(writer, placed.object().order(), &[file_header(placed)])
 }
 
-/// The content of the section of this position, at its place, where so many bytes are out before it. The answer is where it ends.
+/// The content of the section of this position, at its place, where so many bytes are written before it. The answer is where it ends.
 fn write_part<W: Write>(
     placed: &PlacedObject<'_, '_>,
     position: usize,
@@ -94,7 +94,7 @@ impl<'p, 'o, 'a> LaidSection<'p, 'o, 'a> {
     }
 }
 
-/// The section header table at its place, where so many bytes are out before it.
+/// The section header table at its place, where so many bytes are written before it.
 fn write_table<W: Write>(
     placed: &PlacedObject<'_, '_>,
     out: u64,
@@ -152,7 +152,7 @@ fn write_headers<W: Write>(placed: &PlacedObject<'_, '_>, writer: &mut W) -> Res
     write_entries(writer, order, &SectionHeaders { placed })
 }
 
-/// How many bytes are out when so many more are sent after others; a fault counts all of them.
+/// How many bytes are written when so many more are sent after others; a fault counts all of them.
 fn behind(out: u64, size: u64, sent: Result<(), WriteFault>) -> Result<u64, WriteFault>
     requires fits { out + size < 2 ^ 64 }
     requires below { IfErr sent (λ fault. fault.written < size) }

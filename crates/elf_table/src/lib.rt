@@ -1,8 +1,8 @@
 //! The tables that an ELF-64 image holds: from an image and the index of a section, strings, symbols, relocations and section groups
 //! (gABI chapter 4), notes, dynamic arrays and hash tables (chapter 5).
 //!
-//! A table is accepted exactly where it breaks none of its rules ([`rules`]); else the first rule that it breaks is answered, at its
-//! lowest offset in the file. The names of the symbols in section 3 are read so:
+//! A table is accepted exactly if it breaks none of its rules ([`rules`]). Otherwise the first rule that it breaks is returned, with its
+//! lowest offset in the file. This reads the names of the symbols in section 3:
 //!
 //! ```
 //! let image = parse(alloc, &bytes)?;

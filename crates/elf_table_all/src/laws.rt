@@ -24,7 +24,7 @@ pub fn sections_of_bytes()
     ensures { (v : ImageValue) (b : List ℕ) → IsImage v b → sections_of v ≡ sections_in b }
 {}
 
-/// A table has one fault or none: no other rule and offset meets the definition, and it can't be that no answer does.
+/// A table has one fault or none: no other rule and offset meets the definition, and it cannot be that no answer does.
 pub fn one_table_fault()
     ensures strings { (f : Sections) (i : ℕ) (x y : Option (ℕ × ℕ)) → FirstIn (string_table_rules f i) x → FirstIn (string_table_rules f i) y → x ≡ y }
     ensures symbols { (f : Sections) (i : ℕ) (x y : Option (ℕ × ℕ)) → FirstIn (symbol_table_rules f i) x → FirstIn (symbol_table_rules f i) y → x ≡ y }

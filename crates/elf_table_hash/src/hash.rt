@@ -104,7 +104,7 @@ impl<'a> Hash<'a> {
         self.probe(name).0
     }
 
-    /// What [`find`](Hash::find) answers, and how many symbols of the chain were looked at: the position of the symbol found,
+    /// What [`find`](Hash::find) returns, and how many symbols of the chain were looked at: the position of the symbol found,
     /// counted from 1, or else the length of the chain. There are fewer of them than symbols. It takes no memory.
     pub fn probe(&self, name: &[u8]) -> (Option<u32>, u32)
         ensures found { IsProbed self.now name.now result.0 result.1 }

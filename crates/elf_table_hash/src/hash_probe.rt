@@ -7,7 +7,7 @@ use crate::hash_words::{HashWords, SymbolNames};
 use crate::name_hash::elf_hash;
 use elf_field::Order;
 
-/// What [`Hash::find`](crate::Hash::find) answers, of a hash table with this content, whose symbol table and string table have these: the
+/// What [`Hash::find`](crate::Hash::find) returns, of a hash table with this content, whose symbol table and string table have these: the
 /// first symbol of this name on the chain of the name's bucket. Of contents that break a rule it answers some symbol or none. It takes no
 /// memory, and no more steps than there are symbols.
 pub fn find_in(

@@ -55,7 +55,7 @@ impl SymbolRule {
         }
     }
 
-    /// The offset in the symbol of the field that the rule answers.
+    /// The offset in the symbol of the field at which the rule is broken.
     fn field(self) -> u64
         ensures value { result ≡ symbol_field self }
         ensures inside { result < SYM_SIZE }

@@ -80,7 +80,7 @@ pub fn unopened<E: Write>(fault: OpenFault, file: &str, err: &mut E) -> Status
     }
 }
 
-/// How it ends where an engine answered this.
+/// How it ends if an engine returned this.
 pub fn status_of<E: Write>(answer: Result<Verdict, ToolFault>, err: &mut E) -> Status
     ensures { result ≡ ending_of answer }
 {

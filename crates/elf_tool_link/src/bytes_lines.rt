@@ -1,4 +1,4 @@
-//! The lines of relocated bytes, as they go out.
+//! The lines of relocated bytes, as they are written.
 ghost use Rattle.std.specs.Prelude.{◌≡◌, ◌++◌, ◌∷◌, length};
 ghost use Rattle.elf_tool_text.specs.Line.{blank, bytes_text};
 ghost use Rattle.std.specs.List.{flat_map};

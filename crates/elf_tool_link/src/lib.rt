@@ -2,7 +2,7 @@
 //! writing a linked file, and writes where each part would be, and with relocation rules the bytes of each; [`map_files`] has the files'
 //! bytes. [`link`] reads each file whole, links them, and writes the executable; [`link_files`] has the files' bytes.
 //!
-//! What files are objects, and their link map, both ask `mapped_files`: it answers them, or what is refused, in an `Unlinked`.
+//! Both begin with `mapped_files`. It returns the objects with their link map, or what is refused, in an `Unlinked`.
 //!
 //! ```
 //! // `bytes` are those of an object file. A base that is no multiple of the page is the first of the link's rules.

@@ -1,4 +1,4 @@
-//! The lines of `map`: each function appends one to the text that is to go out.
+//! The lines of `map`: each function appends one to the text that will be written.
 ghost use Rattle.std.specs.Prelude.{◌≡◌, ◌++◌, ◌∷◌, OnOk};
 ghost use Rattle.elf_tool_text.specs.Line.{blank};
 ghost use Rattle.elf_tool_link.specs.MapLines.{binding_text, bits_text, common_line, discarded_line, file_refused_line, link_refused_line, member_line, name_line, output_line, refusal_line, value_text};

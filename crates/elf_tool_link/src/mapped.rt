@@ -58,7 +58,7 @@ impl From<LinkFault> for Unlinked {
 
 /// The objects that files of these bytes denote, in order, with their link map.
 ///
-/// [`Unlinked::Refused`] comes with the first file that is refused, as [`objects_of`] answers it; or else with the first of rules 1 to 11
+/// [`Unlinked::Refused`] comes with the first file that is refused, as [`objects_of`] returns it; or else with the first of rules 1 to 11
 /// of the link that is broken. Nothing else is refused, out of memory aside.
 pub fn mapped_files<'a>(
     alloc: Global,

@@ -20,15 +20,15 @@ use std::io::{Read, Write};
 /// Reads files whole, in order, links the objects that they denote, and writes the lines of their link map; with relocation rules the lines
 /// of the relocated bytes after them, `bytes FILE SECTION HEX`, in order of placement.
 ///
-/// A file that is refused, the first such one, is said by the line `file F refused R A` alone, with the first rule that it breaks, as an
-/// image or, with a number from 40 on, as an object, and its lowest offset; and files that do not link by the line `refused RULE FILE INDEX
-/// ENTRY` alone, with the first of the link's rules that is broken.
+/// If a file is refused, the only line is `file F refused R A` for the first such file: the first rule that it breaks, as an image or, with
+/// a number from 40 on, as an object, and its lowest offset. If the files do not link, the only line is `refused RULE FILE INDEX ENTRY`,
+/// with the first of the link's rules that is broken.
 ///
 /// The verdict is what the text says. Nothing was written after [`ToolFault::Read`], which carries how many bytes the reader that failed
-/// had given, and [`ToolFault::OutOfMemory`]; after [`ToolFault::Write`] exactly the first `written` bytes of the text are. All files are
-/// held in memory, their objects, the link map and its lines, and with relocation rules a copy of each live section with bits; the lines of
-/// the relocated bytes are made as they go out. The time is at most that of `object_of` for each file, of `map` and `relocate` of the
-/// library, and of the text.
+/// had given, and after [`ToolFault::OutOfMemory`]. After [`ToolFault::Write`] exactly the first `written` bytes of the text are written.
+/// Memory holds all files, their objects, the link map and its lines, and with relocation rules a copy of each live section with bits. The
+/// lines of the relocated bytes are made as they are written. The time is at most that of `object_of` for each file, of `map` and
+/// `relocate` of the library, and of the text.
 pub fn map<R: Read, W: Write>(
     alloc: Global,
     readers: &mut [R],

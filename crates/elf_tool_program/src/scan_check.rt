@@ -17,10 +17,10 @@ use std::io::Write;
 /// Reads the header, the two tables and the ends of the section name string table of a source, and no other byte, and writes the line that
 /// [`check`](elf_tool_check::check) writes on the whole file.
 ///
-/// The verdict is what the line says. Nothing was written after [`ToolFault::Read`] and after [`ToolFault::OutOfMemory`]; after
-/// [`ToolFault::Write`] exactly the first `written` bytes of the line are. [`ToolFault::Read`] has the offset that a call of the source was
-/// asked for which failed (0 for a failed `length`), or which gave no byte where the length says that there is one; after such a call
-/// nothing else is answered. Time and memory are those of [`scan`](elf_image_outline::scan), and a line.
+/// The verdict is what the line says. Nothing was written after [`ToolFault::Read`] and after [`ToolFault::OutOfMemory`]. After
+/// [`ToolFault::Write`] exactly the first `written` bytes of the line are written. [`ToolFault::Read`] has the offset of a call of the
+/// source that failed (0 for a failed `length`), or that gave no byte though the length says that there is one. After such a call nothing
+/// else is returned. Time and memory are those of [`scan`](elf_image_outline::scan), and a line.
 pub fn check_source<S: Source, W: Write>(
     alloc: Global,
     source: &mut S,

@@ -20,13 +20,13 @@ use std::alloc::{AllocError, Global};
 use std::io::{Read, Write};
 
 /// Reads a whole file and writes a line on its header, and one on each of its parts, its sections, its
-/// segments and the entries of its tables, in this order, with a line `refused I R A` in place of those of a
-/// table in section I that is refused; or the line `refused R A` with the first rule that it breaks and the
-/// lowest offset where it breaks it.
+/// segments and the entries of its tables, in this order. A table in section I that is refused has one
+/// line, `refused I R A`. A file that is refused has only the line `refused R A`, with the first rule that
+/// it breaks and the lowest offset where it breaks it.
 ///
-/// The verdict is what the text says. The text goes out in large pieces as it is made. Nothing was written after [`ToolFault::Read`]; after
-/// [`ToolFault::Write`] exactly the first `written` bytes of the text are; and after [`ToolFault::OutOfMemory`] a beginning of it may be.
-/// The file is held in memory, its records and parts, the verdicts on its tables, and a piece of the text; the time is at most that of
+/// The verdict is what the text says. The text is written in large pieces as it is made. Nothing was written after [`ToolFault::Read`].
+/// After [`ToolFault::Write`] exactly the first `written` bytes of the text are written; after [`ToolFault::OutOfMemory`] a beginning of it
+/// may be. Memory holds the file, its records and parts, the verdicts on its tables, and a piece of the text. The time is at most that of
 /// `parse`, of the `new` of each table, and of the text.
 pub fn show<R: Read, W: Write>(
     alloc: Global,
@@ -43,7 +43,7 @@ pub fn show<R: Read, W: Write>(
 
 /// Writes the same of a file whose bytes these are.
 ///
-/// The verdict is what the text says. After [`ToolFault::Write`] exactly the first `written` bytes of the text are out, and after
+/// The verdict is what the text says. After [`ToolFault::Write`] exactly the first `written` bytes of the text are written, and after
 /// [`ToolFault::OutOfMemory`] a beginning of it may be; there is no other fault. Beside the bytes are held the records and parts of the
 /// file, the verdicts on its tables, and a piece of the text; the time is at most that of `parse`, of the `new` of each table, and of
 /// the text.

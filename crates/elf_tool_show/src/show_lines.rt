@@ -1,5 +1,5 @@
-//! The lines of `show`: each function appends one to the text that is to go out. The numbers of a line are put together from the last one
-//! on, and are appended in one piece.
+//! The lines of `show`: each function appends one to the text that will be written. The numbers of a line are put together from the last
+//! one on, and appended in one piece.
 ghost use Rattle.std.specs.Prelude.{◌≡◌, ◌≤◌, ◌+◌, ◌++◌, OnOk, drop, length, take};
 ghost use Rattle.elf_tool_text.specs.Line.{further_words};
 ghost use Rattle.elf_tool_show.specs.ShowLines.{file_line, order_text, owner_words, part_line, section_line, segment_line};

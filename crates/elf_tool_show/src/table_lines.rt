@@ -1,5 +1,5 @@
-//! The lines of tables: each function appends one to the text that is to go out. The numbers of a symbol or a relocation, of which a file
-//! may have millions, are put together from the last one on, and are appended in one piece.
+//! The lines of tables: each function appends one to the text that will be written. A file may have millions of symbols or relocations, so
+//! the numbers of their lines are put together from the last one on, and appended in one piece.
 ghost use Rattle.std.specs.Prelude.{◌≡◌, ◌∷◌, ◌≤◌, ◌+◌, ◌++◌, OnOk, length, map};
 ghost use Rattle.std.specs.Fmt.{decimal};
 ghost use Rattle.elf_tool_text.specs.Line.{blank, bytes_text, further_words};

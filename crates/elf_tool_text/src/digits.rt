@@ -15,7 +15,7 @@ pub(crate) const WIDE_ROOM: usize = MOST_BEFORE + 64;
 /// The most bytes that are before the digits of a number: a blank and `0x`.
 const MOST_BEFORE: usize = 3;
 
-/// Puts the digits of a number before what starts at `end`, and answers where they start. It is inlined for the sake of the base, so that
+/// Puts the digits of a number before what starts at `end`, and returns where they start. It is inlined for the sake of the base, so that
 /// no division is left.
 #[inline(always)]
 fn put_digits(number: u64, base: u64, end: usize, out: &mut [u8]) -> usize
@@ -38,7 +38,7 @@ fn put_digits(number: u64, base: u64, end: usize, out: &mut [u8]) -> usize
     }
 }
 
-/// Puts a number in decimal before what starts at `end`, and answers where it starts.
+/// Puts a number in decimal before what starts at `end`, and returns where it starts.
 #[inline(always)]
 pub(crate) fn put_decimal(number: u64, end: usize, out: &mut [u8]) -> usize
     requires room { MOST_DECIMAL ≤ end }
@@ -50,7 +50,7 @@ pub(crate) fn put_decimal(number: u64, end: usize, out: &mut [u8]) -> usize
     put_digits(number, 10, end, out)
 }
 
-/// Puts a number in hexadecimal, in lower case, before what starts at `end`, and answers where it starts.
+/// Puts a number in hexadecimal, in lower case, before what starts at `end`, and returns where it starts.
 #[inline(always)]
 pub(crate) fn put_hexadecimal(number: u64, end: usize, out: &mut [u8]) -> usize
     requires room { MOST_HEXADECIMAL ≤ end }
@@ -62,7 +62,7 @@ pub(crate) fn put_hexadecimal(number: u64, end: usize, out: &mut [u8]) -> usize
     put_digits(number, 16, end, out)
 }
 
-/// Puts the hexadecimal digits of a number of up to 128 bits at the end of `out`, and answers where they start.
+/// Puts the hexadecimal digits of a number of up to 128 bits at the end of `out`, and returns where they start.
 pub(crate) fn put_wide_digits(number: u128, out: &mut [u8; WIDE_ROOM]) -> usize
     ensures room { MOST_BEFORE ≤ result }
     ensures inside { result ≤ WIDE_ROOM }
@@ -81,7 +81,7 @@ pub(crate) fn put_wide_digits(number: u128, out: &mut [u8; WIDE_ROOM]) -> usize
     start
 }
 
-/// Puts bytes before those that start at `end`, and answers where they start. It is inlined for the sake of their number.
+/// Puts bytes before those that start at `end`, and returns where they start. It is inlined for the sake of their number.
 #[inline(always)]
 pub(crate) fn put_before(bytes: &[u8], end: usize, out: &mut [u8]) -> usize
     requires room { length bytes.now ≤ end }

@@ -22,13 +22,13 @@ pub trait Lines {
     fn count(&self) -> usize
         ensures { result ≡ count self.now };
 
-    /// Appends line `j`, which has to be one of them, to the text that is to go out. Fails only when out of memory.
+    /// Appends line `j`, which has to be one of them, to the text that will be written. Fails only when out of memory.
     fn push(&self, alloc: Global, text: &mut Vec<u8>, j: usize) -> Result<(), AllocError>
         requires { j < count self.now }
         ensures { OnOk result (text.new.items ≡ text.old.items ++ line self.now j) };
 }
 
-/// Sends them all, in pieces. Fails where the writer does, with how many bytes of the whole text are out, or when out of memory.
+/// Sends them all, in pieces. Fails where the writer does, with how many bytes of the whole text are written, or when out of memory.
 pub fn show_lines<L: Lines, W: Write>(
     alloc: Global,
     lines: &L,

@@ -1,4 +1,4 @@
-//! A text that goes out in large pieces.
+//! A text that is written in large pieces.
 ghost use Rattle.std.specs.Prelude.{◌≡◌, ◌<◌, [], OnOk, length};
 ghost use Rattle.elf_tool_text.specs.Output.{IsBuffered};
 
@@ -7,15 +7,15 @@ use elf_image_stream::send;
 use std::alloc::Global;
 use std::io::Write;
 
-/// How many bytes at least go out at once, but for the last.
+/// How many bytes at least are written at once, but for the last piece.
 const PIECE: usize = 65536;
 
-/// The end of a text that is yet to go out, and how many bytes of the text went out before.
+/// The end of a text that is not yet written, and how many bytes of the text were written before.
 #[derive(Drop)]
 pub struct Output {
-    /// What is yet to go out.
+    /// What is not yet written.
     pub pending: Vec<u8>,
-    /// How many bytes are out: [`u64::MAX`] where they are more.
+    /// How many bytes are written: [`u64::MAX`] if they are more.
     pub written: u64,
 }
 
@@ -31,7 +31,7 @@ impl Output {
         }
     }
 
-    /// Lets what is pending go out where it is a large piece. Fails as [`flush`](Output::flush) does.
+    /// Writes what is pending if it is a large piece. Fails as [`flush`](Output::flush) does.
     pub fn flush_piece<W: Write>(&mut self, writer: &mut W) -> Result<(), ToolFault>
         ensures buffered { IsBuffered (W.contents writer.old) (W.contents writer.new) self.old self.new [] result }
         ensures short { OnOk result (length self.new.pending.items < PIECE) }
@@ -42,8 +42,8 @@ impl Output {
         self.flush(writer)
     }
 
-    /// Lets all that is pending go out. Where the writer fails, [`ToolFault::Write`] has the count of all bytes that are out:
-    /// [`u64::MAX`] where they are more.
+    /// Writes all that is pending. If the writer fails, [`ToolFault::Write`] has the count of all bytes that are written: [`u64::MAX`] if
+    /// they are more.
     pub fn flush<W: Write>(&mut self, writer: &mut W) -> Result<(), ToolFault>
         ensures buffered { IsBuffered (W.contents writer.old) (W.contents writer.new) self.old self.new [] result }
         ensures empty { OnOk result (self.new.pending.items ≡ []) }

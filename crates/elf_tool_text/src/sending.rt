@@ -1,5 +1,4 @@
-//! Words and digits that go out without memory, each call with the count of the bytes that are out. Each counts and fails as [`send`]
-//! does.
+//! Words and digits that are written without memory, each call with the count of the bytes written. Each counts and fails as [`send`] does.
 ghost use Rattle.std.specs.Prelude.{◌≡◌, ◌∷◌, ◌<◌, ◌≤◌, length};
 ghost use Rattle.std.specs.Fmt.{decimal};
 ghost use Rattle.hex.specs.Hex.{encode_lower};

@@ -8,7 +8,7 @@ use tests_files::{
     PartialSource, caller, empty_object, filled_gap, long_parts, one_section, set, two_of_each,
 };
 
-/// What a copy of this outline comes to, and whether just these bytes are out then.
+/// What a copy of this outline comes to, and whether just these bytes are written then.
 fn copied(
     outline: &Outline,
     source: &mut PartialSource<'_>,

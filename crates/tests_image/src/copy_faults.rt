@@ -5,7 +5,7 @@ use elf_image_stream::Bytes;
 use std::test::Fail;
 use tests_files::{PartialSource, caller};
 
-/// The offsets that a source of 24 bytes a call is asked for, and how many bytes are out then: six bytes of `.text`, a gap, the
+/// The offsets that a source of 24 bytes a call is asked for, and how many bytes are written then: six bytes of `.text`, a gap, the
 /// relocations, three symbols, their names, those of the sections in two calls, and a gap.
 const ASKED: [(u64, u64); 10] = [
     (64, 64),
@@ -20,10 +20,10 @@ const ASKED: [(u64, u64); 10] = [
     (225, 225),
 ];
 
-/// How many bytes are out at each call of a writer that takes all: a call for each part.
+/// How many bytes are written at each call of a writer that takes all: a call for each part.
 const OUT: [u64; 9] = [0, 64, 70, 72, 96, 168, 181, 225, 232];
 
-/// What a copy answers, and whether exactly so many of the file's first bytes are out.
+/// What a copy answers, and whether exactly so many of the file's first bytes are written.
 fn copy_through(
     outline: &Outline,
     file: &[u8],

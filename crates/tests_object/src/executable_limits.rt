@@ -36,7 +36,7 @@ fn sections<'a>(
     Ok(sections)
 }
 
-/// How the executable of these objects is written, how many bytes are out, and the last one.
+/// How the executable of these objects is written, how many bytes are written, and the last one.
 fn written(
     alloc: Global,
     objects: &[Object<'_>],

@@ -24,7 +24,7 @@ fn written(
     Ok((ended, writer))
 }
 
-/// Exactly so many bytes are out, in so many calls, and then it ended so.
+/// Exactly so many bytes are written, in so many calls, and then it ended so.
 fn assert_ended(
     rt: &impl Abort,
     found: (Result<Result<(), ExecFault>, LinkFault>, OnceFailingWriter),

@@ -60,7 +60,7 @@ fn each_call_fails_alone(rt: HostRuntime) -> Result<(), Fail> {
     Ok(())
 }
 
-/// What a write of an object of this alignment comes to, and how many bytes are out.
+/// What a write of an object of this alignment comes to, and how many bytes are written.
 fn outcome(alloc: Global, align: u64) -> Result<(Result<(), ObjectWriteFault>, u64), Fail> {
     let bits = section(b".text", 6, align, Body::Bits(1, b"\xc3"));
     let object = object(alloc, Order::Little, vec![in alloc; bits]?, Vec::new(alloc))?;
