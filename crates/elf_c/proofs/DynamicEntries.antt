@@ -1,4 +1,5 @@
--- The entries of a dynamic array: how many there are, and each by its index.
+-- The entries of a dynamic array, counted and by index. The array ends at its first DT_NULL, so the index of that entry is the count of
+-- those before it.
 use Rattle.std.proofs.Common.{◌≡◌, ◌<◌, ◌≤◌, ℕ, List, true, false, arith, get_or, length, sym, zero-add, ◌∙◌}
 use Rattle.std.specs.List.{before_first, position_or_len}
 use Rattle.std.proofs.lemmas.Bool.{false_from_ne_true}

@@ -1,4 +1,5 @@
--- The relocations of a relocation section and the entries of a dynamic array of a file, by the table's numbers.
+-- Relocations and dynamic entries, read by the numbers of a table. The numbers lead to the section's own bytes and order, so what is read
+-- of them is the section's list; each entry then follows by its index.
 use Rattle.std.proofs.Common.{◌≡◌, ◌<◌, ℕ, List, Option, ap, get_or, length, subst, sym, ◌∙◌}
 use Rattle.std.specs.List.{before_first}
 use Rattle.elf_field.specs.declared.dynamic.Dyn.{Dyn}

@@ -1,4 +1,5 @@
--- The entries of a file's tables, by its numbers.
+-- Section headers and program headers, found by the numbers of a file. A file that keeps rules 1 to 32 has its tables within its bytes, so
+-- an index below the count is a record in the file, and none at or above the count is.
 use Rattle.std.proofs.Common.{◌≡◌, ◌<◌, ◌+◌, ◌*◌, ℕ, List, length, ap, refl, arith, subst, sym}
 use Rattle.elf_field.specs.Abi.{PHDR_SIZE, SHDR_SIZE}
 use Rattle.elf_field.specs.Phdr.{phdr_at}

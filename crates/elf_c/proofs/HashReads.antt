@@ -1,4 +1,5 @@
--- The hash table that the numbers of a table describe.
+-- The hash table that the numbers of a table describe is that of its section: words, symbols and strings are the bytes of the three
+-- sections. Since the section breaks no rule, the table is valid for its names.
 use Rattle.std.proofs.Common.{◌≡◌, ◌<◌, ◌≤◌, ◌+◌, ℕ, List, None, drop, length, zero, suc, inl, inr, refl, ap, subst, sym, ◌∙◌, arith}
 use Rattle.std.proofs.lemmas.Bool.{cases_eq}
 use Rattle.std.proofs.lemmas.List.{length-drop, length-take}

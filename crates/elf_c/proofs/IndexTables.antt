@@ -1,4 +1,5 @@
--- The index table of a symbol table of a file, found section by section.
+-- The index table of a symbol table is the lowest section that is one. So a search section by section, up to the first such section or to
+-- the end, finds its place, or that there is none.
 use Rattle.std.proofs.Common.{◌≡◌, ◌<◌, ℕ, Bool, false, true, List, None, Option, Some, ap, inl, inr, refl, sym, ◌∙◌}
 use Rattle.std.proofs.lemmas.Bool.{cases_lt, eq-eqb, eqb-true}
 use Rattle.std.specs.Cmp.Derive.{both_true}

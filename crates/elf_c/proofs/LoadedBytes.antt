@@ -1,4 +1,5 @@
--- The program headers of a file as a list, and the bytes that they give their addresses.
+-- The program headers of a file as a list, and the bytes that they give their addresses. Below `p_filesz` the byte is in the file, since
+-- rule 25 keeps segments inside it; from there on it is 0.
 use Rattle.std.proofs.Common.{◌≡◌, ◌<◌, ◌≤◌, ◌+◌, ◌-◌, ℕ, Bool, List, true, false, cond, nat_lt, ap, arith, length, sym, subst, ◌∙◌}
 use Rattle.std.specs.Prelude.{slice_index}
 use Rattle.std.proofs.lemmas.Bool.Decides.{nat_tests}

@@ -1,4 +1,5 @@
--- How many notes a content has: as many as begin in it.
+-- How many notes a content has: as many as begin in it. Each note begins where the one before it ends and is never empty, so n notes are
+-- all as soon as note n would begin at the end or later.
 use Rattle.std.proofs.Common.{◌≡◌, ◌<◌, ◌≤◌, ◌+◌, ℕ, zero, suc, List, None, Some, add-one, ap, length, get_or, inl, inr, refl, sym, ◌∙◌, arith}
 use Rattle.std.specs.Prelude.{slice_get}
 use Rattle.std.proofs.lemmas.Bool.{cases_lt}

@@ -1,4 +1,5 @@
--- The notes of a note section of a file, by the table's numbers.
+-- The notes of a note section, read by the numbers of a table. A note's words and its end are the same in the content and in the file,
+-- shifted by the content's start; and since all notes are whole, note k is there exactly if its end lies in the content.
 use Rattle.std.proofs.Common.{◌≡◌, ◌<◌, ◌≤◌, ◌+◌, ◌-◌, ◌↔◌, ℕ, List, None, ap, arith, get_or, inl, inr, length, refl, subst, sym, ◌∙◌, drop}
 use Rattle.std.proofs.lemmas.Bool.{cases_lt}
 use Rattle.std.proofs.lemmas.List.{length-take}

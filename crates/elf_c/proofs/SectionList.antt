@@ -1,4 +1,5 @@
--- The sections that the rules of tables look at, by the numbers of a file.
+-- The list of sections that the rules of tables look at has one for each section header that the file counts, with the header of its index
+-- and the bytes at its offsets. So reading by a file's numbers finds exactly these.
 use Rattle.std.proofs.Common.{◌≡◌, ◌<◌, ◌*◌, ◌+◌, ℕ, List, None, Option, Some, length, subst, sym, ◌∙◌, zero-add}
 use Rattle.std.proofs.lemmas.List.{get_or-map}
 use Rattle.std.proofs.lemmas.List.FromFn.{get_or-map-range_with_len, length-map-range_with_len}

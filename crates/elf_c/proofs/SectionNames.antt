@@ -1,4 +1,5 @@
--- The names of a file's sections, by its numbers.
+-- The name of a section, by the numbers of a file, in the three cases of the definition: type NULL, no name table, or a string of the name
+-- table. In each the place that is returned has the bytes of the name.
 use Rattle.std.proofs.Common.{◌≡◌, ◌≢◌, ◌<◌, ℕ, List, [], ap, inl, inr, refl, subst, sym, ◌∙◌}
 use Rattle.std.proofs.lemmas.Bool.{cases_eq, ne_eqb}
 use Rattle.elf_field.specs.declared.shdr.Shdr.{Shdr}

@@ -1,4 +1,5 @@
--- Strings of a table by their place in the file.
+-- A string of a table, by its place in the file. A table is a stretch of the file, and a string is a stretch of the table, so its bytes
+-- are those of the file from the table's start plus its offset.
 use Rattle.std.proofs.Common.{◌≡◌, ◌<◌, ◌≤◌, ◌+◌, ◌-◌, ℕ, zero, suc, List, [], inl, inr, length, take, drop, ap, arith, refl, sym, ◌∙◌}
 use Rattle.std.proofs.lemmas.Bool.{cases_lt}
 use Rattle.std.proofs.lemmas.List.{drop-drop, drop-take, length-take, length-take-le, length-drop, take-take, take_all}

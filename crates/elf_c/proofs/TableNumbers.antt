@@ -1,4 +1,5 @@
--- The numbers of a table of a file are those that are gathered by the numbers of the file.
+-- The numbers of a table of a file are those that are gathered by the numbers of the file: order, content, linked contents and count,
+-- field by field. So one lookup by the file's numbers serves all later reads of the table.
 use Rattle.std.proofs.Common.{◌≡◌, ◌<◌, ℕ, List, Option, Some, ap, refl, subst, sym, ◌∙◌}
 use Rattle.std.proofs.lemmas.List.FromFn.{length-map-range_with_len}
 use Rattle.elf_extent.specs.declared.extent.Extent.{Extent}

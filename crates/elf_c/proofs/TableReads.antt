@@ -1,4 +1,5 @@
--- What the numbers of a table of a file report: its order, and the bytes that its entries are read from.
+-- What the numbers of a table stand for: the order of the file, the contents of the section and of those that it links to, and that no
+-- rule of its kind is broken. All follow from the definition of the numbers.
 use Rattle.std.proofs.Common.{◌≡◌, ◌<◌, ◌≤◌, ◌+◌, ℕ, zero, suc, List, None, Option, Some, length, drop, inl, inr, refl, sym, subst, ap, ◌∙◌, arith}
 use Rattle.std.proofs.lemmas.Bool.{cases_eq, eqb-true}
 use Rattle.std.proofs.lemmas.List.{length-drop, length-take}

@@ -1,4 +1,5 @@
--- The extents of a file that keeps rules 1 to 32.
+-- The extents of a file that keeps rules 1 to 32 end within the file. The file has at most 2^30 bytes, so there are fewer extents than
+-- 2^64 - 1, and the count of slots that are needed fits too.
 use Rattle.std.proofs.Common.{◌<◌, ◌^◌, ℕ, List, arith, length, refl}
 use Rattle.elf_extent.specs.Extent.{AreWithin}
 use Rattle.elf_image_rules.specs.ImageRules.{KeepsRecordRules, extents_of_file}

@@ -1,4 +1,5 @@
--- The extents, members and pieces in the slots of a room.
+-- The extents of a file, with their owners, in the slots of a buffer. The first k slots hold the extents so far that have a byte; one slot
+-- more, or the slots in another order, keep that, so sorting them gives the members in ascending order.
 use Rattle.std.proofs.Common.{◌≡◌, ℕ, ◌+◌, ◌<◌, ◌++◌, ◌==◌, Bool, true, false, cond, List, [], ◌∷◌, None, Option, length, map, filter, take, get_or, refl, ap, subst, sym, ◌∙◌, arith}
 use Rattle.std.specs.Prelude.{slice_set, Some}
 use Rattle.std.specs.List.{slice_get}

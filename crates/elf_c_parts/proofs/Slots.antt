@@ -1,4 +1,5 @@
--- The extents in the slots of a room.
+-- The extents of a file in the slots of a buffer. The first k slots hold the extents so far that have a byte: an extent with a byte is one
+-- slot more, and an empty one none.
 use Rattle.std.proofs.Common.{◌≡◌, ℕ, ◌+◌, ◌<◌, ◌++◌, true, false, List, [], ◌∷◌, length, map, filter, take, get_or, refl, ap, sym, ◌∙◌, arith}
 use Rattle.std.specs.Prelude.{slice_set, Some}
 use Rattle.std.specs.List.{slice_get}

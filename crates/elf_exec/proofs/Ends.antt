@@ -1,4 +1,5 @@
--- Where parts at their least places end.
+-- The end of the file is the end of its last part: places ascend, so no part ends after it. A part whose end does not fit 64 bits
+-- therefore makes the whole too long.
 use Rattle.std.proofs.Common.{◌≡◌, ◌<◌, ◌≤◌, ◌-◌, ℕ, List, length, refl, ap, inl, inr, arith}
 use Rattle.std.proofs.lemmas.Bool.{cases_lt, eq-eqb, ne_eqb}
 use Rattle.elf_extent.specs.Place.{Fits, IsOverflowAt, end_of}

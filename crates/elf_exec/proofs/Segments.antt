@@ -1,4 +1,5 @@
--- Each segment is that of an output, or of the commons, and takes memory.
+-- Each segment is that of an output, or of the commons, and takes memory. The list is built output by output: one of size 0 is passed
+-- over, any other is one segment more.
 use Rattle.std.proofs.Common.{◌≡◌, ◌<◌, ◌≤◌, ◌+◌, ◌⊎◌, ℕ, Bool, true, false, List, [], ◌∷◌, ◌++◌, length, map, refl, sym, ap, ap₂, subst, ◌∙◌, inl, inr, arith}
 use Rattle.std.specs.Prelude.{cond, nat_lt}
 use Rattle.std.specs.List.{All, filter, range_with_len}

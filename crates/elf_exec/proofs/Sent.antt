@@ -1,4 +1,5 @@
--- What goes out piece by piece: the bytes of an output, and of the segments.
+-- The executable as it is sent. An output is its members one after the other, each after zeros up to its address, and a segment's place is
+-- that of its part, so what is sent is the text of the definition.
 use Rattle.std.proofs.Common.{◌≡◌, ◌<◌, ◌+◌, ◌*◌, ℕ, Option, Result, Ok, Err, List, [], ◌++◌, length, map, get_or, replicate, ap, subst, ◌∙◌, arith}
 use Rattle.std.specs.Prelude.{IfErr}
 use Rattle.std.specs.List.{flat_map, range_with_len}

@@ -1,4 +1,5 @@
--- What fits a file of the objects of a link: the identity of the first one, and the bytes of all contents.
+-- The identity of the first object and the contents of all objects are bytes: each object fits the fields of a file, so the header and the
+-- contents of the executable do.
 use Rattle.std.proofs.Common.{◌<◌, ℕ, zero, suc, List, [], ◌∷◌, length, get_or, sym, subst, inl, inr, arith}
 use Rattle.std.specs.List.{AllByRecursion}
 use Rattle.std.proofs.lemmas.Bool.{cases_lt}

@@ -1,4 +1,5 @@
--- The walk over ascending members that accounts for every offset.
+-- The walk over ascending members that accounts for every offset. Between the last end and the next start there is one gap or nothing,
+-- because no other member begins there; after the gap comes the member. So one step extends the account to the member's end.
 use Rattle.std.proofs.Common.{◌≡◌, ℕ, ◌+◌, ◌-◌, ◌<◌, ◌≤◌, ◌⊎◌, true, false, cond, List, [], ◌∷◌, ◌++◌, length, get_or, None, Some, nat_lt, inl, inr, refl, ap, sym, subst, ◌∙◌, arith, append_assoc}
 use Rattle.std.specs.List.Sorted.{IsNonDecreasingBy}
 use Rattle.std.proofs.lemmas.Bool.{cases_lt}

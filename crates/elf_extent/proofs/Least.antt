@@ -1,4 +1,5 @@
--- What holds of the lowest offset of a predicate.
+-- The lowest offset of a predicate: it depends only on where the predicate holds, there is one, and that of two predicates is the lower of
+-- both.
 use Rattle.std.proofs.Common.{◌≡◌, ℕ, ◌⊎◌, Option, None, Some, inl, inr, refl, ap, sym, subst, arith}
 use Rattle.std.proofs.Math.Nat.{min-eq_left, min-eq_right}
 use Rattle.std.proofs.lemmas.Bool.{cases_lt}

@@ -1,4 +1,5 @@
--- The member of a byte that a list holds, and extents of which no byte is held twice.
+-- Each byte that a list of extents holds lies in a member, which is at one position only. So extents are disjoint exactly if no byte is
+-- held twice.
 use Rattle.std.proofs.Common.{◌≡◌, ℕ, ◌<◌, List, length, get_or, Option, None, Some, inl, inr, ap, sym, subst, ◌∙◌, arith}
 use Rattle.std.specs.Prelude.{slice_get, IfNone}
 use Rattle.std.specs.List.{Contains}

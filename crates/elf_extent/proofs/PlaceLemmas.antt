@@ -1,4 +1,5 @@
--- Least places: that each part has one, one part more, and the first part that does not fit.
+-- Least places, part by part. The least place of a part is its cursor, rounded up to the alignment; least places from its end on make
+-- least places of all. By induction the first part whose end passes 2^64 is the first that no placement fits.
 use Rattle.std.proofs.Common.{◌≡◌, ℕ, zero, suc, ◌+◌, ◌-◌, ◌*◌, ◌/◌, ◌%◌, ◌^◌, ◌<◌, ◌≤◌, max, List, [], ◌∷◌, ◌++◌, length, get_or, drop, Option, None, Some, inl, inr, refl, ap, sym, subst, ◌∙◌, arith, append_assoc}
 use Rattle.std.specs.Prelude.{MatchOption, SomeIff}
 use Rattle.std.proofs.Math.Nat.{mul-le-mul_left, mul-mod_right, max-eq_left}

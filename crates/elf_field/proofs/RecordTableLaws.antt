@@ -1,4 +1,5 @@
--- A table of records as a list of bytes, and back: said once for every kind of record.
+-- A table of records as a list of bytes, and back, for every kind of record. All records have one size, so record k is at k times the
+-- size, and the laws of one record carry over by induction on the entries.
 use Rattle.std.proofs.Common.{◌≡◌, ◌≤◌, ◌<◌, ◌+◌, ◌-◌, ◌*◌, ℕ, zero, suc, List, [], ◌∷◌, ◌++◌, length, take, drop, get_or, take_all, map, refl, sym, ap, ap₂, ◌∙◌, arith, length-append, length-drop}
 use Rattle.std.specs.List.{AllByRecursion, flat_map, range_with_len}
 use Rattle.std.proofs.Math.Nat.{mul-add, mul-one, mul-suc, mul-zero}

@@ -1,4 +1,5 @@
--- An outline by itself: with zeros for contents and gaps it is a sound image.
+-- An outline by itself is a sound image with zeros for contents and gaps. The rules look at no content but the names, and there at the
+-- length and the two ends, which zeros satisfy.
 use Rattle.std.proofs.Common.{◌≡◌, ◌≢◌, ◌≤◌, ◌<◌, ◌+◌, ◌-◌, ◌^◌, ℕ, suc, min, true, None, List, [], ◌∷◌, length, map, get_or, refl, sym, ap, ap₂, subst, ◌∙◌, inl, inr, arith}
 use Rattle.std.specs.Prelude.{◌==◌, if◌then◌else◌, replicate, slice_index}
 use Rattle.std.specs.List.{AllByRecursion}

@@ -1,4 +1,5 @@
--- An edit of a sound image value gives a sound one: no rule reads what it changes.
+-- An edit of a sound image value gives a sound one: no rule reads what it changes. The entry, flags from section 1 on, a content of the
+-- same length and the gaps are in no rule's definition, so the same rules hold before and after.
 use Rattle.std.proofs.Common.{◌≡◌, ◌<◌, ◌*◌, ◌^◌, ℕ, zero, suc, Bool, true, None, List, [], ◌∷◌, length, map, get_or, set, refl, sym, ap, ap₂, subst, ◌∙◌, arith, lit<}
 use Rattle.std.specs.Prelude.{replicate, if◌then◌else◌, ◌==◌, Result, Ok, Err, OnOk, OnErr}
 use Rattle.std.specs.List.{AllByRecursion}

@@ -1,4 +1,5 @@
--- What is where in the joined parts of a sound image value.
+-- What is where in the joined parts of a sound image value. Each part has as many bytes as its length and the parts account for every
+-- offset, so each part's bytes are at its offset; an extent's bytes are those of its part.
 use Rattle.std.proofs.Common.{◌≡◌, ◌<◌, ◌+◌, ◌*◌, ℕ, zero, suc, None, Some, List, [], ◌∷◌, length, take, drop, map, get_or, refl, sym, ap, ap₂, ◌∙◌, inl, inr, arith}
 use Rattle.std.specs.Prelude.{slice_get}
 use Rattle.std.specs.List.{AllByRecursion, flat_map}

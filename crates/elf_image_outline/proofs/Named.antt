@@ -1,4 +1,5 @@
--- What a sound image value says of its section headers, its contents and its sections' names.
+-- What a sound image value says of its section headers, contents and names: one content for each header, as long as the header says,
+-- inside the file. Each is a field of the soundness, read for one index.
 use Rattle.std.proofs.Common.{◌≡◌, ◌≢◌, ◌<◌, ◌≤◌, ℕ, Bor, List, [], length, map, get_or, refl, sym, ap, ◌∙◌, arith, inl, inr}
 use Rattle.std.specs.Prelude.{◌==◌, ◌+◌, if◌then◌else◌}
 use Rattle.std.proofs.lemmas.Bool.{cases_eq, ne_eqb}

@@ -1,4 +1,5 @@
--- What was read of a source that reports its bytes is what they hold, so what the rules find of it is the verdict on them.
+-- What was read of a source that reports its bytes is what they hold: the records by their offsets, and of the name table the length and
+-- the two ends, which are all that rules 30 to 32 look at. So the rules find of it what they find of the bytes.
 use Rattle.std.proofs.Common.{◌≡◌, ◌≢◌, ◌≤◌, ◌<◌, ◌+◌, ◌-◌, ◌⊎◌, ℕ, min, None, Some, Option, List, [], length, map, take, drop, refl, sym, ap, subst, ◌∙◌, inl, inr, arith, length-drop}
 use Rattle.std.specs.Prelude.{if◌then◌else◌, ◌==◌}
 use Rattle.std.proofs.Math.Nat.{min-eq_left, min-eq_right, min-le_left}

@@ -1,4 +1,5 @@
--- Bytes that are copied piece by piece, and what was written when a piece fails.
+-- Bytes that are copied piece by piece. What is out is always a beginning of the whole: pieces that were copied, and of a piece that fails
+-- its first bytes. So the counts add up, and a failed read is in the piece at hand.
 use Rattle.std.proofs.Common.{◌≡◌, ◌≤◌, ◌<◌, ◌+◌, ◌-◌, ℕ, List, ◌++◌, length, take, drop, Option, Some, Result, Ok, Err, sym, ap, ap₂, subst, ◌∙◌, arith, length-append, take-add}
 use Rattle.std.specs.Result.{IsErrAnd}
 use Rattle.std.specs.Io.KnownBytes.{Appends}

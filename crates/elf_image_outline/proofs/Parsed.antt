@@ -1,4 +1,5 @@
--- From the tables, contents and parts that were read of a file that breaks no rule to its image.
+-- From what was read of a file that breaks no rule to its image: the tables, contents and parts are cut from the file's bytes, which is
+-- the definition of the image, field by field.
 use Rattle.std.proofs.Common.{◌≡◌, ℕ, None, List, [], ◌∷◌, length, map, refl, sym, ap, subst}
 use Rattle.std.specs.Prelude.{Bool, false}
 use Rattle.std.specs.List.{AllByRecursion}

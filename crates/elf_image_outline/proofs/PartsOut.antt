@@ -1,4 +1,5 @@
--- The parts of an outline go out one after the other: its own records and zeros, and what its source has at their offsets.
+-- The parts of an outline are written one after the other: records and zeros of the outline, and bytes of its source at their offsets.
+-- Each part has the bytes that the image has there, so after k parts exactly the first k are out.
 use Rattle.std.proofs.Common.{◌≡◌, ◌≤◌, ◌<◌, ◌+◌, ◌^◌, ℕ, suc, Bool, true, false, Option, Some, List, [], ◌∷◌, ◌++◌, length, take, drop, map, get_or, refl, sym, ap, ap₂, subst, ◌∙◌, arith, drop-cons, length-append, length-drop, take_all, zero-add, Err}
 use Rattle.std.specs.Prelude.{replicate, slice_get}
 use Rattle.std.specs.List.{flat_map}

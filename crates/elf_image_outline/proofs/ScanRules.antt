@@ -1,4 +1,5 @@
--- The runs of rules that the stages of a scan judge are the rules of the file that the source reports.
+-- The stages of a scan test the runs of rules in the order of the list, on the length, the header and the tables that were read. These are
+-- those of the bytes that the source reports, so a rule that a stage finds is the first of the file.
 use Rattle.std.proofs.Common.{◌≡◌, ◌<◌, ℕ, None, Some, Option, Result, Ok, Err, List, length, map, take, drop, refl, sym, ap, subst, ◌∙◌, inl, inr, arith}
 use Rattle.std.specs.Prelude.{IfSome}
 use Rattle.std.specs.List.{range_with_len}

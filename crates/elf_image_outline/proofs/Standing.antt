@@ -1,4 +1,5 @@
--- A sound image value is represented by its joined parts.
+-- What the rules say of a value whose records are as many as it counts. Its extents are those that the rules speak of, so they share no
+-- byte, and each of them lies in the file.
 use Rattle.std.proofs.Common.{◌≡◌, ◌≢◌, ◌≤◌, ◌<◌, ◌+◌, ◌*◌, ℕ, zero, suc, None, Some, List, [], ◌∷◌, length, map, get_or, refl, sym, ap, subst, ◌∙◌, arith}
 use Rattle.std.specs.Prelude.{slice_get}
 use Rattle.std.specs.List.{AllByRecursion, range_with_len}

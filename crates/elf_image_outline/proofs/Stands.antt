@@ -1,4 +1,5 @@
--- A sound image value is represented by its joined parts, without fault.
+-- A sound image value is represented by its joined parts. These hold the bytes of each record and content at its offset (`Holds`), and a
+-- record is read back from its bytes, so what is read of them is the value again.
 use Rattle.std.proofs.Common.{◌≡◌, ◌≢◌, ◌<◌, ◌*◌, ℕ, zero, suc, Some, List, [], ◌∷◌, length, take, drop, map, get_or, refl, sym, ap, ap₂, ◌∙◌, inl, inr, arith, add-zero, lit≤}
 use Rattle.std.specs.Prelude.{slice_get}
 use Rattle.std.specs.List.{AllByRecursion, flat_map, range_with_len}

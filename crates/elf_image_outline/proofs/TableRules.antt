@@ -1,4 +1,5 @@
--- The rules of tables in memory: the runs that are judged are all rules of an image that has such tables.
+-- The rules of tables in memory. Missing entries count as zeros, so the runs over the tables and counts are all rules of an image with
+-- these tables, one run after the other.
 use Rattle.std.proofs.Common.{◌≡◌, ℕ, None, Some, Option, Result, Ok, Err, List, refl, sym, ap, subst, ◌∙◌, inl}
 use Rattle.std.specs.Prelude.{IfErr, IfOk, OnOk}
 use Rattle.std.specs.Result.{IsErrAnd}

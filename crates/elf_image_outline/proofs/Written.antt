@@ -1,4 +1,5 @@
--- The parts of an image go out one after the other.
+-- The parts of an image are written one after the other. The account says where each begins, so after k parts exactly the bytes before
+-- part k are out, and a fault adds the bytes of its own part.
 use Rattle.std.proofs.Common.{◌≡◌, ◌≤◌, ◌<◌, ◌+◌, ℕ, zero, suc, Bool, Option, List, [], ◌∷◌, length, take, drop, map, get_or, sym, ap, subst, ◌∙◌, arith, length-append, ◌^◌}
 use Rattle.std.specs.List.{flat_map}
 use Rattle.std.specs.Io.KnownBytes.{Appends}

@@ -1,4 +1,4 @@
--- What isn't broken is kept, for tests of numbers.
+-- If a test of numbers does not fail, the opposite holds. Numbers are decidable, so each case is settled by comparing them.
 use Rattle.std.proofs.Common.{◌≡◌, ◌≢◌, ℕ, ◌<◌, ◌≤◌, ◌⊎◌, inl, inr}
 use Rattle.std.specs.Int.Count.{ones}
 use Rattle.std.proofs.lemmas.Bool.{cases_eq, cases_lt}

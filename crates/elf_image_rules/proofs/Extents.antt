@@ -1,4 +1,5 @@
--- The list of a file's extents, and the searches over it for a byte that two of them hold.
+-- The search for a byte that two extents of a file hold. The first three extents are the header and the tables; if all others ascend, only
+-- these three have to be compared with the rest. The result over the first members is extended by one member at a time.
 use Rattle.std.proofs.Common.{◌≡◌, ℕ, suc, ◌+◌, ◌-◌, ◌<◌, ◌≤◌, ◌⊎◌, min, Option, None, Some, List, length, get_or, inl, inr, sym, ◌∙◌, ap, subst, arith}
 use Rattle.std.proofs.Math.Nat.{le-min, min-le_left, min-le_right}
 use Rattle.std.specs.List.{slice_get}

@@ -1,4 +1,5 @@
--- The runs of rules, one after the other, are the rules of the file.
+-- The runs of rules, one after the other, are the rules of the file. If a run finds a fault, it is the file's; if not, the rules after it
+-- decide. So the tests of the runs, chained, give the verdict.
 use Rattle.std.proofs.Common.{◌≡◌, ℕ, inl, inr, Option, None, Some, Result, Ok, Err, List, ◌++◌, length, refl, subst}
 use Rattle.std.specs.Prelude.{IfErr, IfOk, OnErr, OnOk}
 use Rattle.elf_field.specs.declared.ehdr.Ehdr.{Ehdr}

@@ -1,4 +1,5 @@
--- No rule is broken exactly where each rule's fact holds, run by run.
+-- No rule is broken exactly if each rule's positive fact holds, run by run: a rule says that something is wrong, its fact that it is
+-- right, and each test of numbers is decidable.
 use Rattle.std.proofs.Common.{◌≡◌, ◌≢◌, ℕ, ◌+◌, ◌-◌, ◌<◌, ◌≤◌, inl, inr, None, List, length, refl, arith}
 use Rattle.std.specs.Prelude.{slice_index}
 use Rattle.elf_field.specs.Abi.{EHDR_SIZE, SHT_NULL}

@@ -1,4 +1,5 @@
--- One bit of a number is set exactly if it is a power of two.
+-- A number is a power of two exactly if one bit of it is set. By induction: an even number has the bits of its half, and an odd one with
+-- one bit is 1.
 use Rattle.std.proofs.Common.{◌≡◌, ◌≢◌, ℕ, Bool, true, false, zero, suc, ◌+◌, ◌*◌, ◌/◌, ◌%◌, ◌^◌, ◌≤◌, ◌⊎◌, inl, inr, refl, sym, ◌∙◌, ap, arith}
 use Rattle.std.specs.Int.{IsPowerOfTwo}
 use Rattle.std.specs.Int.Count.{ones, ones_step}

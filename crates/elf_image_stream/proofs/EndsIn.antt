@@ -1,4 +1,5 @@
--- The ends of a table by two bytes of a list, and a table that has these ends.
+-- The two ends of a table, read as two bytes of a list. A table inside the list has these ends; and whatever two bytes were read, some
+-- table has them as its ends, so the rules about ends can be tested without the table.
 use Rattle.std.proofs.Common.{◌≡◌, ◌<◌, ◌≤◌, ◌+◌, ◌-◌, ℕ, zero, suc, List, [], ◌∷◌, ◌++◌, length, take, drop, replicate, get_or, slice_index, refl, sym, ap, ◌∙◌, arith, length-append, length-drop, rules}
 use Rattle.std.proofs.lemmas.List.{get_or-drop, get_or-take, get_or-append_right, length-replicate, length-take-le}
 use Rattle.elf_field.specs.Bytes.{IsBytes}

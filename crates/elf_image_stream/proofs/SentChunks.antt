@@ -1,4 +1,5 @@
--- Of texts that go out one after the other.
+-- Texts that are sent one after the other. What is out after k texts are these k, joined; a text that fails leaves a beginning of itself
+-- after them. Counts stop at 2^64 - 1, and are exact below it.
 use Rattle.std.proofs.Common.{◌≡◌, ◌∙◌, ℕ, ◌+◌, ◌^◌, ◌<◌, ◌≤◌, List, [], ◌∷◌, ◌++◌, Option, Result, Ok, Err, length, take, drop, get_or, sym, ap, subst, arith, length-append, take_all, refl, zero-add}
 use Rattle.std.specs.List.{flat_map, range_with_len}
 use Rattle.std.specs.Io.KnownBytes.{Appends}

@@ -1,4 +1,5 @@
--- Records that are read one after the other are those of a table.
+-- Records that are read one after the other are those of the table: record i is at i times the size. A fault in a later part of the table
+-- is one of the table, because that part lies in it.
 use Rattle.std.proofs.Common.{◌≡◌, ◌<◌, ◌≤◌, ◌+◌, ◌-◌, ◌*◌, ◌⊎◌, inl, inr, ℕ, Option, List, [], ◌∷◌, ◌++◌, take, drop, map, sym, ap, ap₂, subst, ◌∙◌, arith, zero-add, mul-le-mul_left}
 use Rattle.std.specs.List.{AllByRecursion, range_with_len}
 use Rattle.std.proofs.Math.Nat.{mul-add, mul-one}

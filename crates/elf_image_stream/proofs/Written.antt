@@ -1,4 +1,5 @@
--- Bytes that go out piece by piece, and the number of those that are out when a piece fails.
+-- Bytes that are written piece by piece. After k pieces exactly these are out; if the next one fails, its first bytes follow. So the count
+-- of what is out is that of the pieces and of the beginning.
 use Rattle.std.proofs.Common.{◌≡◌, ◌≤◌, ◌<◌, ◌+◌, ◌*◌, ℕ, List, [], ◌∷◌, ◌++◌, length, take, drop, get_or, Option, sym, ap, ap₂, subst, ◌∙◌, arith, length-append, length-drop}
 use Rattle.std.specs.Prelude.{replicate}
 use Rattle.std.specs.List.{flat_map}

@@ -1,4 +1,5 @@
--- Each field of an image's records is at its offset in the bytes that represent the image.
+-- Each field of an image's records is at its offset in the bytes that represent the image: the records are read from there, and a record's
+-- layout puts each field at its own offset.
 use Rattle.std.proofs.Common.{◌≡◌, ◌<◌, ℕ, List, length, take, sym, ap, subst, ◌∙◌, arith}
 use Rattle.elf_field.specs.declared.order.Order.{Order}
 use Rattle.elf_field.specs.declared.ehdr.Ehdr.{Ehdr}

@@ -1,4 +1,5 @@
--- The byte at an offset of an image's file is one of the part that the offset lies in; one of a table is one of a record.
+-- The byte at an offset of an image's file. The parts account for every offset, so one part has it; a byte of a table lies in the record
+-- at offset / size, and a byte of a segment lies in the file by rule 25.
 use Rattle.std.proofs.Common.{◌≡◌, ◌≤◌, ◌<◌, ◌+◌, ◌-◌, ◌*◌, ◌/◌, ◌%◌, ℕ, List, [], ◌∷◌, ◌++◌, length, take, drop, get_or, inl, inr, sym, ap, subst, ◌∙◌, arith, length-append, length-drop}
 use Rattle.std.specs.List.{flat_map}
 use Rattle.std.proofs.Math.Nat.{mul-div-le, mul-le-mul_left}

@@ -1,4 +1,5 @@
--- A relocatable file that is written breaks no rule, and is read as its header, section headers and contents.
+-- A relocatable file that is written breaks no rule, and is read as its header, section headers and contents. Its parts are the header,
+-- the contents and the section header table, so `FileParts` applies; counts and indexes are in the field for their size.
 use Rattle.std.proofs.Common.{◌≡◌, ◌≢◌, ◌<◌, ◌≤◌, ◌+◌, ◌*◌, ◌^◌, ◌⊎◌, ℕ, zero, suc, None, Some, List, [], ◌∷◌, ◌++◌, length, map, get_or, refl, sym, ap, subst, ◌∙◌, inl, inr, arith, length-append}
 use Rattle.std.specs.Prelude.{slice_get}
 use Rattle.std.specs.List.{AllByRecursion}

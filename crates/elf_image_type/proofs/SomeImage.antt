@@ -1,4 +1,5 @@
--- A list of bytes that breaks no rule is an image.
+-- A list of bytes that breaks no rule is an image. Its extents share no byte and lie in the file, so they have an account (`SomeAccount`);
+-- the tables and contents are read from the bytes.
 use Rattle.std.proofs.Common.{◌≡◌, ℕ, zero, suc, Option, None, Some, List, [], ◌∷◌, length, map, refl, sym, subst}
 use Rattle.std.specs.List.{range_with_len}
 use Rattle.elf_field.specs.Bytes.{IsBytes}

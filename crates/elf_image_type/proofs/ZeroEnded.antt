@@ -1,4 +1,5 @@
--- Strings up to the first zero.
+-- A string ends at its first zero, or at the end of the list if there is none. So a search for the zero cuts the list where the definition
+-- does.
 use Rattle.std.proofs.Common.{◌≡◌, ◌<◌, ◌≤◌, ◌-◌, ℕ, Bool, true, false, List, length, min, take, drop, refl, sym, ap, ◌∙◌, arith, inl, inr}
 use Rattle.std.specs.Prelude.{◌==◌, slice_index}
 use Rattle.std.specs.List.{before_first}

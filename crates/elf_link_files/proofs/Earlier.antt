@@ -1,4 +1,5 @@
--- The first site of a row and the sites before one of its own.
+-- The first site of a row is at or before any other site of it. So two first sites are one, and a site before the first one is not in the
+-- row.
 use Rattle.std.proofs.Common.{◌≡◌, ℕ, inl, inr, sym, arith}
 use Rattle.std.proofs.lemmas.Bool.{cases_lt}
 use Rattle.elf_link_files.specs.declared.site.Site.{Site}

@@ -1,4 +1,5 @@
--- A row that is broken somewhere is broken at a first site, where it can be reported of each symbol.
+-- A row that is broken somewhere is broken at a first site, if it can be tested at each symbol. Look for the least file that has such a
+-- symbol, and in it for the least symbol: both searches end, since they are bounded.
 use Rattle.std.proofs.Common.{◌≡◌, ℕ, ◌<◌, ◌⊎◌, List, length, zero, suc, inl, inr, refl, subst, arith}
 use Rattle.std.proofs.lemmas.Bool.{cases_lt}
 use Rattle.elf_object_type.specs.Object.{ObjectValue}

@@ -1,4 +1,5 @@
--- What holds of the references in an object, since it breaks no rule.
+-- What the rules of objects say of the references in one: the signature of a COMDAT group is a symbol, and the section that a symbol lies
+-- in is a section, of the object.
 use Rattle.std.proofs.Common.{◌≡◌, ℕ, ◌<◌, true, length, List, get_or, sym, ◌∙◌}
 use Rattle.std.specs.Prelude.{IfSome}
 use Rattle.std.proofs.lemmas.List.{get_or_default}

@@ -1,4 +1,5 @@
--- A row has at most one first site and one list of its sites, and a list of rules one fault.
+-- A row has at most one first site, and one list of its sites: of two different sites one is earlier, so the heads of two lists are the
+-- same, and by induction the rest. Therefore a list of rules has one fault.
 use Rattle.std.proofs.Common.{◌≡◌, ℕ, ◌<◌, ◌⊎◌, Option, List, [], ◌∷◌, length, zero, suc, inl, inr, refl, sym, ◌∙◌, ap, subst, arith}
 use Rattle.std.proofs.lemmas.Bool.{cases_lt}
 use Rattle.elf_image_rules.specs.Rows.{Row, Ruled}

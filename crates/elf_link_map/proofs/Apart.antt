@@ -1,4 +1,5 @@
--- The parts of a link map are apart: each has its size, and parts have places one after another.
+-- The parts of a link map are apart. Each live section and each common is one part of the plan, with its size, and places ascend; so of
+-- two parts the one placed first ends where the other begins, or before.
 use Rattle.std.proofs.Common.{◌≡◌, ℕ, ◌+◌, ◌<◌, ◌≤◌, List, [], ◌∷◌, ◌++◌, length, map, inl, inr, refl, sym, ◌∙◌, ap, subst, arith}
 use Rattle.std.specs.Prelude.{Option, None, Some, slice_index}
 use Rattle.std.specs.List.{flat_map}

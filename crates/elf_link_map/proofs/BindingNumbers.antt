@@ -1,4 +1,5 @@
--- The number of each symbol's name, from that among the known names, or by a search.
+-- The number of a symbol's name is the position of that name in the link map. Names are in the order of their first entries in both lists,
+-- so the position among the known names serves, and a search finds the same.
 use Rattle.std.proofs.Common.{◌≡◌, ◌≢◌, ℕ, ◌<◌, List, [], get_or, length, refl, sym, ◌∙◌, subst}
 use Rattle.std.specs.Prelude.{None, Option, Some, MatchOption, unwrap_or}
 use Rattle.elf_field.specs.Abi.{STB_LOCAL}

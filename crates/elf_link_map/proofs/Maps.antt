@@ -1,4 +1,5 @@
--- From what is placed to the plan of a link and its faults.
+-- From the plan and its addresses to the link map, and from a fault of each step to the fault of the link: the rules are tested in their
+-- order, so the first step that fails has the first rule broken.
 use Rattle.std.proofs.Common.{◌≡◌, ℕ, List, length, inr, ◌∙◌, ap, subst}
 use Rattle.std.specs.Prelude.{None, IfErr, Result, Ok, Err}
 use Rattle.elf_extent.specs.Place.{EndsFit, Least}

@@ -1,4 +1,5 @@
--- The names of a link map by position, in the order of their first entries.
+-- The names of a link map by position. The list has each name once, at the rank of its first entry, so looking a name up finds this
+-- position, and no position exactly if it has no entry.
 use Rattle.std.proofs.Common.{◌≡◌, ℕ, ◌<◌, Bool, List, [], ◌∷◌, get_or, length, map, zero, suc, refl, sym, ◌∙◌, ap, ap₂, subst, arith}
 use Rattle.std.specs.Prelude.{cond, Option, None, Some, MatchOption}
 use Rattle.std.specs.Str.{bytes_eq}

@@ -1,4 +1,4 @@
--- A link has at most one answer: the first rule that is broken, or that none is.
+-- A link has at most one answer: the first rule that is broken, or that none is. Rules are in one list, and each has one first site.
 use Rattle.std.proofs.Common.{◌≡◌, ℕ, List, inl, inr, refl, subst}
 use Rattle.std.specs.Prelude.{Option, None, Some}
 use Rattle.elf_object_type.specs.Object.{ObjectValue}

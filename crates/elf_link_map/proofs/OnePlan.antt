@@ -1,4 +1,5 @@
--- Objects and options have at most one plan, with one entry symbol's target and one list of places.
+-- Objects and options have at most one plan. Live sections are in one order, a section is placed once, a name has one choice, and least
+-- places are one list; so the target of the entry symbol is one too.
 use Rattle.std.proofs.Common.{◌≡◌, ℕ, ◌+◌, List, length, inl, inr, sym, ◌∙◌, ap, subst, arith}
 use Rattle.std.specs.Prelude.{Option, None, Some}
 use Rattle.std.specs.Borrow.{Bor}

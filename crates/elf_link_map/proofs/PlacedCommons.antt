@@ -1,4 +1,5 @@
--- The commons that have an address, by name.
+-- The commons that have an address, by name. They are the chosen commons in order, each with its place, so a name that is bound to a
+-- common finds its address there.
 use Rattle.std.proofs.Common.{◌≡◌, ℕ, ◌<◌, List, length, ◌∙◌, ap, arith, get_or, map}
 use Rattle.std.proofs.lemmas.List.{get_or-map, length-map}
 use Rattle.elf_object_type.specs.Object.{ObjectValue}

@@ -1,4 +1,5 @@
--- Each name with an entry is bound, where rules 6 and 9 are not broken.
+-- Each name with an entry is bound if rules 6 and 9 are not broken: an entry that is GLOBAL is defined, common or undefined, and rule 9
+-- excludes that only undefined ones are left.
 use Rattle.std.proofs.Common.{◌≡◌, ◌≢◌, ℕ, ◌<◌, true, List, inl, inr, refl, sym, subst, arith}
 use Rattle.std.specs.Prelude.{None}
 use Rattle.std.proofs.lemmas.Bool.{cases_lt}

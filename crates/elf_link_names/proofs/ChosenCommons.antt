@@ -1,4 +1,5 @@
--- The chosen commons: each is a symbol of its file, and each name that is bound to a common has one.
+-- The chosen commons, gathered symbol by symbol: a name without a GLOBAL definition chooses its first common, with the largest size and
+-- alignment of all. So each name that is bound to a common has one in the list.
 use Rattle.std.proofs.Common.{◌≡◌, ℕ, ◌+◌, ◌<◌, ◌⊎◌, true, List, [], ◌∷◌, ◌++◌, length, inl, inr, refl, sym, ◌∙◌, ap, subst, arith, length-append}
 use Rattle.std.proofs.lemmas.List.{get_or_push}
 use Rattle.std.proofs.Math.ListN.{get_or-append}

@@ -1,4 +1,5 @@
--- The number of each symbol's name, symbol by symbol and file by file.
+-- The number of each symbol's name, symbol by symbol and file by file. A name never loses its position, so what was noted for earlier
+-- symbols stays true as names are added.
 use Rattle.std.proofs.Common.{◌≡◌, ◌≢◌, ℕ, ◌<◌, Bool, true, false, List, [], get_or, length, map, refl, sym, ◌∙◌, ap}
 use Rattle.std.specs.Global.{Vec}
 use Rattle.std.specs.Prelude.{cond, Option, None, Some}

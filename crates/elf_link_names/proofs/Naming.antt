@@ -1,4 +1,5 @@
--- Names by position, in the order of their first entries.
+-- Names by position, in the order of their first entries. Two first entries have two names, so each name is at one position, and each name
+-- with an entry is among them.
 use Rattle.std.proofs.Common.{◌≡◌, ℕ, ◌+◌, ◌<◌, ◌⊎◌, Bool, List, length, inl, inr, refl, sym, ◌∙◌, ap, subst, arith}
 use Rattle.std.specs.Prelude.{if◌then◌else◌, Option, Some, MatchOption}
 use Rattle.std.specs.Str.{bytes_eq}

@@ -1,4 +1,5 @@
--- The addresses in rows, cell by cell.
+-- The addresses in rows, one cell for each section. Filling a cell changes no other, and no section is placed twice; so after all members
+-- each live section has its place, and every other cell is empty.
 use Rattle.std.proofs.Common.{◌≡◌, ◌≢◌, ℕ, ◌+◌, ◌<◌, ◌≤◌, ◌⊎◌, List, [], ◌∷◌, zero, suc, get_or, length, set, inl, inr, refl, sym, ◌∙◌, ap, subst, arith}
 use Rattle.std.specs.Prelude.{Option, None, Some, replicate, slice_index}
 use Rattle.std.proofs.lemmas.Bool.{cases_eq, cases_lt}

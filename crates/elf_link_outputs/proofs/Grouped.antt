@@ -1,4 +1,5 @@
--- Sections grouped by key, site by site.
+-- Live sections grouped by key, site by site. A section joins the group whose first section has its key, or opens one if none has. So the
+-- groups are the outputs, in the order of their openers, each with its members in order.
 use mathlib.Core.Bool.{beq}
 use Rattle.std.proofs.Common.{◌≡◌, ℕ, ◌+◌, ◌<◌, ◌⊎◌, ◌&&◌, Bool, true, false, List, [], ◌∷◌, ◌++◌, get_or, length, map, set, zero, suc, inl, inr, refl, sym, ◌∙◌, ap, subst, arith, length-append}
 use Rattle.std.specs.Global.{Vec}

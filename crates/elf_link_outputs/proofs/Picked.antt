@@ -1,4 +1,5 @@
--- What is picked from a list of sites, site by site.
+-- What is picked from a list of sites, in order: a site that passes is one more, and any other adds nothing. After the whole list all that
+-- pass are picked.
 use Rattle.std.proofs.Common.{◌≡◌, ℕ, ◌+◌, ◌<◌, List, [], ◌∷◌, ◌++◌, length, inl, inr, refl, sym, ◌∙◌, subst, arith}
 use Rattle.std.proofs.lemmas.Bool.{cases_lt}
 use Rattle.elf_link_files.specs.declared.site.Site.{Site}

@@ -1,4 +1,5 @@
--- Lists that a plan is made of: items said one by one, pairs of sites, lists of lists.
+-- Small facts on the lists that a plan is made of: what holds of each item of lists holds of the lists joined, and so does what holds of
+-- each two items.
 use Rattle.std.proofs.Common.{◌≡◌, ℕ, ◌<◌, List, [], ◌∷◌, ◌++◌, get_or, length, map, zero, suc, sym, ◌∙◌, ap, subst, arith, length-append}
 use Rattle.std.specs.Global.{Vec}
 use Rattle.std.proofs.lemmas.List.{get_or-map, length-map}

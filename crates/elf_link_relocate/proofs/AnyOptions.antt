@@ -1,4 +1,5 @@
--- What a map of some objects says, whatever its base, page and entry are.
+-- What a map says of its objects does not depend on its base, page and entry: outputs, members and addresses are fields of the map, so
+-- each fact goes over to a map with other options.
 use Rattle.std.proofs.Common.{◌≡◌, ℕ, List, refl, arith}
 use Rattle.std.specs.Prelude.{None}
 use Rattle.elf_object_type.specs.Object.{ObjectValue}

@@ -1,4 +1,5 @@
--- Fields in ascending order share no byte.
+-- Fields in ascending order share no byte: each begins after the end of the one before it, so of any two the earlier ends before the later
+-- begins.
 use Rattle.std.proofs.Common.{◌≡◌, ℕ, ◌+◌, ◌-◌, ◌<◌, List, length, inl, inr, ◌∙◌, subst, arith, zero, suc}
 use Rattle.std.proofs.lemmas.Bool.{cases_lt}
 use Rattle.elf_object_type.specs.Object.{ObjectValue}

@@ -1,4 +1,5 @@
--- Rows of fields, by the list of all fields.
+-- The rows of rules 13 to 16 by the list of all fields. The list has each applied entry with a field once, in order; so a rule is broken
+-- at an entry exactly if it is at a field of the list, and the first one there is the first site.
 use Rattle.std.proofs.Common.{◌≡◌, ℕ, ◌<◌, ◌≤◌, List, length, inl, inr, sym, subst, arith}
 use Rattle.std.proofs.lemmas.Bool.{cases_lt}
 use Rattle.elf_object_type.specs.Object.{ObjectValue}

@@ -1,4 +1,5 @@
--- The first fields that break a rule, field after field.
+-- The first field that breaks a rule, kept up as fields are added. It changes only if nothing was found before and the new field breaks
+-- the rule, so at the end it is the first of the list.
 use Rattle.std.proofs.Common.{◌≡◌, ◌↔◌, ℕ, ◌+◌, Bool, true, false, List, [], ◌∷◌, ◌++◌, ℤ, length, inl, inr, refl, sym, ◌∙◌, subst, arith}
 use Rattle.std.specs.Prelude.{MatchBool, MatchOption, Option, None, Some, not}
 use Rattle.std.proofs.lemmas.Bool.{cases_lt}

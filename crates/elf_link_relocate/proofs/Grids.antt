@@ -1,4 +1,5 @@
--- Tables with one item changed.
+-- Tables in rows with one item changed: the item is the new one, every other item and every length stay. So a table described cell by cell
+-- is so after a change, but for that cell.
 use Rattle.std.proofs.Common.{◌≡◌, ◌≢◌, ℕ, ◌<◌, ◌⊎◌, List, [], get_or, length, map, set, inl, inr, sym, ◌∙◌, ap}
 use Rattle.std.proofs.lemmas.Bool.{cases_eq}
 use Rattle.std.specs.Global.{Vec}

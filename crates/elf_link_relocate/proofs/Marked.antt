@@ -1,4 +1,5 @@
--- Marks of fields, one field after the other.
+-- Marks of fields, one field after the other. A byte is marked exactly if one of the fields so far has it, so the next field shares a byte
+-- with an earlier one exactly if it finds a mark.
 use Rattle.std.proofs.Common.{◌≡◌, ◌≢◌, ℕ, ◌+◌, ◌-◌, ◌<◌, ◌≤◌, ◌⊎◌, Bool, true, false, List, [], get_or, length, inl, inr, refl, sym, ◌∙◌, ap, subst, arith, zero, suc}
 use Rattle.std.specs.Prelude.{replicate}
 use Rattle.std.proofs.lemmas.Bool.{cases_eq, cases_lt}

@@ -1,4 +1,5 @@
--- The bytes of relocated copies are those of memory.
+-- The bytes of relocated copies are those of memory. A byte of a copy is one of a field's number or of the content, and memory at the
+-- section's address plus its offset is defined by the same two cases.
 use Rattle.std.proofs.Common.{◌≡◌, ℕ, ◌+◌, ◌-◌, ◌<◌, ◌≤◌, ◌⊎◌, ℤ, List, [], ◌∷◌, get_or, length, inl, inr, refl, sym, ◌∙◌, ap, subst, arith, zero, suc}
 use Rattle.std.specs.Prelude.{MatchOption, Option, None, Some, option_map, slice_index}
 use Rattle.std.proofs.lemmas.Bool.{cases_eq, cases_lt}

@@ -1,4 +1,5 @@
--- What holds of relocation sections in an object, since it breaks no rule.
+-- What the rules of objects say of relocation sections: the target is a section with bits, and the symbol of an entry is there. So an
+-- applied entry has a target and a symbol in its own file.
 use Rattle.std.proofs.Common.{◌≡◌, ℕ, ◌<◌, Bool, true, List, length, arith}
 use Rattle.std.specs.Prelude.{IfSome, None, Option, Some, get_or}
 use Rattle.elf_object_type.specs.declared.relocation.Relocation.{Relocation}

@@ -1,4 +1,5 @@
--- Copies with one more number in its field.
+-- Copies with one more number in its field. Patching changes the bytes of that field alone, and fields share no byte; so after k fields
+-- the copies have the numbers of the first k, and all else as it was.
 use Rattle.std.proofs.Common.{◌≡◌, ◌≢◌, ℕ, ◌+◌, ◌<◌, ◌≤◌, ◌⊎◌, ℤ, List, [], ◌∷◌, zero, suc, get_or, length, inl, inr, refl, sym, ◌∙◌, ap, subst, arith}
 use Rattle.std.specs.Prelude.{Option, None, Some, option_map, slice_index}
 use Rattle.std.proofs.lemmas.Bool.{cases_eq, cases_lt}

@@ -1,4 +1,5 @@
--- Fields that share a byte share an address.
+-- Fields that share a byte of a section share an address, because a section has one address. So if no address is in two extents of fields,
+-- no byte is in two fields.
 use Rattle.std.proofs.Common.{◌≡◌, ◌<◌, ◌+◌, ℕ, List, Some, length, map, slice_get, ap, refl, ◌∙◌, arith, option_map}
 use Rattle.std.proofs.lemmas.Option.{slice_get-get_or, slice_get-map}
 use Rattle.elf_extent.specs.Extent.{Doubly, HasAt}

@@ -1,4 +1,5 @@
--- The order of entries.
+-- The order of entries: by file, section and position. It is a strict order in which any two entries compare; the entries before the next
+-- one are those before this one and this one itself, also across the end of a section or a file.
 use Rattle.std.proofs.Common.{◌≡◌, ℕ, ◌+◌, ◌<◌, ◌⊎◌, inl, inr, refl, ◌∙◌, ap, arith}
 use Rattle.std.proofs.lemmas.Bool.{cases_lt}
 use Rattle.elf_link_files.specs.declared.site.Site.{Site}

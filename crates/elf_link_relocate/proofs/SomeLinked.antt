@@ -1,4 +1,5 @@
--- In a map of the files, where none of rules 1 to 16 is broken, it can't be that no bytes are the relocated ones.
+-- In a map of the files, if none of rules 1 to 16 is broken, it cannot be that no bytes are the relocated ones: each address of a live
+-- section has a byte, and bytes that are there one by one make a list.
 use Rattle.std.proofs.Common.{◌≡◌, ℕ, ◌+◌, ◌<◌, ◌≤◌, zero, suc, List, [], ◌∷◌, ◌++◌, length, get_or, inl, inr, refl, sym, subst, arith, add-one}
 use Rattle.std.specs.Prelude.{MatchOption, Option, None, Some}
 use Rattle.std.proofs.lemmas.Bool.{cases_lt}

@@ -1,4 +1,5 @@
--- Which sections a test keeps, where it keeps the first n after section 0.
+-- Which sections of a file are kept, if a test passes exactly the first n after section 0: those of index 1 to n. So the position of
+-- section p + 1 among them is p.
 use Rattle.std.proofs.Common.{◌≡◌, ◌<◌, ◌≤◌, ◌+◌, ◌⊎◌, ◌||◌, ℕ, zero, suc, Bool, true, false, List, [], ◌∷◌, inl, inr, refl, ap, ◌∙◌, arith}
 use Rattle.std.specs.Prelude.{not, filter}
 use Rattle.std.specs.List.{range_with_len}

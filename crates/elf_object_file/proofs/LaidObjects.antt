@@ -1,4 +1,5 @@
--- The bytes of two objects in canonical layout.
+-- Two objects in canonical layout, byte by byte: the one without sections, and one with a section of one byte. Both sides are computed,
+-- and the places are the least ones because each cursor is rounded up only where it has to be.
 use Rattle.std.proofs.Common.{◌≡◌, ◌%◌, ℕ, [], ◌∷◌, refl, arith}
 use Rattle.elf_extent.specs.Place.{IsLeastPlace, alignment}
 use Rattle.elf_extent.proofs.Public.{least_cons, least_nil}

@@ -1,4 +1,5 @@
--- The canonical layout of an object breaks no rule of a file.
+-- The canonical layout of an object breaks no rule of a file. It is a relocatable file written from its parts (`RelocatableFile`): its
+-- numbers fit, its contents have the sizes of their headers, and its name table is closed.
 use Rattle.std.proofs.Common.{◌≡◌, ◌≢◌, ◌<◌, ◌≤◌, ◌+◌, ◌-◌, ◌^◌, ◌%◌, ℕ, zero, suc, Bool, true, false, List, [], ◌∷◌, length, map, get_or, refl, sym, ap, subst, ◌∙◌, arith, inl, inr}
 use Rattle.std.specs.Prelude.{◌==◌, if◌then◌else◌, codes, slice_index}
 use Rattle.std.specs.List.{AllByRecursion}

@@ -1,4 +1,5 @@
--- The section headers and contents of a written object fit a file: each number its field, each content the size that is reported.
+-- The section headers and contents of a written object fit a file: each number its field, each content the size that is reported. The
+-- object's own fields are bounded by its widths, the others by the length of a layout that is not too long.
 use Rattle.std.proofs.Common.{◌≡◌, ◌≢◌, ◌<◌, ◌≤◌, ◌+◌, ◌-◌, ◌^◌, ◌||◌, ℕ, zero, suc, Bool, true, false, List, [], ◌∷◌, length, map, get_or, refl, sym, ap, subst, ◌∙◌, arith, inl, inr}
 use Rattle.std.specs.Prelude.{◌==◌, if◌then◌else◌, codes, Option, None, Some}
 use Rattle.std.specs.List.{AllByRecursion, filter, flat_map}

@@ -1,4 +1,5 @@
--- The file that an object is written as, section by section: which section is at which index.
+-- The file that an object is written as, section by section: index 0 is NULL, then come the object's own sections in order, then the
+-- symbol table, its index table if one is needed, and the two string tables.
 use Rattle.std.proofs.Common.{◌≡◌, ◌<◌, ◌+◌, ◌-◌, ℕ, zero, suc, Bool, true, false, List, get_or, length, refl, ap, subst, ◌∙◌, arith, inl, inr}
 use Rattle.std.specs.Prelude.{codes, if◌then◌else◌}
 use Rattle.std.proofs.lemmas.Bool.{cases_lt}

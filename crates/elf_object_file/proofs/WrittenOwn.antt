@@ -1,4 +1,5 @@
--- An own section of an object that is written is read back as itself.
+-- An own section of an object that is written is read back as itself: name, flags, address, alignment and entry size are in its header,
+-- link and info lead back to positions, and the body is read back (`WrittenBodies`).
 use Rattle.std.proofs.Common.{◌≡◌, ◌<◌, ◌+◌, ℕ, suc, List, Option, length, map, inl, inr, refl, ap, ◌∙◌, arith}
 use Rattle.elf_field.specs.declared.shdr.Shdr.{Shdr}
 use Rattle.elf_table_symbols.specs.Sections.{section}

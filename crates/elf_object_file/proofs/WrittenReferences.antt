@@ -1,4 +1,5 @@
--- The references from section to section of an object that is written: each index is read back as the position that it represents.
+-- The references from section to section of an object that is written. An index is a position plus one, so reading it back gives the
+-- position, and index 0 gives none.
 use Rattle.std.proofs.Common.{◌≡◌, ◌<◌, ◌≤◌, ◌+◌, ◌-◌, ℕ, suc, Option, None, Some, length, inl, inr, refl, ap, ◌∙◌, arith}
 use Rattle.std.specs.Prelude.{bit_and}
 use Rattle.std.proofs.lemmas.Bool.{cases_eq, cases_lt, ne_eqb}

@@ -1,4 +1,5 @@
--- The sections of a written object, by their indexes.
+-- The sections of a written object, by their indexes: section header p + 1 is that of the section at position p, and its content is at the
+-- place that the header names.
 use Rattle.std.proofs.Common.{◌≡◌, ◌<◌, ◌+◌, ℕ, zero, suc, List, [], ◌∷◌, length, get_or, refl, ap, ◌∙◌, arith}
 use Rattle.std.proofs.lemmas.List.{get_or-map}
 use Rattle.elf_extent.proofs.Public.{fits_length}

@@ -1,4 +1,5 @@
--- The symbols of an object that is written are read back as themselves.
+-- The symbols of an object that is written are read back as themselves: symbol q is entry q + 1, its name is in the string table, and its
+-- place comes from st_shndx or from the index table.
 use Rattle.std.proofs.Common.{◌≡◌, ◌<◌, ◌≤◌, ◌+◌, ℕ, suc, Bool, true, None, Some, List, [], length, map, inl, inr, refl, ap, ap₂, ◌∙◌, arith}
 use Rattle.std.specs.Prelude.{◌%◌, if◌then◌else◌, drop}
 use Rattle.std.specs.List.{range_with_len}

@@ -1,4 +1,5 @@
--- The symbol table of an object as it is written breaks none of the rules on its entries. (gABI chapter 4, Symbol Table; Sections: sh_info,
+-- The symbol table of an object as it is written breaks none of the rules on its entries. Local symbols come first, as rule 9 of objects
+-- asks, each name begins in the string table, and each place is a section that is there. (gABI chapter 4, Symbol Table; Sections: sh_info,
 -- SHT_SYMTAB_SHNDX.)
 use Rattle.std.proofs.Common.{◌≡◌, ◌≢◌, ◌<◌, ◌≤◌, ◌+◌, ◌^◌, ◌⊎◌, ℕ, zero, suc, Bool, true, false, Option, None, Some, List, [], ◌∷◌, length, map, get_or, replicate, inl, inr, refl, sym, ap, ap₂, subst, ◌∙◌, arith}
 use Rattle.std.specs.Prelude.{◌*◌, ◌-◌, filter, slice_index}

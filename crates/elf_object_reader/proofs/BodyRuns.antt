@@ -1,4 +1,5 @@
--- The rules of the tables in the sections that are kept, section by section.
+-- The rules of the tables in the sections that are kept, section by section. A section without a fault passes on to the next, one that is
+-- left out has no rules, and the first fault is that of all.
 use Rattle.std.proofs.Common.{◌≡◌, ℕ, ◌+◌, ◌-◌, ◌<◌, true, false, Option, None, Some, List, sym, subst}
 use Rattle.std.specs.Prelude.{filter}
 use Rattle.std.specs.List.{range_with_len}

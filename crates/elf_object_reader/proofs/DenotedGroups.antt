@@ -1,4 +1,5 @@
--- The groups of the object that a file denotes: rule 6 of objects is kept.
+-- The groups of the object that a file denotes keep rule 6 of objects. Positions keep the order of indexes, so rules 58 and 77 of files
+-- say it: a member is after its group, named once, no group itself, and has the flag.
 use Rattle.std.proofs.Common.{◌≡◌, ℕ, ◌<◌, ◌≤◌, ◌⊎◌, Bool, true, false, None, List, length, inl, inr, sym, ap, subst, ◌∙◌, arith}
 use Rattle.std.specs.Prelude.{◌==◌, ◌||◌, if◌then◌else◌, SomeIndex}
 use Rattle.std.proofs.lemmas.Bool.{cases_lt, eqb-true, false_from_ne_true}

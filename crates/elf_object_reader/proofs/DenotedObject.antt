@@ -1,4 +1,5 @@
--- The object that a file denotes, by position: which section of the file is where.
+-- The object that a file denotes, by position. The section at a position is the kept section with as many kept ones before it, and each
+-- kept section has a position. Names are strings, so they have no zero byte.
 use Rattle.std.proofs.Common.{◌≡◌, ℕ, ◌<◌, Bool, List, [], false, true, get_or, length, sym, ap, subst, ◌∙◌, arith}
 use Rattle.std.specs.Prelude.{◌==◌, Contains, drop, if◌then◌else◌}
 use Rattle.std.specs.List.{position_or_len}

@@ -1,4 +1,5 @@
--- What a file that breaks none of its rules says of the members of its groups, and of the symbol table that its tables link to.
+-- What a file that breaks none of its rules says of its groups and of the symbol table. Rule 73 leaves one symbol table, so tables that
+-- link to one link to this; and rules 58 and 77 make each member one that an object may have.
 use Rattle.std.proofs.Common.{◌≡◌, ℕ, ◌-◌, ◌<◌, ◌⊎◌, Bool, true, false, Option, None, Some, List, get_or, length, map, inl, inr, refl, ap, ◌∙◌, arith}
 use Rattle.std.specs.Prelude.{bit_and, drop}
 use Rattle.std.proofs.lemmas.Bool.{cases_eq, cases_lt}

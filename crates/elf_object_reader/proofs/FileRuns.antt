@@ -1,4 +1,5 @@
--- The runs of rules of a file that breaks none.
+-- The runs of rules of a file that breaks none: a list without a fault has none in its first run, and none in the rest, so each run has
+-- none.
 use Rattle.std.proofs.Common.{None}
 use Rattle.elf_image_rules.specs.Rows.{FirstIn}
 use Rattle.elf_image_rules.proofs.Public.{FirstIn-behind, FirstIn-front}

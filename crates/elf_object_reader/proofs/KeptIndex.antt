@@ -1,4 +1,5 @@
--- Indexes and positions: the list of the sections that are kept, by either.
+-- Indexes and positions. The place of an index is the number of passing indexes below it; so places ascend, no two are equal, and the list
+-- of the passing indexes has each at its place.
 use Rattle.std.proofs.Common.{◌≡◌, ℕ, ◌+◌, ◌<◌, ◌⊎◌, ◌++◌, zero, suc, Bool, true, false, List, [], ◌∷◌, get_or, length, inl, inr, refl, sym, ap, subst, ◌∙◌, arith, length-append}
 use Rattle.std.specs.Prelude.{filter}
 use Rattle.std.specs.List.{range_with_len}

@@ -1,4 +1,5 @@
--- The sections that an object keeps, of a file that breaks none of its rules: of which types they are, and what their tables' rules say.
+-- The types of the sections that an object keeps. Rules 72 to 74 leave one symbol table and one index table, both left out; so a kept
+-- section is of another type, and the rules of its own table hold.
 use Rattle.std.proofs.Common.{◌≡◌, ◌≢◌, ℕ, zero, suc, ◌<◌, ◌||◌, Bool, true, false, Option, None, Some, List, [], ◌∷◌, get_or, length, inl, inr, refl, sym, ap, subst, ◌∙◌, arith}
 use Rattle.std.specs.Prelude.{◌==◌, ◌&&◌, not, Contains}
 use Rattle.std.specs.List.{AllByRecursion}

@@ -1,4 +1,4 @@
--- The object that a file denotes which breaks none of its rules: it is one.
+-- The object that a file denotes which breaks none of its rules is an object: the nine rules, one by one, from the files that prove them.
 use Rattle.std.proofs.Common.{None}
 use Rattle.elf_image_outline.specs.Image.{ImageValue, IsSoundImage}
 use Rattle.elf_image_rules.specs.Rows.{FirstIn}

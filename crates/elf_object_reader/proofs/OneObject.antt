@@ -1,4 +1,5 @@
--- A file denotes one object.
+-- A file denotes one object: `Denotes` gives each field of the object as a function of the file, so two such objects agree, and the object
+-- with these fields is one.
 use Rattle.std.proofs.Common.{◌≡◌, ℕ, List, map, ap, refl, sym, ◌∙◌}
 use Rattle.std.specs.Prelude.{slice_index}
 use Rattle.elf_field.specs.Abi.{EI_ABIVERSION, EI_OSABI}

@@ -1,4 +1,5 @@
--- The rules of the symbol table and of the places of its symbols.
+-- The rules of the symbol table and of the places of its symbols. Without a symbol table none is broken; with one, its own rules come
+-- first, and then rule 75.
 use Rattle.std.proofs.Common.{◌≡◌, ℕ, Option, None, Some, inl, refl, sym, subst}
 use Rattle.elf_extent.specs.Least.{IsLeast, Never}
 use Rattle.elf_image_rules.specs.Rows.{FirstIn}

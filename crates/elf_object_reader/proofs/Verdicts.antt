@@ -1,4 +1,5 @@
--- Verdicts of runs of rules joined.
+-- Verdicts of runs of rules, joined: a run without a fault passes on to the next, and the first fault is the verdict of all. Memory is
+-- taken only after the first run, so a fault there comes before out of memory.
 use Rattle.std.proofs.Common.{◌≡◌, ℕ, List, [], ◌++◌, Option, None, Some, Result, Ok, Err, sym, subst}
 use Rattle.std.specs.Prelude.{IfErr, IfOk}
 use Rattle.std.specs.Result.{IsErrAnd}

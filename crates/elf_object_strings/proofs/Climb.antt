@@ -1,4 +1,5 @@
--- Each name that is not empty has one that is held and ends with it.
+-- Each name that is not empty has one that is held and ends with it. If the name itself is not held, a longer one ends with it; lengths
+-- are bounded, so the climb from name to longer name ends.
 use Rattle.std.proofs.Common.{◌≡◌, ◌<◌, ◌≤◌, ◌+◌, ℕ, zero, suc, Bool, true, false, not, List, [], ◌∷◌, length, get_or, ◌⊎◌, inl, inr, refl, sym, ap, ◌∙◌, arith, length-append}
 use Rattle.std.specs.List.{flat_map, list_any}
 use Rattle.std.specs.Str.{bytes_eq}

@@ -1,4 +1,5 @@
--- Each name of a list once, one name more.
+-- Each name of a list once, one name more: a name that is already there adds nothing, and any other is put at the end. A name is in the
+-- result exactly if it is in the list.
 use Rattle.std.proofs.Common.{◌≡◌, ℕ, Bool, true, false, cond, not, List, [], ◌∷◌, ◌++◌, refl, sym, ap, ◌∙◌}
 use Rattle.std.specs.Prelude.{◌||◌}
 use Rattle.std.specs.List.{filter, list_any}

@@ -1,4 +1,5 @@
--- Where the first of a list of names that ends with a name has its zero.
+-- Where the first of a list of names that ends with a given name has its zero. A name that does not end with it takes its length and a
+-- zero; the first that does has its zero at the end of the given name.
 use Rattle.std.proofs.Common.{◌≡◌, ◌<◌, ◌≤◌, ◌+◌, ◌-◌, ℕ, suc, Bool, true, false, List, [], ◌∷◌, ◌++◌, length, drop, refl, sym, ap, ◌∙◌, append_assoc, arith, length-append, true≢false}
 use Rattle.std.specs.List.{flat_map, list_any}
 use Rattle.std.proofs.Math.Seq.{drop-append-add}

@@ -1,4 +1,5 @@
--- What the code reads of sorted names, by places.
+-- What the code reads of sorted names, by places: names and indexes of a list of pairs are read element by element, and the test of a
+-- suffix is that of the definition.
 use Rattle.std.proofs.Common.{◌≡◌, ◌<◌, ℕ, true, false, List, [], get_or, length, ◌++◌, sym, ap, ◌∙◌}
 use Rattle.std.proofs.lemmas.List.{get_or-map, length-map}
 use Rattle.elf_object_strings.specs.declared.sorting.Numbered.{Numbered}

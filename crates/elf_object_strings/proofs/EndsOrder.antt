@@ -1,4 +1,5 @@
--- What the order by ends says of the names between two places.
+-- The order by ends: names are compared from their last byte on, the greatest first, so a name comes after each one that ends with it.
+-- Therefore the names that end with one name are all together, right before it.
 use Rattle.std.proofs.Common.{◌≡◌, ◌<◌, ◌≤◌, ℕ, false, List, [], ◌∷◌, ◌++◌, get_or, length, reverse, refl, sym, ap, ◌∙◌, arith, Ordering}
 use Rattle.std.specs.declared.cmp.Ordering.TheVariants.{Less, Equal, Greater}
 use Rattle.std.specs.Cmp.Lexicographic.{slice_cmp}

@@ -1,4 +1,5 @@
--- Runs of names that end with one name, followed from the last of them on.
+-- Runs of names that end with one name. The run of a name ends at it, and is joined of the runs that end right before it: so from each run
+-- met on the way back only its last name is looked at, and the least owner is kept.
 use Rattle.std.proofs.Common.{◌+◌, ◌∷◌, ◌++◌, set, below_more, get_or-set_other, get_or-set_same, ◌≡◌, ◌<◌, ◌≤◌, ◌⊎◌, ℕ, ◌-◌, min, List, [], get_or, length, refl, sym, ap, subst, ◌∙◌, inl, inr, arith}
 use Rattle.std.specs.Prelude.{◌==◌, if◌then◌else◌}
 use Rattle.std.proofs.lemmas.Bool.{cases_eq, cases_lt}

@@ -1,4 +1,5 @@
--- A string table shares tails: the lowest offsets, each name, and no byte more than it needs.
+-- A string table that shares tails is right in three ways: each name is at its lowest offset, each name is there, and no list that holds
+-- the names is shorter. The names that are held have no suffix among them, which gives the last.
 use Rattle.std.proofs.Common.{◌≡◌, ◌≢◌, ◌<◌, ℕ, zero, suc, ◌-◌, Bool, true, false, List, [], ◌∷◌, ◌++◌, length, take, get_or, map, refl, sym, ap, ◌∙◌, arith}
 use Rattle.std.specs.Prelude.{not}
 use Rattle.std.specs.List.{AllByRecursion, flat_map, list_any}

@@ -1,4 +1,5 @@
--- None of the names that a table holds ends with another one.
+-- None of the names that a table holds ends with another one, and no two are the same: a held name is no proper suffix of any name, and
+-- the list has each name once.
 use Rattle.std.proofs.Common.{◌≡◌, ◌≢◌, ℕ, Bool, true, false, List, [], ◌∷◌, refl, sym, ◌∙◌}
 use Rattle.std.specs.Prelude.{◌&&◌, not, ⊤}
 use Rattle.std.specs.List.{AllByRecursion, filter, list_any}

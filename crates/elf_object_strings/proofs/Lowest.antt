@@ -1,4 +1,5 @@
--- The lowest offset at which a name is among closed names is where the first of them ends that ends with it.
+-- The lowest offset of a name among closed names is in the first of them that ends with it. A zero ends each name and none has one inside,
+-- so a name that is found at an offset lies at the end of one closed name.
 use Rattle.std.proofs.Common.{◌≡◌, ◌≢◌, ◌<◌, ◌≤◌, ℕ, zero, suc, ◌+◌, ◌-◌, Bool, true, false, cond, List, [], ◌∷◌, ◌++◌, length, take, drop, get_or, refl, sym, ap, ap₂, ◌∙◌, append_assoc, arith, inl, inr, length-append}
 use Rattle.std.specs.Prelude.{◌⊎◌}
 use Rattle.std.specs.List.{AllByRecursion, flat_map, list_any}

@@ -1,4 +1,5 @@
--- Names of which none ends with another take the bytes of all of them in whatever list holds them.
+-- Names of which none ends with another take the bytes of all of them, with a zero each, in whatever list holds them. Cut out one name
+-- with its zero: the others are still there, so by induction the list is at least that long.
 use Rattle.std.proofs.Common.{◌≡◌, ◌≤◌, ℕ, List, [], ◌∷◌, ◌++◌, length, sym, ap, ap₂, ◌∙◌, arith, length-append, inl, inr}
 use Rattle.std.specs.Prelude.{◌⊎◌, ⊤}
 use Rattle.std.specs.List.{AllByRecursion, flat_map}

@@ -1,4 +1,5 @@
--- Names that end with others.
+-- Facts on names that end with others: the test is the definition, the relation is reflexive and transitive, and a suffix is no longer
+-- than the name.
 use Rattle.std.proofs.Common.{◌≡◌, ◌≤◌, ◌+◌, ◌-◌, ℕ, true, false, List, [], ◌∷◌, ◌++◌, length, take, refl, sym, ap, ◌∙◌, append_assoc, arith, length-append}
 use Rattle.std.proofs.lemmas.Bool.{true≢false}
 use Rattle.std.proofs.lemmas.Bool.Decides.{Decides-eqb}

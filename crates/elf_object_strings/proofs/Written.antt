@@ -1,4 +1,5 @@
--- The names that are written, where each of them ends, and where a name begins whose owner ends there.
+-- The names that are written, one by one. Exactly the names that own themselves are written, with a zero each; a name whose owner ends at
+-- an offset begins as many bytes before it as it has.
 use Rattle.std.proofs.Common.{◌≡◌, ◌<◌, ◌≤◌, ◌+◌, ◌-◌, ℕ, zero, suc, Bool, true, false, cond, not, ◌&&◌, ◌⊎◌, inl, inr, List, [], ◌∷◌, ◌++◌, length, take, drop, get_or, refl, sym, ap, subst, ◌∙◌, append_assoc, arith, length-append}
 use Rattle.std.specs.Prelude.{◌==◌}
 use Rattle.std.specs.List.{filter, flat_map, list_any}

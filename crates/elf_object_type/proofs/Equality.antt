@@ -1,4 +1,5 @@
--- What the derived `==` of the parts answers is whether their values are the same.
+-- The derived `==` of the parts returns whether their values are the same: field by field, each comparison of the code is the comparison
+-- of the values.
 use Rattle.std.proofs.Common.{◌≡◌, ◌∙◌, ◌&&◌, nat_eq, List, refl, sym, map}
 use Rattle.std.specs.Cmp.Derive.Mapped.{pointwise-map}
 use Rattle.std.specs.Cmp.Lexicographic.{pointwise}

@@ -1,4 +1,5 @@
--- No rule of objects is broken exactly where each rule's fact holds.
+-- No rule of objects is broken exactly if each rule's positive fact holds. A rule says that something is wrong and its fact that it is
+-- right; each is a test of numbers, which is decidable.
 use Rattle.std.proofs.Common.{◌≡◌, ◌≢◌, ◌<◌, ◌≤◌, ℕ, Bool, true, false, Option, None, Some, length, inl, inr, refl, sym, subst, ◌∙◌, arith}
 use Rattle.std.specs.Prelude.{slice_index, IfSome, pos}
 use Rattle.std.proofs.lemmas.Bool.{cases_order}

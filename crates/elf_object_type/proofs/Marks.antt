@@ -1,4 +1,5 @@
--- Marks over the sections: which of them are members of a group already.
+-- Marks over the sections: a section is marked exactly if it is a member of one of the groups so far. A group adds its members, and a
+-- section without one adds nothing.
 use Rattle.std.proofs.Common.{◌≡◌, ℕ, ◌+◌, ◌<◌, ◌⊎◌, inl, inr, Bool, true, false, List, [], length, get_or, set, sym, subst, ◌∙◌, arith, get_or-set_other, get_or-set_same}
 use Rattle.std.proofs.lemmas.Bool.{cases_eq, cases_lt}
 use Rattle.std.proofs.lemmas.List.{get_or_past, length-set}

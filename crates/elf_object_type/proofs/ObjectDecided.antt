@@ -1,4 +1,5 @@
--- Each rule of objects is broken or not, for each value, so a value has a fault or none.
+-- Each rule of objects is broken or not, for each value: it is made of comparisons of numbers and of searches below a bound, which are
+-- decidable. So for each value there is a first rule that is broken, or none is.
 use Rattle.std.proofs.Common.{◌≡◌, ◌≢◌, ◌^◌, ◌<◌, ◌≤◌, ◌⊎◌, ℕ, zero, suc, Bool, true, false, Option, None, Some, List, [], ◌∷◌, ◌++◌, length, get_or, inl, inr, refl, sym, subst, ◌∙◌, arith}
 use Rattle.std.specs.Prelude.{◌%◌, ◌/◌, bit_and, slice_index, slice_index_or, Any, Contains, ℤ, pos, negsuc}
 use Rattle.std.specs.Int.{IsPowerOfTwo}

@@ -1,4 +1,4 @@
--- The relocations of a table, by index, and what holds of each.
+-- The relocations of a table that was read, by index: as many as whole entries fit its bytes, and each is the one at its offset.
 use Rattle.std.proofs.Common.{◌≡◌, ◌<◌, ◌*◌, ◌^◌, ℕ, Bool, true, false, List, length, get_or, zero-add, subst, refl, sym, ap₂, arith}
 use Rattle.std.specs.Int.{w64}
 use Rattle.std.specs.List.{AllByRecursion}

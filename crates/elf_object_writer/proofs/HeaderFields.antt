@@ -1,4 +1,5 @@
--- The section header of each kind of section, field by field.
+-- The section header of each kind of section, field by field: what the code fills in for bits, relocations, groups and the tables at the
+-- end is the header of the definition.
 use Rattle.std.proofs.Common.{◌≡◌, ◌+◌, ℕ, List, length, refl, sym, ap, ap₂, subst, ◌∙◌}
 use Rattle.std.specs.Prelude.{filter}
 use Rattle.std.proofs.lemmas.Bool.{ne_eqb}

@@ -1,4 +1,5 @@
--- The positions that an object's sections and symbols name are there, and fit a field of 32 bits.
+-- The positions that sections and symbols name are there, by the rules of objects, and there are fewer than 2^31 of them in a layout that
+-- is not too long; so each fits a field of 32 bits.
 use Rattle.std.proofs.Common.{◌≡◌, ◌<◌, ◌≤◌, ◌+◌, ◌*◌, ◌^◌, ℕ, Option, None, Some, List, length, map, get_or, inl, inr, sym, ap, subst, ◌∙◌, arith}
 use Rattle.std.proofs.lemmas.Bool.{cases_lt}
 use Rattle.std.proofs.lemmas.List.{get_or-map, length-map}

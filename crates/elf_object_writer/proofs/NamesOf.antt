@@ -1,4 +1,5 @@
--- Names and their offsets of an object's sections and symbols, as the code has them and as the object's value does.
+-- The names of an object's sections and symbols and their offsets: the list that the code makes name by name is that of the object's
+-- value, with or without the name of the index table.
 use Rattle.std.proofs.Common.{◌≡◌, ℕ, Bool, true, false, List, [], ◌∷◌, ◌++◌, map, refl, sym, ap, ap₂, ◌∙◌, append_assoc}
 use Rattle.std.specs.Prelude.{◌||◌, if◌then◌else◌, codes}
 use Rattle.std.specs.List.{list_any}

@@ -1,4 +1,5 @@
--- The numbers of an object's own sections fit the fields of its file.
+-- The numbers of an object's own sections fit the fields of its file: a position is below a count that is less than 2^31, and the other
+-- numbers are bounded by the types of the code.
 use Rattle.std.proofs.Common.{◌≡◌, ◌<◌, ◌≤◌, ◌+◌, ◌^◌, ℕ, zero, suc, Some, List, [], ◌∷◌, length, map, get_or, inl, inr, refl, sym, ap, ◌∙◌, arith}
 use Rattle.std.specs.Prelude.{All, Any}
 use Rattle.std.proofs.lemmas.List.{get_or-map, length-map}

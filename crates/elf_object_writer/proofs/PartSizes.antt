@@ -1,4 +1,5 @@
--- The sizes of an object's parts, as code counts them.
+-- The sizes of an object's parts, as code counts them: entries times their size, saturated at the largest number. So each is the size of
+-- the definition, or both are too large for a file.
 use Rattle.std.proofs.Common.{◌≡◌, ◌≢◌, ◌<◌, ◌+◌, ◌*◌, ◌^◌, min, ℕ, Bool, true, false, List, [], ◌∷◌, length, map, get_or, refl, sym, ap, subst, ◌∙◌, arith}
 use Rattle.std.specs.Prelude.{◌==◌}
 use Rattle.std.proofs.lemmas.Bool.{ne_eqb}

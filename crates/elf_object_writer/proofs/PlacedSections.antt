@@ -1,4 +1,5 @@
--- The section at each position of the canonical layout.
+-- The section at each position of the canonical layout: below the count of own sections it is one of these; then come the symbol table,
+-- the index table if there is one, the string table and the name table.
 use Rattle.std.proofs.Common.{◌≡◌, ◌<◌, ◌+◌, ℕ, Bool, true, false, length, get_or, inl, inr, sym, ap, ◌∙◌, arith}
 use Rattle.elf_object_writer.specs.declared.placed_section.PlacedSection.TheVariants.{Own, SymbolTable, IndexTable, Strings, Names}
 use Rattle.elf_object_type.specs.Object.{ObjectValue}

@@ -1,4 +1,5 @@
--- The sections of a layout by position: the object's own, and the three or four after them.
+-- The sections of a layout by position: the object's own, and the three or four after them. The list is one appended to the other, so a
+-- position is in the first or in the second part.
 use Rattle.std.proofs.Common.{◌≡◌, ◌<◌, ◌≤◌, ◌+◌, ◌⊎◌, ℕ, Bool, true, false, List, [], ◌++◌, length, map, get_or, inl, inr, refl, sym, ap, ◌∙◌, arith, length-append}
 use Rattle.std.specs.Prelude.{if◌then◌else◌}
 use Rattle.std.proofs.lemmas.List.{get_or-append-add, get_or-map, get_or_append_left, length-map}

@@ -1,4 +1,5 @@
--- The relocations that a table of a file lists have the bytes of that table.
+-- The relocations that a table of a file lists have the bytes of that table. `r_info` is put together from its two halves, and an entry
+-- that is read and written is the same, so all of them are.
 use Rattle.std.proofs.Common.{◌≡◌, ◌∙◌, ◌+◌, ◌-◌, ◌*◌, ◌/◌, ◌%◌, ◌^◌, ℕ, zero, suc, Bool, true, false, List, [], ◌∷◌, length, map, take_all, refl, sym, ap, arith, zero-add}
 use Rattle.std.specs.List.{flat_map, range_with_len}
 use Rattle.elf_field.proofs.RecordTableLaws.{entries_bytes}

@@ -1,4 +1,5 @@
--- No name of an object has a zero byte, and none of the four sections after its own has one: so both string tables share tails.
+-- No name of an object has a zero byte, by rules 1 and 7 of objects, and none of the names of the four sections after its own has one; so
+-- both string tables share tails.
 use Rattle.std.proofs.Common.{◌<◌, ℕ, zero, suc, Bool, true, false, List, [], ◌∷◌, ◌++◌, map, refl, arith}
 use Rattle.std.specs.Prelude.{if◌then◌else◌, codes}
 use Rattle.std.specs.List.{AllByRecursion}

@@ -1,4 +1,5 @@
--- The tables that other tables link to, where these break no rule.
+-- The tables that other tables link to, where these break no rule. The rules of a group and of a dynamic section include those of the
+-- linked table, so it is there, of the right kind, and breaks no rule either.
 use Rattle.std.proofs.Common.{◌≡◌, ℕ, ◌<◌, Option, None, Some, List, length, get_or, inl, inr, refl, sym, subst}
 use Rattle.std.proofs.lemmas.Bool.{cases_eq, cases_lt}
 use Rattle.elf_field.specs.Abi.{SHT_SYMTAB}

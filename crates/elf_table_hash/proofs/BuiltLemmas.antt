@@ -1,4 +1,5 @@
--- The words of a hash table as its chains are made.
+-- The words of a hash table as its chains are made. Putting a symbol first on its bucket's chain sets two words; all other chains stay,
+-- and once all symbols are put the table is one for its names.
 use Rattle.std.proofs.Common.{◌≡◌, ◌≢◌, ℕ, ◌+◌, ◌%◌, ◌<◌, ◌≤◌, List, length, get_or, set, inl, inr, refl, sym, ap, subst, ◌∙◌, arith, get_or-set_other, get_or-set_same}
 use Rattle.std.proofs.Math.Nat.{mod-lt}
 use Rattle.std.proofs.lemmas.List.{length-set}

@@ -1,4 +1,5 @@
--- Chains: there is one from each word, it is short, and a circle has none.
+-- Chains: from a word there is at most one chain. It visits no symbol twice, so it is shorter than the count of symbols; and a path that
+-- comes back to its start has no end.
 use Rattle.std.proofs.Common.{◌≡◌, ◌≢◌, ℕ, ◌+◌, ◌<◌, ◌≤◌, ◌⊎◌, Bool, true, false, eqb, List, [], ◌∷◌, ◌++◌, length, inl, inr, refl, sym, ap, subst, ◌∙◌, arith, length-append}
 use Rattle.std.specs.Prelude.{◌||◌}
 use Rattle.std.specs.List.{AllByRecursion, IsDistinct, list_any}

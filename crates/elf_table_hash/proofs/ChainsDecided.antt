@@ -1,4 +1,5 @@
--- Whether a chain ends, and whether a symbol is on it, is settled one way or the other: chains are short.
+-- Whether a chain ends, and whether a symbol is on it, is decided by following it: a chain that goes on after as many steps as there are
+-- symbols never ends, since a chain that ends is shorter.
 use Rattle.std.proofs.Common.{◌≡◌, ℕ, ◌<◌, ◌⊎◌, zero, suc, List, [], ◌∷◌, ◌++◌, length, inl, inr, refl, ap, subst, arith, length-append}
 use Rattle.std.proofs.lemmas.Bool.{cases_eq}
 use Rattle.elf_table_hash.specs.ChainDepths.{IsAmongSymbols}

@@ -1,4 +1,5 @@
--- What the rules of a hash table say of one that breaks none of them.
+-- What rules 65 to 69 say of a hash table that breaks none of them: its size is that of its counts, each word is a symbol, each chain
+-- ends, and each symbol is on the chain of its bucket. This is what `Valid` asks.
 use Rattle.std.proofs.Common.{◌≡◌, ◌≢◌, ℕ, ◌+◌, ◌*◌, ◌%◌, ◌/◌, ◌<◌, None, length, get_or, inl, inr, refl, ap, sym, subst, ◌∙◌, arith}
 use Rattle.std.proofs.Math.Nat.{mod-lt}
 use Rattle.std.proofs.lemmas.Bool.{cases_eq, cases_lt}

@@ -1,4 +1,5 @@
--- A string is known by the first bytes from its place on, where these are one more than its length.
+-- A string is known by the first bytes from its place on, one more than the length of the name that it is compared with: if its zero is
+-- not among them, the string is longer, and otherwise all of it was seen.
 use Rattle.std.proofs.Common.{◌≡◌, ◌-◌, ◌+◌, ℕ, Bool, true, false, List, [], ◌∷◌, ap, arith, cond, drop, inl, inr, length, min, not, sym, take, zero, suc, ◌∙◌}
 use Rattle.std.specs.Prelude.{◌==◌}
 use Rattle.std.specs.List.{before_first, position_or_len}

@@ -1,4 +1,5 @@
--- A look-up along a chain.
+-- A look-up along a chain. Each symbol looked at does not have the name, and the chain of a valid table ends and has all symbols of the
+-- bucket; so the first symbol with the name is found, or none has it.
 use Rattle.std.proofs.Common.{◌≡◌, ◌≢◌, ℕ, ◌+◌, ◌%◌, ◌<◌, Option, None, Some, List, [], ◌∷◌, ◌++◌, length, refl, ap, subst, arith, length-append}
 use Rattle.std.specs.Option.{IsSome}
 use Rattle.std.proofs.Math.Nat.{mod-lt}

@@ -1,4 +1,5 @@
--- Chains as they are made, symbol by symbol.
+-- Chains as they are made, from the last symbol to the first. Each chain ascends, so putting a smaller symbol in front changes no path
+-- above it, and every chain ends; a chain has the symbols of one bucket alone.
 use Rattle.std.proofs.Common.{◌≡◌, ◌≢◌, ℕ, ◌+◌, ◌<◌, ◌≤◌, ◌⊎◌, zero, suc, List, [], ◌∷◌, inl, inr, refl, sym, ap, subst, ◌∙◌, arith}
 use Rattle.std.proofs.lemmas.Bool.{cases_eq}
 use Rattle.elf_table_hash.specs.ChainDepths.{Leads}

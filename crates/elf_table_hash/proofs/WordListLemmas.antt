@@ -1,4 +1,4 @@
--- The words of a section and the names of symbols, by index.
+-- The words of a section and the names of symbols, by index: as many as whole entries fit, and element j is read at j times the size.
 use Rattle.std.proofs.Common.{◌≡◌, ℕ, ◌/◌, ◌<◌, List, [], ◌∷◌, length, map, get_or, refl, ap, zero-add}
 use Rattle.std.specs.List.{range_with_len}
 use Rattle.std.proofs.lemmas.List.FromFn.{get_or-map-range_with_len, length-map-range_with_len}

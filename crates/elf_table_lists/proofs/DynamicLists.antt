@@ -1,4 +1,5 @@
--- The entries of a dynamic section, by index, and where the dynamic array ends.
+-- The entries of a dynamic section, by index. The array is the entries before the first DT_NULL, so the lowest entry before that index
+-- that breaks a rule is the lowest of the array.
 use Rattle.std.proofs.Common.{◌≡◌, ℕ, ◌<◌, ◌≤◌, true, false, Option, None, Some, List, length, get_or, inl, inr, sym, ◌∙◌, ap, take, arith, zero-add}
 use Rattle.std.specs.List.{position_or_len}
 use Rattle.std.proofs.lemmas.Bool.{cases_lt, false_from_ne_true}

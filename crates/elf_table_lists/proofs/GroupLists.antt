@@ -1,4 +1,5 @@
--- The members of a group, by index, and what its rules say of a group that breaks none.
+-- The members of a group, by index: the words after the first one. A group that breaks no rule is whole words long and not empty, so it
+-- has its flags and all its members.
 use Rattle.std.proofs.Common.{◌≡◌, ℕ, ◌<◌, None, List, length, get_or, inl, inr, refl, arith, zero-add}
 use Rattle.std.proofs.lemmas.Bool.{cases_eq}
 use Rattle.std.proofs.lemmas.List.FromFn.{get_or-map-range_with_len, length-map-range_with_len}

@@ -1,4 +1,5 @@
--- The members of a group that were named so far, and the lowest one that is wrong.
+-- The members of a group that were named so far, and the lowest one that is wrong. Members that ascend are named once without a set;
+-- otherwise the set of those so far decides whether the next one was named before.
 use Rattle.std.proofs.Common.{◌≡◌, ℕ, ◌+◌, ◌*◌, ◌<◌, true, Option, None, Some, List, inl, inr, refl, arith}
 use Rattle.std.specs.Ordering.{nat_cmp}
 use Rattle.std.specs.BTreeSet.{BTreeSet}

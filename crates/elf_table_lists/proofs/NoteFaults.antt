@@ -1,4 +1,5 @@
--- The notes of a content judged one by one, from the first on.
+-- The notes of a content tested one by one. All notes before an offset are whole, and the lowest name that is not closed is kept; a note
+-- that is cut short ends the list, so what is found there or was kept is the first fault.
 use Rattle.std.proofs.Common.{◌≡◌, ℕ, suc, ◌+◌, ◌-◌, ◌<◌, ◌≤◌, Option, None, Some, List, length, inl, inr, refl, sym, ap, subst, ◌∙◌, arith}
 use Rattle.std.specs.Option.{option_map, option_or}
 use Rattle.std.proofs.lemmas.Bool.{cases_eq, cases_lt}

@@ -1,4 +1,5 @@
--- A note of a content is the one that is in the file.
+-- A note of a content is the one in the file: its words, name and descriptor are stretches of the content, which is a stretch of the file,
+-- so they are at the same distance from its start.
 use Rattle.std.proofs.Common.{◌≡◌, ℕ, ◌+◌, ◌-◌, ◌≤◌, List, take, drop, ap, ◌∙◌, arith}
 use Rattle.std.proofs.lemmas.List.{drop-drop, drop-take, take-take}
 use Rattle.elf_extent.specs.declared.extent.Extent.{Extent}

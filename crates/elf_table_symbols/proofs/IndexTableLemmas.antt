@@ -1,4 +1,5 @@
--- The index tables of a symbol table, found section by section.
+-- The index tables of a symbol table, found section by section. The first two are noted; a section that is none changes nothing, so at the
+-- end the first is the lowest, and rule 49 is broken at the second.
 use Rattle.std.proofs.Common.{◌≡◌, ℕ, ◌+◌, Bool, true, false, Option, None, Some, refl}
 use Rattle.std.specs.Prelude.{◌==◌, ◌&&◌}
 use Rattle.std.specs.Cmp.Derive.{both_true}

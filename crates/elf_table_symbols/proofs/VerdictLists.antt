@@ -1,4 +1,5 @@
--- The verdicts on the first sections, as a list: how many there are, the one on a section, and one more.
+-- The verdicts on the first sections, as a list. Only tables that break a rule are kept, by section; so a verdict is the entry of its
+-- section, or none, and one more section adds one at the end.
 use Rattle.std.proofs.Common.{◌≡◌, ℕ, ◌+◌, ◌<◌, Option, None, Some, List, [], ◌∷◌, ◌++◌, length, get_or, refl, ◌∙◌, ap, zero-add, arith}
 use Rattle.std.specs.BTreeMap.{BTreeMap, Updates, get}
 use Rattle.std.specs.Ordering.{nat_cmp}

@@ -1,4 +1,5 @@
--- Objects, their link map and relocation rules have at most one value of relocated bytes.
+-- Objects, their link map and relocation rules have at most one value of relocated bytes: the bytes of each live section are those of
+-- memory at its addresses, and memory has one byte at each address.
 use Rattle.std.proofs.Common.{◌≡◌, ◌∙◌, ℕ, ◌+◌, ◌<◌, List, [], ap, arith, get_or, length, refl, subst, sym}
 use Rattle.std.specs.Prelude.{Option, None, Some, MatchOption}
 use Rattle.std.proofs.lemmas.List.{ext_get_or}

@@ -1,4 +1,5 @@
--- `rewrite` says one thing of bytes.
+-- `rewrite` says one thing of bytes. They denote one object, with one canonical layout, or one rule is broken first; and a layout is too
+-- long or not.
 use Rattle.std.proofs.Common.{◌≡◌, ◌∙◌, ℕ, List, [], ap, arith, refl, sym}
 use Rattle.std.specs.Prelude.{None, Some}
 use Rattle.elf_image_rules.specs.ImageRules.{rules_in}

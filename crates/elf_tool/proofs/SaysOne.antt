@@ -1,4 +1,4 @@
--- How what says one thing alone is put together.
+-- How a report of one thing is put together: if each case has one answer and no two cases come together, there is one answer in all.
 use Rattle.std.proofs.Common.{◌≡◌, ◌∙◌, ◌⊎◌, ℕ, List, ap, inl, inr, subst, sym}
 use Rattle.elf_tool_text.specs.declared.fault.Verdict.{Verdict}
 use Rattle.elf_tool.specs.SaysOne.{SaysOne}

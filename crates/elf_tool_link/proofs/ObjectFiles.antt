@@ -1,4 +1,5 @@
--- Of files that are objects.
+-- Files as objects, file by file. A file that is an object is one more; the first that is not is refused, with all before it objects;
+-- after the last file all are objects.
 use Rattle.std.proofs.Common.{◌≡◌, ◌∙◌, ℕ, ◌<◌, ◌≤◌, List, [], ◌∷◌, ◌++◌, ap, arith, get_or, length, map, subst, sym}
 use Rattle.std.proofs.lemmas.List.{get_or-map, length-map}
 use Rattle.elf_object_type.specs.Object.{ObjectValue}

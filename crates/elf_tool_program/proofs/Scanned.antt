@@ -1,4 +1,5 @@
--- Of a source that was scanned: what is said of it is what `check` says of its bytes.
+-- What is said of a source that was scanned is what `check` says of its bytes: the outline is an image with their contents, or the rule is
+-- the first that they break, so the line is the same.
 use Rattle.std.proofs.Common.{◌≡◌, ◌∙◌, ℕ, List, length, Option, Some, Result, Ok, Err, ap, refl}
 use Rattle.std.specs.Io.KnownBytes.{Appends}
 use Rattle.std.proofs.lemmas.List.FromFn.{length-map-range_with_len}

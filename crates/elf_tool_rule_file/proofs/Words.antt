@@ -1,4 +1,5 @@
--- The words of a relocation rule's line.
+-- The words of a relocation rule's line: a number in digits, a form, a width and a range. No byte of a word is a blank or below, so the
+-- line is cut at its blanks into these four words, and none has a line feed.
 use Rattle.std.proofs.Common.{◌≡◌, ◌≢◌, ◌∙◌, ℕ, zero, suc, ◌-◌, ◌≤◌, ◌++◌, ◌∷◌, [], List, Bool, true, false, Result, Ok, Err, ap, arith, get_or, inl, inr, length, nat_lt, refl, rules, sym, subst}
 use Rattle.std.specs.Char.{is_ascii_digit}
 use Rattle.std.specs.List.{list_all}

@@ -1,4 +1,5 @@
--- Of a text that goes out in pieces.
+-- A text that is written in pieces. What was written and what is pending are, joined, the text so far; a flush moves what is pending to
+-- what is written, and a fault leaves a beginning of the text.
 use Rattle.std.proofs.Common.{◌≡◌, ◌∙◌, ℕ, ◌+◌, ◌<◌, ◌≤◌, List, [], ◌∷◌, ◌++◌, Option, Result, Ok, Err, OnOk, length, take, drop, get_or, sym, ap, subst, arith, append_assoc, length-append, take_all}
 use Rattle.std.specs.List.{flat_map}
 use Rattle.std.specs.Io.Iter.{u64_saturate}

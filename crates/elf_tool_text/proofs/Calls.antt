@@ -1,4 +1,5 @@
--- Of calls of engines.
+-- Calls of engines: a fault before anything is written keeps the output as it was, and a fault of the writer leaves the first bytes of the
+-- text. What an engine says goes over to whatever follows from it.
 use Rattle.std.proofs.Common.{◌≡◌, ◌∙◌, ℕ, ◌+◌, ◌^◌, ◌≤◌, ◌⊎◌, List, Option, Result, Ok, Err, inl, inr, length, refl, sym}
 use Rattle.std.specs.Io.KnownBytes.{Consumes, IsAtEnd, Keeps}
 use Rattle.std.proofs.KnownBytes.{Keeps-refl}

@@ -1,4 +1,5 @@
--- Of files that are read one after the other.
+-- Files that are read one after the other. The readers so far gave their whole files, and those after them are as they were; a reader that
+-- stops gives some bytes, and the fault has their count.
 use Rattle.std.proofs.Common.{◌≡◌, ℕ, ◌<◌, ◌≤◌, List, [], ◌∷◌, ◌++◌, Option, ap, arith, get_or, inl, inr, length, map, set, subst, sym}
 use Rattle.std.proofs.lemmas.List.{get_or-map, length-map, map-set}
 use Rattle.elf_tool_text.specs.Engine.{IsReadFaultAfter}

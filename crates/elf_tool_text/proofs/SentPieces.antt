@@ -1,4 +1,5 @@
--- Of texts that go out one after the other.
+-- A line that is sent word by word is the line: a blank before each word but the first, and the line feed at its end. Digits that are
+-- encoded block by block are the digits of all bytes.
 use Rattle.std.proofs.Common.{◌≡◌, ◌∙◌, ℕ, ◌+◌, ◌-◌, ◌≤◌, List, [], ◌∷◌, ◌++◌, Option, Result, Ok, Err, take, drop, sym, ap, subst, arith, refl}
 use Rattle.std.proofs.Math.Seq.{take-add}
 use Rattle.std.proofs.lemmas.List.{take-append-drop}

@@ -1,4 +1,5 @@
--- Of lines that are made word by word.
+-- Lines that are made word by word. Appending a blank and a word for each further word, and then the line feed, gives the text with the
+-- line of these words after it, in whichever pieces it is appended.
 use Rattle.std.proofs.Common.{◌≡◌, ◌∙◌, ℕ, List, [], ◌∷◌, ◌++◌, Result, Ok, Err, OnOk, codes, ap, refl, sym, append_assoc}
 use Rattle.std.specs.List.{join_with_byte}
 use Rattle.std.proofs.lemmas.List.{append-nil}

@@ -1,4 +1,5 @@
--- Of clap's definition of matches: the subcommand that it enters, whatever the command.
+-- The subcommand that clap's definition enters. A command that requires a subcommand refuses words without one, and the name that is
+-- entered is one of those of the command; so a parse that succeeds has one of the five.
 use Rattle.std.proofs.Common.{◌≡◌, ◌∙◌, inl, inr, ap, refl, sym, Bool, true, false, not, cond, ◌&&◌, List, [], ◌∷◌, Option, Some, None, is_some}
 use Rattle.std.specs.Box.{box_value}
 use Rattle.std.specs.Prelude.{Box, find, option_map}

@@ -1,4 +1,5 @@
--- Of the numbers of a command line.
+-- The numbers of a command line: a word is decimal, or `0x` and lower-case hexadecimal. Each digit has a value below the radix and is no
+-- sign, so what the parser accepts is what the definition accepts.
 use Rattle.std.proofs.Common.{◌≡◌, ℕ, ◌^◌, ◌<◌, ap, subst, refl, arith, Bool, true, ◌&&◌, List, [], ◌∷◌, length, nat_lt, None, Some, Result, Ok, Err, inl, inr, lt-ltb, if◌then◌else◌}
 use Rattle.std.specs.List.{list_all}
 use Rattle.std.specs.Char.{digit_value}

@@ -1,4 +1,5 @@
--- What the program's exit status says of a file whose bytes are known.
+-- What the program's exit status says of a file whose bytes are known. The words of the test are those of `check`, so the status is that
+-- of the engine: 0 for a file that breaks no rule, 1 for one that breaks some, and nothing for any other.
 use Rattle.std.proofs.Common.{◌≡◌, ◌∙◌, ℕ, ◌^◌, ◌≤◌, inl, inr, true, false, List, [], ◌∷◌, ◌++◌, Option, Some, None, Result, Ok, Err, length, ap, sym, subst, arith, length-append}
 use Rattle.std.proofs.lemmas.List.{append-nil}
 use Rattle.std.specs.Prelude.{codes}
