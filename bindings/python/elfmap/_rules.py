@@ -77,7 +77,7 @@ RULES = {
         "WRONG_EXTENDED_SECTION_COUNT",
         "the file is refused because `e_shnum` isn't 0 and section header 0 has a "
         "count too, or `e_shnum` is 0 and that count is below 0xff00",
-        "a count below 0xff00 stands in `e_shnum`, any other in section header 0",
+        "a count below 0xff00 is in `e_shnum`, any other in section header 0",
     ),
     15: (
         "SECTION_TABLE_PAST_END",
@@ -95,7 +95,7 @@ RULES = {
         "WRONG_EXTENDED_NAME_TABLE_INDEX",
         "the file is refused because `e_shstrndx` is 0xffff and the index in section "
         "header 0 is below 0xff00 or not below n, or it isn't and that index isn't 0",
-        "an index below 0xff00 stands in `e_shstrndx`, any other in section header 0",
+        "an index below 0xff00 is in `e_shstrndx`, any other in section header 0",
     ),
     18: (
         "WRONG_SEGMENT_COUNT",
@@ -112,7 +112,7 @@ RULES = {
         "WRONG_EXTENDED_SEGMENT_COUNT",
         "the file is refused because `e_phnum` is 0xffff and the count in section "
         "header 0 is below 0xffff, or it isn't and that count isn't 0",
-        "a count below 0xffff stands in `e_phnum`, any other in section header 0",
+        "a count below 0xffff is in `e_phnum`, any other in section header 0",
     ),
     21: (
         "PROGRAM_TABLE_PAST_END",
@@ -163,7 +163,7 @@ RULES = {
         "LOAD_OUT_OF_ORDER",
         "the file is refused because `p_vaddr` is below that of the loadable segment "
         "before it",
-        "loadable segments stand in ascending order",
+        "loadable segments are in ascending order",
     ),
     30: (
         "WRONG_NAME_TABLE_TYPE",
@@ -268,7 +268,7 @@ RULES = {
         "the table is refused because a word of the index table isn't 0 though the "
         "symbol's `st_shndx` isn't 0xffff, or it is, and the word is below 0xff00 or "
         "no section's index",
-        "an index below 0xff00 stands in `st_shndx`, any other in the index table",
+        "an index below 0xff00 is in `st_shndx`, any other in the index table",
     ),
     53: (
         "WRONG_TARGET",
@@ -303,7 +303,7 @@ RULES = {
         "the table is refused because a member of a group is not above i, no "
         "section's index, named before in the group, or a section without the flag "
         "GROUP",
-        "a group stands before its members, names each once, and each says that it is "
+        "a group comes before its members, names each once, and each says that it is "
         "one",
     ),
     59: (
@@ -421,7 +421,7 @@ RULES = {
         "the file is refused because `sh_link` of a plain section isn't 0, and that "
         "section is left out or isn't there",
         "what an object links to has to be in it; the section `.llvm_addrsig`, which "
-        "clang writes by default, links to the symbol table, and is left away by "
+        "clang writes by default, links to the symbol table, and is left out by "
         "`-fno-addrsig` (or `objcopy --remove-section=.llvm_addrsig`)",
     ),
     79: (
@@ -429,7 +429,7 @@ RULES = {
         "the file is refused because a plain section has the flag INFO_LINK, and the "
         "section of `sh_info` is left out or isn't there",
         "what an object links to has to be in it; the section `.llvm_addrsig`, which "
-        "clang writes by default, links to the symbol table, and is left away by "
+        "clang writes by default, links to the symbol table, and is left out by "
         "`-fno-addrsig` (or `objcopy --remove-section=.llvm_addrsig`)",
     ),
 }
@@ -462,7 +462,7 @@ LINK_RULES = {
         "EMPTY_SIGNATURE",
         "the link is refused because the signature symbol of a COMDAT group has no "
         "name",
-        "a group is told by its signature",
+        "a group is identified by its signature",
     ),
     6: (
         "BAD_SYMBOL",
@@ -478,7 +478,7 @@ LINK_RULES = {
     ),
     8: (
         "TWO_DEFINITIONS",
-        "the link is refused because a GLOBAL definition stands behind another one of "
+        "the link is refused because a GLOBAL definition comes after another one of "
         "its name",
         "define a name once, or make it weak",
     ),
@@ -496,8 +496,8 @@ LINK_RULES = {
     ),
     11: (
         "ADDRESS_OVERFLOW",
-        "the link is refused because a section or common ends at 2^64 or later, "
-        "counted behind its last byte, so that the last address is never used",
+        "the link is refused because the address after the last byte of a section or "
+        "common is 2^64 or more, so that the last address is never used",
         "choose a lower base",
     ),
     12: (

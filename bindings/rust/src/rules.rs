@@ -295,8 +295,8 @@ pub mod link {
     /// alignment, is no power of two.
     pub const BAD_COMMON: u16 = 7;
 
-    /// Rule 8: the link is refused because a GLOBAL definition stands behind another one of
-    /// its name.
+    /// Rule 8: the link is refused because a GLOBAL definition comes after another one of its
+    /// name.
     pub const TWO_DEFINITIONS: u16 = 8;
 
     /// Rule 9: the link is refused because a GLOBAL entry is undefined, or in a discarded
@@ -307,8 +307,8 @@ pub mod link {
     /// or to zero, in a section that is not live, or has a value of 2^64 or more.
     pub const NO_ENTRY: u16 = 10;
 
-    /// Rule 11: the link is refused because a section or common ends at 2^64 or later,
-    /// counted behind its last byte, so that the last address is never used.
+    /// Rule 11: the link is refused because the address after the last byte of a section or
+    /// common is 2^64 or more, so that the last address is never used.
     pub const ADDRESS_OVERFLOW: u16 = 11;
 
     /// Rule 12: the link is refused because an applied entry is of a kind that the list has
@@ -805,7 +805,7 @@ pub(crate) const LINK_TABLE: [(u16, &str, &str); 16] = [
     (
         8,
         "TWO_DEFINITIONS",
-        "the link is refused because a GLOBAL definition stands behind another one of \
+        "the link is refused because a GLOBAL definition comes after another one of \
          its name",
     ),
     (
@@ -823,8 +823,8 @@ pub(crate) const LINK_TABLE: [(u16, &str, &str); 16] = [
     (
         11,
         "ADDRESS_OVERFLOW",
-        "the link is refused because a section or common ends at 2^64 or later, \
-         counted behind its last byte, so that the last address is never used",
+        "the link is refused because the address after the last byte of a section or \
+         common is 2^64 or more, so that the last address is never used",
     ),
     (
         12,
