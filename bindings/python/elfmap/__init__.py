@@ -51,7 +51,7 @@ Bytes = Union[bytes, bytearray, memoryview, mmap.mmap]
 Record = TypeVar("Record")
 
 _SHT_NULL, _SHT_NOBITS, _PT_NULL = 0, 8, 0
-# How many extents the first room has: enough for a file of 61 sections.
+# How many extents the first buffer has: enough for a file with 61 sections.
 _SMALL_ROOM = 64
 _SYMBOLS, _RELOCATIONS, _NOTES, _DYNAMIC, _HASH = (2, 11), (4, 9), (7,), (6,), (5,)
 _OWNERS = ("header", "section headers", "program headers")
@@ -88,7 +88,7 @@ class Refused(ValueError):
 
 
 class NotLinked(ValueError):
-    """Why objects don't link: the first of the link's rules that stands, and where.
+    """Why objects don't link: the first of the link's rules that is broken, and where.
 
     `file`, `index` and `entry` count from 0; docs/RULES.md says what for each `rule`.
     """
@@ -289,10 +289,10 @@ class _Records(Sequence[Record]):
 
 
 class File:
-    """An ELF-64 file that keeps all rules, as `parse` makes it.
+    """An ELF-64 file that breaks no rule, as `parse` makes it.
 
     It borrows the bytes that it was made of: a bytearray keeps its length meanwhile, a
-    mmap stays open. Where they are written after all, what is told is no longer true.
+    mmap stays open. If the bytes change, its results are no longer true.
     """
 
     def __init__(self, data: Bytes) -> None:
@@ -348,8 +348,8 @@ class File:
     def symbols(self, section: int) -> Sequence[Symbol]:
         """The symbols of the symbol table in a section; none where it holds none.
 
-        As all tables of a file that keeps the rules of images, it may break rules of
-        its own: then its entries are told as far as they lie in the file.
+        A file that breaks no rule of images may have a table that breaks rules of its
+        own. Then the entries that lie in the file are returned.
         """
         return self._entries(section, _SYMBOLS, "elfmap_symbol", _library.Symbol, self._symbol)
 
@@ -469,7 +469,7 @@ def _part(it: _library.Part) -> Part:
 
 
 def parse(data: Bytes) -> File:
-    """Judges the bytes by all rules, in n log n steps, and copies none of them.
+    """Validates the bytes by all rules, in n log n steps, and copies none of them.
 
     Raises Refused with the first rule that they break, and the lowest offset at which
     they do. Takes any bytes in one piece: bytes, bytearray, memoryview, mmap.
@@ -544,7 +544,7 @@ def _bytes_of(data: Bytes) -> tuple[Any, int]:
 
 
 class _Borrowed(ctypes.c_void_p):
-    """An address that holds the view whose bytes stand there."""
+    """An address that keeps the view whose bytes are there."""
 
     def __init__(self, address: int, view: memoryview) -> None:
         super().__init__(address)

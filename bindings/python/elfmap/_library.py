@@ -133,7 +133,7 @@ class Part(Structure):
 
 
 class Outcome(Structure):
-    """What an engine tells beside its status."""
+    """What an engine returns beside its status."""
 
     _fields_ = [
         ("length", c_uint64),
@@ -245,9 +245,9 @@ nowhere = ctypes.create_string_buffer(1)
 
 
 def address_of(view: memoryview) -> int:
-    """Where the bytes of a view stand, as long as it isn't released.
+    """Where the bytes of a view are, until the view is released.
 
-    ctypes itself tells that of bytes that can be written alone.
+    ctypes itself returns this only for bytes that can be written.
     """
     buffer = Buffer()
     get_buffer(view, buffer, 0)

@@ -77,7 +77,7 @@ class Source:
             raise Unreadable(reason_of(fault)) from None
 
     def read_into(self, room: memoryview, at: int) -> None:
-        """Fills the room with the bytes from an offset on."""
+        """Fills the buffer with the bytes from an offset on."""
         done = 0
         while done < len(room):
             try:

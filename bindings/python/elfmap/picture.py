@@ -62,7 +62,7 @@ class Part:
         self.start, self.length, self.owner, self.name, self.holds, self.colour = start, length, owner, name, holds, colour
 
 
-# ---- what the lines tell
+# ---- what the lines say
 
 
 def content(words: list[str]) -> tuple[str, str, str]:
@@ -76,7 +76,7 @@ def content(words: list[str]) -> tuple[str, str, str]:
 
 
 def gap(front: str, length: int) -> str:
-    """What a gap holds, as far as its line tells it: the first 16 bytes."""
+    """What a gap holds, as far as its line shows it: the first 16 bytes."""
     if set(front) <= {"0"}:
         return "zeros" if length <= 16 else "16 zeros, …"
     return front[:12] + ("…" if length > 6 else "")

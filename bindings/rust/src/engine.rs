@@ -79,7 +79,7 @@ impl Default for Options<'_> {
 ///
 /// [`Failure::OutOfMemory`] alone.
 pub fn show(bytes: &[u8]) -> Result<Vec<u8>, Failure> {
-    match said(|room| raw::show(bytes, room)) {
+    match said(|buffer| raw::show(bytes, buffer)) {
         Ok(text) | Err((REFUSED, _, text)) => Ok(text),
         Err((status, outcome, _)) => Err(failure(status, outcome)),
     }
@@ -93,7 +93,7 @@ pub fn show(bytes: &[u8]) -> Result<Vec<u8>, Failure> {
 /// [`Failure::Refused`], with file 0, where the file itself breaks a rule, or
 /// [`Failure::OutOfMemory`].
 pub fn refused_tables(bytes: &[u8]) -> Result<Vec<u8>, Failure> {
-    said(|room| raw::refused_tables(bytes, room))
+    said(|buffer| raw::refused_tables(bytes, buffer))
         .map_err(|(status, outcome, _)| failure(status, outcome))
 }
 
@@ -114,7 +114,8 @@ pub fn refused_tables(bytes: &[u8]) -> Result<Vec<u8>, Failure> {
 /// );
 /// ```
 pub fn rewrite(bytes: &[u8]) -> Result<Vec<u8>, Failure> {
-    said(|room| raw::rewrite(bytes, room)).map_err(|(status, outcome, _)| failure(status, outcome))
+    said(|buffer| raw::rewrite(bytes, buffer))
+        .map_err(|(status, outcome, _)| failure(status, outcome))
 }
 
 /// The executable of these objects, by the relocation rules of a text as `docs/RULE_FILES.md` has it.
@@ -122,15 +123,15 @@ pub fn rewrite(bytes: &[u8]) -> Result<Vec<u8>, Failure> {
 ///
 /// # Errors
 ///
-/// The first [`Failure`] of bad rules, refused files, and the link's rules; or want of memory.
+/// The first [`Failure`] of bad rules, refused files, and the link's rules; or out of memory.
 pub fn link(files: &[&[u8]], options: &Options<'_>, rules: &str) -> Result<Vec<u8>, Failure> {
     let (bytes, places) = joined(files)?;
     let inputs = inputs(&bytes, &places, options, rules);
-    said(|room| raw::link(&inputs, options.entry, room))
+    said(|buffer| raw::link(&inputs, options.entry, buffer))
         .map_err(|(status, outcome, _)| failure(status, outcome))
 }
 
-/// The lines of `elfmap map` on these objects: where their sections and names stand in the link, and
+/// The lines of `elfmap map` on these objects: where their sections and names are in the link, and
 /// the relocated bytes by these rules. `options.entry` is not looked at.
 ///
 /// # Errors
@@ -139,30 +140,31 @@ pub fn link(files: &[&[u8]], options: &Options<'_>, rules: &str) -> Result<Vec<u
 pub fn map(files: &[&[u8]], options: &Options<'_>, rules: &str) -> Result<Vec<u8>, Failure> {
     let (bytes, places) = joined(files)?;
     let inputs = inputs(&bytes, &places, options, rules);
-    said(|room| raw::map(&inputs, room)).map_err(|(status, outcome, _)| failure(status, outcome))
+    said(|buffer| raw::map(&inputs, buffer))
+        .map_err(|(status, outcome, _)| failure(status, outcome))
 }
 
-/// All that an engine says, asked for twice: how long it is, and then for itself. Another status than
-/// [`DONE`] comes with what is said then.
+/// The output of an engine, by two calls: the first returns its length, the second the output. Another
+/// status than [`DONE`] comes with its own output.
 fn said(engine: impl Fn(&mut [u8]) -> (u32, Outcome)) -> Result<Vec<u8>, (u32, Outcome, Vec<u8>)> {
-    let mut room = Vec::new();
-    let (mut status, mut outcome) = engine(&mut room);
+    let mut buffer = Vec::new();
+    let (mut status, mut outcome) = engine(&mut buffer);
     if status == SMALL_ROOM {
         let wanted = outcome.length as usize;
-        if room.try_reserve_exact(wanted).is_err() {
-            return Err((u32::MAX, outcome, room));
+        if buffer.try_reserve_exact(wanted).is_err() {
+            return Err((u32::MAX, outcome, buffer));
         }
-        room.resize(wanted, 0);
-        (status, outcome) = engine(&mut room);
+        buffer.resize(wanted, 0);
+        (status, outcome) = engine(&mut buffer);
     }
     if status == DONE {
-        Ok(room)
+        Ok(buffer)
     } else {
-        Err((status, outcome, room))
+        Err((status, outcome, buffer))
     }
 }
 
-/// What a status says, with the numbers of its outcome.
+/// What a status means, with the numbers of its outcome.
 fn failure(status: u32, outcome: Outcome) -> Failure {
     let Outcome {
         at,
@@ -189,7 +191,7 @@ fn failure(status: u32, outcome: Outcome) -> Failure {
     }
 }
 
-/// The bytes of all files, one behind the other, and where each one stands there.
+/// The bytes of all files, one after the other, and where each one is.
 fn joined(files: &[&[u8]]) -> Result<(Vec<u8>, Vec<Extent>), Failure> {
     let (mut bytes, mut places) = (Vec::new(), Vec::new());
     let len = files.iter().map(|it| it.len()).sum();

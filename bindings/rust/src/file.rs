@@ -10,10 +10,10 @@ const SHT_NULL: u32 = 0;
 const SHT_NOBITS: u32 = 8;
 const PT_NULL: u32 = 0;
 
-/// How many extents the first room has, on the stack: enough for a file of 61 sections.
+/// How many extents the first buffer has, on the stack: enough for a file with 61 sections.
 const SMALL_ROOM: usize = 64;
 
-/// An ELF-64 file that keeps all rules. It borrows its bytes, and so does what it gives.
+/// An ELF-64 file that breaks no rule. It borrows its bytes, and so does what it returns.
 ///
 /// A section can't outlive the bytes:
 ///
@@ -75,7 +75,7 @@ pub fn check(bytes: &[u8]) -> Result<Summary, Refusal> {
 }
 
 impl<'a> File<'a> {
-    /// Judges the bytes by all rules, in n log n steps. Where a file has more than 61 sections it
+    /// Validates the bytes by all rules, in n log n steps. If a file has more than 61 sections, it
     /// takes memory for the time of the call, 16 bytes for each.
     ///
     /// # Errors
@@ -163,12 +163,12 @@ impl<'a> File<'a> {
     /// byte in just one. It takes memory for three parts for each section; `None` where there is too
     /// little.
     pub fn parts(&self) -> Option<Vec<Part>> {
-        let mut room: Vec<Piece> = Vec::new();
-        let wanted = raw::parts(self.bytes, &mut room).err()?.at as usize;
-        room.try_reserve_exact(wanted).ok()?;
-        room.resize(wanted, Piece::default());
-        let count = raw::parts(self.bytes, &mut room).ok()?;
-        Some(room[..count as usize].iter().map(Part::of).collect())
+        let mut buffer: Vec<Piece> = Vec::new();
+        let wanted = raw::parts(self.bytes, &mut buffer).err()?.at as usize;
+        buffer.try_reserve_exact(wanted).ok()?;
+        buffer.resize(wanted, Piece::default());
+        let count = raw::parts(self.bytes, &mut buffer).ok()?;
+        Some(buffer[..count as usize].iter().map(Part::of).collect())
     }
 
     /// The byte that the first loadable segment with this address gives it; `None` where none has it.
@@ -180,7 +180,7 @@ impl<'a> File<'a> {
         &self.numbers
     }
 
-    /// These bytes of the file. What has no bytes may begin behind its end.
+    /// These bytes of the file. An empty extent may begin after its end.
     pub(crate) fn at(&self, Extent { start, len }: Extent) -> &'a [u8] {
         if len == 0 {
             &[]
@@ -205,7 +205,7 @@ impl fmt::Debug for File<'_> {
     }
 }
 
-/// The verdict, by as large a room as the file wants.
+/// The verdict, with as large a buffer as the file needs.
 fn judge(bytes: &[u8]) -> Result<(), Fault> {
     let wanted = match raw::verdict_in(bytes, &mut [Extent::default(); SMALL_ROOM]) {
         Err(Fault {
@@ -214,13 +214,13 @@ fn judge(bytes: &[u8]) -> Result<(), Fault> {
         }) => at as usize,
         verdict => return verdict,
     };
-    let mut room = Vec::new();
-    if room.try_reserve_exact(wanted).is_err() {
+    let mut buffer = Vec::new();
+    if buffer.try_reserve_exact(wanted).is_err() {
         // The same answer, if later.
         return raw::verdict(bytes);
     }
-    room.resize(wanted, Extent::default());
-    raw::verdict_in(bytes, &mut room)
+    buffer.resize(wanted, Extent::default());
+    raw::verdict_in(bytes, &mut buffer)
 }
 
 /// Whose bytes a part has.

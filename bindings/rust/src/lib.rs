@@ -1,9 +1,9 @@
-//! Whether an ELF-64 file is sound, and if it isn't, the first rule that it breaks and where; and
-//! the records of one that is.
+//! Whether an ELF-64 file breaks a rule, which one and where; and the records and tables of a file
+//! that breaks none.
 //!
-//! What is called here is the library for C of elfmap, whose answers are proved for all bytes. A
-//! file that keeps all [rules] is parsed, and what it gives borrows from its bytes; of any other
-//! one the [`Refusal`] says which rule it breaks first.
+//! The crate calls the library for C of elfmap, whose results are proved for all bytes. A file that
+//! breaks none of the [rules] is parsed, and what it returns borrows from its bytes. For any other
+//! file the [`Refusal`] has the first rule that it breaks.
 //!
 //! ```
 //! let bytes = std::fs::read("/proc/self/exe")?;

@@ -20,7 +20,7 @@ pub(crate) struct Fault {
     pub rule: u16,
 }
 
-/// In place of a rule's number: the room has too few extents.
+/// In place of a rule's number: the buffer has too few items.
 pub(crate) const SHORT_ROOM: u16 = 0;
 
 /// What the calls on records need of a file.
@@ -183,7 +183,7 @@ pub(crate) struct Piece {
     pub owner: u64,
 }
 
-/// What an engine tells beside its status.
+/// What an engine returns beside its status.
 #[derive(Clone, Copy, Default)]
 #[repr(C)]
 pub(crate) struct Outcome {
@@ -215,7 +215,7 @@ extern "C" {
     fn elfmap_verdict_in(
         bytes: *const u8,
         len: usize,
-        room: *mut Extent,
+        buffer: *mut Extent,
         count: usize,
         fault: &mut Fault,
     ) -> bool;
@@ -252,7 +252,7 @@ extern "C" {
     fn elfmap_parts(
         bytes: *const u8,
         len: usize,
-        room: *mut Piece,
+        buffer: *mut Piece,
         count: usize,
         parts: &mut u64,
         fault: &mut Fault,
@@ -310,21 +310,21 @@ extern "C" {
     fn elfmap_show(
         bytes: *const u8,
         len: usize,
-        room: *mut u8,
+        buffer: *mut u8,
         size: usize,
         outcome: &mut Outcome,
     ) -> u32;
     fn elfmap_refused_tables(
         bytes: *const u8,
         len: usize,
-        room: *mut u8,
+        buffer: *mut u8,
         size: usize,
         outcome: &mut Outcome,
     ) -> u32;
     fn elfmap_rewrite(
         bytes: *const u8,
         len: usize,
-        room: *mut u8,
+        buffer: *mut u8,
         size: usize,
         outcome: &mut Outcome,
     ) -> u32;
@@ -336,7 +336,7 @@ extern "C" {
         options: &LinkOptions,
         rules: *const u8,
         rules_len: usize,
-        room: *mut u8,
+        buffer: *mut u8,
         size: usize,
         outcome: &mut Outcome,
     ) -> u32;
@@ -350,13 +350,13 @@ extern "C" {
         entry_len: usize,
         rules: *const u8,
         rules_len: usize,
-        room: *mut u8,
+        buffer: *mut u8,
         size: usize,
         outcome: &mut Outcome,
     ) -> u32;
 }
 
-/// The verdict without a room, which may take the square of the number of sections.
+/// The verdict without a buffer, which may take the square of the number of sections.
 pub(crate) fn verdict(bytes: &[u8]) -> Result<(), Fault> {
     let mut fault = Fault::default();
     // SAFETY: a slice, and what only this call sees.
@@ -368,11 +368,11 @@ pub(crate) fn verdict(bytes: &[u8]) -> Result<(), Fault> {
     }
 }
 
-/// The verdict by a room; one that is too small is told by [`SHORT_ROOM`] and what is wanted.
-pub(crate) fn verdict_in(bytes: &[u8], room: &mut [Extent]) -> Result<(), Fault> {
-    let (at, count) = (room.as_mut_ptr(), room.len());
+/// The verdict with a buffer. If it is too small: [`SHORT_ROOM`], and how many extents are needed.
+pub(crate) fn verdict_in(bytes: &[u8], buffer: &mut [Extent]) -> Result<(), Fault> {
+    let (at, count) = (buffer.as_mut_ptr(), buffer.len());
     let mut fault = Fault::default();
-    // SAFETY: two slices, of which the room is borrowed as `&mut`, and what only this call sees.
+    // SAFETY: two slices, of which the buffer is borrowed as `&mut`, and what only this call sees.
     let kept = unsafe { elfmap_verdict_in(bytes.as_ptr(), bytes.len(), at, count, &mut fault) };
     if kept {
         Ok(())
@@ -426,12 +426,11 @@ pub(crate) fn load(numbers: &Numbers, bytes: &[u8], address: u64) -> Option<u8> 
     is_there.then_some(byte)
 }
 
-/// How many parts the room then has; one that is too small is told by [`SHORT_ROOM`] and what is
-/// wanted.
-pub(crate) fn parts(bytes: &[u8], room: &mut [Piece]) -> Result<u64, Fault> {
-    let (at, count) = (room.as_mut_ptr(), room.len());
+/// How many parts the buffer then has. If it is too small: [`SHORT_ROOM`], and how many are needed.
+pub(crate) fn parts(bytes: &[u8], buffer: &mut [Piece]) -> Result<u64, Fault> {
+    let (at, count) = (buffer.as_mut_ptr(), buffer.len());
     let (mut parts, mut fault) = (0, Fault::default());
-    // SAFETY: two slices, of which the room is borrowed as `&mut`, and what only this call sees.
+    // SAFETY: two slices, of which the buffer is borrowed as `&mut`, and what only this call sees.
     let kept = unsafe {
         elfmap_parts(
             bytes.as_ptr(),
@@ -505,27 +504,27 @@ pub(crate) fn find(table: &Table, bytes: &[u8], name: &[u8]) -> Option<u32> {
     is_there.then_some(symbol)
 }
 
-pub(crate) fn show(bytes: &[u8], room: &mut [u8]) -> (u32, Outcome) {
-    let (at, size) = (room.as_mut_ptr(), room.len());
+pub(crate) fn show(bytes: &[u8], buffer: &mut [u8]) -> (u32, Outcome) {
+    let (at, size) = (buffer.as_mut_ptr(), buffer.len());
     let mut outcome = Outcome::default();
-    // SAFETY: two slices, of which the room is borrowed as `&mut`, and what only this call sees.
+    // SAFETY: two slices, of which the buffer is borrowed as `&mut`, and what only this call sees.
     let status = unsafe { elfmap_show(bytes.as_ptr(), bytes.len(), at, size, &mut outcome) };
     (status, outcome)
 }
 
-pub(crate) fn refused_tables(bytes: &[u8], room: &mut [u8]) -> (u32, Outcome) {
-    let (at, size) = (room.as_mut_ptr(), room.len());
+pub(crate) fn refused_tables(bytes: &[u8], buffer: &mut [u8]) -> (u32, Outcome) {
+    let (at, size) = (buffer.as_mut_ptr(), buffer.len());
     let mut outcome = Outcome::default();
-    // SAFETY: two slices, of which the room is borrowed as `&mut`, and what only this call sees.
+    // SAFETY: two slices, of which the buffer is borrowed as `&mut`, and what only this call sees.
     let status =
         unsafe { elfmap_refused_tables(bytes.as_ptr(), bytes.len(), at, size, &mut outcome) };
     (status, outcome)
 }
 
-pub(crate) fn rewrite(bytes: &[u8], room: &mut [u8]) -> (u32, Outcome) {
-    let (at, size) = (room.as_mut_ptr(), room.len());
+pub(crate) fn rewrite(bytes: &[u8], buffer: &mut [u8]) -> (u32, Outcome) {
+    let (at, size) = (buffer.as_mut_ptr(), buffer.len());
     let mut outcome = Outcome::default();
-    // SAFETY: two slices, of which the room is borrowed as `&mut`, and what only this call sees.
+    // SAFETY: two slices, of which the buffer is borrowed as `&mut`, and what only this call sees.
     let status = unsafe { elfmap_rewrite(bytes.as_ptr(), bytes.len(), at, size, &mut outcome) };
     (status, outcome)
 }
@@ -539,7 +538,7 @@ pub(crate) struct Inputs<'a> {
     pub rules: &'a [u8],
 }
 
-pub(crate) fn map(inputs: &Inputs<'_>, room: &mut [u8]) -> (u32, Outcome) {
+pub(crate) fn map(inputs: &Inputs<'_>, buffer: &mut [u8]) -> (u32, Outcome) {
     let Inputs {
         bytes,
         files,
@@ -547,7 +546,7 @@ pub(crate) fn map(inputs: &Inputs<'_>, room: &mut [u8]) -> (u32, Outcome) {
         rules,
     } = inputs;
     let mut outcome = Outcome::default();
-    // SAFETY: four slices, of which the room is borrowed as `&mut`, what is borrowed as `&`, and
+    // SAFETY: four slices, of which the buffer is borrowed as `&mut`, what is borrowed as `&`, and
     // what only this call sees.
     let status = unsafe {
         elfmap_map(
@@ -558,15 +557,15 @@ pub(crate) fn map(inputs: &Inputs<'_>, room: &mut [u8]) -> (u32, Outcome) {
             options,
             rules.as_ptr(),
             rules.len(),
-            room.as_mut_ptr(),
-            room.len(),
+            buffer.as_mut_ptr(),
+            buffer.len(),
             &mut outcome,
         )
     };
     (status, outcome)
 }
 
-pub(crate) fn link(inputs: &Inputs<'_>, entry: &[u8], room: &mut [u8]) -> (u32, Outcome) {
+pub(crate) fn link(inputs: &Inputs<'_>, entry: &[u8], buffer: &mut [u8]) -> (u32, Outcome) {
     let Inputs {
         bytes,
         files,
@@ -574,7 +573,7 @@ pub(crate) fn link(inputs: &Inputs<'_>, entry: &[u8], room: &mut [u8]) -> (u32, 
         rules,
     } = inputs;
     let mut outcome = Outcome::default();
-    // SAFETY: five slices, of which the room is borrowed as `&mut`, what is borrowed as `&`, and
+    // SAFETY: five slices, of which the buffer is borrowed as `&mut`, what is borrowed as `&`, and
     // what only this call sees.
     let status = unsafe {
         elfmap_link(
@@ -587,8 +586,8 @@ pub(crate) fn link(inputs: &Inputs<'_>, entry: &[u8], room: &mut [u8]) -> (u32, 
             entry.len(),
             rules.as_ptr(),
             rules.len(),
-            room.as_mut_ptr(),
-            room.len(),
+            buffer.as_mut_ptr(),
+            buffer.len(),
             &mut outcome,
         )
     };
@@ -599,7 +598,7 @@ pub(crate) fn link(inputs: &Inputs<'_>, entry: &[u8], room: &mut [u8]) -> (u32, 
 mod tests {
     use super::*;
 
-    /// Memory that is refused leaves the verdict without a room, which has to be the same.
+    /// If an allocation fails, the verdict is found without a buffer, and has to be the same.
     #[test]
     fn both_verdicts_are_the_same() {
         let header = include_bytes!("../../../crates/elfmap/data/header.elf");
@@ -608,8 +607,8 @@ mod tests {
             let mut bytes = *header;
             bytes[index] = value;
             let told = |verdict: Result<(), Fault>| verdict.map_err(|it| (it.rule, it.at));
-            let mut room = [Extent::default(); 3];
-            assert_eq!(told(verdict(&bytes)), told(verdict_in(&bytes, &mut room)));
+            let mut buffer = [Extent::default(); 3];
+            assert_eq!(told(verdict(&bytes)), told(verdict_in(&bytes, &mut buffer)));
         }
     }
 }

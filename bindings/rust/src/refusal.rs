@@ -57,7 +57,7 @@ impl fmt::Display for Refusal {
 
 impl Error for Refusal {}
 
-/// Why objects don't link: the first of the link's rules that stands, and where.
+/// Why objects don't link: the first of the link's rules that is broken, and where.
 #[derive(Clone, Copy, Debug, PartialEq, Eq, Hash)]
 #[non_exhaustive]
 pub struct LinkRefusal {

@@ -70,7 +70,7 @@ pub struct Note<'a> {
 }
 
 /// The entries of tables. A file that keeps the rules of images may have a table that breaks rules of
-/// its own (40 to 69): of such a one the entries are told as far as they lie in the file.
+/// its own (40 to 69). Of such a table the entries that lie in the file are returned.
 impl<'a> File<'a> {
     /// The symbols of the symbol table in section `index`, symbol 0 among them; `None` where the
     /// section holds none.
