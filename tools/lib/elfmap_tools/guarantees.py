@@ -11,8 +11,8 @@ from .tree import TOP, libraries, read_text
 
 PAGE = "docs/GUARANTEES.md"
 SPAN = re.compile(r"`([^`]+)`")
-# Tests of `tools/test`, each a line `Test("NAME", ..` of a module of this package.
-TESTS_OF_TOOLS = re.compile(r'\bTest\("([a-z-]+)"')
+# Programs whose modules a test of `tools/test` calls. Modules of the other crates `tests_*` have tests, all of which `rt ci` runs.
+CALLED_BY = {"tests_calls": "failing-calls"}
 
 
 @dataclass
@@ -120,8 +120,18 @@ def words_of(path: str) -> frozenset[str]:
 
 @functools.cache
 def tests_of_tools() -> set[str]:
-    folder = f"{TOP}/tools/lib/elfmap_tools"
-    return {name for it in os.listdir(folder) if it.endswith(".py") for name in TESTS_OF_TOOLS.findall(read_text(f"{folder}/{it}"))}
+    """The tests of `tools/test`: the gate runs all of them, and one whose commands are missing fails."""
+    from .tests import TESTS as ALL
+
+    return {it.name for it in ALL}
+
+
+def runs(crate: str, module: str) -> bool:
+    """Whether the gate runs a module of tests: the crate has it, and it has a test, or a test of `tools/test` calls its program."""
+    source, root = (f"{TOP}/crates/{crate}/src/{it}.rt" for it in (module, "main" if crate in CALLED_BY else "lib"))
+    if crate not in libraries() or not os.path.isfile(source) or not re.search(rf"^mod {module};$", read_text(root), re.M):
+        return False
+    return CALLED_BY[crate] in tests_of_tools() if crate in CALLED_BY else "#[test]" in read_text(source)
 
 
 def is_law_or_test(name: str) -> bool:
@@ -129,7 +139,7 @@ def is_law_or_test(name: str) -> bool:
         return name.removeprefix("tools/test ") in tests_of_tools()
     crate, _, path = name.partition("::")
     if crate.startswith("tests_"):
-        return crate in libraries() and os.path.isfile(f"{TOP}/crates/{crate}/src/{path}.rt")
+        return runs(crate, path)
     return crate in libraries() and any(it.name == path for it in functions_of(crate)) or len(functions(name)) == 1
 
 
