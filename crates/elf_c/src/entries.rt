@@ -28,7 +28,7 @@ use elf_field::abi::{SHN_XINDEX, SHT_RELA, SYM_SIZE, WORD_SIZE};
 use elf_table_lists::{dynamic_entry, dynamic_entry_count, relocation_at, relocation_count};
 use elf_table_symbols::{TableKind, entry, word};
 
-/// Symbol `index` of a symbol table; false where there is none of this index, or its `st_shndx` is `SHN_XINDEX` and the index table has no
+/// Symbol `index` of a symbol table; false if there is none of this index, or its `st_shndx` is `SHN_XINDEX` and the index table has no
 /// word for it, and for a table of another kind. A name of no bytes is said to be at offset 0.
 #[unsafe(no_mangle)]
 pub extern "C" fn elfmap_symbol(
@@ -52,7 +52,7 @@ pub extern "C" fn elfmap_symbol(
     put(symbol_of(table, bytes, index), symbol)
 }
 
-/// Symbol `index` of a symbol table; None where it is no symbol table, or has no such entry, or the index table no word for an entry that
+/// Symbol `index` of a symbol table; None if it is no symbol table, or has no such entry, or the index table no word for an entry that
 /// needs one.
 #[tactic(auto, unfolding(elf_table_symbols::specs::Symbols::symbol_entry_in))]
 fn symbol_of(table: &Table, bytes: &[u8], index: u64) -> Option<Symbol>
@@ -87,7 +87,7 @@ fn symbol_of(table: &Table, bytes: &[u8], index: u64) -> Option<Symbol>
     })
 }
 
-/// The index of the section of symbol `j`, of this `st_shndx`, in a table with these words of its index table; None where it is in a word
+/// The index of the section of symbol `j`, of this `st_shndx`, in a table with these words of its index table; None if it is in a word
 /// that is not there.
 fn section_index_of(order: Order, words: &[u8], st_shndx: u16, j: u64) -> Option<u32>
     requires { j < 2 ^ 60 }
@@ -104,7 +104,7 @@ fn section_index_of(order: Order, words: &[u8], st_shndx: u16, j: u64) -> Option
     }
 }
 
-/// Relocation `index` of a relocation section; false where there is none of this index, and for a table of another kind.
+/// Relocation `index` of a relocation section; false if there is none of this index, and for a table of another kind.
 #[unsafe(no_mangle)]
 pub extern "C" fn elfmap_relocation(
     table: &Table,
@@ -131,7 +131,7 @@ pub extern "C" fn elfmap_relocation(
     true
 }
 
-/// Entry `index` of a dynamic array; false where there is none of this index before the first entry of tag `DT_NULL`, and for a table of
+/// Entry `index` of a dynamic array; false if there is none of this index before the first entry of tag `DT_NULL`, and for a table of
 /// another kind.
 #[unsafe(no_mangle)]
 pub extern "C" fn elfmap_dynamic(
@@ -157,7 +157,7 @@ pub extern "C" fn elfmap_dynamic(
     true
 }
 
-/// Where the string at an offset of the table's strings is in the file, without its closing zero; false where the offset is not below their
+/// Where the string at an offset of the table's strings is in the file, without its closing zero; false if the offset is not below their
 /// length, whatever the kind of the table. A string of no bytes is said to be at offset 0.
 #[unsafe(no_mangle)]
 pub extern "C" fn elfmap_string(table: &Table, bytes: &[u8], offset: u64, place: &mut Slot) -> bool

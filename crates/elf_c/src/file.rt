@@ -43,7 +43,7 @@ pub extern "C" fn elfmap_file(bytes: &[u8], file: &mut File) -> bool
     true
 }
 
-/// The ELF header; false where the file is shorter than one.
+/// The ELF header; false if the file is shorter than one.
 #[unsafe(no_mangle)]
 pub extern "C" fn elfmap_header(bytes: &[u8], header: &mut Header) -> bool
     ensures there { IsTrue result ↔ (EHDR_SIZE ≤ length bytes.now) }

@@ -13,7 +13,7 @@ use crate::tables::is_of_kind;
 use elf_table_hash::find_in;
 use elf_table_symbols::TableKind;
 
-/// The index of the first symbol of this name on the chain of the name's bucket of a hash table that breaks no rule; false where no symbol
+/// The index of the first symbol of this name on the chain of the name's bucket of a hash table that breaks no rule; false if no symbol
 /// from 1 on has the name, and for a table of another kind.
 #[unsafe(no_mangle)]
 pub extern "C" fn elfmap_find(table: &Table, bytes: &[u8], name: &[u8], symbol: &mut u32) -> bool
@@ -33,7 +33,7 @@ pub extern "C" fn elfmap_find(table: &Table, bytes: &[u8], name: &[u8], symbol: 
     }
 }
 
-/// The index of the first symbol of this name on the chain of the name's bucket; None where there is none, or it is no hash table.
+/// The index of the first symbol of this name on the chain of the name's bucket; None if there is none, or it is no hash table.
 fn found_in(table: &Table, bytes: &[u8], name: &[u8]) -> Option<u32>
     ensures there { (i : ℕ) → IsTableOf HashTable table.now bytes.now i →
         IsSome result ↔ HasSymbolNamed (hash_of_section (sections_in bytes.now) i) name.now }

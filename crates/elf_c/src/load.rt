@@ -11,7 +11,7 @@ use crate::shapes::File;
 use elf_field::Phdr;
 use elf_field::abi::PT_LOAD;
 
-/// The byte that the first loadable segment with this address gives it; false where none has it.
+/// The byte that the first loadable segment with this address gives it; false if none has it.
 #[unsafe(no_mangle)]
 pub extern "C" fn elfmap_load(file: &File, bytes: &[u8], address: u64, byte: &mut u8) -> bool
     ensures none { IsFileOf file.now bytes.now →

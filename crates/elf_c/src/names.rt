@@ -14,7 +14,7 @@ use elf_c_parts::Slot;
 use elf_field::abi::SHT_NULL;
 use elf_image_type::strings::string_at;
 
-/// Where the name of section `index` is in the file, without its closing zero; false where there is no section of this index, or its header
+/// Where the name of section `index` is in the file, without its closing zero; false if there is no section of this index, or its header
 /// doesn't lie in the bytes, or that of the section name string table doesn't, where the name is looked for there. A name of no bytes is
 /// said to be at offset 0.
 #[unsafe(no_mangle)]

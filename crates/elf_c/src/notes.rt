@@ -18,7 +18,7 @@ use elf_field::{Order, get_at};
 use elf_table_lists::NoteHeader;
 use elf_table_symbols::TableKind;
 
-/// Note `index` of a note section; false where there is none of this index, or it or one before it is cut, and for a table of another kind.
+/// Note `index` of a note section; false if there is none of this index, or it or one before it is cut, and for a table of another kind.
 /// It goes over the notes before it.
 #[unsafe(no_mangle)]
 pub extern "C" fn elfmap_note(table: &Table, bytes: &[u8], index: u64, note: &mut Note) -> bool
@@ -37,7 +37,7 @@ pub extern "C" fn elfmap_note(table: &Table, bytes: &[u8], index: u64, note: &mu
     put(note_of_index(table, bytes, index), note)
 }
 
-/// The note at an offset of a note section; false where none begins there that is whole, and for a table of another kind.
+/// The note at an offset of a note section; false if none begins there that is whole, and for a table of another kind.
 #[unsafe(no_mangle)]
 pub extern "C" fn elfmap_note_at(table: &Table, bytes: &[u8], offset: u64, note: &mut Note) -> bool
     ensures there { IsTrue result ↔ HasNoteAt table.now bytes.now offset }
@@ -71,7 +71,7 @@ fn note_of_index(table: &Table, bytes: &[u8], index: u64) -> Option<Note>
     note_of(table, bytes, offset as u64)
 }
 
-/// The note at an offset of a note section; None where it is no note section, or the note is cut.
+/// The note at an offset of a note section; None if it is no note section, or the note is cut.
 fn note_of(table: &Table, bytes: &[u8], offset: u64) -> Option<Note>
     ensures there { IsSome result ↔ HasNoteAt table.now bytes.now offset }
     ensures value { let t = table.now in let content = slot_bytes bytes.now t.content in
@@ -92,7 +92,7 @@ fn note_of(table: &Table, bytes: &[u8], offset: u64) -> Option<Note>
     Some(note_in(order, bytes, at as usize, next))
 }
 
-/// Where the note at an offset of a content ends; None where it is cut.
+/// Where the note at an offset of a content ends; None if it is cut.
 fn end_of_note(order: Order, content: &[u8], offset: u64) -> Option<usize>
     ensures { SomeIff result (note_end_of order content.now offset ≤ length content.now) (note_end_of order content.now offset) }
 {
@@ -141,7 +141,7 @@ fn note_in(order: Order, bytes: &[u8], at: usize, next: usize) -> Note
     }
 }
 
-/// Where note `index` of a content begins; None where a note before it is cut.
+/// Where note `index` of a content begins; None if a note before it is cut.
 fn offset_of_note(order: Order, content: &[u8], index: u64) -> Option<usize>
     ensures found { IfSome result (λ at. at ≡ note_offset order content.now 0 index) }
     ensures cut { IfNone result ((k : ℕ) × (k < index) ×

@@ -29,7 +29,7 @@ pub fn order_of(ei_data: u8) -> Order
     }
 }
 
-/// Where entry `index` of a table of entries of this size is in a file of `len` bytes; None where it doesn't lie in it.
+/// Where entry `index` of a table of entries of this size is in a file of `len` bytes; None if it doesn't lie in it.
 pub fn place_of(table: u64, size: u64, index: u64, len: usize) -> Option<usize>
     ensures { SomeIff result (table + size * index + size ≤ len) (table + size * index) }
 {
@@ -41,7 +41,7 @@ pub fn place_of(table: u64, size: u64, index: u64, len: usize) -> Option<usize>
     }
 }
 
-/// Section header `index` of the file; None where there is none of this index, or it doesn't lie in the file.
+/// Section header `index` of the file; None if there is none of this index, or it doesn't lie in the file.
 pub fn section_of(file: &File, bytes: &[u8], index: u64) -> Option<Shdr>
     ensures read { let f = file.now in
         SomeIff result (HasEntry f.sections f.e_shoff shdr_size index (length bytes.now))
@@ -55,7 +55,7 @@ pub fn section_of(file: &File, bytes: &[u8], index: u64) -> Option<Shdr>
     Some(get_at(order_of(file.ei_data), bytes, offset))
 }
 
-/// Program header `index` of the file; None where there is none of this index, or it doesn't lie in the file.
+/// Program header `index` of the file; None if there is none of this index, or it doesn't lie in the file.
 pub fn segment_of(file: &File, bytes: &[u8], index: u64) -> Option<Phdr>
     ensures { let f = file.now in
         SomeIff result (HasEntry f.segments f.e_phoff phdr_size index (length bytes.now))

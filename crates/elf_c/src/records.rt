@@ -11,7 +11,7 @@ ghost use Rattle.elf_c.specs.Shapes.{section_shape, segment_shape};
 use crate::places::{section_of, segment_of};
 use crate::shapes::{File, Section, Segment};
 
-/// Section header `index` of the file; false where there is none of this index, or it doesn't lie in the bytes.
+/// Section header `index` of the file; false if there is none of this index, or it doesn't lie in the bytes.
 #[unsafe(no_mangle)]
 pub extern "C" fn elfmap_section(
     file: &File,
@@ -36,7 +36,7 @@ pub extern "C" fn elfmap_section(
     }
 }
 
-/// Program header `index` of the file; false where there is none of this index, or it doesn't lie in the bytes.
+/// Program header `index` of the file; false if there is none of this index, or it doesn't lie in the bytes.
 #[unsafe(no_mangle)]
 pub extern "C" fn elfmap_segment(
     file: &File,

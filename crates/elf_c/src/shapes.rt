@@ -246,7 +246,7 @@ pub struct Note {
     pub n_type: u32,
 }
 
-/// Puts what was found into the struct that a caller has given; false where nothing was found, and the struct stays as it was.
+/// Puts what was found into the struct that a caller has given; false if nothing was found, and the struct stays as it was.
 pub(crate) fn put<T: Copy>(found: Option<T>, given: &mut T) -> bool
     ensures there { IsTrue result ↔ IsSome found }
     ensures value { IfSome found (λ x. given.new ≡ x) }

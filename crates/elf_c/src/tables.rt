@@ -13,7 +13,7 @@ use elf_c_parts::Slot;
 use elf_field::abi::SHT_SYMTAB_SHNDX;
 use elf_table_symbols::TableKind;
 
-/// The numbers of the table in section `index`; false where there is no section of this index, or it holds no table that the accessors
+/// The numbers of the table in section `index`; false if there is no section of this index, or it holds no table that the accessors
 /// read, or a section that it links to is not there.
 #[unsafe(no_mangle)]
 pub extern "C" fn elfmap_table(file: &File, bytes: &[u8], index: u64, table: &mut Table) -> bool

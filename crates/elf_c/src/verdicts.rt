@@ -12,7 +12,7 @@ use elf_image_rules::verdict;
 /// In place of a rule's number, if a buffer has too few extents. No rule has this number.
 pub const SHORT_ROOM: u16 = 0;
 
-/// Whether the file keeps all 33 rules: else the first one that it breaks, and the lowest offset.
+/// Whether the file keeps all 33 rules; otherwise the first one that it breaks, and the lowest offset.
 #[unsafe(no_mangle)]
 pub extern "C" fn elfmap_verdict(bytes: &[u8], fault: &mut Fault) -> bool
     ensures kept { OnTrue result (IsFault bytes.now None) }

@@ -33,7 +33,7 @@ pub(crate) fn files_in<'a>(
     Ok(files)
 }
 
-// The bytes of an extent; None where it doesn't lie in them.
+// The bytes of an extent; None if it doesn't lie in them.
 fn file_at(bytes: &[u8], place: Slot) -> Option<&[u8]>
     ensures { MatchOption result (LiesWithin (length bytes.entry.now) place → ⊥)
         (λ file. LiesWithin (length bytes.entry.now) place × (file.now ≡ bytes_in bytes.entry.now (extent_in place))) }

@@ -23,7 +23,7 @@ pub struct LinkOptions {
     pub base: u64,
     /// What each output section begins at a multiple of: a power of two.
     pub page: u64,
-    /// 0 where `map` has no relocation rules, and writes no relocated bytes.
+    /// 0 if `map` has no relocation rules, and writes no relocated bytes.
     pub uses_rules: u32,
 }
 

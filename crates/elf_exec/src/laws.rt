@@ -19,7 +19,7 @@ use elf_link_field::RelocRule;
 use elf_object_type::Object;
 
 /// Of objects, their map and relocation rules, wherever they came from, where no rule of the link is broken: their executable is an image;
-/// it enters at the value of the entry symbol, or at 0 where none is named, and its loadable segments give an address a byte exactly where
+/// it enters at the value of the entry symbol, or at 0 if none is named, and its loadable segments give an address a byte exactly if
 /// the memory of the link has that byte there. It is their only executable.
 pub fn executable()
     ensures { (fs : List ObjectValue) (m : LinkMapValue) (rules : List RelocRule) (b : List ℕ) →

@@ -78,7 +78,7 @@ fn member_address(linked: &Linked<'_, '_>, member: Member) -> u64
         .unwrap_or(0)
 }
 
-/// The relocated bytes of a member; none where it has no bits.
+/// The relocated bytes of a member; none if it has no bits.
 fn member_content<'l>(linked: &'l Linked<'_, '_>, member: Member) -> &'l [u8]
     ensures { result.now ≡ member_content linked.now member }
 {

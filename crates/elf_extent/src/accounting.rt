@@ -23,7 +23,7 @@ pub fn account(alloc: Global, extents: &[Extent], total: u64) -> Result<Vec<Piec
 
 impl<'a> SortedExtents<'a> {
     /// The [`account`] of these extents, which share no byte and end at or below `total`. Linear in the extents; returns [`OutOfMemory`]
-    /// only where an allocation fails; the pieces take memory.
+    /// only if an allocation fails; the pieces take memory.
     pub fn account(&self, alloc: Global, total: u64) -> Result<Vec<Piece>, OutOfMemory>
         requires disjoint { AreDisjoint self.now }
         requires within { AreWithin self.now total }

@@ -7,7 +7,7 @@ use thiserror::Error;
 #[error("out of memory")]
 pub struct OutOfMemory;
 
-/// The bytes at the offsets from `start` to below `start + len`; none where `len` is 0.
+/// The bytes at the offsets from `start` to below `start + len`; none if `len` is 0.
 #[derive(Clone, Copy, PartialEq, Eq, Debug)]
 pub struct Extent {
     /// The offset of the first byte.

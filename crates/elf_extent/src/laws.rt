@@ -8,7 +8,7 @@ ghost use Rattle.elf_extent.specs.Extent.{AreDisjoint, AreWithin, Doubly};
 ghost use Rattle.elf_extent.specs.Least.{Never};
 ghost use Rattle.elf_extent.specs.Place.{Fits, Least, end_of};
 
-/// Extents are disjoint exactly where no byte is held by two of them.
+/// Extents are disjoint exactly if no byte is held by two of them.
 pub fn disjoint()
     ensures only { (es : List Extent) → AreDisjoint es → Never (Doubly es) }
     ensures from { (es : List Extent) → Never (Doubly es) → AreDisjoint es }

@@ -24,7 +24,7 @@ pub struct Sym {
     pub st_shndx: u16,
     /// Value: an address, an offset in a section, or the alignment of a common symbol.
     pub st_value: u64,
-    /// Size in bytes, 0 where it is unknown or there is none.
+    /// Size in bytes, 0 if it is unknown or there is none.
     pub st_size: u64,
 }
 

@@ -12,8 +12,8 @@ use elf_image_rules::{TableEnds, TableRecords, judge_entries};
 use elf_image_stream::Fault;
 use std::alloc::Global;
 
-/// The parts of a file of `len` bytes with these tables, and a section name string table with these ends; else the first of rules 22 to 33
-/// that they break. Memory is asked for where they keep rules 22 to 32.
+/// The parts of a file of `len` bytes with these tables, and a section name string table with these ends; otherwise the first of rules
+/// 22 to 33 that they break. Memory is taken only if they break none of rules 22 to 32.
 pub(crate) fn judged_parts(
     alloc: Global,
     len: u64,

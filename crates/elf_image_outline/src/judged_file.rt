@@ -46,7 +46,7 @@ fn prove_bytes(_bytes: &[u8])
 
 /// The records and the parts of a file that breaks none of rules 1 to 32. Only rule 33 is left to test.
 ///
-/// [`Fault::Rule`] is rule 33 with the lowest offset of a byte that lies in two parts. [`Fault::OutOfMemory`] comes only where an
+/// [`Fault::Rule`] is rule 33 with the lowest offset of a byte that lies in two parts. [`Fault::OutOfMemory`] comes only if an
 /// allocation fails. [`Fault::Io`] never comes. Sorting the extents takes n log n comparisons; all else is linear in the records.
 pub fn outline_of(alloc: Global, records: &JudgedRecords<'_>) -> Result<Outline, Fault>
     ensures ok { let b = file_of records.now in IfOk result (λ outline. IsImage (image_in outline b) b) }

@@ -20,7 +20,7 @@ pub(crate) struct Head {
     pub header: Ehdr,
 }
 
-/// The length and the header of a source that keeps rules 1 to 12; else the first of them that it breaks.
+/// The length and the header of a source that keeps rules 1 to 12; otherwise the first of them that it breaks.
 pub(crate) fn scan_head<S: Source>(source: &mut S) -> Result<Head, Fault>
     ensures kept { S.content source.new ≡ S.content source.old }
     ensures failures { Remembers (scan_failure result) (S.failures source.old) (S.failures source.new) }

@@ -79,7 +79,7 @@ fn read_sections<S: Source>(
     Ok(sections)
 }
 
-/// The header and the two tables of a source that keeps rules 13 to 21; else the first of them that it breaks.
+/// The header and the two tables of a source that keeps rules 13 to 21; otherwise the first of them that it breaks.
 pub(crate) fn scan_tables<S: Source>(
     alloc: Global,
     source: &mut S,

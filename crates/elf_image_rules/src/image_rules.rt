@@ -24,7 +24,7 @@ use elf_field::Ehdr;
 use elf_field::abi::SHDR_SIZE;
 use std::alloc::Global;
 
-/// The first rule of 1 to 33 that the file breaks, and its lowest offset in bytes; None where it breaks none. It takes no memory. Linear in
+/// The first rule of 1 to 33 that the file breaks, and its lowest offset in bytes; None if it breaks none. It takes no memory. Linear in
 /// the records, where the contents are in the order of their section headers; else it takes the square of their number.
 pub fn verdict(bytes: &[u8]) -> Option<(u16, u64)>
     ensures { IsFault bytes.now result }
@@ -67,7 +67,7 @@ pub fn judge_by_sorting<'a>(
 }
 
 /// The file with its header and counts, where it keeps rules 1 to 32, which leave open only whether two
-/// of its parts share a byte: else the first rule that it breaks, and its lowest offset.
+/// of its parts share a byte; otherwise the first rule that it breaks, and its lowest offset.
 pub fn judge_records<'a>(bytes: &'a [u8]) -> Result<JudgedRecords<'a>, Broken<u64>>
     ensures broken { IfErr result (λ broken. IsFault bytes.entry.now (Some (broken.rule, broken.at))) }
     ensures kept { OnOk result (KeepsRecordRules bytes.entry.now) }

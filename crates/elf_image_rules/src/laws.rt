@@ -20,7 +20,7 @@ pub fn one_fault()
     ensures some { (b : List ℕ) → ((x : Option (ℕ × ℕ)) → IsFault b x → ⊥) → ⊥ }
 {}
 
-/// No rule is broken exactly where each rule is kept, said as the standard says it, one fact for each: in
+/// No rule is broken exactly if each rule is kept, said as the standard says it, one fact for each: in
 /// all rules, and in those that look at one record at a time or at the names, 1 to 32.
 pub fn kept_rules()
     ensures kept { (len : ℕ) (h : Ehdr) (s : ℕ → Shdr) (g : ℕ → Phdr) (names : List ℕ) →

@@ -10,7 +10,7 @@ use elf_extent::OutOfMemory;
 use std::alloc::Global;
 
 impl<'a> JudgedRecords<'a> {
-    /// The lowest byte that two parts of the file hold, which breaks rule 33; None where there is none, and the file is an image. It takes
+    /// The lowest byte that two parts of the file hold, which breaks rule 33; None if there is none, and the file is an image. It takes
     /// no memory: where the contents are not in the order of their section headers it compares every two of them, which takes the square of
     /// their number.
     pub fn shared_byte(&self) -> Option<u64>

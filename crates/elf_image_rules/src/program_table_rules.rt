@@ -37,7 +37,7 @@ pub fn judge_program_table(header: &Ehdr, first: &Shdr, len: u64) -> Result<(), 
     Ok(())
 }
 
-/// Whether there is a count just where there is a program table, and a section header 0 where that
+/// Whether there is a count just where there is a program table, and a section header 0 if that
 /// has the count.
 fn is_segment_count_right(header: &Ehdr) -> bool
     ensures { IsTrue result ↔ ¬ HasWrongSegmentCount header.now }

@@ -76,7 +76,7 @@ impl<'a> Records for TableRecords<'a> {
 
     ghost sections = { λ r i. section_header_of r.sections.now i };
 
-    // what isn't there is all zeros
+    // what is not there is all zeros
     ghost HasSection = { λ r i. Unit {0} };
 
     ghost segments = { λ r j. program_header_of r.segments.now j };

@@ -35,7 +35,7 @@ pub const WRONG_NAME_TABLE_INDEX: u16 = 16;
 /// Section header 0 has a name table's index that `e_shstrndx` could hold, that no section has, or that is beside `e_shstrndx`.
 pub const WRONG_EXTENDED_NAME_TABLE_INDEX: u16 = 17;
 /// A program table without a count, a count without a table, or a count in a section header 0 that
-/// isn't there.
+/// is not there.
 pub const WRONG_SEGMENT_COUNT: u16 = 18;
 /// The program table's entries don't have the size of a program header.
 pub const WRONG_PROGRAM_HEADER_SIZE: u16 = 19;

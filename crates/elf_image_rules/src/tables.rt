@@ -28,7 +28,7 @@ pub fn header_of(bytes: &[u8]) -> Ehdr
     get_at(order_in(&bytes[..EI_NIDENT]), bytes, 0)
 }
 
-/// What is used for a section header that isn't there.
+/// What is used for a section header that is not there.
 pub const NO_SECTION: Shdr = Shdr {
     sh_name: 0,
     sh_type: 0,
@@ -42,7 +42,7 @@ pub const NO_SECTION: Shdr = Shdr {
     sh_entsize: 0,
 };
 
-/// What is used for a program header that isn't there.
+/// What is used for a program header that is not there.
 pub(crate) const NO_SEGMENT: Phdr = Phdr {
     p_type: 0,
     p_flags: 0,

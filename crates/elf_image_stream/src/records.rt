@@ -134,7 +134,7 @@ fn read_several<T: Record + Drop, S: Source>(
 
 /// The table of so many records at an offset, read through one array of [`BLOCK`] bytes.
 ///
-/// [`RecordsFault::OutOfMemory`] comes where memory for the table is refused, before anything is read, and [`RecordsFault::Io`] as
+/// [`RecordsFault::OutOfMemory`] comes if memory for the table is refused, before anything is read, and [`RecordsFault::Io`] as
 /// [`read_exactly`] returns it of the block at which a read failed. Linear in the table's length.
 pub fn read_records<T: Record + Drop, S: Source>(
     alloc: Global,

@@ -24,7 +24,7 @@ pub trait Source {
     // The calls that failed.
     ghost failures: { Self → Failures };
 
-    /// How many bytes there are. [`Failed`] where the call fails, which was asked for offset 0 then.
+    /// How many bytes there are. [`Failed`] if the call fails, which was asked for offset 0 then.
     fn length(&mut self) -> Result<u64, Failed>
         ensures kept { content self.new ≡ content self.old }
         ensures failures { RemembersCall 0 (failures self.old) (failures self.new) result }

@@ -27,7 +27,7 @@ impl<'a> Image<'a> {
     /// Replaces the content of section `i` by as many other bytes, which are borrowed. A refusal changes
     /// nothing: [`ReplaceFault::NoSection`] where `i` is 0 or not below
     /// [`section_count`](Image::section_count), or the section is of type `SHT_NULL` or `SHT_NOBITS`; else
-    /// [`ReplaceFault::WrongLength`] where these are not `sh_size` bytes; else
+    /// [`ReplaceFault::WrongLength`] if these are not `sh_size` bytes; else
     /// [`ReplaceFault::NameTable`] where `i` is [`name_table`](Image::name_table).
     pub fn replace(&mut self, i: usize, content: &'a [u8]) -> Result<(), ReplaceFault>
         ensures ok { OnOk result (IsReplaceable self.old i content.now ×

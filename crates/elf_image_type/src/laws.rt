@@ -37,7 +37,7 @@ pub fn fields()
         IsPhdrAt (order_of v.header.e_ident) b (phdr_offset v.header j) (program_header_of v.segments j) }
 {}
 
-/// An image value is sound by itself exactly where there is a list of bytes that represents it, and that breaks no rule. So an edit that
+/// An image value is sound by itself exactly if there is a list of bytes that represents it, and that breaks no rule. So an edit that
 /// keeps a value sound leaves an image.
 pub fn sound()
     ensures stands { (v : ImageValue) → IsSoundImage v → (b : List ℕ) × IsImage v b }

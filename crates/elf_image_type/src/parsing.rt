@@ -16,7 +16,7 @@ use std::alloc::{AllocError, Global};
 /// its names and contents borrowed for as long as the bytes live.
 ///
 /// [`Fault::Rule`] is the first of rules 1 to 33 that the bytes break, at the lowest offset where
-/// they break it. [`Fault::OutOfMemory`] comes only where they keep rules 1 to 32: the tables are
+/// they break it. [`Fault::OutOfMemory`] comes only if they keep rules 1 to 32: the tables are
 /// copied, and the extents sorted for rule 33. [`Fault::Io`] never comes. Sorting takes n log n
 /// comparisons; all else is linear in the records.
 pub fn parse<'a>(alloc: Global, bytes: &'a [u8]) -> Result<Image<'a>, Fault>

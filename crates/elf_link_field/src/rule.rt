@@ -64,7 +64,7 @@ pub struct RelocRule {
     pub range: Range,
 }
 
-/// The first relocation rule of this kind; None where there is none.
+/// The first relocation rule of this kind; None if there is none.
 pub fn rule_of(rules: &[RelocRule], kind: u32) -> Option<RelocRule>
     ensures { MatchOption result (HasNoRelocationRule kind rules.now) (IsFirstRelocationRule kind rules.now) }
 {

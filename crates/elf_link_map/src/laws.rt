@@ -12,7 +12,7 @@ ghost use Rattle.elf_object_type.specs.Object.{ObjectValue};
 
 use elf_object_type::Object;
 
-/// In the link map of some objects a section has an address exactly where it is live, the commons are after all sections, each of these
+/// In the link map of some objects a section has an address exactly if it is live, the commons are after all sections, each of these
 /// parts ends below 2^64, and no address lies in two of them.
 pub fn parts_apart()
     ensures { (opt : Options) (fs : List ObjectValue) (m : LinkMapValue) → IsLinkMap opt fs m → StandApart fs m }

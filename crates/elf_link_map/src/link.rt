@@ -22,7 +22,7 @@ use std::hash::BuildHasher;
 
 /// Where everything of a link is.
 ///
-/// Returns the first of rules 10 and 11 that is broken, and [`LinkFault::OutOfMemory`] only where an allocation fails.
+/// Returns the first of rules 10 and 11 that is broken, and [`LinkFault::OutOfMemory`] only if an allocation fails.
 fn placed<'l, 'a, S: BuildHasher + Drop>(
     alloc: Global,
     resolution: &'l Resolution<'_, 'a>,
@@ -86,7 +86,7 @@ pub fn map_numbered<'a, S: BuildHasher + Drop>(
 /// The hasher spreads the keys of the outputs; whichever it is, the map is the same.
 ///
 /// [`LinkFault::Rule`] is the first of the link's rules ([`rules`](crate::rules)) that is broken, at its first site;
-/// [`LinkFault::OutOfMemory`] comes only where an allocation fails; memory is asked for only where rules 1 and 2 are not broken: for each
+/// [`LinkFault::OutOfMemory`] comes only if an allocation fails; memory is taken only if rules 1 and 2 are not broken: for each
 /// section, symbol and name. Takes log n comparisons of names at most for each symbol and each group, and one search by key for each live
 /// section.
 pub fn map<'a, S: BuildHasher + Drop>(

@@ -36,7 +36,7 @@ impl<'a> Model for LinkMap<'a> {
 }
 
 impl<'a> LinkMap<'a> {
-    /// The address of a section; None where it is not live, or where there is none at that position.
+    /// The address of a section; None if it is not live, or if there is none at that position.
     pub fn address(&self, file: usize, section: usize) -> Option<u64>
         ensures { result ≡ cell self.now.addresses file section }
     {
@@ -53,14 +53,14 @@ impl<'a> LinkMap<'a> {
         }
     }
 
-    /// What a name is bound to; None where no symbol that is not local has it. It takes log n comparisons of names.
+    /// What a name is bound to; None if no symbol that is not local has it. It takes log n comparisons of names.
     pub fn binding(&self, name: &[u8]) -> Option<Binding>
         ensures { result ≡ bound_in self.now.bindings name.now }
     {
         self.names.binding(name)
     }
 
-    /// Where a name is among [`LinkMap::names`]; None where it is not there.
+    /// Where a name is among [`LinkMap::names`]; None if it is not there.
     pub(crate) fn position(&self, name: &[u8]) -> Option<usize>
         ensures { MatchOption result (bound_in self.now.bindings name.now ≡ None) (IsBindingAt self.now.bindings name.now) }
     {
@@ -103,7 +103,7 @@ impl<'a> LinkMap<'a> {
         self.page
     }
 
-    /// The value of the entry symbol; 0 where none is named.
+    /// The value of the entry symbol; 0 if none is named.
     pub fn entry(&self) -> u64
         ensures { result ≡ self.now.entry }
     {

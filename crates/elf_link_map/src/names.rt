@@ -56,14 +56,14 @@ impl<'a> Names<'a> {
         &self.list
     }
 
-    /// The position of a name; None where it is not there.
+    /// The position of a name; None if it is not there.
     pub(crate) fn position(&self, name: &[u8]) -> Option<usize>
         ensures { MatchOption result (bound_in self.now name.now ≡ None) (IsBindingAt self.now name.now) }
     {
         self.positions.get(name)
     }
 
-    /// What a name is bound to; None where it is not there.
+    /// What a name is bound to; None if it is not there.
     pub(crate) fn binding(&self, name: &[u8]) -> Option<Binding>
         ensures { result ≡ bound_in self.now name.now }
     {

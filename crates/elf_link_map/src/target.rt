@@ -80,7 +80,7 @@ fn name_target(resolution: &Resolution<'_, '_>, sites: &[Site], name: &[u8]) -> 
     }
 }
 
-/// The value of the entry symbol, 0 where none is named.
+/// The value of the entry symbol, 0 if none is named.
 pub(crate) fn entry_target(
     resolution: &Resolution<'_, '_>,
     sites: &[Site],

@@ -32,7 +32,7 @@ fn chosen_in(block: Block, id: SymbolId) -> Option<Chosen>
     })
 }
 
-/// The common that is placed for a symbol, by what is known of its name; None where the symbol is not the first common of the name, or
+/// The common that is placed for a symbol, by what is known of its name; None if the symbol is not the first common of the name, or
 /// the name has a global definition.
 fn chosen_of(known: Known, id: SymbolId) -> Option<Chosen>
     ensures { IsChosenOf known id result }
@@ -47,7 +47,7 @@ fn chosen_of(known: Known, id: SymbolId) -> Option<Chosen>
 }
 
 impl<'t, 'l, 'a> NamedSymbol<'t, 'l, 'a> {
-    /// The common that is placed for it; None where there is none.
+    /// The common that is placed for it; None if there is none.
     fn chosen(&self) -> Option<Chosen>
         ensures { MatchOption result (IsChosen self.now.table.now self.now.id.file self.now.id.index → ⊥) (IsPlacedFor self.now.table.now self.now.id) }
     {

@@ -52,7 +52,7 @@ impl Model for KnownTable {
     ghost view = { table_value };
 }
 
-/// A symbol in 32 bits each; None where it does not fit.
+/// A symbol in 32 bits each; None if it does not fit.
 fn small_id(id: SymbolId) -> Option<SmallId>
     ensures { IfSome result (λ small. id_of small ≡ id) }
 {
@@ -95,7 +95,7 @@ fn small_item(row: Row) -> Known
     }
 }
 
-/// The row that holds what is known of a name; None where it does not fit.
+/// The row that holds what is known of a name; None if it does not fit.
 fn small_row(known: Known) -> Option<Row>
     ensures { IfSome result (λ row. (small_known row ≡ known) × (row.large ≡ 18446744073709551615)) }
 {

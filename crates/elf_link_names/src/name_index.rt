@@ -63,7 +63,7 @@ impl<'a> NameIndex<'a> {
         })
     }
 
-    /// The position of a name; None where it has none.
+    /// The position of a name; None if it has none.
     #[tactic(auto, unfolding(crate::specs::Slots::name_position))]
     pub fn get(&self, name: &[u8]) -> Option<usize>
         ensures { result ≡ name_position self.now name.now }
@@ -92,7 +92,7 @@ impl<'a> NameIndex<'a> {
         Lookup { hash, position }
     }
 
-    /// The position of a name that has one, which stays; a further name gets this one, and the answer is None. The error comes only where
+    /// The position of a name that has one, which stays; a further name gets this one, and the answer is None. The error comes only if
     /// an allocation fails, and leaves each name where it was. Takes a look at a few slots for most names, and log n comparisons for any.
     pub fn place(&mut self, name: &'a [u8], next: usize) -> Result<Option<usize>, AllocError>
         ensures old { IfOk result (λ old. old ≡ name_position self.old name.now) }

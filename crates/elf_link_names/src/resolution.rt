@@ -120,7 +120,7 @@ impl<'l, 'a> Resolution<'l, 'a> {
         self.names.known.len()
     }
 
-    /// The number of a name; None where no symbol that is not local has it.
+    /// The number of a name; None if no symbol that is not local has it.
     pub fn number(&self, name: &[u8]) -> Option<usize>
         ensures { MatchOption result (Never (entries self.now.objects name.now)) (IsNumberIn self.now name.now) }
     {

@@ -41,8 +41,8 @@ impl<'l, 'a> Model for Addressed<'l, 'a> {
 impl<'l, 'a> Addressed<'l, 'a> {
     /// A plan at the least addresses of its parts from `base`, and the entry symbol's value.
     ///
-    /// Returns rule 10 where the entry symbol has no value below 2^64, else rule 11 where a part ends at 2^64 or later, and
-    /// [`LinkFault::OutOfMemory`] only where an allocation fails and none of them is broken.
+    /// Returns rule 10 if the entry symbol has no value below 2^64, else rule 11 where a part ends at 2^64 or later, and
+    /// [`LinkFault::OutOfMemory`] only if an allocation fails and none of them is broken.
     pub fn new(
         alloc: Global,
         plan: Plan<'l, 'a>,

@@ -64,8 +64,8 @@ pub(crate) struct Places {
 
 /// The least addresses of the parts (size, alignment) from `base`, and the entry symbol's value.
 ///
-/// Returns rule 10 where the entry symbol has no value below 2^64, else rule 11 where a part ends at 2^64 or later, and
-/// [`LinkFault::OutOfMemory`] only where an allocation fails and none of them is broken.
+/// Returns rule 10 if the entry symbol has no value below 2^64, else rule 11 where a part ends at 2^64 or later, and
+/// [`LinkFault::OutOfMemory`] only if an allocation fails and none of them is broken.
 pub(crate) fn addresses(
     alloc: Global,
     parts: &[(u64, u64)],

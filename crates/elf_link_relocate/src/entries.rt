@@ -10,7 +10,7 @@ use crate::linking::Linking;
 use elf_link_map::files::section_of;
 use elf_object_type::{Body, Object};
 
-/// The bytes of a body; none where it has no bits.
+/// The bytes of a body; none if it has no bits.
 fn content_of<'a>(body: &Body<'a>) -> &'a [u8]
     ensures { result.now ≡ content_of_body (body_value body.now) }
 {

@@ -27,7 +27,7 @@ pub(crate) struct Field {
     pub target: usize,
     /// Where it starts there, in bytes.
     pub offset: usize,
-    /// Its number; 0 where its symbol has no value, or where it passes the end of its target.
+    /// Its number; 0 if its symbol has no value, or if it passes the end of its target.
     pub number: i128,
 }
 

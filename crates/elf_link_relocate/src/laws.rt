@@ -72,7 +72,7 @@ pub fn memory_there()
         (x : ℕ) → IsInMemory m x → (v : ℕ) × IsMemory fs m rules x v }
 {}
 
-/// In a map of the files, where none of rules 1 to 16 is broken, the byte at an address in an output is 0 where none of its members has
+/// In a map of the files, where none of rules 1 to 16 is broken, the byte at an address in an output is 0 if none of its members has
 /// content: in gaps between members, and where these take memory without bits.
 pub fn memory_zero()
     ensures { (fs : List ObjectValue) (m : LinkMapValue) (rules : List RelocRule) → IsMapButOptions fs m → FirstAmong (applied_entry_rules fs m rules) None →

@@ -47,7 +47,7 @@ impl<'m, 'a> Model for Linked<'m, 'a> {
 }
 
 impl<'m, 'a> Linked<'m, 'a> {
-    /// The bytes of a section as the link leaves them, every field of an applied relocation with its number; None where the section
+    /// The bytes of a section as the link leaves them, every field of an applied relocation with its number; None if the section
     /// is not live or has no bits, or where there is none at that position.
     pub fn bytes(&self, file: usize, section: usize) -> Option<&[u8]>
         ensures { option_map (λ bytes. bytes.now) result ≡ bytes_at self.now file section }

@@ -57,7 +57,7 @@ pub fn relocate_numbered<'m, 'a>(
 /// write the relocated bytes.
 ///
 /// [`LinkFault::Rule`] is the first of rules 12 to 16 ([`rules`](crate::rules)) that is broken, at its first entry by file, section and
-/// position. [`LinkFault::OutOfMemory`] comes only where an allocation fails: a number for each symbol, a field for each applied entry, a
+/// position. [`LinkFault::OutOfMemory`] comes only if an allocation fails: a number for each symbol, a field for each applied entry, a
 /// copy of each live section with bits; where the fields don't ascend, an extent for each; and where two of these share an address, a mark
 /// for each byte. Takes log n comparisons at most for each symbol and each field, and a look through the rules for each entry; all else is
 /// linear in the bytes, entries and symbols.

@@ -54,7 +54,7 @@ impl<'f, 'v, 'l, 'a> FieldList<'f, 'v, 'l, 'a> {
     }
 
     /// Whether two fields may share a byte: where this is false none do. Only where they are not in ascending order it takes memory, and
-    /// sorts them by their addresses, of which fields of one section share one exactly where they share a byte.
+    /// sorts them by their addresses, of which fields of one section share one exactly if they share a byte.
     pub(crate) fn may_share(&self, alloc: Global) -> Result<bool, AllocError>
         ensures { IfOk result (λ shared. shared ≡ false → HasNoOverlap self.now.objects self.now.fields) }
     {

@@ -40,7 +40,7 @@ fn place_value(map: &LinkMap<'_>, file: usize, place: Place, value: u64) -> Opti
     }
 }
 
-/// The value that a symbol has itself; None where no symbol is at that position.
+/// The value that a symbol has itself; None if no symbol is at that position.
 fn definition_value(
     objects: &[Object<'_>],
     map: &LinkMap<'_>,
@@ -61,7 +61,7 @@ fn definition_value(
     place_value(map, file, symbol.place, symbol.value)
 }
 
-/// The value of a binding: that of its definition, a common's address, or zero; None where the definition lies in a section that
+/// The value of a binding: that of its definition, a common's address, or zero; None if the definition lies in a section that
 /// has no address. It is a whole number: the sum of an address and a `st_value` can have 65 bits.
 pub fn binding_value(objects: &[Object<'_>], map: &LinkMap<'_>, binding: Binding) -> Option<u128>
     ensures value { result ≡ binding_value_of objects.now map.now binding }
@@ -149,7 +149,7 @@ impl<'v, 'l, 'a> Values<'v, 'l, 'a> {
         }
     }
 
-    /// The value of a reference from a file to one of its symbols: 0 where it names none.
+    /// The value of a reference from a file to one of its symbols: 0 if it names none.
     pub(crate) fn reference(&self, file: usize, symbol: Option<usize>) -> Option<u128>
         requires { IfSome symbol (IsFileSymbol self.now.objects file) }
         ensures value { result ≡ reference_value self.now.objects self.now.map file symbol }

@@ -16,7 +16,7 @@ use std::io::Write;
 /// object's own and after them `.symtab`, `.symtab_shndx` where a symbol needs it, `.strtab` and `.shstrtab`.
 ///
 /// What is written breaks no rule of images and none of objects, and is read as this object and no other. Two objects have the same file
-/// exactly where they are equal.
+/// exactly if they are equal.
 ///
 /// [`ObjectWriteFault::TooLong`] comes exactly if the layout would be longer than 2^30 bytes, and [`ObjectWriteFault::OutOfMemory`] only if
 /// an allocation fails. Both come before the first byte is written. Any error of the writer, an interruption too, is

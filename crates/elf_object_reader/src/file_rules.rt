@@ -98,7 +98,7 @@ impl<'i, 'a> ObjectFile<'i, 'a> {
 }
 
 impl<'f, 'i, 'a> FileSection<'f, 'i, 'a> {
-    /// The rules of its relocations or its group; none where it has neither.
+    /// The rules of its relocations or its group; none if it has neither.
     fn judge_body(&self) -> Result<(), Broken<u64>>
         ensures { let f = sections_of_file self.now.file.now in let i = self.now.index in
             FirstIn (rules_of_body (body_kind (section f i).sh_type) f i) (fault_of result) }

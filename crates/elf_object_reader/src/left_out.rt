@@ -44,7 +44,7 @@ impl LeftOut {
         }
     }
 
-    /// Whether the object keeps section `i`; it keeps none that isn't there.
+    /// Whether the object keeps section `i`; it keeps none that is not there.
     #[tactic(auto, unfolding(crate::specs::Kept::is_kept))]
     pub(crate) fn is_kept(&self, image: &Image<'_>, i: usize) -> bool
         ensures value { result ≡ is_kept_of self.now (sections_of image.now) i }

@@ -28,7 +28,7 @@ pub(crate) struct ObjectFile<'i, 'a> {
 impl<'i, 'a> ObjectFile<'i, 'a> {
     ghost use Rattle.elf_object_reader.specs.ObjectFile.{sections_of_file};
 
-    /// Whether the object keeps section `i`; it keeps none that isn't there.
+    /// Whether the object keeps section `i`; it keeps none that is not there.
     pub(crate) fn is_kept(&self, i: usize) -> bool
         ensures value { result ≡ is_kept_of self.now.left (sections_of_file self.now) i }
         ensures there { OnTrue result (i < length self.now.image.now.sections) }

@@ -15,7 +15,7 @@ use crate::object_file::ObjectFile;
 pub(crate) struct ObjectReader<'i, 'a> {
     /// The file.
     pub(crate) file: ObjectFile<'i, 'a>,
-    /// For each section its position, and a last one for any section that isn't there.
+    /// For each section its position, and a last one for any section that is not there.
     pub(crate) positions: Vec<usize>,
     ghost sound: { FirstIn (file_rules (sections_of file.image.now)) None } by { unbroken_prop _ },
     ghost own_positions: { AreSectionPositions file.left (sections_of file.image.now) positions.items },

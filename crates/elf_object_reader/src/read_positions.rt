@@ -7,7 +7,7 @@ use crate::object_file::ObjectFile;
 use std::alloc::{AllocError, Global};
 
 impl<'i, 'a> ObjectFile<'i, 'a> {
-    /// For each section its position, and a last one for any section that isn't there.
+    /// For each section its position, and a last one for any section that is not there.
     pub(crate) fn positions(&self, alloc: Global) -> Result<Vec<usize>, AllocError>
         ensures { IfOk result (λ positions. AreSectionPositions self.now.left (sections_of_file self.now) positions.items) }
     {

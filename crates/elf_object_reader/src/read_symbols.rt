@@ -58,7 +58,7 @@ impl<'i, 'a> ObjectReader<'i, 'a> {
         Ok(read)
     }
 
-    /// The symbols from symbol 1 on; none where there is no symbol table.
+    /// The symbols from symbol 1 on; none if there is no symbol table.
     pub(crate) fn read_symbols(&self, alloc: Global) -> Result<Vec<Symbol<'a>>, AllocError>
         ensures { let file = self.now.file in IfOk result (λ read.
             map symbol_value read.items ≡ symbols_denoted file.left (sections_of_file file) file.left.symbol_table) }

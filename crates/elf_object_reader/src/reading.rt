@@ -26,7 +26,7 @@ use std::alloc::Global;
 ///
 /// [`Fault::Rule`] is the first rule that is broken, at its lowest offset: 70 to 74 ([`rules`](crate::rules)); then those of the symbol
 /// table, where there is one, and 75; then those of each relocation section and each group that is kept, in the order of their indexes;
-/// then 76 to 79. [`Fault::OutOfMemory`] comes only where an allocation failed, and none of 70 to 74 is broken. No other fault comes. It
+/// then 76 to 79. [`Fault::OutOfMemory`] comes only if an allocation failed, and none of 70 to 74 is broken. No other fault comes. It
 /// takes memory for each section header, symbol, relocation and member. Its tables take log n steps at most for each entry, and each name
 /// is read to its end.
 pub fn object_of<'a>(alloc: Global, image: &Image<'a>) -> Result<Object<'a>, Fault>

@@ -65,7 +65,7 @@ impl<'f, 'i, 'a> FileSection<'f, 'i, 'a> {
         self.file.is_kept(self.index) && (kind == BodyKind::Bits || kind == BodyKind::NoBits)
     }
 
-    /// Whether it is plain and links to one that is left out, or isn't there.
+    /// Whether it is plain and links to one that is left out, or is not there.
     fn has_wrong_kept_link(&self) -> bool
         ensures { let file = self.now.file.now in IsTrue result ↔ HasWrongKeptLink file.left (sections_of_file file) self.now.index }
     {
@@ -73,7 +73,7 @@ impl<'f, 'i, 'a> FileSection<'f, 'i, 'a> {
         self.is_plain() && (link != 0 && !self.file.is_kept(link))
     }
 
-    /// Whether it is plain and has the flag `SHF_INFO_LINK`, and its info is the index of one that is left out, or isn't there.
+    /// Whether it is plain and has the flag `SHF_INFO_LINK`, and its info is the index of one that is left out, or is not there.
     fn has_wrong_kept_info(&self) -> bool
         ensures { let file = self.now.file.now in IsTrue result ↔ HasWrongKeptInfo file.left (sections_of_file file) self.now.index }
     {

@@ -17,7 +17,7 @@ pub const SYMBOL_OUTSIDE: u16 = 75;
 pub const WRONG_RELOCATION_TARGET: u16 = 76;
 /// A member of a group is left out, or a group itself, or a member of a group before.
 pub const WRONG_GROUP_MEMBER: u16 = 77;
-/// A plain section that is kept links to one that is left out, or isn't there.
+/// A plain section that is kept links to one that is left out, or is not there.
 pub const WRONG_KEPT_LINK: u16 = 78;
-/// The info of a plain section that is kept is the index of one that is left out, or isn't there.
+/// The info of a plain section that is kept is the index of one that is left out, or is not there.
 pub const WRONG_KEPT_INFO: u16 = 79;

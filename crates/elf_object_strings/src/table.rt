@@ -23,7 +23,7 @@ pub struct Shared {
 ///
 /// Each name is at its offset with a zero after it. Of names without a zero byte the offset is the lowest at which this is so, that of the
 /// empty name is 0, and no table that holds them all is shorter. Takes n log n comparisons of names, from their ends on, and at most six
-/// numbers of memory a name besides the table. Returns [`OutOfMemory`] only where an allocation failed.
+/// numbers of memory a name besides the table. Returns [`OutOfMemory`] only if an allocation failed.
 pub fn shared_table(alloc: Global, names: &[&[u8]]) -> Result<Shared, OutOfMemory>
     ensures bytes { IfOk result (λ shared. shared.bytes.items ≡ string_table (texts names.now)) }
     ensures offsets { IfOk result (λ shared. shared.offsets.items ≡ map (name_offset (texts names.now)) (texts names.now)) }

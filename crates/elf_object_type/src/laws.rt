@@ -11,7 +11,7 @@ pub fn one_object_fault()
     ensures some { (o : ObjectValue) → (x : Option (ℕ × ℕ)) × FirstIn (object_rules o) x }
 {}
 
-/// Parts break no rule exactly where each of the nine rules is kept, said as the standard says it, one fact for each.
+/// Parts break no rule exactly if each of the nine rules is kept, said as the standard says it, one fact for each.
 pub fn kept_object_rules()
     ensures kept { (o : ObjectValue) → IsObject o → KeepsObjectRules o }
     ensures unbroken { (o : ObjectValue) → KeepsObjectRules o → IsObject o }

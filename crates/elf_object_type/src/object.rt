@@ -62,7 +62,7 @@ impl<'a> Object<'a> {
     /// The object of these parts, which are dropped where they break a rule.
     ///
     /// [`ObjectFault::Section`] and [`ObjectFault::Symbol`] are the first rule that is broken, at its least position.
-    /// [`ObjectFault::OutOfMemory`] comes only where an allocation fails; memory is asked for only where none of rules 1 to 5 is broken: a
+    /// [`ObjectFault::OutOfMemory`] comes only if an allocation fails; memory is taken only if none of rules 1 to 5 is broken: a
     /// mark for each section. Linear in the sections, the entries and members in them, the symbols, and the bytes of the names.
     pub fn new(alloc: Global, parts: ObjectParts<'a>) -> Result<Object<'a>, ObjectFault>
         ensures ok { IfOk result (λ o. o ≡ value_of parts.entry) }

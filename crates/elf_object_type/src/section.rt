@@ -44,11 +44,11 @@ pub struct Section<'a> {
     pub name: &'a [u8],
     /// `sh_flags`, `SHF_WRITE` and the like.
     pub flags: u64,
-    /// The address, 0 where it has none yet.
+    /// The address, 0 if it has none yet.
     pub addr: u64,
     /// The alignment: 0 for none, or a power of two.
     pub align: u64,
-    /// The size of the entries of a table, 0 where the section holds none.
+    /// The size of the entries of a table, 0 if the section holds none.
     pub entsize: u64,
     /// The position of the section that `sh_link` names, where the body gives it no other meaning.
     pub link: Option<usize>,

@@ -85,7 +85,7 @@ fn has_wrong_alignment(section: &Section<'_>) -> bool
     is_wrong_alignment(section.align) || section.align > 1 && section.addr % section.align != 0
 }
 
-/// Whether a section or symbol that the section names isn't there, or the target has no bits.
+/// Whether a section or symbol that the section names is not there, or the target has no bits.
 fn has_wrong_position(parts: &ObjectParts<'_>, section: &Section<'_>) -> bool
     ensures { IsTrue result ↔ HasWrongPosition (value_of parts.now) (section_value section.now) }
 {
@@ -114,14 +114,14 @@ fn has_wrong_reference(parts: &ObjectParts<'_>, body: &Body<'_>) -> bool
     }
 }
 
-/// Whether relocations can't apply to the section at this position: it isn't there, or has no bits.
+/// Whether relocations can't apply to the section at this position: it is not there, or has no bits.
 fn is_no_target(parts: &ObjectParts<'_>, target: usize) -> bool
     ensures { IsTrue result ↔ IsNoTarget (value_of parts.now) target }
 {
     target >= parts.sections.len() || !is_bits(&section_at(parts, target).body)
 }
 
-/// Whether the symbol of an entry isn't there.
+/// Whether the symbol of an entry is not there.
 fn has_symbol_past(symbols: usize, entries: &Relocations<'_>) -> bool
     ensures { IsTrue result ↔ Any (λ entry. IsPast symbols entry.symbol) entries.now }
 {

@@ -29,7 +29,7 @@ pub struct Symbol<'a> {
     pub place: Place,
     /// An offset in its section, an absolute value, or the alignment of a common symbol.
     pub value: u64,
-    /// Size in bytes, 0 where it is unknown or there is none.
+    /// Size in bytes, 0 if it is unknown or there is none.
     pub size: u64,
 }
 

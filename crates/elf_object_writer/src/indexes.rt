@@ -18,7 +18,7 @@ pub(crate) fn index_of(position: Option<usize>) -> u32
     }
 }
 
-/// A number that a field of 16 bits holds only where it is no reserved index; there it is 0.
+/// A number that a field of 16 bits holds only if it is no reserved index; there it is 0.
 pub(crate) fn short_count(count: usize) -> u16
     ensures { result ≡ short_count count }
 {
@@ -29,7 +29,7 @@ pub(crate) fn short_count(count: usize) -> u16
     }
 }
 
-/// An index that a field of 16 bits holds only where it is no reserved one.
+/// An index that a field of 16 bits holds only if it is no reserved one.
 pub(crate) fn short_index(index: usize) -> u16
     ensures { result ≡ short_index index }
 {

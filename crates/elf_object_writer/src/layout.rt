@@ -115,8 +115,8 @@ impl Layout {
 /// The canonical layout of an object. Its two string tables share tails: each name begins at the lowest offset at which it is, and no table
 /// that holds the names is shorter.
 ///
-/// [`LayoutFault::TooLong`] comes exactly where it is longer than the longest file, 2^30 bytes, and
-/// [`LayoutFault::OutOfMemory`] only where an allocation fails. It takes the time and the memory of the two string tables, as
+/// [`LayoutFault::TooLong`] comes exactly if it is longer than the longest file, 2^30 bytes, and
+/// [`LayoutFault::OutOfMemory`] only if an allocation fails. It takes the time and the memory of the two string tables, as
 /// `shared_table` of `elf_object_strings` makes them; all else is linear in the sections and the symbols.
 pub fn lay_out(alloc: Global, object: &Object<'_>) -> Result<Layout, LayoutFault>
     ensures ok { IfOk result (IsLayoutOf object.now) }

@@ -52,7 +52,7 @@ fn own_parts(alloc: Global, object: &Object<'_>) -> Result<Vec<(u64, u64)>, Allo
     Ok(parts)
 }
 
-/// The content of a section, whose alignment counts only where it has bytes in the file.
+/// The content of a section, whose alignment counts only if it has bytes in the file.
 pub(crate) fn content_part(section: &Section<'_>) -> (u64, u64)
     requires { ¬ IsWrongBitsType (body_value section.now.body) }
     ensures { (o : ObjectValue) → result ≡ saturated (content_part (own_section o (section_value section.now))) }

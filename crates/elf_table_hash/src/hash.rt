@@ -43,7 +43,7 @@ impl<'a> Hash<'a> {
     /// each symbol while it tests the chains.
     ///
     /// [`Fault::Rule`] is the first rule that is broken, at its lowest offset: 40, 42, 43, 44, then all rules of the symbol table that the
-    /// section links to, then 65 to 69. [`Fault::OutOfMemory`] comes only where an allocation fails, and no rule from 40 to 67 is broken.
+    /// section links to, then 65 to 69. [`Fault::OutOfMemory`] comes only if an allocation fails, and no rule from 40 to 67 is broken.
     /// No other fault comes. It takes a pass over the section headers, the symbols and the words, log n steps at most to find a symbol on a
     /// chain, and the hash of each name.
     pub fn new(alloc: Global, image: &Image<'a>, i: usize) -> Result<Hash<'a>, Fault>
@@ -95,7 +95,7 @@ impl<'a> Hash<'a> {
         }
     }
 
-    /// The first symbol of this name on the chain of the name's bucket: some symbol exactly where a symbol from 1 on has the
+    /// The first symbol of this name on the chain of the name's bucket: some symbol exactly if a symbol from 1 on has the
     /// name. It takes no memory, and as many comparisons of names as [`probe`](Hash::probe) counts symbols.
     pub fn find(&self, name: &[u8]) -> Option<u32>
         ensures found { (steps : ℕ) × IsProbed self.now name.now result steps }

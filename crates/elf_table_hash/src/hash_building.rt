@@ -49,8 +49,8 @@ impl<T: Drop> From<AllocFailed<T>> for HashFault {
 /// which is on no chain. They are `nbucket`, `nchain`, the word of each bucket and the chain word of each symbol; each chain has the
 /// symbols of its own bucket alone, and they ascend along it.
 ///
-/// [`HashFault::NoBuckets`] where there is to be no bucket; else [`HashFault::TooMany`] for more than 2^24 names or buckets; else
-/// [`HashFault::OutOfMemory`] where the words don't fit into memory. Linear in the buckets and in the bytes of the names.
+/// [`HashFault::NoBuckets`] if there is to be no bucket; else [`HashFault::TooMany`] for more than 2^24 names or buckets; else
+/// [`HashFault::OutOfMemory`] if the words don't fit into memory. Linear in the buckets and in the bytes of the names.
 pub fn build_hash(alloc: Global, names: &[&[u8]], nbucket: u32) -> Result<Vec<u32>, HashFault>
     requires { 0 < length names.now }
     ensures built { IfOk result (λ words. IsBuilt words.items (map (λ name. name.now) names.now) nbucket) }

@@ -20,7 +20,7 @@ use std::marker::Model;
 struct Known {
     // Its chain word.
     next: u32,
-    // The length of the chain, 0 where it isn't known.
+    // The length of the chain, 0 if it isn't known.
     depth: u32,
     // A symbol further down, or itself.
     jump: u32,
@@ -32,7 +32,7 @@ struct Known {
 #[derive(Drop)]
 pub(crate) struct KnownChains<'w, 'a> {
     words: &'w HashWords<'a>,
-    // For each symbol the length of its chain, 0 where that isn't known.
+    // For each symbol the length of its chain, 0 if that isn't known.
     depth: Vec<u32>,
     // A symbol that its chain leads to, or itself.
     jump: Vec<u32>,
@@ -103,7 +103,7 @@ impl<'w, 'a> KnownChains<'w, 'a> {
     }
 
     // Down the chain of `start` to the first symbol whose chain is known, or to its end; the symbols before it are put on the
-    // stack. None where the chain comes back to one of them.
+    // stack. None if the chain comes back to one of them.
     fn climb(
         &self,
         start: u32,

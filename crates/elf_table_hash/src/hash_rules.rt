@@ -23,7 +23,7 @@ use elf_table_symbols::rules::*;
 use elf_table_symbols::{LinkedTable, SymbolVerdicts, TableKind, TableSection, judge_own_rules};
 use std::alloc::{AllocError, Global};
 
-/// All rules of a hash table, by these verdicts on the symbol tables. [`Fault::OutOfMemory`] comes only where no rule
+/// All rules of a hash table, by these verdicts on the symbol tables. [`Fault::OutOfMemory`] comes only if no rule
 /// from 40 to 67 is broken.
 #[tactic(auto, unfolding(crate::specs::HashRules::hash_table_rules, crate::specs::HashRules::hash_table_front))]
 pub fn judge_hash_table(
@@ -42,7 +42,7 @@ pub fn judge_hash_table(
 }
 
 /// Rules 65 to 69 of a hash table whose section header breaks no rule, as the symbol table that it links to.
-/// [`Fault::OutOfMemory`] comes only where none of 65 to 67 is broken.
+/// [`Fault::OutOfMemory`] comes only if none of 65 to 67 is broken.
 #[tactic(auto, unfolding(crate::specs::HashRules::hash_rules))]
 fn judge_hash(alloc: Global, linked: LinkedTable<'_, '_>) -> Result<(), Fault>
     requires own { FirstIn (own_rules TableKind.HashTable (sections_of linked.table.image.now) linked.table.index) None }

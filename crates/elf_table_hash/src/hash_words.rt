@@ -50,7 +50,7 @@ impl<'a> HashWords<'a> {
         word(self.order, self.table, j)
     }
 
-    /// Word `j`; 0 where there is none of this index.
+    /// Word `j`; 0 if there is none of this index.
     pub(crate) fn word_or_zero(&self, j: usize) -> u32
         ensures { result ≡ get_or self.now j 0 }
     {
@@ -100,7 +100,7 @@ impl<'a> HashWords<'a> {
         self.get(2 + self.nbucket() as usize + s as usize)
     }
 
-    /// The same, and 0 where there is no such word.
+    /// The same, and 0 if there is no such word.
     #[tactic(auto, unfolding(crate::specs::HashTable::chain))]
     pub(crate) fn chain_or_zero(&self, s: u32) -> u32
         ensures { result ≡ chain_word self.now s }

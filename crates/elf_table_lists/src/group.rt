@@ -38,10 +38,10 @@ impl<'a> Model for Group<'a> {
 
 impl<'a> Group<'a> {
     /// The group that section `i` holds, where `i` is below the image's count of section headers. It takes memory, for each of
-    /// the members, only where they do not ascend.
+    /// the members, only if they do not ascend.
     ///
     /// [`Fault::Rule`] is the first rule that is broken, at its lowest offset: 40, 42, 43, 44, then all rules of the symbol table that the
-    /// section links to, then 55 to 58. [`Fault::OutOfMemory`] comes only where an allocation failed, and none of them but 58 is broken. No
+    /// section links to, then 55 to 58. [`Fault::OutOfMemory`] comes only if an allocation failed, and none of them but 58 is broken. No
     /// other fault comes. Linear in the section headers, the symbols and the members; members that don't ascend take log n comparisons
     /// each.
     pub fn new(alloc: Global, image: &Image<'a>, i: usize) -> Result<Group<'a>, Fault>

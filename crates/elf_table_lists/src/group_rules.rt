@@ -26,7 +26,7 @@ use std::collections::BTreeSet;
 /// All rules of a section group, by these verdicts on the symbol tables.
 ///
 /// [`Fault::Rule`] is the first that is broken, at its lowest offset: 40, 42, 43, 44, then all rules of the symbol table that the section
-/// links to, then 55 to 58. [`Fault::OutOfMemory`] comes only where an allocation fails; memory is asked for only where the members don't
+/// links to, then 55 to 58. [`Fault::OutOfMemory`] comes only if an allocation fails; memory is taken only if the members don't
 /// ascend and none but 58 is broken. No other fault comes.
 #[tactic(auto, unfolding(crate::specs::GroupRules::group_section_rules))]
 pub fn judge_group_section(

@@ -10,7 +10,7 @@ use elf_image_type::Image;
 /// The first two index tables of a symbol table, by the indexes of their sections.
 #[derive(Clone, Copy, Debug, PartialEq, Eq)]
 pub struct IndexTables {
-    /// The first, None where there is none.
+    /// The first, None if there is none.
     pub first: Option<usize>,
     /// The second.
     pub second: Option<usize>,

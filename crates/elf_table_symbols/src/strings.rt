@@ -48,7 +48,7 @@ impl<'a> Strings<'a> {
         })
     }
 
-    /// The bytes from `offset` to the first zero. None where `offset` is not below the table's size in bytes, but an empty
+    /// The bytes from `offset` to the first zero. None if `offset` is not below the table's size in bytes, but an empty
     /// table has the empty string at offset 0. Linear in the string; it takes no memory.
     pub fn get(&self, offset: u64) -> Option<&'a [u8]>
         ensures { MatchOption result

@@ -23,7 +23,7 @@ pub enum TableKind {
 }
 
 impl TableKind {
-    /// The kind of table that a section of this type holds; None where it holds none that is a list of entries. String tables
+    /// The kind of table that a section of this type holds; None if it holds none that is a list of entries. String tables
     /// are no lists.
     pub fn of(section_type: u32) -> Option<TableKind>
         ensures { result ≡ kind_of section_type }

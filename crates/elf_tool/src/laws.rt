@@ -42,7 +42,7 @@ pub fn one_map()
 {}
 
 /// `link` says one verdict and one text, an executable or nothing, of its options, the relocation rules and the bytes of its files: no
-/// second one, and not none where the page is one that the code's type holds.
+/// second one, and not none if the page is one that the code's type holds.
 pub fn one_link()
     ensures some { (opt : Options) (rules : List RelocRule) (files : List (List ℕ)) → opt.page < 2 ^ 64 → AreFilesOfBytes files →
         SaysSome (FilesLink opt rules files) }
@@ -50,8 +50,8 @@ pub fn one_link()
 {}
 
 /// From the bytes of the input files to memory: for files that are images denoting objects, options and relocation rules, where no rule of
-/// the link is broken, the executable of the link is an image; it enters at the value of the entry symbol, or at 0 where none is named, and
-/// its loadable segments give an address a byte exactly where the memory of the link has that byte there. It is their only executable.
+/// the link is broken, the executable of the link is an image; it enters at the value of the entry symbol, or at 0 if none is named, and
+/// its loadable segments give an address a byte exactly if the memory of the link has that byte there. It is their only executable.
 pub fn executable()
     ensures { (opt : Options) (rules : List RelocRule) (files : List (List ℕ)) (fs : List ObjectValue) (m : LinkMapValue) (b : List ℕ) →
         IsSoundFileLink opt rules files fs m → IsExecFile fs m rules b → IsExecutable fs m rules b }

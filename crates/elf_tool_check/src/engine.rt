@@ -17,8 +17,8 @@ use std::io::{Read, Write};
 /// sections and of segments, or `refused R A` with the first rule that it breaks and the lowest
 /// offset where it breaks it.
 ///
-/// The verdict is what the line says. [`ToolFault::Read`] comes where a read fails, an interruption too, and [`ToolFault::OutOfMemory`]
-/// only where an allocation fails for the file or the line; nothing was written then. After [`ToolFault::Write`] exactly the first
+/// The verdict is what the line says. [`ToolFault::Read`] comes if a read fails, an interruption too, and [`ToolFault::OutOfMemory`]
+/// only if an allocation fails for the file or the line; nothing was written then. After [`ToolFault::Write`] exactly the first
 /// `written` bytes of the line are.
 ///
 /// Linear in the bytes; contents that are not in the order of their section headers are sorted, or compared two by two where memory for

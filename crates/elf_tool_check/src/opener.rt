@@ -34,7 +34,7 @@ pub trait Opener {
     ghost opens: { Self → List ℕ → Bool } = { λ _ _. false };
 
     /// A reader of the file's bytes from its beginning on. [`OpenFault::Refused`] comes only for a file that is not known to open,
-    /// [`OpenFault::OutOfMemory`] only where an allocation fails. What is known of the files stays, so that one that is opened twice gives
+    /// [`OpenFault::OutOfMemory`] only if an allocation fails. What is known of the files stays, so that one that is opened twice gives
     /// its bytes twice.
     fn reader(&mut self, name: &str) -> Result<Self::Input, OpenFault>
         ensures bytes { IfSome (holds self.old name.now) (λ bytes.

@@ -15,7 +15,7 @@ use std::alloc::Global;
 use std::io::{Read, Write};
 
 /// Reads files whole, in order, links the objects that they denote, and writes the executable of the link: an image whose segments of type
-/// `PT_LOAD` give an address a byte exactly where the memory of the link has that byte there (gABI chapter 5, Program Header).
+/// `PT_LOAD` give an address a byte exactly if the memory of the link has that byte there (gABI chapter 5, Program Header).
 ///
 /// Where something is refused nothing is written. The verdict carries the first file that is no object, with the first rule that it breaks,
 /// as an image or, with a number from 40 on, as an object, and its lowest offset; or the first of the link's rules that is broken, with its

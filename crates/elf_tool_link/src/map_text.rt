@@ -147,7 +147,7 @@ impl<'l, 'a> Lines for MemberLines<'l, 'a> {
     }
 }
 
-// The size of a section in memory; 0 where there is none at that position.
+// The size of a section in memory; 0 if there is none at that position.
 fn size_of(objects: &[Object<'_>], file: usize, section: usize) -> u64
     ensures { result ≡ size_in objects.now file section }
 {

@@ -11,8 +11,8 @@ use std::alloc::Global;
 /// How many relocation rules a file has at most.
 const MOST_RULES: usize = 256;
 
-/// The relocation rules of a file, in order. [`RulesFault::BadLine`] comes exactly where a line is none of a rule or there are more than
-/// 256, out of memory aside; the last line has a line feed too, and after it there is nothing. [`RulesFault::OutOfMemory`] comes only where
+/// The relocation rules of a file, in order. [`RulesFault::BadLine`] comes exactly if a line is none of a rule or there are more than
+/// 256, out of memory aside; the last line has a line feed too, and after it there is nothing. [`RulesFault::OutOfMemory`] comes only if
 /// an allocation fails; the rules alone take memory. Linear in the bytes.
 pub fn read_rules(alloc: Global, bytes: &[u8]) -> Result<Vec<RelocRule>, RulesFault>
     ensures ok { IfOk result (λ rules. AreRules bytes.now rules.items) }

@@ -12,7 +12,7 @@ use crate::cutting::cut;
 use elf_link_field::{Form, Range, RelocRule, Width};
 use std::str;
 
-/// The relocation rule of a line without its line feed. None where it is no rule's.
+/// The relocation rule of a line without its line feed. None if it is no rule's.
 pub(crate) fn rule_in(line: &[u8]) -> Option<RelocRule>
     ensures { MatchOption result ((rule : ARule) → IsRuleLine line.now rule → ⊥) (IsRuleLine line.now) }
 {

@@ -28,7 +28,7 @@ pub trait Lines {
         ensures { OnOk result (text.new.items ≡ text.old.items ++ line self.now j) };
 }
 
-/// Sends them all, in pieces. Fails where the writer does, with how many bytes of the whole text are written, or when out of memory.
+/// Sends them all, in pieces. Fails if the writer does, with how many bytes of the whole text are written, or when out of memory.
 pub fn show_lines<L: Lines, W: Write>(
     alloc: Global,
     lines: &L,

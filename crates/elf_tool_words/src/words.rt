@@ -108,10 +108,10 @@ const MOST_FILES: usize = 64;
 /// The request of a command line, whose first word is the program's own name.
 ///
 /// It is the one that clap's definition of matches gives for the words, with its numbers read.
-/// [`WordsFault::Words`] comes only where that definition does not take them. Where it does, out of memory aside,
-/// [`WordsFault::TooManyFiles`] comes exactly where it gives `map` or `link` more than 64 files, and else [`WordsFault::BadNumber`] exactly
+/// [`WordsFault::Words`] comes only if that definition does not take them. Where it does, out of memory aside,
+/// [`WordsFault::TooManyFiles`] comes exactly if it gives `map` or `link` more than 64 files, and else [`WordsFault::BadNumber`] exactly
 /// where it gives one of these a number that is none.
-/// [`WordsFault::OutOfMemory`] comes only where an allocation fails. Names borrow from the words. Linear in their length.
+/// [`WordsFault::OutOfMemory`] comes only if an allocation fails. Names borrow from the words. Linear in their length.
 pub fn read_words<'a, S: AsStr>(alloc: Global, words: &'a [S]) -> Result<Request<'a>, WordsFault>
     ensures ok { IfOk result (IsAskedBy (map S.text words.entry.now)) }
     ensures err { IfErr result (IsRefusedBy (map S.text words.entry.now)) }

@@ -35,7 +35,7 @@ fn main(rt: HostRuntime) -> io::Result<ExitCode> {
     Ok(ExitCode::from(status))
 }
 
-/// Copies the image of a source with other flags of a section. Returns the exit status: 0 where it is out, 1 where the source is no image,
+/// Copies the image of a source with other flags of a section. Returns the exit status: 0 if it is written, 1 if the source is no image,
 /// 2 where it has no such section, 3 where memory, the source or the writer failed.
 fn copy_with_flags<S: Source, W: Write>(
     alloc: Global,

@@ -65,7 +65,7 @@ fn is_read_back(alloc: Global, object: &Object<'_>) -> Result<bool, &'static str
     Ok(read == *object)
 }
 
-/// The object, or None where there is too little memory.
+/// The object, or None if there is too little memory.
 fn answer(alloc: Global) -> Option<Object<'static>> {
     let text = Section {
         name: b".text",

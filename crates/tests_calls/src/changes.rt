@@ -10,7 +10,7 @@ use std::alloc::Global;
 use std::io::Write;
 
 /// Reports of each beginning of the file, the shorter ones first, and then for each of its bytes of the files in which it is another one,
-/// in the order of these. Returns the exit status, 0 where all was reported.
+/// in the order of these. Returns the exit status, 0 if all was reported.
 pub fn tell<W: Write>(alloc: Global, bytes: &mut [u8], out: &mut W) -> u8 {
     for length in 0..bytes.len() {
         if !one(alloc, &bytes[..length], out) {

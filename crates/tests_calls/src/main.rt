@@ -6,7 +6,7 @@
 //! on what these files are, and prints nothing of them.
 //!
 //! `tests_calls write FILE`, `object` and `copy` write the file again: its image, the object that it denotes, or by `copy_image` what is
-//! read where it has to be. They end as the program does: status 0 where all is out, 1 where a rule is broken, 3 with a line on standard
+//! read where it has to be. They end as the program does: status 0 if all is written, 1 if a rule is broken, 3 with a line on standard
 //! error where memory, a read or a write failed. `tests_calls changes FILE` is about the beginnings of the file, and of the files that
 //! differ from it in one byte, what each call says ([`changes::report`]).
 #![tactic(auto)]

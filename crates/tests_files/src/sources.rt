@@ -4,7 +4,7 @@ ghost use Rattle.std.specs.Prelude.{◌≡◌, ◌≤◌, length, IfOk};
 use elf_image_stream::{Bytes, Failed, Failures, Source};
 
 /// Gives its bytes, at most `piece` a call, and says that it has `len` of them. The call of `read_at` of number `failing`, counted from 1,
-/// fails, or gives no byte where `gives_none`; and `length` fails where `has_no_length`. Every other call succeeds.
+/// fails, or gives no byte where `gives_none`; and `length` fails if `has_no_length`. Every other call succeeds.
 #[derive(Drop)]
 pub struct PartialSource<'a> {
     pub bytes: &'a [u8],

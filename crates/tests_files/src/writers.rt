@@ -67,7 +67,7 @@ impl Write for Sink {
 }
 
 /// Takes at most `piece` bytes at a time, and notes how many it is offered. At the call of number
-/// `failing`, counted from 1, and at no other, it fails, or takes none where there is no `failure`.
+/// `failing`, counted from 1, and at no other, it fails, or takes none if there is no `failure`.
 #[derive(Drop)]
 pub struct OnceFailingWriter {
     pub bytes: Vec<u8>,

@@ -34,7 +34,7 @@ fn memory_is_one()
     one_byte();
 }
 
-/// Memory is 0 where no content is.
+/// Memory is 0 if no content is.
 fn memory_without_content()
     ensures { (fs : List ObjectValue) (m : LinkMapValue) (rules : List RelocRule) → IsMapButOptions fs m → FirstAmong (applied_entry_rules fs m rules) None →
         (x : ℕ) → IsInMemory m x → ¬ HasContentAt fs m x → IsMemory fs m rules x 0 }

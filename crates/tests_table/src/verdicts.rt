@@ -18,7 +18,7 @@ pub(crate) enum Table {
     Symbols,
 }
 
-/// The fault of a section that is taken for such a table; one that isn't there has none.
+/// The fault of a section that is taken for such a table; one that is not there has none.
 fn fault_of(alloc: Global, image: &Image<'_>, index: usize, table: Table) -> Option<Fault> {
     if image.section_count() <= index {
         return None;
@@ -34,7 +34,7 @@ fn fault_of(alloc: Global, image: &Image<'_>, index: usize, table: Table) -> Opt
     }
 }
 
-/// Whether section `index` of the file is such a table; a section that isn't there is one.
+/// Whether section `index` of the file is such a table; a section that is not there is one.
 pub(crate) fn verdict_of(
     alloc: Global,
     file: &[u8],
