@@ -1,18 +1,22 @@
 """`tools/test pages`: how long the sentences of the pages are. Tables, code, headings and the targets of links are no prose.
 
 A page whose sentences have a median of more than MEDIAN words fails, and so do all pages together above WORDS words. Of each page the test
-prints its words, its median, and its sentences of more than LONG words; `--sentences` prints these too. What is generated from the crates or
-is all tables has no median (TABLES), but its prose counts.
+prints its words, its median, and its sentences of more than LONG words. What is generated from the crates or is all tables has no median
+(TABLES), but its prose counts.
 
-A fenced block whose first line names a file quotes it: the file has to have these lines. Each `tools/test NAME` has to be a test."""
+A fenced block whose first line names a file quotes it: the file has to have these lines. Each `tools/test NAME` has to be a test. README.md
+has at most README_LINES lines, and its two commands in the first screen. A proof file of more than PROOF_LINES lines opens with a comment,
+its idea."""
 
 import glob, re, statistics
 from argparse import Namespace
 
-from .suite import Tally, Test, families, flag
+from .suite import Tally, Test, families
 from .tree import TOP, read_text
 
 MEDIAN, LONG, WORDS = 18, 30, 30_000
+README_LINES, SCREEN, PROOF_LINES = 160, 30, 30
+COMMANDS = "    $ ./elfmap check ", "    $ rt ci"
 PATTERNS = ("README.md", "CONTRIBUTING.md", "CHANGELOG.md", "SECURITY.md", "docs/*.md", "bindings/*/README.md")
 TABLES = {"docs/DEFINITIONS.md", "docs/GUARANTEES.md"}
 QUOTES = re.compile(r"^```\w+ (\S+)\n(.*?)^```", re.M | re.S)
@@ -58,7 +62,19 @@ def unknown_tests(text: str) -> list[str]:
     return [it for it in re.findall(r"\btools/test ([a-z][\w-]*)", text) if it not in known]
 
 
+def without_idea() -> list[str]:
+    """The long proof files that do not open with a comment."""
+    proofs = sorted(glob.glob("crates/*/proofs/**/*.antt", root_dir=TOP, recursive=True))
+    texts = {it: read_text(f"{TOP}/{it}") for it in proofs}
+    return [it for it, text in texts.items() if text.count("\n") > PROOF_LINES and not text.startswith("-- ")]
+
+
 def pages(tally: Tally, options: Namespace) -> None:
+    first = read_text(f"{TOP}/README.md").splitlines()
+    tally.check(len(first) <= README_LINES, f"README.md has {len(first)} lines, more than {README_LINES}")
+    shown = [it for it in COMMANDS if any(line.startswith(it) for line in first[:SCREEN])]
+    tally.check(len(shown) == len(COMMANDS), f"README.md has {shown} of {COMMANDS} in its first {SCREEN} lines")
+    tally.check(not without_idea(), f"proof files that do not open with their idea: {without_idea()}")
     total = 0
     for path in all_pages():
         text = read_text(f"{TOP}/{path}")
@@ -67,14 +83,14 @@ def pages(tally: Tally, options: Namespace) -> None:
         median, total = statistics.median(lengths or [0]), total + sum(lengths)
         long = [it for it in found if length(it) > LONG]
         tally.note(f"{path}: {sum(lengths)} words, median {median:g}, {len(long)} sentences of more than {LONG} words")
-        for it in long if options.sentences else []:
+        for it in long:
             tally.note(f"{path}: {length(it)} words: {it}")
         tally.check(not unknown_tests(text), f"{path} names tests that are not there: {unknown_tests(text)}")
         for file, lines in QUOTES.findall(text):
             tally.check(lines in read_text(f"{TOP}/{file}"), f"{path} quotes what is not in {file}:\n{lines}")
         tally.check(path in TABLES or median <= MEDIAN, f"{path}: the median sentence has {median:g} words, more than {MEDIAN}")
+    tally.note(f"all pages: {total} words of at most {WORDS}")
     tally.check(total <= WORDS, f"the pages have {total} words, more than {WORDS}")
 
 
-OPTIONS = (flag("sentences", f"print the sentences of more than {LONG} words"),)
-TESTS = [Test("pages", "the sentences of the pages are short", pages, options=OPTIONS)]
+TESTS = [Test("pages", "the sentences of the pages are short", pages)]
