@@ -137,7 +137,7 @@ function facts(header, file) {
         `${counted(file.sections, "section")}, ${counted(file.segments, "segment")}`;
 }
 
-// The field of a record that stands at an offset.
+// The field of a record that is at an offset.
 function field_at(offset) {
     const { header, file, length } = state.open;
     const tables = header ? [["the ELF header", 0, 1, "elfmap_header"]] : [];

@@ -17,7 +17,7 @@ function digits(bytes) {
     return bytes.length ? Buffer.from(bytes).toString("hex") : "-";
 }
 
-// A name as the lines have it: as it stands where it is plain, else in hexadecimal.
+// A name as the lines have it: as it is if it is plain, otherwise in hexadecimal.
 function name_words(bytes) {
     const is_plain = bytes.length > 0 && bytes[0] !== 35 && !(bytes.length === 1 && bytes[0] === 45) && bytes.every((it) => it > 32 && it < 127);
     if (is_plain) return Buffer.from(bytes).toString("latin1");

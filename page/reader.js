@@ -191,7 +191,7 @@ class Reader {
         return this.entry("elfmap_dynamic", "elfmap_dynamic", section, index);
     }
 
-    // The note behind the last one that was asked for is found at once; any other one by going over those before it.
+    // The note after the last one that was asked for is found at once; any other note by going over those before it.
     note(section, index) {
         const { of, behind, next } = this.last_note;
         const [call, place] = of === section && behind === index ? ["elfmap_note_at", next] : ["elfmap_note", index];

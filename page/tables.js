@@ -278,7 +278,7 @@ function wrong_hash_count(tables, index) {
     return chains !== tables.count(tables.sections[index].sh_link) ? tables.start(index) + 4 : -1;
 }
 
-// Marks each symbol by the first bucket on whose chain it is; a chain that comes back to its own symbols is told by its bucket's word.
+// Marks each symbol by the first bucket on whose chain it is. If a chain comes back to its own symbols, its bucket's word is reported.
 // Chains may share a tail, which leads to an end or not, whatever chain it was reached by.
 function endless_chain(tables, index) {
     const { buckets, chains, first, chain } = hash_parts(tables, index);

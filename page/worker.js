@@ -1,5 +1,5 @@
 "use strict";
-// Reads a dropped file into the module's memory, judges it, and answers what the page asks of it.
+// Reads a dropped file into the module's memory, validates it, and answers what the page asks.
 // It runs beside the page, which stays quick.
 
 const SHARED_BYTE = 33;
