@@ -18,9 +18,9 @@ use elf_image_type::Image;
 use elf_link_field::RelocRule;
 use elf_object_type::Object;
 
-/// Of objects, their map and relocation rules, wherever they came from, where no rule of the link is broken: their executable is an image;
-/// it enters at the value of the entry symbol, or at 0 if none is named, and its loadable segments give an address a byte exactly if
-/// the memory of the link has that byte there. It is their only executable.
+/// If no rule of the link is broken for objects, their map and relocation rules, wherever they came from, their executable is an image. Its
+/// entry is the value of the entry symbol, or 0 if none is named. Its loadable segments give an address a byte exactly if the memory of the
+/// link has that byte there. It is their only executable.
 pub fn executable()
     ensures { (fs : List ObjectValue) (m : LinkMapValue) (rules : List RelocRule) (b : List ℕ) →
         IsSoundLink fs m rules → IsExecFile fs m rules b → IsExecutable fs m rules b }
@@ -38,8 +38,8 @@ pub fn one_exec()
 {}
 
 /// Proves that what [`load`](Image::load) found at an address of an executable's image is the byte that the memory of the link has there:
-/// `file` is the executable of these objects, `image` its image. A contract says so of every image and address, and of these the check has
-/// to be asked. It does nothing.
+/// `file` is the executable of these objects, `image` its image. A contract says so for every image and address; this call makes the
+/// checker use it for these. It does nothing.
 pub fn prove_loaded(
     objects: &[Object<'_>],
     rules: &[RelocRule],

@@ -12,7 +12,7 @@ use std::alloc::Global;
 /// long as it can be. Offsets and `total` are in bytes.
 ///
 /// The extents share no byte and end at or below `total`. Takes n log n comparisons of starts, and memory for the extents that hold a byte
-/// and for the pieces. Returns [`OutOfMemory`] only where that was refused.
+/// and for the pieces. Returns [`OutOfMemory`] only if that allocation failed.
 pub fn account(alloc: Global, extents: &[Extent], total: u64) -> Result<Vec<Piece>, OutOfMemory>
     requires disjoint { AreDisjoint extents.now }
     requires within { AreWithin extents.now total }

@@ -12,7 +12,7 @@ use std::alloc::Global;
 /// there is none, so that they are disjoint. An extent of length 0 holds no byte.
 ///
 /// Takes n log n comparisons of starts, and memory for the extents that hold a byte. Returns
-/// [`OutOfMemory`] only where that was refused.
+/// [`OutOfMemory`] only if that allocation failed.
 pub fn first_double(alloc: Global, extents: &[Extent]) -> Result<Option<u64>, OutOfMemory>
     ensures lowest { IfOk result (IsLowest (Doubly extents.now)) }
     ensures disjoint { IfOk result (λ found. IfNone found (AreDisjoint extents.now)) }

@@ -33,8 +33,8 @@ impl<'a> Model for SortedExtents<'a> {
 
 impl<'a> SortedExtents<'a> {
     /// These extents, sorted: takes n log n comparisons of starts, and memory for the extents that hold a byte. Returns
-    /// [`OutOfMemory`] only where that was refused. If all but the first three ascend this is linear, and takes as much
-    /// memory again for the time of the call. If there is none, it sorts without.
+    /// [`OutOfMemory`] only if that allocation failed. If all but the first three ascend, this is linear, and takes as much
+    /// memory again for the time of the call. If there is none, it sorts without it.
     pub fn new(alloc: Global, extents: &'a [Extent]) -> Result<SortedExtents<'a>, OutOfMemory>
         ensures { IfOk result (λ sorted. sorted ≡ extents.entry.now) }
     {

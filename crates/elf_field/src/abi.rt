@@ -292,9 +292,9 @@ pub const DT_STRSZ: i64 = 10;
 pub const DT_SYMENT: i64 = 11;
 /// The name of this shared object.
 pub const DT_SONAME: i64 = 14;
-/// A list of folders to search for libraries, before others.
+/// A list of directories to search for libraries, before others.
 pub const DT_RPATH: i64 = 15;
-/// A list of folders to search for libraries.
+/// A list of directories to search for libraries.
 pub const DT_RUNPATH: i64 = 29;
 
 // ---- Note: a note (chapter 5, Note Section)

@@ -43,7 +43,7 @@ impl From<WriteFault> for CopyFault {
 }
 
 impl CopyFault {
-    /// The fault, where so many other bytes went out before.
+    /// The fault, if so many other bytes were written before.
     pub(crate) fn after(self, before: u64) -> CopyFault
         requires { before + bytes_out self < 2 ^ 64 }
         ensures { result ≡ later before self }

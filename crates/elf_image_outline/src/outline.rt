@@ -160,8 +160,8 @@ impl Outline {
         self.segments[j]
     }
 
-    /// The index of the section name string table, 0 for none (gABI chapter 4, ELF Header: `e_shstrndx`); where that is `SHN_XINDEX`,
-    /// the one that section header 0 says in `sh_link`.
+    /// The index of the section name string table, 0 for none (gABI chapter 4, ELF Header: `e_shstrndx`). If that is `SHN_XINDEX`,
+    /// the index is `sh_link` of section header 0.
     pub fn name_table(&self) -> u32
         ensures { result ≡ name_table self.now.header (section_header_of self.now.sections 0) }
     {

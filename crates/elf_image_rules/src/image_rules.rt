@@ -24,8 +24,8 @@ use elf_field::Ehdr;
 use elf_field::abi::SHDR_SIZE;
 use std::alloc::Global;
 
-/// The first rule of 1 to 33 that the file breaks, and its lowest offset in bytes; None if it breaks none. It takes no memory. Linear in
-/// the records, where the contents are in the order of their section headers; else it takes the square of their number.
+/// The first rule of 1 to 33 that the file breaks, and its lowest offset in bytes; None if it breaks none. It takes no memory. It is
+/// linear in the records if the contents are in the order of their section headers; otherwise it takes the square of their number.
 pub fn verdict(bytes: &[u8]) -> Option<(u16, u64)>
     ensures { IsFault bytes.now result }
 {

@@ -6,7 +6,7 @@ use elf_image_rules::{Broken, rule_name};
 use std::alloc::{AllocError, AllocFailed};
 use thiserror::Error;
 
-/// Why there is no answer from a file's bytes.
+/// Why a call on a file's bytes failed.
 #[derive(Clone, Copy, Debug, PartialEq, Eq, Error)]
 pub enum Fault {
     /// An allocation failed.
@@ -72,7 +72,7 @@ pub struct WriteFault {
 }
 
 impl WriteFault {
-    /// The fault, where so many other bytes went out before.
+    /// The fault, if so many other bytes were written before.
     pub fn after(self, before: u64) -> WriteFault
         requires { before + self.written < 2 ^ 64 }
         ensures { result.written ≡ before + self.written }

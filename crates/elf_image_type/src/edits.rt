@@ -15,7 +15,7 @@ impl<'a> Image<'a> {
         self.outline.set_entry(entry);
     }
 
-    /// Sets `sh_flags` of section `i`. Returns [`NoSection`], and changes nothing, where `i` is 0 or not below
+    /// Sets `sh_flags` of section `i`. Returns [`NoSection`], and changes nothing, if `i` is 0 or not below
     /// [`section_count`](Image::section_count).
     pub fn set_flags(&mut self, i: usize, flags: u64) -> Result<(), NoSection>
         ensures ok { OnOk result (IsSectionIndex self.old i × (self.new ≡ with_flags self.old i flags)) }
@@ -24,11 +24,11 @@ impl<'a> Image<'a> {
         self.outline.set_flags(i, flags)
     }
 
-    /// Replaces the content of section `i` by as many other bytes, which are borrowed. A refusal changes
-    /// nothing: [`ReplaceFault::NoSection`] where `i` is 0 or not below
-    /// [`section_count`](Image::section_count), or the section is of type `SHT_NULL` or `SHT_NOBITS`; else
-    /// [`ReplaceFault::WrongLength`] if these are not `sh_size` bytes; else
-    /// [`ReplaceFault::NameTable`] where `i` is [`name_table`](Image::name_table).
+    /// Replaces the content of section `i` by as many other bytes, which are borrowed. A fault changes
+    /// nothing. It is [`ReplaceFault::NoSection`] if `i` is 0 or not below
+    /// [`section_count`](Image::section_count), or the section is of type `SHT_NULL` or `SHT_NOBITS`; otherwise
+    /// [`ReplaceFault::WrongLength`] if these are not `sh_size` bytes; otherwise
+    /// [`ReplaceFault::NameTable`] if `i` is [`name_table`](Image::name_table).
     pub fn replace(&mut self, i: usize, content: &'a [u8]) -> Result<(), ReplaceFault>
         ensures ok { OnOk result (IsReplaceable self.old i content.now ×
             (self.new ≡ with_content self.old i content.now)) }

@@ -206,7 +206,7 @@ impl<'a> Image<'a> {
         self.section(i).sh_offset
     }
 
-    /// The byte that the loadable segments (`PT_LOAD`) give an address, by the first one that has it; `None` where none has it (gABI
+    /// The byte that the loadable segments (`PT_LOAD`) give an address, by the first one that has it; `None` if none has it (gABI
     /// chapter 5, Program Header).
     ///
     /// A segment has `p_memsz` addresses from `p_vaddr` on. The first `p_filesz` of them have the bytes at `p_offset` of the file that

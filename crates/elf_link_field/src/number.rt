@@ -32,7 +32,7 @@ pub(crate) fn modulo(width: Width, number: i128) -> u64
 
 impl Form {
     /// The number of an entry of this form, exact: `value` is its symbol's value, which has to be below 2^126, the addend is from
-    /// -2^63 to 2^64 - 1, and `address` is that of the field. An entry of form [`Form::None`] has no field, and is answered as one of
+    /// -2^63 to 2^64 - 1, and `address` is that of the field. An entry of form [`Form::None`] has no field, and counts as one of
     /// [`Form::Abs`].
     pub fn number(self, value: u128, addend: i128, address: u64) -> i128
         requires value { value < 2 ^ 126 }

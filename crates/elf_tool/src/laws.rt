@@ -17,48 +17,49 @@ ghost use Rattle.elf_tool_rewrite.specs.Rewrite.{RewriteSays};
 ghost use Rattle.elf_tool_rule_file.specs.File.{AreRules, IsBadLine};
 ghost use Rattle.elf_tool_show.specs.Show.{ShowSays};
 
-/// `check` says one verdict and one text, no second one and not none, of the bytes of a file.
+/// `check` has at most one verdict and one text for the bytes of a file, and cannot be without one.
 pub fn one_check()
     ensures some { (b : List ℕ) → SaysSome (CheckSays b) }
     ensures one { (b : List ℕ) → SaysOne (CheckSays b) }
 {}
 
-/// `show` says one verdict and one text, no second one and not none, of the bytes of a file.
+/// `show` has at most one verdict and one text for the bytes of a file, and cannot be without one.
 pub fn one_show()
     ensures some { (b : List ℕ) → IsBytes b → SaysSome (ShowSays b) }
     ensures one { (b : List ℕ) → SaysOne (ShowSays b) }
 {}
 
-/// `rewrite` says one verdict and one text, no second one and not none, of the bytes of a file.
+/// `rewrite` has at most one verdict and one text for the bytes of a file, and cannot be without one.
 pub fn one_rewrite()
     ensures some { (b : List ℕ) → IsBytes b → SaysSome (RewriteSays b) }
     ensures one { (b : List ℕ) → SaysOne (RewriteSays b) }
 {}
 
-/// `map` says one verdict and one text, no second one and not none, of its options, the relocation rules, if any, and the bytes of its files.
+/// `map` has at most one verdict and one text for its options, the relocation rules, if any, and the bytes of its files, and cannot be
+/// without one.
 pub fn one_map()
     ensures some { (opt : Options) (rules : Option (List RelocRule)) (files : List (List ℕ)) → AreFilesOfBytes files → SaysSome (MapSays opt rules files) }
     ensures one { (opt : Options) (rules : Option (List RelocRule)) (files : List (List ℕ)) → SaysOne (MapSays opt rules files) }
 {}
 
-/// `link` says one verdict and one text, an executable or nothing, of its options, the relocation rules and the bytes of its files: no
-/// second one, and not none if the page is one that the code's type holds.
+/// `link` has at most one verdict and one text, an executable or nothing, for its options, the relocation rules and the bytes of its files.
+/// It cannot be without one if the page fits the code's type.
 pub fn one_link()
     ensures some { (opt : Options) (rules : List RelocRule) (files : List (List ℕ)) → opt.page < 2 ^ 64 → AreFilesOfBytes files →
         SaysSome (FilesLink opt rules files) }
     ensures one { (opt : Options) (rules : List RelocRule) (files : List (List ℕ)) → SaysOne (FilesLink opt rules files) }
 {}
 
-/// From the bytes of the input files to memory: for files that are images denoting objects, options and relocation rules, where no rule of
-/// the link is broken, the executable of the link is an image; it enters at the value of the entry symbol, or at 0 if none is named, and
-/// its loadable segments give an address a byte exactly if the memory of the link has that byte there. It is their only executable.
+/// From the bytes of the input files to memory. If files are images that denote objects, and no rule of the link is broken for these, the
+/// options and the relocation rules, the executable of the link is an image. Its entry is the value of the entry symbol, or 0 if none is
+/// named. Its loadable segments give an address a byte exactly if the memory of the link has that byte there. It is their only executable.
 pub fn executable()
     ensures { (opt : Options) (rules : List RelocRule) (files : List (List ℕ)) (fs : List ObjectValue) (m : LinkMapValue) (b : List ℕ) →
         IsSoundFileLink opt rules files fs m → IsExecFile fs m rules b → IsExecutable fs m rules b }
 {}
 
-/// Bytes are the lines of at most one list of relocation rules, and at most one of their lines is the one that is reported as bad; and
-/// where they are the lines of a list, none is.
+/// Bytes are the lines of at most one list of relocation rules, and at most one of their lines is reported as bad. If they are the lines of
+/// a list, none is.
 pub fn one_rule_file()
     ensures rules { (b : List ℕ) (rs ss : List RelocRule) → AreRules b rs → AreRules b ss → rs ≡ ss }
     ensures line { (b : List ℕ) (m n : ℕ) → IsBadLine b m → IsBadLine b n → m ≡ n }

@@ -18,11 +18,11 @@ use std::io::{Read, Write};
 /// offset where it breaks it.
 ///
 /// The verdict is what the line says. [`ToolFault::Read`] comes if a read fails, an interruption too, and [`ToolFault::OutOfMemory`]
-/// only if an allocation fails for the file or the line; nothing was written then. After [`ToolFault::Write`] exactly the first
-/// `written` bytes of the line are.
+/// only if an allocation for the file or the line fails. Nothing was written then. After [`ToolFault::Write`] exactly the first
+/// `written` bytes of the line are written.
 ///
-/// Linear in the bytes; contents that are not in the order of their section headers are sorted, or compared two by two where memory for
-/// that is refused.
+/// Linear in the bytes. Contents that are not in the order of their section headers are sorted. If the allocation for that fails, every
+/// two are compared.
 pub fn check<R: Read, W: Write>(
     alloc: Global,
     reader: &mut R,

@@ -17,13 +17,13 @@ use std::io::{Read, Write};
 /// Reads files whole, in order, links the objects that they denote, and writes the executable of the link: an image whose segments of type
 /// `PT_LOAD` give an address a byte exactly if the memory of the link has that byte there (gABI chapter 5, Program Header).
 ///
-/// Where something is refused nothing is written. The verdict carries the first file that is no object, with the first rule that it breaks,
-/// as an image or, with a number from 40 on, as an object, and its lowest offset; or the first of the link's rules that is broken, with its
-/// file, index and entry; or that the executable would have 0xffff segments or more, or be longer than 2^30 bytes.
+/// If something is refused, nothing is written, and the verdict says what. It is the first file that is no object, with the first rule that
+/// it breaks, as an image or, with a number from 40 on, as an object, and its lowest offset. Or it is the first of the link's rules that is
+/// broken, with its file, index and entry. Or the executable would have 0xffff segments or more, or be longer than 2^30 bytes.
 ///
-/// Nothing was written after [`ToolFault::Read`], which carries how many bytes the reader that failed had given, and
-/// [`ToolFault::OutOfMemory`]; after [`ToolFault::Write`] exactly the first `written` bytes of the executable are. All files are held in
-/// memory, their objects, the link map, and a copy of each live section with bits; the time is at most that of `object_of` for each file,
+/// Nothing was written after [`ToolFault::Read`], which carries how many bytes the reader that failed had given, and after
+/// [`ToolFault::OutOfMemory`]. After [`ToolFault::Write`] exactly the first `written` bytes of the executable are written. Memory holds all
+/// files, their objects, the link map, and a copy of each live section with bits. The time is at most that of `object_of` for each file,
 /// and of `map`, `relocate` and `write_exec` of the library.
 pub fn link<R: Read, W: Write>(
     alloc: Global,
@@ -42,8 +42,8 @@ pub fn link<R: Read, W: Write>(
 
 /// Writes the same of files of these bytes, in order.
 ///
-/// Nothing was written after [`ToolFault::OutOfMemory`]; after [`ToolFault::Write`] exactly the first `written` bytes of the executable
-/// are; there is no other fault.
+/// Nothing was written after [`ToolFault::OutOfMemory`]. After [`ToolFault::Write`] exactly the first `written` bytes of the executable are
+/// written. There is no other fault.
 pub fn link_files<W: Write>(
     alloc: Global,
     files: &[&[u8]],

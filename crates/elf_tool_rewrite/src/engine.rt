@@ -15,13 +15,12 @@ use elf_tool_text::{Refusal, ToolFault, Verdict, read_input};
 use std::alloc::Global;
 use std::io::{Read, Write};
 
-/// Reads a whole file and writes the file of the object that it denotes, in canonical layout: it is read back as that object, and of it
-/// `rewrite` writes the same again.
+/// Reads a whole file and writes the file of the object that it denotes, in canonical layout. What is written is read back as that object,
+/// and `rewrite` of it writes the same again.
 ///
-/// Where the file is refused nothing is written: the verdict carries the first rule that it breaks, as an image or, with a number from 40
-/// on, as an object, and its lowest offset; or that the canonical layout is longer than 2^30 bytes. Nothing was written after
-/// [`ToolFault::Read`], where a read failed, and [`ToolFault::OutOfMemory`]; after [`ToolFault::Write`] exactly the first `written` bytes
-/// are. The file is held in memory, its object, and the string tables of the layout; the time is that of `object_of` and `write_object`.
+/// If the file is refused, nothing is written. The verdict carries the first rule that it breaks, as an image or, with a number from 40 on,
+/// as an object, and its lowest offset; or that the canonical layout is longer than 2^30 bytes. Nothing was written after
+/// [`ToolFault::Read`] and after [`ToolFault::OutOfMemory`]. After [`ToolFault::Write`] exactly the first `written` bytes are written. Memory holds the file, its object, and the string tables of the layout. The time is that of `object_of` and `write_object`.
 pub fn rewrite<R: Read, W: Write>(
     alloc: Global,
     reader: &mut R,
@@ -38,8 +37,8 @@ pub fn rewrite<R: Read, W: Write>(
 
 /// Writes the same of a file whose bytes these are.
 ///
-/// Nothing was written after [`ToolFault::OutOfMemory`]; after [`ToolFault::Write`] exactly the first `written` bytes are; there is no
-/// other fault. The object of the file and the string tables of the layout are held beside the bytes; the time is that of `object_of` and
+/// Nothing was written after [`ToolFault::OutOfMemory`]. After [`ToolFault::Write`] exactly the first `written` bytes are written. There is
+/// no other fault. Memory holds the object of the file and the string tables of the layout. The time is that of `object_of` and
 /// `write_object`.
 pub fn rewrite_bytes<W: Write>(
     alloc: Global,

@@ -15,11 +15,11 @@ use std::convert::AsStr;
 /// A command with its values and files.
 #[derive(Debug, PartialEq, Eq, Drop)]
 pub enum Request<'a> {
-    /// Tell whether the file of this name is an ELF-64 file.
+    /// Print whether the file of this name is an ELF-64 file.
     Check {
         file: &'a str,
     },
-    /// Tell the same of the file of this name, which is sought in, and not read whole.
+    /// Print the same about the file of this name, by seeking in it, without reading all of it.
     CheckSource {
         file: &'a str,
     },
@@ -108,9 +108,9 @@ const MOST_FILES: usize = 64;
 /// The request of a command line, whose first word is the program's own name.
 ///
 /// It is the one that clap's definition of matches gives for the words, with its numbers read.
-/// [`WordsFault::Words`] comes only if that definition does not take them. Where it does, out of memory aside,
-/// [`WordsFault::TooManyFiles`] comes exactly if it gives `map` or `link` more than 64 files, and else [`WordsFault::BadNumber`] exactly
-/// where it gives one of these a number that is none.
+/// [`WordsFault::Words`] comes only if that definition does not take them. If it does, out of memory aside,
+/// [`WordsFault::TooManyFiles`] comes exactly if it gives `map` or `link` more than 64 files, and otherwise [`WordsFault::BadNumber`]
+/// exactly if it gives one of these a number that is none.
 /// [`WordsFault::OutOfMemory`] comes only if an allocation fails. Names borrow from the words. Linear in their length.
 pub fn read_words<'a, S: AsStr>(alloc: Global, words: &'a [S]) -> Result<Request<'a>, WordsFault>
     ensures ok { IfOk result (IsAskedBy (map S.text words.entry.now)) }
