@@ -15,8 +15,8 @@ use elf_image_rules::rules::SHARED_BYTE;
 use elf_image_stream::Fault;
 use std::alloc::{AllocError, Global};
 
-/// The parts of a file of `len` bytes with this header and these tables, where no byte lies in two of them: else rule 33, at the lowest such
-/// byte. The extents are sorted once for both.
+/// The parts of a file of `len` bytes with this header and these tables, if no byte lies in two of them; otherwise rule 33, at the lowest
+/// such byte. The extents are sorted once for both.
 pub(crate) fn unshared_parts(
     alloc: Global,
     len: u64,

@@ -30,8 +30,8 @@ pub fn are_paged()
     ensures { (opt : Options) (fs : List ObjectValue) (m : LinkMapValue) → IsLinkMap opt fs m → FirstOfLink opt fs None → AreObjects fs → ArePaged m }
 {}
 
-/// Proves that each of these objects breaks none of the object rules and fits the fields of a file: a contract does not see the invariant of
-/// an object in a list. It does nothing.
+/// Proves that each of these objects breaks none of the object rules and fits the fields of a file: a contract does not see the invariant
+/// of an object in a list. It does nothing.
 pub fn prove_objects(objects: &[Object<'_>])
     ensures kept { AreObjects objects.now }
     ensures fit { ObjectsFit objects.now }

@@ -25,8 +25,8 @@ pub fn without_entry()
         (opt : Options) × (opt.entry ≡ None) × IsLinkMap opt fs (with_options m opt.base opt.page 0) × FirstOfLink opt fs None }
 {}
 
-/// Of rules 12 to 16 some objects, their map and relocation rules have one answer: no other rule and site meets the definition, and it can't
-/// be that no answer does.
+/// Of rules 12 to 16 some objects, their map and relocation rules have one answer: no other rule and site meets the definition, and it
+/// cannot be that no answer does.
 pub fn one_relocation_fault()
     ensures one { (fs : List ObjectValue) (m : LinkMapValue) (rules : List RelocRule) (x y : Option (ℕ × Site)) →
         FirstAmong (applied_entry_rules fs m rules) x → FirstAmong (applied_entry_rules fs m rules) y → x ≡ y }

@@ -37,7 +37,7 @@ pub fn write_object<W: Write>(
     write_layout(alloc, object, writer)
 }
 
-/// Proves that what an object's file is read as is the object: `file` is what [`write_object`] wrote, `image` its image, and `read` the object
+/// Proves that an object's file is read back as the object: `file` is what [`write_object`] wrote, `image` its image, and `read` the object
 /// of that. A contract says so for every image and every object; this call makes the checker use it for these. It does nothing.
 pub fn prove_read_back(object: &Object<'_>, file: &[u8], image: &Image<'_>, read: &Object<'_>)
     requires written { IsWrittenFile object.now file.now }

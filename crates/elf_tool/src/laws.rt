@@ -1,5 +1,5 @@
-//! The laws on commands: what each of them says of its input is one verdict and one text. The executable of files is an image that loads the
-//! memory of their link, and a file of relocation rules gives at most one list of them or one bad line. Each is the contract of a function
+//! The laws on commands: each has one verdict and one text for its input. The executable of files is an image that loads the memory of
+//! their link, and a file of relocation rules gives at most one list of them or one bad line. Each is the contract of a function
 //! that does nothing, and the program does without them. Begin with [`one_check`].
 ghost use Rattle.std.specs.Prelude.{◌≡◌, ◌<◌, ◌^◌, ℕ, List, Option};
 ghost use Rattle.elf_field.specs.Bytes.{IsBytes};

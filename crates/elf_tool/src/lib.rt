@@ -1,6 +1,6 @@
 //! The program `elfmap` without its surroundings: its engines over any reader or source and any writer, the words of its command line,
-//! files of relocation rules, and [`run`], the whole program over its words and an [`Opener`] of files. [`laws`] has what holds of the texts
-//! of the commands.
+//! files of relocation rules, and [`run`], the whole program over its words and an [`Opener`] of files. [`laws`] has what holds of the
+//! texts of the commands.
 //!
 //! ```
 //! // The first word is the program's name; `files` opens names, `out` and `err` take what is written.

@@ -20,8 +20,8 @@ use std::io::{Read, Write};
 ///
 /// If the file is refused, nothing is written. The verdict carries the first rule that it breaks, as an image or, with a number from 40 on,
 /// as an object, and its lowest offset; or that the canonical layout is longer than 2^30 bytes. Nothing was written after
-/// [`ToolFault::Read`] and after [`ToolFault::OutOfMemory`]. After [`ToolFault::Write`] exactly the first `written` bytes are written. Memory
-/// holds the file, its object, and the string tables of the layout. The time is that of `object_of` and `write_object`.
+/// [`ToolFault::Read`] and after [`ToolFault::OutOfMemory`]. After [`ToolFault::Write`] exactly the first `written` bytes are written.
+/// Memory holds the file, its object, and the string tables of the layout. The time is that of `object_of` and `write_object`.
 pub fn rewrite<R: Read, W: Write>(
     alloc: Global,
     reader: &mut R,
