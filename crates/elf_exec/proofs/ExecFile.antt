@@ -1,5 +1,6 @@
--- An executable as a file of parts: its header, its program header table and the segments' bytes. Each rule from 1 to 33 is checked on
--- these records; rules 25 to 29 follow from the places, which are multiples of the page and ascend.
+-- An executable as a file of parts: its header, its program header table and the segments' bytes. Each part is at its place and ends
+-- before the next (`FileParts`), and the records keep the rules: places are multiples of the page and ascend, as the rules on segments
+-- ask.
 use Rattle.std.proofs.Common.{◌≡◌, ◌≢◌, ◌<◌, ◌≤◌, ◌+◌, ◌*◌, ◌%◌, ◌^◌, ℕ, zero, suc, Bool, true, false, List, [], ◌∷◌, length, map, take, drop, get_or, refl, sym, ap, subst, ◌∙◌, inl, inr, arith, length-drop}
 use Rattle.std.specs.Prelude.{if◌then◌else◌, Some, None, slice_get, slice_index}
 use Rattle.std.specs.List.{AllByRecursion, flat_map}

@@ -1,5 +1,5 @@
--- The types of the sections of the file that an object is written as: an own section has the type of its body, and the sections after them
--- have the types of their tables. (gABI chapter 4, Sections: sh_type.)
+-- The type of a section of a written file says where the section is. The types of the symbol table and of its index table are there once,
+-- after the object's own sections, and no type is there that an object cannot have. (gABI chapter 4, Sections: sh_type.)
 use Rattle.std.proofs.Common.{◌≡◌, ◌≢◌, ◌<◌, ◌+◌, ◌⊎◌, ℕ, zero, suc, Bool, true, false, List, length, get_or, inl, inr, refl, sym, ap, subst, arith}
 use Rattle.elf_field.specs.Abi.{SHT_DYNAMIC, SHT_DYNSYM, SHT_GROUP, SHT_HASH, SHT_NOBITS, SHT_NULL, SHT_REL, SHT_RELA, SHT_SHLIB, SHT_STRTAB, SHT_SYMTAB, SHT_SYMTAB_SHNDX}
 use Rattle.elf_field.specs.declared.shdr.Shdr.{Shdr}

@@ -1,5 +1,5 @@
--- The tables of an object file, each tested once. The verdict on a table is that of its kind's rules, and the kind of table in a section
--- is given by its type; so a table that is asked for and has no verdict breaks no rule.
+-- The tables of an object file, each tested once. The type of a section gives the kind of its table, and the verdict on the table is that
+-- of the kind's rules; so the tables that the object needs can be read where no rule was found broken.
 use Rattle.std.proofs.Common.{◌≡◌, ℕ, ◌<◌, ◌⊎◌, ◌||◌, Bool, true, false, Option, None, Some, length, inl, inr, refl, sym, ap, subst, ◌∙◌}
 use Rattle.std.specs.Prelude.{◌==◌, if◌then◌else◌}
 use Rattle.std.proofs.lemmas.Bool.{eqb-true}

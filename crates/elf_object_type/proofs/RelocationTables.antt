@@ -1,4 +1,5 @@
--- The relocations of a table that was read, by index: as many as whole entries fit its bytes, and each is the one at its offset.
+-- The relocations of a table that was read, by index: as many as whole entries fit its bytes, each at its offset. So bytes of whole
+-- entries are a table of the relocations in them, and the numbers of these fit their fields.
 use Rattle.std.proofs.Common.{◌≡◌, ◌<◌, ◌*◌, ◌^◌, ℕ, Bool, true, false, List, length, get_or, zero-add, subst, refl, sym, ap₂, arith}
 use Rattle.std.specs.Int.{w64}
 use Rattle.std.specs.List.{AllByRecursion}

@@ -1,5 +1,5 @@
--- The numbers of an object's own sections fit the fields of its file: a position is below a count that is less than 2^31, and the other
--- numbers are bounded by the types of the code.
+-- The numbers of an object's own sections fit the fields of its file. Each position that a section names is there, by the rules of
+-- objects, and there are fewer than 2^31 sections and symbols in a layout that is not too long.
 use Rattle.std.proofs.Common.{◌≡◌, ◌<◌, ◌≤◌, ◌+◌, ◌^◌, ℕ, zero, suc, Some, List, [], ◌∷◌, length, map, get_or, inl, inr, refl, sym, ap, ◌∙◌, arith}
 use Rattle.std.specs.Prelude.{All, Any}
 use Rattle.std.proofs.lemmas.List.{get_or-map, length-map}
