@@ -1,5 +1,5 @@
 //! The records and the parts of a file, without its contents.
-ghost use Rattle.std.specs.Prelude.{◌≡◌, ◌<◌, ◌≤◌, ℕ, List, true, OnErr, OnOk, length, set};
+ghost use Rattle.std.specs.Prelude.{◌≡◌, ◌<◌, ◌≤◌, ℕ, List, true, OnErr, OnOk, length, set, vec_capacity};
 ghost use Rattle.elf_image_rules.specs.HeaderRules.{MAX_LEN};
 ghost use Rattle.elf_image_rules.specs.Tables.{name_table, order_of};
 ghost use Rattle.elf_image_outline.specs.Edits.{flagged};
@@ -43,7 +43,8 @@ impl Model for Outline {
 /// Sets `sh_flags` of a section header.
 fn flag(sections: &mut Vec<Shdr>, i: usize, flags: u64)
     requires { i < length sections.old.items }
-    ensures { sections.new.items ≡ flagged sections.old.items i flags }
+    ensures flags { sections.new.items ≡ flagged sections.old.items i flags }
+    ensures room { vec_capacity sections.new ≡ vec_capacity sections.old }
 {
     sections[i].sh_flags = flags;
 }
