@@ -3,13 +3,12 @@
 use mathlib.Core.Bool.{beq}
 use Rattle.std.proofs.Common.{◌≡◌, ℕ, ◌+◌, ◌<◌, ◌⊎◌, ◌&&◌, Bool, true, false, List, [], ◌∷◌, ◌++◌, get_or, length, map, set, zero, suc, inl, inr, refl, sym, ◌∙◌, ap, subst, arith, length-append}
 use Rattle.std.specs.Global.{Vec}
-use Rattle.std.specs.List.{list_any, position_or_len}
-use Rattle.std.specs.Prelude.{◌==◌, if◌then◌else◌}
+use Rattle.std.specs.Prelude.{◌==◌, cond, Option, None, Some}
+use Rattle.std.specs.Option.{unwrap_or}
 use Rattle.std.specs.Str.{bytes_eq}
-use Rattle.std.proofs.lemmas.Bool.{cases_eq, cases_lt, eq-eqb, eqb-true, true≢false}
+use Rattle.std.proofs.lemmas.Bool.{cases_eq, cases_lt, eq-eqb, eqb-true}
 use Rattle.std.proofs.lemmas.List.{get_or-map, get_or_push, get_or-set_other, get_or-set_same, length-set, map-set}
-use Rattle.std.proofs.lemmas.List.Folds.{list_any_at}
-use Rattle.std.proofs.lemmas.List.Sums.{fails_before_first, passes_at_first}
+use Rattle.std.proofs.lemmas.Option.{none-some}
 use Rattle.std.proofs.lemmas.Slice.Eq.{bytes_eq-Decides}
 use Rattle.std.proofs.Math.ListN.{get_or-append}
 use Rattle.elf_object_type.specs.Object.{ObjectValue}
@@ -18,28 +17,13 @@ use Rattle.elf_link_files.specs.Listing.{Lists, site, site_at}
 use Rattle.elf_link_files.specs.Items.{AreEach}
 use Rattle.elf_link_files.specs.Rows.{Before}
 use Rattle.elf_link_files.proofs.Public.{lists_more, lists_same, not_true, same_bool, one_before, each_more}
-use Rattle.elf_link_outputs.specs.declared.outputs.OutputKey.{OutputKey}
-use Rattle.elf_link_outputs.specs.OutputGroups.{AreGrouped, AreGroups, AreGroupsOfKind, AreHeaded, AreInOrder, IsHead, IsKeyOf, IsMemberAdded, no_key}
+use Rattle.elf_link_outputs.specs.declared.ranks.OutputKey.{OutputKey}
+use Rattle.elf_link_outputs.specs.OutputGroups.{AreGrouped, AreGroups, AreGroupsOfKind, AreHeaded, AreInOrder, IsHead, IsKeyOf, IsMemberAdded}
 use Rattle.elf_link_outputs.specs.Outputs.{HaveOneKey, Picks, members, of_kind, openers}
+use Rattle.elf_link_outputs.specs.Ranks.{IsRanked, is_same_key}
 use Rattle.elf_link_outputs.specs.Plan.{AreOpeners, AreOutputMembers}
 use Rattle.elf_link_outputs.proofs.Openers.{key_join, key_swap}
 use Rattle.elf_link_outputs.proofs.Picked.{picked_done, picked_past}
-
--- ---- the position of a key
-
--- a list has what passes at its first position, or not at all
-told : {A : Type 0} (p : A → Bool) (xs : List A) →
-    ((list_any p xs ≡ true) × (position_or_len p xs < length xs)) ⊎ ((list_any p xs ≡ false) × (position_or_len p xs ≡ length xs))
-told p [] = inr (refl, refl)
-told p (x ∷ xs) = elim (same_bool (p x) true) [
-  | inl passes ↦ inl (rw passes refl, rw passes (omega arith))
-  | inr fails ↦ (
-      let never = not_true (p x) fails in
-      elim (told p xs) [
-        | inl (any, lt) ↦ inl (rw never any, rw never (omega arith))
-        | inr (none, end) ↦ inr (rw never none, rw never (omega arith))
-      ])
-]
 
 -- ---- picks in order
 
@@ -179,10 +163,11 @@ opens fs ps k heads groups order lt none are =
 
 -- ---- no section yet
 
-pub grouped_none : (fs : List ObjectValue) (ps : List Site) (keys : List OutputKey) (groups : List (List Site)) → keys ≡ [] → groups ≡ [] → AreGrouped fs ps 0 keys groups
-grouped_none fs ps keys groups empty none = subst (AreGrouped fs ps 0 keys) (sym none) (
+pub grouped_none : (fs : List ObjectValue) (ps : List Site) (rank : OutputKey → Option ℕ) (groups : List (List Site)) →
+    ((key : OutputKey) → rank key ≡ None) → groups ≡ [] → AreGrouped fs ps 0 rank groups
+grouped_none fs ps rank groups unknown none = subst (AreGrouped fs ps 0 rank) (sym none) (
   [],
-  record { count = ap length empty; each = λ r lt. absurd (omega arith) },
+  record { each = λ r key lt. absurd (omega arith); only = λ r key is. absurd (none-some r (sym (unknown key) ∙ is)) },
   record {
     opened = picks_none ps 0 (IsHead fs ps) (λ j lt. absurd (omega arith));
     covers = λ j lt. absurd (omega arith);
@@ -191,10 +176,6 @@ grouped_none fs ps keys groups empty none = subst (AreGrouped fs ps 0 keys) (sym
 )
 
 -- ---- the next section
-
--- two keys that are equal, as the set reports
-abbrev same_key : OutputKey → OutputKey → Bool
-same_key a b = bytes_eq a.name.now b.name.now && (a.flags == b.flags && beq a.no_bits b.no_bits)
 
 and_left : (a b : Bool) → (a && b) ≡ true → a ≡ true
 and_left true b both = refl
@@ -214,82 +195,105 @@ beq_of : (a b : Bool) → a ≡ b → beq a b ≡ true
 beq_of true b is = subst (λ c. beq true c ≡ true) is refl
 beq_of false b is = subst (λ c. beq false c ≡ true) is refl
 
-one_of : (fs : List ObjectValue) (p q : Site) (a b : OutputKey) → IsKeyOf fs p a → IsKeyOf fs q b → same_key a b ≡ true → HaveOneKey fs p q
-one_of fs p q a b (name, flags, kind) (name_2, flags_2, kind_2) same =
+-- a section has each key that is the same as one of its own
+key_moves : (fs : List ObjectValue) (p : Site) (a b : OutputKey) → IsKeyOf fs p a → is_same_key a b ≡ true → IsKeyOf fs p b
+key_moves fs p a b (name, flags, kind) same =
     let rest = and_right (bytes_eq a.name.now b.name.now) (a.flags == b.flags && beq a.no_bits b.no_bits) same in (
-      sym name ∙ (bytes_eq-Decides a.name.now b.name.now).0 (and_left (bytes_eq a.name.now b.name.now) (a.flags == b.flags && beq a.no_bits b.no_bits) same) ∙ name_2,
-      sym flags ∙ eqb-true a.flags b.flags (and_left (a.flags == b.flags) (beq a.no_bits b.no_bits) rest) ∙ flags_2,
-      sym kind ∙ beq_is a.no_bits b.no_bits (and_right (a.flags == b.flags) (beq a.no_bits b.no_bits) rest) ∙ kind_2,
+      sym ((bytes_eq-Decides a.name.now b.name.now).0 (and_left (bytes_eq a.name.now b.name.now) (a.flags == b.flags && beq a.no_bits b.no_bits) same)) ∙ name,
+      sym (eqb-true a.flags b.flags (and_left (a.flags == b.flags) (beq a.no_bits b.no_bits) rest)) ∙ flags,
+      sym (beq_is a.no_bits b.no_bits (and_right (a.flags == b.flags) (beq a.no_bits b.no_bits) rest)) ∙ kind,
     )
 
-of_one : (fs : List ObjectValue) (p q : Site) (a b : OutputKey) → IsKeyOf fs p a → IsKeyOf fs q b → HaveOneKey fs p q → same_key a b ≡ true
-of_one fs p q a b (name, flags, kind) (name_2, flags_2, kind_2) (one, two, three) =
-    rw ((bytes_eq-Decides a.name.now b.name.now).1 (name ∙ one ∙ sym name_2), eq-eqb a.flags b.flags (flags ∙ two ∙ sym flags_2), beq_of a.no_bits b.no_bits (kind ∙ three ∙ sym kind_2)) refl
+-- all keys of a section are the same
+one_same : (fs : List ObjectValue) (p : Site) (a b : OutputKey) → IsKeyOf fs p a → IsKeyOf fs p b → is_same_key a b ≡ true
+one_same fs p a b (name, flags, kind) (name_2, flags_2, kind_2) =
+    rw ((bytes_eq-Decides a.name.now b.name.now).1 (name ∙ sym name_2), eq-eqb a.flags b.flags (flags ∙ sym flags_2), beq_of a.no_bits b.no_bits (kind ∙ sym kind_2)) refl
 
--- the section's key is that of the group at its rank
-grouped_again : (fs : List ObjectValue) (ps : List Site) (k rank : ℕ) (key : OutputKey) (keys now : List OutputKey) (groups : List (List Site)) →
-    AreInOrder ps → k < length ps → IsKeyOf fs (site_at ps k) key → rank ≡ position_or_len (same_key key) keys →
-    now ≡ (if list_any (same_key key) keys then keys else keys ++ key ∷ []) → rank < length groups → AreGrouped fs ps k keys groups →
-    AreGrouped fs ps (k + 1) now (set groups rank (get_or groups rank [] ++ site_at ps k ∷ []))
-grouped_again fs ps k rank key keys now groups order lt is at inserted within (heads, held, are) =
-    let many = held.count in
+-- two sections have a key in common exactly if they go to one output section
+one_key : (fs : List ObjectValue) (p q : Site) (key : OutputKey) → IsKeyOf fs p key → IsKeyOf fs q key → HaveOneKey fs p q
+one_key fs p q key (name, flags, kind) (name_2, flags_2, kind_2) = (sym name ∙ name_2, sym flags ∙ flags_2, sym kind ∙ kind_2)
+
+key_of_one : (fs : List ObjectValue) (p q : Site) (key : OutputKey) → IsKeyOf fs p key → HaveOneKey fs p q → IsKeyOf fs q key
+key_of_one fs p q key (name, flags, kind) (one, two, three) = (name ∙ one, flags ∙ two, kind ∙ three)
+
+some_is : (a b : ℕ) → Some a ≡ Some b → a ≡ b
+some_is a b is = ap (λ (o : Option ℕ). unwrap_or o 0) is
+
+-- a key has a rank, or none
+rank_of : (rank : Option ℕ) → ((r : ℕ) × (rank ≡ Some r)) ⊎ (rank ≡ None)
+rank_of (Some r) = inl (r, refl)
+rank_of None = inr refl
+
+-- the section's key has a rank
+grouped_again : (fs : List ObjectValue) (ps : List Site) (k answer r : ℕ) (key : OutputKey) (old now : OutputKey → Option ℕ) (groups after : List (List Site)) →
+    AreInOrder ps → k < length ps → IsKeyOf fs (site_at ps k) key → IsRanked key (length groups) answer old now → IsMemberAdded groups answer (site_at ps k) after →
+    old key ≡ Some r → AreGrouped fs ps k old groups → AreGrouped fs ps (k + 1) now after
+grouped_again fs ps k answer r key old now groups after order lt is placed added known (heads, ranked, are) =
+    let (r_in, head) = ranked.only r key known in
     let count = are.grouped.count in
-    let r_in : rank < length heads = omega arith in
-    let found : position_or_len (same_key key) keys < length keys = omega arith in
-    let passes = passes_at_first (same_key key) keys no_key found in
-    let one = one_of fs (site_at ps k) (site_at heads rank) key (get_or keys rank no_key) is (held.each rank r_in)
-    (subst (λ n. same_key key (get_or keys n no_key) ≡ true) (sym at) passes) in (
+    let at : answer ≡ r = placed.rank ∙ rw known refl in
+    let within : answer < length groups = omega arith in
+    let kept : (q : OutputKey) → now q ≡ old q = λ q. placed.ranks q ∙ rw known refl in (
       heads,
-      subst (λ ks. AreEach no_key (λ r. IsKeyOf fs (site_at heads r)) (length heads) ks)
-          (sym (inserted ∙ ap (λ (t : Bool). if t then keys else keys ++ key ∷ []) (list_any_at (same_key key) keys (position_or_len (same_key key) keys) no_key found passes))) held,
-      joins fs ps k heads groups rank order lt r_in one are,
+      record { each = λ s q s_in its. kept q ∙ ranked.each s q s_in its; only = λ s q has. ranked.only s q (sym (kept q) ∙ has) },
+      subst (AreHeaded fs ps (k + 1) heads) (sym (added.joined within ∙ ap (λ n. set groups n (get_or groups n [] ++ site_at ps k ∷ [])) at))
+          (joins fs ps k heads groups r order lt r_in (one_key fs (site_at ps k) (site_at heads r) key is head) are),
     )
 
 -- no group has the section's key
-grouped_new : (fs : List ObjectValue) (ps : List Site) (k rank : ℕ) (key : OutputKey) (keys now : List OutputKey) (groups : List (List Site)) →
-    AreInOrder ps → k < length ps → IsKeyOf fs (site_at ps k) key → rank ≡ position_or_len (same_key key) keys →
-    now ≡ (if list_any (same_key key) keys then keys else keys ++ key ∷ []) → (rank < length groups → ⊥) → AreGrouped fs ps k keys groups →
-    AreGrouped fs ps (k + 1) now (groups ++ (site_at ps k ∷ []) ∷ [])
-grouped_new fs ps k rank key keys now groups order lt is at inserted past (heads, held, are) = elim (told (same_key key) keys) [
-  | inl (any, found) ↦ absurd (past (let many = held.count in let count = are.grouped.count in omega arith))
-  | inr (none, end) ↦ (
-      let s = site_at ps k in
-      let many = held.count in
-      let long : length (heads ++ s ∷ []) ≡ length heads + 1 = simp length-append in
-      let last : site_at (heads ++ s ∷ []) (length heads) ≡ s = get_or_push heads s (site 0 0) (length heads) refl in (
-        heads ++ s ∷ [],
-        subst (λ ks. AreEach no_key (λ r. IsKeyOf fs (site_at (heads ++ s ∷ []) r)) (length (heads ++ s ∷ [])) ks)
-            (sym (inserted ∙ ap (λ (t : Bool). if t then keys else keys ++ key ∷ []) none))
-            (subst (λ n. AreEach no_key (λ r. IsKeyOf fs (site_at (heads ++ s ∷ []) r)) n (keys ++ key ∷ [])) (sym long)
-            (each_more no_key (λ r. IsKeyOf fs (site_at (heads ++ s ∷ []) r)) (length heads) keys key
-            (subst (λ p. IsKeyOf fs p key) (sym last) is)
-            (record {
-              count = held.count;
-              each = λ r r_in. subst (λ p. IsKeyOf fs p (get_or keys r no_key)) (sym (get_or-append heads (s ∷ []) (site 0 0) r r_in)) (held.each r r_in);
-            }))),
-        opens fs ps k heads groups order lt
-            (λ r r_in one. true≢false (sym (of_one fs s (site_at heads r) key (get_or keys r no_key) is (held.each r r_in) one) ∙
-            fails_before_first (same_key key) keys r no_key (omega arith))) are,
-      ))
-]
+grouped_new : (fs : List ObjectValue) (ps : List Site) (k answer : ℕ) (key : OutputKey) (old now : OutputKey → Option ℕ) (groups after : List (List Site)) →
+    AreInOrder ps → k < length ps → IsKeyOf fs (site_at ps k) key → IsRanked key (length groups) answer old now → IsMemberAdded groups answer (site_at ps k) after →
+    old key ≡ None → AreGrouped fs ps k old groups → AreGrouped fs ps (k + 1) now after
+grouped_new fs ps k answer key old now groups after order lt is placed added unknown (heads, ranked, are) =
+    let s = site_at ps k in
+    let count = are.grouped.count in
+    let at : answer ≡ length groups = placed.rank ∙ rw unknown refl in
+    let past : answer < length groups → ⊥ = λ within. absurd (omega arith) in
+    let long : length (heads ++ s ∷ []) ≡ length heads + 1 = simp length-append in
+    let last : site_at (heads ++ s ∷ []) (length heads) ≡ s = get_or_push heads s (site 0 0) (length heads) refl in
+    let next : (q : OutputKey) → now q ≡ cond (is_same_key key q) (Some (length groups)) (old q) = λ q. placed.ranks q ∙ rw unknown refl in
+    let other : (r : ℕ) → r < length heads → HaveOneKey fs s (site_at heads r) → ⊥ =
+    λ r r_in one. none-some r (sym unknown ∙ ranked.each r key r_in (key_of_one fs s (site_at heads r) key is one)) in (
+      heads ++ s ∷ [],
+      record {
+        each = λ r q r_in its. next q ∙ elim (cases_lt r (length heads)) [
+          | inl before ↦ (
+              let head = subst (λ p. IsKeyOf fs p q) (get_or-append heads (s ∷ []) (site 0 0) r before) its in
+              elim (same_bool (is_same_key key q) true) [
+                | inl same ↦ absurd (other r before (one_key fs s (site_at heads r) q (key_moves fs s key q is same) head))
+                | inr differ ↦ rw (not_true (is_same_key key q) differ) (ranked.each r q before head)
+              ])
+          | inr above ↦ (
+              let end : length heads ≡ r = omega arith in
+              let here = subst (λ p. IsKeyOf fs p q) last (subst (λ n. IsKeyOf fs (site_at (heads ++ s ∷ []) n) q) (sym end) its) in
+              rw (one_same fs s key q is here) (ap Some (count ∙ end)))
+        ];
+        only = λ r q has. elim (same_bool (is_same_key key q) true) [
+          | inl same ↦ (
+              let number : length groups ≡ r = some_is (length groups) r (rw same at (sym (next q) ∙ has)) in (
+                omega arith,
+                subst (λ n. IsKeyOf fs (site_at (heads ++ s ∷ []) n) q) (sym count ∙ number) (subst (λ p. IsKeyOf fs p q) (sym last) (key_moves fs s key q is same)),
+              ))
+          | inr differ ↦ (
+              let (r_in, head) = ranked.only r q (rw (not_true (is_same_key key q) differ) at (sym (next q) ∙ has)) in
+              (omega arith, subst (λ p. IsKeyOf fs p q) (sym (get_or-append heads (s ∷ []) (site 0 0) r r_in)) head))
+        ];
+      },
+      subst (AreHeaded fs ps (k + 1) (heads ++ s ∷ [])) (sym (added.opened past)) (opens fs ps k heads groups order lt other are),
+    )
 
 -- so a section is passed
-pub grouped_next : (fs : List ObjectValue) (ps : List Site) (k rank : ℕ) (key : OutputKey) (keys now : List OutputKey)
-    (groups after : List (List Site)) → AreInOrder ps → k < length ps → IsKeyOf fs (site_at ps k) key → rank ≡ position_or_len (same_key key) keys →
-    now ≡ (if list_any (same_key key) keys then keys else keys ++ key ∷ []) → IsMemberAdded groups rank (site_at ps k) after →
-    AreGrouped fs ps k keys groups → AreGrouped fs ps (k + 1) now after
-grouped_next fs ps k rank key keys now groups after order lt is at inserted added are = elim (cases_lt rank (length groups)) [
-  | inl within ↦ subst (AreGrouped fs ps (k + 1) now) (sym (added.joined within))
-      (grouped_again fs ps k rank key keys now groups order lt is at inserted within are)
-  | inr past ↦ (
-      let never : rank < length groups → ⊥ = λ within. omega arith in
-      subst (AreGrouped fs ps (k + 1) now) (sym (added.opened never))
-      (grouped_new fs ps k rank key keys now groups order lt is at inserted never are))
+pub grouped_next : (fs : List ObjectValue) (ps : List Site) (k answer : ℕ) (key : OutputKey) (old now : OutputKey → Option ℕ) (groups after : List (List Site)) →
+    AreInOrder ps → k < length ps → IsKeyOf fs (site_at ps k) key → IsRanked key (length groups) answer old now → IsMemberAdded groups answer (site_at ps k) after →
+    AreGrouped fs ps k old groups → AreGrouped fs ps (k + 1) now after
+grouped_next fs ps k answer key old now groups after order lt is placed added are = elim (rank_of (old key)) [
+  | inl (r, known) ↦ grouped_again fs ps k answer r key old now groups after order lt is placed added known are
+  | inr unknown ↦ grouped_new fs ps k answer key old now groups after order lt is placed added unknown are
 ]
 
-pub grouped_all : (fs : List ObjectValue) (ps : List Site) (keys : List OutputKey) (groups : List (List Site)) → AreGrouped fs ps (length ps) keys groups →
+pub grouped_all : (fs : List ObjectValue) (ps : List Site) (rank : OutputKey → Option ℕ) (groups : List (List Site)) → AreGrouped fs ps (length ps) rank groups →
     AreGroups fs ps groups
-grouped_all fs ps keys groups (heads, held, are) = (heads, are)
+grouped_all fs ps rank groups (heads, ranked, are) = (heads, are)
 
 -- ---- a site joins a group, as lists of lists
 

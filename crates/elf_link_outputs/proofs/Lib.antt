@@ -2,6 +2,7 @@
 pub mod Starts
 pub mod Picked
 pub mod Plans
+pub mod Ranked
 pub mod Openers
 pub mod Grouped
 pub mod Placings

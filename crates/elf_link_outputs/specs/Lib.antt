@@ -10,5 +10,6 @@ pub mod AddressFault
 pub mod Planned
 pub mod OutputsView
 pub mod PlanView
+pub mod Ranks
 pub mod AddressedView
 pub mod AddressedFrom

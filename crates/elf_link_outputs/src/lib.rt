@@ -13,6 +13,7 @@ mod outputs;
 mod parts;
 mod placing;
 mod plan;
+mod ranks;
 
 pub use addressed::Addressed;
 pub use common::Common;

@@ -6,28 +6,18 @@ ghost use Rattle.elf_link_files.specs.Listing.{Lists, site_at};
 ghost use Rattle.elf_link_outputs.specs.OutputGroups.{AreGrouped, AreGroups, AreGroupsOfKind, IsKeyOf, IsMemberAdded};
 ghost use Rattle.elf_link_outputs.specs.Outputs.{Picks, is_no_bits as is_no_bits_of, live as live_row, of_kind, output_flags as output_flags_of, section_at_site};
 ghost use Rattle.elf_link_outputs.specs.Plan.{AreOutputs, flat, output_parts};
+ghost use Rattle.elf_link_outputs.specs.Ranks.{rank_by};
 ghost use Rattle.elf_object_type.specs.ObjectView.{body_value};
 
 use crate::parts::push_parts;
+use crate::ranks::{OutputKey, Ranks};
 use elf_field::abi::*;
 use elf_link_files::Site;
 use elf_link_files::files::section_of;
 use elf_object_type::{Body, Object};
-use indexmap::IndexSet;
 use std::alloc::{AllocError, Global};
 use std::hash::BuildHasher;
 use std::marker::Model;
-
-/// What the sections of one output section have in common.
-#[derive(Clone, Copy, PartialEq, Eq, Hash)]
-pub(crate) struct OutputKey<'a> {
-    /// The name.
-    name: &'a [u8],
-    /// All flags but `SHF_GROUP`.
-    flags: u64,
-    /// Whether they take memory without bits.
-    no_bits: bool,
-}
 
 /// All flags of a section but `SHF_GROUP`.
 pub(crate) fn output_flags(flags: u64) -> u64
@@ -99,31 +89,31 @@ impl<'l, 'a> Sections<'l, 'a> {
         &self,
         alloc: Global,
         k: usize,
-        seen: &mut IndexSet<OutputKey<'a>, S>,
+        ranks: &mut Ranks<'a, S>,
         groups: &mut Vec<Vec<Site>>,
     ) -> Result<(), AllocError>
         requires k { k < length self.now.sites }
-        requires before { AreGrouped self.now.objects self.now.sites k seen.old.keys (map (λ ms. ms.items) groups.old.items) }
-        ensures { OnOk result (AreGrouped self.now.objects self.now.sites (k + 1) seen.new.keys (map (λ ms. ms.items) groups.new.items)) }
+        requires before { AreGrouped self.now.objects self.now.sites k (rank_by (S.Hasher.finish) (S.Hasher.write) (S.build_hasher ranks.old.hasher) ranks.old.known) (map (λ ms. ms.items) groups.old.items) }
+        ensures { OnOk result (AreGrouped self.now.objects self.now.sites (k + 1) (rank_by (S.Hasher.finish) (S.Hasher.write) (S.build_hasher ranks.new.hasher) ranks.new.known) (map (λ ms. ms.items) groups.new.items)) }
     {
         let sites = self.sites;
-        let (rank, _) = seen.insert_full(key_of(self.objects, sites[k]))?;
+        let rank = ranks.place(key_of(self.objects, sites[k]), groups.len())?;
         add_member(alloc, groups, rank, sites[k])?;
         Ok(())
     }
 
-    /// Their groups by key, in the order of the first section of each. What the set had before is forgotten.
+    /// Their groups by key, in the order of the first section of each. What was known of ranks is forgotten.
     fn groups<S: BuildHasher + Drop>(
         &self,
         alloc: Global,
-        seen: &mut IndexSet<OutputKey<'a>, S>,
+        ranks: &mut Ranks<'a, S>,
     ) -> Result<Vec<Vec<Site>>, AllocError>
         ensures { IfOk result (λ groups. AreGroups self.now.objects self.now.sites (map (λ ms. ms.items) groups.items)) }
     {
-        seen.clear();
+        ranks.clear();
         let mut groups = Vec::new(alloc);
         for k in 0..self.sites.len() {
-            self.group_section(alloc, k, seen, &mut groups)?;
+            self.group_section(alloc, k, ranks, &mut groups)?;
         }
         Ok(groups)
     }
@@ -184,12 +174,12 @@ impl<'l, 'a> LiveSections<'l, 'a> {
         Ok(picked)
     }
 
-    /// The groups of those with bits or without. What the set had before is forgotten.
+    /// The groups of those with bits or without. What was known of ranks is forgotten.
     fn groups_of_kind<S: BuildHasher + Drop>(
         &self,
         alloc: Global,
         without: bool,
-        seen: &mut IndexSet<OutputKey<'a>, S>,
+        ranks: &mut Ranks<'a, S>,
     ) -> Result<Vec<Vec<Site>>, AllocError>
         ensures { IfOk result (λ groups. AreGroupsOfKind self.now.objects without (map (λ ms. ms.items) groups.items)) }
     {
@@ -198,7 +188,7 @@ impl<'l, 'a> LiveSections<'l, 'a> {
             objects: self.objects,
             sites: &sites,
         };
-        sections.groups(alloc, seen)
+        sections.groups(alloc, ranks)
     }
 }
 
@@ -238,9 +228,9 @@ impl<'l, 'a> Outputs<'l, 'a> {
             objects,
             sites: live,
         };
-        let mut seen = IndexSet::with_hasher(alloc, hasher);
-        let mut groups = all.groups_of_kind(alloc, false, &mut seen)?;
-        let mut behind = all.groups_of_kind(alloc, true, &mut seen)?;
+        let mut ranks = Ranks::new(alloc, hasher);
+        let mut groups = all.groups_of_kind(alloc, false, &mut ranks)?;
+        let mut behind = all.groups_of_kind(alloc, true, &mut ranks)?;
         groups.append(&mut behind)?;
         Ok(Outputs { objects, groups })
     }
