@@ -83,12 +83,11 @@ pub fn map_numbered<'a, S: BuildHasher + Drop>(
 /// No address lies in two sections, in a section and a common, or in two commons; the outputs are disjoint and in order, each begins at a
 /// multiple of the page, and each live section is a member of just one, once.
 ///
-/// The hasher spreads the keys of the outputs; whichever it is, the map is the same.
+/// The hasher is for speed alone: outputs are compared by the hashes of their names first. The map is the same for every hasher.
 ///
 /// [`LinkFault::Rule`] is the first of the link's rules ([`rules`](crate::rules)) that is broken, at its first site;
 /// [`LinkFault::OutOfMemory`] comes only if an allocation fails; memory is taken only if rules 1 and 2 are not broken: for each
-/// section, symbol and name. Takes log n comparisons of names at most for each symbol and each group, and one search by key for each live
-/// section.
+/// section, symbol and name. Takes log n comparisons of names at most for each symbol, each group and each live section.
 pub fn map<'a, S: BuildHasher + Drop>(
     alloc: Global,
     objects: &[Object<'a>],
