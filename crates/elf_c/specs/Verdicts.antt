@@ -1,6 +1,6 @@
--- What is reported of a room that is too small for the verdict.
+-- What is returned if a buffer is too small for the verdict.
 use Rattle.std.specs.Prelude.{ℕ}
 
--- what is in place of a rule's number where the room is too small
+-- what is in place of a rule's number if the buffer is too small
 abbrev pub SHORT_ROOM : ℕ
 SHORT_ROOM = 0

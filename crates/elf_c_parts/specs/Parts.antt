@@ -1,4 +1,4 @@
--- What each byte of a file belongs to, in the slots of a room.
+-- What each byte of a file belongs to, in the slots of a buffer.
 use Rattle.std.specs.Prelude.{◌≡◌, ◌≤◌, ◌<◌, ◌+◌, ◌*◌, ◌-◌, ◌^◌, ◌==◌, if◌then◌else◌, ℕ, List, None, Some, length, map, take}
 use Rattle.elf_extent.specs.declared.extent.Extent.{Extent}
 use Rattle.elf_extent.specs.declared.extent.Piece.{Piece}
@@ -32,21 +32,21 @@ member_of_part part = record { index = part.owner; extent = extent_of_part part 
 abbrev pub AccountsFor : List ℕ → ℕ → List Part → Type 0
 AccountsFor b count parts = Accounts (extents_of_file b) (length b) 0 (map piece_of_part (take count parts))
 
--- how many parts a room has to have: three for each extent, and one
+-- how many parts a buffer has to have: three for each extent, and one
 abbrev pub parts_wanted : List ℕ → ℕ
 parts_wanted b = 3 * length (extents_of_file b) + 1
 
--- a room of so many parts is large enough for the file, where it keeps rules 1 to 32; no other file wants a room
+-- a buffer of so many parts is large enough for the file, if it keeps rules 1 to 32; no other file needs a buffer
 abbrev pub HasPartsFor : List ℕ → ℕ → Type 0
 HasPartsFor b count = KeepsRecordRules b → parts_wanted b ≤ count
 
--- the file keeps rules 1 to 32, and wants more parts than there are
+-- the file keeps rules 1 to 32, and needs more parts than there are
 pub record IsShortOfParts (b : List ℕ) (count wanted : ℕ) : Type 0 where
   pub kept : KeepsRecordRules b
   pub wanted_all : wanted ≡ parts_wanted b
   pub short : count < wanted
 
--- why the parts of a file are not reported in a room of so many
+-- why the parts of a file are not returned in a buffer of so many
 abbrev pub IsPartsRefusal : List ℕ → ℕ → PartsFault → Type 0
 IsPartsRefusal b count (Rule rule at) = IsFault b (Some (rule, at)) × HasPartsFor b count
 IsPartsRefusal b count (ShortRoom wanted) = IsShortOfParts b count wanted

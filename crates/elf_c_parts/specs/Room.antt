@@ -1,4 +1,4 @@
--- Extents in the slots of a room, and a room of too few slots.
+-- Extents in the slots of a buffer, and a buffer with too few slots.
 use Rattle.std.specs.Prelude.{◌≡◌, ◌<◌, ◌≤◌, ℕ, List, length, map}
 use Rattle.elf_extent.specs.declared.extent.Extent.{Extent}
 use Rattle.elf_image_rules.specs.ImageRules.{KeepsRecordRules, extents_of_file}
@@ -16,11 +16,11 @@ slot_extents row = map extent_in row.slots.now
 abbrev pub slot_looks : SlotRow → ℕ
 slot_looks row = row.looks
 
--- there is a slot for each extent of the file, where it keeps rules 1 to 32; no other file wants a room
+-- there is a slot for each extent of the file, if it keeps rules 1 to 32; no other file needs a buffer
 abbrev pub HasSlotsFor : List ℕ → ℕ → Type 0
 HasSlotsFor b count = KeepsRecordRules b → length (extents_of_file b) ≤ count
 
--- the file keeps rules 1 to 32, and wants a room of as many slots as it has extents, which is more than there are
+-- the file keeps rules 1 to 32, and has more extents than the buffer has slots
 pub record IsShortRoom (b : List ℕ) (count wanted : ℕ) : Type 0 where
   pub kept : KeepsRecordRules b
   pub wanted_all : wanted ≡ length (extents_of_file b)

@@ -1,4 +1,4 @@
--- The executable in pieces, as it goes out: what is at its place, with the zeros before it.
+-- The executable in pieces, as it is written: what is at its place, with the zeros before it.
 use Rattle.std.specs.Prelude.{ℕ, zero, suc, ◌+◌, ◌-◌, if◌then◌else◌, List, [], ◌++◌, length, map, replicate, slice_index, unwrap_or}
 use Rattle.std.specs.List.{flat_map, range_with_len}
 use Rattle.elf_image_type.specs.FileParts.{spread}

@@ -1,4 +1,4 @@
--- What `parse` answers for bytes that are no image, or when out of memory.
+-- What `parse` returns for bytes that are no image, or when out of memory.
 use Rattle.std.specs.Prelude.{ℕ, List, Some}
 use Rattle.elf_image_rules.specs.ImageRules.{IsFault, KeepsRecordRules}
 use Rattle.elf_image_stream.specs.declared.fault.Fault.{Fault}

@@ -1,4 +1,4 @@
--- What the stages of a scan answer: a scan reads a source as an image, without its contents.
+-- What the stages of a scan return: a scan reads a source as an image, without its contents.
 use Rattle.std.specs.Prelude.{◌≡◌, ◌≢◌, ◌≤◌, ◌<◌, ◌^◌, ◌+◌, ◌-◌, ◌⊎◌, ◌==◌, if◌then◌else◌, ℕ, Option, List, None, Some, Result, Ok, Err, length, map}
 use Rattle.std.specs.List.{AllByRecursion}
 use Rattle.elf_field.specs.Abi.{EHDR_SIZE, SHDR_SIZE}
@@ -24,7 +24,7 @@ use Rattle.elf_image_outline.specs.declared.part.Part.{Part}
 use Rattle.elf_image_stream.specs.declared.fault.Fault.{Fault}
 use Rattle.elf_image_stream.specs.declared.fault.Fault.TheVariants.{Io, OutOfMemory, Rule}
 
--- the offset of a failed read that is answered; None of any other answer
+-- the offset of a failed read that is returned; None for any other result
 abbrev pub scan_failure : {T : Type 0} → Result T Fault → Option ℕ
 scan_failure (Ok t) = None
 scan_failure (Err OutOfMemory) = None
@@ -49,7 +49,7 @@ IsScanRead b at = let h = header b in
     ⊎ (((h.e_phoff ≤ at) × (at < phdr_offset h (file_counts b).segments))
     ⊎ IsEndIn b (names_place b) at)))
 
--- of a source that reports its bytes b: why there is no answer. A rule that is answered is the first that they break, a failed read lies
+-- of a source that reports its bytes b: why there is no outline. A rule that is returned is the first that they break, a failed read lies
 -- where a scan reads, and out of memory may come of any bytes
 abbrev pub Stops : List ℕ → Fault → Type 0
 Stops b OutOfMemory = Unit {0}

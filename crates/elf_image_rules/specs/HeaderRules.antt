@@ -1,5 +1,5 @@
 -- Rules 1 to 12: the file's length and its header. (gABI chapter 4, ELF Header and ELF Identification.)
--- A header is judged as a value, h, of a file of len bytes.
+-- A header is tested as a value, h, of a file of len bytes.
 use Rattle.std.specs.Prelude.{◌≡◌, ◌≢◌, ℕ, ◌+◌, ◌^◌, ◌<◌, ◌≤◌, ◌⊎◌, List, [], ◌∷◌, length, slice_index}
 use Rattle.elf_field.specs.Abi.{EHDR_SIZE, EI_CLASS, EI_DATA, EI_VERSION, ELFCLASS64, ELFDATA2LSB, ELFDATA2MSB, EV_CURRENT, E_EHSIZE_AT, E_SHENTSIZE_AT, E_SHNUM_AT, E_SHOFF_AT, E_SHSTRNDX_AT, E_VERSION_AT, MAGIC, SHDR_SIZE, SHN_LORESERVE}
 use Rattle.elf_field.specs.declared.ehdr.Ehdr.{Ehdr}

@@ -1,4 +1,4 @@
--- A file whose records were judged.
+-- A file whose records were validated.
 use Rattle.std.specs.Prelude.{ℕ, List}
 use Rattle.elf_image_rules.specs.declared.judged_records.JudgedRecords.{JudgedRecords}
 

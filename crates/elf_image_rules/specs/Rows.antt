@@ -1,5 +1,5 @@
 -- Lists of rules: where a rule is broken, and the first rule broken with the first place where it is. These words know no rule of any file:
--- a rule is a number and a row, and a list of rules is judged in its order. They serve rules at an offset of a file, of which the lowest is
+-- a rule is a number and a row, and a list of rules is tested in its order. They serve rules at an offset of a file, of which the lowest is
 -- reported, and rules of a link, at a file, index and entry, of which the first is.
 use Rattle.std.specs.Prelude.{◌≡◌, ℕ, ◌<◌, ◌⊎◌, Option, None, Some, List, [], ◌∷◌}
 use Rattle.elf_extent.specs.Least.{Never, IsLeast}

@@ -52,7 +52,7 @@ BreaksSectionHeader MisalignedSection = IsMisalignedSection
 BreaksSectionHeader (ContentPastEnd len) = IsContentPastEnd len
 BreaksSectionHeader (NamePastEnd size) = IsNamePastEnd size
 
--- the offset in the section header of the field that each of them answers
+-- the offset in the section header of the field at which each of them is broken
 abbrev pub section_field : SectionRule → ℕ
 section_field WrongSectionAlignment = SH_ADDRALIGN_AT
 section_field MisalignedSection = SH_ADDR_AT

@@ -55,7 +55,7 @@ BreaksSegment FileSizeAboveMemorySize = HasFileSizeAboveMemorySize
 BreaksSegment WrongSegmentAlignment = HasWrongSegmentAlignment
 BreaksSegment IncongruentSegment = IsIncongruentSegment
 
--- the offset in the program header of the field that each of them answers
+-- the offset in the program header of the field at which each of them is broken
 abbrev pub segment_field : SegmentRule → ℕ
 segment_field (SegmentPastEnd len) = P_OFFSET_AT
 segment_field FileSizeAboveMemorySize = P_FILESZ_AT

@@ -1,10 +1,10 @@
--- What reading a whole file answers besides its bytes.
+-- What reading a whole file returns besides its bytes.
 use Rattle.std.specs.Prelude.{◌≡◌, ℕ, List, Option, ◌++◌}
 use Rattle.std.specs.Io.KnownBytes.{Consumes}
 use Rattle.elf_image_stream.specs.declared.fault.Fault.{Fault}
 use Rattle.elf_image_stream.specs.declared.fault.Fault.TheVariants.{OutOfMemory, Io, Rule}
 
--- a fault of reading, after so many bytes: it reports their number, or an allocation failed; no rule is judged yet
+-- a fault of reading, after so many bytes: it reports their number, or an allocation failed; no rule is tested yet
 abbrev pub IsReadFault : Fault → ℕ → Type 0
 IsReadFault OutOfMemory count = Unit {0}
 IsReadFault (Io at) count = at ≡ count

@@ -1,4 +1,4 @@
--- What whole reads of a source answer: bytes, a record, a table of records; and when one fails.
+-- What whole reads of a source return: bytes, a record, a table of records; and when one fails.
 use Rattle.std.specs.Prelude.{◌≡◌, ◌<◌, ◌≤◌, ◌+◌, ◌-◌, ◌*◌, ◌⊎◌, ℕ, List, length, take, drop, map, Option, Some, Result, Ok, Err, [], ◌∷◌}
 use Rattle.std.specs.List.{AllByRecursion, range_with_len}
 use Rattle.elf_field.specs.Bytes.{IsBytes}

@@ -16,21 +16,21 @@ abbrev pub Remembers : Option ℕ → Failures → Failures → Type 0
 Remembers None old new = new ≡ old
 Remembers (Some at) old new = Fails old new at
 
--- a call that was asked for an offset failed where it answers so
+-- a call that was asked for an offset failed if it returned so
 abbrev pub RemembersCall : {T E : Type 0} → ℕ → Failures → Failures → Result T E → Type 0
 RemembersCall at old new (Ok t) = new ≡ old
 RemembersCall at old new (Err e) = Fails old new at
 
--- a read gives no byte though it has room for some, and the source does not report where its bytes end
+-- a read gives no byte though its buffer is not empty, and the source does not report where its bytes end
 abbrev pub IsDry : Option (List ℕ) → ℕ → ℕ → Type 0
 IsDry content room k = (content ≡ None) × (0 < room) × (k ≡ 0)
 
--- a read of an offset failed where it answers so, and where it is dry
+-- a read of an offset failed if it returned so, or if it is dry
 abbrev pub RemembersRead : {E : Type 0} → Option (List ℕ) → ℕ → ℕ → Failures → Failures → Result ℕ E → Type 0
 RemembersRead content at room old new (Ok k) = (IsDry content room k → Fails old new at) × (¬ IsDry content room k → new ≡ old)
 RemembersRead content at room old new (Err e) = Fails old new at
 
--- the length that is answered is that of the content
+-- the length that is returned is that of the content
 abbrev pub SaysLength : {E : Type 0} → Option (List ℕ) → Result ℕ E → Type 0
 SaysLength content result = IfOk result (λ len. IfSome content (λ b. len ≡ length b))
 

@@ -1,4 +1,4 @@
--- What the passes over all entries and all fields answer.
+-- What the passes over all entries and all fields return.
 use Rattle.std.specs.Prelude.{◌≡◌, ℕ, ◌<◌, List, length}
 use Rattle.elf_object_type.specs.Object.{ObjectValue}
 use Rattle.elf_link_field.specs.declared.rule.RelocRule.{RelocRule}

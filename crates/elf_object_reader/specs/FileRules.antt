@@ -146,7 +146,7 @@ abbrev pub HasWrongKeptInfo : LeftOut → Sections → ℕ → Type 0
 HasWrongKeptInfo left f i =
     let s = section f i in IsPlain left f i × (HasFlag s.sh_flags SHF_INFO_LINK × (is_kept left f s.sh_info ≡ false))
 
--- what breaks the rules on one section's references, and the offset in its section header of the field that is answered
+-- what breaks the rules on one section's references, and the offset in its section header of the field at which they are broken
 abbrev pub BreaksReference : ReferenceRule → LeftOut → Sections → ℕ → Type 0
 BreaksReference WrongRelocationTarget left f i = HasWrongRelocationTarget left f i
 BreaksReference WrongKeptLink left f i = HasWrongKeptLink left f i

@@ -1,4 +1,4 @@
--- What `lay_out` answers of an object.
+-- What `lay_out` returns for an object.
 use Rattle.std.specs.Prelude.{◌≡◌, ◌<◌, ◌≤◌, ℕ, ◌+◌, ◌-◌, List, length}
 use Rattle.elf_field.specs.Abi.{EHDR_SIZE}
 use Rattle.elf_extent.specs.Place.{Least, end_of}

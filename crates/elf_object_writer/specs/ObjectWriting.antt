@@ -31,7 +31,7 @@ IsLayoutWritten o before after result = MatchResult result (λ _. WritesLayout o
 
 -- ---- part by part
 
--- bytes go out after so many others: all of them, and the answer is where they end, or a fault that counts all that are out
+-- bytes are written after so many others: all of them, and the result is where they end, or a fault that counts all that are written
 abbrev pub WritesBehind : ℕ → Option (List ℕ) → Option (List ℕ) → List ℕ → Result ℕ WriteFault → Type 0
 WritesBehind out before after bytes result = MatchResult result
     (λ end. (end ≡ out + length bytes) × Appends before after bytes)

@@ -1,4 +1,4 @@
--- What the judge of a hash table's chains keeps: for each of its m symbols how long its chain is, as far as that is known, and a
+-- What the test of a hash table's chains keeps: for each of its m symbols how long its chain is, as far as that is known, and a
 -- symbol further down. Here `next` gives the chain word of each symbol.
 use Rattle.std.specs.Prelude.{◌≡◌, ℕ, ◌<◌, ◌⊎◌, Bool, true, false, List, ◌∷◌, ◌++◌, get_or, length}
 use Rattle.elf_table_hash.specs.Chains.{IsChain, IsPath}

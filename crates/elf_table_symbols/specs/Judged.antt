@@ -1,4 +1,4 @@
--- What a call answers that makes a table of a section: the table where none of its rules is broken, else the first one
+-- What a call that makes a table of a section returns: the table if none of its rules is broken, otherwise the first one
 -- that is, at its lowest offset.
 use Rattle.std.specs.Prelude.{ℕ, List, None, Some, Result, Ok, Err}
 use Rattle.elf_image_rules.specs.Rows.{FirstIn, Ruled}

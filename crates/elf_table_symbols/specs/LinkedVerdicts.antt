@@ -1,4 +1,4 @@
--- The verdicts on symbol tables that are known when a table that links to one is judged.
+-- The verdicts on symbol tables that are known when a table that links to one is validated.
 use Rattle.std.specs.Prelude.{◌≡◌, ℕ, ◌<◌, Option, None, Some, List, length, get_or}
 use Rattle.elf_image_rules.specs.Rows.{FirstIn}
 use Rattle.elf_table_symbols.specs.declared.symbol_verdicts.SymbolVerdicts.{SymbolVerdicts}

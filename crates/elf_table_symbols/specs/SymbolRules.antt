@@ -97,7 +97,7 @@ BreaksSymbolEntry MisplacedBinding p symbol j = IsMisplacedBinding p.info symbol
 BreaksSymbolEntry SymbolNamePastEnd p symbol j = IsSymbolNamePastEnd (length p.names) symbol
 BreaksSymbolEntry WrongSymbolSection p symbol j = IsWrongSymbolSection p.index_table p.sections symbol
 
--- the offset in the symbol of the field that each of them answers
+-- the offset in the symbol of the field at which each of them is broken
 abbrev pub symbol_field : SymbolRule → ℕ
 symbol_field MisplacedBinding = ST_INFO_AT
 symbol_field SymbolNamePastEnd = ST_NAME_AT

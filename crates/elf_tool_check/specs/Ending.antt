@@ -18,13 +18,13 @@ code_of Refused = 1
 code_of Usage = 2
 code_of Failed = 3
 
--- how the program ends where an engine answers so
+-- how the program ends if an engine returns this
 abbrev pub ending_of : Result Verdict ToolFault → Status
 ending_of (Ok verdict.Done) = Done
 ending_of (Ok (verdict.Refused refusal)) = Refused
 ending_of (Err fault) = Failed
 
--- a call of an engine: what its reader had and has left, what its writer held and holds, and its answer
+-- a call of an engine: what its reader had and has left, what its writer held and holds, and its result
 abbrev pub Call : Type 1
 Call = Option (List ℕ) → Option (List ℕ) → Option (List ℕ) → Option (List ℕ) → Result Verdict ToolFault → Type 0
 

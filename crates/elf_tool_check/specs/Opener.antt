@@ -1,4 +1,4 @@
--- What an opener of files answers.
+-- What an opener of files returns.
 use Rattle.std.specs.Prelude.{◌≡◌, Bool, false}
 use Rattle.elf_tool_check.specs.declared.opener.OpenFault.{OpenFault}
 use Rattle.elf_tool_check.specs.declared.opener.OpenFault.TheVariants.{Refused, OutOfMemory}

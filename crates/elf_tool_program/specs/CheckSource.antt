@@ -35,7 +35,7 @@ IsSourceSaid content old new (Err (Read at)) = Keeps old new
 IsSourceSaid content old new (Err (Write written)) = Prints (SourceSays content) old new (Err (Write written))
 IsSourceSaid content old new (Err OutOfMemory) = Keeps old new
 
--- the offset of a failed read that is answered; None of any other answer
+-- the offset of a failed read that is returned; None for any other result
 abbrev pub check_failure : {T : Type 0} → Result T ToolFault → Option ℕ
 check_failure (Ok t) = None
 check_failure (Err (Read at)) = Some at

@@ -25,7 +25,7 @@ use Rattle.elf_tool_words.specs.declared.words.Request.{Request}
 use Rattle.elf_tool_words.specs.declared.words.Request.TheVariants.{Check, CheckSource, Show, Rewrite, Map, Link}
 use Rattle.elf_tool_words.specs.declared.words.WordsFault.{WordsFault}
 
--- a call of an engine that takes several files: what its readers had and have left, what its writer held and holds, and its answer
+-- a call of an engine that takes several files: what its readers had and have left, what its writer held and holds, and its result
 abbrev pub CallOnFiles : Type 1
 CallOnFiles = List (Option (List ℕ)) → List (Option (List ℕ)) → Option (List ℕ) → Option (List ℕ) → Result Verdict ToolFault → Type 0
 

@@ -32,7 +32,7 @@ WritesText text old new result = MatchResult result (λ _. Appends old new text)
 abbrev pub Report : Type 1
 Report = List ℕ → Verdict → List ℕ → Type 0
 
--- the text of a report is written, and where all of it is, its verdict is answered
+-- the text of a report is written, and if all of it is, its verdict is returned
 pub record WritesReport (report : Verdict → List ℕ → Type 0) (old new : Option (List ℕ)) (result : Result Verdict ToolFault) : Type 0 where
   pub verdict : Verdict
   pub text : List ℕ

@@ -1,4 +1,4 @@
--- What goes out of a text in large pieces.
+-- A text that is written in large pieces.
 use Rattle.std.specs.Prelude.{◌≡◌, ℕ, ◌+◌, ◌<◌, ◌≤◌, List, ◌++◌, length, take, Option, Result, MatchResult}
 use Rattle.std.specs.Io.Iter.{u64_saturate}
 use Rattle.std.specs.Io.KnownBytes.{Appends}
@@ -6,14 +6,14 @@ use Rattle.elf_tool_text.specs.declared.output.Output.{Output}
 use Rattle.elf_tool_text.specs.declared.fault.ToolFault.{ToolFault}
 use Rattle.elf_tool_text.specs.declared.fault.ToolFault.TheVariants.{Read, Write, OutOfMemory}
 
--- some bytes went out and are counted, and with what is pending now they are what was pending before and the text
+-- some bytes were written and are counted, and with what is pending now they are what was pending before and the text
 pub record Buffers (old new : Option (List ℕ)) (before after : Output) (text : List ℕ) : Type 0 where
   pub out : List ℕ
   pub went : Appends old new out
   pub rest : out ++ after.pending.items ≡ before.pending.items ++ text
   pub count : u64_saturate after.written ≡ u64_saturate (before.written + length out)
 
--- of what was pending before and the text only the first bytes went out, of which a fault of writing has the
+-- of what was pending before and the text only the first bytes were written, of which a fault of writing has the
 -- count, with all that was out before: 2 ^ 64 - 1 where they are more
 abbrev pub IsCutShort : Option (List ℕ) → Option (List ℕ) → Output → List ℕ → ToolFault → Type 0
 IsCutShort old new before text (Write written) =

@@ -51,7 +51,7 @@ fn check_command<'a>(alloc: Global) -> Result<Command<'a>, AllocError>
     let command = file_command(
         alloc,
         "check",
-        "Tells whether FILE is an ELF-64 file, or the first rule that it breaks and where",
+        "Prints whether FILE is an ELF-64 file, or the first rule that it breaks and where",
         "The file to check",
     )?;
     command.arg(seek(alloc))
@@ -63,7 +63,7 @@ fn seek<'a>(alloc: Global) -> Arg<'a>
 {
     Arg::new(alloc, "seek")
         .long("seek")
-        .help("Seeks in FILE, and reads what the check needs of it alone")
+        .help("Seeks in FILE, and reads only what the check needs")
         .action(ArgAction::SetTrue)
 }
 
@@ -105,7 +105,7 @@ fn map_command<'a>(alloc: Global) -> Result<Command<'a>, AllocError>
     ensures local { IfOk result (λ command. (fields_of command).has_globals ≡ false) }
 {
     Command::new(alloc, "map")
-        .about("Shows where the sections and names of the FILEs stand in their link")
+        .about("Shows where the sections and names of the FILEs are in their link")
         .arg(base(alloc))?
         .arg(page(alloc))?
         .arg(rules(alloc))?
@@ -131,7 +131,7 @@ fn base<'a>(alloc: Global) -> Arg<'a>
 {
     Arg::new(alloc, "B")
         .long("base")
-        .help("The address that placement begins at, a multiple of P")
+        .help("The address at which placement begins, a multiple of P")
         .required(true)
 }
 
@@ -141,7 +141,7 @@ fn page<'a>(alloc: Global) -> Arg<'a>
 {
     Arg::new(alloc, "P")
         .long("page")
-        .help("What each output section begins at a multiple of, a power of two")
+        .help("Each output section begins at a multiple of it, a power of two")
         .required(true)
 }
 
@@ -151,7 +151,7 @@ fn entry<'a>(alloc: Global) -> Arg<'a>
 {
     Arg::new(alloc, "NAME")
         .long("entry")
-        .help("The symbol that the program begins at")
+        .help("The symbol at which the program begins")
         .required(true)
 }
 
