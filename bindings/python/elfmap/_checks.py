@@ -138,6 +138,19 @@ class Checks:
         is_known = fault and any((it.rule, it.at) == (fault.rule, fault.at) for it in found)
         return found if not fault or is_known else [*found, fault]
 
+    def parts(self, source: Source) -> tuple[list[_library.Part], Optional[Fault]]:
+        """What each byte of the file belongs to; or the rule of images that it breaks."""
+        size = min(len(source), LONGEST)
+        self._load(source, size)
+        count, fault, wanted = ctypes.c_uint64(), _library.Fault(), _LEAST_EXTENTS
+        while True:
+            room = (_library.Part * wanted)()
+            if self._library.elfmap_parts(self._room.address, size, room, wanted, count, fault):
+                return room[: count.value], None
+            if fault.rule != _library.SHORT_ROOM:
+                return [], Fault(fault.rule, fault.at)
+            wanted = fault.at
+
     # ---- What is read
 
     def _load(self, source: Source, size: int) -> None:
