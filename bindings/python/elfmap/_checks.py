@@ -76,11 +76,13 @@ def batches(whole: Batch, most: int) -> Iterator[Batch]:
     needs = _Needs(whole)
     limit = max(most, *(it.size for it in whole.shown))
     shown: list[Table] = []
+    size = 0
     for it in whole.shown:
-        if shown and sum(own.size for own in shown) + it.size > limit:
+        if shown and size + it.size > limit:
             yield needs.batch(shown)
-            shown = []
+            shown, size = [], 0
         shown.append(it)
+        size += it.size
     yield needs.batch(shown)
 
 

@@ -40,7 +40,7 @@ from elfmap._hints import hints, link_hints
 from elfmap._link_words import Linked, link_words
 from elfmap._rules import LINK_RULES, RULES
 from elfmap._sources import Source, Unreadable, opened, reason_of, whole
-from elfmap._words import Words, found_at, printable
+from elfmap._words import MOST_OWNERS, Words, found_at, printable
 
 PROGRAM = "elfmap-explain"
 WIDTH = 130
@@ -199,7 +199,9 @@ class Explainer:
         yield f"{name}: {sentence}"
         if table is not None:
             yield f"the table in {words.typed_words(table)}"
-        yield from (f"{path}, offset {at} ({at:#x}): {it.words}" for it in found_at(words, rule, at, table))
+        places = [it.words for it in found_at(words, rule, at, table)]
+        more = [f"{len(places) - MOST_OWNERS} more sections"] if len(places) > MOST_OWNERS else []
+        yield from (f"{path}, offset {at} ({at:#x}): {it}" for it in places[:MOST_OWNERS] + more)
         yield from (f"likely cause: {it}" for it in hints(words, os.fsdecode(file), rule, at))
         yield from (f"what to do: {advice}", f"docs/RULES.md#{kind}-{rule}")
 

@@ -10,10 +10,11 @@ import subprocess
 import sys
 import tempfile
 import threading
+import time
 import unittest
 from pathlib import Path
 
-from tests.made import BSD, ENVIRONMENT, GNU, GOOD, SHARING, FolderCase, Made, setUpModule, symbols, text, thin  # noqa: F401
+from tests.made import BSD, ENVIRONMENT, GNU, GOOD, SHARING, FolderCase, Made, relocations, setUpModule, symbols, text, thin  # noqa: F401
 
 MILLION, FOLDERS = 1_000_000, 10
 LONGEST = 300
@@ -173,6 +174,21 @@ class TreeTest(FolderCase):
         wanted = {f"cut/gnu-{it:05}.a(a name of more than sixteen letters.o)" for it in range(start + len(SHARING), len(GNU))}
         self.assertLessEqual(wanted, {*found})
         self.assertIn("cut/bad.o", found)
+
+    def test_many_findings_of_a_file(self):
+        """Each of its tables breaks a rule: the time does not grow with the square of their number."""
+        count = 50_000
+        made = Made(text(), *(relocations(0) for _ in range(count)))
+        self.put(bad__o=bytes(made.data))
+        begun = time.monotonic()
+        status, out, err, _ = run("lint", "--tables", "bad.o")
+        self.assertEqual((status, err, len(out.splitlines())), (1, "", count + 1))
+        Path("found").write_text(out)
+        ran = subprocess.run(
+            [sys.executable, "-m", "elfmap.explain"], stdin=open("found"), stdout=subprocess.PIPE, env=ENVIRONMENT, timeout=LONGEST
+        )
+        self.assertEqual(ran.stdout.count(b"what to do: "), count)
+        self.assertLess(time.monotonic() - begun, count / 100)
 
     def test_deep_folders(self):
         path = "."
