@@ -19,11 +19,11 @@ from typing import NamedTuple, Optional
 from elfmap import __version__, _library
 from elfmap._archives import Content
 from elfmap._commands import DONE, UNREADABLE, USAGE, complain, run_script
-from elfmap._findings import Globs, Report, Unread
+from elfmap._findings import Globs, Report
 from elfmap._formats import counted, one_line
 from elfmap._inspect import Depth, Inspector
 from elfmap._rules import RULES
-from elfmap._sources import Source
+from elfmap._sources import Source, Unreadable
 from elfmap._walk import Walk
 from elfmap._words import Words
 
@@ -63,9 +63,7 @@ class Finder(Inspector):
     def _elf(self, it: Content) -> None:
         parts, fault = self._checks.parts(it.source)
         if fault:
-            reason = f"offset {fault.at:#x}: {RULES[fault.rule][0]} ({fault.rule}); elfmap-lint says more"
-            self._report.unreadable.append(Unread(it.path, reason))
-            return
+            raise Unreadable(f"offset {fault.at:#x}: {RULES[fault.rule][0]} ({fault.rule}); elfmap-lint says more")
         words = Words(it.source)
         own = [_gap(it, words, parts, position) for position, part in enumerate(parts) if part.owner == _GAP]
         self.count += len(own)

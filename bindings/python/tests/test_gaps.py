@@ -52,7 +52,7 @@ class GapsTest(FolderCase):
         self.put(good__o=GOOD, bad__o=SHARING)
         os.mkfifo("pipe")
         status, lines, said = self.gaps("good.o", "bad.o", "none", "pipe")
-        self.assertEqual((status, lines[-1]), (3, "2 gaps of 12 bytes in 1 ELF file"))
+        self.assertEqual((status, lines[-1]), (3, "1 gap of 4 bytes in 1 ELF file"))
         self.assertEqual(
             said,
             [

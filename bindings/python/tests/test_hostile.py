@@ -63,9 +63,13 @@ class MillionTest(unittest.TestCase):
         Path(f"{room}/9/good.o").write_bytes(GOOD)
         status, out, err, peak = run("lint", room)
         self.assertEqual((status, err), (1, ""))
-        self.assertEqual(out.splitlines()[0][: len(room) + 22], f"{room}/3/bad.o: offset 0x72")
+        self.assertTrue(out.startswith(f"{room}/3/bad.o: offset 0x72: SHARED_BYTE "), out)
         self.assertEqual(out.splitlines()[1:], [f"1 finding in 1 of 2 ELF files; skipped: {MILLION} not ELF"])
         self.assertLess(peak, before[3] + 16)
+        status, out, err, _ = run("same", f"{room}/9", f"{room}/9")
+        self.assertEqual((status, out, err), (0, f"1 the same; skipped: {MILLION // FOLDERS} not ELF\n", ""))
+        status, out, err, _ = run("gaps", f"{room}/9")
+        self.assertEqual((status, out.splitlines()[-1][-50:], err), (0, f"in 1 ELF file; skipped: {MILLION // FOLDERS} not ELF"[-50:], ""))
 
 
 class TreeTest(FolderCase):
@@ -177,16 +181,16 @@ class TreeTest(FolderCase):
 
     def test_many_findings_of_a_file(self):
         """Each of its tables breaks a rule: the time does not grow with the square of their number."""
-        count = 50_000
+        count = 20_000
         made = Made(text(), *(relocations(0) for _ in range(count)))
         self.put(bad__o=bytes(made.data))
         begun = time.monotonic()
         status, out, err, _ = run("lint", "--tables", "bad.o")
         self.assertEqual((status, err, len(out.splitlines())), (1, "", count + 1))
         Path("found").write_text(out)
-        ran = subprocess.run(
-            [sys.executable, "-m", "elfmap.explain"], stdin=open("found"), stdout=subprocess.PIPE, env=ENVIRONMENT, timeout=LONGEST
-        )
+        words = [sys.executable, "-m", "elfmap.explain"]
+        with open("found") as it:
+            ran = subprocess.run(words, stdin=it, stdout=subprocess.PIPE, env=ENVIRONMENT, timeout=LONGEST)
         self.assertEqual(ran.stdout.count(b"what to do: "), count)
         self.assertLess(time.monotonic() - begun, count / 100)
 
