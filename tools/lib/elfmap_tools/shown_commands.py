@@ -206,11 +206,9 @@ class Page:
         if lacks:
             return self.skip(">>> ..", lacks)
         write(f"{self.folder}/shown.txt", re.sub(r" \.\.$", " ...", text, flags=re.M) + "\n")
-        env = {**self.environment, "PYTHONPATH": f"{self.folder}/bindings/python", "PYTHONDONTWRITEBYTECODE": "1"}
-        ran = run(sys.executable, "-m", "doctest", "-o", "ELLIPSIS", "shown.txt", folder=self.folder, env=env)
-        self.tally.check(
-            ran.returncode == 0, f"{self.name} shows other lines of Python than there are:\n{(ran.stdout + ran.stderr).decode()}"
-        )
+        env = f'PYTHONDONTWRITEBYTECODE=1 PYTHONPATH="{self.folder}/bindings/python"'
+        said = self.run(f'{env} "{sys.executable}" -m doctest -o ELLIPSIS "{self.folder}/shown.txt"')
+        self.tally.check(not said, f"{self.name} shows other lines of Python than there are:\n{said}")
 
     def try_all(self) -> None:
         for lines in blocks(self.text):
