@@ -38,6 +38,7 @@ SKIPPED = {
     "bench/run": MEASURED,
     "bench/growth crates/elfmap/out/elfmap": MEASURED,
     "bench/library": MEASURED,
+    "bench/lint": MEASURED,
 }
 # Tools whose output depends on their version, and the packages by which README.md names that.
 PACKAGES = {"gcc": "gcc", "readelf": "binutils", "objcopy": "binutils", "ld": "binutils", "eu-elflint": "elfutils"}
