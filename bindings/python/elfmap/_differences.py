@@ -129,7 +129,8 @@ class Canonical:
         return _PLACES.get(place, hex(place)) if isinstance(place, int) else self.section_words(it.section)
 
     def relocation_words(self, it: Relocation, target: int) -> str:
-        name = label_words(self.symbol_labels[it.symbol]) if it.symbol else "no symbol"
+        # A symbol of a section has that one's name, after the word "of".
+        name = label_words(self.symbol_labels[it.symbol]).removeprefix("of ") if it.symbol else "no symbol"
         place = f"{it.r_offset:#x} of {self.section_words(target)}"
         kind = relocation_types(self.machine).get(it.relocation_type) or f"type {it.relocation_type}"
         return f"{kind} at {place} to {name} {it.r_addend:+#x}"

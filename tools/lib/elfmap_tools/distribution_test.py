@@ -53,7 +53,7 @@ STEPS = [
      " && elfmap-lint libanswer.a", r"libanswer.a\(bad.o\): .*\n1 finding in 1 of 2 .*\n0 findings in 0 of 2 .*\n"),
     ("JUnit", "cd /tmp/b && elfmap-lint --fail-on-empty --format junit -o it.xml libanswer.a && grep -c '<testcase' it.xml", r"2\n"),
     ("two builds", f"cd /tmp/b && mkdir old new && cp answer.o old && {ANSWER} -g -o new/answer.o; elfmap-same old new; echo $?",
-     r"answer.o: .*\n(.*\n)*0 the same, 1 different\n1\n"),
+     r"answer.o: .*\n(.*\n)*different\n1\n"),
     ("shared library", f"cd /tmp && cc -std=c99 /usr/share/doc/libelfmap-dev/examples/sections.c $(pkg-config --cflags --libs elfmap) -o s"
      f' && ldd s | grep -c libelfmap.so.0 && test "$(./s /bin/true | wc -l)" = {SECTIONS} && pkg-config --modversion elfmap', r"1\n@V@\n"),
     ("static library", "cd /tmp && cc -std=c99 /usr/share/doc/libelfmap-dev/examples/sections.c -l:libelfmap.a -o t && ldd t | grep libelfmap;"
